@@ -1,0 +1,4 @@
+pub mod Framing
+pub mod Octets
+pub mod Seen
+pub mod Units

@@ -1,0 +1,12 @@
+//! The base types of the firewall, and views: borrowed bytes that may lie in two pieces.
+#![tactic(auto)]
+
+mod base;
+mod octets;
+mod view;
+
+pub use base::{Act, Break, Endpoint, Framed, LinkKind, NoMemory, Reason, Side, WriteFault};
+pub use octets::{
+    push_bytes, push_u16_be, push_u16_le, push_u24_le, push_u32_be, push_u32_le, push_view,
+};
+pub use view::View;
