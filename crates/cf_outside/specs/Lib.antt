@@ -1,0 +1,9 @@
+pub mod Causes
+pub mod Content
+pub mod FileCalls
+pub mod Memory
+pub mod PairCalls
+pub mod Script
+pub mod Sent
+pub mod SinkCalls
+pub mod Whole

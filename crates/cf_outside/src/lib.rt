@@ -1,0 +1,21 @@
+//! The outside world: files, a sink for printed text and a pair of streams, with what each answer means and what
+//! stands after a fault, and objects in memory that keep to it.
+#![tactic(auto)]
+
+mod files;
+mod memory_files;
+mod memory_pair;
+mod memory_sink;
+mod pair;
+mod script;
+mod sink;
+mod whole;
+
+pub use files::{Files, ReadAnswer, WriteAnswer};
+pub use memory_files::MemoryFiles;
+pub use memory_pair::MemoryPair;
+pub use memory_sink::MemorySink;
+pub use pair::{GiveAnswer, MeetAnswer, MomentAnswer, Pair, TakeAnswer, Told};
+pub use script::Fail;
+pub use sink::Sink;
+pub use whole::{WholeFault, append_all, read_whole};
