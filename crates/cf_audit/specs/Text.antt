@@ -1,0 +1,51 @@
+-- The exact text of each line of the log. This project's own.
+use Rattle.std.specs.Prelude.{ℕ, ℤ, Option, None, Some, List, [], ◌∷◌, ◌++◌, codes, decimal, take}
+use Rattle.std.specs.Fmt.{signed_decimal}
+use Rattle.hex.specs.Hex.{encode_lower}
+use Rattle.cf_view.specs.Text.{endpoint_text, moment_text}
+use Rattle.cf_view.specs.declared.Act.{Act}
+use Rattle.cf_audit.specs.Line.{Line, What, Begun, Refuse, Stray, Partial, Close, Cut}
+use Rattle.cf_audit.specs.Names.{side_name, reason_name, why_name, break_name, mark}
+use Rattle.cf_audit.specs.declared.line.CutReason.{CutReason}
+use Rattle.cf_audit.specs.declared.line.CutReason.TheVariants as cut
+
+-- a value, or a dash where there is none
+abbrev pub value_text : Option ℤ → List ℕ
+value_text None = codes "-"
+value_text (Some value) = signed_decimal value
+
+-- the numbers of an act
+abbrev pub act_text : Act → List ℕ
+act_text act =
+    codes " code " ++ decimal act.code ++ codes " group " ++ decimal act.group ++ codes " point " ++ decimal act.point
+    ++ codes " value " ++ value_text act.value
+
+-- a side and why it was cut
+abbrev pub cut_text : CutReason → List ℕ
+cut_text (cut.Framing side reason) = side_name side ++ codes " " ++ break_name reason
+cut_text (cut.WrongSend side expected seen) = side_name side ++ codes " send " ++ decimal expected ++ codes " " ++ decimal seen
+cut_text (cut.WrongReceive side low high seen) =
+    side_name side ++ codes " receive " ++ decimal low ++ codes " " ++ decimal high ++ codes " " ++ decimal seen
+cut_text (cut.Outstanding side) = side_name side ++ codes " outstanding"
+cut_text (cut.NotStarted side) = side_name side ++ codes " notstarted"
+cut_text (cut.StreamLength side) = side_name side ++ codes " long"
+cut_text (cut.NoAnswer side) = side_name side ++ codes " noanswer"
+cut_text cut.ResetByClient = codes "client reset"
+cut_text cut.ResetByController = codes "controller reset"
+
+-- what happened
+abbrev pub what_text : What → List ℕ
+what_text Begun = codes "open"
+what_text (Refuse rule reason act replied unit) =
+    codes "refuse " ++ rule ++ codes " " ++ reason_name reason ++ act_text act ++ codes " " ++ mark replied ++ codes " "
+    ++ encode_lower (take 16 unit)
+what_text (Stray side why) = codes "stray " ++ side_name side ++ codes " " ++ why_name why
+what_text (Partial side count) = codes "partial " ++ side_name side ++ codes " " ++ decimal count
+what_text (Close admitted refused) = codes "close admitted " ++ decimal admitted ++ codes " refused " ++ decimal refused
+what_text (Cut reason) = codes "cut " ++ cut_text reason
+
+-- a moment, the client, the asset and what happened; a line feed ends it
+abbrev pub line_text : Line → List ℕ
+line_text line =
+    moment_text line.moment ++ codes " " ++ endpoint_text line.client ++ codes " " ++ line.asset ++ codes " "
+    ++ what_text line.what ++ codes "\n"

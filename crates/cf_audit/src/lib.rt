@@ -1,0 +1,8 @@
+//! The lines of the log: what happened to whom, as one line of text each.
+#![tactic(auto)]
+
+mod line;
+mod write;
+
+pub use line::{CutReason, Line, What, Why};
+pub use write::{push_cut, write_line};

@@ -1,0 +1,229 @@
+//! Lines of the log as text.
+ghost use Rattle.std.specs.Prelude.{◌≡◌, ◌+◌, ◌≤◌, ◌++◌, length};
+ghost use Rattle.arrayvec.specs.ArrayString.{array_string_len};
+ghost use Rattle.cf_audit.specs.Line.{Close, HasShortNames, HasShortRule, Refuse, line_of, what_of};
+ghost use Rattle.cf_audit.specs.Names.{break_name, mark, reason_name, side_name, why_name};
+ghost use Rattle.cf_audit.specs.Text.{act_text, cut_text, line_text, what_text};
+
+use crate::line::{CutReason, Line, What, Why};
+use arrayvec::ArrayString;
+use cf_view::{
+    Act, Break, Reason, Side, View, push_endpoint, push_hex, push_moment, push_number, push_signed,
+    push_u16, push_u32,
+};
+
+fn side_word(side: Side) -> &'static str
+    ensures name { result.now ≡ side_name side }
+    ensures short { length result.now ≤ 10 }
+{
+    match side {
+        Side::Client => "client",
+        Side::Controller => "controller",
+    }
+}
+
+fn reason_word(reason: Reason) -> &'static str
+    ensures name { result.now ≡ reason_name reason }
+    ensures short { length result.now ≤ 8 }
+{
+    match reason {
+        Reason::Function => "function",
+        Reason::Point => "point",
+        Reason::Value => "value",
+        Reason::Station => "station",
+    }
+}
+
+fn why_word(why: Why) -> &'static str
+    ensures name { result.now ≡ why_name why }
+    ensures short { length result.now ≤ 9 }
+{
+    match why {
+        Why::Address => "address",
+        Why::Direction => "direction",
+        Why::Code => "code",
+        Why::Empty => "empty",
+        Why::NoFirst => "first",
+        Why::Order => "order",
+        Why::TooLong => "long",
+        Why::Short => "short",
+    }
+}
+
+fn break_word(reason: Break) -> &'static str
+    ensures name { result.now ≡ break_name reason }
+    ensures short { length result.now ≤ 11 }
+{
+    match reason {
+        Break::Protocol => "protocol",
+        Break::Length => "length",
+        Break::Start => "start",
+        Break::FrameLength => "framelength",
+        Break::HeaderCrc => "headercrc",
+        Break::BlockCrc => "blockcrc",
+        Break::ApduStart => "apdustart",
+        Break::ApduLength => "apdulength",
+        Break::Control => "control",
+    }
+}
+
+fn mark_word(replied: bool) -> &'static str
+    ensures name { result.now ≡ mark replied }
+    ensures short { length result.now ≤ 10 }
+{
+    if replied { "replied" } else { "unanswered" }
+}
+
+fn push_act<const N: usize>(out: &mut ArrayString<N>, act: &Act)
+    requires { array_string_len out.old + 67 ≤ N }
+    ensures bytes { out.new.bytes ≡ out.old.bytes ++ act_text act.now }
+    ensures short { array_string_len out.new ≤ array_string_len out.old + 67 }
+{
+    out.push_str(" code ");
+    push_u16(out, act.code);
+    out.push_str(" group ");
+    push_u16(out, act.group);
+    out.push_str(" point ");
+    push_u32(out, act.point);
+    out.push_str(" value ");
+    match act.value {
+        Some(value) => push_signed(out, value),
+        None => out.push_str("-"),
+    }
+}
+
+/// Appends why a session was cut, as the log and the printed text spell it.
+pub fn push_cut<const N: usize>(out: &mut ArrayString<N>, reason: &CutReason)
+    requires { array_string_len out.old + 40 ≤ N }
+    ensures bytes { out.new.bytes ≡ out.old.bytes ++ cut_text reason.now }
+    ensures short { array_string_len out.new ≤ array_string_len out.old + 40 }
+{
+    match *reason {
+        CutReason::Framing(side, broken) => {
+            out.push_str(side_word(side));
+            out.push_str(" ");
+            out.push_str(break_word(broken));
+        }
+        CutReason::WrongSend(side, expected, seen) => {
+            out.push_str(side_word(side));
+            out.push_str(" send ");
+            push_u16(out, expected);
+            out.push_str(" ");
+            push_u16(out, seen);
+        }
+        CutReason::WrongReceive(side, low, high, seen) => {
+            out.push_str(side_word(side));
+            out.push_str(" receive ");
+            push_u16(out, low);
+            out.push_str(" ");
+            push_u16(out, high);
+            out.push_str(" ");
+            push_u16(out, seen);
+        }
+        CutReason::Outstanding(side) => {
+            out.push_str(side_word(side));
+            out.push_str(" outstanding");
+        }
+        CutReason::NotStarted(side) => {
+            out.push_str(side_word(side));
+            out.push_str(" notstarted");
+        }
+        CutReason::StreamLength(side) => {
+            out.push_str(side_word(side));
+            out.push_str(" long");
+        }
+        CutReason::NoAnswer(side) => {
+            out.push_str(side_word(side));
+            out.push_str(" noanswer");
+        }
+        CutReason::ResetByClient => out.push_str("client reset"),
+        CutReason::ResetByController => out.push_str("controller reset"),
+    }
+}
+
+fn push_refusal<const N: usize>(
+    out: &mut ArrayString<N>,
+    rule: &str,
+    reason: Reason,
+    act: &Act,
+    replied: bool,
+    unit: &View<'_>,
+)
+    requires name { length rule.now ≤ 32 }
+    requires room { array_string_len out.old + 159 ≤ N }
+    ensures bytes { out.new.bytes ≡ out.old.bytes ++ what_text (Refuse rule.now reason act.now replied unit.now.bytes) }
+    ensures short { array_string_len out.new ≤ array_string_len out.old + 159 }
+{
+    out.push_str("refuse ");
+    out.push_str(rule);
+    out.push_str(" ");
+    out.push_str(reason_word(reason));
+    push_act(out, act);
+    out.push_str(" ");
+    out.push_str(mark_word(replied));
+    out.push_str(" ");
+    push_hex(out, unit);
+}
+
+fn push_close<const N: usize>(out: &mut ArrayString<N>, admitted: u64, refused: u64)
+    requires { array_string_len out.old + 64 ≤ N }
+    ensures bytes { out.new.bytes ≡ out.old.bytes ++ what_text (Close admitted refused) }
+    ensures short { array_string_len out.new ≤ array_string_len out.old + 64 }
+{
+    out.push_str("close admitted ");
+    push_number(out, admitted);
+    out.push_str(" refused ");
+    push_number(out, refused);
+}
+
+fn push_what<const N: usize>(out: &mut ArrayString<N>, what: &What<'_>)
+    requires name { HasShortRule (what_of what.now) }
+    requires room { array_string_len out.old + 159 ≤ N }
+    ensures bytes { out.new.bytes ≡ out.old.bytes ++ what_text (what_of what.now) }
+    ensures short { array_string_len out.new ≤ array_string_len out.old + 159 }
+{
+    match what {
+        What::Begun => out.push_str("open"),
+        What::Refuse {
+            rule,
+            reason,
+            act,
+            replied,
+            unit,
+        } => push_refusal(out, rule, *reason, act, *replied, unit),
+        What::Stray { side, why } => {
+            out.push_str("stray ");
+            out.push_str(side_word(*side));
+            out.push_str(" ");
+            out.push_str(why_word(*why));
+        }
+        What::Partial { side, count } => {
+            out.push_str("partial ");
+            out.push_str(side_word(*side));
+            out.push_str(" ");
+            push_number(out, *count);
+        }
+        What::Close { admitted, refused } => push_close(out, *admitted, *refused),
+        What::Cut(reason) => {
+            out.push_str("cut ");
+            push_cut(out, reason);
+        }
+    }
+}
+
+/// Writes a line with its line feed, in place of what `out` held. The names have at most 32 bytes, so that it fits.
+pub fn write_line(line: &Line<'_>, out: &mut ArrayString<256>)
+    requires { HasShortNames (line_of line.now) }
+    ensures bytes { out.new.bytes ≡ line_text (line_of line.now) }
+    ensures len { array_string_len out.new ≤ 256 }
+{
+    out.clear();
+    push_moment(out, line.moment);
+    out.push_str(" ");
+    push_endpoint(out, &line.client);
+    out.push_str(" ");
+    out.push_str(line.asset);
+    out.push_str(" ");
+    push_what(out, &line.what);
+    out.push_str("\n");
+}
