@@ -1,0 +1,5 @@
+pub mod Laws
+pub mod Lists
+pub mod Names
+pub mod Verdict
+pub mod Within

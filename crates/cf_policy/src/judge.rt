@@ -1,0 +1,122 @@
+//! The verdict of an asset's rules about an act of a client.
+ghost use Rattle.std.specs.Prelude.{◌≡◌, ◌<◌, ◌&&◌, IfSome, length, option_map};
+ghost use Rattle.std.specs.List.{list_any};
+ghost use Rattle.cf_policy.specs.Verdict.{verdict_of, first_rule, first_number, has_function, has_point, has_act, takes, takes_value, covers, default_reason, reason_of, is_allow, IsInside};
+
+use crate::lists::Spans;
+use crate::policy::{Action, Asset, Decider, Rule, Span, Verdict};
+use cf_view::{Act, Reason};
+
+/// What the asset's rules say about an act of the client with this address, a number of 32 bits whose first octet is
+/// the highest. The first rule that has the act decides; where none has it, `Decider::Default` refuses it. The other
+/// two deciders never come here. This project's own rule.
+pub fn verdict(asset: &Asset, client: u32, act: &Act) -> Verdict
+    ensures decides { result ≡ verdict_of asset.now client act.now }
+    ensures inside { IsInside asset.now.rules result }
+{
+    let rules = asset.rules.as_slice();
+    match first_rule(rules, client, act) {
+        Some((number, rule)) => match rule.action {
+            Action::Allow => Verdict::Allow(number),
+            Action::Refuse => Verdict::Refuse(Decider::Rule(number), reason_of(rule)),
+        },
+        None => Verdict::Refuse(Decider::Default, default_reason(rules, client, act)),
+    }
+}
+
+fn first_rule<'a>(rules: &'a [Rule], client: u32, act: &Act) -> Option<(usize, &'a Rule)>
+    ensures first { option_map (λ p. (p.0, p.1.now)) result ≡ first_rule rules.now client act.now }
+    ensures inside { IfSome result (λ p. p.0 < length rules.now) }
+{
+    let number = first_number(rules, client, act)?;
+    Some((number, &rules[number]))
+}
+
+fn first_number(rules: &[Rule], client: u32, act: &Act) -> Option<usize>
+    ensures { result ≡ first_number rules.now client act.now }
+{
+    rules.iter().position(|rule| has_act(rule, client, act))
+}
+
+fn reason_of(rule: &Rule) -> Reason
+    ensures { result ≡ reason_of rule.now }
+{
+    if !rule.values.is_empty() {
+        Reason::Value
+    } else if !rule.points.is_empty() {
+        Reason::Point
+    } else {
+        Reason::Function
+    }
+}
+
+fn default_reason(rules: &[Rule], client: u32, act: &Act) -> Reason
+    ensures { result ≡ default_reason rules.now client act.now }
+{
+    if !some_allows_function(rules, client, act) {
+        Reason::Function
+    } else if !some_allows_point(rules, client, act) {
+        Reason::Point
+    } else {
+        Reason::Value
+    }
+}
+
+fn some_allows_function(rules: &[Rule], client: u32, act: &Act) -> bool
+    ensures { result ≡ list_any (λ r. is_allow r.action && has_function r client act.now) rules.now }
+{
+    rules.iter().any(|rule| rule.action == Action::Allow && has_function(rule, client, act))
+}
+
+fn some_allows_point(rules: &[Rule], client: u32, act: &Act) -> bool
+    ensures { result ≡ list_any (λ r. is_allow r.action && has_point r client act.now) rules.now }
+{
+    rules.iter().any(|rule| rule.action == Action::Allow && has_point(rule, client, act))
+}
+
+fn has_act(rule: &Rule, client: u32, act: &Act) -> bool
+    ensures { result ≡ has_act rule.now client act.now }
+{
+    has_point(rule, client, act) && takes_value(&rule.values, act.value)
+}
+
+fn has_point(rule: &Rule, client: u32, act: &Act) -> bool
+    ensures { result ≡ has_point rule.now client act.now }
+{
+    has_function(rule, client, act) && takes(&rule.points, i64::from(act.point))
+}
+
+fn has_function(rule: &Rule, client: u32, act: &Act) -> bool
+    ensures { result ≡ has_function rule.now client act.now }
+{
+    takes(&rule.clients, i64::from(client))
+        && takes(&rule.codes, i64::from(act.code))
+        && takes(&rule.groups, i64::from(act.group))
+}
+
+fn takes_value(spans: &Spans, value: Option<i64>) -> bool
+    ensures { result ≡ takes_value spans.now value }
+{
+    match value {
+        Some(number) => takes(spans, number),
+        None => spans.is_empty(),
+    }
+}
+
+fn takes(spans: &Spans, number: i64) -> bool
+    ensures { result ≡ takes spans.now number }
+{
+    spans.is_empty() || some_covers(spans.as_slice(), number)
+}
+
+fn some_covers(spans: &[Span], number: i64) -> bool
+    ensures { result ≡ list_any (λ s. covers s number) spans.now }
+{
+    spans.iter().any(|span| covers(span, number))
+}
+
+fn covers(span: &Span, number: i64) -> bool
+    ensures { result ≡ covers span.now number }
+{
+    span.low <= number && number <= span.high
+}

@@ -1,0 +1,21 @@
+//! The text that names what decided.
+ghost use Rattle.std.specs.Prelude.{◌≡◌, ◌≤◌, length};
+ghost use Rattle.cf_policy.specs.Names.{name_of};
+ghost use Rattle.cf_policy.specs.Verdict.{IsOneOf};
+
+use crate::policy::{Asset, Decider};
+
+/// The deciding rule's name, or `default`, `station` or `form`. No rule of a policy that was read has one of these
+/// three names.
+pub fn decider_name<'a>(asset: &'a Asset, decider: &Decider) -> &'a str
+    requires { IsOneOf asset.now.rules decider.now }
+    ensures name { result.now ≡ name_of asset.now.rules decider.now }
+    ensures short { length result.now ≤ 32 }
+{
+    match decider {
+        Decider::Rule(number) => asset.rules.as_slice()[*number].name.as_str(),
+        Decider::Default => "default",
+        Decider::Station => "station",
+        Decider::Form => "form",
+    }
+}

@@ -1,0 +1,87 @@
+//! What a policy says, as plain values.
+use crate::lists::{Assets, Name, Rules, Spans};
+use cf_view::{Endpoint, Reason};
+
+/// The protocol that a controller speaks.
+#[derive(Clone, Copy, PartialEq, Eq, Debug)]
+pub enum Protocol {
+    /// Modbus TCP.
+    Modbus,
+    /// DNP3 over TCP (IEEE 1815).
+    Dnp3,
+    /// IEC 60870-5-104.
+    Iec104,
+}
+
+/// What a rule does with the acts that it has.
+#[derive(Clone, Copy, PartialEq, Eq, Debug)]
+pub enum Action {
+    Allow,
+    Refuse,
+}
+
+/// The whole numbers from `low` to `high`, both of them included.
+#[derive(Clone, Copy, PartialEq, Eq, Debug)]
+pub struct Span {
+    pub low: i64,
+    pub high: i64,
+}
+
+/// A rule of an asset. It has an act of a client if each list that it states has the matching number. An empty list
+/// states nothing.
+#[derive(Debug, Drop)]
+pub struct Rule {
+    pub name: Name,
+    pub action: Action,
+    /// Addresses of clients, as numbers of 32 bits, the first octet the highest.
+    pub clients: Spans,
+    /// Function codes of Modbus and DNP3, type identifications of IEC 60870-5-104.
+    pub codes: Spans,
+    /// The groups of acts, in the terms of `cf_view::Act`.
+    pub groups: Spans,
+    /// The points of acts, in the terms of `cf_view::Act`.
+    pub points: Spans,
+    /// The values that acts write. A rule that states some does not have an act without a value.
+    pub values: Spans,
+}
+
+/// A controller, and the rules about commands to it.
+#[derive(Debug, Drop)]
+pub struct Asset {
+    pub name: Name,
+    pub endpoint: Endpoint,
+    pub protocol: Protocol,
+    /// The unit identifier of Modbus, the outstation's link address of DNP3, the common address of IEC 60870-5-104.
+    pub station: u16,
+    /// The master's link address of DNP3, and 0 for the other protocols.
+    pub master: u16,
+    pub rules: Rules,
+}
+
+/// The assets that the firewall stands before.
+#[derive(Debug, Drop)]
+pub struct Policy {
+    pub assets: Assets,
+}
+
+/// What decided about an act or a command.
+#[derive(Clone, Copy, PartialEq, Eq, Debug)]
+pub enum Decider {
+    /// The rule of this number, counted from 0.
+    Rule(usize),
+    /// No rule has the act.
+    Default,
+    /// The command is for another station.
+    Station,
+    /// The command's reader refuses it.
+    Form,
+}
+
+/// What becomes of an act.
+#[derive(Clone, Copy, PartialEq, Eq, Debug)]
+pub enum Verdict {
+    /// The rule of this number, counted from 0, allows it.
+    Allow(usize),
+    /// It is refused, by this decider and for this reason.
+    Refuse(Decider, Reason),
+}

@@ -1,0 +1,130 @@
+ghost use Rattle.std.specs.Prelude.{◌≤◌, length};
+
+use super::*;
+use cf_view::{Act, Endpoint, Reason};
+use std::alloc::{AllocError, Global};
+use std::test::Fail;
+
+fn spans(alloc: Global, ends: &[(i64, i64)]) -> Result<Spans, AllocError> {
+    let mut items = Vec::new(alloc);
+    for &(low, high) in ends {
+        items.push(Span { low, high })?;
+    }
+    Ok(Spans::new(items))
+}
+
+/// A rule that states clients, codes, groups, points and values, in this order.
+fn rule(
+    alloc: Global,
+    name: &str,
+    action: Action,
+    lists: [&[(i64, i64)]; 5],
+) -> Result<Rule, AllocError>
+    requires { length name.now ≤ 32 }
+{
+    let [clients, codes, groups, points, values] = lists;
+    Ok(Rule {
+        name: Name::from_text(name),
+        action,
+        clients: spans(alloc, clients)?,
+        codes: spans(alloc, codes)?,
+        groups: spans(alloc, groups)?,
+        points: spans(alloc, points)?,
+        values: spans(alloc, values)?,
+    })
+}
+
+fn pump(alloc: Global) -> Result<Asset, AllocError> {
+    let mut rules = Vec::new(alloc);
+    rules.push(rule(
+        alloc,
+        "poll",
+        Action::Allow,
+        [&[], &[(3, 3)], &[], &[], &[]],
+    )?)?;
+    rules.push(rule(
+        alloc,
+        "keep",
+        Action::Refuse,
+        [&[], &[(6, 6)], &[], &[(48, 49)], &[]],
+    )?)?;
+    rules.push(rule(
+        alloc,
+        "top",
+        Action::Refuse,
+        [&[], &[(6, 6)], &[], &[], &[(400, 500)]],
+    )?)?;
+    rules.push(rule(
+        alloc,
+        "none",
+        Action::Refuse,
+        [&[(9, 9)], &[(3, 6)], &[], &[], &[]],
+    )?)?;
+    rules.push(rule(
+        alloc,
+        "set",
+        Action::Allow,
+        [
+            &[(1, 5)],
+            &[(6, 6), (16, 16)],
+            &[(0, 0)],
+            &[(40, 49)],
+            &[(-2, 500)],
+        ],
+    )?)?;
+    Ok(Asset {
+        name: Name::from_text("pump"),
+        endpoint: Endpoint {
+            address: 0x0A00_0009,
+            port: 502,
+        },
+        protocol: Protocol::Modbus,
+        station: 1,
+        master: 0,
+        rules: Rules::new(rules),
+    })
+}
+
+/// Client, code, group, point, value; and the name of what decides, with the reason where the act is refused.
+const ACTS: [(u32, u16, u16, u32, Option<i64>, &str, Option<Reason>); 18] = [
+    (1, 3, 0, 0, None, "poll", None),
+    (9, 3, 1, 7, Some(1), "poll", None),
+    (9, 4, 0, 0, None, "none", Some(Reason::Function)),
+    (9, 7, 0, 0, None, "default", Some(Reason::Function)),
+    (9, 6, 0, 0, None, "none", Some(Reason::Function)),
+    (1, 6, 0, 47, Some(399), "set", None),
+    (5, 16, 0, 40, Some(500), "set", None),
+    (5, 16, 0, 49, Some(-2), "set", None),
+    (1, 6, 0, 48, Some(399), "keep", Some(Reason::Point)),
+    (1, 6, 0, 48, Some(400), "keep", Some(Reason::Point)),
+    (1, 6, 0, 47, Some(400), "top", Some(Reason::Value)),
+    (1, 6, 0, 47, None, "default", Some(Reason::Value)),
+    (1, 16, 0, 47, Some(501), "default", Some(Reason::Value)),
+    (1, 16, 0, 47, Some(-3), "default", Some(Reason::Value)),
+    (1, 16, 0, 50, Some(501), "default", Some(Reason::Point)),
+    (1, 16, 0, 39, Some(1), "default", Some(Reason::Point)),
+    (1, 16, 1, 40, Some(1), "default", Some(Reason::Function)),
+    (6, 16, 0, 40, Some(1), "default", Some(Reason::Function)),
+];
+
+#[test]
+fn decides_by_the_first_rule(rt: HostRuntime) -> Result<(), Fail> {
+    let asset = pump(rt.alloc())?;
+    for (client, code, group, point, value, name, why) in ACTS {
+        let act = Act {
+            code,
+            group,
+            point,
+            value,
+        };
+        let (decider, reason) = match verdict(&asset, client, &act) {
+            Verdict::Allow(number) => (Decider::Rule(number), None),
+            Verdict::Refuse(decider, reason) => (decider, Some(reason)),
+        };
+        assert_eq!(rt; decider_name(&asset, &decider), name);
+        assert_eq!(rt; reason, why);
+    }
+    assert_eq!(rt; decider_name(&asset, &Decider::Station), "station");
+    assert_eq!(rt; decider_name(&asset, &Decider::Form), "form");
+    Ok(())
+}
