@@ -26,7 +26,7 @@ abbrev pub lowest_value : ℤ
 lowest_value = negsuc 2147483647
 
 abbrev pub highest_value : ℤ
-highest_value = pos 2147483647
+highest_value = pos 4294967295
 
 abbrev pub lowest_station : Protocol → ℕ
 lowest_station Modbus = 0
