@@ -1,1 +1,2 @@
+pub mod FramingLaws
 pub mod TextLemmas
