@@ -1,3 +1,4 @@
 pub mod FramingLaws
+pub mod OctetLaws
 pub mod TextLemmas
 pub mod UnitsLaws
