@@ -1,0 +1,4 @@
+pub mod ActLaws
+pub mod AduLaws
+mod RequestLemmas
+pub mod RequestLaws

@@ -1,0 +1,91 @@
+//! Application data units: their framing in a stream, by the MBAP header.
+ghost use Rattle.std.specs.Prelude.{◌≡◌, ℕ, ◌↔◌, IsTrue};
+ghost use Rattle.cf_view.specs.Framing.{Begins, IsPartial, BreaksAt, Frames, seen, IsPrefixFree};
+ghost use Rattle.cf_modbus.specs.Adu.{AduOf, adu_of, SpellsAdu, mbap_break, IsHeaderOctet};
+
+use cf_view::{Break, Framed, View};
+
+/// The place after the length, which counts the octets from here on.
+const AFTER_LENGTH: usize = 6;
+
+/// One application data unit of Modbus TCP. MODBUS Messaging on TCP/IP Implementation Guide V1.0b, section 3.1.3.
+#[derive(Debug, Drop)]
+pub struct Adu<'a> {
+    /// The transaction identifier: a reply has that of its request.
+    pub transaction: u16,
+    /// The unit identifier: the station.
+    pub unit: u8,
+    /// The function code and what follows it, 1 to 253 octets.
+    pub pdu: View<'a>,
+}
+
+/// The ADU at the front of a stream, with the number of bytes that it takes (8 to 260).
+///
+/// `Broken(Protocol)` is told at the first octet of the protocol identifier that is not 0, `Broken(Length)` at the
+/// first octet of the length that no length from 2 to 254 has: no later octet is waited for.
+pub fn next_adu<'a>(bytes: View<'a>) -> Framed<Adu<'a>>
+    ensures true_answer { Frames SpellsAdu mbap_break adu_of result bytes.entry.bytes }
+    ensures unit { (a : AduOf) (n : ℕ) → Begins SpellsAdu bytes.entry.bytes a n
+        → seen adu_of result ≡ Framed.Unit a n }
+    ensures more { IsPartial SpellsAdu bytes.entry.bytes → result ≡ Framed.More }
+    ensures broken { (place : ℕ) → BreaksAt SpellsAdu bytes.entry.bytes place
+        → result ≡ Framed.Broken (mbap_break place) }
+{
+    front(bytes)
+}
+
+/// A law: no ADU's octets begin those of another, and no octets are of two ADUs. The call does nothing.
+pub fn no_adu_begins_another()
+    ensures { IsPrefixFree SpellsAdu }
+{}
+
+/// What `next_adu` answers.
+#[tactic(auto, using(crate::proofs::AduLaws::short_header, crate::proofs::AduLaws::short_pdu, crate::proofs::AduLaws::whole_adu))]
+fn front<'a>(bytes: View<'a>) -> Framed<Adu<'a>>
+    ensures { Frames SpellsAdu mbap_break adu_of result bytes.entry.bytes }
+{
+    let len = bytes.len();
+    for place in 0..len.min(AFTER_LENGTH) {
+        if !is_header_octet(place, bytes.at(place)) {
+            return Framed::Broken(break_at(place));
+        }
+    }
+    if len < AFTER_LENGTH {
+        return Framed::More;
+    }
+    // The high octet of the length is 0.
+    let used = AFTER_LENGTH + usize::from(bytes.at(5));
+    if len < used {
+        return Framed::More;
+    }
+    Framed::Unit {
+        unit: Adu {
+            transaction: bytes.u16_be(0),
+            unit: bytes.at(6),
+            pdu: bytes.sub(7, used),
+        },
+        used,
+    }
+}
+
+/// Whether some ADU has this octet at this place of its first six.
+fn is_header_octet(place: usize, octet: u8) -> bool
+    ensures { IsTrue result ↔ IsHeaderOctet place octet }
+{
+    match place {
+        2..=4 => octet == 0,
+        5 => 2 <= octet && octet <= 254,
+        _ => true,
+    }
+}
+
+/// The break of an octet at a place of the first six.
+fn break_at(place: usize) -> Break
+    ensures { result ≡ mbap_break place }
+{
+    if place < 4 {
+        Break::Protocol
+    } else {
+        Break::Length
+    }
+}
