@@ -1,0 +1,66 @@
+-- The keys of a table and the kinds of their values, as they are tested. This project's own; tables and values are
+-- those of TOML 1.1.
+use Rattle.std.specs.Prelude.{ℕ, ◌+◌, ℤ, pos, negsuc, Bool, true, false, not, ◌&&◌, ◌||◌, nat_le, if◌then◌else◌, List, Option, Some, None, Ok, bytes_eq}
+use Rattle.std.specs.List.{list_any}
+use Rattle.toml.specs.Data.{Data, string, integer, array, table, Items, no_items, item, Members, no_members, member, get_member}
+use Rattle.cf_policylang.specs.declared.fields.Kind.{Kind}
+use Rattle.cf_policylang.specs.declared.fields.Kind.TheVariants as kind
+use Rattle.cf_policylang.specs.declared.refusal.Key.{Key}
+use Rattle.cf_policylang.specs.declared.refusal.Cause.TheVariants as cause
+use Rattle.cf_policylang.specs.declared.refusal.Place.{Place}
+use Rattle.cf_policylang.specs.Keys.{key_text}
+use Rattle.cf_policylang.specs.Tested.{Tested, refused, or_refused}
+
+-- the text is one of the keys
+abbrev pub is_among : List Key → List ℕ → Bool
+is_among known text = list_any (λ k. bytes_eq text (key_text k)) known
+
+-- the table has a key besides these
+abbrev pub has_other : List Key → Members → Bool
+has_other known no_members = false
+has_other known (member text d ms) = not (is_among known text) || has_other known ms
+
+-- the value at a key, if the table has it
+abbrev pub stated : Key → Members → Option Data
+stated k ms = get_member (key_text k) ms
+
+abbrev pub required : Key → Place → Members → Tested Data
+required k p ms = or_refused cause.MissingKey k p (stated k ms)
+
+abbrev pub as_text : Key → Place → Data → Tested (List ℕ)
+as_text k p (string s) = Ok s
+as_text k p _ = refused cause.WrongKind k p
+
+abbrev pub as_number : Key → Place → Data → Tested ℤ
+as_number k p (integer z) = Ok z
+as_number k p _ = refused cause.WrongKind k p
+
+abbrev pub as_table : Key → Place → Data → Tested Members
+as_table k p (table ms) = Ok ms
+as_table k p _ = refused cause.WrongKind k p
+
+-- the value is of the kind
+abbrev pub is_kind : Kind → Data → Bool
+is_kind kind.Text (string s) = true
+is_kind kind.Number (integer z) = true
+is_kind kind.Table (table ms) = true
+is_kind _ _ = false
+
+-- each entry is of the kind
+abbrev pub all_kind : Kind → Items → Bool
+all_kind k no_items = true
+all_kind k (item d ds) = is_kind k d && all_kind k ds
+
+abbrev pub count : Items → ℕ
+count no_items = 0
+count (item d ds) = 1 + count ds
+
+-- an array each of whose entries is of the kind
+abbrev pub as_array_of : Kind → Key → Place → Data → Tested Items
+as_array_of kind k p (array ds) = if all_kind kind ds then Ok ds else refused cause.WrongKind k p
+as_array_of kind k p _ = refused cause.WrongKind k p
+
+-- the number, if it is from low to high
+abbrev pub natural_in : ℕ → ℕ → ℤ → Option ℕ
+natural_in low high (pos n) = if nat_le low n && nat_le n high then Some n else None
+natural_in low high (negsuc n) = None

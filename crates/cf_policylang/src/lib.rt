@@ -1,0 +1,7 @@
+//! The language of policies: what the bytes of a policy's text mean, or why they mean none.
+#![tactic(auto)]
+
+mod fields;
+mod refusal;
+
+pub use refusal::{Cause, Key, PolicyFault, PolicyRefusal};

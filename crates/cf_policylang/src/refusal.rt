@@ -1,0 +1,202 @@
+//! Refusals of a policy's text, and their words.
+ghost use Rattle.std.specs.Prelude.{◌≡◌, codes};
+ghost use Rattle.cf_policylang.specs.Keys.{key_text, cause_number};
+ghost use Rattle.cf_policylang.specs.Tested.{refusal};
+
+use std::alloc::{AllocError, AllocFailed};
+use std::fmt;
+use thiserror::Error;
+
+/// A key of a policy's text. This project's own words.
+#[derive(Clone, Copy, PartialEq, Eq, Debug)]
+pub enum Key {
+    /// No key: written as `-`.
+    Nothing,
+    Version,
+    Asset,
+    Name,
+    Address,
+    Port,
+    Protocol,
+    Station,
+    Master,
+    Rule,
+    Action,
+    Clients,
+    Codes,
+    Groups,
+    Points,
+    Values,
+}
+
+impl Key {
+    /// How the key is written in a policy, and `-` for no key.
+    pub fn as_str(self) -> &'static str
+        ensures { result.now ≡ key_text self }
+    {
+        match self {
+            Key::Nothing => "-",
+            Key::Version => "version",
+            Key::Asset => "asset",
+            Key::Name => "name",
+            Key::Address => "address",
+            Key::Port => "port",
+            Key::Protocol => "protocol",
+            Key::Station => "station",
+            Key::Master => "master",
+            Key::Rule => "rule",
+            Key::Action => "action",
+            Key::Clients => "clients",
+            Key::Codes => "codes",
+            Key::Groups => "groups",
+            Key::Points => "points",
+            Key::Values => "values",
+        }
+    }
+}
+
+impl fmt::Display for Key {
+    ghost use Rattle.std.specs.Prelude.{Some};
+    ghost use Rattle.cf_policylang.specs.Keys.{key_text};
+
+    ghost output = { λ k. Some (key_text k) };
+
+    fn fmt<W: fmt::Write>(&self, f: &mut fmt::Formatter<W>) -> fmt::Result {
+        f.write_str(self.as_str())
+    }
+}
+
+/// Why a policy's text was refused. This project's own numbers.
+#[derive(Clone, Copy, PartialEq, Eq, Debug)]
+pub enum Cause {
+    /// The text is no TOML document in UTF-8.
+    NotToml = 1,
+    /// A key that this place does not have, `master` outside DNP3 included.
+    UnknownKey = 2,
+    /// A key that this place must have is missing.
+    MissingKey = 3,
+    /// A value of another kind than the key's, or a list with such an entry.
+    WrongKind = 4,
+    /// An address that is not four octets with points between them.
+    BadAddress = 5,
+    /// A value outside the key's range, or an empty list.
+    BadRange = 6,
+    /// A name or an endpoint that an earlier one has, or a rule's name that stands for another decider.
+    Duplicate = 7,
+    /// A file of more than 4,194,304 bytes, more than 256 assets, 1,024 rules of an asset or 64 entries of a list.
+    TooMany = 8,
+    /// A version other than 1.
+    Version = 9,
+}
+
+impl Cause {
+    /// The cause's number, from 1 to 9.
+    pub fn number(self) -> u8
+        ensures { result ≡ cause_number self }
+    {
+        self as u8
+    }
+}
+
+/// The first refusal of a policy's text, in the order of its tests.
+#[derive(Clone, Copy, PartialEq, Eq, Debug)]
+pub struct PolicyRefusal {
+    /// The number of its cause.
+    pub number: u8,
+    /// The key at which it stands.
+    pub key: Key,
+    /// The number of the asset, from 1, or 0 for none.
+    pub asset: u32,
+    /// The number of the rule in its asset, from 1, or 0 for none.
+    pub rule: u32,
+}
+
+impl fmt::Display for PolicyRefusal {
+    ghost use Rattle.std.specs.Prelude.{Some};
+    ghost use Rattle.cf_policylang.specs.Keys.{refusal_text};
+
+    ghost output = { λ r. Some (refusal_text r) };
+
+    fn fmt<W: fmt::Write>(&self, f: &mut fmt::Formatter<W>) -> fmt::Result {
+        let PolicyRefusal {
+            number,
+            key,
+            asset,
+            rule,
+        } = *self;
+        write!(f, "{number} {key} asset {asset} rule {rule}")
+    }
+}
+
+/// Why no policy was read.
+#[derive(Debug, Drop, Error)]
+pub enum PolicyFault {
+    /// Memory ran out.
+    #[error("out of memory")]
+    NoMemory,
+    /// The text means no policy.
+    #[error("policy refused {0}")]
+    Refused(PolicyRefusal),
+}
+
+impl From<PolicyRefusal> for PolicyFault {
+    ghost use Rattle.std.specs.Prelude.{◌≡◌};
+    ghost use Rattle.cf_policylang.specs.declared.refusal.PolicyFault.TheVariants.{Refused};
+
+    ghost from_gives = { λ r e. e ≡ Refused r };
+
+    fn from(refusal: PolicyRefusal) -> PolicyFault {
+        PolicyFault::Refused(refusal)
+    }
+}
+
+impl From<AllocError> for PolicyFault {
+    ghost use Rattle.std.specs.Prelude.{◌≡◌};
+    ghost use Rattle.cf_policylang.specs.declared.refusal.PolicyFault.TheVariants.{NoMemory};
+
+    ghost from_gives = { λ _ e. e ≡ NoMemory };
+
+    fn from(_error: AllocError) -> PolicyFault {
+        PolicyFault::NoMemory
+    }
+}
+
+impl<T: Drop> From<AllocFailed<T>> for PolicyFault {
+    ghost use Rattle.std.specs.Prelude.{◌≡◌};
+    ghost use Rattle.cf_policylang.specs.declared.refusal.PolicyFault.TheVariants.{NoMemory};
+
+    ghost from_gives = { λ _ e. e ≡ NoMemory };
+
+    fn from(_error: AllocFailed<T>) -> PolicyFault {
+        PolicyFault::NoMemory
+    }
+}
+
+/// Where in a policy a test stands: its asset and rule, from 1, and 0 for none.
+#[derive(Clone, Copy, PartialEq, Eq, Debug)]
+pub(crate) struct Place {
+    pub(crate) asset: u32,
+    pub(crate) rule: u32,
+}
+
+impl Place {
+    pub(crate) const DOCUMENT: Place = Place { asset: 0, rule: 0 };
+
+    pub(crate) fn asset(asset: u32) -> Place
+        ensures { result ≡ record { asset = asset; rule = 0 } }
+    {
+        Place { asset, rule: 0 }
+    }
+}
+
+/// The refusal for a cause at a key.
+pub(crate) fn refusal(cause: Cause, key: Key, place: Place) -> PolicyRefusal
+    ensures { result ≡ refusal cause key place }
+{
+    PolicyRefusal {
+        number: cause.number(),
+        key,
+        asset: place.asset,
+        rule: place.rule,
+    }
+}
