@@ -1,4 +1,5 @@
 pub mod Answers
 pub mod Fields
 pub mod Keys
+pub mod Numbers
 pub mod Tested

@@ -2,6 +2,7 @@
 #![tactic(auto)]
 
 mod fields;
+mod numbers;
 mod refusal;
 
 pub use refusal::{Cause, Key, PolicyFault, PolicyRefusal};
