@@ -1,5 +1,6 @@
 pub mod Answers
 pub mod Fields
 pub mod Keys
+pub mod Lists
 pub mod Numbers
 pub mod Tested

@@ -4,7 +4,7 @@ ghost use Rattle.std.specs.List.{list_all, list_any};
 ghost use Rattle.std.specs.BTreeMap.{keys};
 ghost use Rattle.toml.specs.View.{view, table_view, array_view};
 ghost use Rattle.cf_policylang.specs.Answers.{AnswersPlainly};
-ghost use Rattle.cf_policylang.specs.Fields.{is_among, has_other, stated, required, as_text, as_number, as_table, is_kind, all_kind, as_array_of, natural_in};
+ghost use Rattle.cf_policylang.specs.Fields.{is_among, has_other, stated, required, as_text, as_number, as_table, is_kind, all_kind, as_array_of, count, natural_in};
 
 use crate::refusal::{Cause, Key, Place, PolicyRefusal, refusal};
 use toml::value::Array;
@@ -115,6 +115,14 @@ pub(crate) fn as_array_of(kind: Kind, key: Key, place: Place, value: &Value) -> 
         }
         _ => Err(refusal(Cause::WrongKind, key, place)),
     }
+}
+
+/// The number of entries.
+#[tactic(auto, using(crate::proofs::Tables::count_view))]
+pub(crate) fn count(array: &Array) -> usize
+    ensures { result ≡ count (array_view array.now) }
+{
+    array.len()
 }
 
 /// The number, if it is from `low` to `high`.

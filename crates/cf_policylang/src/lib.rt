@@ -2,6 +2,7 @@
 #![tactic(auto)]
 
 mod fields;
+mod lists;
 mod numbers;
 mod refusal;
 

@@ -89,7 +89,7 @@ fn has_spare(text: &[u8]) -> bool
     text.starts_with(b"+") || text.starts_with(b"-0") || (text.len() > 1 && text.starts_with(b"0"))
 }
 
-fn within(low: i64, high: i64, number: i64) -> Option<i64>
+pub(crate) fn within(low: i64, high: i64, number: i64) -> Option<i64>
     ensures value { result ≡ within low high number }
     ensures above { IfSome result (λ z. low ≤ℤ z) }
     ensures below { IfSome result (λ z. z ≤ℤ high) }

@@ -1,0 +1,123 @@
+//! The lists of a rule.
+ghost use Rattle.std.specs.Prelude.{◌≡◌, []};
+ghost use Rattle.toml.specs.View.{view, table_view, array_view};
+ghost use Rattle.cf_policylang.specs.Answers.{Answers};
+ghost use Rattle.cf_policylang.specs.Lists.{kind_of, address_span, code_span, entry, entries_from, spans, optional_spans};
+
+use crate::fields::{Kind, as_array_of, as_number, as_text, count, stated};
+use crate::numbers::{address, ends, number_span, span, within};
+use crate::refusal::{Cause, Key, Place, PolicyFault, PolicyRefusal, refusal};
+use cf_policy::{Span, Spans};
+use std::alloc::Global;
+use toml::value::Array;
+use toml::{Table, Value};
+
+/// What the entries of a list are.
+#[derive(Clone, Copy, PartialEq, Eq, Debug)]
+pub(crate) enum Entries {
+    /// Texts: addresses and ranges of addresses.
+    Addresses,
+    /// Integers from 0 to 255.
+    Codes,
+    /// Texts: numbers from `low` to `high`, and ranges of such numbers.
+    Numbers { low: i64, high: i64 },
+}
+
+impl Entries {
+    fn kind(self) -> Kind
+        ensures { result ≡ kind_of self }
+    {
+        match self {
+            Entries::Addresses => Kind::Text,
+            Entries::Codes => Kind::Number,
+            Entries::Numbers { .. } => Kind::Text,
+        }
+    }
+}
+
+/// The list at a key that may be absent.
+pub(crate) fn optional_spans(
+    alloc: Global,
+    entries: Entries,
+    key: Key,
+    place: Place,
+    table: &Table,
+) -> Result<Spans, PolicyFault>
+    ensures { Answers (λ s. s) (optional_spans entries key place (table_view table.now)) result }
+{
+    match stated(key, table) {
+        None => Ok(Spans::new(Vec::new(alloc))),
+        Some(value) => spans(alloc, entries, key, place, value),
+    }
+}
+
+/// The list that a value is: the kind of its entries is tested, then how many there are, then each.
+pub(crate) fn spans(
+    alloc: Global,
+    entries: Entries,
+    key: Key,
+    place: Place,
+    value: &Value,
+) -> Result<Spans, PolicyFault>
+    ensures { Answers (λ s. s) (spans entries key place (view value.now)) result }
+{
+    let array = as_array_of(entries.kind(), key, place, value)?;
+    let entries_count = count(array);
+    if entries_count == 0 {
+        return Err(refusal(Cause::BadRange, key, place).into());
+    }
+    if entries_count > 64 {
+        return Err(refusal(Cause::TooMany, key, place).into());
+    }
+    entries_from(alloc, entries, key, place, array)
+}
+
+fn entries_from(
+    alloc: Global,
+    entries: Entries,
+    key: Key,
+    place: Place,
+    array: &Array,
+) -> Result<Spans, PolicyFault>
+    ensures { Answers (λ s. s) (entries_from entries key place (array_view array.now) []) result }
+{
+    let mut spans = Vec::new(alloc);
+    for value in array {
+        let span = entry(entries, key, place, value)?;
+        spans.push(span)?;
+    }
+    Ok(Spans::new(spans))
+}
+
+fn entry(entries: Entries, key: Key, place: Place, value: &Value) -> Result<Span, PolicyRefusal>
+    ensures { result ≡ entry entries key place (view value.now) }
+{
+    match entries {
+        Entries::Addresses => address_span(key, place, as_text(key, place, value)?),
+        Entries::Codes => {
+            let number = as_number(key, place, value)?;
+            code_span(number).ok_or(refusal(Cause::BadRange, key, place))
+        }
+        Entries::Numbers { low, high } => {
+            let text = as_text(key, place, value)?;
+            number_span(low, high, text).ok_or(refusal(Cause::BadRange, key, place))
+        }
+    }
+}
+
+/// An address or a range of addresses. A part that is no address comes before a first that is above the second.
+fn address_span(key: Key, place: Place, text: &str) -> Result<Span, PolicyRefusal>
+    ensures { result ≡ address_span key place text.now }
+{
+    let (first, last) = ends(text);
+    let first = address(first).ok_or(refusal(Cause::BadAddress, key, place))?;
+    let last = address(last).ok_or(refusal(Cause::BadAddress, key, place))?;
+    span(i64::from(first), i64::from(last)).ok_or(refusal(Cause::BadRange, key, place))
+}
+
+fn code_span(number: i64) -> Option<Span>
+    ensures { result ≡ code_span number }
+{
+    let code = within(0, 255, number)?;
+    span(code, code)
+}
