@@ -3,4 +3,5 @@ pub mod Fields
 pub mod Keys
 pub mod Lists
 pub mod Numbers
+pub mod Rules
 pub mod Tested

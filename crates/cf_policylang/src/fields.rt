@@ -1,5 +1,5 @@
 //! The keys of a table and the kinds of their values, as they are tested.
-ghost use Rattle.std.specs.Prelude.{◌≡◌, not, option_map, string_bytes};
+ghost use Rattle.std.specs.Prelude.{◌≡◌, not, option_map, string_bytes, vec_len};
 ghost use Rattle.std.specs.List.{list_all, list_any};
 ghost use Rattle.std.specs.BTreeMap.{keys};
 ghost use Rattle.toml.specs.View.{view, table_view, array_view};
@@ -120,7 +120,8 @@ pub(crate) fn as_array_of(kind: Kind, key: Key, place: Place, value: &Value) -> 
 /// The number of entries.
 #[tactic(auto, using(crate::proofs::Tables::count_view))]
 pub(crate) fn count(array: &Array) -> usize
-    ensures { result ≡ count (array_view array.now) }
+    ensures entries { result ≡ count (array_view array.now) }
+    ensures len { result ≡ vec_len array.now }
 {
     array.len()
 }

@@ -5,5 +5,6 @@ mod fields;
 mod lists;
 mod numbers;
 mod refusal;
+mod rules;
 
 pub use refusal::{Cause, Key, PolicyFault, PolicyRefusal};

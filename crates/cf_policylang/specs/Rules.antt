@@ -1,0 +1,103 @@
+-- The rules of an asset. This project's own.
+use Rattle.std.specs.Prelude.{ℕ, ◌+◌, ℤ, pos, Bool, ◌||◌, nat_lt, if◌then◌else◌, List, [], ◌∷◌, ◌++◌, Option, Some, None, Ok, codes, bytes_eq}
+use Rattle.std.specs.List.{list_any}
+use Rattle.toml.specs.Data.{Data, Items, no_items, item, Members}
+use Rattle.cf_policy.specs.declared.policy.Action.{Action}
+use Rattle.cf_policy.specs.declared.policy.Action.TheVariants.{Allow, Refuse}
+use Rattle.cf_policy.specs.declared.policy.Rule.{Rule}
+use Rattle.cf_policy.specs.declared.policy.Span.{Span}
+use Rattle.cf_policy.specs.Names.{is_name, is_reserved}
+use Rattle.cf_policy.specs.Within.{highest_group, highest_point, lowest_value, highest_value}
+use Rattle.cf_policylang.specs.declared.fields.Kind.TheVariants as kind
+use Rattle.cf_policylang.specs.declared.lists.Entries.TheVariants as entries
+use Rattle.cf_policylang.specs.declared.refusal.Key.{Key}
+use Rattle.cf_policylang.specs.declared.refusal.Key.TheVariants as key
+use Rattle.cf_policylang.specs.declared.refusal.Cause.TheVariants as cause
+use Rattle.cf_policylang.specs.declared.refusal.Place.{Place}
+use Rattle.cf_policylang.specs.Fields.{as_text, as_table, as_array_of, count, has_other, required, stated}
+use Rattle.cf_policylang.specs.Lists.{optional_spans, spans}
+use Rattle.cf_policylang.specs.Tested.{Tested, and_then, refused, or_refused, at_asset, at_rule}
+
+abbrev pub rule_keys : List Key
+rule_keys = key.Name ∷ key.Action ∷ key.Clients ∷ key.Codes ∷ key.Groups ∷ key.Points ∷ key.Values ∷ []
+
+-- a name, of an asset or a rule
+abbrev pub name : Place → Members → Tested (List ℕ)
+name p ms =
+    and_then (required key.Name p ms) (λ d.
+    and_then (as_text key.Name p d) (λ text.
+    if is_name text then Ok text else refused cause.BadRange key.Name p))
+
+-- an earlier rule has the name, or it stands for another decider
+abbrev pub is_rule_taken : List Rule → List ℕ → Bool
+is_rule_taken seen text = is_reserved text || list_any (λ r. bytes_eq r.name text) seen
+
+abbrev pub rule_name : Place → List Rule → Members → Tested (List ℕ)
+rule_name p seen ms =
+    and_then (name p ms) (λ text. if is_rule_taken seen text then refused cause.Duplicate key.Name p else Ok text)
+
+abbrev pub action_of : List ℕ → Option Action
+action_of text =
+    if bytes_eq text (codes "allow") then Some Allow
+    else if bytes_eq text (codes "refuse") then Some Refuse
+    else None
+
+abbrev pub action : Place → Members → Tested Action
+action p ms =
+    and_then (required key.Action p ms) (λ d.
+    and_then (as_text key.Action p d) (λ text. or_refused cause.BadRange key.Action p (action_of text)))
+
+-- the lists of a rule: each may be absent but the codes
+abbrev pub client_spans : Place → Members → Tested (List Span)
+client_spans p ms = optional_spans entries.Addresses key.Clients p ms
+
+abbrev pub code_spans : Place → Members → Tested (List Span)
+code_spans p ms = and_then (required key.Codes p ms) (λ d. spans entries.Codes key.Codes p d)
+
+abbrev pub group_spans : Place → Members → Tested (List Span)
+group_spans p ms = optional_spans (entries.Numbers (pos 0) highest_group) key.Groups p ms
+
+abbrev pub point_spans : Place → Members → Tested (List Span)
+point_spans p ms = optional_spans (entries.Numbers (pos 0) highest_point) key.Points p ms
+
+abbrev pub value_spans : Place → Members → Tested (List Span)
+value_spans p ms = optional_spans (entries.Numbers lowest_value highest_value) key.Values p ms
+
+-- a rule behind those of its asset that were read
+abbrev pub rule : Place → List Rule → Members → Tested Rule
+rule p seen ms =
+    if has_other rule_keys ms then refused cause.UnknownKey key.Nothing p else
+    and_then (rule_name p seen ms) (λ own_name.
+    and_then (action p ms) (λ own_action.
+    and_then (client_spans p ms) (λ own_clients.
+    and_then (code_spans p ms) (λ own_codes.
+    and_then (group_spans p ms) (λ own_groups.
+    and_then (point_spans p ms) (λ own_points.
+    and_then (value_spans p ms) (λ own_values.
+    Ok (record {
+      name = own_name;
+      action = own_action;
+      clients = own_clients;
+      codes = own_codes;
+      groups = own_groups;
+      points = own_points;
+      values = own_values;
+    }))))))))
+
+-- the rules of an asset in their order, behind n that were read
+abbrev pub rules_from : ℕ → ℕ → Items → List Rule → Tested (List Rule)
+rules_from a n no_items seen = Ok seen
+rules_from a n (item d ds) seen =
+    and_then (as_table key.Rule (at_asset a) d) (λ ms.
+    and_then (rule (at_rule a (n + 1)) seen ms) (λ r.
+    rules_from a (n + 1) ds (seen ++ r ∷ [])))
+
+-- the array of the rules, which may be absent
+abbrev pub rule_items : Place → Option Data → Tested Items
+rule_items p None = Ok no_items
+rule_items p (Some d) =
+    and_then (as_array_of kind.Table key.Rule p d) (λ ds.
+    if nat_lt 1024 (count ds) then refused cause.TooMany key.Rule p else Ok ds)
+
+abbrev pub rules : ℕ → Members → Tested (List Rule)
+rules a ms = and_then (rule_items (at_asset a) (stated key.Rule ms)) (λ ds. rules_from a 0 ds [])

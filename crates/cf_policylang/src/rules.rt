@@ -1,0 +1,212 @@
+//! The rules of an asset.
+ghost use Rattle.std.specs.Prelude.{◌≡◌, ◌≤◌, [], IfOk, IsTrue, bytes_eq, length, vec_len};
+ghost use Rattle.std.specs.List.{list_any, list_all};
+ghost use Rattle.toml.specs.View.{view, table_view, array_view};
+ghost use Rattle.cf_policy.specs.Names.{is_name, is_name_byte, is_reserved};
+ghost use Rattle.cf_policylang.specs.Answers.{Answers, AnswersPlainly};
+ghost use Rattle.cf_policylang.specs.Rules.{name, is_rule_taken, rule_name, action_of, action, client_spans, code_spans, group_spans, point_spans, value_spans, rule, rules_from, rule_items, rules};
+
+use crate::fields::{Kind, as_array_of, as_table, as_text, count, has_other, required, stated};
+use crate::lists::{Entries, optional_spans, spans};
+use crate::refusal::{Cause, Key, Place, PolicyFault, PolicyRefusal, refusal};
+use cf_policy::{Action, Name, Rule, Rules, Spans};
+use std::alloc::Global;
+use toml::value::Array;
+use toml::{Table, Value};
+
+const RULE_KEYS: [Key; 7] = [
+    Key::Name,
+    Key::Action,
+    Key::Clients,
+    Key::Codes,
+    Key::Groups,
+    Key::Points,
+    Key::Values,
+];
+
+/// A rule behind those of its asset that were read.
+fn rule(
+    alloc: Global,
+    place: Place,
+    earlier: &[Rule],
+    table: &Table,
+) -> Result<Rule, PolicyFault>
+    ensures { Answers (λ r. r) (rule place earlier.now (table_view table.now)) result }
+{
+    if has_other(&RULE_KEYS, table) {
+        return Err(refusal(Cause::UnknownKey, Key::Nothing, place).into());
+    }
+    let name = rule_name(place, earlier, table)?;
+    let action = action(place, table)?;
+    let clients = client_spans(alloc, place, table)?;
+    let codes = code_spans(alloc, place, table)?;
+    let groups = group_spans(alloc, place, table)?;
+    let points = point_spans(alloc, place, table)?;
+    let values = value_spans(alloc, place, table)?;
+    Ok(Rule {
+        name,
+        action,
+        clients,
+        codes,
+        groups,
+        points,
+        values,
+    })
+}
+
+fn rule_name(place: Place, earlier: &[Rule], table: &Table) -> Result<Name, PolicyRefusal>
+    ensures { AnswersPlainly (λ n. n) (rule_name place earlier.now (table_view table.now)) result }
+{
+    let name = name(place, table)?;
+    if is_rule_taken(earlier, name.as_str()) {
+        return Err(refusal(Cause::Duplicate, Key::Name, place));
+    }
+    Ok(name)
+}
+
+fn is_rule_taken(earlier: &[Rule], text: &str) -> bool
+    ensures { result ≡ is_rule_taken earlier.now text.now }
+{
+    is_reserved(text) || some_rule_has(earlier, text)
+}
+
+fn some_rule_has(rules: &[Rule], text: &str) -> bool
+    ensures { result ≡ list_any (λ r. bytes_eq r.name text.now) rules.now }
+{
+    rules.iter().any(|rule| rule.name.as_str() == text)
+}
+
+fn is_reserved(text: &str) -> bool
+    ensures { result ≡ is_reserved text.now }
+{
+    text == "default" || text == "station" || text == "form"
+}
+
+/// The name of an asset or a rule.
+pub(crate) fn name(place: Place, table: &Table) -> Result<Name, PolicyRefusal>
+    ensures { AnswersPlainly (λ n. n) (name place (table_view table.now)) result }
+{
+    let text = as_text(Key::Name, place, required(Key::Name, place, table)?)?;
+    if !is_name(text) {
+        return Err(refusal(Cause::BadRange, Key::Name, place));
+    }
+    Ok(Name::from_text(text))
+}
+
+fn is_name(text: &str) -> bool
+    ensures form { result ≡ is_name text.now }
+    ensures short { IsTrue result → length text.now ≤ 32 }
+{
+    !text.is_empty() && text.len() <= 32 && all_name_bytes(text.as_bytes())
+}
+
+fn all_name_bytes(text: &[u8]) -> bool
+    ensures { result ≡ list_all is_name_byte text.now }
+{
+    text.iter().all(|byte| is_name_byte(*byte))
+}
+
+fn is_name_byte(byte: u8) -> bool
+    ensures { result ≡ is_name_byte byte }
+{
+    matches!(byte, b'a'..=b'z' | b'0'..=b'9' | b'_' | b'-')
+}
+
+fn action(place: Place, table: &Table) -> Result<Action, PolicyRefusal>
+    ensures { result ≡ action place (table_view table.now) }
+{
+    let text = as_text(Key::Action, place, required(Key::Action, place, table)?)?;
+    action_of(text).ok_or(refusal(Cause::BadRange, Key::Action, place))
+}
+
+fn action_of(text: &str) -> Option<Action>
+    ensures { result ≡ action_of text.now }
+{
+    match text {
+        "allow" => Some(Action::Allow),
+        "refuse" => Some(Action::Refuse),
+        _ => None,
+    }
+}
+
+fn client_spans(alloc: Global, place: Place, table: &Table) -> Result<Spans, PolicyFault>
+    ensures { Answers (λ s. s) (client_spans place (table_view table.now)) result }
+{
+    optional_spans(alloc, Entries::Addresses, Key::Clients, place, table)
+}
+
+fn code_spans(alloc: Global, place: Place, table: &Table) -> Result<Spans, PolicyFault>
+    ensures { Answers (λ s. s) (code_spans place (table_view table.now)) result }
+{
+    let value = required(Key::Codes, place, table)?;
+    spans(alloc, Entries::Codes, Key::Codes, place, value)
+}
+
+fn group_spans(alloc: Global, place: Place, table: &Table) -> Result<Spans, PolicyFault>
+    ensures { Answers (λ s. s) (group_spans place (table_view table.now)) result }
+{
+    let groups = Entries::Numbers {
+        low: 0,
+        high: 65_535,
+    };
+    optional_spans(alloc, groups, Key::Groups, place, table)
+}
+
+fn point_spans(alloc: Global, place: Place, table: &Table) -> Result<Spans, PolicyFault>
+    ensures { Answers (λ s. s) (point_spans place (table_view table.now)) result }
+{
+    let points = Entries::Numbers {
+        low: 0,
+        high: 4_294_967_295,
+    };
+    optional_spans(alloc, points, Key::Points, place, table)
+}
+
+fn value_spans(alloc: Global, place: Place, table: &Table) -> Result<Spans, PolicyFault>
+    ensures { Answers (λ s. s) (value_spans place (table_view table.now)) result }
+{
+    let values = Entries::Numbers {
+        low: i64::from(i32::MIN),
+        high: i64::from(u32::MAX),
+    };
+    optional_spans(alloc, values, Key::Values, place, table)
+}
+
+/// The rules of the asset of this number.
+pub(crate) fn rules(alloc: Global, asset: u32, table: &Table) -> Result<Rules, PolicyFault>
+    ensures { Answers (λ r. r) (rules asset (table_view table.now)) result }
+{
+    let Some(value) = stated(Key::Rule, table) else {
+        return Ok(Rules::new(Vec::new(alloc)));
+    };
+    rules_from(alloc, asset, rule_array(Place::asset(asset), value)?)
+}
+
+/// The array of the rules.
+fn rule_array(place: Place, value: &Value) -> Result<&Array, PolicyRefusal>
+    ensures items { AnswersPlainly (λ a. array_view a.now) (rule_items place (Some (view value.now))) result }
+    ensures short { IfOk result (λ a. vec_len a.now ≤ 1024) }
+{
+    let array = as_array_of(Kind::Table, Key::Rule, place, value)?;
+    if count(array) > 1024 {
+        return Err(refusal(Cause::TooMany, Key::Rule, place));
+    }
+    Ok(array)
+}
+
+fn rules_from(alloc: Global, asset: u32, array: &Array) -> Result<Rules, PolicyFault>
+    requires { vec_len array.now ≤ 1024 }
+    ensures { Answers (λ r. r) (rules_from asset 0 (array_view array.now) []) result }
+{
+    let mut rules = Vec::new(alloc);
+    for (index, value) in array.iter().enumerate() {
+        let table = as_table(Key::Rule, Place::asset(asset), value)?;
+        let place = Place {
+            asset,
+            rule: index as u32 + 1,
+        };
+        let rule = rule(alloc, place, rules.as_slice(), table)?;
+        rules.push(rule)?;
+    }
+    Ok(Rules::new(rules))
+}
