@@ -1,4 +1,6 @@
 pub mod Answers
+pub mod Assets
+pub mod Documents
 pub mod Fields
 pub mod Keys
 pub mod Lists

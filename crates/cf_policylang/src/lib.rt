@@ -1,10 +1,13 @@
 //! The language of policies: what the bytes of a policy's text mean, or why they mean none.
 #![tactic(auto)]
 
+mod assets;
+mod documents;
 mod fields;
 mod lists;
 mod numbers;
 mod refusal;
 mod rules;
 
+pub use documents::read_policy;
 pub use refusal::{Cause, Key, PolicyFault, PolicyRefusal};

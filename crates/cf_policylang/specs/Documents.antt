@@ -1,0 +1,53 @@
+-- What the bytes of a policy's text mean: a policy, or the first refusal. This project's own; the text is TOML 1.1 in
+-- UTF-8.
+use Rattle.std.specs.Prelude.{◌≡◌, ℕ, ℤ, pos, Bool, true, false, nat_lt, if◌then◌else◌, List, [], ◌∷◌, length, Option, None, Ok}
+use Rattle.std.specs.Ordering.{int_eq}
+use Rattle.std.specs.Str.{is_utf8}
+use Rattle.toml.specs.Data.{Members, Items}
+use Rattle.toml.specs.Parse.{parse_document}
+use Rattle.cf_policy.specs.declared.policy.Asset.{Asset}
+use Rattle.cf_policy.specs.declared.policy.Policy.{Policy}
+use Rattle.cf_policylang.specs.declared.fields.Kind.TheVariants as kind
+use Rattle.cf_policylang.specs.declared.refusal.Key.{Key}
+use Rattle.cf_policylang.specs.declared.refusal.Key.TheVariants as key
+use Rattle.cf_policylang.specs.declared.refusal.Cause.TheVariants as cause
+use Rattle.cf_policylang.specs.Assets.{assets_from}
+use Rattle.cf_policylang.specs.Fields.{as_number, as_array_of, count, has_other, required}
+use Rattle.cf_policylang.specs.Tested.{Tested, and_then, refused, or_refused, at_document}
+
+abbrev pub document_keys : List Key
+document_keys = key.Version ∷ key.Asset ∷ []
+
+-- the version, which is 1
+abbrev pub version : Members → Tested (Unit {0})
+version ms =
+    and_then (required key.Version at_document ms) (λ d.
+    and_then (as_number key.Version at_document d) (λ z.
+    if int_eq z (pos 1) then Ok tt else refused cause.Version key.Version at_document))
+
+-- the array of the assets
+abbrev pub asset_items : Members → Tested Items
+asset_items ms =
+    and_then (required key.Asset at_document ms) (λ d.
+    and_then (as_array_of kind.Table key.Asset at_document d) (λ ds.
+    if nat_lt 256 (count ds) then refused cause.TooMany key.Asset at_document else Ok ds))
+
+abbrev pub document : Members → Tested Policy
+document ms =
+    and_then (version ms) (λ _.
+    if has_other document_keys ms then refused cause.UnknownKey key.Nothing at_document else
+    and_then (asset_items ms) (λ ds.
+    and_then (assets_from 0 ds []) (λ own_assets.
+    Ok (record { assets = own_assets }))))
+
+-- the table that bytes in UTF-8 are as TOML
+abbrev pub toml_of : List ℕ → Option Members
+toml_of bytes = if is_utf8 bytes then parse_document bytes else None
+
+-- the meaning of a text of any size
+abbrev pub meaning : List ℕ → Tested Policy
+meaning bytes = and_then (or_refused cause.NotToml key.Nothing at_document (toml_of bytes)) (λ ms. document ms)
+
+-- the meaning of a file, which has at most 4,194,304 bytes
+abbrev pub policy : List ℕ → Tested Policy
+policy bytes = if nat_lt 4194304 (length bytes) then refused cause.TooMany key.Nothing at_document else meaning bytes

@@ -1,0 +1,184 @@
+//! The assets of a policy.
+ghost use Rattle.std.specs.Prelude.{◌≡◌, ◌≤◌, [], bytes_eq, vec_len};
+ghost use Rattle.std.specs.List.{list_any};
+ghost use Rattle.toml.specs.View.{table_view, array_view};
+ghost use Rattle.cf_policy.specs.Within.{lowest_station, highest_station, highest_master};
+ghost use Rattle.cf_policylang.specs.Answers.{Answers, AnswersPlainly};
+ghost use Rattle.cf_policylang.specs.Assets.{is_asset_taken, asset_name, asset_address, number_at, is_same_endpoint, is_endpoint_taken, endpoint, protocol_of, protocol, no_master, master, asset, assets_from};
+
+use crate::fields::{as_number, as_table, as_text, has_other, natural_in, required, stated};
+use crate::numbers::address;
+use crate::refusal::{Cause, Key, Place, PolicyFault, PolicyRefusal, refusal};
+use crate::rules::{name, rules};
+use cf_policy::{Asset, Assets, Name, Protocol};
+use cf_view::Endpoint;
+use std::alloc::Global;
+use toml::Table;
+use toml::value::Array;
+
+const ASSET_KEYS: [Key; 7] = [
+    Key::Name,
+    Key::Address,
+    Key::Port,
+    Key::Protocol,
+    Key::Station,
+    Key::Master,
+    Key::Rule,
+];
+
+const HIGHEST_DNP3_ADDRESS: u16 = 65_519;
+
+/// The assets of a policy.
+pub(crate) fn assets_from(alloc: Global, array: &Array) -> Result<Assets, PolicyFault>
+    requires { vec_len array.now ≤ 256 }
+    ensures { Answers (λ a. a) (assets_from 0 (array_view array.now) []) result }
+{
+    let mut assets = Vec::new(alloc);
+    for (index, value) in array.iter().enumerate() {
+        let table = as_table(Key::Asset, Place::DOCUMENT, value)?;
+        let asset = asset(alloc, index as u32 + 1, assets.as_slice(), table)?;
+        assets.push(asset)?;
+    }
+    Ok(Assets::new(assets))
+}
+
+/// The asset of this number, from 1, behind those that were read.
+fn asset(
+    alloc: Global,
+    number: u32,
+    earlier: &[Asset],
+    table: &Table,
+) -> Result<Asset, PolicyFault>
+    ensures { Answers (λ a. a) (asset number earlier.now (table_view table.now)) result }
+{
+    let place = Place::asset(number);
+    if has_other(&ASSET_KEYS, table) {
+        return Err(refusal(Cause::UnknownKey, Key::Nothing, place).into());
+    }
+    let name = asset_name(place, earlier, table)?;
+    let endpoint = endpoint(place, earlier, table)?;
+    let protocol = protocol(place, table)?;
+    let station = station(protocol, place, table)?;
+    let master = master(protocol, place, table)?;
+    let rules = rules(alloc, number, table)?;
+    Ok(Asset {
+        name,
+        endpoint,
+        protocol,
+        station,
+        master,
+        rules,
+    })
+}
+
+fn asset_name(place: Place, earlier: &[Asset], table: &Table) -> Result<Name, PolicyRefusal>
+    ensures { AnswersPlainly (λ n. n) (asset_name place earlier.now (table_view table.now)) result }
+{
+    let name = name(place, table)?;
+    if is_asset_taken(earlier, name.as_str()) {
+        return Err(refusal(Cause::Duplicate, Key::Name, place));
+    }
+    Ok(name)
+}
+
+fn is_asset_taken(earlier: &[Asset], text: &str) -> bool
+    ensures { result ≡ is_asset_taken earlier.now text.now }
+{
+    earlier.iter().any(|asset| asset.name.as_str() == text)
+}
+
+/// The endpoint: its address, and then its port, at which the two together are tested.
+fn endpoint(place: Place, earlier: &[Asset], table: &Table) -> Result<Endpoint, PolicyRefusal>
+    ensures { result ≡ endpoint place earlier.now (table_view table.now) }
+{
+    let address = asset_address(place, table)?;
+    let port = number_at(Key::Port, 1, u16::MAX, place, table)?;
+    let endpoint = Endpoint { address, port };
+    if is_endpoint_taken(earlier, endpoint) {
+        return Err(refusal(Cause::Duplicate, Key::Port, place));
+    }
+    Ok(endpoint)
+}
+
+fn asset_address(place: Place, table: &Table) -> Result<u32, PolicyRefusal>
+    ensures { result ≡ asset_address place (table_view table.now) }
+{
+    let text = as_text(Key::Address, place, required(Key::Address, place, table)?)?;
+    address(text).ok_or(refusal(Cause::BadAddress, Key::Address, place))
+}
+
+/// The number at a key, from `low` to `high`.
+fn number_at(
+    key: Key,
+    low: u16,
+    high: u16,
+    place: Place,
+    table: &Table,
+) -> Result<u16, PolicyRefusal>
+    ensures { result ≡ number_at key low high place (table_view table.now) }
+{
+    let number = as_number(key, place, required(key, place, table)?)?;
+    natural_in(low, high, number).ok_or(refusal(Cause::BadRange, key, place))
+}
+
+fn is_endpoint_taken(earlier: &[Asset], endpoint: Endpoint) -> bool
+    ensures { result ≡ is_endpoint_taken earlier.now endpoint }
+{
+    earlier
+        .iter()
+        .any(|asset| is_same_endpoint(&asset.endpoint, &endpoint))
+}
+
+fn is_same_endpoint(a: &Endpoint, b: &Endpoint) -> bool
+    ensures { result ≡ is_same_endpoint a.now b.now }
+{
+    a.address == b.address && a.port == b.port
+}
+
+fn protocol(place: Place, table: &Table) -> Result<Protocol, PolicyRefusal>
+    ensures { result ≡ protocol place (table_view table.now) }
+{
+    let text = as_text(Key::Protocol, place, required(Key::Protocol, place, table)?)?;
+    protocol_of(text).ok_or(refusal(Cause::BadRange, Key::Protocol, place))
+}
+
+fn protocol_of(text: &str) -> Option<Protocol>
+    ensures { result ≡ protocol_of text.now }
+{
+    match text {
+        "modbus" => Some(Protocol::Modbus),
+        "dnp3" => Some(Protocol::Dnp3),
+        "iec104" => Some(Protocol::Iec104),
+        _ => None,
+    }
+}
+
+fn station(protocol: Protocol, place: Place, table: &Table) -> Result<u16, PolicyRefusal>
+    ensures { result ≡ number_at Key.Station (lowest_station protocol) (highest_station protocol) place (table_view table.now) }
+{
+    let (low, high) = match protocol {
+        Protocol::Modbus => (0, 255),
+        Protocol::Dnp3 => (0, HIGHEST_DNP3_ADDRESS),
+        Protocol::Iec104 => (1, 65_534),
+    };
+    number_at(Key::Station, low, high, place, table)
+}
+
+/// The master's address of DNP3; another protocol does not have the key.
+fn master(protocol: Protocol, place: Place, table: &Table) -> Result<u16, PolicyRefusal>
+    ensures { result ≡ master protocol place (table_view table.now) }
+{
+    match protocol {
+        Protocol::Dnp3 => number_at(Key::Master, 0, HIGHEST_DNP3_ADDRESS, place, table),
+        Protocol::Modbus | Protocol::Iec104 => no_master(place, table),
+    }
+}
+
+fn no_master(place: Place, table: &Table) -> Result<u16, PolicyRefusal>
+    ensures { result ≡ no_master place (table_view table.now) }
+{
+    match stated(Key::Master, table) {
+        Some(_) => Err(refusal(Cause::UnknownKey, Key::Nothing, place)),
+        None => Ok(0),
+    }
+}

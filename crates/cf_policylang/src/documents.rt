@@ -1,0 +1,83 @@
+//! The document of a policy, and its text.
+ghost use Rattle.std.specs.Prelude.{◌≡◌, ◌≤◌, IfOk, vec_len};
+ghost use Rattle.toml.specs.View.{table_view, array_view};
+ghost use Rattle.cf_policylang.specs.Answers.{Answers, AnswersPlainly};
+ghost use Rattle.cf_policylang.specs.Documents.{version, asset_items, document, toml_of, policy};
+ghost use Rattle.cf_policylang.specs.Tested.{or_refused, at_document};
+
+use crate::assets::assets_from;
+use crate::fields::{Kind, as_array_of, as_number, count, has_other, required};
+use crate::refusal::{Cause, Key, Place, PolicyFault, PolicyRefusal, refusal};
+use cf_policy::Policy;
+use std::alloc::Global;
+use toml::Table;
+use toml::value::Array;
+
+/// The most bytes that a policy's text has.
+const LONGEST_TEXT: usize = 4_194_304;
+
+const DOCUMENT_KEYS: [Key; 2] = [Key::Version, Key::Asset];
+
+/// Reads a policy from its text: a TOML 1.1 document in UTF-8 with the keys of this project's own policy language.
+///
+/// The answer is exactly the text's meaning, or exactly the first refusal in the order of the tests; only want of
+/// memory comes besides. The whole text is tested first, then the document's keys, then each asset with its rules.
+pub fn read_policy(alloc: Global, bytes: &[u8]) -> Result<Policy, PolicyFault>
+    ensures meaning { Answers (λ p. p) (policy bytes.now) result }
+{
+    if bytes.len() > LONGEST_TEXT {
+        return Err(refusal(Cause::TooMany, Key::Nothing, Place::DOCUMENT).into());
+    }
+    document(alloc, &toml_of(alloc, bytes)?)
+}
+
+/// The table that bytes in UTF-8 are as TOML.
+fn toml_of(alloc: Global, bytes: &[u8]) -> Result<Table, PolicyFault>
+    ensures { Answers (λ t. table_view t) (or_refused Cause.NotToml Key.Nothing at_document (toml_of bytes.now)) result }
+{
+    match toml::table_from_slice(alloc, bytes) {
+        Ok(table) => Ok(table),
+        Err(error) => {
+            if error.is_memory() {
+                Err(PolicyFault::NoMemory)
+            } else {
+                Err(refusal(Cause::NotToml, Key::Nothing, Place::DOCUMENT).into())
+            }
+        }
+    }
+}
+
+fn document(alloc: Global, table: &Table) -> Result<Policy, PolicyFault>
+    ensures { Answers (λ p. p) (document (table_view table.now)) result }
+{
+    version(table)?;
+    if has_other(&DOCUMENT_KEYS, table) {
+        return Err(refusal(Cause::UnknownKey, Key::Nothing, Place::DOCUMENT).into());
+    }
+    let assets = assets_from(alloc, asset_array(table)?)?;
+    Ok(Policy { assets })
+}
+
+/// The version of the document, which is 1.
+fn version(table: &Table) -> Result<(), PolicyRefusal>
+    ensures { result ≡ version (table_view table.now) }
+{
+    let value = required(Key::Version, Place::DOCUMENT, table)?;
+    let version = as_number(Key::Version, Place::DOCUMENT, value)?;
+    if version != 1 {
+        return Err(refusal(Cause::Version, Key::Version, Place::DOCUMENT));
+    }
+    Ok(())
+}
+
+fn asset_array(table: &Table) -> Result<&Array, PolicyRefusal>
+    ensures items { AnswersPlainly (λ a. array_view a.now) (asset_items (table_view table.now)) result }
+    ensures short { IfOk result (λ a. vec_len a.now ≤ 256) }
+{
+    let value = required(Key::Asset, Place::DOCUMENT, table)?;
+    let array = as_array_of(Kind::Table, Key::Asset, Place::DOCUMENT, value)?;
+    if count(array) > 256 {
+        return Err(refusal(Cause::TooMany, Key::Asset, Place::DOCUMENT));
+    }
+    Ok(array)
+}
