@@ -1,0 +1,6 @@
+//! The program: the words that it takes, what it does for each, and the status that it ends with.
+#![tactic(auto)]
+
+mod sift;
+
+pub use sift::{STREAM_LIMIT, SiftDone, SiftFault, SiftNames, sift_stream};

@@ -1,0 +1,36 @@
+-- The fate of a command in other words. This project's own.
+use Rattle.std.specs.Prelude.{◌≡◌, ◌↔◌, ℕ, List, Ok}
+use Rattle.std.specs.List.{AllByRecursion}
+use Rattle.cf_view.specs.declared.Endpoint.{Endpoint}
+use Rattle.cf_modbus.specs.Acts.{acts}
+use Rattle.cf_modbus.specs.Adu.{AduOf}
+use Rattle.cf_modbus.specs.Request.{RequestOf, Reads}
+use Rattle.cf_policy.specs.Laws.{IsAllowed}
+use Rattle.cf_policy.specs.Verdict.{verdict_of}
+use Rattle.cf_policy.specs.declared.Asset.{Asset}
+use Rattle.cf_lane.specs.Fate.{HasCommandFate}
+use Rattle.cf_lane.specs.Filtered.{IsFiltered, Output}
+use Rattle.cf_lane.specs.declared.fate.Fate.{Fate}
+use Rattle.cf_lane.specs.declared.fate.Fate.TheVariants as fate
+
+-- the station is the asset's, the form is read, and each act is allowed
+pub record IsAllowedCommand (asset : Asset) (client : ℕ) (a : AduOf) : Type 0 where
+  pub station : a.unit ≡ asset.station
+  pub request : RequestOf
+  pub form : Reads (Ok request) a.pdu
+  pub each : AllByRecursion (λ act. IsAllowed (verdict_of asset client act)) (acts request)
+
+-- a command is admitted exactly where that is so
+abbrev pub AdmitsWhatIsAllowed : Type 0
+AdmitsWhatIsAllowed =
+    (asset : Asset) (client : ℕ) (a : AduOf) (f : Fate) → HasCommandFate asset client a f → (f ≡ fate.Admitted) ↔ IsAllowedCommand asset client a
+
+-- a command has one fate
+abbrev pub HasOneFate : Type 0
+HasOneFate = (asset : Asset) (client : ℕ) (a : AduOf) (f g : Fate) → HasCommandFate asset client a f → HasCommandFate asset client a g → f ≡ g
+
+-- a stream has one output
+abbrev pub HasOneOutput : Type 0
+HasOneOutput =
+    (asset : Asset) (client : Endpoint) (moment : ℕ) (stream : List ℕ) (x y : Output)
+    → IsFiltered asset client moment stream x → IsFiltered asset client moment stream y → x ≡ y
