@@ -1,2 +1,4 @@
+pub mod Commands
 pub mod Outputs
 pub mod Sift
+pub mod Words

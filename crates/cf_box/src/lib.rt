@@ -2,5 +2,7 @@
 #![tactic(auto)]
 
 mod sift;
+mod words;
 
 pub use sift::{STREAM_LIMIT, SiftDone, SiftFault, SiftNames, sift_stream};
+pub use words::{Command, read_words};

@@ -10,4 +10,5 @@ mod refusal;
 mod rules;
 
 pub use documents::read_policy;
+pub use numbers::address;
 pub use refusal::{Cause, Key, PolicyFault, PolicyRefusal};

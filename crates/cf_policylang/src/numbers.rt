@@ -33,7 +33,7 @@ pub(crate) fn span(low: i64, high: i64) -> Option<Span>
 }
 
 /// The number of four octets with points between them, the first the highest.
-pub(crate) fn address(text: &str) -> Option<u32>
+pub fn address(text: &str) -> Option<u32>
     ensures { result ≡ address text.now }
 {
     let (a, rest) = cut_at(".", text)?;
