@@ -1,8 +1,9 @@
 //! The document of a policy, and its text.
 ghost use Rattle.std.specs.Prelude.{◌≡◌, ◌≤◌, IfOk, vec_len};
 ghost use Rattle.toml.specs.View.{table_view, array_view};
+ghost use Rattle.cf_policy.specs.Within.{IsWithin};
 ghost use Rattle.cf_policylang.specs.Answers.{Answers, AnswersPlainly};
-ghost use Rattle.cf_policylang.specs.Documents.{version, asset_items, document, toml_of, policy};
+ghost use Rattle.cf_policylang.specs.Documents.{version, asset_items, document, toml_of, meaning, policy};
 ghost use Rattle.cf_policylang.specs.Tested.{or_refused, at_document};
 
 use crate::assets::assets_from;
@@ -22,12 +23,21 @@ const DOCUMENT_KEYS: [Key; 2] = [Key::Version, Key::Asset];
 ///
 /// The answer is exactly the text's meaning, or exactly the first refusal in the order of the tests; only want of
 /// memory comes besides. The whole text is tested first, then the document's keys, then each asset with its rules.
+/// A policy that is read has its names and endpoints apart and every number in its range.
 pub fn read_policy(alloc: Global, bytes: &[u8]) -> Result<Policy, PolicyFault>
     ensures meaning { Answers (λ p. p) (policy bytes.now) result }
+    ensures within { IfOk result (λ p. IsWithin p) }
 {
     if bytes.len() > LONGEST_TEXT {
         return Err(refusal(Cause::TooMany, Key::Nothing, Place::DOCUMENT).into());
     }
+    meaning(alloc, bytes)
+}
+
+/// What a text of any size means.
+fn meaning(alloc: Global, bytes: &[u8]) -> Result<Policy, PolicyFault>
+    ensures { Answers (λ p. p) (meaning bytes.now) result }
+{
     document(alloc, &toml_of(alloc, bytes)?)
 }
 

@@ -1,0 +1,310 @@
+-- What a policy that was read keeps: names and endpoints apart, and every number in its range.
+use Rattle.std.proofs.Common.{◌≡◌, ◌≢◌, ℕ, ◌+◌, ◌^◌, ◌<◌, ◌≤◌, ◌||◌, ◌==◌, nat_lt, ℤ, pos, Bool, true, false, if◌then◌else◌, List, [], ◌∷◌, ◌++◌, length, Option, Some, None, IfSome, Result, Ok, Err, IfOk, is_some, bytes_eq, subst, sym, ◌∙◌, ap, refl, arith, length-append}
+use Rattle.std.specs.List.{All, AllPairs, list_any}
+use Rattle.std.proofs.lemmas.Bool.{or_parts, true≢false}
+use Rattle.std.proofs.lemmas.Bool.Decides.{nat_tests}
+use Rattle.std.proofs.lemmas.Grind.{common_steps}
+use Rattle.std.proofs.lemmas.Int.{ints}
+use Rattle.std.proofs.lemmas.List.Elements.{All-cons, All-nil, All-push, All-weaker}
+use Rattle.std.proofs.lemmas.List.Quantifiers.{all_pairs_push}
+use Rattle.std.proofs.lemmas.Result.{IfOk-at_ok, IfOk-weaker}
+use Rattle.std.proofs.lemmas.Slice.Eq.{bytes_eq-Decides}
+use Rattle.toml.specs.Data.{Data, Items, no_items, item, Members}
+use Rattle.cf_view.specs.declared.base.Endpoint.{Endpoint}
+use Rattle.cf_policy.specs.declared.policy.Asset.{Asset}
+use Rattle.cf_policy.specs.declared.policy.Policy.{Policy}
+use Rattle.cf_policy.specs.declared.policy.Protocol.{Protocol}
+use Rattle.cf_policy.specs.declared.policy.Protocol.TheVariants.{Modbus, Dnp3, Iec104}
+use Rattle.cf_policy.specs.declared.policy.Rule.{Rule}
+use Rattle.cf_policy.specs.declared.policy.Span.{Span}
+use Rattle.cf_policy.specs.Names.{is_name, is_reserved}
+use Rattle.cf_policy.specs.Within.{IsSpanWithin, AreSpansWithin, IsRuleWithin, AreRulesWithin, IsAssetWithin, AreAssetsWithin, IsWithin, highest_address, highest_code, highest_group, highest_point, lowest_value, highest_value, lowest_station, highest_station, highest_master}
+use Rattle.cf_policylang.specs.declared.fields.Kind.TheVariants as kind
+use Rattle.cf_policylang.specs.declared.lists.Entries.TheVariants as entries
+use Rattle.cf_policylang.specs.declared.refusal.Key.{Key}
+use Rattle.cf_policylang.specs.declared.refusal.Key.TheVariants as key
+use Rattle.cf_policylang.specs.declared.refusal.Cause.TheVariants as cause
+use Rattle.cf_policylang.specs.declared.refusal.Place.{Place}
+use Rattle.cf_policylang.specs.declared.refusal.PolicyFault.{PolicyFault}
+use Rattle.cf_policylang.specs.declared.refusal.PolicyRefusal.{PolicyRefusal}
+use Rattle.cf_policylang.specs.Answers.{Answers}
+use Rattle.cf_policylang.specs.Assets.{asset, asset_keys, asset_name, assets_from, asset_address, endpoint, is_asset_taken, is_endpoint_taken, is_same_endpoint, master, no_master, number_at, protocol}
+use Rattle.cf_policylang.specs.Documents.{document, document_keys, asset_items, meaning, toml_of, version}
+use Rattle.cf_policylang.specs.Fields.{as_text, as_number, as_table, as_array_of, count, has_other, required, stated, natural_in}
+use Rattle.cf_policylang.specs.Numbers.{address}
+use Rattle.cf_policylang.specs.Rules.{rule, rule_keys, rule_name, name, action, is_rule_taken, client_spans, code_spans, group_spans, point_spans, value_spans, rule_items, rules, rules_from}
+use Rattle.cf_policylang.specs.Tested.{Tested, and_then, or_refused, at_asset, at_document, at_rule}
+use Rattle.cf_policylang.proofs.Ranges.{and_then_if, and_then_any, unless_if, or_refused_if, IsNaturalIn, natural_in_if, address_if, IsCode, AreRead, address_entry_if, code_entry_if, number_entry_if, spans_if, optional_spans_if}
+
+-- ---- names
+
+-- a value that comes only where a test passes
+ok_if : {A : Type 0} (P : A → Type 0) (b : Bool) (x : A) (r : PolicyRefusal) → (b ≡ true → P x) → IfOk (if b then Ok x else Err r) P
+ok_if P true x r h = h refl
+ok_if P false x r h = tt
+
+none_passes : {X : Type 0} (p : X → Bool) (xs : List X) → list_any p xs ≡ false → All (λ x. p x ≡ false) xs
+none_passes p [] e = All-nil (λ x. p x ≡ false)
+none_passes p (x ∷ xs) e =
+    let parts = or_parts (p x) (list_any p xs) e in
+    All-cons (λ y. p y ≡ false) x xs parts.0 (none_passes p xs parts.1)
+
+differ : (s t : List ℕ) → bytes_eq s t ≡ false → s ≢ t
+differ s t e same = true≢false (sym ((bytes_eq-Decides s t).1 same) ∙ e)
+
+name_if : (p : Place) (ms : Members) → IfOk (name p ms) (λ text. is_name text ≡ true)
+name_if p ms =
+    and_then_any (λ text. is_name text ≡ true) (required key.Name p ms) _
+    (λ d. and_then_any (λ text. is_name text ≡ true) (as_text key.Name p d) _
+    (λ text. ok_if (λ t. is_name t ≡ true) (is_name text) text _ (λ e. e)))
+
+-- ---- rules
+
+record IsRuleName (seen : List Rule) (text : List ℕ) : Type 0 where
+  form : is_name text ≡ true
+  own : is_reserved text ≡ false
+  apart : All (λ r. r.name ≢ text) seen
+
+rule_name_if : (p : Place) (seen : List Rule) (ms : Members) → IfOk (rule_name p seen ms) (IsRuleName seen)
+rule_name_if p seen ms =
+    and_then_if (λ text. is_name text ≡ true) (IsRuleName seen) (name p ms) _ (name_if p ms)
+    (λ text form. unless_if (IsRuleName seen) (is_rule_taken seen text) _ _
+    (λ e. let parts = or_parts (is_reserved text) (list_any (λ r. bytes_eq r.name text) seen) e in
+        record {
+          form = form;
+          own = parts.0;
+          apart = All-weaker (λ r. bytes_eq r.name text ≡ false) (λ r. r.name ≢ text) (λ r. differ r.name text) seen
+              (none_passes (λ r. bytes_eq r.name text) seen parts.1);
+        }))
+
+-- a list that is read keeps the range of its numbers
+are_within : (low high : ℤ) (n : ℕ) (ss : List Span) → AreRead (IsSpanWithin low high) n ss → AreSpansWithin low high ss
+are_within low high n ss h = record { count = h.count; each = h.each }
+
+-- a rule behind those that were read
+record IsNextRule (seen : List Rule) (r : Rule) : Type 0 where
+  within : IsRuleWithin r
+  apart : All (λ s. s.name ≢ r.name) seen
+
+rule_if : (p : Place) (seen : List Rule) (ms : Members) → IfOk (rule p seen ms) (IsNextRule seen)
+rule_if p seen ms =
+    unless_if (IsNextRule seen) (has_other rule_keys ms) _ _
+    (λ _. and_then_if (IsRuleName seen) (IsNextRule seen) (rule_name p seen ms) _ (rule_name_if p seen ms)
+    (λ own_name n. and_then_any (IsNextRule seen) (action p ms) _
+    (λ own_action. and_then_if (AreRead (IsSpanWithin (pos 0) highest_address) 0) (IsNextRule seen) (client_spans p ms) _
+    (optional_spans_if (IsSpanWithin (pos 0) highest_address) entries.Addresses key.Clients p (address_entry_if key.Clients p) ms)
+    (λ own_clients cl. and_then_if (AreRead IsCode 1) (IsNextRule seen) (code_spans p ms) _
+    (and_then_any (AreRead IsCode 1) (required key.Codes p ms) _ (λ d. spans_if IsCode entries.Codes key.Codes p (code_entry_if key.Codes p) d))
+    (λ own_codes co. and_then_if (AreRead (IsSpanWithin (pos 0) highest_group) 0) (IsNextRule seen) (group_spans p ms) _
+    (optional_spans_if (IsSpanWithin (pos 0) highest_group) (entries.Numbers (pos 0) highest_group) key.Groups p (number_entry_if (pos 0) highest_group key.Groups p) ms)
+    (λ own_groups gr. and_then_if (AreRead (IsSpanWithin (pos 0) highest_point) 0) (IsNextRule seen) (point_spans p ms) _
+    (optional_spans_if (IsSpanWithin (pos 0) highest_point) (entries.Numbers (pos 0) highest_point) key.Points p (number_entry_if (pos 0) highest_point key.Points p) ms)
+    (λ own_points po. and_then_if (AreRead (IsSpanWithin lowest_value highest_value) 0) (IsNextRule seen) (value_spans p ms) _
+    (optional_spans_if (IsSpanWithin lowest_value highest_value) (entries.Numbers lowest_value highest_value) key.Values p (number_entry_if lowest_value highest_value key.Values p) ms)
+    (λ own_values va. record {
+      within = record {
+        name = n.form;
+        own = n.own;
+        clients = are_within (pos 0) highest_address 0 own_clients cl;
+        codes = record { count = co.count; each = All-weaker IsCode (IsSpanWithin (pos 0) highest_code) (λ s h. h.range) own_codes co.each };
+        single_codes = All-weaker IsCode (λ s. s.low ≡ s.high) (λ s h. h.single) own_codes co.each;
+        some_code = co.some;
+        groups = are_within (pos 0) highest_group 0 own_groups gr;
+        points = are_within (pos 0) highest_point 0 own_points po;
+        values = are_within lowest_value highest_value 0 own_values va;
+      };
+      apart = n.apart;
+    }))))))))
+
+-- the rules that were read so far, n in number
+record AreReadRules (n : ℕ) (rs : List Rule) : Type 0 where
+  count : length rs ≡ n
+  each : All IsRuleWithin rs
+  names : AllPairs (λ r s. r.name ≢ s.name) rs
+
+no_rules : AreReadRules 0 []
+no_rules = record { count = refl; each = All-nil IsRuleWithin; names = λ i j d lt inside. absurd (omega arith) }
+
+one_more : (n : ℕ) (rs : List Rule) (r : Rule) → AreReadRules n rs → IsNextRule rs r → AreReadRules (n + 1) (rs ++ r ∷ [])
+one_more n rs r h next =
+    record {
+      count = let long = h.count in omega (arith, length-append rs (r ∷ []));
+      each = All-push IsRuleWithin rs r h.each next.within;
+      names = all_pairs_push (λ a b. a.name ≢ b.name) rs r h.names next.apart;
+    }
+
+rules_from_if : (a n : ℕ) (ds : Items) (seen : List Rule) → AreReadRules n seen → IfOk (rules_from a n ds seen) (AreReadRules (n + count ds))
+rules_from_if a n no_items seen h = record { count = let long = h.count in omega arith; each = h.each; names = h.names }
+rules_from_if a n (item d ds) seen h =
+    and_then_any (AreReadRules (n + (1 + count ds))) (as_table key.Rule (at_asset a) d) _
+    (λ ms. and_then_if (IsNextRule seen) (AreReadRules (n + (1 + count ds))) (rule (at_rule a (n + 1)) seen ms) _ (rule_if (at_rule a (n + 1)) seen ms)
+    (λ r next. IfOk-weaker (rules_from a (n + 1) ds (seen ++ r ∷ [])) (AreReadRules ((n + 1) + count ds)) (AreReadRules (n + (1 + count ds)))
+    (λ rs g. record { count = let long = g.count in omega arith; each = g.each; names = g.names })
+    (rules_from_if a (n + 1) ds (seen ++ r ∷ []) (one_more n seen r h next))))
+
+rule_items_if : (p : Place) (o : Option Data) → IfOk (rule_items p o) (λ ds. count ds ≤ 1024)
+rule_items_if p None = omega arith
+rule_items_if p (Some d) =
+    and_then_any (λ ds. count ds ≤ 1024) (as_array_of kind.Table key.Rule p d) _
+    (λ ds. unless_if (λ es. count es ≤ 1024) (nat_lt 1024 (count ds)) _ _ (λ e. grind (arith, nat_tests)))
+
+rules_if : (a : ℕ) (ms : Members) → IfOk (rules a ms) AreRulesWithin
+rules_if a ms =
+    and_then_if (λ ds. count ds ≤ 1024) AreRulesWithin (rule_items (at_asset a) (stated key.Rule ms)) _ (rule_items_if (at_asset a) (stated key.Rule ms))
+    (λ ds short. IfOk-weaker (rules_from a 0 ds []) (AreReadRules (0 + count ds)) AreRulesWithin
+    (λ rs h. record { count = let long = h.count in omega arith; each = h.each; names = h.names })
+    (rules_from_if a 0 ds [] no_rules))
+
+-- ---- assets
+
+record IsAssetName (seen : List Asset) (text : List ℕ) : Type 0 where
+  form : is_name text ≡ true
+  apart : All (λ a. a.name ≢ text) seen
+
+asset_name_if : (p : Place) (seen : List Asset) (ms : Members) → IfOk (asset_name p seen ms) (IsAssetName seen)
+asset_name_if p seen ms =
+    and_then_if (λ text. is_name text ≡ true) (IsAssetName seen) (name p ms) _ (name_if p ms)
+    (λ text form. unless_if (IsAssetName seen) (is_asset_taken seen text) _ _
+    (λ e. record {
+      form = form;
+      apart = All-weaker (λ a. bytes_eq a.name text ≡ false) (λ a. a.name ≢ text) (λ a. differ a.name text) seen
+          (none_passes (λ a. bytes_eq a.name text) seen e);
+    }))
+
+number_at_if : (k : Key) (low high : ℕ) (p : Place) (ms : Members) → IfOk (number_at k low high p ms) (IsNaturalIn low high)
+number_at_if k low high p ms =
+    and_then_any (IsNaturalIn low high) (required k p ms) _
+    (λ d. and_then_any (IsNaturalIn low high) (as_number k p d) _
+    (λ z. or_refused_if (IsNaturalIn low high) cause.BadRange k p (natural_in low high z) (natural_in_if low high z)))
+
+asset_address_if : (p : Place) (ms : Members) → IfOk (asset_address p ms) (λ n. n ≤ 4294967295)
+asset_address_if p ms =
+    and_then_any (λ n. n ≤ 4294967295) (required key.Address p ms) _
+    (λ d. and_then_any (λ n. n ≤ 4294967295) (as_text key.Address p d) _
+    (λ text. or_refused_if (λ n. n ≤ 4294967295) cause.BadAddress key.Address p (address text) (address_if text)))
+
+same_itself : (e : Endpoint) → is_same_endpoint e e ≡ true
+same_itself e = grind (arith, nat_tests)
+
+endpoints_differ : (d e : Endpoint) → is_same_endpoint d e ≡ false → d ≢ e
+endpoints_differ d e other same = true≢false (sym (same_itself e) ∙ (ap (λ f. is_same_endpoint f e) (sym same) ∙ other))
+
+record IsAssetEndpoint (seen : List Asset) (e : Endpoint) : Type 0 where
+  address : e.address ≤ 4294967295
+  port : IsNaturalIn 1 65535 e.port
+  apart : All (λ a. a.endpoint ≢ e) seen
+
+endpoint_if : (p : Place) (seen : List Asset) (ms : Members) → IfOk (endpoint p seen ms) (IsAssetEndpoint seen)
+endpoint_if p seen ms =
+    and_then_if (λ n. n ≤ 4294967295) (IsAssetEndpoint seen) (asset_address p ms) _ (asset_address_if p ms)
+    (λ own_address fit. and_then_if (IsNaturalIn 1 65535) (IsAssetEndpoint seen) (number_at key.Port 1 65535 p ms) _ (number_at_if key.Port 1 65535 p ms)
+    (λ own_port range.
+        let e : Endpoint = record { address = own_address; port = own_port } in
+        unless_if (IsAssetEndpoint seen) (is_endpoint_taken seen e) _ _
+        (λ free. record {
+          address = fit;
+          port = range;
+          apart = All-weaker (λ a. is_same_endpoint a.endpoint e ≡ false) (λ a. a.endpoint ≢ e) (λ a. endpoints_differ a.endpoint e) seen
+              (none_passes (λ a. is_same_endpoint a.endpoint e) seen free);
+        })))
+
+no_master_if : (p : Place) (ms : Members) → IfOk (no_master p ms) (λ n. n ≤ 0)
+no_master_if p ms = unless_if (λ n. n ≤ 0) (is_some (stated key.Master ms)) _ _ (λ _. omega arith)
+
+master_if : (protocol : Protocol) (p : Place) (ms : Members) → IfOk (master protocol p ms) (λ n. n ≤ highest_master protocol)
+master_if Modbus p ms = no_master_if p ms
+master_if Dnp3 p ms =
+    IfOk-weaker (number_at key.Master 0 65519 p ms) (IsNaturalIn 0 65519) (λ n. n ≤ 65519) (λ n h. h.below) (number_at_if key.Master 0 65519 p ms)
+master_if Iec104 p ms = no_master_if p ms
+
+-- an asset behind those that were read
+record IsNextAsset (seen : List Asset) (a : Asset) : Type 0 where
+  within : IsAssetWithin a
+  name_apart : All (λ b. b.name ≢ a.name) seen
+  endpoint_apart : All (λ b. b.endpoint ≢ a.endpoint) seen
+
+asset_if : (n : ℕ) (seen : List Asset) (ms : Members) → IfOk (asset n seen ms) (IsNextAsset seen)
+asset_if n seen ms =
+    let p = at_asset n in
+    unless_if (IsNextAsset seen) (has_other asset_keys ms) _ _
+    (λ _. and_then_if (IsAssetName seen) (IsNextAsset seen) (asset_name p seen ms) _ (asset_name_if p seen ms)
+    (λ own_name na. and_then_if (IsAssetEndpoint seen) (IsNextAsset seen) (endpoint p seen ms) _ (endpoint_if p seen ms)
+    (λ own_endpoint en. and_then_any (IsNextAsset seen) (protocol p ms) _
+    (λ own_protocol. and_then_if (IsNaturalIn (lowest_station own_protocol) (highest_station own_protocol)) (IsNextAsset seen)
+    (number_at key.Station (lowest_station own_protocol) (highest_station own_protocol) p ms) _
+    (number_at_if key.Station (lowest_station own_protocol) (highest_station own_protocol) p ms)
+    (λ own_station st. and_then_if (λ n. n ≤ highest_master own_protocol) (IsNextAsset seen) (master own_protocol p ms) _ (master_if own_protocol p ms)
+    (λ own_master ma. and_then_if AreRulesWithin (IsNextAsset seen) (rules n ms) _ (rules_if n ms)
+    (λ own_rules ru. record {
+      within = record {
+        name = na.form;
+        address = let fit = en.address in omega arith;
+        some_port = en.port.above;
+        port = let below = en.port.below in omega arith;
+        station_above = st.above;
+        station_below = st.below;
+        master = ma;
+        rules = ru;
+      };
+      name_apart = na.apart;
+      endpoint_apart = en.apart;
+    })))))))
+
+-- the assets that were read so far, n in number
+record AreReadAssets (n : ℕ) (xs : List Asset) : Type 0 where
+  count : length xs ≡ n
+  each : All IsAssetWithin xs
+  names : AllPairs (λ a b. a.name ≢ b.name) xs
+  endpoints : AllPairs (λ a b. a.endpoint ≢ b.endpoint) xs
+
+no_assets : AreReadAssets 0 []
+no_assets =
+    record {
+      count = refl;
+      each = All-nil IsAssetWithin;
+      names = λ i j d lt inside. absurd (omega arith);
+      endpoints = λ i j d lt inside. absurd (omega arith);
+    }
+
+one_more_asset : (n : ℕ) (xs : List Asset) (a : Asset) → AreReadAssets n xs → IsNextAsset xs a → AreReadAssets (n + 1) (xs ++ a ∷ [])
+one_more_asset n xs a h next =
+    record {
+      count = let long = h.count in omega (arith, length-append xs (a ∷ []));
+      each = All-push IsAssetWithin xs a h.each next.within;
+      names = all_pairs_push (λ b c. b.name ≢ c.name) xs a h.names next.name_apart;
+      endpoints = all_pairs_push (λ b c. b.endpoint ≢ c.endpoint) xs a h.endpoints next.endpoint_apart;
+    }
+
+assets_from_if : (n : ℕ) (ds : Items) (seen : List Asset) → AreReadAssets n seen → IfOk (assets_from n ds seen) (AreReadAssets (n + count ds))
+assets_from_if n no_items seen h =
+    record { count = let long = h.count in omega arith; each = h.each; names = h.names; endpoints = h.endpoints }
+assets_from_if n (item d ds) seen h =
+    and_then_any (AreReadAssets (n + (1 + count ds))) (as_table key.Asset at_document d) _
+    (λ ms. and_then_if (IsNextAsset seen) (AreReadAssets (n + (1 + count ds))) (asset (n + 1) seen ms) _ (asset_if (n + 1) seen ms)
+    (λ a next. IfOk-weaker (assets_from (n + 1) ds (seen ++ a ∷ [])) (AreReadAssets ((n + 1) + count ds)) (AreReadAssets (n + (1 + count ds)))
+    (λ xs g. record { count = let long = g.count in omega arith; each = g.each; names = g.names; endpoints = g.endpoints })
+    (assets_from_if (n + 1) ds (seen ++ a ∷ []) (one_more_asset n seen a h next))))
+
+-- ---- documents
+
+asset_items_if : (ms : Members) → IfOk (asset_items ms) (λ ds. count ds ≤ 256)
+asset_items_if ms =
+    and_then_any (λ ds. count ds ≤ 256) (required key.Asset at_document ms) _
+    (λ d. and_then_any (λ ds. count ds ≤ 256) (as_array_of kind.Table key.Asset at_document d) _
+    (λ ds. unless_if (λ es. count es ≤ 256) (nat_lt 256 (count ds)) _ _ (λ e. grind (arith, nat_tests))))
+
+document_if : (ms : Members) → IfOk (document ms) IsWithin
+document_if ms =
+    and_then_any IsWithin (version ms) _
+    (λ _. unless_if IsWithin (has_other document_keys ms) _ _
+    (λ _. and_then_if (λ ds. count ds ≤ 256) IsWithin (asset_items ms) _ (asset_items_if ms)
+    (λ ds short. and_then_if (AreReadAssets (0 + count ds)) IsWithin (assets_from 0 ds []) _ (assets_from_if 0 ds [] no_assets)
+    (λ xs h. record { count = let long = h.count in omega arith; each = h.each; names = h.names; endpoints = h.endpoints }))))
+
+meaning_if : (bytes : List ℕ) → IfOk (meaning bytes) IsWithin
+meaning_if bytes = and_then_any IsWithin (or_refused cause.NotToml key.Nothing at_document (toml_of bytes)) _ document_if
+
+-- a call that answers a policy's meaning answers one within its ranges
+pub answer_within : (bytes : List ℕ) (r : Result Policy PolicyFault) → Answers (λ p. p) (meaning bytes) r → IfOk r IsWithin
+answer_within bytes (Ok p) h = IfOk-at_ok IsWithin h (meaning_if bytes)
+answer_within bytes (Err e) h = tt

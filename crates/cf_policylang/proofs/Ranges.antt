@@ -1,0 +1,191 @@
+-- The ranges that numbers, spans and lists keep that were read.
+use Rattle.std.proofs.Common.{◌≡◌, ℕ, zero, suc, ◌+◌, ◌*◌, ◌^◌, ◌<◌, ◌≤◌, ◌&&◌, nat_le, nat_lt, nat_eq, ℤ, pos, negsuc, nat_abs, ◌≤ℤ◌, int_le, Bool, true, false, if◌then◌else◌, List, [], ◌∷◌, ◌++◌, length, Option, Some, None, IfSome, option_map, option_and_then, codes, Result, Ok, Err, IfOk, subst, sym, ◌∙◌, ap, refl, inl, inr, arith, rules, length-append}
+use mathlib.Core.Logic.{⊎_elim}
+use Rattle.std.specs.List.{All}
+use Rattle.std.proofs.lemmas.Bool.Decides.{nat_tests}
+use Rattle.std.proofs.lemmas.Grind.{common_steps}
+use Rattle.std.proofs.lemmas.Int.{ints}
+use Rattle.std.proofs.lemmas.List.Elements.{All-nil, All-push}
+use Rattle.std.proofs.lemmas.Result.{IfOk-weaker}
+use Rattle.toml.specs.Data.{Data, string, integer, float, boolean, datetime, array, table, Items, no_items, item, Members}
+use Rattle.cf_policy.specs.declared.policy.Span.{Span}
+use Rattle.cf_policy.specs.Within.{IsSpanWithin, AreSpansWithin, highest_address, highest_code}
+use Rattle.cf_policylang.specs.declared.lists.Entries.{Entries}
+use Rattle.cf_policylang.specs.declared.lists.Entries.TheVariants as entries
+use Rattle.cf_policylang.specs.declared.refusal.Key.{Key}
+use Rattle.cf_policylang.specs.declared.refusal.Cause.{Cause}
+use Rattle.cf_policylang.specs.declared.refusal.Cause.TheVariants as cause
+use Rattle.cf_policylang.specs.declared.refusal.Place.{Place}
+use Rattle.cf_policylang.specs.declared.refusal.PolicyRefusal.{PolicyRefusal}
+use Rattle.cf_policylang.specs.Fields.{as_text, as_number, as_array_of, count, stated, natural_in}
+use Rattle.cf_policylang.specs.Lists.{kind_of, address_span, code_span, entry, entries_from, spans, spans_if_any, optional_spans}
+use Rattle.cf_policylang.specs.Numbers.{number, number_in, within, span, ends, number_span, octet, octets, joined, address, cut_at}
+use Rattle.cf_policylang.specs.Tested.{Tested, and_then, or_refused}
+use Rattle.cf_policylang.proofs.Printed.{within_cases}
+
+-- what follows a test has what the test leaves
+pub and_then_if : {A B : Type 0} (P : A → Type 0) (Q : B → Type 0) (t : Tested A) (next : A → Tested B)
+    → IfOk t P → ((x : A) → P x → IfOk (next x) Q) → IfOk (and_then t next) Q
+and_then_if P Q (Ok x) next h step = step x h
+and_then_if P Q (Err r) next h step = tt
+
+-- the same where the test leaves nothing that is needed
+pub and_then_any : {A B : Type 0} (Q : B → Type 0) (t : Tested A) (next : A → Tested B)
+    → ((x : A) → IfOk (next x) Q) → IfOk (and_then t next) Q
+and_then_any Q (Ok x) next step = step x
+and_then_any Q (Err r) next step = tt
+
+-- what follows where a test did not refuse
+pub unless_if : {A : Type 0} (Q : A → Type 0) (b : Bool) (r : PolicyRefusal) (t : Tested A) → (b ≡ false → IfOk t Q) → IfOk (if b then Err r else t) Q
+unless_if Q true r t h = tt
+unless_if Q false r t h = h refl
+
+pub or_refused_if : {A : Type 0} (P : A → Type 0) (c : Cause) (k : Key) (p : Place) (o : Option A) → IfSome o P → IfOk (or_refused c k p o) P
+or_refused_if P c k p None h = tt
+or_refused_if P c k p (Some x) h = h
+
+pub and_then_some : {A B : Type 0} (P : A → Type 0) (Q : B → Type 0) (o : Option A) (next : A → Option B)
+    → IfSome o P → ((x : A) → P x → IfSome (next x) Q) → IfSome (option_and_then next o) Q
+and_then_some P Q None next h step = tt
+and_then_some P Q (Some x) next h step = step x h
+
+and_then_any_some : {A B : Type 0} (Q : B → Type 0) (o : Option A) (next : A → Option B) → ((x : A) → IfSome (next x) Q) → IfSome (option_and_then next o) Q
+and_then_any_some Q None next step = tt
+and_then_any_some Q (Some x) next step = step x
+
+map_some : {A B : Type 0} (P : A → Type 0) (Q : B → Type 0) (o : Option A) (f : A → B) → IfSome o P → ((x : A) → P x → Q (f x)) → IfSome (option_map f o) Q
+map_some P Q None f h step = tt
+map_some P Q (Some x) f h step = step x h
+
+-- a value that comes only where a test passes
+if_some : {A : Type 0} (P : A → Type 0) (b : Bool) (x : A) → (b ≡ true → P x) → IfSome (if b then Some x else None) P
+if_some P true x h = h refl
+if_some P false x h = tt
+
+pub record IsNaturalIn (low high n : ℕ) : Type 0 where
+  pub above : low ≤ n
+  pub below : n ≤ high
+
+pub natural_in_if : (low high : ℕ) (z : ℤ) → IfSome (natural_in low high z) (IsNaturalIn low high)
+natural_in_if low high (negsuc n) = tt
+natural_in_if low high (pos n) =
+    if_some (IsNaturalIn low high) (nat_le low n && nat_le n high) n
+    (λ e. record { above = grind (arith, nat_tests); below = grind (arith, nat_tests) })
+
+record IsIn (low high z : ℤ) : Type 0 where
+  above : low ≤ℤ z
+  below : z ≤ℤ high
+
+within_if : (low high z : ℤ) → IfSome (within low high z) (IsIn low high)
+within_if low high z = ⊎_elim
+    (λ e. rw e tt)
+    (λ h. rw h.0 (record { above = h.1; below = h.2 }))
+    (within_cases low high z)
+
+number_in_if : (low high : ℤ) (text : List ℕ) → IfSome (number_in low high text) (IsIn low high)
+number_in_if low high text = and_then_any_some (IsIn low high) (number text) (within low high) (λ z. within_if low high z)
+
+span_if : (low high a b : ℤ) → IsIn low high a → IsIn low high b → IfSome (span a b) (IsSpanWithin low high)
+span_if low high a b i j =
+    if_some (IsSpanWithin low high) (int_le a b) (record { low = a; high = b })
+    (λ e. record { above = i.above; ordered = grind (arith, ints); below = j.below })
+
+pub number_span_if : (low high : ℤ) (text : List ℕ) → IfSome (number_span low high text) (IsSpanWithin low high)
+number_span_if low high text =
+    and_then_some (IsIn low high) (IsSpanWithin low high) (number_in low high (ends text).0) _ (number_in_if low high (ends text).0)
+    (λ a i. and_then_some (IsIn low high) (IsSpanWithin low high) (number_in low high (ends text).1) (span a) (number_in_if low high (ends text).1)
+    (λ b j. span_if low high a b i j))
+
+octet_of : (z : ℤ) → IsIn (pos 0) (pos 255) z → nat_abs z ≤ 255
+octet_of (pos n) i = let below = i.below in omega (arith, ints)
+octet_of (negsuc n) i = let above = i.above in absurd (omega (arith, ints))
+
+octet_if : (text : List ℕ) → IfSome (octet text) (λ n. n ≤ 255)
+octet_if text = map_some (IsIn (pos 0) (pos 255)) (λ n. n ≤ 255) (number_in (pos 0) (pos 255) text) nat_abs (number_in_if (pos 0) (pos 255) text) octet_of
+
+octets_if : (a b c d : List ℕ) → IfSome (octets a b c d) (λ n. n ≤ 4294967295)
+octets_if a b c d =
+    and_then_some (λ n. n ≤ 255) (λ n. n ≤ 4294967295) (octet a) _ (octet_if a)
+    (λ i hi. and_then_some (λ n. n ≤ 255) (λ n. n ≤ 4294967295) (octet b) _ (octet_if b)
+    (λ j hj. and_then_some (λ n. n ≤ 255) (λ n. n ≤ 4294967295) (octet c) _ (octet_if c)
+    (λ k hk. map_some (λ n. n ≤ 255) (λ n. n ≤ 4294967295) (octet d) (joined i j k) (octet_if d)
+    (λ l hl. omega arith))))
+
+-- an address has 32 bits
+pub address_if : (text : List ℕ) → IfSome (address text) (λ n. n ≤ 4294967295)
+address_if text =
+    and_then_any_some (λ n. n ≤ 4294967295) (cut_at (codes ".") text) _
+    (λ p. and_then_any_some (λ n. n ≤ 4294967295) (cut_at (codes ".") p.1) _
+    (λ q. and_then_any_some (λ n. n ≤ 4294967295) (cut_at (codes ".") q.1) _
+    (λ r. octets_if p.0 q.0 r.0 r.1)))
+
+is_address : (n : ℕ) → n ≤ 4294967295 → IsIn (pos 0) highest_address (pos n)
+is_address n h = record { above = grind (arith, ints); below = grind (arith, ints) }
+
+address_span_if : (k : Key) (p : Place) (text : List ℕ) → IfOk (address_span k p text) (IsSpanWithin (pos 0) highest_address)
+address_span_if k p text =
+    and_then_if (λ n. n ≤ 4294967295) (IsSpanWithin (pos 0) highest_address) (or_refused cause.BadAddress k p (address (ends text).0)) _
+    (or_refused_if (λ n. n ≤ 4294967295) cause.BadAddress k p (address (ends text).0) (address_if (ends text).0))
+    (λ a ha. and_then_if (λ n. n ≤ 4294967295) (IsSpanWithin (pos 0) highest_address) (or_refused cause.BadAddress k p (address (ends text).1)) _
+    (or_refused_if (λ n. n ≤ 4294967295) cause.BadAddress k p (address (ends text).1) (address_if (ends text).1))
+    (λ b hb. or_refused_if (IsSpanWithin (pos 0) highest_address) cause.BadRange k p (span (pos a) (pos b))
+    (span_if (pos 0) highest_address (pos a) (pos b) (is_address a ha) (is_address b hb))))
+
+-- a code is a span of one number
+pub record IsCode (s : Span) : Type 0 where
+  pub range : IsSpanWithin (pos 0) highest_code s
+  pub single : s.low ≡ s.high
+
+code_span_if : (z : ℤ) → IfSome (code_span z) IsCode
+code_span_if z =
+    and_then_some (IsIn (pos 0) highest_code) IsCode (within (pos 0) highest_code z) _ (within_if (pos 0) highest_code z)
+    (λ n i. if_some IsCode (int_le n n) (record { low = n; high = n })
+    (λ e. record { range = record { above = i.above; ordered = grind (arith, ints); below = i.below }; single = refl }))
+
+-- what each entry of a list keeps
+pub address_entry_if : (k : Key) (p : Place) (d : Data) → IfOk (entry entries.Addresses k p d) (IsSpanWithin (pos 0) highest_address)
+address_entry_if k p d = and_then_any (IsSpanWithin (pos 0) highest_address) (as_text k p d) _ (λ text. address_span_if k p text)
+
+pub code_entry_if : (k : Key) (p : Place) (d : Data) → IfOk (entry entries.Codes k p d) IsCode
+code_entry_if k p d =
+    and_then_any IsCode (as_number k p d) _ (λ z. or_refused_if IsCode cause.BadRange k p (code_span z) (code_span_if z))
+
+pub number_entry_if : (low high : ℤ) (k : Key) (p : Place) (d : Data) → IfOk (entry (entries.Numbers low high) k p d) (IsSpanWithin low high)
+number_entry_if low high k p d =
+    and_then_any (IsSpanWithin low high) (as_text k p d) _
+    (λ text. or_refused_if (IsSpanWithin low high) cause.BadRange k p (number_span low high text) (number_span_if low high text))
+
+-- a list of spans that keep P, of at most 64, and of one at least where it is stated
+pub record AreRead (P : Span → Type 0) (least : ℕ) (ss : List Span) : Type 0 where
+  pub count : length ss ≤ 64
+  pub some : least ≤ length ss
+  pub each : All P ss
+
+module _ (P : Span → Type 0) (e : Entries) (k : Key) (p : Place) (keeps : (d : Data) → IfOk (entry e k p d) P) where
+  entries_from_if : (ds : Items) (seen : List Span) → All P seen
+      → IfOk (entries_from e k p ds seen) (λ ss. All P ss × (length ss ≡ length seen + count ds))
+  entries_from_if no_items seen h = (h, omega arith)
+  entries_from_if (item d ds) seen h =
+      and_then_if P (λ ss. All P ss × (length ss ≡ length seen + count (item d ds))) (entry e k p d) _ (keeps d)
+      (λ s hs. IfOk-weaker (entries_from e k p ds (seen ++ s ∷ [])) _ _
+      (λ ss g. (g.0, omega (arith, g.1, length-append seen (s ∷ []))))
+      (entries_from_if ds (seen ++ s ∷ []) (All-push P seen s h hs)))
+
+  pub spans_if : (d : Data) → IfOk (spans e k p d) (AreRead P 1)
+  spans_if d =
+      and_then_any (AreRead P 1) (as_array_of (kind_of e) k p d) _
+      (λ ds. unless_if (AreRead P 1) (nat_eq (count ds) 0) _ _
+      (λ some. unless_if (AreRead P 1) (nat_lt 64 (count ds)) _ _
+      (λ short. IfOk-weaker (entries_from e k p ds []) _ (AreRead P 1)
+      (λ ss g. let long = g.1 in record { count = grind (arith, nat_tests); some = grind (arith, nat_tests); each = g.0 })
+      (entries_from_if ds [] (All-nil P)))))
+
+  spans_if_any_if : (o : Option Data) → IfOk (spans_if_any e k p o) (AreRead P 0)
+  spans_if_any_if None = record { count = omega arith; some = omega arith; each = All-nil P }
+  spans_if_any_if (Some d) =
+      IfOk-weaker (spans e k p d) (AreRead P 1) (AreRead P 0)
+      (λ ss h. record { count = h.count; some = omega arith; each = h.each })
+      (spans_if d)
+
+  pub optional_spans_if : (ms : Members) → IfOk (optional_spans e k p ms) (AreRead P 0)
+  optional_spans_if ms = spans_if_any_if (stated k ms)
