@@ -1,4 +1,7 @@
 pub mod Commands
+pub mod Endings
+pub mod Ends
 pub mod Outputs
+pub mod Policies
 pub mod Sift
 pub mod Words

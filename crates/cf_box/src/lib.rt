@@ -1,8 +1,10 @@
 //! The program: the words that it takes, what it does for each, and the status that it ends with.
 #![tactic(auto)]
 
+mod ending;
 mod sift;
 mod words;
 
+pub use ending::{Ending, report};
 pub use sift::{STREAM_LIMIT, SiftDone, SiftFault, SiftNames, sift_stream};
 pub use words::{Command, read_words};
