@@ -1,11 +1,12 @@
 -- Numbers as words.
-use Rattle.std.proofs.Common.{◌≡◌, ◌≢◌, ℕ, ◌<◌, ◌^◌, Bool, true, false, ◌&&◌, List, [], ◌∷◌, map, Option, Some, None, Result, Ok, Err, IsTrue, refl, sym, ap, ◌∙◌, arith, rules, nat_lt, if◌then◌else◌, Bor, length, ◌==◌}
+use Rattle.std.proofs.Common.{◌≡◌, ◌≢◌, ℕ, ◌<◌, ◌^◌, Bool, true, false, ◌&&◌, List, [], ◌∷◌, map, Option, Some, None, Result, Ok, Err, IsTrue, refl, sym, ap, ◌∙◌, arith, rules, nat_lt, if◌then◌else◌, Bor, length, ◌==◌, not}
 use Rattle.std.specs.Prelude.{bytes_eq, decimal}
 use Rattle.std.specs.List.{list_any}
 use Rattle.std.specs.Str.Parse.{digits_value, ParsesUnsigned}
-use Rattle.std.proofs.lemmas.Bool.{and_parts, and_from, ltb-true, lt-ltb}
+use Rattle.std.proofs.lemmas.Bool.{and_parts, and_from, or_parts, not-true, both_ways, ltb-true, lt-ltb}
 use Rattle.std.proofs.lemmas.Fmt.{decimal_is_IsNumeral, parse-decimal}
 use Rattle.std.proofs.lemmas.Slice.Eq.{bytes_eq-Decides}
+use Rattle.cf_box.specs.Outputs.{AreApart}
 use Rattle.cf_box.specs.Words.{natural, are_names}
 
 -- a test of each image is a test of each element
@@ -55,3 +56,30 @@ names_step names rest name is some other =
     let among : list_any (λ o. bytes_eq name.now o) (map (λ n. n.now) rest) ≡ false = list_any_of_map (λ o. bytes_eq name.now o) (λ n. n.now) rest ∙ sym other in
     let tests : are_names (map (λ n. n.now) rest) ≡ are_names (map (λ n. n.now) (name ∷ rest)) = rw (← some, among) refl in
     tests ∙ ap (λ ns. are_names (map (λ n. n.now) ns)) (sym is)
+
+-- the names behind the first are names
+rest : (name : List ℕ) (others : List (List ℕ)) → are_names (name ∷ others) ≡ true → are_names others ≡ true
+rest name others named =
+    (and_parts (not (list_any (λ o. bytes_eq name o) others)) (are_names others)
+      (and_parts (not (length name == 0)) (not (list_any (λ o. bytes_eq name o) others) && are_names others) named).1).1
+
+-- two names of which one is not among others that have the other
+apart : (name : List ℕ) (others : List (List ℕ)) (other : List ℕ) → are_names (name ∷ others) ≡ true →
+    (list_any (λ o. bytes_eq name o) others ≡ false → bytes_eq name other ≡ false) → name ≢ other
+apart name others other named among same =
+    let parts = and_parts (not (length name == 0)) (not (list_any (λ o. bytes_eq name o) others) && are_names others) named in
+    let none = and_parts (not (list_any (λ o. bytes_eq name o) others)) (are_names others) parts.1 in
+    let differ : bytes_eq name other ≡ false = among (not-true _ none.0) in
+    both_ways (bytes_eq name other) differ ((bytes_eq-Decides name other).1 same)
+
+-- the last three of five names that are apart
+pub apart_from_names : (policy stream out replies log : List ℕ) → are_names (policy ∷ stream ∷ out ∷ replies ∷ log ∷ []) ≡ true →
+    AreApart (record { out = out; replies = replies; log = log })
+apart_from_names policy stream out replies log named =
+    let behind = rest stream (out ∷ replies ∷ log ∷ []) (rest policy (stream ∷ out ∷ replies ∷ log ∷ []) named) in
+    let last = rest out (replies ∷ log ∷ []) behind in
+    record {
+      out_replies = apart out (replies ∷ log ∷ []) replies behind (λ none. (or_parts _ _ none).0);
+      out_log = apart out (replies ∷ log ∷ []) log behind (λ none. (or_parts _ _ (or_parts _ _ none).1).0);
+      replies_log = apart replies (log ∷ []) log last (λ none. (or_parts _ _ none).0);
+    }

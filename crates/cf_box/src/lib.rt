@@ -1,7 +1,9 @@
 //! The program: the words that it takes, what it does for each, and the status that it ends with.
 #![tactic(auto)]
 
+mod commands;
 mod ending;
+mod policy_file;
 mod sift;
 mod words;
 

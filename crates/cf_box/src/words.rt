@@ -1,7 +1,7 @@
 //! The words that the program takes.
-ghost use Rattle.std.specs.Prelude.{◌≡◌, ◌↔◌, ℕ, ◌-◌, ◌^◌, IsTrue, bytes_eq, decimal, length, map, option_map, string_bytes};
+ghost use Rattle.std.specs.Prelude.{◌≡◌, ◌↔◌, IfSome, IsTrue, bytes_eq, decimal, length, map, option_map, string_bytes};
 ghost use Rattle.std.specs.List.{list_any};
-ghost use Rattle.cf_box.specs.Commands.{command_seen};
+ghost use Rattle.cf_box.specs.Commands.{HasApartOutputs, command_seen};
 ghost use Rattle.cf_box.specs.Words.{are_names, command_of, natural, natural_in, one_file, relay, run, sift, world};
 
 use crate::sift::SiftNames;
@@ -50,7 +50,8 @@ pub enum Command<'a> {
 
 /// The command that the words are, if they are one.
 pub fn read_words(words: &[String]) -> Option<Command<'_>>
-    ensures { option_map command_seen result ≡ command_of (map string_bytes words.now) }
+    ensures command { option_map command_seen result ≡ command_of (map string_bytes words.now) }
+    ensures apart { IfSome result HasApartOutputs }
 {
     match words.len() {
         2 => read_one_file(words),
@@ -65,7 +66,8 @@ pub fn read_words(words: &[String]) -> Option<Command<'_>>
 /// `check POLICY` or `packets CAPTURE`.
 fn read_one_file(words: &[String]) -> Option<Command<'_>>
     requires { length words.now ≡ 2 }
-    ensures { option_map command_seen result ≡ one_file (map string_bytes words.now) }
+    ensures command { option_map command_seen result ≡ one_file (map string_bytes words.now) }
+    ensures apart { IfSome result HasApartOutputs }
 {
     let name = words[1].as_str();
     if !are_names(&[name]) {
@@ -84,7 +86,8 @@ fn read_one_file(words: &[String]) -> Option<Command<'_>>
 /// `run POLICY CAPTURE OUT LOG`.
 fn read_run(words: &[String]) -> Option<Command<'_>>
     requires { length words.now ≡ 5 }
-    ensures { option_map command_seen result ≡ run (map string_bytes words.now) }
+    ensures command { option_map command_seen result ≡ run (map string_bytes words.now) }
+    ensures apart { IfSome result HasApartOutputs }
 {
     if words[0].as_str() != "run" {
         return None;
@@ -107,7 +110,8 @@ fn read_run(words: &[String]) -> Option<Command<'_>>
 /// `relay POLICY ASSET PORT IDLES LOG`.
 fn read_relay(words: &[String]) -> Option<Command<'_>>
     requires { length words.now ≡ 6 }
-    ensures { option_map command_seen result ≡ relay (map string_bytes words.now) }
+    ensures command { option_map command_seen result ≡ relay (map string_bytes words.now) }
+    ensures apart { IfSome result HasApartOutputs }
 {
     if words[0].as_str() != "relay" {
         return None;
@@ -132,7 +136,8 @@ fn read_relay(words: &[String]) -> Option<Command<'_>>
 /// `world SEED SESSIONS POLICY CAPTURE OUT LOG`.
 fn read_world(words: &[String]) -> Option<Command<'_>>
     requires { length words.now ≡ 7 }
-    ensures { option_map command_seen result ≡ world (map string_bytes words.now) }
+    ensures command { option_map command_seen result ≡ world (map string_bytes words.now) }
+    ensures apart { IfSome result HasApartOutputs }
 {
     if words[0].as_str() != "world" {
         return None;
@@ -157,9 +162,11 @@ fn read_world(words: &[String]) -> Option<Command<'_>>
 }
 
 /// `sift POLICY ASSET CLIENT STREAM OUT REPLIES LOG`.
+#[tactic(auto, using(crate::proofs::WordLaws::apart_from_names))]
 fn read_sift(words: &[String]) -> Option<Command<'_>>
     requires { length words.now ≡ 8 }
-    ensures { option_map command_seen result ≡ sift (map string_bytes words.now) }
+    ensures command { option_map command_seen result ≡ sift (map string_bytes words.now) }
+    ensures apart { IfSome result HasApartOutputs }
 {
     if words[0].as_str() != "sift" {
         return None;
