@@ -38,5 +38,9 @@ pub after_policy : (old middle new : List ℕ → Content) (read_old read_middle
 after_policy old middle new read_old read_middle read_new write_old write_middle write_new file name client stream outputs p e same later writes has ends =
     let P : (List ℕ → Content) → Type 0 = λ m. EndsAtName m new (Rose read_middle read_new) (Rose write_middle write_new) (asset_named name p) client stream outputs e in
     let Q : ℕ → Type 0 = λ w. EndsAtName old new (Rose read_middle read_new) (Rose w write_new) (asset_named name p) client stream outputs e in
-    inr (p, has, at_name old new (Rose read_old read_new) (Rose read_middle read_new) (Rose write_old write_new) (λ rose. omega arith)
-      client stream outputs (asset_named name p) e (subst Q writes (subst P same ends)))
+    inr (
+      p,
+      has,
+      at_name old new (Rose read_old read_new) (Rose read_middle read_new) (Rose write_old write_new) (λ rose. omega arith)
+          client stream outputs (asset_named name p) e (subst Q writes (subst P same ends)),
+    )

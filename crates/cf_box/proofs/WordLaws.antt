@@ -25,17 +25,17 @@ some_where b n passes = rw passes refl
 pub natural_none : (text : List ℕ) → ((n : ℕ) → n < 2 ^ 64 → text ≡ decimal n → ⊥) → natural text ≡ None
 natural_none text never =
     none_unless (nat_lt (digits_value 10 text) (2 ^ 64) && bytes_eq text (decimal (digits_value 10 text))) (digits_value 10 text)
-      (λ passes.
-        let parts = and_parts (nat_lt (digits_value 10 text) (2 ^ 64)) (bytes_eq text (decimal (digits_value 10 text))) passes in
-        never (digits_value 10 text) (ltb-true _ _ parts.0) ((bytes_eq-Decides text (decimal (digits_value 10 text))).0 parts.1))
+    (λ passes.
+    let parts = and_parts (nat_lt (digits_value 10 text) (2 ^ 64)) (bytes_eq text (decimal (digits_value 10 text))) passes in
+    never (digits_value 10 text) (ltb-true _ _ parts.0) ((bytes_eq-Decides text (decimal (digits_value 10 text))).0 parts.1))
 
 -- a number as it is printed is that number
 pub natural_some : (text : List ℕ) (n : ℕ) → n < 2 ^ 64 → text ≡ decimal n → natural text ≡ Some n
 natural_some text n below is =
     let value : digits_value 10 text ≡ n = ap (digits_value 10) is ∙ (decimal_is_IsNumeral n below).1 in
     some_where (nat_lt (digits_value 10 text) (2 ^ 64) && bytes_eq text (decimal (digits_value 10 text))) (digits_value 10 text)
-      (and_from _ _ (rw value (lt-ltb n (2 ^ 64) below)) ((bytes_eq-Decides text (decimal (digits_value 10 text))).1 (is ∙ ap decimal (sym value))))
-      ∙ ap Some value
+    (and_from _ _ (rw value (lt-ltb n (2 ^ 64) below)) ((bytes_eq-Decides text (decimal (digits_value 10 text))).1 (is ∙ ap decimal (sym value))))
+    ∙ ap Some value
 
 module _ {E : Type 0} (text : List ℕ) (r : Result ℕ E) (parses : ParsesUnsigned 64 10 text r) where
   -- a text that is not read is no number
@@ -46,8 +46,8 @@ module _ {E : Type 0} (text : List ℕ) (r : Result ℕ E) (parses : ParsesUnsig
   pub misread : (n : ℕ) → r ≡ Ok n → (text ≡ decimal n → ⊥) → None ≡ natural text
   misread n is other =
       sym (natural_none text (λ m below printed.
-        let same : m ≡ n = cc (parse-decimal 64 m text r below below printed parses) in
-        other (printed ∙ ap decimal same)))
+      let same : m ≡ n = cc (parse-decimal 64 m text r below below printed parses) in
+      other (printed ∙ ap decimal same)))
 
 -- a name that is not empty and not among the others leaves the question to the others
 pub names_step : (names rest : List (Bor (List ℕ))) (name : Bor (List ℕ)) → names ≡ name ∷ rest → false ≡ (length name.now == 0) →
@@ -61,7 +61,7 @@ names_step names rest name is some other =
 rest : (name : List ℕ) (others : List (List ℕ)) → are_names (name ∷ others) ≡ true → are_names others ≡ true
 rest name others named =
     (and_parts (not (list_any (λ o. bytes_eq name o) others)) (are_names others)
-      (and_parts (not (length name == 0)) (not (list_any (λ o. bytes_eq name o) others) && are_names others) named).1).1
+    (and_parts (not (length name == 0)) (not (list_any (λ o. bytes_eq name o) others) && are_names others) named).1).1
 
 -- two names of which one is not among others that have the other
 apart : (name : List ℕ) (others : List (List ℕ)) (other : List ℕ) → are_names (name ∷ others) ≡ true →

@@ -24,7 +24,7 @@ module _ (old new : List ℕ → Content) (read_rose write_rose : Type 0) where
   abbrev pub EndsAtAsset : Asset → ℕ → List ℕ → Three → Ending → Type 0
   EndsAtAsset asset client stream outputs (ending.Sifted admitted refused) =
       (output : Output) × IsSifted asset client (old stream) output × Stand IsWritten outputs (parts_of output) old new
-        × (admitted ≡ output.admitted) × (refused ≡ output.refused)
+      × (admitted ≡ output.admitted) × (refused ≡ output.refused)
   EndsAtAsset asset client stream outputs ending.WriteFault =
       write_rose × ((output : Output) × IsSifted asset client (old stream) output × Stand IsPartly outputs (parts_of output) old new)
   EndsAtAsset asset client stream outputs ending.ReadFault = read_rose × (new ≡ old)

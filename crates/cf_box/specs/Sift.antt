@@ -42,7 +42,7 @@ IsUnbuilt asset file =
 abbrev pub SiftEnds : Asset → ℕ → SiftNames → (old new : List ℕ → Content) → (read_rose write_rose : Type 0) → Result SiftDone SiftFault → Type 0
 SiftEnds asset client names old new read_rose write_rose (Ok done) =
     (output : Output) × IsSifted asset client (old names.stream.now) output × Stand IsWritten (outputs_of names) (parts_of output) old new
-      × (done.cut ≡ None) × (done.admitted ≡ output.admitted) × (done.refused ≡ output.refused)
+    × (done.cut ≡ None) × (done.admitted ≡ output.admitted) × (done.refused ≡ output.refused)
 SiftEnds asset client names old new read_rose write_rose (Err fault.Write) =
     write_rose × ((output : Output) × IsSifted asset client (old names.stream.now) output × Stand IsPartly (outputs_of names) (parts_of output) old new)
 SiftEnds asset client names old new read_rose write_rose (Err fault.Read) = read_rose × (new ≡ old)

@@ -57,7 +57,7 @@ relay words =
     if not (bytes_eq (word words 0) (codes "relay")) then None
     else if not (are_names (word words 1 ∷ word words 5 ∷ [])) then None
     else option_and_then (λ port. option_map (λ idles. Relay (word words 1) (word words 2) port idles (word words 5))
-      (natural_in 1 1000000 (word words 4))) (natural_in 1 65535 (word words 3))
+    (natural_in 1 1000000 (word words 4))) (natural_in 1 65535 (word words 3))
 
 -- world SEED SESSIONS POLICY CAPTURE OUT LOG
 abbrev pub world : List (List ℕ) → Option Command
@@ -65,7 +65,7 @@ world words =
     if not (bytes_eq (word words 0) (codes "world")) then None
     else if not (are_names (word words 3 ∷ word words 4 ∷ word words 5 ∷ word words 6 ∷ [])) then None
     else option_and_then (λ seed. option_map (λ sessions. World seed sessions (word words 3) (word words 4) (word words 5) (word words 6))
-      (natural_in 1 200 (word words 2))) (natural_in 0 (2 ^ 64 - 1) (word words 1))
+    (natural_in 1 200 (word words 2))) (natural_in 0 (2 ^ 64 - 1) (word words 1))
 
 -- sift POLICY ASSET CLIENT STREAM OUT REPLIES LOG
 abbrev pub sift : List (List ℕ) → Option Command
@@ -73,7 +73,7 @@ sift words =
     if not (bytes_eq (word words 0) (codes "sift")) then None
     else if not (are_names (word words 1 ∷ word words 4 ∷ word words 5 ∷ word words 6 ∷ word words 7 ∷ [])) then None
     else option_map (λ client. Sift (word words 1) (word words 2) client (word words 4) (word words 5) (word words 6) (word words 7))
-      (address (word words 3))
+    (address (word words 3))
 
 -- the command that the words are, if they are one; their number tells the form
 abbrev pub command_of : List (List ℕ) → Option Command

@@ -47,7 +47,14 @@ fn check<F: Files>(alloc: Global, files: &mut F, name: &str) -> Ending
 }
 
 /// `sift` for the asset of a name, if the policy has it.
-fn sift_asset<F: Files>(alloc: Global, files: &mut F, policy: &Policy, asset: &str, client: u32, names: &SiftNames<'_>) -> Ending
+fn sift_asset<F: Files>(
+    alloc: Global,
+    files: &mut F,
+    policy: &Policy,
+    asset: &str,
+    client: u32,
+    names: &SiftNames<'_>,
+) -> Ending
     requires { AreApart (outputs_of names.now) }
     ensures ends { EndsAtName (F.content files.old) (F.content files.new)
         (Rose (F.read_faults files.old) (F.read_faults files.new)) (Rose (F.write_faults files.old) (F.write_faults files.new))
@@ -69,7 +76,14 @@ fn sift_asset<F: Files>(alloc: Global, files: &mut F, policy: &Policy, asset: &s
 }
 
 /// `sift`: reads the policy, and filters the stream of the asset of a name.
-fn sift<F: Files>(alloc: Global, files: &mut F, policy: &str, asset: &str, client: u32, names: &SiftNames<'_>) -> Ending
+fn sift<F: Files>(
+    alloc: Global,
+    files: &mut F,
+    policy: &str,
+    asset: &str,
+    client: u32,
+    names: &SiftNames<'_>,
+) -> Ending
     requires { AreApart (outputs_of names.now) }
     ensures { EndsSift (F.content files.old) (F.content files.new)
         (Rose (F.read_faults files.old) (F.read_faults files.new)) (Rose (F.write_faults files.old) (F.write_faults files.new))
@@ -90,12 +104,14 @@ fn perform<F: Files>(alloc: Global, words: &[String], files: &mut F) -> Ending
     match read_words(words) {
         None => Ending::Usage,
         Some(Command::Check { policy }) => check(alloc, files, policy),
-        Some(Command::Sift {
-            policy,
-            asset,
-            client,
-            names,
-        }) => sift(alloc, files, policy, asset, client, &names),
+        Some(
+            Command::Sift {
+                policy,
+                asset,
+                client,
+                names,
+            },
+        ) => sift(alloc, files, policy, asset, client, &names),
         Some(_) => Ending::Unbuilt,
     }
 }
@@ -105,7 +121,13 @@ fn perform<F: Files>(alloc: Global, words: &[String], files: &mut F) -> Ending
 /// Statuses: 0 done; 2 the words have no form; 3 a read failed; 4 a write failed, or work that was done could not be
 /// printed; 5 the policy's text means none; 10 the policy has no asset of the name; 13 memory ran out; 14 the input
 /// needs a part that is not built. What each means of the files and of the sink is its case of `EndsOf` and `Reports`.
-pub fn box_main<F: Files, O: Sink, P: Pair>(alloc: Global, words: &[String], files: &mut F, out: &mut O, pair: &mut P) -> u8
+pub fn box_main<F: Files, O: Sink, P: Pair>(
+    alloc: Global,
+    words: &[String],
+    files: &mut F,
+    out: &mut O,
+    pair: &mut P,
+) -> u8
     // There is an ending that explains the files, the status and what was printed.
     ensures ends { (ending : Ending) × EndsOf (F.content files.old) (F.content files.new)
         (Rose (F.read_faults files.old) (F.read_faults files.new)) (Rose (F.write_faults files.old) (F.write_faults files.new))

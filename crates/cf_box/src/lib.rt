@@ -7,6 +7,7 @@ mod policy_file;
 mod sift;
 mod words;
 
+pub use commands::box_main;
 pub use ending::{Ending, report};
 pub use sift::{STREAM_LIMIT, SiftDone, SiftFault, SiftNames, sift_stream};
 pub use words::{Command, read_words};

@@ -25,7 +25,11 @@ pub(crate) enum LoadFault {
 }
 
 /// Reads the policy of a file. Changes no file.
-pub(crate) fn load_policy<F: Files>(alloc: Global, files: &mut F, name: &str) -> Result<Policy, LoadFault>
+pub(crate) fn load_policy<F: Files>(
+    alloc: Global,
+    files: &mut F,
+    name: &str,
+) -> Result<Policy, LoadFault>
     ensures has { IfOk result (λ p. HasPolicy (F.content files.old name.now) p) }
     ensures within { IfOk result (λ p. IsWithin p) }
     ensures fault { IfErr result (λ fault. IsLoadFault (F.content files.old name.now) (Rose (F.read_faults files.old) (F.read_faults files.new)) fault) }

@@ -78,7 +78,11 @@ fn create<F: Files>(files: &mut F, name: &str) -> Result<(), WriteFault>
 }
 
 /// Appends to each of the three outputs its part.
-fn append_outputs<F: Files>(files: &mut F, names: &SiftNames<'_>, filtered: &Filtered) -> Result<(), WriteFault>
+fn append_outputs<F: Files>(
+    files: &mut F,
+    names: &SiftNames<'_>,
+    filtered: &Filtered,
+) -> Result<(), WriteFault>
     requires { AreApart (outputs_of names.now) }
     ensures done { OnOk result (Stand IsExtended (outputs_of names.now) (parts_of (output_seen filtered.now)) (F.content files.old) (F.content files.new)) }
     ensures fault { OnErr result (Stand IsPartlyExtended (outputs_of names.now) (parts_of (output_seen filtered.now)) (F.content files.old) (F.content files.new)) }
@@ -90,7 +94,11 @@ fn append_outputs<F: Files>(files: &mut F, names: &SiftNames<'_>, filtered: &Fil
 }
 
 /// Appends to the last two outputs their parts.
-fn append_behind<F: Files>(files: &mut F, names: &SiftNames<'_>, filtered: &Filtered) -> Result<(), WriteFault>
+fn append_behind<F: Files>(
+    files: &mut F,
+    names: &SiftNames<'_>,
+    filtered: &Filtered,
+) -> Result<(), WriteFault>
     requires { AreApart (outputs_of names.now) }
     ensures done { OnOk result (StandBehind IsExtended (outputs_of names.now) (parts_of (output_seen filtered.now)) (F.content files.old) (F.content files.new)) }
     ensures fault { OnErr result (StandBehind IsPartlyExtended (outputs_of names.now) (parts_of (output_seen filtered.now)) (F.content files.old) (F.content files.new)) }
@@ -105,7 +113,13 @@ fn append_behind<F: Files>(files: &mut F, names: &SiftNames<'_>, filtered: &Filt
 /// whole first; then the outputs are created, those towards the controller, towards the client and the log in this
 /// order, and written. After `Read`, `Unbuilt` and `NoMemory` every file is as it was; after `Write` each output is as
 /// it was, or was created and got a prefix of its part.
-pub fn sift_stream<F: Files>(alloc: Global, asset: &Asset, client: u32, names: &SiftNames<'_>, files: &mut F) -> Result<SiftDone, SiftFault>
+pub fn sift_stream<F: Files>(
+    alloc: Global,
+    asset: &Asset,
+    client: u32,
+    names: &SiftNames<'_>,
+    files: &mut F,
+) -> Result<SiftDone, SiftFault>
     requires { AreApart (outputs_of names.now) }
     ensures ends { SiftEnds asset.now client names.now (F.content files.old) (F.content files.new)
         (Rose (F.read_faults files.old) (F.read_faults files.new)) (Rose (F.write_faults files.old) (F.write_faults files.new)) result }
@@ -140,7 +154,11 @@ pub fn sift_stream<F: Files>(alloc: Global, asset: &Asset, client: u32, names: &
 
 /// Creates the three outputs, and then writes them.
 #[tactic(auto, using(crate::proofs::OutputLaws::written_laws))]
-fn write_outputs<F: Files>(files: &mut F, names: &SiftNames<'_>, filtered: &Filtered) -> Result<(), WriteFault>
+fn write_outputs<F: Files>(
+    files: &mut F,
+    names: &SiftNames<'_>,
+    filtered: &Filtered,
+) -> Result<(), WriteFault>
     requires { AreApart (outputs_of names.now) }
     ensures done { OnOk result (Stand IsWritten (outputs_of names.now) (parts_of (output_seen filtered.now)) (F.content files.old) (F.content files.new)) }
     ensures fault { OnErr result (Stand IsPartly (outputs_of names.now) (parts_of (output_seen filtered.now)) (F.content files.old) (F.content files.new)) }

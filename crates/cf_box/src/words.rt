@@ -12,9 +12,13 @@ use itoa::Buffer;
 #[derive(Clone, Copy, Debug)]
 pub enum Command<'a> {
     /// Read a policy.
-    Check { policy: &'a str },
+    Check {
+        policy: &'a str,
+    },
     /// List the records of a capture.
-    Packets { capture: &'a str },
+    Packets {
+        capture: &'a str,
+    },
     /// Run a policy over a capture.
     Run {
         policy: &'a str,

@@ -33,14 +33,14 @@ module _ (asset : Asset) (client : ℕ) (list : List Act) (i : ℕ) (act : Act) 
       first_refusal asset client (drop (i + 1) list) ≡ first_refusal asset client list
   allowed_at n allows =
       ap (λ v. refusal_or act v (first_refusal asset client (drop (i + 1) list))) allows
-        ∙ sym (ap (first_refusal asset client) (drop_at list i act here)) ∙ before
+      ∙ sym (ap (first_refusal asset client) (drop_at list i act here)) ∙ before
 
   -- the first act that is not allowed decides
   pub refused_at : (d : Decider) (why : Reason) → verdict.Refuse d why ≡ verdict_of asset client act →
       fate.Refused (record { decider = d; reason = why; act = act }) ≡ fate_of_acts asset client list
   refused_at d why refuses =
       ap (λ v. by_refusal (refusal_or act v (first_refusal asset client (drop (i + 1) list)))) refuses
-        ∙ ap by_refusal (sym (ap (first_refusal asset client) (drop_at list i act here)) ∙ before)
+      ∙ ap by_refusal (sym (ap (first_refusal asset client) (drop_at list i act here)) ∙ before)
 
 -- acts of which none is refused are allowed
 to_allowed : (asset : Asset) (client : ℕ) (list : List Act) → fate_of_acts asset client list ≡ fate.Admitted →
@@ -48,12 +48,12 @@ to_allowed : (asset : Asset) (client : ℕ) (list : List Act) → fate_of_acts a
 to_allowed asset client [] e = tt
 to_allowed asset client (act ∷ list) e =
     let step : (v : Verdict) → by_refusal (refusal_or act v (first_refusal asset client list)) ≡ fate.Admitted →
-          IsAllowed v × AllByRecursion (λ act. IsAllowed (verdict_of asset client act)) list =
-        λ v. elim v as (λ v. by_refusal (refusal_or act v (first_refusal asset client list)) ≡ fate.Admitted →
-              IsAllowed v × AllByRecursion (λ act. IsAllowed (verdict_of asset client act)) list) [
-            verdict.Allow n ↦ λ e. (tt, to_allowed asset client list e)
-          | verdict.Refuse d why ↦ λ e. cc
-        ] in
+    IsAllowed v × AllByRecursion (λ act. IsAllowed (verdict_of asset client act)) list =
+    λ v. elim v as (λ v. by_refusal (refusal_or act v (first_refusal asset client list)) ≡ fate.Admitted →
+    IsAllowed v × AllByRecursion (λ act. IsAllowed (verdict_of asset client act)) list) [
+      | verdict.Allow n ↦ λ e. (tt, to_allowed asset client list e)
+      | verdict.Refuse d why ↦ λ e. cc
+    ] in
     step (verdict_of asset client act) e
 
 -- and the other way round
@@ -62,22 +62,23 @@ from_allowed : (asset : Asset) (client : ℕ) (list : List Act) → AllByRecursi
 from_allowed asset client [] all = refl
 from_allowed asset client (act ∷ list) all =
     let step : (v : Verdict) → IsAllowed v → by_refusal (refusal_or act v (first_refusal asset client list)) ≡ fate.Admitted =
-        λ v. elim v as (λ v. IsAllowed v → by_refusal (refusal_or act v (first_refusal asset client list)) ≡ fate.Admitted) [
-            verdict.Allow n ↦ λ _. from_allowed asset client list all.1
-          | verdict.Refuse d why ↦ λ never. absurd never
-        ] in
+    λ v. elim v as (λ v. IsAllowed v → by_refusal (refusal_or act v (first_refusal asset client list)) ≡ fate.Admitted) [
+      | verdict.Allow n ↦ λ _. from_allowed asset client list all.1
+      | verdict.Refuse d why ↦ λ never. absurd never
+    ] in
     step (verdict_of asset client act) all.0
 
 pub admits_what_is_allowed : AdmitsWhatIsAllowed
 admits_what_is_allowed asset client a f (of_other_station other is) = (λ e. cc (e, is), λ allowed. absurd (other allowed.station))
 admits_what_is_allowed asset client a f (of_no_form station refusal reads is) =
     (λ e. cc (e, is), λ allowed. cc (one_reading (Err refusal) (Ok allowed.request) a.pdu reads allowed.form))
-admits_what_is_allowed asset client a f (of_its_acts station r reads is) =
-    (λ e. record { station = station; request = r; form = reads; each = to_allowed asset client (acts r) (sym is ∙ e) },
-     λ allowed.
-        let same : r ≡ allowed.request = cc (one_reading (Ok r) (Ok allowed.request) a.pdu reads allowed.form) in
-        let P : RequestOf → Type 0 = λ q. AllByRecursion (λ act. IsAllowed (verdict_of asset client act)) (acts q) in
-        is ∙ from_allowed asset client (acts r) (subst P (sym same) allowed.each))
+admits_what_is_allowed asset client a f (of_its_acts station r reads is) = (
+  λ e. record { station = station; request = r; form = reads; each = to_allowed asset client (acts r) (sym is ∙ e) },
+  λ allowed.
+      let same : r ≡ allowed.request = cc (one_reading (Ok r) (Ok allowed.request) a.pdu reads allowed.form) in
+      let P : RequestOf → Type 0 = λ q. AllByRecursion (λ act. IsAllowed (verdict_of asset client act)) (acts q) in
+      is ∙ from_allowed asset client (acts r) (subst P (sym same) allowed.each),
+)
 
 pub has_one_fate : HasOneFate
 has_one_fate asset client a f g (of_other_station other is) (of_other_station _ e) = is ∙ sym e

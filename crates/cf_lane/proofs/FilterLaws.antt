@@ -39,7 +39,7 @@ module _ (asset : Asset) (client : Endpoint) (moment : ℕ) (a : AduOf) (old new
     fate = fate.Admitted;
     has = has;
     more = same_output new (more_output asset client moment false old (record { item = ClientAdu a; fate = fate.Admitted }))
-      controller (client_ ∙ sym (append-nil old.to_client)) (log_ ∙ sym (append-nil old.log)) admitted (refused ∙ omega arith);
+        controller (client_ ∙ sym (append-nil old.to_client)) (log_ ∙ sym (append-nil old.log)) admitted (refused ∙ omega arith);
   }
 
   -- a refused command has its reply and its line
@@ -51,7 +51,7 @@ module _ (asset : Asset) (client : Endpoint) (moment : ℕ) (a : AduOf) (old new
     fate = fate.Refused r;
     has = has;
     more = same_output new (more_output asset client moment false old (record { item = ClientAdu a; fate = fate.Refused r }))
-      (controller ∙ sym (append-nil old.to_controller)) client_ log_ (admitted ∙ omega arith) refused;
+        (controller ∙ sym (append-nil old.to_controller)) client_ log_ (admitted ∙ omega arith) refused;
   }
 
 -- what one more item puts out follows what the earlier ones put out
@@ -60,8 +60,8 @@ in_turn-more : (put : List Judged → Judged → List ℕ) (earlier js : List Ju
 in_turn-more put earlier [] j = append-nil (put earlier j) ∙ ap (λ before. put before j) (sym (append-nil earlier))
 in_turn-more put earlier (k ∷ js) j =
     ap (λ rest. put earlier k ++ rest) (in_turn-more put (earlier ++ k ∷ []) js j)
-      ∙ sym (append_assoc (put earlier k) (in_turn put (earlier ++ k ∷ []) js) (put ((earlier ++ k ∷ []) ++ js) j))
-      ∙ ap (λ before. (put earlier k ++ in_turn put (earlier ++ k ∷ []) js) ++ put before j) (append_assoc earlier (k ∷ []) js)
+    ∙ sym (append_assoc (put earlier k) (in_turn put (earlier ++ k ∷ []) js) (put ((earlier ++ k ∷ []) ++ js) j))
+    ∙ ap (λ before. (put earlier k ++ in_turn put (earlier ++ k ∷ []) js) ++ put before j) (append_assoc earlier (k ∷ []) js)
 
 single : (b : Bool) → 0 + cond b 1 0 ≡ one_if b
 single true = refl
@@ -75,11 +75,11 @@ output-more : (asset : Asset) (client : Endpoint) (moment : ℕ) (js : List Judg
     output_of asset client moment (js ++ j ∷ []) ≡ more_output asset client moment (has_ended js) (output_of asset client moment js) j
 output-more asset client moment js j =
     same_output (output_of asset client moment (js ++ j ∷ [])) (more_output asset client moment (has_ended js) (output_of asset client moment js) j)
-      (in_turn-more (output side.Controller) [] js j)
-      (in_turn-more (output side.Client) [] js j)
-      (in_turn-more (λ before i. item_line asset client moment (has_ended before) i.item i.fate) [] js j)
-      (count-more (λ i. is_admitted i.fate) js j)
-      (count-more (λ i. is_refused i.fate) js j)
+    (in_turn-more (output side.Controller) [] js j)
+    (in_turn-more (output side.Client) [] js j)
+    (in_turn-more (λ before i. item_line asset client moment (has_ended before) i.item i.fate) [] js j)
+    (count-more (λ i. is_admitted i.fate) js j)
+    (count-more (λ i. is_refused i.fate) js j)
 
 -- a client's ADU ends no stream
 unended-more : (js : List Judged) (j : Judged) → has_ended js ≡ false → ends_controller j.item ≡ false → has_ended (js ++ j ∷ []) ≡ false
@@ -118,8 +118,8 @@ module _ (asset : Asset) (client : Endpoint) (moment : ℕ) (stream : List ℕ) 
     more_by : (j : Judged) → more_output asset client moment false out j ≡ output_of asset client moment (so_far.judged ++ j ∷ [])
     more_by j =
         ap (λ o. more_output asset client moment false o j) so_far.is_output
-          ∙ ap (λ b. more_output asset client moment b (output_of asset client moment so_far.judged) j) (sym so_far.unended)
-          ∙ sym (output-more asset client moment so_far.judged j)
+        ∙ ap (λ b. more_output asset client moment b (output_of asset client moment so_far.judged) j) (sym so_far.unended)
+        ∙ sym (output-more asset client moment so_far.judged j)
 
     -- one more command
     pub one_further : (a : AduOf) (n : ℕ) (new : Output) → Begins SpellsAdu (drop at stream) a n → TakesCommand asset client moment a out new →
@@ -130,7 +130,7 @@ module _ (asset : Asset) (client : Endpoint) (moment : ℕ) (stream : List ℕ) 
           units = so_far.units ++ a ∷ [];
           judged = so_far.judged ++ j ∷ [];
           starts = subst (λ rest. Starts SpellsAdu (so_far.units ++ a ∷ []) stream rest) (drop-drop n at stream)
-            (starts_more SpellsAdu so_far.units a stream (drop at stream) n so_far.starts begins);
+              (starts_more SpellsAdu so_far.units a stream (drop at stream) n so_far.starts begins);
           items = map-append (λ i. i.item) so_far.judged (j ∷ []) ∙ ap (λ xs. xs ++ ClientAdu a ∷ []) so_far.items ∙ sym (map-append ClientAdu so_far.units (a ∷ []));
           fates = fates-more asset client.address so_far.judged j so_far.fates takes.has;
           unended = unended-more so_far.judged j so_far.unended refl;
@@ -153,8 +153,8 @@ module _ (asset : Asset) (client : Endpoint) (moment : ℕ) (stream : List ℕ) 
             fates = fates-more asset client.address so_far.judged j so_far.fates refl;
           };
           is_output = same_output new (more_output asset client moment false out j)
-            (controller ∙ sym (append-nil out.to_controller)) (client_ ∙ sym (append-nil out.to_client)) log_
-            (admitted ∙ omega arith) (refused ∙ omega arith) ∙ more_by j;
+              (controller ∙ sym (append-nil out.to_controller)) (client_ ∙ sym (append-nil out.to_client)) log_
+              (admitted ∙ omega arith) (refused ∙ omega arith) ∙ more_by j;
         }
 
     -- an octet that breaks the stream
@@ -192,6 +192,6 @@ pub has_one_output : HasOneOutput
 has_one_output asset client moment stream x y a b =
     let same = one_cut SpellsAdu prefix_free a.is_judged.units b.is_judged.units stream a.is_judged.rest b.is_judged.rest a.is_judged.cut b.is_judged.cut in
     let items : map (λ j. j.item) a.judged ≡ map (λ j. j.item) b.judged =
-        a.is_judged.items ∙ ap (λ us. client_items us (length a.is_judged.rest)) same.0 ∙ ap (λ r. client_items b.is_judged.units (length r)) same.1 ∙ sym b.is_judged.items in
+    a.is_judged.items ∙ ap (λ us. client_items us (length a.is_judged.rest)) same.0 ∙ ap (λ r. client_items b.is_judged.units (length r)) same.1 ∙ sym b.is_judged.items in
     let judged = one_judgement asset client.address a.judged b.judged items a.is_judged.fates b.is_judged.fates in
     a.is_output ∙ ap (output_of asset client moment) judged ∙ sym b.is_output

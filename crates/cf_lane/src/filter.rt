@@ -53,7 +53,13 @@ impl From<AllocError> for FilterFault {
 /// Filters the stream of a client of a Modbus asset, which ends after it, at one moment in microseconds. Each ADU is a
 /// command: an admitted one goes to the controller as it is, a refused one gets its reply and its line. Bytes that are
 /// left at the end get a line. A stream whose bytes are no units is refused as a whole.
-pub fn filter_client(alloc: Global, asset: &Asset, client: &Endpoint, moment: u64, stream: &[u8]) -> Result<Filtered, FilterFault>
+pub fn filter_client(
+    alloc: Global,
+    asset: &Asset,
+    client: &Endpoint,
+    moment: u64,
+    stream: &[u8],
+) -> Result<Filtered, FilterFault>
     requires { asset.now.protocol ≡ Protocol.Modbus }
     ensures filtered { IfOk result (λ f. IsFiltered asset.now client.now moment stream.now (output_seen f)) }
     ensures fault { IfErr result (λ fault. HasFilterFault stream.now fault) }
@@ -69,7 +75,14 @@ pub fn filter_client(alloc: Global, asset: &Asset, client: &Endpoint, moment: u6
     'units: loop {
         match next_adu(View::one(&stream[at..])) {
             Framed::Unit { unit, used } => {
-                take_command(&mut done, asset, client, moment, &unit, &stream[at..at + used])?;
+                take_command(
+                    &mut done,
+                    asset,
+                    client,
+                    moment,
+                    &unit,
+                    &stream[at..at + used],
+                )?;
                 at += used;
             }
             Framed::More => {
@@ -93,7 +106,15 @@ fn add_reply(replies: &mut Vec<u8>, adu: &Adu<'_>, reason: Reason) -> Result<(),
 }
 
 /// Appends the line of a refused command that has its reply.
-fn log_refusal(log: &mut Vec<u8>, asset: &Asset, client: &Endpoint, moment: u64, refusal: &Refusal, adu: &Adu<'_>, octets: &[u8]) -> Result<(), AllocError>
+fn log_refusal(
+    log: &mut Vec<u8>,
+    asset: &Asset,
+    client: &Endpoint,
+    moment: u64,
+    refusal: &Refusal,
+    adu: &Adu<'_>,
+    octets: &[u8],
+) -> Result<(), AllocError>
     requires decider { IsOneOf asset.now.rules refusal.now.decider }
     requires octets { octets.now ≡ spelling (adu_of adu.now) }
     ensures { OnOk result (log.new.items ≡ log.old.items ++ line_about asset.now client.now moment (refusal_line asset.now refusal.now true (adu_of adu.now))) }
@@ -114,7 +135,13 @@ fn log_refusal(log: &mut Vec<u8>, asset: &Asset, client: &Endpoint, moment: u64,
 }
 
 /// Appends the line of an end at which bytes are left, where some are.
-fn log_end(log: &mut Vec<u8>, asset: &Asset, client: &Endpoint, moment: u64, rest: usize) -> Result<(), AllocError>
+fn log_end(
+    log: &mut Vec<u8>,
+    asset: &Asset,
+    client: &Endpoint,
+    moment: u64,
+    rest: usize,
+) -> Result<(), AllocError>
     ensures { OnOk result (log.new.items ≡ log.old.items ++ end_line asset.now client.now moment Side.Client rest) }
 {
     if rest == 0 {
@@ -142,7 +169,14 @@ fn add_line(log: &mut Vec<u8>, line: &Line<'_>) -> Result<(), AllocError>
 }
 
 /// Takes a command by its fate.
-fn take_command(done: &mut Filtered, asset: &Asset, client: &Endpoint, moment: u64, adu: &Adu<'_>, octets: &[u8]) -> Result<(), AllocError>
+fn take_command(
+    done: &mut Filtered,
+    asset: &Asset,
+    client: &Endpoint,
+    moment: u64,
+    adu: &Adu<'_>,
+    octets: &[u8],
+) -> Result<(), AllocError>
     requires at_least { 1 ≤ length adu.now.pdu.bytes }
     requires at_most { length adu.now.pdu.bytes ≤ 253 }
     requires octets { octets.now ≡ spelling (adu_of adu.now) }

@@ -4,17 +4,14 @@ ghost use Rattle.cf_lane.specs.Laws.{AdmitsWhatIsAllowed, HasOneFate, HasOneOutp
 /// A command is admitted exactly where its station is the asset's, its form is read and each of its acts is allowed.
 pub fn admits_what_is_allowed()
     ensures { AdmitsWhatIsAllowed }
-{
-}
+{}
 
 /// A command has one fate.
 pub fn has_one_fate()
     ensures { HasOneFate }
-{
-}
+{}
 
 /// A stream has one output: what the filter puts out is a function of the asset, the client, the moment and the stream.
 pub fn has_one_output()
     ensures { HasOneOutput }
-{
-}
+{}

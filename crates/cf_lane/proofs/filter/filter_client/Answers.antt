@@ -14,7 +14,7 @@ units-init c = record {
   inside = omega arith;
   counts = omega arith;
   so_far = nothing_so_far c.args.asset.now c.args.client.now c.args.moment c.args.stream.now _
-    (same_output _ (output_of c.args.asset.now c.args.client.now c.args.moment []) c.new.ensures.items c.new-2.ensures.items c.new-3.ensures.items refl refl);
+      (same_output _ (output_of c.args.asset.now c.args.client.now c.args.moment []) c.new.ensures.items c.new-2.ensures.items c.new-3.ensures.items refl refl);
 }
 
 pub units-preserved : goal.units-preserved
@@ -26,13 +26,13 @@ units-preserved c =
       inside = omega (arith, begins.inside, length-drop c.units.at c.args.stream.now, c.units.invariant.inside);
       counts = omega (arith, c.in_ok-take_command-in-Unit.ensures.counts, c.units.invariant.counts, some);
       so_far = one_further c.args.asset.now c.args.client.now c.args.moment c.args.stream.now c.units.at (output_seen c.units.done) c.units.invariant.so_far
-        (adu_of c.in-Unit.unit) c.in-Unit.used _ begins c.in_ok-take_command-in-Unit.ensures.taken;
+          (adu_of c.in-Unit.unit) c.in-Unit.used _ begins c.in_ok-take_command-in-Unit.ensures.taken;
     }
 
 pub returns-in-More-clause-filtered : goal.returns-in-More-clause-filtered
 returns-in-More-clause-filtered c =
     let partial = subst (IsPartial SpellsAdu) (c.one.ensures.bytes ∙ take_rest c.args.stream.now c.units.at) c.in-More.ensures.true_answer in
     let left = ap (λ n. c.units.done.log.items ++ end_line c.args.asset.now c.args.client.now c.args.moment side.Client n)
-          (sym (length-drop c.units.at c.args.stream.now)) in
+    (sym (length-drop c.units.at c.args.stream.now)) in
     at_the_end c.args.asset.now c.args.client.now c.args.moment c.args.stream.now c.units.at (output_seen c.units.done) c.units.invariant.so_far
-      _ partial refl refl (c.in_ok-log_end-in-More.ensures ∙ left) refl refl
+    _ partial refl refl (c.in_ok-log_end-in-More.ensures ∙ left) refl refl

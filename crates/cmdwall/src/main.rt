@@ -1,0 +1,47 @@
+//! The program `cmdwall`: real files, standard output, and the words that it was given.
+#![tactic(auto)]
+
+mod files;
+mod help;
+mod pair;
+mod sink;
+
+use crate::files::RealFiles;
+use crate::help::{Asked, print_help, print_version, question_of};
+use crate::pair::NoPair;
+use crate::sink::RealSink;
+use cf_box::box_main;
+use std::env::Env;
+use std::process::ExitCode;
+use std::{env, io};
+
+fn main(rt: HostRuntime) -> ExitCode {
+    // Words that cannot be read are words of no form.
+    let words = words_of(&rt).unwrap_or(Vec::new(rt.alloc()));
+    match question_of(&words) {
+        Asked::Help => return printed(print_help(&rt)),
+        Asked::Version => return printed(print_version(&rt)),
+        Asked::Work => {}
+    }
+    let mut files = RealFiles::new(&rt, rt.alloc());
+    let mut out = RealSink::new(io::writer(&rt));
+    let mut pair = NoPair::new();
+    ExitCode::from(box_main(rt.alloc(), &words, &mut files, &mut out, &mut pair))
+}
+
+/// The words behind the program's name.
+fn words_of(rt: &(impl Env + AllocGlobal)) -> io::Result<Vec<String>> {
+    let mut words = Vec::new(rt.alloc());
+    for word in env::args(rt)?.skip(1) {
+        words.push(word)?;
+    }
+    Ok(words)
+}
+
+/// Status 0, or 4 where printing failed.
+fn printed(done: io::Result<()>) -> ExitCode {
+    match done {
+        Ok(()) => ExitCode::from(0),
+        Err(_) => ExitCode::from(4),
+    }
+}
