@@ -1,0 +1,104 @@
+//! The header of a capture file.
+ghost use Rattle.std.specs.Prelude.{◌≡◌, ◌+◌, ◌≤◌, length};
+ghost use Rattle.cf_pcap.specs.Captures.{fields_of, header_of, is_magic, u16_at, u32_at};
+
+use cf_view::{LinkKind, View};
+
+/// What the header of a capture file says about its records.
+#[derive(Clone, Copy, PartialEq, Eq, Debug)]
+pub struct Header {
+    /// Whether numbers stand with their high octet first.
+    pub big_endian: bool,
+    /// Whether fractions of a second are nanoseconds; else they are microseconds.
+    pub nanos: bool,
+    /// What stands before the IPv4 packet of a record.
+    pub link: LinkKind,
+}
+
+/// Why octets begin no capture file that is read. They are tested in this order.
+#[derive(Clone, Copy, PartialEq, Eq, Debug)]
+pub enum HeaderRefusal {
+    /// There are fewer than 24 octets.
+    Short,
+    /// The magic is neither A1B2C3D4 nor A1B23C4D, in either byte order.
+    Magic,
+    /// The version is not 2.4.
+    Version,
+    /// The link type is neither 1 (Ethernet) nor 101 (raw IP).
+    LinkType,
+}
+
+/// The magic of files whose fractions are microseconds.
+const MICROSECONDS: u32 = 0xA1B2_C3D4;
+/// The magic of files whose fractions are nanoseconds.
+const NANOSECONDS: u32 = 0xA1B2_3C4D;
+
+/// The header that begins a capture file of these octets. draft-ietf-opsawg-pcap, section 4; zone, accuracy and snap
+/// length are not used.
+pub fn read_header(bytes: &[u8]) -> Result<Header, HeaderRefusal>
+    ensures { result ≡ header_of bytes.now }
+{
+    if bytes.len() < 24 {
+        return Err(HeaderRefusal::Short);
+    }
+    let bytes = View::one(bytes);
+    if is_magic(bytes.u32_be(0)) {
+        return fields(&bytes, true);
+    }
+    if is_magic(bytes.u32_le(0)) {
+        return fields(&bytes, false);
+    }
+    Err(HeaderRefusal::Magic)
+}
+
+/// Whether a number is the magic of a capture file.
+fn is_magic(n: u32) -> bool
+    ensures { result ≡ is_magic n }
+{
+    n == MICROSECONDS || n == NANOSECONDS
+}
+
+/// What the fields of a header in this byte order say.
+fn fields(bytes: &View<'_>, big_endian: bool) -> Result<Header, HeaderRefusal>
+    requires { 24 ≤ length bytes.now.bytes }
+    ensures { result ≡ fields_of big_endian bytes.now.bytes }
+{
+    if u16_at(bytes, 4, big_endian) != 2 || u16_at(bytes, 6, big_endian) != 4 {
+        return Err(HeaderRefusal::Version);
+    }
+    let nanos = u32_at(bytes, 0, big_endian) == NANOSECONDS;
+    let link = match u32_at(bytes, 20, big_endian) {
+        1 => LinkKind::Ethernet,
+        101 => LinkKind::RawIp,
+        _ => return Err(HeaderRefusal::LinkType),
+    };
+    Ok(Header {
+        big_endian,
+        nanos,
+        link,
+    })
+}
+
+/// The number of two octets in a file's byte order.
+fn u16_at(bytes: &View<'_>, i: usize, big_endian: bool) -> u16
+    requires { i + 2 ≤ length bytes.now.bytes }
+    ensures { result ≡ u16_at big_endian bytes.now.bytes i }
+{
+    if big_endian {
+        bytes.u16_be(i)
+    } else {
+        bytes.u16_le(i)
+    }
+}
+
+/// The number of four octets in a file's byte order.
+pub(crate) fn u32_at(bytes: &View<'_>, i: usize, big_endian: bool) -> u32
+    requires { i + 4 ≤ length bytes.now.bytes }
+    ensures { result ≡ u32_at big_endian bytes.now.bytes i }
+{
+    if big_endian {
+        bytes.u32_be(i)
+    } else {
+        bytes.u32_le(i)
+    }
+}

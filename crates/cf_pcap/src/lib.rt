@@ -1,0 +1,13 @@
+//! Capture files in the classic pcap format: their header and their records, read and written.
+#![tactic(auto)]
+
+mod header;
+mod record;
+mod write;
+
+#[cfg(test)]
+mod tests;
+
+pub use header::{Header, HeaderRefusal, read_header};
+pub use record::{RecordAnswer, read_record};
+pub use write::{write_header, write_record_head};
