@@ -1,5 +1,5 @@
 -- The records of a whole capture file.
-use Rattle.std.specs.Prelude.{◌≡◌, ℕ, ◌+◌, ◌*◌, ◌^◌, nat_lt, nat_le, ◌==◌, min, Bool, if◌then◌else◌, List, [], ◌∷◌, length, drop, slice_range}
+use Rattle.std.specs.Prelude.{◌≡◌, ℕ, ◌+◌, ◌*◌, ◌^◌, nat_lt, ◌==◌, min, Bool, if◌then◌else◌, List, [], ◌∷◌, length, drop, slice_range}
 use Rattle.cf_pcap.specs.declared.header.Header.{Header}
 use Rattle.cf_pcap.specs.Captures.{captured_at, stamp_at}
 

@@ -3,10 +3,9 @@
 
 mod header;
 mod record;
-mod write;
-
 #[cfg(test)]
 mod tests;
+mod write;
 
 pub use header::{Header, HeaderRefusal, read_header};
 pub use record::{RecordAnswer, read_record};

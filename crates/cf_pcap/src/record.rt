@@ -57,6 +57,10 @@ fn stamp(header: &Header, head: &View<'_>) -> u64
 {
     let seconds = u32_at(head, 0, header.big_endian);
     let fraction = u32_at(head, 4, header.big_endian);
-    let micros = if header.nanos { fraction / 1000 } else { fraction };
+    let micros = if header.nanos {
+        fraction / 1000
+    } else {
+        fraction
+    };
     u64::from(seconds) * 1_000_000 + u64::from(micros)
 }

@@ -25,12 +25,20 @@ pub fn write_header(out: &mut [u8; 24])
 
 /// Writes the head of a record at a moment in microseconds, below 2^32 seconds, for so many octets, at most 262,144.
 /// draft-ietf-opsawg-pcap, section 5; both lengths are that of the octets, this project's own choice.
+#[tactic(auto, using(crate::proofs::RecordLaws::written_again))]
 pub fn write_record_head(moment: u64, len: u32, out: &mut [u8; 16])
     requires moment { moment < 2 ^ 32 * 1000000 }
     requires short { len ≤ 262144 }
     ensures octets { out.new ≡ head_octets moment len }
     // With the octets behind it, it is read again, whatever follows.
     ensures again { (body rest : List ℕ) → length body ≡ len → record_of output_header (out.new ++ body ++ rest) ≡ Whole moment body (16 + len) }
+{
+    write_head(moment, len, out);
+}
+
+fn write_head(moment: u64, len: u32, out: &mut [u8; 16])
+    requires { moment < 2 ^ 32 * 1000000 }
+    ensures { out.new ≡ head_octets moment len }
 {
     out[..4].copy_from_slice(&octets((moment / 1_000_000) as u32));
     out[4..8].copy_from_slice(&octets((moment % 1_000_000) as u32));
