@@ -1,5 +1,5 @@
 -- Laws of what the filter puts out.
-use Rattle.std.proofs.Common.{◌≡◌, ℕ, ◌+◌, Bool, true, false, List, [], ◌∷◌, ◌++◌, length, map, refl, sym, ap, ◌∙◌, subst, append_assoc, drop, cond, arith}
+use Rattle.std.proofs.Common.{◌≡◌, ℕ, ◌+◌, Bool, true, false, List, [], ◌∷◌, ◌++◌, length, map, refl, sym, ap, ◌∙◌, subst, append_assoc, drop, cond, inl, inr, arith}
 use Rattle.std.proofs.lemmas.List.{append-nil, map-append, drop-drop}
 use Rattle.std.proofs.lemmas.List.Folds.{list_any-append}
 use Rattle.std.proofs.lemmas.List.Sums.{sum_by-append}
@@ -9,8 +9,8 @@ use Rattle.cf_view.specs.Framing.{Begins, IsPartial, BreaksAt}
 use Rattle.cf_view.specs.Units.{Starts, IsCut, IsBroken}
 use Rattle.cf_view.proofs.UnitsLaws.{starts_more, one_cut}
 use Rattle.cf_modbus.proofs.AduLaws.{prefix_free}
-use Rattle.cf_lane.specs.Laws.{HasOneOutput}
-use Rattle.cf_lane.proofs.FateLaws.{has_one_fate}
+use Rattle.cf_lane.specs.Laws.{HasOneOutput, PassesAllowed, FiltersByAllowance}
+use Rattle.cf_lane.proofs.FateLaws.{has_one_fate, admits_what_is_allowed}
 use Rattle.cf_view.specs.declared.Endpoint.{Endpoint}
 use Rattle.cf_view.specs.declared.Side.TheVariants as side
 use Rattle.cf_modbus.specs.Adu.{AduOf, SpellsAdu, mbap_break, spelling}
@@ -20,7 +20,7 @@ use Rattle.cf_lane.specs.Fate.{HasFate, HasCommandFate}
 use Rattle.cf_lane.specs.Filtered.{Output, TakesCommand, IsFiltered, IsBrokenBy, HaveFates, more_output, output_of, client_items, is_admitted, is_refused, one_if}
 use Rattle.cf_lane.specs.Item.{Item, ClientAdu, ControllerAdu, Ended, ends_controller}
 use Rattle.cf_lane.specs.Log.{line_about, refusal_line, end_line, item_line, lines}
-use Rattle.cf_lane.specs.Stream.{Judged, has_ended, in_turn, output, outputs}
+use Rattle.cf_lane.specs.Stream.{Judged, has_ended, in_turn, output, outputs, to_controller}
 use Rattle.cf_lane.specs.declared.fate.Fate.{Fate}
 use Rattle.cf_lane.specs.declared.fate.Fate.TheVariants as fate
 use Rattle.cf_lane.specs.declared.fate.Refusal.{Refusal}
@@ -195,3 +195,37 @@ has_one_output asset client moment stream x y a b =
     a.is_judged.items ∙ ap (λ us. client_items us (length a.is_judged.rest)) same.0 ∙ ap (λ r. client_items b.is_judged.units (length r)) same.1 ∙ sym b.is_judged.items in
     let judged = one_judgement asset client.address a.judged b.judged items a.is_judged.fates b.is_judged.fates in
     a.is_output ∙ ap (output_of asset client moment) judged ∙ sym b.is_output
+
+module _ (asset : Asset) (client : ℕ) where
+  -- a command before others puts its spelling before theirs, if it is allowed
+  one_passes : (a : AduOf) (f : Fate) (units : List AduOf) (more : List ℕ) → HasCommandFate asset client a f →
+      PassesAllowed asset client units more → PassesAllowed asset client (a ∷ units) (to_controller (ClientAdu a) f ++ more)
+  one_passes a fate.Admitted units more has passes = inl ((admits_what_is_allowed asset client a fate.Admitted has).0 refl, (more, refl, passes))
+  one_passes a fate.Carried units more has passes =
+      inr (λ allowed. cc ((admits_what_is_allowed asset client a fate.Carried has).1 allowed), passes)
+  one_passes a (fate.Refused r) units more has passes =
+      inr (λ allowed. cc ((admits_what_is_allowed asset client a (fate.Refused r) has).1 allowed), passes)
+
+  pass_by : (units : List AduOf) (n : ℕ) (earlier js : List Judged) → map (λ j. j.item) js ≡ client_items units n → HaveFates asset client js →
+      PassesAllowed asset client units (in_turn (output side.Controller) earlier js)
+  pass_by [] n earlier [] same fates = cc
+  pass_by [] n earlier (j ∷ []) same fates =
+      let item : j.item ≡ Ended side.Client n = cc in
+      ap (λ i. to_controller i j.fate ++ []) item
+  pass_by [] n earlier (j ∷ (k ∷ js)) same fates = cc
+  pass_by (a ∷ units) n earlier [] same fates = cc
+  pass_by (a ∷ units) n earlier (j ∷ js) same fates =
+      let item : j.item ≡ ClientAdu a = cc in
+      let items : map (λ i. i.item) js ≡ client_items units n = cc in
+      let rest = in_turn (output side.Controller) (earlier ++ j ∷ []) js in
+      subst (λ i. PassesAllowed asset client (a ∷ units) (to_controller i j.fate ++ rest)) (sym item)
+        (one_passes a j.fate units rest (subst (λ i. HasFate asset client i j.fate) item fates.0) (pass_by units n (earlier ++ j ∷ []) js items fates.1))
+
+pub passes_what_is_allowed : FiltersByAllowance
+passes_what_is_allowed asset client moment stream x filtered = record {
+  units = filtered.is_judged.units;
+  rest = filtered.is_judged.rest;
+  cut = filtered.is_judged.cut;
+  passes = subst (λ o. PassesAllowed asset client.address filtered.is_judged.units o.to_controller) (sym filtered.is_output)
+    (pass_by asset client.address filtered.is_judged.units (length filtered.is_judged.rest) [] filtered.judged filtered.is_judged.items filtered.is_judged.fates);
+}

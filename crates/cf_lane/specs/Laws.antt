@@ -1,9 +1,10 @@
 -- The fate of a command in other words. This project's own.
-use Rattle.std.specs.Prelude.{◌≡◌, ◌↔◌, ℕ, List, Ok}
+use Rattle.std.specs.Prelude.{◌≡◌, ◌↔◌, ◌⊎◌, ℕ, List, [], ◌∷◌, ◌++◌, Ok}
+use Rattle.cf_view.specs.Units.{IsCut}
 use Rattle.std.specs.List.{AllByRecursion}
 use Rattle.cf_view.specs.declared.Endpoint.{Endpoint}
 use Rattle.cf_modbus.specs.Acts.{acts}
-use Rattle.cf_modbus.specs.Adu.{AduOf}
+use Rattle.cf_modbus.specs.Adu.{AduOf, SpellsAdu, spelling}
 use Rattle.cf_modbus.specs.Request.{RequestOf, Reads}
 use Rattle.cf_policy.specs.Laws.{IsAllowed}
 use Rattle.cf_policy.specs.Verdict.{verdict_of}
@@ -34,3 +35,23 @@ abbrev pub HasOneOutput : Type 0
 HasOneOutput =
     (asset : Asset) (client : Endpoint) (moment : ℕ) (stream : List ℕ) (x y : Output)
     → IsFiltered asset client moment stream x → IsFiltered asset client moment stream y → x ≡ y
+
+-- the spellings of the commands that are allowed, in their order; the others put nothing there
+abbrev pub PassesAllowed : Asset → ℕ → List AduOf → List ℕ → Type 0
+PassesAllowed asset client [] out = out ≡ []
+PassesAllowed asset client (a ∷ units) out =
+    (IsAllowedCommand asset client a × ((rest : List ℕ) × (out ≡ spelling a ++ rest) × PassesAllowed asset client units rest))
+    ⊎ ((IsAllowedCommand asset client a → ⊥) × PassesAllowed asset client units out)
+
+-- of the commands of a stream those that are allowed go to the controller, in their spelling and at their place
+pub record PassesWhatIsAllowed (asset : Asset) (client : ℕ) (stream out : List ℕ) : Type 0 where
+  pub units : List AduOf
+  pub rest : List ℕ
+  pub cut : IsCut SpellsAdu units stream rest
+  pub passes : PassesAllowed asset client units out
+
+-- the filter does that
+abbrev pub FiltersByAllowance : Type 0
+FiltersByAllowance =
+    (asset : Asset) (client : Endpoint) (moment : ℕ) (stream : List ℕ) (x : Output)
+    → IsFiltered asset client moment stream x → PassesWhatIsAllowed asset client.address stream x.to_controller
