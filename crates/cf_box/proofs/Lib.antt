@@ -1,3 +1,4 @@
 pub mod EndLaws
 pub mod OutputLaws
+pub mod StatusLaws
 pub mod WordLaws

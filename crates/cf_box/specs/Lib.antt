@@ -5,4 +5,5 @@ pub mod Loads
 pub mod Outputs
 pub mod Policies
 pub mod Sift
+pub mod Statuses
 pub mod Words

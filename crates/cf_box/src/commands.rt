@@ -1,12 +1,12 @@
 //! What the program does for each command, and the top call.
-ghost use Rattle.std.specs.Prelude.{◌≡◌, ◌⊎◌, ◌≤◌, ◌↔◌, IsNone, map, string_bytes, Some};
-ghost use Rattle.cf_box.specs.Commands.{command_seen};
+ghost use Rattle.std.specs.Prelude.{◌≡◌, ◌≢◌, ◌⊎◌, ◌↔◌, IsNone, map, string_bytes};
 ghost use Rattle.cf_box.specs.Endings.{Reports};
 ghost use Rattle.cf_box.specs.Ends.{EndsAtName, EndsCheck, EndsOf, EndsSift};
 ghost use Rattle.cf_box.specs.Loads.{load_ending};
 ghost use Rattle.cf_box.specs.Outputs.{AreApart};
 ghost use Rattle.cf_box.specs.Policies.{asset_named};
 ghost use Rattle.cf_box.specs.Sift.{outputs_of};
+ghost use Rattle.cf_box.specs.Statuses.{IsStatus, LacksAsset, Passes, RefusesPolicy};
 ghost use Rattle.cf_box.specs.Words.{command_of};
 ghost use Rattle.cf_outside.specs.Causes.{Rose};
 
@@ -133,6 +133,20 @@ pub fn box_main<F: Files, O: Sink, P: Pair>(
         (Rose (F.read_faults files.old) (F.read_faults files.new)) (Rose (F.write_faults files.old) (F.write_faults files.new))
         (command_of (map string_bytes words.now)) ending
         × Reports ending result (O.text out.old) (O.text out.new) (Rose (O.faults out.old) (O.faults out.new)) }
+    ensures statuses { IsStatus result }
+
+    // Each status by itself.
+    ensures usage { (result ≡ 2) ↔ IsNone (command_of (map string_bytes words.now)) }
+    ensures read { result ≡ 3 → Rose (F.read_faults files.old) (F.read_faults files.new) }
+    ensures write { result ≡ 4 → Rose (F.write_faults files.old) (F.write_faults files.new) ⊎ Rose (O.faults out.old) (O.faults out.new) }
+    ensures refused { result ≡ 5 → RefusesPolicy (F.content files.old) (command_of (map string_bytes words.now)) }
+    ensures unknown { result ≡ 10 → LacksAsset (F.content files.old) (command_of (map string_bytes words.now)) }
+
+    // Of the commands of a stream exactly those went on that the policy's bytes allow.
+    ensures passes { result ≡ 0 → Passes (F.content files.old) (F.content files.new) (command_of (map string_bytes words.now)) }
+
+    // Nothing is written but where the work was done, or a write failed.
+    ensures kept { result ≢ 0 → result ≢ 4 → F.content files.new ≡ F.content files.old }
     ensures pair { pair.new ≡ pair.old }
 {
     let ending = perform(alloc, words, files);
