@@ -35,22 +35,22 @@ module _ {U : Type 0} (Spells : U → List ℕ → Type 0) (free : IsPrefixFree 
   pub one_cut : (us vs : List U) (stream r t : List ℕ) → IsCut Spells us stream r → IsCut Spells vs stream t → (us ≡ vs) × (r ≡ t)
   one_cut us vs stream r t a b =
       same_units us vs stream r t a.starts b.starts
-        (λ u n begins. unit_not_partial Spells free r u n begins a.partial)
-        (λ u n begins. unit_not_partial Spells free t u n begins b.partial)
+      (λ u n begins. unit_not_partial Spells free r u n begins a.partial)
+      (λ u n begins. unit_not_partial Spells free t u n begins b.partial)
 
   -- a stream that is units and a proper prefix of one is broken nowhere
   pub cut_not_broken : (us vs : List U) (stream r : List ℕ) (place : ℕ) → IsCut Spells us stream r → IsBroken Spells vs stream place → ⊥
   cut_not_broken us vs stream r place a b =
       let same = same_units us vs stream r b.rest a.starts b.starts
-            (λ u n begins. unit_not_partial Spells free r u n begins a.partial)
-            (λ u n begins. unit_not_broken Spells free b.rest u n place begins b.breaks) in
+      (λ u n begins. unit_not_partial Spells free r u n begins a.partial)
+      (λ u n begins. unit_not_broken Spells free b.rest u n place begins b.breaks) in
       partial_not_broken Spells free b.rest place (subst (IsPartial Spells) same.1 a.partial) b.breaks
 
   -- a stream is broken in one place
   pub one_broken : (us vs : List U) (stream : List ℕ) (i j : ℕ) → IsBroken Spells us stream i → IsBroken Spells vs stream j → (us ≡ vs) × (i ≡ j)
   one_broken us vs stream i j a b =
       let same = same_units us vs stream a.rest b.rest a.starts b.starts
-            (λ u n begins. unit_not_broken Spells free a.rest u n i begins a.breaks)
-            (λ u n begins. unit_not_broken Spells free b.rest u n j begins b.breaks) in
+      (λ u n begins. unit_not_broken Spells free a.rest u n i begins a.breaks)
+      (λ u n begins. unit_not_broken Spells free b.rest u n j begins b.breaks) in
       let P : List ℕ → Type 0 = λ xs. BreaksAt Spells xs i in
       (same.0, one_break Spells free b.rest i j (subst P same.1 a.breaks) b.breaks)
