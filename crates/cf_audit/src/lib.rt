@@ -6,3 +6,6 @@ mod write;
 
 pub use line::{CutReason, Line, What, Why};
 pub use write::{push_cut, write_line};
+
+#[cfg(test)]
+mod tests;
