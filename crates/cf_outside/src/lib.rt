@@ -19,3 +19,6 @@ pub use pair::{GiveAnswer, MeetAnswer, MomentAnswer, Pair, TakeAnswer, Told};
 pub use script::Fail;
 pub use sink::Sink;
 pub use whole::{WholeFault, append_all, read_whole};
+
+#[cfg(test)]
+mod tests;
