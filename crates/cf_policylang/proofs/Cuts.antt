@@ -36,7 +36,7 @@ cut_found mark (b ∷ bs) (suc i) some lacks here =
     let further : suc i + length mark ≡ suc (i + length mark) = omega arith in
     let there : drop i bs ≡ mark ++ drop (i + length mark) bs = here ∙ ap (λ n. mark ++ drop n (b ∷ bs)) further in
     let found : cut_at mark bs ≡ Some (take i bs, drop (i + length mark) bs) =
-        cut_found mark bs i some (λ k lt. lacks (suc k) (omega arith)) there in
+    cut_found mark bs i some (λ k lt. lacks (suc k) (omega arith)) there in
     rw (lacks_prefix mark (b ∷ bs) (lacks 0 (omega arith)), found, further) refl
 
 cut_none : (mark s : List ℕ) → ((k : ℕ) → k ≤ length s → LacksTextAt mark s k) → cut_at mark s ≡ None

@@ -70,12 +70,12 @@ rule_name_if p seen ms =
     and_then_if (λ text. is_name text ≡ true) (IsRuleName seen) (name p ms) _ (name_if p ms)
     (λ text form. unless_if (IsRuleName seen) (is_rule_taken seen text) _ _
     (λ e. let parts = or_parts (is_reserved text) (list_any (λ r. bytes_eq r.name text) seen) e in
-        record {
-          form = form;
-          own = parts.0;
-          apart = All-weaker (λ r. bytes_eq r.name text ≡ false) (λ r. r.name ≢ text) (λ r. differ r.name text) seen
-              (none_passes (λ r. bytes_eq r.name text) seen parts.1);
-        }))
+    record {
+      form = form;
+      own = parts.0;
+      apart = All-weaker (λ r. bytes_eq r.name text ≡ false) (λ r. r.name ≢ text) (λ r. differ r.name text) seen
+          (none_passes (λ r. bytes_eq r.name text) seen parts.1);
+    }))
 
 -- a list that is read keeps the range of its numbers
 are_within : (low high : ℤ) (n : ℕ) (ss : List Span) → AreRead (IsSpanWithin low high) n ss → AreSpansWithin low high ss
@@ -199,14 +199,14 @@ endpoint_if p seen ms =
     and_then_if (λ n. n ≤ 4294967295) (IsAssetEndpoint seen) (asset_address p ms) _ (asset_address_if p ms)
     (λ own_address fit. and_then_if (IsNaturalIn 1 65535) (IsAssetEndpoint seen) (number_at key.Port 1 65535 p ms) _ (number_at_if key.Port 1 65535 p ms)
     (λ own_port range.
-        let e : Endpoint = record { address = own_address; port = own_port } in
-        unless_if (IsAssetEndpoint seen) (is_endpoint_taken seen e) _ _
-        (λ free. record {
-          address = fit;
-          port = range;
-          apart = All-weaker (λ a. is_same_endpoint a.endpoint e ≡ false) (λ a. a.endpoint ≢ e) (λ a. endpoints_differ a.endpoint e) seen
-              (none_passes (λ a. is_same_endpoint a.endpoint e) seen free);
-        })))
+    let e : Endpoint = record { address = own_address; port = own_port } in
+    unless_if (IsAssetEndpoint seen) (is_endpoint_taken seen e) _ _
+    (λ free. record {
+      address = fit;
+      port = range;
+      apart = All-weaker (λ a. is_same_endpoint a.endpoint e ≡ false) (λ a. a.endpoint ≢ e) (λ a. endpoints_differ a.endpoint e) seen
+          (none_passes (λ a. is_same_endpoint a.endpoint e) seen free);
+    })))
 
 no_master_if : (p : Place) (ms : Members) → IfOk (no_master p ms) (λ n. n ≤ 0)
 no_master_if p ms = unless_if (λ n. n ≤ 0) (is_some (stated key.Master ms)) _ _ (λ _. omega arith)

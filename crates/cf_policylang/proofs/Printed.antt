@@ -19,9 +19,10 @@ model = numerals_by_value (AllDigits 10) tells_digits
 -- in the range, or outside it
 pub within_cases : (low high z : ℤ) → (within low high z ≡ None) ⊎ ((within low high z ≡ Some z) × (low ≤ℤ z) × (z ≤ℤ high))
 within_cases low high z =
-    elim (int_le low z && int_le z high) as (λ b. (int_le low z && int_le z high) ≡ b → (within low high z ≡ None) ⊎ ((within low high z ≡ Some z) × (low ≤ℤ z) × (z ≤ℤ high)))
-    [ true ↦ λ e. inr (rw e refl, grind (arith, ints), grind (arith, ints))
-    | false ↦ λ e. inl (rw e refl) ]
+    elim (int_le low z && int_le z high) as (λ b. (int_le low z && int_le z high) ≡ b → (within low high z ≡ None) ⊎ ((within low high z ≡ Some z) × (low ≤ℤ z) × (z ≤ℤ high))) [
+      | true ↦ λ e. inr (rw e refl, grind (arith, ints), grind (arith, ints))
+      | false ↦ λ e. inl (rw e refl)
+    ]
     refl
 
 pub fits : (low high z : ℤ) → FitsSigned w64 low → FitsSigned w64 high → low ≤ℤ z → z ≤ℤ high → FitsSigned w64 z
@@ -33,9 +34,10 @@ fits (negsuc k) high (negsuc n) l h a b = record { sfits = omega (arith, ints) }
 pub number_cases : (text : List ℕ) → (number text ≡ None) ⊎ ((z : ℤ) × (number text ≡ Some z) × (text ≡ signed_decimal z))
 number_cases text =
     let z = signed_digits_value 10 text in
-    elim (bytes_eq text (signed_decimal z)) as (λ b. bytes_eq text (signed_decimal z) ≡ b → (number text ≡ None) ⊎ ((y : ℤ) × (number text ≡ Some y) × (text ≡ signed_decimal y)))
-    [ true ↦ λ e. inr (z, rw e refl, (bytes_eq-Decides text (signed_decimal z)).0 e)
-    | false ↦ λ e. inl (rw e refl) ]
+    elim (bytes_eq text (signed_decimal z)) as (λ b. bytes_eq text (signed_decimal z) ≡ b → (number text ≡ None) ⊎ ((y : ℤ) × (number text ≡ Some y) × (text ≡ signed_decimal y))) [
+      | true ↦ λ e. inr (z, rw e refl, (bytes_eq-Decides text (signed_decimal z)).0 e)
+      | false ↦ λ e. inl (rw e refl)
+    ]
     refl
 
 -- a digit above `0` stands in front, with or without a sign before it
@@ -101,9 +103,10 @@ pub plain_printed : (text : List ℕ) → has_spare text ≡ false → IsNumeral
     → text ≡ signed_decimal (signed_digits_value 10 text)
 plain_printed [] plain numeral f = absurd (omega (arith, numeral.0))
 plain_printed (b ∷ bs) plain numeral f =
-    elim (b == 45) as (λ t. (b == 45) ≡ t → b ∷ bs ≡ signed_decimal (signed_digits_value 10 (b ∷ bs)))
-    [ true ↦ λ e. minus b bs e plain numeral f
-    | false ↦ λ e. no_minus b bs e plain numeral f ]
+    elim (b == 45) as (λ t. (b == 45) ≡ t → b ∷ bs ≡ signed_decimal (signed_digits_value 10 (b ∷ bs))) [
+      | true ↦ λ e. minus b bs e plain numeral f
+      | false ↦ λ e. no_minus b bs e plain numeral f
+    ]
     refl
 
 -- a number that fits is in no range, or it is printed as `parse` reads it

@@ -43,12 +43,7 @@ pub(crate) fn assets_from(alloc: Global, array: &Array) -> Result<Assets, Policy
 }
 
 /// The asset of this number, from 1, behind those that were read.
-fn asset(
-    alloc: Global,
-    number: u32,
-    earlier: &[Asset],
-    table: &Table,
-) -> Result<Asset, PolicyFault>
+fn asset(alloc: Global, number: u32, earlier: &[Asset], table: &Table) -> Result<Asset, PolicyFault>
     ensures { Answers (λ a. a) (asset number earlier.now (table_view table.now)) result }
 {
     let place = Place::asset(number);

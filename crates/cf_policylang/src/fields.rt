@@ -102,7 +102,12 @@ fn each_is_kind(kind: Kind, values: &[Value]) -> bool
 }
 
 /// An array each of whose entries is of the kind.
-pub(crate) fn as_array_of(kind: Kind, key: Key, place: Place, value: &Value) -> Result<&Array, PolicyRefusal>
+pub(crate) fn as_array_of(
+    kind: Kind,
+    key: Key,
+    place: Place,
+    value: &Value,
+) -> Result<&Array, PolicyRefusal>
     ensures { AnswersPlainly (λ a. array_view a.now) (as_array_of kind key place (view value.now)) result }
 {
     match value {

@@ -12,3 +12,6 @@ mod rules;
 pub use documents::read_policy;
 pub use numbers::address;
 pub use refusal::{Cause, Key, PolicyFault, PolicyRefusal};
+
+#[cfg(test)]
+mod tests;

@@ -25,12 +25,7 @@ const RULE_KEYS: [Key; 7] = [
 ];
 
 /// A rule behind those of its asset that were read.
-fn rule(
-    alloc: Global,
-    place: Place,
-    earlier: &[Rule],
-    table: &Table,
-) -> Result<Rule, PolicyFault>
+fn rule(alloc: Global, place: Place, earlier: &[Rule], table: &Table) -> Result<Rule, PolicyFault>
     ensures { Answers (λ r. r) (rule place earlier.now (table_view table.now)) result }
 {
     if has_other(&RULE_KEYS, table) {
