@@ -11,3 +11,6 @@ pub use commands::box_main;
 pub use ending::{Ending, report};
 pub use sift::{STREAM_LIMIT, SiftDone, SiftFault, SiftNames, sift_stream};
 pub use words::{Command, read_words};
+
+#[cfg(test)]
+mod tests;
