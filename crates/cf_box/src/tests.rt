@@ -133,9 +133,10 @@ fn a_unit_cut_at_each_octet_is_told(rt: HostRuntime) -> Result<(), TestFail> {
     Ok(())
 }
 
-#[test]
-fn streams_and_words_that_are_refused_leave_nothing(rt: HostRuntime) -> Result<(), TestFail> {
-    for (words, policy, stream, status, printed) in [
+/// Words, a policy, six octets of a stream, the status and what is printed.
+type Refused = (&'static str, &'static str, [u8; 6], u8, &'static str);
+
+const REFUSED: [Refused; 29] = [
         // A protocol identifier that is not 0, in either octet, and lengths 0, 1, 255 and 256.
         (
             SIFT,
@@ -250,7 +251,11 @@ fn streams_and_words_that_are_refused_leave_nothing(rt: HostRuntime) -> Result<(
         ("world 1 201 p c o l", PUMP, [0; 6], 2, "usage\n"),
         ("check p p", PUMP, [0; 6], 2, "usage\n"),
         ("--help", PUMP, [0; 6], 2, "usage\n"),
-    ] {
+];
+
+#[test]
+fn streams_and_words_that_are_refused_leave_nothing(rt: HostRuntime) -> Result<(), TestFail> {
+    for &(words, policy, stream, status, printed) in &REFUSED {
         let done = run(rt.alloc(), words, policy, &stream, &[])?;
         assert_eq!(rt; done.status, status, "{words}");
         assert_eq!(rt; done.printed.as_slice(), printed.as_bytes(), "{words}");
