@@ -1,0 +1,49 @@
+-- What a piece carries of the stream that its queue stands for, and of every stream that goes on from there.
+use Rattle.std.proofs.Common.{◌≡◌, ℕ, ◌+◌, ◌-◌, ◌≤◌, ℤ, pos, negsuc, ◌≤ℤ◌, true, length, take, drop, refl, sym, ◌∙◌, ap, arith}
+use Rattle.std.proofs.lemmas.List.{length-append, length-drop, drop-append-le, take-append-le, drop-drop}
+use Rattle.std.proofs.lemmas.Int.{ints}
+use Rattle.cf_stream.proofs.Letters.{letters-part}
+use Rattle.cf_stream.specs.Position.{natural}
+use Rattle.cf_stream.specs.Stream.{Stream, letters, IsPart, Extends}
+use Rattle.cf_outq.specs.SendQueue.{Queue, Stands, IsPiece, piece_letters, carried, IsUnacked}
+use Rattle.cf_outq.specs.declared.piece.Piece.{Piece}
+
+module _ (q : Queue) (w whole : Stream) (h : Stands q w) (x : Extends w whole) where
+  stays_long : length w.bytes ≤ length whole.bytes
+  stays_long = rw x.bytes (omega (arith, length-append w.bytes x.more))
+
+  module _ (mss from limit : ℕ) (p : Piece) (inside : from ≤ q.pushed) (i : IsPiece q mss from limit p) where
+    at_from : natural p.at ≡ from
+    at_from = ap natural i.at
+
+    pub piece_is_part : IsPart whole (natural p.at) p.len p.end
+    piece_is_part = record {
+      inside = rw at_from (omega (arith, stays_long, i.len, h.pushed));
+      at_end = λ e.
+          (let f = (i.end).0 e in
+          let ended : w.ended ≡ true = sym h.ended ∙ f.0 in
+          let same : w ≡ whole = sym (x.ended ended) in (
+            ap (λ (s : Stream). s.ended) (sym same) ∙ ended,
+            rw at_from (f.1 ∙ h.pushed ∙ ap (λ (s : Stream). length s.bytes) same),
+          ));
+    }
+
+    pub letters-piece : letters (carried whole p) ≡ take (piece_letters p) (drop from (letters whole))
+    letters-piece = letters-part whole (natural p.at) p.len p.end piece_is_part ∙ ap (λ (n : ℕ). take (piece_letters p) (drop n (letters whole))) at_from
+
+-- a place that is not before the first letter is its number
+natural_from : (a : ℕ) (z : ℤ) → pos a ≤ℤ z → z ≡ pos (natural z)
+natural_from a (pos n) h = refl
+natural_from a (negsuc n) h = absurd (omega (arith, ints))
+
+module _ (q : Queue) (w whole : Stream) (h : Stands q w) (x : Extends w whole) (p : Piece) (u : IsUnacked q p) where
+  pub copied : take p.len (drop (natural p.at - q.acked) q.kept) ≡ (carried whole p).bytes
+  copied =
+      let at = natural_from q.acked p.at u.from in
+      let from : q.acked ≤ natural p.at = omega (arith, ints, at, u.from) in
+      let to : natural p.at + p.len ≤ length w.bytes = omega (arith, ints, at, u.to, h.pushed) in
+      let place : q.acked + (natural p.at - q.acked) ≡ natural p.at = omega arith in
+      let inside : natural p.at ≤ length w.bytes = omega arith in
+      let fits : p.len ≤ length (drop (natural p.at) w.bytes) = simp length-drop (omega arith) in
+      rw (h.kept, drop-drop, place, x.bytes, drop-append-le (natural p.at) w.bytes x.more inside)
+      (sym (take-append-le p.len (drop (natural p.at) w.bytes) x.more fits))

@@ -1,0 +1,12 @@
+//! The send queue of one TCP end: what is to be sent, what was sent, and what was acknowledged.
+#![tactic(auto)]
+
+mod laws;
+mod outq;
+mod piece;
+#[cfg(test)]
+mod tests;
+
+pub use laws::every_run;
+pub use outq::Outq;
+pub use piece::Piece;

@@ -1,0 +1,4 @@
+pub mod Extends
+pub mod FirstCopy
+pub mod Letters
+pub mod Taken

@@ -1,0 +1,3 @@
+pub mod FirstCopy
+pub mod Position
+pub mod Stream
