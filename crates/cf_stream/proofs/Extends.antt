@@ -1,5 +1,5 @@
 -- Streams that go on.
-use Rattle.std.proofs.Common.{◌≡◌, ℕ, Bool, true, false, List, [], ◌++◌, refl, sym, ◌∙◌, ap}
+use Rattle.std.proofs.Common.{◌≡◌, ℕ, false, List, [], ◌++◌, refl, sym, ◌∙◌, ap}
 use Rattle.std.proofs.lemmas.List.{append-nil, append_assoc}
 use Rattle.std.proofs.lemmas.Bool.{false≢true}
 use Rattle.cf_stream.specs.Stream.{Stream, Extends, with_bytes, with_end}
@@ -9,10 +9,10 @@ extends_none s = record { more = []; bytes = sym (append-nil s.bytes); ended = �
 
 pub extends_both : (s t u : Stream) → Extends s t → Extends t u → Extends s u
 extends_both s t u h g = record {
-    more = h.more ++ g.more;
-    bytes = g.bytes ∙ ap (λ (xs : List ℕ). xs ++ g.more) h.bytes ∙ append_assoc s.bytes h.more g.more;
-    ended = λ e. (let same = h.ended e in g.ended (ap (λ (x : Stream). x.ended) same ∙ e) ∙ same);
-  }
+  more = h.more ++ g.more;
+  bytes = g.bytes ∙ ap (λ (xs : List ℕ). xs ++ g.more) h.bytes ∙ append_assoc s.bytes h.more g.more;
+  ended = λ e. (let same = h.ended e in g.ended (ap (λ (x : Stream). x.ended) same ∙ e) ∙ same);
+}
 
 pub extends_bytes : (s : Stream) (more : List ℕ) → s.ended ≡ false → Extends s (with_bytes s more)
 extends_bytes s more o = record { more = more; bytes = refl; ended = λ e. absurd (false≢true (sym o ∙ e)) }

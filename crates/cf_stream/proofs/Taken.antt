@@ -16,9 +16,9 @@ module _ (copy more : ℕ → Option Letter) (kept : (p : ℕ) (l : Letter) → 
   taken_length : length s.bytes ≤ length t.bytes
   taken_length =
       elim (cases_lt (length t.bytes) (length s.bytes)) [
-        inl v ↦ (let e = kept (length t.bytes) _ (h.bytes (length t.bytes) v) in
-          elim (cases_Bool t.ended) [ inl b ↦ (let f = g.ended b in cc) | inr b ↦ (let f = g.unfinished b in cc) ])
-      | inr v ↦ v
+        | inl v ↦ (let e = kept (length t.bytes) _ (h.bytes (length t.bytes) v) in
+            elim (cases_Bool t.ended) [ inl b ↦ (let f = g.ended b in cc) | inr b ↦ (let f = g.unfinished b in cc) ])
+        | inr v ↦ v
       ]
 
   taken_byte : (p : ℕ) → p < length s.bytes → get_or s.bytes p 0 ≡ get_or t.bytes p 0
@@ -31,8 +31,8 @@ module _ (copy more : ℕ → Option Letter) (kept : (p : ℕ) (l : Letter) → 
   taken_end : s.ended ≡ true → length t.bytes ≤ length s.bytes
   taken_end e =
       elim (cases_lt (length s.bytes) (length t.bytes)) [
-        inl v ↦ (let a = kept (length s.bytes) _ (h.ended e) in let b = g.bytes (length s.bytes) v in cc)
-      | inr v ↦ v
+        | inl v ↦ (let a = kept (length s.bytes) _ (h.ended e) in let b = g.bytes (length s.bytes) v in cc)
+        | inr v ↦ v
       ]
 
   taken_front : take (length s.bytes) t.bytes ≡ s.bytes
@@ -41,10 +41,10 @@ module _ (copy more : ℕ → Option Letter) (kept : (p : ℕ) (l : Letter) → 
       let e = length-take-le (length s.bytes) t.bytes n in
       same_lists (take (length s.bytes) t.bytes) s.bytes e
       (λ k d l.
-        let below : k < length s.bytes = omega (arith, e) in
-        let within : k < length t.bytes = omega (arith, n) in
-        get_or-take (length s.bytes) t.bytes k d below ∙ get_or_default t.bytes k d 0 within
-        ∙ sym (taken_byte k below) ∙ get_or_default s.bytes k 0 d below)
+      let below : k < length s.bytes = omega (arith, e) in
+      let within : k < length t.bytes = omega (arith, n) in
+      get_or-take (length s.bytes) t.bytes k d below ∙ get_or_default t.bytes k d 0 within
+      ∙ sym (taken_byte k below) ∙ get_or_default s.bytes k 0 d below)
 
   taken_same : s.ended ≡ true → t ≡ s
   taken_same e =
@@ -54,32 +54,32 @@ module _ (copy more : ℕ → Option Letter) (kept : (p : ℕ) (l : Letter) → 
       same_stream t s
       (sym (take_all (length s.bytes) t.bytes m) ∙ taken_front)
       (elim (cases_Bool t.ended) [
-        inl b ↦ b ∙ sym e
-      | inr b ↦ (let f = kept (length s.bytes) _ (h.ended e) in let u = g.unfinished b in let v = ap more size in cc)
+        | inl b ↦ b ∙ sym e
+        | inr b ↦ (let f = kept (length s.bytes) _ (h.ended e) in let u = g.unfinished b in let v = ap more size in cc)
       ])
 
   pub taken_extends : Extends s t
   taken_extends = record {
-      more = drop (length s.bytes) t.bytes;
-      bytes = sym (ap (λ (xs : List ℕ). xs ++ drop (length s.bytes) t.bytes) (sym taken_front) ∙ take-append-drop (length s.bytes) t.bytes);
-      ended = taken_same;
-    }
+    more = drop (length s.bytes) t.bytes;
+    bytes = sym (ap (λ (xs : List ℕ). xs ++ drop (length s.bytes) t.bytes) (sym taken_front) ∙ take-append-drop (length s.bytes) t.bytes);
+    ended = taken_same;
+  }
 
 -- of the same copies one stream is taken
 pub same_taken : (copy : ℕ → Option Letter) (s t : Stream) → IsTaken copy s → IsTaken copy t → s ≡ t
 same_taken copy s t h g =
     let keep = λ (p : ℕ) (l : Letter) (e : copy p ≡ Some l). e in
     elim (cases_Bool s.ended) [
-      inl b ↦ sym (taken_same copy copy keep s t h g b)
-    | inr b ↦
-        elim (cases_Bool t.ended) [
-          inl d ↦ taken_same copy copy keep t s g h d
-        | inr d ↦
-            (let m = taken_length copy copy keep t s g h in
-            same_stream s t
-            (sym (taken_front copy copy keep s t h g) ∙ take_all (length s.bytes) t.bytes m)
-            (b ∙ sym d))
-        ]
+      | inl b ↦ sym (taken_same copy copy keep s t h g b)
+      | inr b ↦
+          elim (cases_Bool t.ended) [
+            | inl d ↦ taken_same copy copy keep t s g h d
+            | inr d ↦
+                (let m = taken_length copy copy keep t s g h in
+                same_stream s t
+                (sym (taken_front copy copy keep s t h g) ∙ take_all (length s.bytes) t.bytes m)
+                (b ∙ sym d))
+          ]
     ]
 
 -- the first n places have bytes
@@ -97,13 +97,13 @@ module _ (copy : ℕ → Option Letter) where
 
   begins_more : (n : ℕ) (b : Begins copy n) (x : ℕ) → copy n ≡ Some (Byte x) → Begins copy (n + 1)
   begins_more n b x e = record {
-      bytes = b.bytes ++ x ∷ [];
-      size = length_push b.bytes x ∙ ap (λ (k : ℕ). k + 1) b.size;
-      has = below_more (λ (p : ℕ). copy p ≡ Some (Byte (get_or (b.bytes ++ x ∷ []) p 0))) n
+    bytes = b.bytes ++ x ∷ [];
+    size = length_push b.bytes x ∙ ap (λ (k : ℕ). k + 1) b.size;
+    has = below_more (λ (p : ℕ). copy p ≡ Some (Byte (get_or (b.bytes ++ x ∷ []) p 0))) n
         (λ p l. let within : p < length b.bytes = omega (arith, b.size) in
-          b.has p l ∙ ap (λ (y : ℕ). Some (Byte y)) (sym (get_or_append_left b.bytes (x ∷ []) 0 p within)))
+        b.has p l ∙ ap (λ (y : ℕ). Some (Byte y)) (sym (get_or_append_left b.bytes (x ∷ []) 0 p within)))
         (e ∙ ap (λ (y : ℕ). Some (Byte y)) (sym (get_or_push b.bytes x 0 n b.size)));
-    }
+  }
 
   taken_next : (n : ℕ) (b : Begins copy n) (o : Option Letter) → copy n ≡ o → ((s : Stream) × IsTaken copy s) ⊎ Begins copy (n + 1)
   taken_next n b (Some (Byte x)) e = inr (begins_more n b x e)
@@ -113,12 +113,12 @@ module _ (copy : ℕ → Option Letter) where
   taken_up_to : (n : ℕ) → ((s : Stream) × IsTaken copy s) ⊎ Begins copy n
   taken_up_to zero = inr (record { bytes = []; size = refl; has = λ p l. absurd (omega arith) })
   taken_up_to (suc n) = rw (← add-one)
-    (elim (taken_up_to n) [ inl s ↦ inl s | inr b ↦ taken_next n b (copy n) refl ])
+      (elim (taken_up_to n) [ inl s ↦ inl s | inr b ↦ taken_next n b (copy n) refl ])
 
 pub some_taken : (offers : List Offer) → (s : Stream) × IsTaken (first_copy offers) s
 some_taken offers =
     let n = highest offers in
     elim (taken_up_to (first_copy offers) n) [
-      inl s ↦ s
-    | inr b ↦ taken_so_far (first_copy offers) n b false (λ d. absurd (false≢true d)) (λ _. first_copy_past offers n (omega arith))
+      | inl s ↦ s
+      | inr b ↦ taken_so_far (first_copy offers) n b false (λ d. absurd (false≢true d)) (λ _. first_copy_past offers n (omega arith))
     ]

@@ -4,6 +4,6 @@
 mod laws;
 
 pub use laws::{
-    first_copies_stay, letters_stay, letters_stand_in_order, parts_carry, positions_ahead, positions_behind, positions_near, streams_go_on,
-    taken_exists, taken_is_one, taken_only_grows,
+    first_copies_stay, letters_stand_in_order, letters_stay, parts_carry, positions_ahead,
+    positions_behind, positions_near, streams_go_on, taken_exists, taken_is_one, taken_only_grows,
 };

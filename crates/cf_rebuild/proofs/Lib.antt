@@ -1,0 +1,5 @@
+mod Places
+mod Flat
+mod Offers
+mod Runs
+mod Windows
