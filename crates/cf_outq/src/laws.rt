@@ -1,7 +1,7 @@
 //! What holds of a queue over every list of calls from `new` on.
-ghost use Rattle.std.specs.Prelude.{◌≡◌, ℕ, ◌≤◌, List, ◌∷◌, take, min, Option, None};
+ghost use Rattle.std.specs.Prelude.{◌≡◌, ℕ, List, [], ◌∷◌, ◌++◌, take, min, None};
 ghost use Rattle.cf_stream.specs.Stream.{letters, letter_count};
-ghost use Rattle.cf_outq.specs.SendQueue.{Stands};
+ghost use Rattle.cf_outq.specs.SendQueue.{Queue, Stands, after_push};
 ghost use Rattle.cf_outq.specs.Calls.{QueueCall, NextPiece, after, IsRun, pushed_by, sent_by, Repeats};
 
 /// Over every list of calls the queue stands for all that was pushed. The new pieces carry its letters in order, each
@@ -12,4 +12,10 @@ pub fn every_run()
     ensures once { (calls : List QueueCall) → IsRun calls → sent_by (pushed_by calls) calls ≡ take (after calls).sent (letters (pushed_by calls)) }
     ensures stops { (calls : List QueueCall) (mss : ℕ) → IsRun (NextPiece mss None ∷ calls) → (after calls).sent ≡ min (after calls).shown (letter_count (pushed_by calls)) }
     ensures repeats { (calls : List QueueCall) → IsRun calls → Repeats (pushed_by calls) calls }
+{}
+
+/// Bytes pushed in two calls are pushed as in one, and pushing none changes nothing.
+pub fn pushes_join()
+    ensures none { (q : Queue) → after_push q [] ≡ q }
+    ensures both { (q : Queue) (xs ys : List ℕ) → after_push (after_push q xs) ys ≡ after_push q (xs ++ ys) }
 {}

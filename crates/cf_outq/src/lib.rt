@@ -7,6 +7,6 @@ mod piece;
 #[cfg(test)]
 mod tests;
 
-pub use laws::every_run;
+pub use laws::{every_run, pushes_join};
 pub use outq::Outq;
 pub use piece::Piece;

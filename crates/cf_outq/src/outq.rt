@@ -1,5 +1,5 @@
 //! The queue over a ring of bytes.
-ghost use Rattle.std.specs.Prelude.{◌≡◌, ◌+◌, ◌-◌, ◌^◌, ◌<◌, ◌≤◌, ◌++◌, ◌↔◌, IfOk, IfSome, IsNone, false, length, min, take, drop, pos, ◌≤ℤ◌, ◌+ℤ◌};
+ghost use Rattle.std.specs.Prelude.{◌≡◌, ◌+◌, ◌-◌, ◌^◌, ◌<◌, ◌≤◌, ◌↔◌, IfOk, IfSome, IsNone, false, length, min, take, drop, pos, ◌≤ℤ◌};
 ghost use Rattle.cf_stream.specs.Position.{natural};
 ghost use Rattle.cf_stream.specs.Stream.{Stream, no_letters, with_bytes, with_end, Carries};
 ghost use Rattle.cf_outq.specs.SendQueue.{IsQueue, Stands, IsAnswer, IsUnacked, queue_length, piece_letters, carried, empty, after_push, after_end, after_shown, after_acked, after_sent};

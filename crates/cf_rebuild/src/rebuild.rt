@@ -1,5 +1,5 @@
 //! The window over a flat array of places.
-ghost use Rattle.std.specs.Prelude.{◌≡◌, ℕ, ◌+◌, ◌-◌, ◌^◌, ◌≤◌, IfOk, List, [], ◌∷◌, length, drop, pos, negsuc, ◌≤ℤ◌};
+ghost use Rattle.std.specs.Prelude.{◌≡◌, ◌+◌, ◌-◌, ◌^◌, ◌≤◌, IfOk, List, [], ◌∷◌, length, drop, pos, negsuc, ◌≤ℤ◌};
 ghost use Rattle.cf_stream.specs.FirstCopy.{Offer, first_copy, IsTaken};
 ghost use Rattle.cf_stream.specs.Position.{natural};
 ghost use Rattle.cf_stream.specs.Stream.{Stream, letter_count, Extends};

@@ -1,6 +1,6 @@
 //! Laws of the definitions. A law is a function with nothing to do: what it ensures holds of every stream, every list of
 //! offers and every number.
-ghost use Rattle.std.specs.Prelude.{◌≡◌, ℕ, ◌+◌, ◌^◌, ◌<◌, ◌≤◌, ◌++◌, if◌then◌else◌, Bool, false, List, length, take, drop, slice_get, Option, ℤ, pos, ◌+ℤ◌, ◌≤ℤ◌, ◌<ℤ◌};
+ghost use Rattle.std.specs.Prelude.{◌≡◌, ℕ, ◌+◌, ◌^◌, ◌<◌, ◌≤◌, ◌++◌, if◌then◌else◌, Bool, false, List, length, take, drop, slice_get, Option, ℤ, pos, negsuc, ◌+ℤ◌, ◌≤ℤ◌, ◌<ℤ◌};
 ghost use Rattle.cf_stream.specs.Stream.{Stream, Letter, letter_at, letter_count, letters, part, IsPart, Carries, Extends, with_bytes, with_end};
 ghost use Rattle.cf_stream.specs.FirstCopy.{Offer, first_copy, IsTaken};
 ghost use Rattle.cf_stream.specs.Position.{sequence_number, position};
@@ -45,6 +45,11 @@ pub fn taken_is_one()
     ensures { (copy : ℕ → Option Letter) (s t : Stream) → IsTaken copy s → IsTaken copy t → s ≡ t }
 {}
 
+/// Each letter that is taken is the first copy at its place.
+pub fn taken_letters_are_copies()
+    ensures { (copy : ℕ → Option Letter) (s : Stream) (p : ℕ) (l : Letter) → IsTaken copy s → letter_at s p ≡ Some l → copy p ≡ Some l }
+{}
+
 /// Further offers only extend what was taken.
 pub fn taken_only_grows()
     ensures { (newer earlier : List Offer) (s t : Stream) → IsTaken (first_copy earlier) s → IsTaken (first_copy (newer ++ earlier)) t → Extends s t }
@@ -65,4 +70,11 @@ pub fn positions_near()
     ensures number { (number origin base p : ℕ) → number < 2 ^ 32 → position number origin base ≡ pos p → sequence_number origin p ≡ number }
     ensures before { (number origin base : ℕ) → number < 2 ^ 32 → pos base ≤ℤ (position number origin base +ℤ pos (2 ^ 31)) }
     ensures past { (number origin base : ℕ) → number < 2 ^ 32 → position number origin base <ℤ pos (base + 2 ^ 31) }
+{}
+
+/// Two sequence numbers read by hand about the base 2^30 with the origin 1000: that of the base itself, 1001 + 2^30, and
+/// that of the SYN, which stands before the first letter.
+pub fn positions_by_hand()
+    ensures base { position 1073742825 1000 1073741824 ≡ pos 1073741824 }
+    ensures before { position 1000 1000 1073741824 ≡ negsuc 0 }
 {}
