@@ -1,8 +1,9 @@
 -- What a piece carries of the stream that its queue stands for, and of every stream that goes on from there.
-use Rattle.std.proofs.Common.{◌≡◌, ℕ, ◌+◌, ◌-◌, ◌≤◌, ℤ, pos, negsuc, ◌≤ℤ◌, true, length, take, drop, refl, sym, ◌∙◌, ap, arith}
+use Rattle.std.proofs.Common.{◌≡◌, ℕ, ◌+◌, ◌-◌, ◌≤◌, true, length, take, drop, sym, ◌∙◌, ap, arith}
 use Rattle.std.proofs.lemmas.List.{length-append, length-drop, drop-append-le, take-append-le, drop-drop}
 use Rattle.std.proofs.lemmas.Int.{ints}
 use Rattle.cf_stream.proofs.Letters.{letters-part}
+use Rattle.cf_stream.proofs.Natural.{natural_from}
 use Rattle.cf_stream.specs.Position.{natural}
 use Rattle.cf_stream.specs.Stream.{Stream, letters, IsPart, Extends}
 use Rattle.cf_outq.specs.SendQueue.{Queue, Stands, IsPiece, piece_letters, carried, IsUnacked}
@@ -30,11 +31,6 @@ module _ (q : Queue) (w whole : Stream) (h : Stands q w) (x : Extends w whole) w
 
     pub letters-piece : letters (carried whole p) ≡ take (piece_letters p) (drop from (letters whole))
     letters-piece = letters-part whole (natural p.at) p.len p.end piece_is_part ∙ ap (λ (n : ℕ). take (piece_letters p) (drop n (letters whole))) at_from
-
--- a place that is not before the first letter is its number
-natural_from : (a : ℕ) (z : ℤ) → pos a ≤ℤ z → z ≡ pos (natural z)
-natural_from a (pos n) h = refl
-natural_from a (negsuc n) h = absurd (omega (arith, ints))
 
 module _ (q : Queue) (w whole : Stream) (h : Stands q w) (x : Extends w whole) (p : Piece) (u : IsUnacked q p) where
   pub copied : take p.len (drop (natural p.at - q.acked) q.kept) ≡ (carried whole p).bytes

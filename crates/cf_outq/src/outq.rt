@@ -1,7 +1,7 @@
 //! The queue over a ring of bytes.
 ghost use Rattle.std.specs.Prelude.{◌≡◌, ◌+◌, ◌-◌, ◌^◌, ◌<◌, ◌≤◌, ◌↔◌, IfOk, IfSome, IsNone, false, length, min, take, drop, pos, ◌≤ℤ◌};
 ghost use Rattle.cf_stream.specs.Position.{natural};
-ghost use Rattle.cf_stream.specs.Stream.{Stream, no_letters, with_bytes, with_end, Carries};
+ghost use Rattle.cf_stream.specs.Stream.{Stream, letter_count, no_letters, with_bytes, with_end, Carries};
 ghost use Rattle.cf_outq.specs.SendQueue.{IsQueue, Stands, IsAnswer, IsUnacked, queue_length, piece_letters, carried, empty, after_push, after_end, after_shown, after_acked, after_sent};
 
 use crate::piece::Piece;
@@ -66,6 +66,7 @@ impl Outq {
     /// The number of letters ever pushed.
     pub fn length(&self) -> i64
         ensures value { result ≡ pos (queue_length self.now) }
+        ensures stands { (whole : Stream) → Stands self.now whole → result ≡ pos (letter_count whole) }
         ensures bounds { IsQueue self.now }
     {
         (self.pushed + u64::from(self.ended)) as i64
@@ -89,7 +90,8 @@ impl Outq {
 
     /// Whether End was pushed.
     pub fn is_ended(&self) -> bool
-        ensures { result ≡ self.now.ended }
+        ensures value { result ≡ self.now.ended }
+        ensures stands { (whole : Stream) → Stands self.now whole → result ≡ whole.ended }
     {
         self.ended
     }

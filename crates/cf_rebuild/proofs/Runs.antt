@@ -1,7 +1,8 @@
 -- Runs of a window.
-use Rattle.std.proofs.Common.{◌≡◌, ℕ, ◌+◌, ℤ, pos, negsuc, ◌≤ℤ◌, Bool, if◌then◌else◌, List, [], ◌∷◌, length, drop, refl, ◌∙◌, ap, arith}
+use Rattle.std.proofs.Common.{◌≡◌, ℕ, ◌+◌, Bool, if◌then◌else◌, List, [], ◌∷◌, length, drop, refl, ◌∙◌, ap, arith}
 use Rattle.std.proofs.lemmas.Int.{ints}
 use Rattle.cf_stream.proofs.Taken.{same_taken}
+use Rattle.cf_stream.proofs.Natural.{natural_from}
 use Rattle.cf_stream.specs.FirstCopy.{first_copy, IsTaken}
 use Rattle.cf_stream.specs.Position.{natural}
 use Rattle.cf_stream.specs.Stream.{Stream, letter_count}
@@ -9,18 +10,13 @@ use Rattle.cf_rebuild.specs.ReceiveWindow.{Window, IsWindow, Stands, base_of}
 use Rattle.cf_rebuild.specs.Calls.{WindowCall, Offered, Consumed, Opened, IsRun, edge_by, consumed_by, offers_by}
 use Rattle.cf_rebuild.proofs.Windows.{new_is_window, new_stands, window_after, stands_after, window_consumed, stands_consumed, window_opened, stands_opened}
 
--- an edge that is not below the old one is a number
-natural_edge : (a : ℕ) (z : ℤ) → pos a ≤ℤ z → z ≡ pos (natural z)
-natural_edge a (pos n) h = refl
-natural_edge a (negsuc n) h = absurd (omega (arith, ints, h))
-
 run_is_window : (calls : List WindowCall) (w : Window) → IsRun calls w → IsWindow w
 run_is_window [] w r = new_is_window w r
 run_is_window (Offered at text ∷ earlier) w r = window_after r.0 w _ (run_is_window earlier r.0 r.1) r.2 refl
 run_is_window (Consumed n ∷ earlier) w r = window_consumed r.0 w n r.2.0 r.2.1 (run_is_window earlier r.0 r.1)
 run_is_window (Opened edge ∷ earlier) w r =
     let h = run_is_window earlier r.0 r.1 in
-    let at = natural_edge r.0.edge edge r.2.0 in
+    let at = natural_from r.0.edge edge r.2.0 in
     rw r.2.4
     (window_opened r.0 (natural edge)
     (omega (arith, ints, at, r.2.0)) (omega (arith, ints, at, r.2.1)) (omega (arith, ints, at, r.2.2)) (omega (arith, ints, at, r.2.3)) h)

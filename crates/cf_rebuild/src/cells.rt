@@ -1,4 +1,4 @@
-//! Places that keep letters, as a mark and a byte each.
+//! Places that keep letters, as a mark and a byte each. Here they count from the front of the marks.
 ghost use Rattle.std.specs.Prelude.{◌≡◌, ℕ, ◌+◌, ◌^◌, ◌<◌, ◌≤◌, ◌≢◌, ◌⊎◌, true, false, IfOk, List, [], length, vec_len, take, drop, slice_index, slice_index_or, pos, negsuc, ◌≤ℤ◌, ◌+ℤ◌};
 ghost use Rattle.std.specs.Option.{option_or};
 ghost use Rattle.cf_stream.specs.FirstCopy.{offered};

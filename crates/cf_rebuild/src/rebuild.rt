@@ -15,7 +15,7 @@ const PLACES: usize = 32_768;
 
 /// What one TCP end has received: the first copy of each letter that was offered below the edge.
 ///
-/// Places count letters from 0, where the peer's SYN has the sequence number before. No call but `new` takes memory.
+/// Places count letters from 0, the one after the peer's SYN. No call but `new` takes memory.
 #[derive(Drop)]
 pub struct Rebuild {
     marks: Vec<Mark>,
