@@ -431,8 +431,9 @@ const REQUESTS: [Request; 66] = [
 fn each_request_has_its_fate(rt: HostRuntime) -> Result<(), TestFail> {
     let zeros = [0u8; 256];
     for &(policy, station, head, fill, exception, refusal) in &REQUESTS {
+        assert!(rt; fill < 256 && !head.is_empty());
         let len = head.len() + fill;
-        assert!(rt; len <= 253 && fill < 256 && !head.is_empty());
+        assert!(rt; len <= 253);
         let mut stream = vec![in rt.alloc(); 0x00, 0x07, 0x00, 0x00, 0x00, len as u8 + 1, station]?;
         stream.extend_from_slice(head)?;
         stream.extend_from_slice(&zeros[..fill])?;
