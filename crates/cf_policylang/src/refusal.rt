@@ -129,7 +129,7 @@ impl fmt::Display for PolicyRefusal {
 }
 
 /// Why no policy was read.
-#[derive(Debug, Drop, Error)]
+#[derive(Clone, Copy, PartialEq, Eq, Debug, Error)]
 pub enum PolicyFault {
     /// Memory ran out.
     #[error("out of memory")]

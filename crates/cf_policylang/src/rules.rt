@@ -1,10 +1,11 @@
 //! The rules of an asset.
-ghost use Rattle.std.specs.Prelude.{◌≡◌, ◌≤◌, [], IfOk, IsTrue, bytes_eq, length, vec_len};
+ghost use Rattle.std.specs.Prelude.{◌≡◌, ◌+◌, ◌<◌, ◌≤◌, [], IfOk, IsTrue, bytes_eq, length, vec_len};
 ghost use Rattle.std.specs.List.{list_any, list_all};
 ghost use Rattle.toml.specs.View.{view, table_view, array_view};
 ghost use Rattle.cf_policy.specs.Names.{is_name, is_name_byte, is_reserved};
 ghost use Rattle.cf_policylang.specs.Answers.{Answers, AnswersPlainly};
 ghost use Rattle.cf_policylang.specs.Rules.{name, is_rule_taken, rule_name, action_of, action, client_spans, code_spans, group_spans, point_spans, value_spans, rule, rules_from, rule_items, rules};
+ghost use Rattle.cf_policylang.specs.Tested.{at_rule};
 
 use crate::fields::{Kind, as_array_of, as_table, as_text, count, has_other, required, stated};
 use crate::lists::{Entries, optional_spans, spans};
@@ -196,12 +197,20 @@ fn rules_from(alloc: Global, asset: u32, array: &Array) -> Result<Rules, PolicyF
     let mut rules = Vec::new(alloc);
     for (index, value) in array.iter().enumerate() {
         let table = as_table(Key::Rule, Place::asset(asset), value)?;
-        let place = Place {
-            asset,
-            rule: index as u32 + 1,
-        };
+        let place = rule_place(asset, index);
         let rule = rule(alloc, place, rules.as_slice(), table)?;
         rules.push(rule)?;
     }
     Ok(Rules::new(rules))
+}
+
+/// The place of the rule at an index of its asset's array.
+fn rule_place(asset: u32, index: usize) -> Place
+    requires { index < 1024 }
+    ensures { result ≡ at_rule asset (index + 1) }
+{
+    Place {
+        asset,
+        rule: index as u32 + 1,
+    }
 }
