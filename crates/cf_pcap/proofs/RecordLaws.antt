@@ -1,9 +1,11 @@
--- A record that is written is read again.
-use Rattle.std.proofs.Common.{◌≡◌, ℕ, ◌+◌, ◌-◌, ◌*◌, ◌^◌, ◌<◌, ◌≤◌, List, ◌++◌, length, slice_range, refl, arith}
+-- A record that is written is read again, and what stands at a place of a file.
+use Rattle.std.proofs.Common.{◌≡◌, ℕ, ◌+◌, ◌-◌, ◌*◌, ◌^◌, ◌<◌, ◌≤◌, List, ◌++◌, length, slice_range, nat_eq, nat_lt, false, inl, inr, refl, arith}
 use Rattle.std.proofs.lemmas.List.{length-append}
 use Rattle.std.proofs.Math.Seq.{take-append_seam}
+use Rattle.std.proofs.lemmas.Bool.{cases_Bool}
 use Rattle.std.proofs.lemmas.Bool.Decides.{nat_tests}
 use Rattle.cf_pcap.specs.declared.header.Header.{Header}
+use Rattle.cf_pcap.specs.Files.{front_at, front_of, is_past}
 use Rattle.cf_pcap.specs.Captures.{Whole, captured_at, stamp_at, record_of, head_octets, output_header}
 
 -- a record whose octets are all there
@@ -23,3 +25,21 @@ written_again out moment len a b e body rest l =
     let front : slice_range xs 16 (16 + len) ≡ body = rw size (take-append_seam body rest) in
     let read = whole_record output_header xs (omega arith) (omega arith) (omega arith) in
     rw (e, read, captured, stamp, front) refl
+
+-- what stands at a place of a file that ends at place 2^40 or before
+pub fronts : (h : Header) (xs : List ℕ) (place : ℕ) → 0 < length xs → place + length xs ≤ 2 ^ 40 → front_at h place xs ≡ front_of (record_of h xs)
+fronts h xs place a b =
+    let size = 16 + captured_at h xs in
+    let some : nat_eq (length xs) 0 ≡ false = grind (arith, nat_tests) in
+    let head : is_past place 16 xs ≡ false = grind (arith, nat_tests) in
+    let body : is_past place size xs ≡ false = grind (arith, nat_tests) in
+    elim (cases_Bool (nat_lt (length xs) 16)) as (λ _. front_at h place xs ≡ front_of (record_of h xs)) [
+      | inl e ↦ rw (some, head, e) refl
+      | inr e ↦ elim (cases_Bool (nat_lt 262144 (captured_at h xs))) as (λ _. front_at h place xs ≡ front_of (record_of h xs)) [
+        | inl f ↦ rw (some, head, e, f) refl
+        | inr f ↦ elim (cases_Bool (nat_lt (length xs) size)) as (λ _. front_at h place xs ≡ front_of (record_of h xs)) [
+          | inl g ↦ rw (some, head, e, f, body, g) refl
+          | inr g ↦ rw (some, head, e, f, body, g) refl
+        ]
+      ]
+    ]

@@ -1,6 +1,6 @@
 -- Capture files in the classic pcap format. draft-ietf-opsawg-pcap, sections 4 and 5, from where the names come; what
 -- is not of the draft is named as this project's own.
-use Rattle.std.specs.Prelude.{ℕ, ◌+◌, ◌*◌, ◌/◌, ◌%◌, ◌==◌, nat_lt, not, Bool, true, false, ◌&&◌, ◌||◌, if◌then◌else◌, List, ◌++◌, length, slice_range, Result, Ok, Err}
+use Rattle.std.specs.Prelude.{ℕ, ◌≤◌, ◌+◌, ◌*◌, ◌/◌, ◌%◌, ◌==◌, nat_lt, not, Bool, true, false, ◌&&◌, ◌||◌, if◌then◌else◌, List, ◌++◌, length, slice_range, Result, Ok, Err}
 use Rattle.cf_view.specs.Octets.{u16_be_at, u16_le_at, u32_be_at, u32_le_at, u16_le_octets, u32_le_octets}
 use Rattle.cf_view.specs.declared.LinkKind.TheVariants as link
 use Rattle.cf_pcap.specs.declared.header.Header.{Header}
@@ -80,6 +80,11 @@ abbrev pub record_seen : RecordAnswer → RecordOf
 record_seen (answer.Whole stamp body used) = Whole stamp body.now used
 record_seen (answer.Need size) = Need size
 record_seen answer.TooLong = TooLong
+
+-- a record takes its head and no more than the octets that are there
+abbrev pub IsInside : RecordOf → ℕ → Type 0
+IsInside (Whole stamp body used) count = (16 ≤ used) × (used ≤ count)
+IsInside other count = Unit {0}
 
 -- the header of the files that are written: little-endian, microseconds, version 2.4, zone 0, accuracy 0, snap length
 -- 262,144, raw IP. This project's own choice

@@ -1,7 +1,7 @@
 -- The records of a whole capture file.
 use Rattle.std.specs.Prelude.{◌≡◌, ℕ, ◌+◌, ◌*◌, ◌^◌, nat_lt, ◌==◌, min, Bool, if◌then◌else◌, List, [], ◌∷◌, length, drop, slice_range}
 use Rattle.cf_pcap.specs.declared.header.Header.{Header}
-use Rattle.cf_pcap.specs.Captures.{captured_at, stamp_at}
+use Rattle.cf_pcap.specs.Captures.{RecordOf, Whole, Need, TooLong as NotAllowed, captured_at, stamp_at}
 
 -- a record of a file
 pub record Record : Type 0 where
@@ -37,6 +37,12 @@ front_at header place octets =
     else if nat_lt (length octets) size then Cut
     else Fits (record { stamp = stamp_at header octets; body = slice_range octets 16 size }) size
 
+-- what stands at a place, by the answer about the record there
+abbrev pub front_of : RecordOf → Front
+front_of (Whole stamp body used) = Fits (record { stamp = stamp; body = body }) used
+front_of (Need size) = Cut
+front_of NotAllowed = TooLong
+
 -- the last test: the moment is below 2^32 seconds
 abbrev pub timed : Front → Front
 timed (Fits r used) = if nat_lt r.stamp (2 ^ 32 * 1000000) then Fits r used else Clock
@@ -60,3 +66,14 @@ abbrev pub AreRecords : (front : ℕ → List ℕ → Front) → ℕ → List �
 AreRecords front place octets [] ending = (ending.place ≡ place) × (front place octets ≡ ending.front) × IsEnd ending.front
 AreRecords front place octets (r ∷ rs) ending =
     (used : ℕ) × (front place octets ≡ Fits r used) × AreRecords front (place + used) (drop used octets) rs ending
+
+-- octets at any place of a file have records and an ending
+abbrev pub HaveRecords : (Header → ℕ → List ℕ → Front) → Type 0
+HaveRecords front =
+    (header : Header) (place : ℕ) (octets : List ℕ) → (rs : List Record) × (ending : Ending) × AreRecords (front header) place octets rs ending
+
+-- and no others
+abbrev pub HaveOneList : Type 0
+HaveOneList =
+    (front : ℕ → List ℕ → Front) (place : ℕ) (octets : List ℕ) (rs ss : List Record) (e f : Ending) →
+    AreRecords front place octets rs e → AreRecords front place octets ss f → (rs ≡ ss) × (e ≡ f)

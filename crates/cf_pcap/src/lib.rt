@@ -8,5 +8,5 @@ mod tests;
 mod write;
 
 pub use header::{Header, HeaderRefusal, read_header};
-pub use record::{RecordAnswer, read_record};
+pub use record::{RecordAnswer, octets_have_one_list_of_records, read_record};
 pub use write::{write_header, write_record_head};

@@ -1,6 +1,7 @@
 //! The records of a capture file.
-ghost use Rattle.std.specs.Prelude.{◌≡◌, ◌+◌, ◌≤◌, length};
-ghost use Rattle.cf_pcap.specs.Captures.{record_of, record_seen, stamp_at, captured_at};
+ghost use Rattle.std.specs.Prelude.{◌≡◌, ℕ, ◌+◌, ◌^◌, ◌<◌, ◌≤◌, length};
+ghost use Rattle.cf_pcap.specs.Captures.{IsInside, record_of, record_seen, stamp_at, captured_at};
+ghost use Rattle.cf_pcap.specs.Files.{HaveOneList, HaveRecords, front_at, front_of, timed_front_at};
 
 use crate::header::{Header, u32_at};
 use cf_view::View;
@@ -28,8 +29,13 @@ pub enum RecordAnswer<'a> {
 
 /// The record that begins the octets, in a file with this header. draft-ietf-opsawg-pcap, section 5; the original
 /// length is not used.
+#[tactic(auto, using(crate::proofs::RecordLaws::fronts))]
 pub fn read_record<'a>(header: &Header, bytes: &'a [u8]) -> RecordAnswer<'a>
-    ensures { record_seen result ≡ record_of header.now bytes.now }
+    ensures value { record_seen result ≡ record_of header.now bytes.now }
+    ensures inside { IsInside (record_seen result) (length bytes.now) }
+    // Of a file's octets it is what stands at their place, while that file ends at place 2^40 or before.
+    ensures front { (place : ℕ) → 0 < length bytes.now → place + length bytes.now ≤ 2 ^ 40
+        → front_at header.now place bytes.now ≡ front_of (record_seen result) }
 {
     if bytes.len() < 16 {
         return RecordAnswer::Need(16);
@@ -64,3 +70,10 @@ fn stamp(header: &Header, head: &View<'_>) -> u64
     };
     u64::from(seconds) * 1_000_000 + u64::from(micros)
 }
+
+/// A law: the octets at a place of a file have one list of records, with one ending. The call does nothing.
+pub fn octets_have_one_list_of_records()
+    ensures some { HaveRecords front_at }
+    ensures timed { HaveRecords timed_front_at }
+    ensures one { HaveOneList }
+{}

@@ -1,0 +1,78 @@
+-- The header of an IPv4 packet. RFC 791, section 3.1.
+use Rattle.std.specs.Prelude.{ℕ, ◌*◌, ◌/◌, ◌%◌, ◌==◌, nat_lt, not, Bool, ◌&&◌, ◌||◌, if◌then◌else◌, List, length, take, drop, slice_index, slice_range, Option, Some, None}
+use Rattle.cf_view.specs.Octets.{u16_be_at, u32_be_at}
+use Rattle.cf_view.specs.declared.LinkKind.{LinkKind}
+use Rattle.cf_view.specs.declared.LinkKind.TheVariants as link
+use Rattle.cf_packet.specs.Checksum.{is_right}
+use Rattle.cf_packet.specs.declared.packet.PacketRefusal.{PacketRefusal}
+use Rattle.cf_packet.specs.declared.packet.PacketRefusal.TheVariants as refusal
+
+-- what stands behind the Ethernet header of 14 octets, if its type is that of IPv4. RFC 894
+abbrev pub ethernet_payload : List ℕ → Option (List ℕ)
+ethernet_payload octets =
+    if nat_lt (length octets) 14 then None
+    else if u16_be_at octets 12 == 0x0800 then Some (drop 14 octets)
+    else None
+
+-- the packet in the octets of a record
+abbrev pub payload : LinkKind → List ℕ → Option (List ℕ)
+payload link.Ethernet octets = ethernet_payload octets
+payload link.RawIp octets = Some octets
+
+abbrev pub version : List ℕ → ℕ
+version packet = slice_index packet 0 / 16
+
+-- the internet header length, in words of four octets, and in octets
+abbrev pub ihl : List ℕ → ℕ
+ihl packet = slice_index packet 0 % 16
+
+abbrev pub header_length : List ℕ → ℕ
+header_length packet = ihl packet * 4
+
+abbrev pub total_length : List ℕ → ℕ
+total_length packet = u16_be_at packet 2
+
+-- the third of the three flags, and the 13 bits behind them
+abbrev pub more_fragments : List ℕ → ℕ
+more_fragments packet = u16_be_at packet 6 / 8192 % 2
+
+abbrev pub fragment_offset : List ℕ → ℕ
+fragment_offset packet = u16_be_at packet 6 % 8192
+
+abbrev pub protocol : List ℕ → ℕ
+protocol packet = slice_index packet 9
+
+abbrev pub source_address : List ℕ → ℕ
+source_address packet = u32_be_at packet 12
+
+abbrev pub destination_address : List ℕ → ℕ
+destination_address packet = u32_be_at packet 16
+
+-- the data: octets past the total length are padding
+abbrev pub data_octets : List ℕ → List ℕ
+data_octets packet = slice_range packet (header_length packet) (total_length packet)
+
+-- the tests, in their order; this order is this project's own
+abbrev pub is_other_version : List ℕ → Bool
+is_other_version packet = nat_lt 0 (length packet) && not (version packet == 4)
+
+abbrev pub is_short : List ℕ → Bool
+is_short packet =
+    nat_lt (length packet) 20 || (nat_lt (length packet) (header_length packet) || nat_lt (length packet) (total_length packet))
+
+abbrev pub is_bad_header : List ℕ → Bool
+is_bad_header packet = nat_lt (ihl packet) 5 || nat_lt (total_length packet) (header_length packet)
+
+abbrev pub is_fragment : List ℕ → Bool
+is_fragment packet = not (more_fragments packet == 0) || not (fragment_offset packet == 0)
+
+-- the first test that the header fails, if it fails one
+abbrev pub header_refusal : List ℕ → Option PacketRefusal
+header_refusal packet =
+    if is_other_version packet then Some refusal.NotIpv4
+    else if is_short packet then Some refusal.Short
+    else if is_bad_header packet then Some refusal.BadHeader
+    else if not (is_right (take (header_length packet) packet)) then Some refusal.BadHeaderSum
+    else if is_fragment packet then Some refusal.Fragment
+    else if not (protocol packet == 6) then Some refusal.NotTcp
+    else None

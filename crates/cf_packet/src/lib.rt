@@ -1,0 +1,18 @@
+//! TCP segments in IPv4 packets, read from the records of a capture and written.
+#![tactic(auto)]
+
+mod checksum;
+mod header;
+mod options;
+mod packet;
+mod read;
+mod segment;
+mod sequence;
+#[cfg(test)]
+mod tests;
+mod write;
+
+pub use packet::{ACK, FIN, PSH, Packet, PacketRefusal, RST, SYN, URG};
+pub use read::read_packet;
+pub use sequence::position;
+pub use write::write_packet;
