@@ -1,10 +1,8 @@
 -- What a policy that was read keeps: names and endpoints apart, and every number in its range.
-use Rattle.std.proofs.Common.{◌≡◌, ◌≢◌, ℕ, ◌+◌, ◌^◌, ◌<◌, ◌≤◌, ◌||◌, ◌==◌, nat_lt, ℤ, pos, Bool, true, false, if◌then◌else◌, List, [], ◌∷◌, ◌++◌, length, Option, Some, None, IfSome, Result, Ok, Err, IfOk, is_some, bytes_eq, subst, sym, ◌∙◌, ap, refl, arith, length-append}
+use Rattle.std.proofs.Common.{◌≡◌, ◌≢◌, ℕ, ◌+◌, ◌≤◌, nat_lt, ℤ, pos, Bool, true, false, if◌then◌else◌, List, [], ◌∷◌, ◌++◌, length, Option, Some, None, Result, Ok, Err, IfOk, is_some, bytes_eq, sym, ◌∙◌, ap, refl, arith, length-append}
 use Rattle.std.specs.List.{All, AllPairs, list_any}
 use Rattle.std.proofs.lemmas.Bool.{or_parts, true≢false}
 use Rattle.std.proofs.lemmas.Bool.Decides.{nat_tests}
-use Rattle.std.proofs.lemmas.Grind.{common_steps}
-use Rattle.std.proofs.lemmas.Int.{ints}
 use Rattle.std.proofs.lemmas.List.Elements.{All-cons, All-nil, All-push, All-weaker}
 use Rattle.std.proofs.lemmas.List.Quantifiers.{all_pairs_push}
 use Rattle.std.proofs.lemmas.Result.{IfOk-at_ok, IfOk-weaker}
@@ -18,7 +16,7 @@ use Rattle.cf_policy.specs.declared.policy.Protocol.TheVariants.{Modbus, Dnp3, I
 use Rattle.cf_policy.specs.declared.policy.Rule.{Rule}
 use Rattle.cf_policy.specs.declared.policy.Span.{Span}
 use Rattle.cf_policy.specs.Names.{is_name, is_reserved}
-use Rattle.cf_policy.specs.Within.{IsSpanWithin, AreSpansWithin, IsRuleWithin, AreRulesWithin, IsAssetWithin, AreAssetsWithin, IsWithin, highest_address, highest_code, highest_group, highest_point, lowest_value, highest_value, lowest_station, highest_station, highest_master}
+use Rattle.cf_policy.specs.Within.{IsSpanWithin, AreSpansWithin, IsRuleWithin, AreRulesWithin, IsAssetWithin, IsWithin, highest_address, highest_code, highest_group, highest_point, lowest_value, highest_value, lowest_station, highest_station, highest_master}
 use Rattle.cf_policylang.specs.declared.fields.Kind.TheVariants as kind
 use Rattle.cf_policylang.specs.declared.lists.Entries.TheVariants as entries
 use Rattle.cf_policylang.specs.declared.refusal.Key.{Key}
@@ -30,11 +28,11 @@ use Rattle.cf_policylang.specs.declared.refusal.PolicyRefusal.{PolicyRefusal}
 use Rattle.cf_policylang.specs.Answers.{Answers}
 use Rattle.cf_policylang.specs.Assets.{asset, asset_keys, asset_name, assets_from, asset_address, endpoint, is_asset_taken, is_endpoint_taken, is_same_endpoint, master, no_master, number_at, protocol}
 use Rattle.cf_policylang.specs.Documents.{document, document_keys, asset_items, meaning, toml_of, version}
-use Rattle.cf_policylang.specs.Fields.{as_text, as_number, as_table, as_array_of, count, has_other, required, stated, natural_in}
+use Rattle.cf_policylang.specs.Fields.{as_text, as_number, as_table, as_array_of, count, has_other, required, stated, natural_in, tables_from}
 use Rattle.cf_policylang.specs.Numbers.{address}
 use Rattle.cf_policylang.specs.Rules.{rule, rule_keys, rule_name, name, action, is_rule_taken, client_spans, code_spans, group_spans, point_spans, value_spans, rule_items, rules, rules_from}
-use Rattle.cf_policylang.specs.Tested.{Tested, and_then, or_refused, at_asset, at_document, at_rule}
-use Rattle.cf_policylang.proofs.Ranges.{and_then_if, and_then_any, unless_if, or_refused_if, IsNaturalIn, natural_in_if, address_if, IsCode, AreRead, address_entry_if, code_entry_if, number_entry_if, spans_if, optional_spans_if}
+use Rattle.cf_policylang.specs.Tested.{Tested, or_refused, at_asset, at_document, at_rule}
+use Rattle.cf_policylang.proofs.Ranges.{and_then_if, and_then_any, unless_if, or_refused_if, IsNaturalIn, natural_in_if, address_if, IsCode, AreRead as AreSpansRead, address_entry_if, code_entry_if, number_entry_if, spans_if, optional_spans_if}
 
 -- ---- names
 
@@ -58,6 +56,43 @@ name_if p ms =
     (λ d. and_then_any (λ text. is_name text ≡ true) (as_text key.Name p d) _
     (λ text. ok_if (λ t. is_name t ≡ true) (is_name text) text _ (λ e. e)))
 
+-- ---- lists that are read in order
+
+-- what was read so far, n in number: each keeps Each, and each is apart from those behind it
+record AreRead (n : ℕ) {X : Type 0} (Each : X → Type 0) (Apart : X → X → Type 0) (xs : List X) : Type 0 where
+  count : length xs ≡ n
+  each : All Each xs
+  apart : AllPairs Apart xs
+
+-- what comes behind those that were read
+record IsNext {X : Type 0} (Each : X → Type 0) (Apart : X → X → Type 0) (seen : List X) (x : X) : Type 0 where
+  within : Each x
+  apart : All (λ y. Apart y x) seen
+
+module _ {X : Type 0} (Each : X → Type 0) (Apart : X → X → Type 0) where
+  none_read : AreRead 0 Each Apart []
+  none_read = record { count = refl; each = All-nil Each; apart = λ i j d lt inside. absurd (omega arith) }
+
+  one_more : (n : ℕ) (xs : List X) (x : X) → AreRead n Each Apart xs → IsNext Each Apart xs x → AreRead (n + 1) Each Apart (xs ++ x ∷ [])
+  one_more n xs x h next =
+      record {
+        count = let long = h.count in omega (arith, length-append xs (x ∷ []));
+        each = All-push Each xs x h.each next.within;
+        apart = all_pairs_push Apart xs x h.apart next.apart;
+      }
+
+  module _ (k : Key) (p : Place) (read : ℕ → List X → Members → Tested X)
+      (keeps : (n : ℕ) (seen : List X) (ms : Members) → IfOk (read n seen ms) (IsNext Each Apart seen)) where
+    tables_from_if : (n : ℕ) (ds : Items) (seen : List X) → AreRead n Each Apart seen
+        → IfOk (tables_from k p read n ds seen) (AreRead (n + count ds) Each Apart)
+    tables_from_if n no_items seen h = record { count = let long = h.count in omega arith; each = h.each; apart = h.apart }
+    tables_from_if n (item d ds) seen h =
+        and_then_any (AreRead (n + (1 + count ds)) Each Apart) (as_table k p d) _
+        (λ ms. and_then_if (IsNext Each Apart seen) (AreRead (n + (1 + count ds)) Each Apart) (read (n + 1) seen ms) _ (keeps (n + 1) seen ms)
+        (λ x next. IfOk-weaker (tables_from k p read (n + 1) ds (seen ++ x ∷ [])) (AreRead ((n + 1) + count ds) Each Apart) (AreRead (n + (1 + count ds)) Each Apart)
+        (λ xs g. record { count = let long = g.count in omega arith; each = g.each; apart = g.apart })
+        (tables_from_if (n + 1) ds (seen ++ x ∷ []) (one_more n seen x h next))))
+
 -- ---- rules
 
 record IsRuleName (seen : List Rule) (text : List ℕ) : Type 0 where
@@ -78,28 +113,26 @@ rule_name_if p seen ms =
     }))
 
 -- a list that is read keeps the range of its numbers
-are_within : (low high : ℤ) (n : ℕ) (ss : List Span) → AreRead (IsSpanWithin low high) n ss → AreSpansWithin low high ss
+are_within : (low high : ℤ) (n : ℕ) (ss : List Span) → AreSpansRead (IsSpanWithin low high) n ss → AreSpansWithin low high ss
 are_within low high n ss h = record { count = h.count; each = h.each }
 
--- a rule behind those that were read
-record IsNextRule (seen : List Rule) (r : Rule) : Type 0 where
-  within : IsRuleWithin r
-  apart : All (λ s. s.name ≢ r.name) seen
+abbrev IsNextRule : List Rule → Rule → Type 0
+IsNextRule = IsNext IsRuleWithin (λ r s. r.name ≢ s.name)
 
 rule_if : (p : Place) (seen : List Rule) (ms : Members) → IfOk (rule p seen ms) (IsNextRule seen)
 rule_if p seen ms =
     unless_if (IsNextRule seen) (has_other rule_keys ms) _ _
     (λ _. and_then_if (IsRuleName seen) (IsNextRule seen) (rule_name p seen ms) _ (rule_name_if p seen ms)
     (λ own_name n. and_then_any (IsNextRule seen) (action p ms) _
-    (λ own_action. and_then_if (AreRead (IsSpanWithin (pos 0) highest_address) 0) (IsNextRule seen) (client_spans p ms) _
+    (λ own_action. and_then_if (AreSpansRead (IsSpanWithin (pos 0) highest_address) 0) (IsNextRule seen) (client_spans p ms) _
     (optional_spans_if (IsSpanWithin (pos 0) highest_address) entries.Addresses key.Clients p (address_entry_if key.Clients p) ms)
-    (λ own_clients cl. and_then_if (AreRead IsCode 1) (IsNextRule seen) (code_spans p ms) _
-    (and_then_any (AreRead IsCode 1) (required key.Codes p ms) _ (λ d. spans_if IsCode entries.Codes key.Codes p (code_entry_if key.Codes p) d))
-    (λ own_codes co. and_then_if (AreRead (IsSpanWithin (pos 0) highest_group) 0) (IsNextRule seen) (group_spans p ms) _
+    (λ own_clients cl. and_then_if (AreSpansRead IsCode 1) (IsNextRule seen) (code_spans p ms) _
+    (and_then_any (AreSpansRead IsCode 1) (required key.Codes p ms) _ (λ d. spans_if IsCode entries.Codes key.Codes p (code_entry_if key.Codes p) d))
+    (λ own_codes co. and_then_if (AreSpansRead (IsSpanWithin (pos 0) highest_group) 0) (IsNextRule seen) (group_spans p ms) _
     (optional_spans_if (IsSpanWithin (pos 0) highest_group) (entries.Numbers (pos 0) highest_group) key.Groups p (number_entry_if (pos 0) highest_group key.Groups p) ms)
-    (λ own_groups gr. and_then_if (AreRead (IsSpanWithin (pos 0) highest_point) 0) (IsNextRule seen) (point_spans p ms) _
+    (λ own_groups gr. and_then_if (AreSpansRead (IsSpanWithin (pos 0) highest_point) 0) (IsNextRule seen) (point_spans p ms) _
     (optional_spans_if (IsSpanWithin (pos 0) highest_point) (entries.Numbers (pos 0) highest_point) key.Points p (number_entry_if (pos 0) highest_point key.Points p) ms)
-    (λ own_points po. and_then_if (AreRead (IsSpanWithin lowest_value highest_value) 0) (IsNextRule seen) (value_spans p ms) _
+    (λ own_points po. and_then_if (AreSpansRead (IsSpanWithin lowest_value highest_value) 0) (IsNextRule seen) (value_spans p ms) _
     (optional_spans_if (IsSpanWithin lowest_value highest_value) (entries.Numbers lowest_value highest_value) key.Values p (number_entry_if lowest_value highest_value key.Values p) ms)
     (λ own_values va. record {
       within = record {
@@ -116,32 +149,6 @@ rule_if p seen ms =
       apart = n.apart;
     }))))))))
 
--- the rules that were read so far, n in number
-record AreReadRules (n : ℕ) (rs : List Rule) : Type 0 where
-  count : length rs ≡ n
-  each : All IsRuleWithin rs
-  names : AllPairs (λ r s. r.name ≢ s.name) rs
-
-no_rules : AreReadRules 0 []
-no_rules = record { count = refl; each = All-nil IsRuleWithin; names = λ i j d lt inside. absurd (omega arith) }
-
-one_more : (n : ℕ) (rs : List Rule) (r : Rule) → AreReadRules n rs → IsNextRule rs r → AreReadRules (n + 1) (rs ++ r ∷ [])
-one_more n rs r h next =
-    record {
-      count = let long = h.count in omega (arith, length-append rs (r ∷ []));
-      each = All-push IsRuleWithin rs r h.each next.within;
-      names = all_pairs_push (λ a b. a.name ≢ b.name) rs r h.names next.apart;
-    }
-
-rules_from_if : (a n : ℕ) (ds : Items) (seen : List Rule) → AreReadRules n seen → IfOk (rules_from a n ds seen) (AreReadRules (n + count ds))
-rules_from_if a n no_items seen h = record { count = let long = h.count in omega arith; each = h.each; names = h.names }
-rules_from_if a n (item d ds) seen h =
-    and_then_any (AreReadRules (n + (1 + count ds))) (as_table key.Rule (at_asset a) d) _
-    (λ ms. and_then_if (IsNextRule seen) (AreReadRules (n + (1 + count ds))) (rule (at_rule a (n + 1)) seen ms) _ (rule_if (at_rule a (n + 1)) seen ms)
-    (λ r next. IfOk-weaker (rules_from a (n + 1) ds (seen ++ r ∷ [])) (AreReadRules ((n + 1) + count ds)) (AreReadRules (n + (1 + count ds)))
-    (λ rs g. record { count = let long = g.count in omega arith; each = g.each; names = g.names })
-    (rules_from_if a (n + 1) ds (seen ++ r ∷ []) (one_more n seen r h next))))
-
 rule_items_if : (p : Place) (o : Option Data) → IfOk (rule_items p o) (λ ds. count ds ≤ 1024)
 rule_items_if p None = omega arith
 rule_items_if p (Some d) =
@@ -151,9 +158,10 @@ rule_items_if p (Some d) =
 rules_if : (a : ℕ) (ms : Members) → IfOk (rules a ms) AreRulesWithin
 rules_if a ms =
     and_then_if (λ ds. count ds ≤ 1024) AreRulesWithin (rule_items (at_asset a) (stated key.Rule ms)) _ (rule_items_if (at_asset a) (stated key.Rule ms))
-    (λ ds short. IfOk-weaker (rules_from a 0 ds []) (AreReadRules (0 + count ds)) AreRulesWithin
-    (λ rs h. record { count = let long = h.count in omega arith; each = h.each; names = h.names })
-    (rules_from_if a 0 ds [] no_rules))
+    (λ ds short. IfOk-weaker (rules_from a 0 ds []) (AreRead (0 + count ds) IsRuleWithin (λ r s. r.name ≢ s.name)) AreRulesWithin
+    (λ rs h. record { count = let long = h.count in omega arith; each = h.each; names = h.apart })
+    (tables_from_if IsRuleWithin (λ r s. r.name ≢ s.name) key.Rule (at_asset a) (λ m. rule (at_rule a m))
+    (λ m. rule_if (at_rule a m)) 0 ds [] (none_read IsRuleWithin (λ r s. r.name ≢ s.name))))
 
 -- ---- assets
 
@@ -217,11 +225,12 @@ master_if Dnp3 p ms =
     IfOk-weaker (number_at key.Master 0 65519 p ms) (IsNaturalIn 0 65519) (λ n. n ≤ 65519) (λ n h. h.below) (number_at_if key.Master 0 65519 p ms)
 master_if Iec104 p ms = no_master_if p ms
 
--- an asset behind those that were read
-record IsNextAsset (seen : List Asset) (a : Asset) : Type 0 where
-  within : IsAssetWithin a
-  name_apart : All (λ b. b.name ≢ a.name) seen
-  endpoint_apart : All (λ b. b.endpoint ≢ a.endpoint) seen
+-- two assets have different names and endpoints
+abbrev AreApart : Asset → Asset → Type 0
+AreApart a b = (a.name ≢ b.name) × (a.endpoint ≢ b.endpoint)
+
+abbrev IsNextAsset : List Asset → Asset → Type 0
+IsNextAsset = IsNext IsAssetWithin AreApart
 
 asset_if : (n : ℕ) (seen : List Asset) (ms : Members) → IfOk (asset n seen ms) (IsNextAsset seen)
 asset_if n seen ms =
@@ -246,44 +255,8 @@ asset_if n seen ms =
         master = ma;
         rules = ru;
       };
-      name_apart = na.apart;
-      endpoint_apart = en.apart;
+      apart = λ i d lt. (na.apart i d lt, en.apart i d lt);
     })))))))
-
--- the assets that were read so far, n in number
-record AreReadAssets (n : ℕ) (xs : List Asset) : Type 0 where
-  count : length xs ≡ n
-  each : All IsAssetWithin xs
-  names : AllPairs (λ a b. a.name ≢ b.name) xs
-  endpoints : AllPairs (λ a b. a.endpoint ≢ b.endpoint) xs
-
-no_assets : AreReadAssets 0 []
-no_assets =
-    record {
-      count = refl;
-      each = All-nil IsAssetWithin;
-      names = λ i j d lt inside. absurd (omega arith);
-      endpoints = λ i j d lt inside. absurd (omega arith);
-    }
-
-one_more_asset : (n : ℕ) (xs : List Asset) (a : Asset) → AreReadAssets n xs → IsNextAsset xs a → AreReadAssets (n + 1) (xs ++ a ∷ [])
-one_more_asset n xs a h next =
-    record {
-      count = let long = h.count in omega (arith, length-append xs (a ∷ []));
-      each = All-push IsAssetWithin xs a h.each next.within;
-      names = all_pairs_push (λ b c. b.name ≢ c.name) xs a h.names next.name_apart;
-      endpoints = all_pairs_push (λ b c. b.endpoint ≢ c.endpoint) xs a h.endpoints next.endpoint_apart;
-    }
-
-assets_from_if : (n : ℕ) (ds : Items) (seen : List Asset) → AreReadAssets n seen → IfOk (assets_from n ds seen) (AreReadAssets (n + count ds))
-assets_from_if n no_items seen h =
-    record { count = let long = h.count in omega arith; each = h.each; names = h.names; endpoints = h.endpoints }
-assets_from_if n (item d ds) seen h =
-    and_then_any (AreReadAssets (n + (1 + count ds))) (as_table key.Asset at_document d) _
-    (λ ms. and_then_if (IsNextAsset seen) (AreReadAssets (n + (1 + count ds))) (asset (n + 1) seen ms) _ (asset_if (n + 1) seen ms)
-    (λ a next. IfOk-weaker (assets_from (n + 1) ds (seen ++ a ∷ [])) (AreReadAssets ((n + 1) + count ds)) (AreReadAssets (n + (1 + count ds)))
-    (λ xs g. record { count = let long = g.count in omega arith; each = g.each; names = g.names; endpoints = g.endpoints })
-    (assets_from_if (n + 1) ds (seen ++ a ∷ []) (one_more_asset n seen a h next))))
 
 -- ---- documents
 
@@ -298,8 +271,14 @@ document_if ms =
     and_then_any IsWithin (version ms) _
     (λ _. unless_if IsWithin (has_other document_keys ms) _ _
     (λ _. and_then_if (λ ds. count ds ≤ 256) IsWithin (asset_items ms) _ (asset_items_if ms)
-    (λ ds short. and_then_if (AreReadAssets (0 + count ds)) IsWithin (assets_from 0 ds []) _ (assets_from_if 0 ds [] no_assets)
-    (λ xs h. record { count = let long = h.count in omega arith; each = h.each; names = h.names; endpoints = h.endpoints }))))
+    (λ ds short. and_then_if (AreRead (0 + count ds) IsAssetWithin AreApart) IsWithin (assets_from 0 ds []) _
+    (tables_from_if IsAssetWithin AreApart key.Asset at_document asset asset_if 0 ds [] (none_read IsAssetWithin AreApart))
+    (λ xs h. record {
+      count = let long = h.count in omega arith;
+      each = h.each;
+      names = λ i j d lt inside. (h.apart i j d lt inside).0;
+      endpoints = λ i j d lt inside. (h.apart i j d lt inside).1;
+    }))))
 
 meaning_if : (bytes : List ℕ) → IfOk (meaning bytes) IsWithin
 meaning_if bytes = and_then_any IsWithin (or_refused cause.NotToml key.Nothing at_document (toml_of bytes)) _ document_if

@@ -1,12 +1,11 @@
 -- Numbers as they are printed, and how `parse` reads them.
-use Rattle.std.proofs.Common.{◌≡◌, ℕ, zero, suc, ◌+◌, ◌^◌, ◌<◌, ◌≤◌, ◌==◌, ◌≢◌, ◌&&◌, ℤ, pos, negsuc, neg_ℤ, ◌≤ℤ◌, int_le, Bool, true, false, cond, ◌⊎◌, List, [], ◌∷◌, length, get_or, drop, Option, Some, None, option_and_then, Result, Ok, Err, bytes_eq, subst, sym, ◌∙◌, ap, refl, inl, inr, arith, rules, w64, FitsSigned}
+use Rattle.std.proofs.Common.{◌≡◌, ℕ, zero, suc, ◌^◌, ◌<◌, ◌==◌, ◌≢◌, ◌&&◌, ℤ, pos, negsuc, neg_ℤ, ◌≤ℤ◌, int_le, true, false, ◌⊎◌, List, [], ◌∷◌, length, get_or, Some, None, Result, Ok, Err, bytes_eq, subst, sym, ◌∙◌, ap, refl, inl, inr, arith, w64, FitsSigned}
 use mathlib.Core.Logic.{⊎_elim}
 use lib.Signed.{mag}
 use Rattle.std.specs.Fmt.{decimal, signed_decimal}
-use Rattle.std.specs.Str.Parse.{AllDigits, IsNumeral, ParsesSigned, digits_value, signed_digits_value, starts_with_minus, without_leading_plus, without_leading_sign}
-use Rattle.std.proofs.lemmas.Grind.{common_steps}
+use Rattle.std.specs.Str.Parse.{AllDigits, IsNumeral, ParsesSigned, digits_value, signed_digits_value, without_leading_sign}
 use Rattle.std.proofs.lemmas.Int.{ints}
-use Rattle.std.proofs.lemmas.Fmt.{decimal-digits_value, decimal_digit, decimal_is_IsNumeral, first_decimal, parse-signed_decimal}
+use Rattle.std.proofs.lemmas.Fmt.{decimal-digits_value, decimal_digit, first_decimal, parse-signed_decimal}
 use Rattle.std.proofs.lemmas.Bool.{true≢false}
 use Rattle.std.proofs.lemmas.Bool.Decides.{nat_tests}
 use Rattle.std.proofs.lemmas.Slice.Eq.{bytes_eq-Decides}

@@ -1,15 +1,14 @@
 -- The ranges that numbers, spans and lists keep that were read.
-use Rattle.std.proofs.Common.{◌≡◌, ℕ, zero, suc, ◌+◌, ◌*◌, ◌^◌, ◌<◌, ◌≤◌, ◌&&◌, nat_le, nat_lt, nat_eq, ℤ, pos, negsuc, nat_abs, ◌≤ℤ◌, int_le, Bool, true, false, if◌then◌else◌, List, [], ◌∷◌, ◌++◌, length, Option, Some, None, IfSome, option_map, option_and_then, codes, Result, Ok, Err, IfOk, subst, sym, ◌∙◌, ap, refl, inl, inr, arith, rules, length-append}
+use Rattle.std.proofs.Common.{◌≡◌, ℕ, ◌+◌, ◌≤◌, ◌&&◌, nat_le, nat_lt, nat_eq, ℤ, pos, negsuc, nat_abs, ◌≤ℤ◌, int_le, Bool, true, false, if◌then◌else◌, List, [], ◌∷◌, ◌++◌, length, Option, Some, None, IfSome, option_map, option_and_then, codes, Ok, Err, IfOk, refl, arith, length-append}
 use mathlib.Core.Logic.{⊎_elim}
 use Rattle.std.specs.List.{All}
 use Rattle.std.proofs.lemmas.Bool.Decides.{nat_tests}
-use Rattle.std.proofs.lemmas.Grind.{common_steps}
 use Rattle.std.proofs.lemmas.Int.{ints}
 use Rattle.std.proofs.lemmas.List.Elements.{All-nil, All-push}
 use Rattle.std.proofs.lemmas.Result.{IfOk-weaker}
-use Rattle.toml.specs.Data.{Data, string, integer, float, boolean, datetime, array, table, Items, no_items, item, Members}
+use Rattle.toml.specs.Data.{Data, Items, no_items, item, Members}
 use Rattle.cf_policy.specs.declared.policy.Span.{Span}
-use Rattle.cf_policy.specs.Within.{IsSpanWithin, AreSpansWithin, highest_address, highest_code}
+use Rattle.cf_policy.specs.Within.{IsSpanWithin, highest_address, highest_code}
 use Rattle.cf_policylang.specs.declared.lists.Entries.{Entries}
 use Rattle.cf_policylang.specs.declared.lists.Entries.TheVariants as entries
 use Rattle.cf_policylang.specs.declared.refusal.Key.{Key}

@@ -1,5 +1,5 @@
 -- TOML's tables and arrays beside the maps and vectors that the program has.
-use Rattle.std.proofs.Common.{◌≡◌, ℕ, ◌+◌, ◌<◌, Bool, true, false, not, ◌||◌, ◌&&◌, List, [], ◌∷◌, length, drop, get_or, map, Option, String, Vec, BTreeMap, Global, string_bytes, bytes_eq, refl, ap, ◌∙◌, arith, Bor}
+use Rattle.std.proofs.Common.{◌≡◌, not, ◌||◌, ◌&&◌, List, [], ◌∷◌, length, map, String, BTreeMap, Global, string_bytes, refl, ap, arith}
 use Rattle.std.specs.List.{list_any, list_all}
 use Rattle.std.specs.BTreeMap.{keys}
 use Rattle.toml.specs.View.{view, items_view, members_view, table_view}

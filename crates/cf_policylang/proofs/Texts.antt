@@ -1,5 +1,5 @@
 -- Texts in UTF-8 as TOML.
-use Rattle.std.proofs.Common.{◌≡◌, Bool, true, false, List, ℕ, Option, Some, None, Err, refl}
+use Rattle.std.proofs.Common.{◌≡◌, true, false, List, ℕ, Some, None, Err, refl}
 use Rattle.std.specs.Str.{IsUtf8, is_utf8}
 use Rattle.std.proofs.lemmas.Str.{IsUtf8-from_is_utf8, is_utf8-from_IsUtf8}
 use Rattle.toml.specs.Data.{Members}

@@ -1,7 +1,7 @@
 -- The assets of a policy. This project's own.
-use Rattle.std.specs.Prelude.{ℕ, ◌+◌, Bool, ◌&&◌, ◌==◌, is_some, if◌then◌else◌, List, [], ◌∷◌, ◌++◌, Option, Some, None, Ok, codes, bytes_eq}
+use Rattle.std.specs.Prelude.{ℕ, Bool, ◌&&◌, ◌==◌, is_some, if◌then◌else◌, List, [], ◌∷◌, Option, Some, None, Ok, codes, bytes_eq}
 use Rattle.std.specs.List.{list_any}
-use Rattle.toml.specs.Data.{Items, no_items, item, Members}
+use Rattle.toml.specs.Data.{Items, Members}
 use Rattle.cf_view.specs.declared.base.Endpoint.{Endpoint}
 use Rattle.cf_policy.specs.declared.policy.Asset.{Asset}
 use Rattle.cf_policy.specs.declared.policy.Protocol.{Protocol}
@@ -11,7 +11,7 @@ use Rattle.cf_policylang.specs.declared.refusal.Key.{Key}
 use Rattle.cf_policylang.specs.declared.refusal.Key.TheVariants as key
 use Rattle.cf_policylang.specs.declared.refusal.Cause.TheVariants as cause
 use Rattle.cf_policylang.specs.declared.refusal.Place.{Place}
-use Rattle.cf_policylang.specs.Fields.{as_text, as_number, as_table, has_other, required, stated, natural_in}
+use Rattle.cf_policylang.specs.Fields.{as_text, as_number, has_other, required, stated, natural_in, tables_from}
 use Rattle.cf_policylang.specs.Numbers.{address}
 use Rattle.cf_policylang.specs.Rules.{name, rules}
 use Rattle.cf_policylang.specs.Tested.{Tested, and_then, refused, or_refused, at_asset, at_document}
@@ -96,8 +96,4 @@ asset n seen ms =
 
 -- the assets in their order, behind n that were read
 abbrev pub assets_from : ℕ → Items → List Asset → Tested (List Asset)
-assets_from n no_items seen = Ok seen
-assets_from n (item d ds) seen =
-    and_then (as_table key.Asset at_document d) (λ ms.
-    and_then (asset (n + 1) seen ms) (λ a.
-    assets_from (n + 1) ds (seen ++ a ∷ [])))
+assets_from n ds seen = tables_from key.Asset at_document asset n ds seen

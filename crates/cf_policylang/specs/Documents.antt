@@ -1,11 +1,10 @@
 -- What the bytes of a policy's text mean: a policy, or the first refusal. This project's own; the text is TOML 1.1 in
 -- UTF-8.
-use Rattle.std.specs.Prelude.{◌≡◌, ℕ, ℤ, pos, Bool, true, false, nat_lt, if◌then◌else◌, List, [], ◌∷◌, length, Option, None, Ok}
+use Rattle.std.specs.Prelude.{ℕ, pos, nat_lt, if◌then◌else◌, List, [], ◌∷◌, length, Option, None, Ok}
 use Rattle.std.specs.Ordering.{int_eq}
 use Rattle.std.specs.Str.{is_utf8}
 use Rattle.toml.specs.Data.{Members, Items}
 use Rattle.toml.specs.Parse.{parse_document}
-use Rattle.cf_policy.specs.declared.policy.Asset.{Asset}
 use Rattle.cf_policy.specs.declared.policy.Policy.{Policy}
 use Rattle.cf_policylang.specs.declared.fields.Kind.TheVariants as kind
 use Rattle.cf_policylang.specs.declared.refusal.Key.{Key}

@@ -1,6 +1,6 @@
 -- The keys of a table and the kinds of their values, as they are tested. This project's own; tables and values are
 -- those of TOML 1.1.
-use Rattle.std.specs.Prelude.{ℕ, ◌+◌, ℤ, pos, negsuc, Bool, true, false, not, ◌&&◌, ◌||◌, nat_le, if◌then◌else◌, List, Option, Some, None, Ok, bytes_eq}
+use Rattle.std.specs.Prelude.{ℕ, ◌+◌, ℤ, pos, negsuc, Bool, true, false, not, ◌&&◌, ◌||◌, nat_le, if◌then◌else◌, List, [], ◌∷◌, ◌++◌, Option, Some, None, Ok, bytes_eq}
 use Rattle.std.specs.List.{list_any}
 use Rattle.toml.specs.Data.{Data, string, integer, array, table, Items, no_items, item, Members, no_members, member, get_member}
 use Rattle.cf_policylang.specs.declared.fields.Kind.{Kind}
@@ -9,7 +9,7 @@ use Rattle.cf_policylang.specs.declared.refusal.Key.{Key}
 use Rattle.cf_policylang.specs.declared.refusal.Cause.TheVariants as cause
 use Rattle.cf_policylang.specs.declared.refusal.Place.{Place}
 use Rattle.cf_policylang.specs.Keys.{key_text}
-use Rattle.cf_policylang.specs.Tested.{Tested, refused, or_refused}
+use Rattle.cf_policylang.specs.Tested.{Tested, and_then, refused, or_refused}
 
 -- the text is one of the keys
 abbrev pub is_among : List Key → List ℕ → Bool
@@ -64,3 +64,12 @@ as_array_of kind k p _ = refused cause.WrongKind k p
 abbrev pub natural_in : ℕ → ℕ → ℤ → Option ℕ
 natural_in low high (pos n) = if nat_le low n && nat_le n high then Some n else None
 natural_in low high (negsuc n) = None
+
+-- the tables of an array in their order, behind n that were read: read gets the number of each, from 1, and what was
+-- read before it
+abbrev pub tables_from : {X : Type 0} → Key → Place → (ℕ → List X → Members → Tested X) → ℕ → Items → List X → Tested (List X)
+tables_from k p read n no_items seen = Ok seen
+tables_from k p read n (item d ds) seen =
+    and_then (as_table k p d) (λ ms.
+    and_then (read (n + 1) seen ms) (λ x.
+    tables_from k p read (n + 1) ds (seen ++ x ∷ [])))

@@ -1,7 +1,7 @@
 -- The rules of an asset. This project's own.
-use Rattle.std.specs.Prelude.{ℕ, ◌+◌, ℤ, pos, Bool, ◌||◌, nat_lt, if◌then◌else◌, List, [], ◌∷◌, ◌++◌, Option, Some, None, Ok, codes, bytes_eq}
+use Rattle.std.specs.Prelude.{ℕ, pos, Bool, ◌||◌, nat_lt, if◌then◌else◌, List, [], ◌∷◌, Option, Some, None, Ok, codes, bytes_eq}
 use Rattle.std.specs.List.{list_any}
-use Rattle.toml.specs.Data.{Data, Items, no_items, item, Members}
+use Rattle.toml.specs.Data.{Data, Items, no_items, Members}
 use Rattle.cf_policy.specs.declared.policy.Action.{Action}
 use Rattle.cf_policy.specs.declared.policy.Action.TheVariants.{Allow, Refuse}
 use Rattle.cf_policy.specs.declared.policy.Rule.{Rule}
@@ -14,7 +14,7 @@ use Rattle.cf_policylang.specs.declared.refusal.Key.{Key}
 use Rattle.cf_policylang.specs.declared.refusal.Key.TheVariants as key
 use Rattle.cf_policylang.specs.declared.refusal.Cause.TheVariants as cause
 use Rattle.cf_policylang.specs.declared.refusal.Place.{Place}
-use Rattle.cf_policylang.specs.Fields.{as_text, as_table, as_array_of, count, has_other, required, stated}
+use Rattle.cf_policylang.specs.Fields.{as_text, as_array_of, count, has_other, required, stated, tables_from}
 use Rattle.cf_policylang.specs.Lists.{optional_spans, spans}
 use Rattle.cf_policylang.specs.Tested.{Tested, and_then, refused, or_refused, at_asset, at_rule}
 
@@ -84,13 +84,9 @@ rule p seen ms =
       values = own_values;
     }))))))))
 
--- the rules of an asset in their order, behind n that were read
+-- the rules of the asset of this number in their order, behind n that were read
 abbrev pub rules_from : ℕ → ℕ → Items → List Rule → Tested (List Rule)
-rules_from a n no_items seen = Ok seen
-rules_from a n (item d ds) seen =
-    and_then (as_table key.Rule (at_asset a) d) (λ ms.
-    and_then (rule (at_rule a (n + 1)) seen ms) (λ r.
-    rules_from a (n + 1) ds (seen ++ r ∷ [])))
+rules_from a n ds seen = tables_from key.Rule (at_asset a) (λ m. rule (at_rule a m)) n ds seen
 
 -- the array of the rules, which may be absent
 abbrev pub rule_items : Place → Option Data → Tested Items

@@ -60,6 +60,8 @@ fn rule_name(place: Place, earlier: &[Rule], table: &Table) -> Result<Name, Poli
     Ok(name)
 }
 
+/// Whether the name stands for another decider or an earlier rule has it. It is compared with each of them, so an asset
+/// of 1,024 rules takes about half a million comparisons of at most 32 bytes.
 fn is_rule_taken(earlier: &[Rule], text: &str) -> bool
     ensures { result ≡ is_rule_taken earlier.now text.now }
 {
