@@ -16,10 +16,13 @@ module _ (old new : List ℕ → Content) (early late write_rose : Type 0) (rose
       EndsAtAsset old new early write_rose asset client stream outputs e
   at_asset asset (ending.Sifted admitted refused) h = h
   at_asset asset (ending.Checked assets rules) h = h
+  at_asset asset ending.Listed h = h
   at_asset asset ending.Usage h = h
   at_asset asset ending.ReadFault h = (rose h.0, h.1)
   at_asset asset ending.WriteFault h = h
   at_asset asset (ending.PolicyRefused refusal) h = h
+  at_asset asset (ending.CaptureRefused refusal) h = h
+  at_asset asset (ending.CaptureCut place) h = h
   at_asset asset ending.UnknownAsset h = h
   at_asset asset ending.NoMemory h = h
   at_asset asset ending.Unbuilt h = h

@@ -6,9 +6,11 @@ use Rattle.cf_lane.specs.Filtered.{Output}
 use Rattle.cf_policy.specs.declared.Asset.{Asset}
 use Rattle.cf_policy.specs.declared.Policy.{Policy}
 use Rattle.cf_box.specs.Outputs.{Three, Stand, IsWritten}
+use Rattle.cf_box.specs.Packets.{PacketsEnds}
 use Rattle.cf_box.specs.Policies.{HasPolicy, IsRefusedBy, asset_named, rule_count}
 use Rattle.cf_box.specs.Sift.{IsSifted, IsUnbuilt, parts_of}
 use Rattle.cf_box.specs.Words.{Command, Check, Packets, Run, Relay, World, Sift, command_of}
+use Rattle.cf_box.specs.declared.packets.PacketsEnd.TheVariants as end
 use Rattle.cf_box.specs.declared.ending.Ending.{Ending}
 use Rattle.cf_box.specs.declared.ending.Ending.TheVariants as ending
 
@@ -52,12 +54,35 @@ module _ (old new : List ℕ → Content) (read_rose write_rose : Type 0) where
   abbrev pub EndsUnbuilt : Ending → Type 0
   EndsUnbuilt e = (e ≡ ending.Unbuilt) × (new ≡ old)
 
-  abbrev pub EndsOf : Option Command → Ending → Type 0
-  EndsOf None e = (e ≡ ending.Usage) × (new ≡ old)
-  EndsOf (Some (Check file)) e = EndsCheck file e
-  EndsOf (Some (Sift file name client stream out replies log)) e =
-      EndsSift file name client stream (record { out = out; replies = replies; log = log }) e
-  EndsOf (Some (Packets capture)) e = EndsUnbuilt e
-  EndsOf (Some (Run file capture out log)) e = EndsUnbuilt e
-  EndsOf (Some (Relay file name port idles log)) e = EndsUnbuilt e
-  EndsOf (Some (World seed sessions file capture out log)) e = EndsUnbuilt e
+  -- what was told before the command, and what after it
+  module _ (told listed : Option (List ℕ)) (put_rose : Type 0) where
+    -- `packets`: the lines of the records of the capture were put, or why not all of them; no file changes
+    abbrev pub EndsPackets : List ℕ → Ending → Type 0
+    EndsPackets file ending.Listed = PacketsEnds (old file) told listed read_rose put_rose end.Listed × (new ≡ old)
+    EndsPackets file ending.ReadFault = PacketsEnds (old file) told listed read_rose put_rose end.ReadFault × (new ≡ old)
+    EndsPackets file ending.WriteFault = PacketsEnds (old file) told listed read_rose put_rose end.WriteFault × (new ≡ old)
+    EndsPackets file (ending.CaptureRefused r) = PacketsEnds (old file) told listed read_rose put_rose (end.CaptureRefused r) × (new ≡ old)
+    EndsPackets file (ending.CaptureCut place) = PacketsEnds (old file) told listed read_rose put_rose (end.CaptureCut place) × (new ≡ old)
+    EndsPackets file ending.Unbuilt = PacketsEnds (old file) told listed read_rose put_rose end.Unbuilt × (new ≡ old)
+    EndsPackets file ending.NoMemory = PacketsEnds (old file) told listed read_rose put_rose end.NoMemory × (new ≡ old)
+    EndsPackets file _ = ⊥
+
+    abbrev pub EndsOf : Option Command → Ending → Type 0
+    EndsOf None e = (e ≡ ending.Usage) × (new ≡ old)
+    EndsOf (Some (Check file)) e = EndsCheck file e
+    EndsOf (Some (Sift file name client stream out replies log)) e =
+        EndsSift file name client stream (record { out = out; replies = replies; log = log }) e
+    EndsOf (Some (Packets capture)) e = EndsPackets capture e
+    EndsOf (Some (Run file capture out log)) e = EndsUnbuilt e
+    EndsOf (Some (Relay file name port idles log)) e = EndsUnbuilt e
+    EndsOf (Some (World seed sessions file capture out log)) e = EndsUnbuilt e
+
+-- no command but a listing tells anything before its ending's text
+abbrev pub TellsLines : (told listed : Option (List ℕ)) → Option Command → Type 0
+TellsLines told listed None = listed ≡ told
+TellsLines told listed (Some (Check file)) = listed ≡ told
+TellsLines told listed (Some (Sift file name client stream out replies log)) = listed ≡ told
+TellsLines told listed (Some (Packets capture)) = Unit {0}
+TellsLines told listed (Some (Run file capture out log)) = listed ≡ told
+TellsLines told listed (Some (Relay file name port idles log)) = listed ≡ told
+TellsLines told listed (Some (World seed sessions file capture out log)) = listed ≡ told

@@ -3,6 +3,7 @@ pub mod Endings
 pub mod Ends
 pub mod Loads
 pub mod Outputs
+pub mod Packets
 pub mod Policies
 pub mod Sift
 pub mod Statuses

@@ -6,8 +6,11 @@ use Rattle.cf_outside.specs.Whole.{IsWhole, written}
 use Rattle.cf_policy.specs.declared.Asset.{Asset}
 use Rattle.cf_policy.specs.declared.Policy.{Policy}
 use Rattle.cf_policylang.specs.declared.PolicyRefusal.{PolicyRefusal}
+use Rattle.cf_box.specs.Packets.{ListsCapture, ListingEnds}
 use Rattle.cf_box.specs.Policies.{HasPolicy, IsRefusedBy, asset_named}
 use Rattle.cf_box.specs.Words.{Command, Check, Packets, Run, Relay, World, Sift}
+use Rattle.cf_box.specs.declared.packets.CaptureRefusal.{CaptureRefusal}
+use Rattle.cf_box.specs.declared.packets.PacketsEnd.TheVariants as end
 
 -- of the commands in the stream exactly those went to the output that the bytes of the policy allow, in their spelling
 -- and at their place
@@ -52,6 +55,24 @@ LacksAsset old (Some (Relay file name port idles log)) = ⊥
 LacksAsset old (Some (World seed sessions file capture out log)) = ⊥
 LacksAsset old None = ⊥
 
+-- each record of a capture that was listed has its line, and nothing else was told
+abbrev pub Lists : (old : List ℕ → Content) → (told now : Option (List ℕ)) → Option Command → Type 0
+Lists old told now (Some (Packets file)) = (capture : List ℕ) × IsWhole (old file) capture × ListsCapture capture told now ⊥ end.Listed
+Lists old told now _ = Unit {0}
+
+-- the capture of a command that reads one is refused
+abbrev pub RefusesCapture : (old : List ℕ → Content) → Option Command → Type 0
+RefusesCapture old (Some (Packets file)) =
+    (capture : List ℕ) × IsWhole (old file) capture × ((r : CaptureRefusal) × ListingEnds capture (end.CaptureRefused r))
+RefusesCapture old _ = ⊥
+
+-- the capture of a command that reads one ends inside a record
+abbrev pub CutsCapture : (old : List ℕ → Content) → Option Command → Type 0
+CutsCapture old (Some (Packets file)) =
+    (capture : List ℕ) × IsWhole (old file) capture × ((place : ℕ) × ListingEnds capture (end.CaptureCut place))
+CutsCapture old _ = ⊥
+
 -- the statuses that there are
 abbrev pub IsStatus : ℕ → Type 0
-IsStatus s = (s ≡ 0) ⊎ (s ≡ 2) ⊎ (s ≡ 3) ⊎ (s ≡ 4) ⊎ (s ≡ 5) ⊎ (s ≡ 10) ⊎ (s ≡ 13) ⊎ (s ≡ 14)
+IsStatus s =
+    (s ≡ 0) ⊎ (s ≡ 2) ⊎ (s ≡ 3) ⊎ (s ≡ 4) ⊎ (s ≡ 5) ⊎ (s ≡ 6) ⊎ (s ≡ 7) ⊎ (s ≡ 10) ⊎ (s ≡ 13) ⊎ (s ≡ 14)

@@ -1,16 +1,17 @@
 //! What the program does for each command, and the top call.
-ghost use Rattle.std.specs.Prelude.{◌≡◌, ◌≢◌, ◌⊎◌, ◌↔◌, IsNone, map, string_bytes};
+ghost use Rattle.std.specs.Prelude.{◌≡◌, ◌≢◌, ◌≤◌, ◌⊎◌, ◌↔◌, IsNone, List, Option, map, string_bytes, ℕ};
 ghost use Rattle.cf_box.specs.Endings.{Reports};
-ghost use Rattle.cf_box.specs.Ends.{EndsAtName, EndsCheck, EndsOf, EndsSift};
+ghost use Rattle.cf_box.specs.Ends.{EndsAtName, EndsCheck, EndsOf, EndsPackets, EndsSift, TellsLines};
 ghost use Rattle.cf_box.specs.Loads.{load_ending};
 ghost use Rattle.cf_box.specs.Outputs.{AreApart};
 ghost use Rattle.cf_box.specs.Policies.{asset_named};
 ghost use Rattle.cf_box.specs.Sift.{outputs_of};
-ghost use Rattle.cf_box.specs.Statuses.{IsStatus, LacksAsset, Passes, RefusesPolicy};
+ghost use Rattle.cf_box.specs.Statuses.{CutsCapture, IsStatus, LacksAsset, Lists, Passes, RefusesCapture, RefusesPolicy};
 ghost use Rattle.cf_box.specs.Words.{command_of};
 ghost use Rattle.cf_outside.specs.Causes.{Rose};
 
 use crate::ending::{Ending, report};
+use crate::packets::{PacketsEnd, list_packets};
 use crate::policy_file::{LoadFault, count_rules, find_asset, load_policy};
 use crate::sift::{SiftFault, SiftNames, sift_stream};
 use crate::words::{Command, read_words};
@@ -95,11 +96,32 @@ fn sift<F: Files>(
     }
 }
 
-/// Does what the words ask for.
-fn perform<F: Files>(alloc: Global, words: &[String], files: &mut F) -> Ending
-    ensures { EndsOf (F.content files.old) (F.content files.new)
+/// `packets`: lists the records of a capture.
+fn packets<F: Files, O: Sink>(alloc: Global, files: &mut F, capture: &str, out: &mut O) -> Ending
+    ensures ends { EndsPackets (F.content files.old) (F.content files.new)
         (Rose (F.read_faults files.old) (F.read_faults files.new)) (Rose (F.write_faults files.old) (F.write_faults files.new))
+        (O.text out.old) (O.text out.new) (Rose (O.faults out.old) (O.faults out.new)) capture.now result }
+    ensures puts { O.faults out.old ≤ O.faults out.new }
+{
+    match list_packets(alloc, files, capture, out) {
+        PacketsEnd::Listed => Ending::Listed,
+        PacketsEnd::ReadFault => Ending::ReadFault,
+        PacketsEnd::WriteFault => Ending::WriteFault,
+        PacketsEnd::CaptureRefused(refusal) => Ending::CaptureRefused(refusal),
+        PacketsEnd::CaptureCut(place) => Ending::CaptureCut(place),
+        PacketsEnd::Unbuilt => Ending::Unbuilt,
+        PacketsEnd::NoMemory => Ending::NoMemory,
+    }
+}
+
+/// Does what the words ask for. Only a listing puts anything.
+fn perform<F: Files, O: Sink>(alloc: Global, words: &[String], files: &mut F, out: &mut O) -> Ending
+    ensures ends { EndsOf (F.content files.old) (F.content files.new)
+        (Rose (F.read_faults files.old) (F.read_faults files.new)) (Rose (F.write_faults files.old) (F.write_faults files.new))
+        (O.text out.old) (O.text out.new) (Rose (O.faults out.old) (O.faults out.new))
         (command_of (map string_bytes words.now)) result }
+    ensures lines { TellsLines (O.text out.old) (O.text out.new) (command_of (map string_bytes words.now)) }
+    ensures puts { O.faults out.old ≤ O.faults out.new }
 {
     match read_words(words) {
         None => Ending::Usage,
@@ -112,6 +134,7 @@ fn perform<F: Files>(alloc: Global, words: &[String], files: &mut F) -> Ending
                 names,
             },
         ) => sift(alloc, files, policy, asset, client, &names),
+        Some(Command::Packets { capture }) => packets(alloc, files, capture, out),
         Some(_) => Ending::Unbuilt,
     }
 }
@@ -119,8 +142,9 @@ fn perform<F: Files>(alloc: Global, words: &[String], files: &mut F) -> Ending
 /// The program: does what the words ask for, prints the ending's text, and answers its status.
 ///
 /// Statuses: 0 done; 2 the words have no form; 3 a read failed; 4 a write failed, or work that was done could not be
-/// printed; 5 the policy's text means none; 10 the policy has no asset of the name; 13 memory ran out; 14 the input
-/// needs a part that is not built. What each means of the files and of the sink is its case of `EndsOf` and `Reports`.
+/// printed; 5 the policy's text means none; 6 the capture is refused; 7 it ends inside a record; 10 the policy has no
+/// asset of the name; 13 memory ran out; 14 the input needs a part that is not built. What each means of the files and
+/// of the sink is its case of `EndsOf` and `Reports`.
 pub fn box_main<F: Files, O: Sink, P: Pair>(
     alloc: Global,
     words: &[String],
@@ -128,11 +152,12 @@ pub fn box_main<F: Files, O: Sink, P: Pair>(
     out: &mut O,
     pair: &mut P,
 ) -> u8
-    // There is an ending that explains the files, the status and what was printed.
-    ensures ends { (ending : Ending) × EndsOf (F.content files.old) (F.content files.new)
+    // There is an ending that explains the files, the status, the lines of a listing and the text that was printed.
+    ensures ends { (ending : Ending) × (listed : Option (List ℕ)) × EndsOf (F.content files.old) (F.content files.new)
         (Rose (F.read_faults files.old) (F.read_faults files.new)) (Rose (F.write_faults files.old) (F.write_faults files.new))
-        (command_of (map string_bytes words.now)) ending
-        × Reports ending result (O.text out.old) (O.text out.new) (Rose (O.faults out.old) (O.faults out.new)) }
+        (O.text out.old) listed (Rose (O.faults out.old) (O.faults out.new)) (command_of (map string_bytes words.now)) ending
+        × TellsLines (O.text out.old) listed (command_of (map string_bytes words.now))
+        × Reports ending result listed (O.text out.new) (Rose (O.faults out.old) (O.faults out.new)) }
     ensures statuses { IsStatus result }
 
     // Each status by itself.
@@ -142,6 +167,12 @@ pub fn box_main<F: Files, O: Sink, P: Pair>(
     ensures refused { result ≡ 5 → RefusesPolicy (F.content files.old) (command_of (map string_bytes words.now)) }
     ensures unknown { result ≡ 10 → LacksAsset (F.content files.old) (command_of (map string_bytes words.now)) }
 
+    ensures capture { result ≡ 6 → RefusesCapture (F.content files.old) (command_of (map string_bytes words.now)) }
+    ensures cut { result ≡ 7 → CutsCapture (F.content files.old) (command_of (map string_bytes words.now)) }
+
+    // Each record of a capture has its line.
+    ensures lists { result ≡ 0 → Lists (F.content files.old) (O.text out.old) (O.text out.new) (command_of (map string_bytes words.now)) }
+
     // Of the commands of a stream exactly those went on that the policy's bytes allow.
     ensures passes { result ≡ 0 → Passes (F.content files.old) (F.content files.new) (command_of (map string_bytes words.now)) }
 
@@ -149,7 +180,7 @@ pub fn box_main<F: Files, O: Sink, P: Pair>(
     ensures kept { result ≢ 0 → result ≢ 4 → F.content files.new ≡ F.content files.old }
     ensures pair { pair.new ≡ pair.old }
 {
-    let ending = perform(alloc, words, files);
+    let ending = perform(alloc, words, files, out);
     let _ = pair;
     report(&ending, out)
 }

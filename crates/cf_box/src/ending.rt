@@ -1,9 +1,10 @@
 //! How the program ends: a status and a printed text.
 ghost use Rattle.std.specs.Prelude.{◌≡◌, ◌≤◌, ◌++◌, [], codes, decimal};
 ghost use Rattle.cf_policylang.specs.Keys.{refusal_text};
-ghost use Rattle.cf_box.specs.Endings.{Reports, is_silent, status_of, status_unprinted, text_of};
+ghost use Rattle.cf_box.specs.Endings.{Reports, capture_number, is_silent, status_of, status_unprinted, text_of};
 ghost use Rattle.cf_outside.specs.Causes.{HasCause, Rose};
 
+use crate::packets::CaptureRefusal;
 use arrayvec::ArrayString;
 use cf_outside::{Sink, WriteAnswer};
 use cf_policylang::PolicyRefusal;
@@ -16,6 +17,8 @@ pub enum Ending {
     Sifted { admitted: u64, refused: u64 },
     /// A policy was read, with its numbers of assets and of all rules.
     Checked { assets: u64, rules: u64 },
+    /// Each record of a capture has its line.
+    Listed,
     /// The words have no form.
     Usage,
     /// A read failed.
@@ -24,6 +27,10 @@ pub enum Ending {
     WriteFault,
     /// The policy's text means no policy.
     PolicyRefused(PolicyRefusal),
+    /// The capture is refused.
+    CaptureRefused(CaptureRefusal),
+    /// The capture ends inside the record that begins at this place, in octets from 0.
+    CaptureCut(u64),
     /// The policy has no asset of the name.
     UnknownAsset,
     /// Memory ran out.
@@ -37,11 +44,13 @@ fn status(ending: &Ending) -> u8
     ensures { result ≡ status_of ending.now }
 {
     match ending {
-        Ending::Sifted { .. } | Ending::Checked { .. } => 0,
+        Ending::Sifted { .. } | Ending::Checked { .. } | Ending::Listed => 0,
         Ending::Usage => 2,
         Ending::ReadFault => 3,
         Ending::WriteFault => 4,
         Ending::PolicyRefused(_) => 5,
+        Ending::CaptureRefused(_) => 6,
+        Ending::CaptureCut(_) => 7,
         Ending::UnknownAsset => 10,
         Ending::NoMemory => 13,
         Ending::Unbuilt => 14,
@@ -61,7 +70,10 @@ fn unprinted_status(ending: &Ending) -> u8
 fn silent(ending: &Ending) -> bool
     ensures { result ≡ is_silent ending.now }
 {
-    matches!(ending, Ending::WriteFault | Ending::NoMemory)
+    matches!(
+        ending,
+        Ending::Listed | Ending::WriteFault | Ending::NoMemory
+    )
 }
 
 fn push_sifted(out: &mut ArrayString<128>, admitted: u64, refused: u64)
@@ -101,6 +113,38 @@ fn push_refusal(out: &mut ArrayString<128>, refusal: &PolicyRefusal)
     out.push_str("\n");
 }
 
+/// The number of a refusal of a capture.
+fn capture_number(refusal: CaptureRefusal) -> u64
+    ensures { result ≡ capture_number refusal }
+{
+    match refusal {
+        CaptureRefusal::Short => 1,
+        CaptureRefusal::Magic => 2,
+        CaptureRefusal::Version => 3,
+        CaptureRefusal::LinkType => 4,
+        CaptureRefusal::TooLong => 5,
+        CaptureRefusal::Large => 7,
+    }
+}
+
+fn push_capture_refusal(out: &mut ArrayString<128>, refusal: CaptureRefusal)
+    requires { out.old.bytes ≡ [] }
+    ensures { out.new.bytes ≡ codes "capture refused " ++ decimal (capture_number refusal) ++ codes "\n" }
+{
+    out.push_str("capture refused ");
+    push_number(out, capture_number(refusal));
+    out.push_str("\n");
+}
+
+fn push_cut(out: &mut ArrayString<128>, place: u64)
+    requires { out.old.bytes ≡ [] }
+    ensures { out.new.bytes ≡ codes "capture cut at " ++ decimal place ++ codes "\n" }
+{
+    out.push_str("capture cut at ");
+    push_number(out, place);
+    out.push_str("\n");
+}
+
 /// Writes the text of an ending into an empty text.
 fn write_text(ending: &Ending, out: &mut ArrayString<128>)
     requires { out.old.bytes ≡ [] }
@@ -111,8 +155,10 @@ fn write_text(ending: &Ending, out: &mut ArrayString<128>)
         Ending::Checked { assets, rules } => push_checked(out, *assets, *rules),
         Ending::Usage => out.push_str("usage\n"),
         Ending::ReadFault => out.push_str("read fault\n"),
-        Ending::WriteFault | Ending::NoMemory => {}
+        Ending::Listed | Ending::WriteFault | Ending::NoMemory => {}
         Ending::PolicyRefused(refusal) => push_refusal(out, refusal),
+        Ending::CaptureRefused(refusal) => push_capture_refusal(out, *refusal),
+        Ending::CaptureCut(place) => push_cut(out, *place),
         Ending::UnknownAsset => out.push_str("unknown asset\n"),
         Ending::Unbuilt => out.push_str("unbuilt\n"),
     }

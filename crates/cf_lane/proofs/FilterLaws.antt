@@ -219,7 +219,7 @@ module _ (asset : Asset) (client : ℕ) where
       let items : map (λ i. i.item) js ≡ client_items units n = cc in
       let rest = in_turn (output side.Controller) (earlier ++ j ∷ []) js in
       subst (λ i. PassesAllowed asset client (a ∷ units) (to_controller i j.fate ++ rest)) (sym item)
-        (one_passes a j.fate units rest (subst (λ i. HasFate asset client i j.fate) item fates.0) (pass_by units n (earlier ++ j ∷ []) js items fates.1))
+      (one_passes a j.fate units rest (subst (λ i. HasFate asset client i j.fate) item fates.0) (pass_by units n (earlier ++ j ∷ []) js items fates.1))
 
 pub passes_what_is_allowed : FiltersByAllowance
 passes_what_is_allowed asset client moment stream x filtered = record {
@@ -227,5 +227,5 @@ passes_what_is_allowed asset client moment stream x filtered = record {
   rest = filtered.is_judged.rest;
   cut = filtered.is_judged.cut;
   passes = subst (λ o. PassesAllowed asset client.address filtered.is_judged.units o.to_controller) (sym filtered.is_output)
-    (pass_by asset client.address filtered.is_judged.units (length filtered.is_judged.rest) [] filtered.judged filtered.is_judged.items filtered.is_judged.fates);
+      (pass_by asset client.address filtered.is_judged.units (length filtered.is_judged.rest) [] filtered.judged filtered.is_judged.items filtered.is_judged.fates);
 }

@@ -20,5 +20,4 @@ pub fn has_one_output()
 /// is allowed go to the controller, in their spelling and at their place.
 pub fn passes_what_is_allowed()
     ensures { FiltersByAllowance }
-{
-}
+{}

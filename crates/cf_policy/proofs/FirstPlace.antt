@@ -1,5 +1,5 @@
 -- The first place of a list at which a test passes.
-use Rattle.std.proofs.Common.{◌≡◌, ℕ, ◌<◌, ◌≤◌, ◌⊎◌, Bool, true, false, List, [], ◌∷◌, ◌++◌, length, get_or, Option, Some, None, subst, sym, ◌∙◌, ap, inl, inr, arith, rules}
+use Rattle.std.proofs.Common.{◌≡◌, ℕ, ◌<◌, Bool, true, false, List, [], ◌∷◌, ◌++◌, length, get_or, Some, subst, sym, ◌∙◌, ap, arith}
 use Rattle.std.specs.List.{position, position_or_len, slice_get}
 use Rattle.std.proofs.Math.ListN.{get_or-append}
 use mathlib.Core.Logic.{⊎_elim}

@@ -1,17 +1,14 @@
 -- What the first rule that has an act means for the verdict.
-use Rattle.std.proofs.Common.{◌≡◌, ℕ, ◌<◌, ◌⊎◌, Bool, true, false, List, [], ◌∷◌, ◌++◌, Option, Some, None, subst, sym, ◌∙◌, ap, refl, inl, inr, arith, rules}
+use Rattle.std.proofs.Common.{◌≡◌, ℕ, ◌⊎◌, Bool, List, Some, None, subst, sym, ◌∙◌, refl, inl, inr}
 use mathlib.Core.Logic.{⊎_elim}
-use Rattle.std.specs.List.{position, slice_get}
 use Rattle.cf_view.specs.declared.base.Act.{Act}
-use Rattle.cf_view.specs.declared.base.Reason.{Reason}
 use Rattle.cf_policy.specs.declared.policy.Rule.{Rule}
 use Rattle.cf_policy.specs.declared.policy.Asset.{Asset}
 use Rattle.cf_policy.specs.declared.policy.Action.{Action}
 use Rattle.cf_policy.specs.declared.policy.Action.TheVariants.{Allow, Refuse}
 use Rattle.cf_policy.specs.declared.policy.Decider.TheVariants as decider
-use Rattle.cf_policy.specs.declared.policy.Verdict.{Verdict}
 use Rattle.cf_policy.specs.declared.policy.Verdict.TheVariants as verdict
-use Rattle.cf_policy.specs.Verdict.{has_act, first_number, first_rule, numbered, by_rule, decided, default_reason, verdict_of}
+use Rattle.cf_policy.specs.Verdict.{has_act, first_number, first_rule, by_rule, default_reason, verdict_of}
 use Rattle.cf_policy.specs.Laws.{IsAllowed, IsAllowedByRule, AllowsByFirstRule, IsDecidedByRule, with_rule, KeepsDecidedActs}
 use Rattle.cf_policy.proofs.FirstPlace.{IsFirstAt, first_at, position_is, first_at_append}
 

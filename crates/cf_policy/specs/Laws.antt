@@ -1,7 +1,6 @@
 -- What the verdict means, in other words than those that define it. This project's own.
 use Rattle.std.specs.Prelude.{◌≡◌, ℕ, ◌<◌, ◌↔◌, true, false, List, [], ◌∷◌, ◌++◌, Some, slice_get}
 use Rattle.cf_view.specs.declared.base.Act.{Act}
-use Rattle.cf_view.specs.declared.base.Reason.{Reason}
 use Rattle.cf_policy.specs.declared.policy.Rule.{Rule}
 use Rattle.cf_policy.specs.declared.policy.Asset.{Asset}
 use Rattle.cf_policy.specs.declared.policy.Action.TheVariants.{Allow}
