@@ -14,11 +14,15 @@ usage:
       get, REPLIES what the client would get, LOG a line for each refused command
   cmdwall check POLICY
       reads a policy, and prints its numbers of assets and of all rules
+  cmdwall packets CAPTURE
+      prints a line for each record of a capture: the fields of its TCP segment over IPv4,
+      or why it has none
   cmdwall --help
   cmdwall --version
 
 CLIENT is an IPv4 address, as 10.0.0.5. POLICY is a text in the policy language
-(docs/POLICY.md). OUT, REPLIES and LOG are created; all names of files differ.
+(docs/POLICY.md). CAPTURE is a classic pcap file, of Ethernet or raw IP. OUT, REPLIES and
+LOG are created; all names of files differ.
 
 status:
    0  the work was done to the end of its input
@@ -26,11 +30,14 @@ status:
    3  a file could not be read
    4  a file or standard output could not be written
    5  the policy's text means no policy; what is printed names the place
+   6  the capture is refused: 1 it is short, 2 its magic, 3 its version, 4 its link type,
+      5 a record of more than 262,144 bytes
+   7  the capture ends inside the record that begins at the printed place
   10  the policy has no asset of that name
   13  memory ran out
   14  the input needs a part that is not built: an asset that does not speak Modbus, a
-      stream of more than 65,536 bytes or one whose bytes are no ADUs, the commands
-      packets, run, relay and world
+      stream of more than 65,536 bytes or one whose bytes are no ADUs, a capture of more
+      than 67,108,864 bytes, the commands run, relay and world
 ";
 
 /// What the words ask of `main` itself.
