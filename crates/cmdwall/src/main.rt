@@ -15,9 +15,18 @@ use std::env::Env;
 use std::process::ExitCode;
 use std::{env, io};
 
+/// The status where memory ran out.
+const NO_MEMORY: u8 = 13;
+
 fn main(rt: HostRuntime) -> ExitCode {
-    // Words that cannot be read are words of no form.
-    let words = words_of(&rt).unwrap_or(Vec::new(rt.alloc()));
+    let words = match words_of(&rt) {
+        Ok(words) => words,
+        Err(error) if matches!(error.kind(), io::ErrorKind::OutOfMemory) => {
+            return ExitCode::from(NO_MEMORY);
+        }
+        // Words that cannot be read are words of no form.
+        Err(_) => Vec::new(rt.alloc()),
+    };
     match question_of(&words) {
         Asked::Help => return printed(print_help(&rt)),
         Asked::Version => return printed(print_version(&rt)),
