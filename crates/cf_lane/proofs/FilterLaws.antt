@@ -6,8 +6,8 @@ use Rattle.std.proofs.lemmas.List.Sums.{sum_by-append}
 use Rattle.std.specs.Prelude.{count_by}
 use Rattle.std.specs.List.{list_any, AllByRecursion}
 use Rattle.cf_view.specs.Framing.{Begins, IsPartial, BreaksAt}
-use Rattle.cf_view.specs.Units.{Starts, IsCut, IsBroken}
-use Rattle.cf_view.proofs.UnitsLaws.{starts_more, one_cut}
+use Rattle.cf_view.specs.Units.{BeginsWithUnits, IsUnitsThenRest, IsUnitsThenBreak}
+use Rattle.cf_view.proofs.Units.{begins_with_more, one_units_then_rest}
 use Rattle.cf_modbus.proofs.AduLaws.{prefix_free}
 use Rattle.cf_lane.specs.Laws.{HasOneOutput, PassesAllowed, FiltersByAllowance}
 use Rattle.cf_lane.proofs.FateLaws.{has_one_fate, admits_what_is_allowed}
@@ -94,7 +94,7 @@ fates-more asset client (k ∷ js) j before here = (before.0, fates-more asset c
 pub record SoFar (asset : Asset) (client : Endpoint) (moment : ℕ) (stream : List ℕ) (at : ℕ) (out : Output) : Type 0 where
   pub units : List AduOf
   pub judged : List Judged
-  pub starts : Starts SpellsAdu units stream (drop at stream)
+  pub starts : BeginsWithUnits SpellsAdu units stream (drop at stream)
   pub items : map (λ j. j.item) judged ≡ map ClientAdu units
   pub fates : HaveFates asset client.address judged
   pub unended : has_ended judged ≡ false
@@ -129,8 +129,8 @@ module _ (asset : Asset) (client : Endpoint) (moment : ℕ) (stream : List ℕ) 
         record {
           units = so_far.units ++ a ∷ [];
           judged = so_far.judged ++ j ∷ [];
-          starts = subst (λ rest. Starts SpellsAdu (so_far.units ++ a ∷ []) stream rest) (drop-drop n at stream)
-              (starts_more SpellsAdu so_far.units a stream (drop at stream) n so_far.starts begins);
+          starts = subst (λ rest. BeginsWithUnits SpellsAdu (so_far.units ++ a ∷ []) stream rest) (drop-drop n at stream)
+              (begins_with_more SpellsAdu so_far.units a stream (drop at stream) n so_far.starts begins);
           items = map-append (λ i. i.item) so_far.judged (j ∷ []) ∙ ap (λ xs. xs ++ ClientAdu a ∷ []) so_far.items ∙ sym (map-append ClientAdu so_far.units (a ∷ []));
           fates = fates-more asset client.address so_far.judged j so_far.fates takes.has;
           unended = unended-more so_far.judged j so_far.unended refl;
@@ -190,7 +190,7 @@ one_judgement asset client (j ∷ js) (k ∷ ks) same x y =
 
 pub has_one_output : HasOneOutput
 has_one_output asset client moment stream x y a b =
-    let same = one_cut SpellsAdu prefix_free a.is_judged.units b.is_judged.units stream a.is_judged.rest b.is_judged.rest a.is_judged.cut b.is_judged.cut in
+    let same = one_units_then_rest SpellsAdu prefix_free a.is_judged.units b.is_judged.units stream a.is_judged.rest b.is_judged.rest a.is_judged.cut b.is_judged.cut in
     let items : map (λ j. j.item) a.judged ≡ map (λ j. j.item) b.judged =
     a.is_judged.items ∙ ap (λ us. client_items us (length a.is_judged.rest)) same.0 ∙ ap (λ r. client_items b.is_judged.units (length r)) same.1 ∙ sym b.is_judged.items in
     let judged = one_judgement asset client.address a.judged b.judged items a.is_judged.fates b.is_judged.fates in

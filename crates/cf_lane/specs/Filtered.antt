@@ -1,7 +1,7 @@
 -- What the filter makes of one client's whole stream. This project's own.
 use Rattle.std.specs.Prelude.{◌≡◌, ℕ, ◌+◌, Bool, true, false, List, [], ◌∷◌, ◌++◌, length, map, count_by}
 use Rattle.std.specs.List.{AllByRecursion}
-use Rattle.cf_view.specs.Units.{IsCut, IsBroken}
+use Rattle.cf_view.specs.Units.{IsUnitsThenRest, IsUnitsThenBreak}
 use Rattle.cf_view.specs.declared.Break.{Break}
 use Rattle.cf_view.specs.declared.Endpoint.{Endpoint}
 use Rattle.cf_view.specs.declared.Side.TheVariants as side
@@ -39,7 +39,7 @@ HaveFates asset client judged = AllByRecursion (λ j. HasFate asset client j.ite
 pub record IsJudged (asset : Asset) (client : ℕ) (stream : List ℕ) (judged : List Judged) : Type 0 where
   pub units : List AduOf
   pub rest : List ℕ
-  pub cut : IsCut SpellsAdu units stream rest
+  pub cut : IsUnitsThenRest SpellsAdu units stream rest
   pub items : map (λ j. j.item) judged ≡ client_items units (length rest)
   pub fates : HaveFates asset client judged
 
@@ -101,7 +101,7 @@ pub record IsFiltered (asset : Asset) (client : Endpoint) (moment : ℕ) (stream
 pub record IsBrokenBy (stream : List ℕ) (reason : Break) : Type 0 where
   pub units : List AduOf
   pub place : ℕ
-  pub broken : IsBroken SpellsAdu units stream place
+  pub broken : IsUnitsThenBreak SpellsAdu units stream place
   pub is_reason : reason ≡ mbap_break place
 
 -- the filter refuses a stream only where it is broken; want of memory has no cause

@@ -1,6 +1,6 @@
 -- The fate of a command in other words. This project's own.
 use Rattle.std.specs.Prelude.{◌≡◌, ◌↔◌, ◌⊎◌, ℕ, List, [], ◌∷◌, ◌++◌, Ok}
-use Rattle.cf_view.specs.Units.{IsCut}
+use Rattle.cf_view.specs.Units.{IsUnitsThenRest}
 use Rattle.std.specs.List.{AllByRecursion}
 use Rattle.cf_view.specs.declared.Endpoint.{Endpoint}
 use Rattle.cf_modbus.specs.Acts.{acts}
@@ -47,7 +47,7 @@ PassesAllowed asset client (a ∷ units) out =
 pub record PassesWhatIsAllowed (asset : Asset) (client : ℕ) (stream out : List ℕ) : Type 0 where
   pub units : List AduOf
   pub rest : List ℕ
-  pub cut : IsCut SpellsAdu units stream rest
+  pub cut : IsUnitsThenRest SpellsAdu units stream rest
   pub passes : PassesAllowed asset client units out
 
 -- the filter does that

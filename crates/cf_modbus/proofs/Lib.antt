@@ -1,4 +1,5 @@
 pub mod ActLaws
 pub mod AduLaws
+mod Fronts
 mod RequestLemmas
 pub mod RequestLaws

@@ -1,6 +1,8 @@
 //! Application data units: their framing in a stream, by the MBAP header.
-ghost use Rattle.std.specs.Prelude.{◌≡◌, ℕ, ◌↔◌, IsTrue};
-ghost use Rattle.cf_view.specs.Framing.{Begins, IsPartial, BreaksAt, Frames, seen, IsPrefixFree};
+ghost use Rattle.std.specs.Prelude.{◌≡◌, ℕ, ◌↔◌, IsTrue, List};
+ghost use Rattle.cf_view.specs.Octets.{IsOctets};
+ghost use Rattle.cf_view.specs.Units.{HasUnits};
+ghost use Rattle.cf_view.specs.Framing.{Begins, IsPartial, BreaksAt, Frames, HasFront, framed_value, IsPrefixFree};
 ghost use Rattle.cf_modbus.specs.Adu.{AduOf, adu_of, SpellsAdu, mbap_break, IsHeaderOctet};
 
 use cf_view::{Break, Framed, View};
@@ -26,7 +28,7 @@ pub struct Adu<'a> {
 pub fn next_adu<'a>(bytes: View<'a>) -> Framed<Adu<'a>>
     ensures true_answer { Frames SpellsAdu mbap_break adu_of result bytes.entry.bytes }
     ensures unit { (a : AduOf) (n : ℕ) → Begins SpellsAdu bytes.entry.bytes a n
-        → seen adu_of result ≡ Framed.Unit a n }
+        → framed_value adu_of result ≡ Framed.Unit a n }
     ensures more { IsPartial SpellsAdu bytes.entry.bytes → result ≡ Framed.More }
     ensures broken { (place : ℕ) → BreaksAt SpellsAdu bytes.entry.bytes place
         → result ≡ Framed.Broken (mbap_break place) }
@@ -37,6 +39,12 @@ pub fn next_adu<'a>(bytes: View<'a>) -> Framed<Adu<'a>>
 /// A law: no ADU's octets begin those of another, and no octets are of two ADUs. The call does nothing.
 pub fn no_adu_begins_another()
     ensures { IsPrefixFree SpellsAdu }
+{}
+
+/// A law: each list of octets begins with an ADU, is a proper prefix of one, or breaks; so each is ADUs and then one of these.
+pub fn each_stream_has_adus()
+    ensures front { (bytes : List ℕ) → IsOctets bytes → HasFront SpellsAdu bytes }
+    ensures units { (bytes : List ℕ) → IsOctets bytes → HasUnits SpellsAdu bytes }
 {}
 
 /// What `next_adu` answers.

@@ -1,4 +1,6 @@
-pub mod FramingLaws
-pub mod OctetLaws
-pub mod TextLemmas
-pub mod UnitsLaws
+-- The interface of lemmas for the crates above: Framing, OctetLists, Places and Units.
+mod Digits
+pub mod Framing
+pub mod OctetLists
+pub mod Places
+pub mod Units

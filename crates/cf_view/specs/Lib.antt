@@ -1,5 +1,6 @@
 pub mod Framing
 pub mod Octets
-pub mod Seen
+pub mod Places
 pub mod Text
 pub mod Units
+pub mod View
