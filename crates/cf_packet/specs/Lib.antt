@@ -1,6 +1,5 @@
 pub mod Checksum
 pub mod Ipv4
 pub mod Packet
-pub mod Position
 pub mod Tcp
 pub mod Written

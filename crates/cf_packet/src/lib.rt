@@ -14,5 +14,5 @@ mod write;
 
 pub use packet::{ACK, FIN, PSH, Packet, PacketRefusal, RST, SYN, URG};
 pub use read::read_packet;
-pub use sequence::position;
+pub use sequence::{position, sequence_number};
 pub use write::write_packet;

@@ -1,22 +1,29 @@
-//! Stream positions of sequence numbers.
-ghost use Rattle.std.specs.Prelude.{◌≡◌, ◌+◌, ◌^◌, pos, ◌+ℤ◌, ◌-ℤ◌, ◌≤ℤ◌, ◌<ℤ◌};
-ghost use Rattle.cf_packet.specs.Position.{position_of};
+//! Places of sequence numbers in a stream.
+ghost use Rattle.std.specs.Prelude.{◌≡◌, ◌+◌, ◌^◌, ◌≤◌, pos, ◌+ℤ◌, ◌-ℤ◌, ◌≤ℤ◌, ◌<ℤ◌};
+ghost use Rattle.cf_stream.specs.Position.{natural, position, sequence_number};
 
-/// The stream position of a sequence number that is nearest to a base from 0 to 2^31: the position 0 is that of the
-/// octet after the origin, which is the number of the SYN. Sequence numbers go round at 2^32; positions do not. RFC 9293,
-/// section 3.4; the reading near a base is this project's own.
+/// The sequence number of the letter at a place of a stream whose SYN has the number `origin`. RFC 9293, section 3.4.
+pub fn sequence_number(origin: u32, place: u64) -> u32
+    requires { place ≤ 2 ^ 32 }
+    ensures { result ≡ sequence_number origin place }
+{
+    ((u64::from(origin) + 1 + place) % (1 << 32)) as u32
+}
+
+/// The place of a sequence number that is nearest to a base from 0 to 2^31: the place 0 is that of the octet after the
+/// origin, which is the number of the SYN. Sequence numbers go round at 2^32; places do not, and those before the first
+/// octet are negative. RFC 9293, section 3.4; the reading near a base is this project's own.
 pub fn position(seq: u32, origin: u32, base: i64) -> i64
     requires low { pos 0 ≤ℤ base }
     requires high { base ≤ℤ pos (2 ^ 31) }
-    ensures value { result ≡ position_of seq origin base }
+    ensures value { result ≡ position seq origin (natural base) }
     ensures from { (base -ℤ pos (2 ^ 31)) ≤ℤ result }
     ensures to { result <ℤ (base +ℤ pos (2 ^ 31)) }
 {
-    let next = i64::from(origin) + 1 + base;
-    let distance = (i64::from(seq) - next).rem_euclid(1 << 32);
+    let distance = seq.wrapping_sub(sequence_number(origin, base as u64));
     if distance < 1 << 31 {
-        base + distance
+        base + i64::from(distance)
     } else {
-        base + distance - (1 << 32)
+        base + i64::from(distance) - (1 << 32)
     }
 }

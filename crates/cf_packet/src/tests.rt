@@ -658,3 +658,17 @@ fn finds_positions(rt: HostRuntime) {
         );
     }
 }
+
+#[test]
+fn counts_sequence_numbers(rt: HostRuntime) {
+    for (origin, place, wanted) in [
+        (1000, 0, 1001),
+        (1000, 1_073_741_824, 1_073_742_825),
+        (0xFFFF_FFFE, 0, 0xFFFF_FFFF),
+        (0xFFFF_FFFF, 0, 0),
+        (0xFFFF_FFFF, 4_294_967_295, 0xFFFF_FFFF),
+        (0xFFFF_FFFF, 4_294_967_296, 0),
+    ] {
+        assert_eq!(rt; sequence_number(origin, place), wanted, "{origin} {place}");
+    }
+}
