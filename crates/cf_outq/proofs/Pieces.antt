@@ -6,10 +6,10 @@ use Rattle.cf_stream.proofs.Letters.{letters-part}
 use Rattle.cf_stream.proofs.Natural.{natural_from}
 use Rattle.cf_stream.specs.Position.{natural}
 use Rattle.cf_stream.specs.Stream.{Stream, letters, IsPart, Extends}
-use Rattle.cf_outq.specs.SendQueue.{Queue, Stands, IsPiece, piece_letters, carried, IsUnacked}
+use Rattle.cf_outq.specs.SendQueue.{Queue, IsQueueOf, IsPiece, piece_letters, carried, IsUnacked}
 use Rattle.cf_outq.specs.declared.piece.Piece.{Piece}
 
-module _ (q : Queue) (w whole : Stream) (h : Stands q w) (x : Extends w whole) where
+module _ (q : Queue) (w whole : Stream) (h : IsQueueOf q w) (x : Extends w whole) where
   stays_long : length w.bytes ≤ length whole.bytes
   stays_long = rw x.bytes (omega (arith, length-append w.bytes x.more))
 
@@ -32,7 +32,7 @@ module _ (q : Queue) (w whole : Stream) (h : Stands q w) (x : Extends w whole) w
     pub letters-piece : letters (carried whole p) ≡ take (piece_letters p) (drop from (letters whole))
     letters-piece = letters-part whole (natural p.at) p.len p.end piece_is_part ∙ ap (λ (n : ℕ). take (piece_letters p) (drop n (letters whole))) at_from
 
-module _ (q : Queue) (w whole : Stream) (h : Stands q w) (x : Extends w whole) (p : Piece) (u : IsUnacked q p) where
+module _ (q : Queue) (w whole : Stream) (h : IsQueueOf q w) (x : Extends w whole) (p : Piece) (u : IsUnacked q p) where
   pub copied : take p.len (drop (natural p.at - q.acked) q.kept) ≡ (carried whole p).bytes
   copied =
       let at = natural_from q.acked p.at u.from in

@@ -43,7 +43,7 @@ abbrev pub carried : Stream → Piece → Stream
 carried whole p = part whole (natural p.at) p.len p.end
 
 -- the queue stands for the list of all that was pushed
-pub record Stands (q : Queue) (whole : Stream) : Type 0 where
+pub record IsQueueOf (q : Queue) (whole : Stream) : Type 0 where
   pub ended : q.ended ≡ whole.ended
   pub pushed : q.pushed ≡ length whole.bytes
   pub kept : q.kept ≡ drop q.acked whole.bytes

@@ -1,17 +1,17 @@
 //! What holds of a queue over every list of calls from `new` on.
 ghost use Rattle.std.specs.Prelude.{◌≡◌, ℕ, List, [], ◌∷◌, ◌++◌, take, min, None};
 ghost use Rattle.cf_stream.specs.Stream.{letters, letter_count};
-ghost use Rattle.cf_outq.specs.SendQueue.{Queue, Stands, after_push};
-ghost use Rattle.cf_outq.specs.Calls.{QueueCall, NextPiece, after, IsRun, pushed_by, sent_by, Repeats};
+ghost use Rattle.cf_outq.specs.SendQueue.{Queue, IsQueueOf, after_push};
+ghost use Rattle.cf_outq.specs.QueueCalls.{QueueCall, NextPiece, after, IsQueueRun, pushed_by, sent_by, Repeats};
 
 /// Over every list of calls the queue stands for all that was pushed. The new pieces carry its letters in order, each
 /// once, up to those that count as sent; where there is no new piece, all letters below the greatest edge shown have been
 /// sent. Pieces that are sent again, and copies, carry its letters too.
-pub fn every_run()
-    ensures stands { (calls : List QueueCall) → IsRun calls → Stands (after calls) (pushed_by calls) }
-    ensures once { (calls : List QueueCall) → IsRun calls → sent_by (pushed_by calls) calls ≡ take (after calls).sent (letters (pushed_by calls)) }
-    ensures stops { (calls : List QueueCall) (mss : ℕ) → IsRun (NextPiece mss None ∷ calls) → (after calls).sent ≡ min (after calls).shown (letter_count (pushed_by calls)) }
-    ensures repeats { (calls : List QueueCall) → IsRun calls → Repeats (pushed_by calls) calls }
+pub fn every_queue_run()
+    ensures stands { (calls : List QueueCall) → IsQueueRun calls → IsQueueOf (after calls) (pushed_by calls) }
+    ensures once { (calls : List QueueCall) → IsQueueRun calls → sent_by (pushed_by calls) calls ≡ take (after calls).sent (letters (pushed_by calls)) }
+    ensures stops { (calls : List QueueCall) (mss : ℕ) → IsQueueRun (NextPiece mss None ∷ calls) → (after calls).sent ≡ min (after calls).shown (letter_count (pushed_by calls)) }
+    ensures repeats { (calls : List QueueCall) → IsQueueRun calls → Repeats (pushed_by calls) calls }
 {}
 
 /// Bytes pushed in two calls are pushed as in one, and pushing none changes nothing.

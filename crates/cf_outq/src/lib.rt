@@ -7,6 +7,6 @@ mod piece;
 #[cfg(test)]
 mod tests;
 
-pub use laws::{every_run, pushes_join};
+pub use laws::{every_queue_run, pushes_join};
 pub use outq::Outq;
 pub use piece::Piece;

@@ -2,7 +2,7 @@
 ghost use Rattle.std.specs.Prelude.{◌≡◌, ◌+◌, ◌-◌, ◌^◌, ◌<◌, ◌≤◌, ◌↔◌, IfOk, IfSome, IsNone, false, length, min, take, drop, pos, ◌≤ℤ◌};
 ghost use Rattle.cf_stream.specs.Position.{natural};
 ghost use Rattle.cf_stream.specs.Stream.{Stream, letter_count, no_letters, with_bytes, with_end, Carries};
-ghost use Rattle.cf_outq.specs.SendQueue.{IsQueue, Stands, IsAnswer, IsUnacked, queue_length, piece_letters, carried, empty, after_push, after_end, after_shown, after_acked, after_sent};
+ghost use Rattle.cf_outq.specs.SendQueue.{IsQueue, IsQueueOf, IsAnswer, IsUnacked, queue_length, piece_letters, carried, empty, after_push, after_end, after_shown, after_acked, after_sent};
 
 use crate::piece::Piece;
 use cf_view::{NoMemory, View};
@@ -41,7 +41,7 @@ impl Outq {
     /// An empty queue, with room for 131,072 bytes.
     pub fn new(alloc: Global) -> Result<Outq, NoMemory>
         ensures value { IfOk result (λ q. q ≡ empty) }
-        ensures stands { IfOk result (λ q. Stands q no_letters) }
+        ensures stands { IfOk result (λ q. IsQueueOf q no_letters) }
     {
         match HeapCircularBuffer::with_capacity(alloc, CAPACITY) {
             Ok(ring) => Ok(Outq {
@@ -66,7 +66,7 @@ impl Outq {
     /// The number of letters ever pushed.
     pub fn length(&self) -> i64
         ensures value { result ≡ pos (queue_length self.now) }
-        ensures stands { (whole : Stream) → Stands self.now whole → result ≡ pos (letter_count whole) }
+        ensures stands { (whole : Stream) → IsQueueOf self.now whole → result ≡ pos (letter_count whole) }
         ensures bounds { IsQueue self.now }
     {
         (self.pushed + u64::from(self.ended)) as i64
@@ -91,7 +91,7 @@ impl Outq {
     /// Whether End was pushed.
     pub fn is_ended(&self) -> bool
         ensures value { result ≡ self.now.ended }
-        ensures stands { (whole : Stream) → Stands self.now whole → result ≡ whole.ended }
+        ensures stands { (whole : Stream) → IsQueueOf self.now whole → result ≡ whole.ended }
     {
         self.ended
     }
@@ -102,7 +102,7 @@ impl Outq {
         requires room { length bytes.now + length self.old.kept ≤ 131072 }
         requires limit { self.old.pushed + length bytes.now ≤ 2 ^ 31 }
         ensures new { self.new ≡ after_push self.old bytes.now }
-        ensures stands { (whole : Stream) → Stands self.old whole → Stands self.new (with_bytes whole bytes.now) }
+        ensures stands { (whole : Stream) → IsQueueOf self.old whole → IsQueueOf self.new (with_bytes whole bytes.now) }
     {
         self.ring.extend_from_slice(bytes);
         self.pushed += bytes.len() as u64;
@@ -113,7 +113,7 @@ impl Outq {
         requires open { self.old.ended ≡ false }
         requires limit { self.old.pushed < 2 ^ 31 }
         ensures new { self.new ≡ after_end self.old }
-        ensures stands { (whole : Stream) → Stands self.old whole → Stands self.new (with_end whole) }
+        ensures stands { (whole : Stream) → IsQueueOf self.old whole → IsQueueOf self.new (with_end whole) }
     {
         self.ended = true;
     }
@@ -121,7 +121,7 @@ impl Outq {
     /// Notes that the peer lets in the letters below `edge`. An edge that is not above the greatest one changes nothing.
     pub fn shown(&mut self, edge: i64)
         ensures new { self.new ≡ after_shown self.old edge }
-        ensures stands { (whole : Stream) → Stands self.old whole → Stands self.new whole }
+        ensures stands { (whole : Stream) → IsQueueOf self.old whole → IsQueueOf self.new whole }
     {
         if edge > self.shown as i64 {
             self.shown = edge as u64;
@@ -133,7 +133,7 @@ impl Outq {
     pub fn acked(&mut self, position: i64)
         requires { position ≤ℤ pos self.old.sent }
         ensures new { self.new ≡ after_acked self.old position }
-        ensures stands { (whole : Stream) → Stands self.old whole → Stands self.new whole }
+        ensures stands { (whole : Stream) → IsQueueOf self.old whole → IsQueueOf self.new whole }
     {
         if position > self.acked as i64 {
             let acked = position as u64;
@@ -152,8 +152,8 @@ impl Outq {
         ensures new { self.new ≡ after_sent self.old result }
         ensures letters { IfSome result (λ p. 0 < piece_letters p) }
         ensures unacked { IfSome result (λ p. IsUnacked self.new p) }
-        ensures stands { (whole : Stream) → Stands self.old whole → Stands self.new whole }
-        ensures carries { IfSome result (λ p. (whole : Stream) → Stands self.old whole → Carries whole p.at (carried whole p)) }
+        ensures stands { (whole : Stream) → IsQueueOf self.old whole → IsQueueOf self.new whole }
+        ensures carries { IfSome result (λ p. (whole : Stream) → IsQueueOf self.old whole → Carries whole p.at (carried whole p)) }
     {
         let piece = self.piece(mss, self.sent, self.shown)?;
         self.sent += piece.letters();
@@ -168,7 +168,7 @@ impl Outq {
         ensures none { IsNone result ↔ (self.now.sent ≡ self.now.acked) }
         ensures letters { IfSome result (λ p. 0 < piece_letters p) }
         ensures unacked { IfSome result (λ p. IsUnacked self.now p) }
-        ensures carries { IfSome result (λ p. (whole : Stream) → Stands self.now whole → Carries whole p.at (carried whole p)) }
+        ensures carries { IfSome result (λ p. (whole : Stream) → IsQueueOf self.now whole → Carries whole p.at (carried whole p)) }
     {
         self.piece(mss, self.acked, self.sent)
     }
@@ -178,7 +178,7 @@ impl Outq {
         requires unacked { IsUnacked self.now piece }
         requires len { length out.old ≡ piece.len }
         ensures value { out.new ≡ take piece.len (drop (natural piece.at - self.now.acked) self.now.kept) }
-        ensures stands { (whole : Stream) → Stands self.now whole → out.new ≡ (carried whole piece).bytes }
+        ensures stands { (whole : Stream) → IsQueueOf self.now whole → out.new ≡ (carried whole piece).bytes }
     {
         let from = (piece.at as u64 - self.acked) as usize;
         let (first, second) = self.ring.as_slices();

@@ -1,3 +1,3 @@
-pub mod Calls
-pub mod Cells
 pub mod ReceiveWindow
+pub mod Ring
+pub mod WindowCalls

@@ -3,9 +3,11 @@
 
 mod cells;
 mod laws;
+mod marks;
 mod rebuild;
+mod ring;
 #[cfg(test)]
 mod tests;
 
-pub use laws::every_run;
+pub use laws::every_window_run;
 pub use rebuild::Rebuild;

@@ -1,24 +1,23 @@
-//! The window over a flat array of places.
-ghost use Rattle.std.specs.Prelude.{◌≡◌, ◌+◌, ◌-◌, ◌^◌, ◌≤◌, IfOk, List, [], ◌∷◌, length, drop, pos, negsuc, ◌≤ℤ◌};
+//! The window over a ring of slots.
+ghost use Rattle.std.specs.Prelude.{◌≡◌, ◌+◌, ◌-◌, ◌%◌, ◌^◌, ◌≤◌, IfOk, List, [], ◌∷◌, length, min, drop, pos, negsuc, ◌≤ℤ◌};
 ghost use Rattle.cf_stream.specs.FirstCopy.{Offer, first_copy, IsTaken};
 ghost use Rattle.cf_stream.specs.Position.{natural};
 ghost use Rattle.cf_stream.specs.Stream.{Stream, letter_count, Extends};
-ghost use Rattle.cf_rebuild.specs.ReceiveWindow.{IsNew, IsWindow, TakesIn, Consumes, Stands, base_of, unread};
+ghost use Rattle.cf_rebuild.specs.ReceiveWindow.{IsNew, IsWindow, TakesIn, Consumes, IsWindowOf, base_of, unread};
 
-use crate::cells::{Mark, empty, shift, take_in};
+use crate::ring::{PLACES, empty, lend, release, take_in};
 use cf_view::{NoMemory, View};
 use std::alloc::Global;
 use std::marker::Model;
 
-/// How many places are kept from the first byte on that is not consumed. This project's own choice.
-const PLACES: usize = 32_768;
-
 /// What one TCP end has received: the first copy of each letter that was offered below the edge.
 ///
-/// Places count letters from 0, the one after the peer's SYN. No call but `new` takes memory.
+/// Places count letters from 0, the one after the peer's SYN. No call but `new` takes memory, and none moves a byte that
+/// it keeps: the letter at place p has slot p mod 32,768.
 #[derive(Drop)]
 pub struct Rebuild {
-    marks: Vec<Mark>,
+    kept: Vec<u64>,
+    ends: Vec<u64>,
     bytes: Vec<u8>,
     ready: usize,
     consumed: u64,
@@ -27,26 +26,27 @@ pub struct Rebuild {
 }
 
 impl Model for Rebuild {
-    ghost use Rattle.std.specs.Prelude.{◌≡◌, ◌≤◌, length, take, drop};
-    ghost use Rattle.cf_rebuild.specs.Cells.{cells};
+    ghost use Rattle.std.specs.Prelude.{◌≡◌, ◌-◌, ◌%◌, ◌≤◌, length, take};
+    ghost use Rattle.cf_rebuild.specs.Ring.{place_at, places, turned};
     ghost use Rattle.cf_rebuild.specs.ReceiveWindow.{Window, IsWindow};
 
     ghost Value = { Window };
 
-    ghost view = { λ a. record { consumed = a.consumed; pending = take a.ready a.bytes.items; ended = a.ended; ahead = drop a.ready (cells a.marks.items a.bytes.items); edge = a.edge } };
+    ghost view = { λ a. record { consumed = a.consumed; pending = take a.ready (turned (a.consumed % 32768) a.bytes.items); ended = a.ended; ahead = places (place_at a.kept.items a.ends.items a.bytes.items (a.consumed % 32768)) a.ready (length a.bytes.items - a.ready); edge = a.edge } };
 
-    ghost invariant = { λ a. (length a.marks.items ≡ 32768) × (length a.bytes.items ≡ 32768) × (a.ready ≤ 32768) × IsWindow (record { consumed = a.consumed; pending = take a.ready a.bytes.items; ended = a.ended; ahead = drop a.ready (cells a.marks.items a.bytes.items); edge = a.edge }) };
+    ghost invariant = { λ a. (length a.kept.items ≡ 512) × (length a.ends.items ≡ 512) × (length a.bytes.items ≡ 32768) × (a.ready ≤ 32768) × IsWindow (record { consumed = a.consumed; pending = take a.ready (turned (a.consumed % 32768) a.bytes.items); ended = a.ended; ahead = places (place_at a.kept.items a.ends.items a.bytes.items (a.consumed % 32768)) a.ready (length a.bytes.items - a.ready); edge = a.edge }) };
 }
 
 impl Rebuild {
     /// A window that has taken nothing and lets nothing in.
     pub fn new(alloc: Global) -> Result<Rebuild, NoMemory>
         ensures value { IfOk result IsNew }
-        ensures stands { IfOk result (λ w. Stands w []) }
+        ensures stands { IfOk result (λ w. IsWindowOf w []) }
     {
-        let (marks, bytes) = empty(alloc, PLACES)?;
+        let (kept, ends, bytes) = empty(alloc)?;
         Ok(Rebuild {
-            marks,
+            kept,
+            ends,
             bytes,
             ready: 0,
             consumed: 0,
@@ -58,7 +58,7 @@ impl Rebuild {
     /// The number of letters taken: the place of the next one.
     pub fn base(&self) -> i64
         ensures value { result ≡ pos (base_of self.now) }
-        ensures taken { (offers : List Offer) (s : Stream) → Stands self.now offers → IsTaken (first_copy offers) s → result ≡ pos (letter_count s) }
+        ensures taken { (offers : List Offer) (s : Stream) → IsWindowOf self.now offers → IsTaken (first_copy offers) s → result ≡ pos (letter_count s) }
         ensures bounds { IsWindow self.now }
     {
         (self.consumed + self.ready as u64 + u64::from(self.ended)) as i64
@@ -75,17 +75,25 @@ impl Rebuild {
     /// Whether End was taken.
     pub fn ended(&self) -> bool
         ensures value { result ≡ self.now.ended }
-        ensures taken { (offers : List Offer) (s : Stream) → Stands self.now offers → IsTaken (first_copy offers) s → result ≡ s.ended }
+        ensures taken { (offers : List Offer) (s : Stream) → IsWindowOf self.now offers → IsTaken (first_copy offers) s → result ≡ s.ended }
     {
         self.ended
     }
 
-    /// The bytes that were taken and not consumed. They are lent, and not copied.
+    /// The slot of the first byte that is not consumed.
+    fn start(&self) -> usize
+        ensures { result ≡ self.now.consumed % 32768 }
+    {
+        (self.consumed % PLACES as u64) as usize
+    }
+
+    /// The bytes that were taken and not consumed. They are lent, and not copied: the pieces are the ring's own.
     pub fn pending(&self) -> View<'_>
         ensures value { result.bytes ≡ self.now.pending }
-        ensures taken { (offers : List Offer) (s : Stream) → Stands self.now offers → IsTaken (first_copy offers) s → result.bytes ≡ drop self.now.consumed s.bytes }
+        ensures split { result.split ≡ min (length self.now.pending) (32768 - self.now.consumed % 32768) }
+        ensures taken { (offers : List Offer) (s : Stream) → IsWindowOf self.now offers → IsTaken (first_copy offers) s → result.bytes ≡ drop self.now.consumed s.bytes }
     {
-        View::one(&self.bytes[..self.ready])
+        lend(&self.bytes, self.start(), self.ready)
     }
 
     /// Lets in the letters below an edge that is not below the old one, at most 16,384 past the base, at most 32,768 past
@@ -96,7 +104,7 @@ impl Rebuild {
         requires room { edge ≤ℤ pos (self.old.consumed + 32768) }
         requires limit { edge ≤ℤ pos (2 ^ 31) }
         ensures new { self.new ≡ record self.old { edge = natural edge } }
-        ensures stands { (offers : List Offer) → Stands self.old offers → Stands self.new offers }
+        ensures stands { (offers : List Offer) → IsWindowOf self.old offers → IsWindowOf self.new offers }
     {
         self.edge = edge as u64;
     }
@@ -109,15 +117,18 @@ impl Rebuild {
         requires highest { at ≤ℤ pos (2 ^ 32) }
         requires text { length text.now ≤ 65535 }
         ensures takes { TakesIn self.old (record { at = at; text = record { bytes = text.now; ended = end }; edge = self.old.edge }) self.new }
-        ensures stands { (offers : List Offer) → Stands self.old offers → Stands self.new (record { at = at; text = record { bytes = text.now; ended = end }; edge = self.old.edge } ∷ offers) }
+        ensures stands { (offers : List Offer) → IsWindowOf self.old offers → IsWindowOf self.new (record { at = at; text = record { bytes = text.now; ended = end }; edge = self.old.edge } ∷ offers) }
         ensures grows { Extends (unread self.old) (unread self.new) }
     {
         let room = (self.edge - self.consumed) as usize;
         let from = at - self.consumed as i64;
+        let start = self.start();
         let ready = self.ready;
         (self.ready, self.ended) = take_in(
-            &mut self.marks,
+            &mut self.kept,
+            &mut self.ends,
             &mut self.bytes,
+            start,
             ready,
             room,
             from,
@@ -126,13 +137,14 @@ impl Rebuild {
         );
     }
 
-    /// Consumes the first `n` pending bytes. What is left moves to the front.
+    /// Consumes the first `n` pending bytes. No byte is moved.
     pub fn consume(&mut self, n: usize)
         requires { n ≤ length self.old.pending }
         ensures consumes { Consumes self.old n self.new }
-        ensures stands { (offers : List Offer) → Stands self.old offers → Stands self.new offers }
+        ensures stands { (offers : List Offer) → IsWindowOf self.old offers → IsWindowOf self.new offers }
     {
-        shift(&mut self.marks, &mut self.bytes, n);
+        let start = self.start();
+        release(&mut self.kept, &mut self.ends, start, n);
         self.ready -= n;
         self.consumed += n as u64;
     }

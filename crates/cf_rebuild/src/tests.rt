@@ -215,3 +215,43 @@ fn goes_past_its_places(rt: HostRuntime) -> Result<(), Fail> {
     expect(&rt, &window, (&[], 32_776, &W, false));
     Ok(())
 }
+
+/// A write that lies across the end of the ring is lent as the ring's two slices, and read from there.
+#[test]
+fn lends_a_write_across_the_end_of_the_ring(rt: HostRuntime) -> Result<(), Fail> {
+    let mut window = Rebuild::new(rt.alloc())?;
+    let bytes = [7; 16_384];
+    for (at, count) in [(0, 16_384), (16_384, 16_380)] {
+        make(&rt, &mut window, Call::Open(at + 16_384));
+        window.offer(at, &bytes[..count], false);
+        assert_eq!(rt; window.pending().split(), count);
+        make(&rt, &mut window, Call::Consume(count));
+    }
+    make(&rt, &mut window, Call::Open(32_776));
+    window.offer(32_764, &W, false);
+    let pending = window.pending();
+    assert_eq!(rt; pending.len(), 12);
+    assert_eq!(rt; pending.split(), 4);
+    assert!(rt; pending.equals(&W));
+    Ok(())
+}
+
+/// The mark of a byte that was consumed does not stand for one a turn of the ring later.
+#[test]
+fn keeps_nothing_of_the_turn_before(rt: HostRuntime) -> Result<(), Fail> {
+    let mut window = Rebuild::new(rt.alloc())?;
+    let bytes = [7; 8192];
+    for at in [0, 8192, 16_384, 24_576, 32_768] {
+        make(&rt, &mut window, Call::Open(at + 16_384));
+        window.offer(at + 1, &bytes[1..], false);
+        assert!(rt; window.pending().is_empty());
+        window.offer(at, &bytes, false);
+        assert!(rt; window.pending().equals(&bytes));
+        assert_eq!(rt; window.base(), at + 8192);
+        make(&rt, &mut window, Call::Consume(8192));
+    }
+    window.offer(40_964, b"", true);
+    window.offer(40_960, b"ABCDE", false);
+    expect(&rt, &window, (&[], 40_965, b"ABCD", true));
+    Ok(())
+}
