@@ -1,0 +1,6 @@
+mod Blocks
+mod FramePlaces
+mod Frames
+mod Reading
+mod Table
+mod Writing

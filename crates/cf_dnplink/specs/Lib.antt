@@ -1,0 +1,4 @@
+pub mod Crc
+pub mod FramePlaces
+pub mod LinkFrame
+pub mod UserOctets
