@@ -1,0 +1,3 @@
+mod History
+mod Passing
+mod Segments

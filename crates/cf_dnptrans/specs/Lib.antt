@@ -1,0 +1,4 @@
+pub mod AssemblyValue
+pub mod Passing
+pub mod Segments
+pub mod Transport
