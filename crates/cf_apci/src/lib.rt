@@ -1,0 +1,10 @@
+//! The APDUs of IEC 60870-5-104: their framing in a stream, and their writer.
+#![tactic(auto)]
+
+mod apdu;
+#[cfg(test)]
+mod tests;
+mod write;
+
+pub use apdu::{Apdu, each_stream_has_apdus, next_apdu, no_apdu_begins_another};
+pub use write::write_apdu;
