@@ -1,0 +1,4 @@
+pub mod Acts
+pub mod Asdu
+pub mod Mirror
+pub mod Types
