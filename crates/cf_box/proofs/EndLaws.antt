@@ -1,7 +1,7 @@
 -- Endings of a command that reads a policy first.
 use Rattle.std.proofs.Common.{◌≡◌, ℕ, ◌≤◌, List, Option, None, Some, sym, subst, arith, ◌⊎◌, inl, inr}
-use Rattle.cf_outside.specs.Causes.{Rose}
-use Rattle.cf_outside.specs.Content.{Content}
+use Rattle.cf_outside.specs.Faults.{Rose}
+use Rattle.cf_outside.specs.Files.{Content}
 use Rattle.cf_policy.specs.declared.Asset.{Asset}
 use Rattle.cf_policy.specs.declared.Policy.{Policy}
 use Rattle.cf_box.specs.Ends.{EndsAtAsset, EndsAtName, EndsSift, FailsAtPolicy}

@@ -1,9 +1,9 @@
 -- What a listing and a report tell, with less said of why.
 use Rattle.std.proofs.Common.{◌≡◌, ◌⊎◌, ℕ, ◌≤◌, List, [], take, Option, None, Some, Result, Ok, Err, refl, sym, ◌∙◌, ap, inl, inr, arith, subst}
 use Rattle.std.proofs.lemmas.List.{take_all}
-use Rattle.cf_outside.specs.Causes.{Rose}
-use Rattle.cf_outside.specs.Content.{Content}
-use Rattle.cf_outside.specs.SinkCalls.{with_bytes}
+use Rattle.cf_outside.specs.Faults.{Rose}
+use Rattle.cf_outside.specs.Files.{Content}
+use Rattle.cf_outside.specs.Sink.{printed_with}
 use Rattle.cf_pcap.specs.Captures.{header_of}
 use Rattle.cf_pcap.specs.declared.Header.{Header}
 use Rattle.cf_pcap.specs.declared.HeaderRefusal.{HeaderRefusal}
@@ -30,7 +30,7 @@ rose_later a b c later rose = omega arith
 -- a report of a listing tells nothing more
 pub silent_after : (status : ℕ) (old new : Option (List ℕ)) (sink_rose : Type 0) → Reports ending.Listed status old new sink_rose → new ≡ old
 silent_after status old new sink_rose (inl h) = h.1
-silent_after status old new sink_rose (inr h) = h.2.1 ∙ ap (with_bytes old) (take_all h.2.0 [] (omega arith)) ∙ sym (with_nothing old)
+silent_after status old new sink_rose (inr h) = h.2.1 ∙ ap (printed_with old) (take_all h.2.0 [] (omega arith)) ∙ sym (with_nothing old)
 
 module _ (early late : Type 0) (told listed : Option (List ℕ)) where
   -- a listing that failed early has failed later

@@ -4,7 +4,7 @@ use Rattle.std.proofs.lemmas.List.{append-nil, length-append, drop-drop, take_al
 use Rattle.std.proofs.lemmas.Bool.{cases_lt}
 use Rattle.std.proofs.Math.ListN.{drop_of_length-le}
 use Rattle.std.proofs.Math.Seq.{take-append-add}
-use Rattle.cf_outside.specs.SinkCalls.{with_bytes}
+use Rattle.cf_outside.specs.Sink.{printed_with}
 use Rattle.cf_pcap.specs.declared.Header.{Header}
 use Rattle.cf_pcap.specs.Files.{Record, Front, End, Fits, Cut, TooLong, Ending, IsEnd, AreRecords, front_at}
 use Rattle.cf_pcap.proofs.FileLaws.{have_records}
@@ -19,14 +19,14 @@ pub record AreListed (h : Header) (capture : List ℕ) (at number : ℕ) (old no
   pub records : List Record
   pub numbered : number ≡ 1 + length records
   pub leads : (rest : List Record) (ending : Ending) → AreRecords (front_at h) at (drop at capture) rest ending → AreRecords (front_at h) 24 (drop 24 capture) (records ++ rest) ending
-  pub put : now ≡ with_bytes old (lines_from h.link 1 records)
+  pub put : now ≡ printed_with old (lines_from h.link 1 records)
 
 -- bytes put after bytes
-pub with_nothing : (text : Option (List ℕ)) → text ≡ with_bytes text []
+pub with_nothing : (text : Option (List ℕ)) → text ≡ printed_with text []
 with_nothing None = refl
 with_nothing (Some bytes) = ap Some (sym (append-nil bytes))
 
-with_more : (text : Option (List ℕ)) (a b : List ℕ) → with_bytes (with_bytes text a) b ≡ with_bytes text (a ++ b)
+with_more : (text : Option (List ℕ)) (a b : List ℕ) → printed_with (printed_with text a) b ≡ printed_with text (a ++ b)
 with_more None a b = refl
 with_more (Some bytes) a b = ap Some (append_assoc bytes a b)
 
@@ -59,7 +59,7 @@ none_listed h capture old = record {
 module _ (h : Header) (capture : List ℕ) (at number : ℕ) (old now : Option (List ℕ)) (listed : AreListed h capture at number old now) where
   -- nothing more is listed
   stopped : (failed : Type 0) (answer : PacketsEnd) (front : Front) → front_at h at (drop at capture) ≡ front → IsEnd front →
-      ((lines : List ℕ) → now ≡ with_bytes old lines → Tells (record { place = at; front = front }) lines old now failed answer) → IsListed h capture old now failed answer
+      ((lines : List ℕ) → now ≡ printed_with old lines → Tells (record { place = at; front = front }) lines old now failed answer) → IsListed h capture old now failed answer
   stopped failed answer front e is tells = record {
     records = listed.records;
     ending = record { place = at; front = front };
@@ -81,7 +81,7 @@ module _ (h : Header) (capture : List ℕ) (at number : ℕ) (old now : Option (
     joined rest ending are = listed.leads (r ∷ rest) ending (used, e, rw drop-drop are)
 
     -- the line of the next record is put
-    pub one_listed : (new : Option (List ℕ)) → new ≡ with_bytes now (record_line h.link number r) → AreListed h capture (at + used) (number + 1) old new
+    pub one_listed : (new : Option (List ℕ)) → new ≡ printed_with now (record_line h.link number r) → AreListed h capture (at + used) (number + 1) old new
     one_listed new put =
         let before = lines_from h.link 1 listed.records in
         let lines : lines_from h.link 1 (listed.records ++ (r ∷ [])) ≡ before ++ record_line h.link number r =
@@ -91,11 +91,11 @@ module _ (h : Header) (capture : List ℕ) (at number : ℕ) (old now : Option (
           records = listed.records ++ (r ∷ []);
           numbered = omega (arith, listed.numbered, length-append listed.records (r ∷ []));
           leads = λ rest ending are. rw append_assoc (joined rest ending are);
-          put = put ∙ ap (λ text. with_bytes text (record_line h.link number r)) listed.put ∙ with_more old (lines_from h.link 1 listed.records) (record_line h.link number r) ∙ ap (with_bytes old) (sym lines);
+          put = put ∙ ap (λ text. printed_with text (record_line h.link number r)) listed.put ∙ with_more old (lines_from h.link 1 listed.records) (record_line h.link number r) ∙ ap (printed_with old) (sym lines);
         }
 
     -- the put of its line failed
-    pub fault_listed : (failed : Type 0) (new : Option (List ℕ)) → failed → (k : ℕ) × (new ≡ with_bytes now (take k (record_line h.link number r))) → IsListed h capture old new failed end.WriteFault
+    pub fault_listed : (failed : Type 0) (new : Option (List ℕ)) → failed → (k : ℕ) × (new ≡ printed_with now (take k (record_line h.link number r))) → IsListed h capture old new failed end.WriteFault
     fault_listed failed new rose (k, put) =
         let left = have_records h (at + used) (drop (at + used) capture) in
         let line = record_line h.link number r in
@@ -111,8 +111,8 @@ module _ (h : Header) (capture : List ℕ) (at number : ℕ) (old now : Option (
             rose,
             (
               length before + min k (length line),
-              put ∙ ap (λ text. with_bytes text (take k line)) listed.put ∙ with_more old before (take k line)
-                  ∙ ap (with_bytes old) (sym (ap (take (length before + min k (length line))) lines ∙ take_between k before line after)),
+              put ∙ ap (λ text. printed_with text (take k line)) listed.put ∙ with_more old before (take k line)
+                  ∙ ap (printed_with old) (sym (ap (take (length before + min k (length line))) lines ∙ take_between k before line after)),
             ),
           );
         }

@@ -2,7 +2,7 @@
 use Rattle.std.proofs.Common.{◌≡◌, ◌≢◌, ◌⊎◌, ◌↔◌, ℕ, List, Option, None, Some, Result, Ok, Err, refl, sym, subst, ◌∙◌, ap, inl, inr, arith, IsNone, rules}
 use Rattle.cf_lane.specs.Filtered.{Output}
 use Rattle.cf_lane.proofs.FilterLaws.{passes_what_is_allowed}
-use Rattle.cf_outside.specs.Content.{Content}
+use Rattle.cf_outside.specs.Files.{Content}
 use Rattle.cf_policy.specs.declared.Asset.{Asset}
 use Rattle.cf_policy.specs.declared.Policy.{Policy}
 use Rattle.cf_pcap.specs.Captures.{header_of}

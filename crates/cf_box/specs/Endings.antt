@@ -1,6 +1,6 @@
 -- How the program ends: the status of each ending and its text. This project's own.
 use Rattle.std.specs.Prelude.{◌≡◌, ◌⊎◌, ℕ, Bool, true, false, if◌then◌else◌, List, [], ◌++◌, Option, codes, decimal, take}
-use Rattle.cf_outside.specs.SinkCalls.{with_bytes}
+use Rattle.cf_outside.specs.Sink.{printed_with}
 use Rattle.cf_policylang.specs.Keys.{refusal_text}
 use Rattle.cf_box.specs.declared.packets.CaptureRefusal.{CaptureRefusal}
 use Rattle.cf_box.specs.declared.packets.CaptureRefusal.TheVariants as refusal
@@ -60,10 +60,10 @@ status_unprinted e = status_of e
 
 -- what the sink tells after the text of an ending
 abbrev pub told_after : Ending → Option (List ℕ) → Option (List ℕ)
-told_after e told = if is_silent e then told else with_bytes told (text_of e)
+told_after e told = if is_silent e then told else printed_with told (text_of e)
 
 -- a status and what was printed are those of an ending; where the sink failed, a prefix of its text was
 abbrev pub Reports : Ending → (status : ℕ) → (old new : Option (List ℕ)) → (sink_rose : Type 0) → Type 0
 Reports e status old new sink_rose =
     ((status ≡ status_of e) × (new ≡ told_after e old))
-    ⊎ (sink_rose × (status ≡ status_unprinted e) × ((k : ℕ) × (new ≡ with_bytes old (take k (text_of e)))))
+    ⊎ (sink_rose × (status ≡ status_unprinted e) × ((k : ℕ) × (new ≡ printed_with old (take k (text_of e)))))

@@ -1,7 +1,6 @@
 -- What each ending of each command means, and what then stands in the files. This project's own.
 use Rattle.std.specs.Prelude.{◌≡◌, ◌⊎◌, ℕ, List, Option, None, Some, length}
-use Rattle.cf_outside.specs.Content.{Content}
-use Rattle.cf_outside.specs.Whole.{IsPartly}
+use Rattle.cf_outside.specs.Files.{Content, IsPartly}
 use Rattle.cf_lane.specs.Filtered.{Output}
 use Rattle.cf_policy.specs.declared.Asset.{Asset}
 use Rattle.cf_policy.specs.declared.Policy.{Policy}

@@ -1,5 +1,5 @@
 -- Why no policy was read from a file. This project's own.
-use Rattle.cf_outside.specs.Content.{Content}
+use Rattle.cf_outside.specs.Files.{Content}
 use Rattle.cf_box.specs.Policies.{IsRefusedBy}
 use Rattle.cf_box.specs.declared.ending.Ending.{Ending}
 use Rattle.cf_box.specs.declared.ending.Ending.TheVariants as ending

@@ -1,7 +1,6 @@
 -- Three files that are created, and then written. This project's own.
 use Rattle.std.specs.Prelude.{◌≡◌, ◌≢◌, ◌⊎◌, ℕ, List, take}
-use Rattle.cf_outside.specs.Content.{Content, emptied, longer}
-use Rattle.cf_outside.specs.Whole.{written, IsPartly}
+use Rattle.cf_outside.specs.Files.{Content, content_after_create, with_appended, content_after_write, IsPartly}
 
 -- three names, or what each of three files gets
 pub record Three : Type 0 where
@@ -29,21 +28,21 @@ pub record Stand (R : List ℕ → Content → Content → Type 0) (names parts 
 
 -- a file that was created, and one that may have been
 abbrev pub IsCreated : List ℕ → Content → Content → Type 0
-IsCreated part old new = new ≡ emptied old
+IsCreated part old new = new ≡ content_after_create old
 
 abbrev pub IsPerhapsCreated : List ℕ → Content → Content → Type 0
-IsPerhapsCreated part old new = (new ≡ old) ⊎ (new ≡ emptied old)
+IsPerhapsCreated part old new = (new ≡ old) ⊎ (new ≡ content_after_create old)
 
 -- a file that got its part, and one that got a prefix of it
 abbrev pub IsExtended : List ℕ → Content → Content → Type 0
-IsExtended part old new = new ≡ longer old part
+IsExtended part old new = new ≡ with_appended old part
 
 abbrev pub IsPartlyExtended : List ℕ → Content → Content → Type 0
-IsPartlyExtended part old new = (k : ℕ) × (new ≡ longer old (take k part))
+IsPartlyExtended part old new = (k : ℕ) × (new ≡ with_appended old (take k part))
 
 -- a file that was created and got its part
 abbrev pub IsWritten : List ℕ → Content → Content → Type 0
-IsWritten part old new = new ≡ written old part
+IsWritten part old new = new ≡ content_after_write old part
 
 -- the same of the last two files alone
 pub record StandBehind (R : List ℕ → Content → Content → Type 0) (names parts : Three) (old new : List ℕ → Content) : Type 0 where

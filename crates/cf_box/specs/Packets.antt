@@ -1,8 +1,7 @@
 -- The packets of a capture as printed lines. This project's own.
 use Rattle.std.specs.Prelude.{◌≡◌, ℕ, ◌+◌, ◌/◌, ◌%◌, ◌==◌, List, [], ◌∷◌, ◌++◌, length, take, drop, if◌then◌else◌, Option, None, Result, Ok, Err, codes, decimal}
-use Rattle.cf_outside.specs.Content.{Content}
-use Rattle.cf_outside.specs.Whole.{IsWhole, IsLonger}
-use Rattle.cf_outside.specs.SinkCalls.{with_bytes}
+use Rattle.cf_outside.specs.Files.{Content, IsWhole, IsLongerThan}
+use Rattle.cf_outside.specs.Sink.{printed_with}
 use Rattle.cf_packet.specs.Packet.{PacketOf, reads}
 use Rattle.cf_packet.specs.declared.PacketRefusal.{PacketRefusal}
 use Rattle.cf_packet.specs.declared.PacketRefusal.TheVariants as packet
@@ -72,13 +71,13 @@ header_refusal header.LinkType = refusal.LinkType
 -- what an answer tells about the ending of the records, whose lines are these, and what was put; a failed put is told
 -- by a fact
 abbrev pub Tells : Ending → List ℕ → (old new : Option (List ℕ)) → (failed : Type 0) → PacketsEnd → Type 0
-Tells ending lines old new failed end.Listed = (ending.front ≡ End) × (new ≡ with_bytes old lines)
+Tells ending lines old new failed end.Listed = (ending.front ≡ End) × (new ≡ printed_with old lines)
 Tells ending lines old new failed (end.CaptureCut place) =
-    (ending ≡ record { place = place; front = Cut }) × (new ≡ with_bytes old lines)
-Tells ending lines old new failed (end.CaptureRefused refusal.TooLong) = (ending.front ≡ TooLong) × (new ≡ with_bytes old lines)
-Tells ending lines old new failed (end.CaptureRefused refusal.Large) = (ending.front ≡ Large) × (new ≡ with_bytes old lines)
+    (ending ≡ record { place = place; front = Cut }) × (new ≡ printed_with old lines)
+Tells ending lines old new failed (end.CaptureRefused refusal.TooLong) = (ending.front ≡ TooLong) × (new ≡ printed_with old lines)
+Tells ending lines old new failed (end.CaptureRefused refusal.Large) = (ending.front ≡ Large) × (new ≡ printed_with old lines)
 Tells ending lines old new failed (end.CaptureRefused other) = ⊥
-Tells ending lines old new failed end.WriteFault = failed × ((k : ℕ) × (new ≡ with_bytes old (take k lines)))
+Tells ending lines old new failed end.WriteFault = failed × ((k : ℕ) × (new ≡ printed_with old (take k lines)))
 Tells ending lines old new failed other = ⊥
 
 -- the records of a capture with this header were listed, up to their ending or a failed put
@@ -105,5 +104,5 @@ ListingEnds capture answer = ListsCapture capture None None ⊥ answer
 abbrev pub PacketsEnds : Content → (old new : Option (List ℕ)) → (read_rose failed : Type 0) → PacketsEnd → Type 0
 PacketsEnds file old new read_rose failed end.ReadFault = read_rose × (new ≡ old)
 PacketsEnds file old new read_rose failed end.NoMemory = new ≡ old
-PacketsEnds file old new read_rose failed end.Unbuilt = IsLonger file 67108864 × (new ≡ old)
+PacketsEnds file old new read_rose failed end.Unbuilt = IsLongerThan file 67108864 × (new ≡ old)
 PacketsEnds file old new read_rose failed answer = (capture : List ℕ) × IsWhole file capture × ListsCapture capture old new failed answer

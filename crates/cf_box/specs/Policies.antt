@@ -1,8 +1,7 @@
 -- The policy that a file holds, and the asset of a name. This project's own.
 use Rattle.std.specs.Prelude.{◌≡◌, ℕ, List, Option, Ok, Err, length, bytes_eq, find}
 use Rattle.std.specs.List.{sum_by}
-use Rattle.cf_outside.specs.Content.{Content, untold, absent, holds}
-use Rattle.cf_outside.specs.Whole.{IsWhole}
+use Rattle.cf_outside.specs.Files.{Content, untold, absent, holds, IsWhole}
 use Rattle.cf_policy.specs.declared.Asset.{Asset}
 use Rattle.cf_policy.specs.declared.Policy.{Policy}
 use Rattle.cf_policylang.specs.Documents.{policy}

@@ -1,8 +1,7 @@
 -- What the filter of a stored stream leaves, whatever it answers. This project's own.
 use Rattle.std.specs.Prelude.{◌≡◌, ◌≢◌, ◌≤◌, ◌⊎◌, ℕ, List, Result, Ok, Err, None, length}
 use Rattle.cf_lane.specs.Filtered.{IsFiltered, IsBrokenBy, Output}
-use Rattle.cf_outside.specs.Content.{Content}
-use Rattle.cf_outside.specs.Whole.{IsWhole, IsLonger, IsPartly}
+use Rattle.cf_outside.specs.Files.{Content, IsWhole, IsLongerThan, IsPartly}
 use Rattle.cf_policy.specs.declared.Asset.{Asset}
 use Rattle.cf_policy.specs.declared.Protocol.TheVariants as protocol
 use Rattle.cf_view.specs.declared.Break.{Break}
@@ -36,7 +35,7 @@ pub record IsSifted (asset : Asset) (client : ℕ) (file : Content) (output : Ou
 -- the stream is one that is not filtered yet
 abbrev pub IsUnbuilt : Asset → Content → Type 0
 IsUnbuilt asset file =
-    (asset.protocol ≢ protocol.Modbus) ⊎ (IsLonger file 65536 ⊎ ((stream : List ℕ) × IsWhole file stream × ((reason : Break) × IsBrokenBy stream reason)))
+    (asset.protocol ≢ protocol.Modbus) ⊎ (IsLongerThan file 65536 ⊎ ((stream : List ℕ) × IsWhole file stream × ((reason : Break) × IsBrokenBy stream reason)))
 
 -- what an answer means, and what then stands in the files; a count that rose is told by a fact
 abbrev pub SiftEnds : Asset → ℕ → SiftNames → (old new : List ℕ → Content) → (read_rose write_rose : Type 0) → Result SiftDone SiftFault → Type 0

@@ -1,8 +1,7 @@
 -- What a status tells, each by itself. This project's own.
 use Rattle.std.specs.Prelude.{◌≡◌, ◌≢◌, ◌⊎◌, ℕ, List, Option, None, Some}
 use Rattle.cf_lane.specs.Laws.{PassesWhatIsAllowed}
-use Rattle.cf_outside.specs.Content.{Content}
-use Rattle.cf_outside.specs.Whole.{IsWhole, written}
+use Rattle.cf_outside.specs.Files.{Content, IsWhole, content_after_write}
 use Rattle.cf_policy.specs.declared.Asset.{Asset}
 use Rattle.cf_policy.specs.declared.Policy.{Policy}
 use Rattle.cf_policylang.specs.declared.PolicyRefusal.{PolicyRefusal}
@@ -23,7 +22,7 @@ pub record PassesByPolicy (file name : List ℕ) (client : ℕ) (stream out : Li
   pub whole : IsWhole (old stream) bytes
   pub passed : List ℕ
   pub passes : PassesWhatIsAllowed asset client bytes passed
-  pub output : new out ≡ written (old out) passed
+  pub output : new out ≡ content_after_write (old out) passed
 
 -- what the words of a command that was done promise of its output
 abbrev pub Passes : (old new : List ℕ → Content) → Option Command → Type 0

@@ -8,7 +8,7 @@ ghost use Rattle.cf_box.specs.Policies.{asset_named};
 ghost use Rattle.cf_box.specs.Sift.{outputs_of};
 ghost use Rattle.cf_box.specs.Statuses.{CutsCapture, IsStatus, LacksAsset, Lists, Passes, RefusesCapture, RefusesPolicy};
 ghost use Rattle.cf_box.specs.Words.{command_of};
-ghost use Rattle.cf_outside.specs.Causes.{Rose};
+ghost use Rattle.cf_outside.specs.Faults.{Rose};
 
 use crate::ending::{Ending, report};
 use crate::packets::{PacketsEnd, list_packets};

@@ -2,7 +2,7 @@
 ghost use Rattle.std.specs.Prelude.{◌≡◌, ◌≤◌, ◌++◌, [], codes, decimal};
 ghost use Rattle.cf_policylang.specs.Keys.{refusal_text};
 ghost use Rattle.cf_box.specs.Endings.{Reports, capture_number, is_silent, status_of, status_unprinted, text_of};
-ghost use Rattle.cf_outside.specs.Causes.{HasCause, Rose};
+ghost use Rattle.cf_outside.specs.Faults.{HasCause, Rose};
 
 use crate::packets::CaptureRefusal;
 use arrayvec::ArrayString;

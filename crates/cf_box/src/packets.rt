@@ -2,8 +2,8 @@
 ghost use Rattle.std.specs.Prelude.{◌≡◌, ℕ, ◌+◌, ◌<◌, ◌-◌, ◌≤◌, ◌++◌, [], Ok, drop, codes, length};
 ghost use Rattle.arrayvec.specs.ArrayString.{array_string_len};
 ghost use Rattle.cf_box.specs.Packets.{IsListed, ListsCapture, PacketsEnds, fields_text, flag_text, flags_text, header_refusal, packet_text, record_line, refusal_name};
-ghost use Rattle.cf_outside.specs.Causes.{HasCause, Rose};
-ghost use Rattle.cf_outside.specs.SinkCalls.{Puts};
+ghost use Rattle.cf_outside.specs.Faults.{HasCause, Rose};
+ghost use Rattle.cf_outside.specs.Sink.{Puts};
 ghost use Rattle.cf_packet.specs.Packet.{packet_seen, reads};
 ghost use Rattle.cf_pcap.specs.Captures.{IsInside, header_of, record_seen};
 ghost use Rattle.cf_pcap.specs.Files.{front_at, front_of};

@@ -2,7 +2,7 @@
 ghost use Rattle.std.specs.Prelude.{◌≡◌, ◌≤◌, IfOk, IfErr, bytes_eq, find, length, option_map};
 ghost use Rattle.cf_box.specs.Policies.{HasPolicy, IsRefusedBy, asset_named, rule_count};
 ghost use Rattle.cf_box.specs.Loads.{IsLoadFault};
-ghost use Rattle.cf_outside.specs.Causes.{HasCause, Rose};
+ghost use Rattle.cf_outside.specs.Faults.{HasCause, Rose};
 ghost use Rattle.cf_policy.specs.Within.{IsWithin, AreAssetsWithin};
 
 use cf_outside::{Files, WholeFault, read_whole};

@@ -1,8 +1,7 @@
 //! The filter of a stored stream of one client.
 ghost use Rattle.std.specs.Prelude.{◌≡◌, ◌≢◌, ◌⊎◌, ℕ, List, IsErr, IsErrOf, OnErr, OnOk, IfOk};
-ghost use Rattle.cf_outside.specs.Causes.{HasCause, Rose};
-ghost use Rattle.cf_outside.specs.Whole.{IsPartly};
-ghost use Rattle.cf_outside.specs.Content.{KeepsOthers, emptied};
+ghost use Rattle.cf_outside.specs.Faults.{HasCause, Rose};
+ghost use Rattle.cf_outside.specs.Files.{IsPartly, KeepsOthers, content_after_create};
 ghost use Rattle.cf_box.specs.Outputs.{AreApart, IsCreated, IsExtended, IsPartlyExtended, IsPerhapsCreated, IsWritten, Stand, StandBehind};
 ghost use Rattle.cf_box.specs.Sift.{SiftEnds, outputs_of, parts_of};
 ghost use Rattle.cf_lane.specs.Filtered.{output_seen};
@@ -65,8 +64,8 @@ fn create_outputs<F: Files>(files: &mut F, names: &SiftNames<'_>) -> Result<(), 
 }
 
 fn create<F: Files>(files: &mut F, name: &str) -> Result<(), WriteFault>
-    ensures done { OnOk result (F.content files.new name.now ≡ emptied (F.content files.old name.now)) }
-    ensures fault { OnErr result ((F.content files.new name.now ≡ F.content files.old name.now) ⊎ (F.content files.new name.now ≡ emptied (F.content files.old name.now))) }
+    ensures done { OnOk result (F.content files.new name.now ≡ content_after_create (F.content files.old name.now)) }
+    ensures fault { OnErr result ((F.content files.new name.now ≡ F.content files.old name.now) ⊎ (F.content files.new name.now ≡ content_after_create (F.content files.old name.now))) }
     ensures others { KeepsOthers name.now (F.content files.old) (F.content files.new) }
     ensures cause { HasCause (F.write_faults files.old) (F.write_faults files.new) (IsErr result) }
     ensures reads { F.read_faults files.new ≡ F.read_faults files.old }

@@ -1,8 +1,10 @@
-//! The outside world: files, a sink for printed text and a pair of streams, with what each answer means and what
-//! stands after a fault, and objects in memory that keep to it.
+//! The outside world: files, a sink for printed text, a desk for packets and log lines and a pair of streams, with what
+//! each answer means and what stands after a fault, and objects in memory that keep to it.
 #![tactic(auto)]
 
+mod desk;
 mod files;
+mod memory_desk;
 mod memory_files;
 mod memory_pair;
 mod memory_sink;
@@ -11,7 +13,9 @@ mod script;
 mod sink;
 mod whole;
 
+pub use desk::{Desk, LineDesk};
 pub use files::{Files, ReadAnswer, WriteAnswer};
+pub use memory_desk::{MemoryDesk, Sent};
 pub use memory_files::MemoryFiles;
 pub use memory_pair::MemoryPair;
 pub use memory_sink::MemorySink;

@@ -1,6 +1,6 @@
 //! Real files.
 ghost use Rattle.std.specs.Prelude.{◌≡◌, ◌<◌, ◌≤◌, IfOk, IfSome, length};
-ghost use Rattle.cf_outside.specs.Content.{untold};
+ghost use Rattle.cf_outside.specs.Files.{untold};
 
 use cf_outside::{Files, ReadAnswer, WriteAnswer};
 use std::alloc::Global;

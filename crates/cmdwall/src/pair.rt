@@ -1,6 +1,6 @@
 //! The pair of streams, which is not there yet: each call fails.
 ghost use Rattle.std.specs.Prelude.{◌≡◌, ◌≤◌, None};
-ghost use Rattle.cf_outside.specs.Causes.{Rose};
+ghost use Rattle.cf_outside.specs.Faults.{Rose};
 
 use cf_outside::{GiveAnswer, MeetAnswer, MomentAnswer, Pair, TakeAnswer, WriteAnswer};
 use cf_view::{Endpoint, Side};

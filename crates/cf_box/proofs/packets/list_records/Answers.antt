@@ -1,5 +1,5 @@
 use Rattle.std.proofs.Common.{◌≤◌, ◌-◌, length, refl, arith}
-use Rattle.cf_outside.specs.Causes.{Rose}
+use Rattle.cf_outside.specs.Faults.{Rose}
 use Rattle.cf_box.proofs.ListingLaws.{all_listed, cut_listed, long_listed, one_listed, fault_listed}
 use Rattle.cf_box.proofs.packets.list_records.Goals as goal
 

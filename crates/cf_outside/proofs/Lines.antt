@@ -1,0 +1,103 @@
+-- The lines of a text that grows.
+use Rattle.std.proofs.Common.{◌≡◌, ◌⊎◌, ◌==◌, ℕ, true, false, List, [], ◌∷◌, ◌++◌, if◌then◌else◌, take, refl, ap, ◌∙◌, append_assoc, inl, inr, zero, suc}
+use Rattle.std.proofs.lemmas.List.{append-nil}
+use Rattle.cf_outside.specs.Files.{Content, untold, absent, holds, with_appended}
+use Rattle.cf_outside.specs.Desk.{with_item}
+use Rattle.cf_outside.specs.Lines.{is_nothing, is_line, lines_from, rest_from, file_lines, ends_with_line}
+
+pub lines_from-append : (part xs ys : List ℕ) → lines_from part (xs ++ ys) ≡ lines_from part xs ++ lines_from (rest_from part xs) ys
+lines_from-append part [] ys = refl
+lines_from-append part (x ∷ xs) ys =
+    let part' : List ℕ = part ++ x ∷ [] in
+    elim (x == 10) as (λ t. (if t then part' ∷ lines_from [] (xs ++ ys) else lines_from part' (xs ++ ys))
+    ≡ (if t then part' ∷ lines_from [] xs else lines_from part' xs) ++ lines_from (if t then rest_from [] xs else rest_from part' xs) ys) [
+      | true ↦ ap (λ l. part' ∷ l) (lines_from-append [] xs ys)
+      | false ↦ lines_from-append part' xs ys
+    ]
+
+pub rest_from-append : (part xs ys : List ℕ) → rest_from part (xs ++ ys) ≡ rest_from (rest_from part xs) ys
+rest_from-append part [] ys = refl
+rest_from-append part (x ∷ xs) ys =
+    let part' : List ℕ = part ++ x ∷ [] in
+    elim (x == 10) as (λ t. (if t then rest_from [] (xs ++ ys) else rest_from part' (xs ++ ys))
+    ≡ rest_from (if t then rest_from [] xs else rest_from part' xs) ys) [
+      | true ↦ rest_from-append [] xs ys
+      | false ↦ rest_from-append part' xs ys
+    ]
+
+-- a line is one line
+pub lines_from-line : (part text : List ℕ) → is_line text ≡ true → lines_from part text ≡ (part ++ text) ∷ []
+lines_from-line part [] h = cc
+lines_from-line part (x ∷ []) h =
+    elim (x == 10) as (λ t. (if t then true else false) ≡ true → (if t then (part ++ x ∷ []) ∷ [] else []) ≡ (part ++ x ∷ []) ∷ []) [
+      | true ↦ λ _. refl
+      | false ↦ λ e. cc
+    ] h
+lines_from-line part (x ∷ y ∷ ys) h =
+    let part' : List ℕ = part ++ x ∷ [] in
+    elim (x == 10) as (λ t. (if t then false else is_line (y ∷ ys)) ≡ true →
+    (if t then part' ∷ lines_from [] (y ∷ ys) else lines_from part' (y ∷ ys)) ≡ (part ++ x ∷ y ∷ ys) ∷ []) [
+      | true ↦ λ e. cc
+      | false ↦ λ e. lines_from-line part' (y ∷ ys) e ∙ ap (λ l. l ∷ []) (append_assoc part (x ∷ []) (y ∷ ys))
+    ] h
+
+pub rest_from-line : (part text : List ℕ) → is_line text ≡ true → rest_from part text ≡ []
+rest_from-line part [] h = cc
+rest_from-line part (x ∷ []) h =
+    elim (x == 10) as (λ t. (if t then true else false) ≡ true → (if t then [] else part ++ x ∷ []) ≡ []) [
+      | true ↦ λ _. refl
+      | false ↦ λ e. cc
+    ] h
+rest_from-line part (x ∷ y ∷ ys) h =
+    let part' : List ℕ = part ++ x ∷ [] in
+    elim (x == 10) as (λ t. (if t then false else is_line (y ∷ ys)) ≡ true →
+    (if t then rest_from [] (y ∷ ys) else rest_from part' (y ∷ ys)) ≡ []) [
+      | true ↦ λ e. cc
+      | false ↦ λ e. rest_from-line part' (y ∷ ys) e
+    ] h
+
+take-nothing : (k : ℕ) → take k (let none : List ℕ = [] in none) ≡ []
+take-nothing zero = refl
+take-nothing (suc k) = refl
+
+-- some of a line is no line, or all of it
+pub lines_from-part : (part text : List ℕ) (k : ℕ) → is_line text ≡ true → (lines_from part (take k text) ≡ []) ⊎ (take k text ≡ text)
+lines_from-part part text zero h = inl refl
+lines_from-part part [] (suc k) h = cc
+lines_from-part part (x ∷ []) (suc k) h = inr (ap (λ l. x ∷ l) (take-nothing k))
+lines_from-part part (x ∷ y ∷ ys) (suc k) h =
+    let part' : List ℕ = part ++ x ∷ [] in
+    elim (x == 10) as (λ t. (if t then false else is_line (y ∷ ys)) ≡ true →
+    ((if t then part' ∷ lines_from [] (take k (y ∷ ys)) else lines_from part' (take k (y ∷ ys))) ≡ []) ⊎ (x ∷ take k (y ∷ ys) ≡ x ∷ y ∷ ys)) [
+      | true ↦ λ e. inr cc
+      | false ↦ λ e. elim (lines_from-part part' (y ∷ ys) k e) [ inl none ↦ inl none | inr all ↦ inr (ap (λ l. x ∷ l) all) ]
+    ] h
+
+pub nothing : (xs : List ℕ) → is_nothing xs ≡ true → xs ≡ []
+nothing [] h = refl
+nothing (x ∷ xs) h = cc
+
+-- a line that is put behind whole lines is one more line
+pub file_lines-line : (file : Content) (text : List ℕ) → is_line text ≡ true → ends_with_line file ≡ true →
+    file_lines (with_appended file text) ≡ with_item text (file_lines file)
+file_lines-line untold text h e = refl
+file_lines-line absent text h e = refl
+file_lines-line (holds all) text h e = rw (lines_from-append [] all text, nothing _ e, lines_from-line [] text h) refl
+
+pub ends_with_line-line : (file : Content) (text : List ℕ) → is_line text ≡ true → ends_with_line file ≡ true →
+    ends_with_line (with_appended file text) ≡ true
+ends_with_line-line untold text h e = refl
+ends_with_line-line absent text h e = refl
+ends_with_line-line (holds all) text h e = rw (rest_from-append [] all text, nothing _ e, rest_from-line [] text h) refl
+
+pub file_lines-part : (file : Content) (text : List ℕ) (k : ℕ) → is_line text ≡ true → ends_with_line file ≡ true →
+    (file_lines (with_appended file (take k text)) ≡ file_lines file) ⊎ (file_lines (with_appended file (take k text)) ≡ with_item text (file_lines file))
+file_lines-part untold text k h e = inl refl
+file_lines-part absent text k h e = inl refl
+file_lines-part (holds all) text k h e =
+    elim (lines_from-part [] text k h) [
+      | inl none ↦ inl (rw (lines_from-append [] all (take k text), nothing _ e, none, append-nil (lines_from [] all)) refl)
+      | inr whole ↦ inr (rw (whole, lines_from-append [] all text, nothing _ e, lines_from-line [] text h) refl)
+    ]
+
+pub ruleset line_laws = (file_lines-line, ends_with_line-line, file_lines-part)
