@@ -1,0 +1,4 @@
+mod Counting
+mod Greatest
+mod Lists
+mod Runs

@@ -1,0 +1,198 @@
+-- Counts of the I frames of an IEC 60870-5-104 session, and what a number of 15 bits stands for. IEC 60870-5-104,
+-- section 5.1: N(S) counts the frames that were sent, N(R) those that were received, both modulo 32768.
+--
+-- What went on so far is a list of events, the newest first, so that what was before an event is the list after it. The
+-- lists of frames are in their order, the first frame first, so that the first j of them are a front.
+use Rattle.std.specs.Prelude.{ℕ, zero, suc, ◌+◌, ◌-◌, ◌%◌, ◌≤◌, ◌≡◌, ◌==◌, ◌&&◌, nat_lt, nat_le, Bool, true, false, if◌then◌else◌, List, [], ◌∷◌, ◌++◌, length, take, Option, Some, None, count_by}
+use Rattle.std.specs.Option.{option_or}
+use Rattle.cf_view.specs.declared.Side.{Side}
+use Rattle.cf_view.specs.declared.Side.TheVariants as sides
+use Rattle.cf_renumber.specs.declared.answer.Stamp.{Stamp}
+use Rattle.cf_renumber.specs.declared.answer.RefusedStamp.{RefusedStamp}
+use Rattle.cf_renumber.specs.declared.answer.NumberRefusal.{NumberRefusal}
+use Rattle.cf_renumber.specs.declared.answer.NumberRefusal.TheVariants as refusals
+use Rattle.cf_renumber.specs.declared.mark.Fate.{Fate}
+use Rattle.cf_renumber.specs.declared.mark.Fate.TheVariants as fates
+use Rattle.cf_renumber.specs.declared.mark.Origin.{Origin}
+use Rattle.cf_renumber.specs.declared.mark.Origin.TheVariants as origins
+
+-- what happened. The number is the N(R) of the frame that came
+pub data Event : Type 0 where
+  Started : Event
+  Stopped : Event
+  -- an I frame of the client that goes on; one that does not, and whether its mirror goes back; an S frame
+  Admitted : ℕ → Event
+  Refused : ℕ → Bool → Event
+  ClientAck : ℕ → Event
+  -- an I frame of the controller, which goes on; an S frame
+  Carried : ℕ → Event
+  ControllerAck : ℕ → Event
+
+-- the client's I frames in their order, and what became of each
+abbrev pub client_frames : List Event → List Fate
+client_frames [] = []
+client_frames (Admitted nr ∷ earlier) = client_frames earlier ++ fates.Admitted ∷ []
+client_frames (Refused nr mirrored ∷ earlier) = client_frames earlier ++ fates.Refused ∷ []
+client_frames (_ ∷ earlier) = client_frames earlier
+
+-- the I frames to the client in their order, and whose each is
+abbrev pub frames_to_client : List Event → List Origin
+frames_to_client [] = []
+frames_to_client (Refused nr mirrored ∷ earlier) =
+    if mirrored then frames_to_client earlier ++ origins.Mirror ∷ [] else frames_to_client earlier
+frames_to_client (Carried nr ∷ earlier) = frames_to_client earlier ++ origins.Controller ∷ []
+frames_to_client (_ ∷ earlier) = frames_to_client earlier
+
+abbrev pub is_admitted : Fate → Bool
+is_admitted fates.Admitted = true
+is_admitted fates.Refused = false
+
+abbrev pub is_controllers : Origin → Bool
+is_controllers origins.Controller = true
+is_controllers origins.Mirror = false
+
+-- how many I frames came from each side, and how many went to each
+abbrev pub from_client : List Event → ℕ
+from_client events = length (client_frames events)
+
+abbrev pub to_controller : List Event → ℕ
+to_controller events = count_by is_admitted (client_frames events)
+
+abbrev pub from_controller : List Event → ℕ
+from_controller events = count_by is_controllers (frames_to_client events)
+
+abbrev pub to_client : List Event → ℕ
+to_client events = length (frames_to_client events)
+
+-- a count from low to high that agrees with a number modulo 32768
+pub record IsCountOf (low high number count : ℕ) : Type 0 where
+  pub at_least : low ≤ count
+  pub at_most : count ≤ high
+  pub agrees : count % 32768 ≡ number
+
+-- the least count from low on that agrees with a number modulo 32768. Where fewer than 32768 counts are allowed it is the
+-- only one that may be
+abbrev pub count_from : ℕ → ℕ → ℕ
+count_from low number = low + (number + 32768 - low % 32768) % 32768
+
+-- whether a number stands for a count from low to high
+abbrev pub is_counted : ℕ → ℕ → ℕ → Bool
+is_counted low high number = nat_lt number 32768 && nat_le (count_from low number) high
+
+-- how many I frames each side has acknowledged
+abbrev pub acked_by_client : List Event → ℕ
+acked_by_client [] = 0
+acked_by_client (Admitted nr ∷ earlier) = count_from (acked_by_client earlier) nr
+acked_by_client (Refused nr mirrored ∷ earlier) = count_from (acked_by_client earlier) nr
+acked_by_client (ClientAck nr ∷ earlier) = count_from (acked_by_client earlier) nr
+acked_by_client (_ ∷ earlier) = acked_by_client earlier
+
+abbrev pub acked_by_controller : List Event → ℕ
+acked_by_controller [] = 0
+acked_by_controller (Carried nr ∷ earlier) = count_from (acked_by_controller earlier) nr
+acked_by_controller (ControllerAck nr ∷ earlier) = count_from (acked_by_controller earlier) nr
+acked_by_controller (_ ∷ earlier) = acked_by_controller earlier
+
+-- how many of the first j frames to the client are the controller's
+abbrev pub controllers_among : ℕ → List Origin → ℕ
+controllers_among j frames = count_by is_controllers (take j frames)
+
+-- the greatest j such that the first j frames of the client hold at most m admitted ones
+abbrev pub covered_by : ℕ → List Fate → ℕ
+covered_by m [] = 0
+covered_by m (fates.Refused ∷ frames) = suc (covered_by m frames)
+covered_by zero (fates.Admitted ∷ frames) = 0
+covered_by (suc m) (fates.Admitted ∷ frames) = suc (covered_by m frames)
+
+-- what the N(R) of a client's frame becomes towards the controller
+abbrev pub client_translated : List Event → ℕ → ℕ
+client_translated earlier nr = controllers_among (count_from (acked_by_client earlier) nr) (frames_to_client earlier)
+
+-- what the N(R) of a controller's frame becomes towards the client
+abbrev pub controller_translated : List Event → ℕ → ℕ
+controller_translated earlier nr = covered_by (count_from (acked_by_controller earlier) nr) (client_frames earlier)
+
+-- the last N(R) that went to the controller, as a count: with an admitted frame, with an S frame of the client, or with
+-- one that a refused frame leaves
+abbrev pub last_told : List Event → ℕ
+last_told [] = 0
+last_told (Admitted nr ∷ earlier) = client_translated earlier nr
+last_told (Refused nr mirrored ∷ earlier) =
+    if nat_lt (last_told earlier) (client_translated earlier nr) then client_translated earlier nr else last_told earlier
+last_told (ClientAck nr ∷ earlier) = client_translated earlier nr
+last_told (_ ∷ earlier) = last_told earlier
+
+-- whether a side may send I frames: the client where the last of the two was a start, the controller from the first
+-- start on
+abbrev pub is_running : List Event → Bool
+is_running [] = false
+is_running (Started ∷ earlier) = true
+is_running (Stopped ∷ earlier) = false
+is_running (_ ∷ earlier) = is_running earlier
+
+abbrev pub has_started : List Event → Bool
+has_started [] = false
+has_started (Started ∷ earlier) = true
+has_started (_ ∷ earlier) = has_started earlier
+
+abbrev pub may_send : Side → List Event → Bool
+may_send sides.Client events = is_running events
+may_send sides.Controller events = has_started events
+
+-- the numbers of a client's frame that goes on
+abbrev pub admitted_stamp : List Event → ℕ → Stamp
+admitted_stamp earlier nr = record { send = to_controller earlier % 32768; receive = client_translated earlier nr % 32768 }
+
+-- the numbers of the mirror of a refused frame, which is itself among the client's frames
+abbrev pub mirror_stamp : List Event → Stamp
+mirror_stamp earlier =
+    record {
+      send = to_client earlier % 32768;
+      receive = covered_by (acked_by_controller earlier) (client_frames earlier ++ fates.Refused ∷ []) % 32768;
+    }
+
+-- the N(R) of the S frame that a refused frame leaves towards the controller
+abbrev pub owed_ack : List Event → ℕ → Option ℕ
+owed_ack earlier nr =
+    if nat_lt (last_told earlier) (client_translated earlier nr) then Some (client_translated earlier nr % 32768) else None
+
+abbrev pub refused_stamp : List Event → ℕ → Bool → RefusedStamp
+refused_stamp earlier nr mirrored =
+    record { reply = (if mirrored then Some (mirror_stamp earlier) else None); ack = owed_ack earlier nr }
+
+-- the numbers of a controller's frame
+abbrev pub carried_stamp : List Event → ℕ → Stamp
+carried_stamp earlier nr = record { send = to_client earlier % 32768; receive = controller_translated earlier nr % 32768 }
+
+-- why a number is refused, if it is
+abbrev pub send_refusal : ℕ → ℕ → Option NumberRefusal
+send_refusal count ns =
+    if ns == count % 32768 then None else Some (refusals.WrongSend (count % 32768) ns)
+
+abbrev pub receive_refusal : ℕ → ℕ → ℕ → Option NumberRefusal
+receive_refusal low high nr =
+    if is_counted low high nr then None else Some (refusals.WrongReceive (low % 32768) (high % 32768) nr)
+
+abbrev pub outstanding_refusal : ℕ → Option NumberRefusal
+outstanding_refusal unacked = if unacked == 4096 then Some refusals.Outstanding else None
+
+-- the client's frames that the controller has not acknowledged
+abbrev pub unacked_by_controller : List Event → ℕ
+unacked_by_controller events = from_client events - covered_by (acked_by_controller events) (client_frames events)
+
+abbrev pub client_ack_refusal : List Event → ℕ → Option NumberRefusal
+client_ack_refusal events nr = receive_refusal (acked_by_client events) (to_client events) nr
+
+abbrev pub controller_ack_refusal : List Event → ℕ → Option NumberRefusal
+controller_ack_refusal events nr = receive_refusal (acked_by_controller events) (to_controller events) nr
+
+abbrev pub client_refusal : List Event → ℕ → ℕ → Option NumberRefusal
+client_refusal events ns nr =
+    option_or (send_refusal (from_client events) ns)
+    (option_or (client_ack_refusal events nr)
+    (option_or (outstanding_refusal (unacked_by_controller events)) (outstanding_refusal (to_client events - count_from (acked_by_client events) nr))))
+
+abbrev pub controller_refusal : List Event → ℕ → ℕ → Option NumberRefusal
+controller_refusal events ns nr =
+    option_or (send_refusal (from_controller events) ns)
+    (option_or (controller_ack_refusal events nr) (outstanding_refusal (to_client events - acked_by_client events)))

@@ -1,0 +1,15 @@
+//! The send and receive numbers of an IEC 60870-5-104 session whose two legs carry different frames.
+#![tactic(auto)]
+
+mod answer;
+mod laws;
+mod mark;
+mod marks;
+mod number;
+mod numbers;
+#[cfg(test)]
+mod tests;
+
+pub use answer::{NumberRefusal, RefusedStamp, Stamp};
+pub use laws::{covers_the_most, every_numbers_run, one_count};
+pub use numbers::Numbers;
