@@ -1,0 +1,135 @@
+-- Acts and replies, header by header.
+use Rattle.std.proofs.Common.{◌≡◌, ℕ, zero, suc, ◌+◌, ◌-◌, ◌<◌, ◌≤◌, List, [], ◌∷◌, ◌++◌, length, map, drop, if◌then◌else◌, Bool, true, false, Option, Some, None, IsSome, Result, Ok, Err, refl, sym, ◌∙◌, ap, subst, arith, append_assoc}
+use Rattle.std.specs.List.{flat_map, range_with_len, slice_get}
+use Rattle.std.proofs.lemmas.List.{length-drop, drop-drop, drop_all}
+use Rattle.std.proofs.lemmas.Bool.{false≢true}
+use Rattle.std.proofs.lemmas.List.Concat.{flat_map-cons}
+use Rattle.cf_view.specs.declared.Act.{Act}
+use Rattle.cf_dnpobj.specs.declared.fragment.FragmentRefusal.{FragmentRefusal}
+use Rattle.cf_dnpobj.specs.Objects.{is_command}
+use Rattle.cf_dnpobj.specs.Headers.{BeginsWithHeader, count_of, headers_in}
+use Rattle.cf_dnpobj.specs.Acts.{header_acts, header_count, object_act, plain_act, group_of, acts_by, acts_in}
+use Rattle.cf_dnpobj.specs.Reply.{refused}
+use Rattle.cf_dnpobj.proofs.Headers.{headers_later}
+use Rattle.cf_dnpobj.proofs.Sums.{header_counted, some_headers}
+
+get_left : {X : Type 0} (xs ys : List X) (i : ℕ) → i < length xs → slice_get (xs ++ ys) i ≡ slice_get xs i
+get_left [] ys i h = absurd (omega (arith, h))
+get_left (x ∷ xs) ys zero h = refl
+get_left (x ∷ xs) ys (suc i) h = get_left xs ys i (omega (arith, h))
+
+get_right : {X : Type 0} (xs ys : List X) (i : ℕ) → length xs ≤ i → slice_get (xs ++ ys) i ≡ slice_get ys (i - length xs)
+get_right [] ys i h = (let e : i ≡ i - 0 = omega arith in ap (slice_get ys) e)
+get_right (x ∷ xs) ys zero h = absurd (omega (arith, h))
+get_right (x ∷ xs) ys (suc i) h =
+    (let e : i - length xs ≡ suc i - length (x ∷ xs) = omega arith in
+    get_right xs ys i (omega (arith, h)) ∙ ap (slice_get ys) e)
+
+get_mapped : {X : Type 0} (f : ℕ → X) (a n i : ℕ) → i < n → slice_get (map f (range_with_len a n)) i ≡ Some (f (a + i))
+get_mapped f a zero i h = absurd (omega (arith, h))
+get_mapped f a (suc n) zero h = (let e : a ≡ a + 0 = omega arith in ap (λ k. Some (f k)) e)
+get_mapped f a (suc n) (suc i) h =
+    (let e : a + 1 + i ≡ a + suc i = omega arith in
+    get_mapped f (a + 1) n i (omega (arith, h)) ∙ ap (λ k. Some (f k)) e)
+
+pub if_true : {X : Type 0} (b : Bool) (x y : X) → b ≡ true → (if b then x else y) ≡ x
+if_true true x y e = refl
+if_true false x y e = absurd (false≢true e)
+
+-- an act of a command's header
+pub command_act : (code : ℕ) (h : List ℕ) (i : ℕ) → is_command code ≡ true → i < header_count code h → slice_get (header_acts code h) i ≡ Some (object_act code h i)
+command_act code h i c inside =
+    let all : List Act = map (object_act code h) (range_with_len 0 (count_of h)) in
+    let n : i < count_of h = subst (λ (k : ℕ). i < k) (if_true (is_command code) (count_of h) 1 c) inside in
+    let e : 0 + i ≡ i = omega arith in
+    ap (λ (acts : List Act). slice_get acts i) (if_true (is_command code) all (plain_act code (group_of h) ∷ []) c)
+    ∙ get_mapped (object_act code h) 0 (count_of h) i n ∙ ap (λ (k : ℕ). Some (object_act code h k)) e
+
+-- where all headers are whole, those from a place on are, and act i is act left of these
+abbrev pub LeavesActs : ℕ → List ℕ → ℕ → ℕ → ℕ → Type 0
+LeavesActs code xs i place left =
+    (headers : List (List ℕ)) → headers_in code xs ≡ Ok headers →
+    (later : List (List ℕ)) × (headers_in code (drop place xs) ≡ Ok later) × (slice_get (flat_map (header_acts code) headers) i ≡ slice_get (flat_map (header_acts code) later) left)
+
+-- where all headers are whole, those from a place on are, and what they give follows what is there
+abbrev pub LeavesReply : ℕ → List ℕ → List ℕ → ℕ → List ℕ → Type 0
+LeavesReply code xs start place items =
+    (headers : List (List ℕ)) → headers_in code xs ≡ Ok headers →
+    (later : List (List ℕ)) × (headers_in code (drop place xs) ≡ Ok later) × (items ++ flat_map (refused code) later ≡ start ++ flat_map (refused code) headers)
+
+module _ (code : ℕ) (xs h : List ℕ) (place : ℕ) (b : BeginsWithHeader code (drop place xs) h) where
+  next_headers : (later : List (List ℕ)) → headers_in code (drop place xs) ≡ Ok later → (more : List (List ℕ)) × (headers_in code (drop (place + length h) xs) ≡ Ok more) × (later ≡ h ∷ more)
+  next_headers later e =
+      (let n = headers_later code (drop place xs) h later b e in
+      (n.0, ap (headers_in code) (sym (drop-drop (length h) place xs)) ∙ n.1, n.2))
+
+  first_acts : (later more : List (List ℕ)) → later ≡ h ∷ more → flat_map (header_acts code) later ≡ header_acts code h ++ flat_map (header_acts code) more
+  first_acts later more e = ap (flat_map (header_acts code)) e ∙ flat_map-cons (header_acts code) h more
+
+  pub found : (i left : ℕ) (a : Act) → LeavesActs code xs i place left → left < header_count code h → slice_get (header_acts code h) left ≡ Some a →
+      (headers : List (List ℕ)) → headers_in code xs ≡ Ok headers → Some a ≡ slice_get (flat_map (header_acts code) headers) i
+  found i left a leaves inside is headers e =
+      let l = leaves headers e in
+      let n = next_headers l.0 l.1 in
+      sym (l.2 ∙ ap (λ (acts : List Act). slice_get acts left) (first_acts l.0 n.0 n.2)
+      ∙ get_left (header_acts code h) (flat_map (header_acts code) n.0) left (omega (arith, header_counted code h, inside)) ∙ is)
+
+  pub passed : (i left : ℕ) → LeavesActs code xs i place left → header_count code h ≤ left → LeavesActs code xs i (place + length h) (left - header_count code h)
+  passed i left leaves past headers e =
+      let l = leaves headers e in
+      let n = next_headers l.0 l.1 in
+      let later : List Act = flat_map (header_acts code) n.0 in (
+        n.0,
+        n.1,
+        l.2 ∙ ap (λ (acts : List Act). slice_get acts left) (first_acts l.0 n.0 n.2)
+            ∙ get_right (header_acts code h) later left (omega (arith, header_counted code h, past))
+            ∙ ap (λ (k : ℕ). slice_get later (left - k)) (header_counted code h),
+      )
+
+  pub replied : (start items new : List ℕ) → LeavesReply code xs start place items → new ≡ items ++ refused code h → LeavesReply code xs start (place + length h) new
+  replied start items new leaves is headers e =
+      let l = leaves headers e in
+      let n = next_headers l.0 l.1 in
+      let later : List ℕ = flat_map (refused code) n.0 in (
+        n.0,
+        n.1,
+        ap (λ (ys : List ℕ). ys ++ later) is ∙ append_assoc items (refused code h) later
+            ∙ ap (λ (ys : List ℕ). items ++ ys) (sym (ap (flat_map (refused code)) n.2 ∙ flat_map-cons (refused code) h n.0))
+            ∙ l.2,
+      )
+
+-- past the last header nothing is left
+no_more : (code : ℕ) (xs : List ℕ) (place : ℕ) (later : List (List ℕ)) → length xs ≤ place → headers_in code (drop place xs) ≡ Ok later → later ≡ []
+no_more code xs place later end e = (let none : headers_in code (drop place xs) ≡ Ok [] = ap (headers_in code) (drop_all place xs end) in cc)
+
+pub not_found : (code : ℕ) (xs : List ℕ) (i place left : ℕ) → LeavesActs code xs i place left → length xs ≤ place →
+    (headers : List (List ℕ)) → headers_in code xs ≡ Ok headers → None ≡ slice_get (flat_map (header_acts code) headers) i
+not_found code xs i place left leaves end headers e =
+    let l = leaves headers e in
+    sym (l.2 ∙ ap (λ (hs : List (List ℕ)). slice_get (flat_map (header_acts code) hs) left) (no_more code xs place l.0 end l.1))
+
+-- all headers whole and one of them faulty
+pub not_faulty : {A : Type 0} (code : ℕ) (xs : List ℕ) (place : ℕ) (e : FragmentRefusal) (later : List (List ℕ)) → headers_in code (drop place xs) ≡ Ok later → headers_in code (drop place xs) ≡ Err e → A
+not_faulty code xs place e later ok err = absurd cc
+
+act_of_headers : (code : ℕ) (hs : Result (List (List ℕ)) FragmentRefusal) (i : ℕ) (r : Option Act) → (hs ≡ Ok [] → ⊥) → i < length (acts_in code hs) →
+    ((headers : List (List ℕ)) → hs ≡ Ok headers → r ≡ slice_get (flat_map (header_acts code) headers) i) →
+    slice_get (acts_in code hs) i ≡ r
+act_of_headers code (Err x) i r some inside is = absurd (omega (arith, inside))
+act_of_headers code (Ok []) i r some inside is = absurd (some refl)
+act_of_headers code (Ok (h ∷ later)) i r some inside is = sym (is (h ∷ later) refl)
+
+get_some : {X : Type 0} (xs : List X) (i : ℕ) (r : Option X) → i < length xs → slice_get xs i ≡ r → IsSome r
+get_some {X = X} [] i r h e = absurd (omega (arith, h))
+get_some {X = X} (x ∷ xs) zero r h e = subst (λ (o : Option X). IsSome o) e refl
+get_some {X = X} (x ∷ xs) (suc i) r h e = get_some xs i r (omega (arith, h)) e
+
+-- act i of headers that are all whole
+pub act_is : (code : ℕ) (xs : List ℕ) (i : ℕ) (r : Option Act) → 0 < length xs → i < length (acts_in code (headers_in code xs)) →
+    ((headers : List (List ℕ)) → headers_in code xs ≡ Ok headers → r ≡ slice_get (flat_map (header_acts code) headers) i) →
+    slice_get (acts_in code (headers_in code xs)) i ≡ r
+act_is code xs i r some inside is = act_of_headers code (headers_in code xs) i r (some_headers code xs some) inside is
+
+pub act_there : (code : ℕ) (xs : List ℕ) (i : ℕ) (r : Option Act) → 0 < length xs → i < length (acts_in code (headers_in code xs)) →
+    ((headers : List (List ℕ)) → headers_in code xs ≡ Ok headers → r ≡ slice_get (flat_map (header_acts code) headers) i) → IsSome r
+act_there code xs i r some inside is = get_some (acts_in code (headers_in code xs)) i r inside (act_is code xs i r some inside is)

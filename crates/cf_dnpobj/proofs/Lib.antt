@@ -1,0 +1,4 @@
+mod Headers
+mod InOrder
+mod Replies
+mod Sums

@@ -1,0 +1,25 @@
+use Rattle.std.proofs.Common.{◌≡◌, ◌+◌, ◌∙◌, ℕ, List, drop, sym, ap, subst, arith, length}
+use Rattle.std.proofs.lemmas.List.{length-drop}
+use Rattle.cf_dnpobj.specs.Acts.{summed}
+use Rattle.cf_dnpobj.specs.Headers.{BeginsWithHeader, headers_in}
+use Rattle.cf_dnpobj.proofs.Sums.{plus, rest_is, sum_more}
+use Rattle.cf_dnpobj.proofs.acts.sum_acts.Goals as goal
+
+pub loop-at-preserved : goal.loop-at-preserved
+loop-at-preserved c =
+    let xs = c.args.objects.now.bytes in
+    let code = c.args.code in
+    let place = c.loop-at.at in
+    let h = c.in_ok-header.header.bytes in
+    let n = c.loop-at.count in
+    let m = c.header_count-count.result in
+    let inv = c.loop-at.invariant in
+    let rest : c.sub.result.bytes ≡ drop place xs = rest_is xs c.sub.result.bytes place c.len-len.result c.len-len.ensures.length inv.0 c.sub.ensures.bytes in
+    let b : BeginsWithHeader code (drop place xs) h = subst (λ (ys : List ℕ). BeginsWithHeader code ys h) rest c.in_ok-header.ensures.found in
+    let size = c.len-at.ensures.length in
+    let left = length-drop place xs in (
+      omega (arith, b.inside, size, left, inv.0, c.len-len.ensures.length),
+      omega (arith, b.least, size, inv.1, c.header_count-count.ensures.most),
+      sum_more code xs h place b n m c.header_count-count.ensures.value inv.2
+          ∙ ap (λ (k : ℕ). plus (n + m) (summed code (headers_in code (drop (place + k) xs)))) (sym size),
+    )

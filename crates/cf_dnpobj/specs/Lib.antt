@@ -1,0 +1,5 @@
+pub mod Acts
+pub mod Fragment
+pub mod Headers
+pub mod Objects
+pub mod Reply

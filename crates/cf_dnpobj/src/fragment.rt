@@ -1,0 +1,78 @@
+//! A client's fragment.
+ghost use Rattle.std.specs.Prelude.{◌≡◌};
+ghost use Rattle.cf_dnpobj.specs.Fragment.{fragment_answer, read_octets, takes_headers};
+
+use crate::header::count_headers;
+use crate::object::{is_command, is_function, is_write};
+use cf_view::View;
+
+/// The least first octet with FIR and FIN.
+const SINGLE: u8 = 0xC0;
+
+/// A request of one fragment. IEEE 1815-2012, section 4.2.
+#[derive(Debug, Drop)]
+pub struct Fragment<'a> {
+    /// The application control octet: FIR 80, FIN 40, CON 20, UNS 10, and the sequence in its low four bits.
+    pub control: u8,
+    /// The function code.
+    pub code: u8,
+    /// The object headers with their objects.
+    pub objects: View<'a>,
+}
+
+/// Why octets are no request that is served. They are tested in this order. This project's own division.
+#[derive(Clone, Copy, PartialEq, Eq, Debug)]
+pub enum FragmentRefusal {
+    /// There are fewer than two octets.
+    Short,
+    /// FIR or FIN is clear.
+    NotSingle,
+    /// The function code is none of those served.
+    Function,
+    /// The group and variation of a header are none that the code takes.
+    Object,
+    /// A header has a qualifier that its objects do not take, a start above its stop or a count of 0; a header, its range or its
+    /// objects are cut off; a confirmation has a header, a write or a command has none.
+    Parameter,
+}
+
+/// The request that the octets are, or the first reason why they are none. Of the headers the first fault decides.
+pub fn read_fragment<'a>(octets: View<'a>) -> Result<Fragment<'a>, FragmentRefusal>
+    ensures { fragment_answer result ≡ read_octets octets.entry.bytes }
+{
+    let len = octets.len();
+    if len < 2 {
+        return Err(FragmentRefusal::Short);
+    }
+    let control = octets.at(0);
+    if control < SINGLE {
+        return Err(FragmentRefusal::NotSingle);
+    }
+    let code = octets.at(1);
+    if !is_function(code) {
+        return Err(FragmentRefusal::Function);
+    }
+    let objects = octets.sub(2, len);
+    let count = count_headers(code, &objects)?;
+    if !takes_headers(code, count) {
+        return Err(FragmentRefusal::Parameter);
+    }
+    Ok(Fragment {
+        control,
+        code,
+        objects,
+    })
+}
+
+/// Whether a code may have so many headers.
+fn takes_headers(code: u8, count: usize) -> bool
+    ensures { result ≡ takes_headers code count }
+{
+    if code == 0 {
+        return count == 0;
+    }
+    if is_command(code) || is_write(code) {
+        return count > 0;
+    }
+    true
+}

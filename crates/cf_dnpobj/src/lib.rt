@@ -1,0 +1,12 @@
+//! The application layer of DNP3: requests of one fragment, their object headers, what they do, and replies to refused ones.
+#![tactic(auto)]
+
+mod acts;
+mod fragment;
+mod header;
+mod object;
+mod reply;
+
+pub use acts::{act_at, act_count};
+pub use fragment::{Fragment, FragmentRefusal, read_fragment};
+pub use reply::{reply_for, wants_reply};
