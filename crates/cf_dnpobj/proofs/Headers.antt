@@ -41,7 +41,7 @@ same_headers (suc n) (suc m) code (o ∷ xs) h k =
     same_after n m code (header_size code (o ∷ xs)) o xs (long code (o ∷ xs)) (omega (arith, h)) (omega (arith, k)) (λ ys a b. same_headers n m code ys a b)
 
 -- one header, and then the rest
-after_first : (code : ℕ) (xs : List ℕ) (size : ℕ) → 0 < length xs → 3 ≤ size → header_size code xs ≡ Ok size →
+pub after_first : (code : ℕ) (xs : List ℕ) (size : ℕ) → 0 < length xs → 3 ≤ size → header_size code xs ≡ Ok size →
     headers_in code xs ≡ with_first (take size xs) (headers_in code (drop size xs))
 after_first code [] size some l e = absurd (omega (arith, some))
 after_first code (o ∷ xs) size some l e =
@@ -59,7 +59,7 @@ pub headers_fault : (code : ℕ) (xs : List ℕ) (e : FragmentRefusal) → 0 < l
 headers_fault code [] e some is = absurd (omega (arith, some))
 headers_fault code (o ∷ xs) e some is = ap (λ r. after_size r (o ∷ xs) (λ rest. headers_by (length xs) code rest)) is
 
-with_first_ok : (h : List ℕ) (r : Result (List (List ℕ)) FragmentRefusal) (hs : List (List ℕ)) → with_first h r ≡ Ok hs → (later : List (List ℕ)) × (r ≡ Ok later) × (hs ≡ h ∷ later)
+pub with_first_ok : (h : List ℕ) (r : Result (List (List ℕ)) FragmentRefusal) (hs : List (List ℕ)) → with_first h r ≡ Ok hs → (later : List (List ℕ)) × (r ≡ Ok later) × (hs ≡ h ∷ later)
 with_first_ok h (Ok later) hs e = (let same : hs ≡ h ∷ later = cc in (later, refl, same))
 with_first_ok h (Err x) hs e = cc
 
@@ -97,18 +97,18 @@ same_count q xs size h =
           rw (n, b) refl)
     ]
 
-count_front : (xs : List ℕ) (size : ℕ) → 3 ≤ size → 3 + range_size (slice_index xs 2) ≤ size → count_of (take size xs) ≡ count_of xs
+pub count_front : (xs : List ℕ) (size : ℕ) → 3 ≤ size → 3 + range_size (slice_index xs 2) ≤ size → count_of (take size xs) ≡ count_of xs
 count_front xs size h r =
     let q : slice_index (take size xs) 2 ≡ slice_index xs 2 = get_or-take size xs 2 0 (omega (arith, h)) in
     rw q (same_count (slice_index xs 2) xs size r)
 
 -- the size by qualifier, count and octets that are there
-sized_by : Layout → ℕ → ℕ → ℕ → Result ℕ FragmentRefusal
+unfoldable pub sized_by : Layout → ℕ → ℕ → ℕ → Result ℕ FragmentRefusal
 sized_by l q n len =
     if takes l q && (nat_le (3 + range_size q) len && ((is_all q || nat_lt 0 n) && nat_le (3 + range_size q + objects_size l q n) len))
     then Ok (3 + range_size q + objects_size l q n) else Err refusal.Parameter
 
-le_true : (a b : ℕ) → a ≤ b → nat_le a b ≡ true
+pub le_true : (a b : ℕ) → a ≤ b → nat_le a b ≡ true
 le_true a b h = grind (arith, nat_tests)
 
 fewer : (a c : Bool) (r s n m : ℕ) → m ≤ n → r ≤ m → (if a && (nat_le r n && (c && nat_le s n)) then Ok s else Err refusal.Parameter) ≡ Ok m →
@@ -132,7 +132,7 @@ sized_fewer : (l : Layout) (q n len size : ℕ) → size ≤ len → 3 + range_s
 unfolding sized_by
 sized_fewer l q n len size h k e = fewer (takes l q) (is_all q || nat_lt 0 n) (3 + range_size q) (3 + range_size q + objects_size l q n) len size h k e
 
-sized_is : (l : Layout) (xs : List ℕ) → sized (Some l) xs ≡ sized_by l (slice_index xs 2) (count_of xs) (length xs)
+pub sized_is : (l : Layout) (xs : List ℕ) → sized (Some l) xs ≡ sized_by l (slice_index xs 2) (count_of xs) (length xs)
 unfolding sized_by
 sized_is l xs = refl
 
@@ -147,7 +147,7 @@ sized_front (Some l) xs size a b c e =
     ∙ sized_fewer l (slice_index xs 2) (count_of xs) (length xs) size b c (sym (sized_is l xs) ∙ e)
 
 -- the octets of the first header are that header
-header_again : (code : ℕ) (xs : List ℕ) (size : ℕ) → 3 ≤ size → size ≤ length xs → 3 + range_size (slice_index xs 2) ≤ size → header_size code xs ≡ Ok size → header_size code (take size xs) ≡ Ok size
+pub header_again : (code : ℕ) (xs : List ℕ) (size : ℕ) → 3 ≤ size → size ≤ length xs → 3 + range_size (slice_index xs 2) ≤ size → header_size code xs ≡ Ok size → header_size code (take size xs) ≡ Ok size
 header_again code xs size a b c e =
     let long = length-take-le size xs b in
     let g : slice_index (take size xs) 0 ≡ slice_index xs 0 = get_or-take size xs 0 0 (omega (arith, a)) in

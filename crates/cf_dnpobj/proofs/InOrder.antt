@@ -36,6 +36,10 @@ pub if_true : {X : Type 0} (b : Bool) (x y : X) → b ≡ true → (if b then x 
 if_true true x y e = refl
 if_true false x y e = absurd (false≢true e)
 
+pub if_false : {X : Type 0} (b : Bool) (x y : X) → b ≡ false → (if b then x else y) ≡ y
+if_false true x y e = absurd (false≢true (sym e))
+if_false false x y e = refl
+
 -- an act of a command's header
 pub command_act : (code : ℕ) (h : List ℕ) (i : ℕ) → is_command code ≡ true → i < header_count code h → slice_get (header_acts code h) i ≡ Some (object_act code h i)
 command_act code h i c inside =

@@ -1,3 +1,4 @@
+mod Grammar
 mod Headers
 mod InOrder
 mod Replies

@@ -11,19 +11,19 @@ use Rattle.cf_dnpobj.specs.Fragment.{FragmentValue, takes_headers, counted, with
 use Rattle.cf_dnpobj.specs.Reply.{refused, refused_objects, answers_objects, indication_of, body, reply}
 use Rattle.cf_dnpobj.proofs.InOrder.{if_true}
 
-past_refusal : (b : Bool) (x : FragmentRefusal) (r : Result FragmentValue FragmentRefusal) (f : FragmentValue) → Ok f ≡ (if b then Err x else r) → Ok f ≡ r
+pub past_refusal : (b : Bool) (x : FragmentRefusal) (r : Result FragmentValue FragmentRefusal) (f : FragmentValue) → Ok f ≡ (if b then Err x else r) → Ok f ≡ r
 past_refusal true x r f e = cc
 past_refusal false x r f e = e
 
 -- the fragment of some octets
-abbrev fields : List ℕ → FragmentValue
+abbrev pub fields : List ℕ → FragmentValue
 fields xs = record { control = slice_index xs 0; code = slice_index xs 1; objects = drop 2 xs }
 
 taken : (b : Bool) (f g : FragmentValue) → Ok f ≡ (if b then Ok g else Err refusal.Parameter) → f ≡ g
 taken true f g e = cc
 taken false f g e = cc
 
-with_some : (xs : List ℕ) (r : Result (List (List ℕ)) FragmentRefusal) (f : FragmentValue) → Ok f ≡ with_headers xs (counted r) → (hs : List (List ℕ)) × (r ≡ Ok hs) × (f ≡ fields xs)
+pub with_some : (xs : List ℕ) (r : Result (List (List ℕ)) FragmentRefusal) (f : FragmentValue) → Ok f ≡ with_headers xs (counted r) → (hs : List (List ℕ)) × (r ≡ Ok hs) × (f ≡ fields xs)
 with_some xs (Ok hs) f e = (hs, refl, taken (takes_headers (slice_index xs 1) (length hs)) f (fields xs) e)
 with_some xs (Err x) f e = cc
 

@@ -1,11 +1,12 @@
 -- What a client's fragment says: `read_octets`. IEEE 1815-2012, sections 4.2 and 4.4. Which requests are served is this project's
 -- own.
-use Rattle.std.specs.Prelude.{ℕ, ◌==◌, ◌||◌, nat_lt, if◌then◌else◌, not, Bool, true, List, [], ◌∷◌, length, drop, slice_index, Result, Ok, Err}
+use Rattle.std.specs.Prelude.{◌≡◌, ℕ, ◌≤◌, ◌==◌, ◌||◌, nat_lt, if◌then◌else◌, not, Bool, true, List, [], ◌∷◌, length, drop, slice_index, Result, Ok, Err}
+use Rattle.std.specs.List.{AllByRecursion, concat}
 use Rattle.cf_dnpobj.specs.declared.fragment.Fragment.{Fragment}
 use Rattle.cf_dnpobj.specs.declared.fragment.FragmentRefusal.{FragmentRefusal}
 use Rattle.cf_dnpobj.specs.declared.fragment.FragmentRefusal.TheVariants as refusal
 use Rattle.cf_dnpobj.specs.Objects.{is_function, is_command, is_write}
-use Rattle.cf_dnpobj.specs.Headers.{headers_in}
+use Rattle.cf_dnpobj.specs.Headers.{IsHeader, headers_in}
 
 -- a fragment without where it lies in memory
 pub record FragmentValue : Type 0 where
@@ -46,6 +47,17 @@ read_octets octets =
     (if nat_lt (slice_index octets 0) 0xc0 then Err refusal.NotSingle else
     (if not (is_function (slice_index octets 1)) then Err refusal.Function else
     with_headers octets (counted (headers_in (slice_index octets 1) (drop 2 octets)))))
+
+-- the octets are this request: FIR and FIN, a function code that is served, and headers with their objects, one after the
+-- other, as many as the code takes
+pub record SpellsRequest (f : FragmentValue) (octets : List ℕ) : Type 0 where
+  pub single : 0xc0 ≤ f.control
+  pub function : is_function f.code ≡ true
+  pub headers : List (List ℕ)
+  pub are : AllByRecursion (IsHeader f.code) headers
+  pub taken : takes_headers f.code (length headers) ≡ true
+  pub objects : f.objects ≡ concat headers
+  pub spelled : octets ≡ f.control ∷ f.code ∷ f.objects
 
 -- the codes that are answered: all but confirm and the three without reply
 abbrev pub wants_reply : ℕ → Bool

@@ -1,6 +1,6 @@
 //! A client's fragment.
-ghost use Rattle.std.specs.Prelude.{◌≡◌};
-ghost use Rattle.cf_dnpobj.specs.Fragment.{fragment_answer, read_octets, takes_headers};
+ghost use Rattle.std.specs.Prelude.{◌≡◌, ◌↔◌, ℕ, List, IfOk, Ok, drop, slice_index};
+ghost use Rattle.cf_dnpobj.specs.Fragment.{FragmentValue, SpellsRequest, fragment_answer, read_octets, takes_headers};
 
 use crate::header::count_headers;
 use crate::object::{is_command, is_function, is_write};
@@ -38,7 +38,9 @@ pub enum FragmentRefusal {
 
 /// The request that the octets are, or the first reason why they are none. Of the headers the first fault decides.
 pub fn read_fragment<'a>(octets: View<'a>) -> Result<Fragment<'a>, FragmentRefusal>
-    ensures { fragment_answer result ≡ read_octets octets.entry.bytes }
+    ensures answer { fragment_answer result ≡ read_octets octets.entry.bytes }
+    ensures parts { IfOk result (λ f. (f.control ≡ slice_index octets.entry.bytes 0) × (f.code ≡ slice_index octets.entry.bytes 1)
+        × (f.objects.bytes ≡ drop 2 octets.entry.bytes)) }
 {
     let len = octets.len();
     if len < 2 {
@@ -63,6 +65,12 @@ pub fn read_fragment<'a>(octets: View<'a>) -> Result<Fragment<'a>, FragmentRefus
         objects,
     })
 }
+
+/// A law: octets are read as a request exactly where they are spelled so: FIR and FIN, a function code that is served, and
+/// headers with their objects, one after the other, as many as the code takes. The call does nothing.
+pub fn requests_are_spelled()
+    ensures { (octets : List ℕ) (f : FragmentValue) → read_octets octets ≡ Ok f ↔ SpellsRequest f octets }
+{}
 
 /// Whether a code may have so many headers.
 fn takes_headers(code: u8, count: usize) -> bool

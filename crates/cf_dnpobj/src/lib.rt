@@ -8,5 +8,8 @@ mod object;
 mod reply;
 
 pub use acts::{act_at, act_count};
-pub use fragment::{Fragment, FragmentRefusal, read_fragment};
+pub use fragment::{Fragment, FragmentRefusal, read_fragment, requests_are_spelled};
 pub use reply::{reply_for, wants_reply};
+
+#[cfg(test)]
+mod tests;

@@ -10,7 +10,7 @@ pub push_refused-requires-clause-room : goal.push_refused-requires-clause-room
 push_refused-requires-clause-room c =
     let xs = c.args.octets.bytes in
     let f = fragment_value c.in-Ok.fragment in
-    let has = read_has xs f c.in-Ok.ensures in
+    let has = read_has xs f c.in-Ok.ensures.answer in
     let size = ap (λ (ys : List ℕ). length ys) has.2 in
     let four : c.push-in-Ok.new.self.items ≡ (0xc0 + c.at.result % 16) ∷ 0x81 ∷ 0x00 ∷ 0x00 ∷ [] =
     rw (c.push-in-Ok.ensures.items, c.push-3.ensures.items, c.push-2.ensures.items, c.push.ensures.items, c.clear.ensures) refl in
@@ -20,10 +20,10 @@ pub returns-in-Ok : goal.returns-in-Ok
 returns-in-Ok c =
     let xs = c.args.octets.bytes in
     let f = fragment_value c.in-Ok.fragment in
-    let has = read_has xs f c.in-Ok.ensures in
+    let has = read_has xs f c.in-Ok.ensures.answer in
     let four : c.push-in-Ok.new.self.items ≡ (0xc0 + c.at.result % 16) ∷ 0x81 ∷ 0x00 ∷ 0x00 ∷ [] =
     rw (c.push-in-Ok.ensures.items, c.push-3.ensures.items, c.push-2.ensures.items, c.push.ensures.items, c.clear.ensures) refl in
     c.push_refused.ensures has.0 has.1
     ∙ ap (λ (ys : List ℕ). ys ++ flat_map (refused f.code) has.0) four
     ∙ ap (λ (o : ℕ). (0xc0 + o % 16) ∷ 0x81 ∷ 0x00 ∷ 0x00 ∷ flat_map (refused f.code) has.0) c.at.ensures.value
-    ∙ sym (reply_with_objects xs f c.args.reason.now has.0 c.in-Ok.ensures (sym c.answers_objects.ensures ∙ c.if-answers_objects.true) has.1)
+    ∙ sym (reply_with_objects xs f c.args.reason.now has.0 c.in-Ok.ensures.answer (sym c.answers_objects.ensures ∙ c.if-answers_objects.true) has.1)
