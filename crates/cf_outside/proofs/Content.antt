@@ -18,7 +18,8 @@ with_appended-nothing absent = refl
 with_appended-nothing (holds all) = ap holds (append-nil all)
 
 -- a prefix and then a prefix of what follows are a longer prefix
-pub with_appended-piece : (c : Content) (xs : List ℕ) (at count : ℕ) → with_appended (with_appended c (take at xs)) (take count (drop at xs)) ≡ with_appended c (take (at + count) xs)
+pub with_appended-piece : (c : Content) (xs : List ℕ) (at count : ℕ) →
+    with_appended (with_appended c (take at xs)) (take count (drop at xs)) ≡ with_appended c (take (at + count) xs)
 with_appended-piece c xs at count = rw (with_appended-twice, ← take-add at count xs) refl
 
 pub ruleset append_laws = (with_appended-twice, with_appended-nothing, with_appended-piece)

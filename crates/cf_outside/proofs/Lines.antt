@@ -1,7 +1,9 @@
 -- The lines of a text that grows.
-use Rattle.std.proofs.Common.{◌≡◌, ◌⊎◌, ◌==◌, ℕ, true, false, List, [], ◌∷◌, ◌++◌, if◌then◌else◌, take, refl, ap, ◌∙◌, append_assoc, inl, inr, zero, suc}
+use Rattle.std.proofs.Common.{◌≡◌, ◌⊎◌, ◌==◌, ℕ, true, false, Some, List, [], ◌∷◌, ◌++◌, if◌then◌else◌, take}
+use Rattle.std.proofs.Common.{refl, sym, ap, ◌∙◌, append_assoc, inl, inr, zero, suc}
+use Rattle.std.specs.List.{concat}
 use Rattle.std.proofs.lemmas.List.{append-nil}
-use Rattle.cf_outside.specs.Files.{Content, untold, absent, holds, with_appended}
+use Rattle.cf_outside.specs.Files.{Content, untold, absent, holds, with_appended, content_after_create}
 use Rattle.cf_outside.specs.Desk.{with_item}
 use Rattle.cf_outside.specs.Lines.{is_nothing, is_line, lines_from, rest_from, file_lines, ends_with_line}
 
@@ -61,7 +63,8 @@ take-nothing zero = refl
 take-nothing (suc k) = refl
 
 -- some of a line is no line, or all of it
-pub lines_from-part : (part text : List ℕ) (k : ℕ) → is_line text ≡ true → (lines_from part (take k text) ≡ []) ⊎ (take k text ≡ text)
+pub lines_from-part : (part text : List ℕ) (k : ℕ) → is_line text ≡ true →
+    (lines_from part (take k text) ≡ []) ⊎ (take k text ≡ text)
 lines_from-part part text zero h = inl refl
 lines_from-part part [] (suc k) h = cc
 lines_from-part part (x ∷ []) (suc k) h = inr (ap (λ l. x ∷ l) (take-nothing k))
@@ -91,7 +94,8 @@ ends_with_line-line absent text h e = refl
 ends_with_line-line (holds all) text h e = rw (rest_from-append [] all text, nothing _ e, rest_from-line [] text h) refl
 
 pub file_lines-part : (file : Content) (text : List ℕ) (k : ℕ) → is_line text ≡ true → ends_with_line file ≡ true →
-    (file_lines (with_appended file (take k text)) ≡ file_lines file) ⊎ (file_lines (with_appended file (take k text)) ≡ with_item text (file_lines file))
+    (file_lines (with_appended file (take k text)) ≡ file_lines file)
+    ⊎ (file_lines (with_appended file (take k text)) ≡ with_item text (file_lines file))
 file_lines-part untold text k h e = inl refl
 file_lines-part absent text k h e = inl refl
 file_lines-part (holds all) text k h e =
@@ -99,5 +103,39 @@ file_lines-part (holds all) text k h e =
       | inl none ↦ inl (rw (lines_from-append [] all (take k text), nothing _ e, none, append-nil (lines_from [] all)) refl)
       | inr whole ↦ inr (rw (whole, lines_from-append [] all text, nothing _ e, lines_from-line [] text h) refl)
     ]
+
+-- a file that was created ends with a line, as nothing stands there
+pub ends_with_line-create : (file : Content) → ends_with_line (content_after_create file) ≡ true
+ends_with_line-create untold = refl
+ends_with_line-create absent = refl
+ends_with_line-create (holds all) = refl
+
+-- it has no line
+pub file_lines-create : (file : Content) (lines : List (List ℕ)) → file_lines (content_after_create file) ≡ Some lines → lines ≡ []
+file_lines-create untold lines h = cc
+file_lines-create absent lines h = cc
+file_lines-create (holds all) lines h = cc
+
+-- the lines of a text, and what stands behind them, are the text
+pub lines_from-rest : (part xs : List ℕ) → concat (lines_from part xs) ++ rest_from part xs ≡ part ++ xs
+lines_from-rest part [] = sym (append-nil part)
+lines_from-rest part (x ∷ xs) =
+    let part' : List ℕ = part ++ x ∷ [] in
+    elim (x == 10) as (λ t. concat (if t then part' ∷ lines_from [] xs else lines_from part' xs)
+    ++ (if t then rest_from [] xs else rest_from part' xs) ≡ part ++ x ∷ xs) [
+      | true ↦ append_assoc part' (concat (lines_from [] xs)) (rest_from [] xs)
+          ∙ ap (λ l. part' ++ l) (lines_from-rest [] xs) ∙ append_assoc part (x ∷ []) xs
+      | false ↦ lines_from-rest part' xs ∙ append_assoc part (x ∷ []) xs
+    ]
+
+-- a file that ends with a line is its lines
+pub file_lines-whole : (file : Content) (lines : List (List ℕ)) → file_lines file ≡ Some lines → ends_with_line file ≡ true →
+    file ≡ holds (concat lines)
+file_lines-whole untold lines h e = cc
+file_lines-whole absent lines h e = cc
+file_lines-whole (holds all) lines h e =
+    let whole : concat (lines_from [] all) ≡ all =
+    sym (append-nil _) ∙ ap (λ rest. concat (lines_from [] all) ++ rest) (sym (nothing _ e)) ∙ lines_from-rest [] all in
+    cc
 
 pub ruleset line_laws = (file_lines-line, ends_with_line-line, file_lines-part)

@@ -1,6 +1,7 @@
 -- What a desk tells, and what its calls do to it. The main definitions are `DeskValue`, and `Emits` and `PutsLine`, one for
 -- each call.
-use Rattle.std.specs.Prelude.{◌≡◌, ◌≢◌, ◌≤◌, ◌⊎◌, ℕ, Bool, false, not, ◌&&◌, Option, None, Some, option_map, List, [], ◌∷◌, ◌++◌}
+use Rattle.std.specs.Prelude.{◌≡◌, ◌≢◌, ◌≤◌, ◌⊎◌, ℕ, Bool, false, not, ◌&&◌}
+use Rattle.std.specs.Prelude.{Option, None, Some, option_map, List, [], ◌∷◌, ◌++◌}
 use Rattle.std.specs.Borrow.{GName}
 use Rattle.cf_outside.specs.Faults.{HasCause}
 use Rattle.cf_outside.specs.Files.{Content}
@@ -40,6 +41,7 @@ abbrev pub whole_after : Bool → WriteAnswer → Bool
 whole_after whole write.Done = whole
 whole_after whole write.Failed = false
 
+-- a name is none of these
 abbrev pub IsNoneOf : List (List ℕ) → List ℕ → Type 0
 IsNoneOf [] other = Unit {0}
 IsNoneOf (name ∷ names) other = (other ≢ name) × IsNoneOf names other
@@ -52,7 +54,7 @@ pub record KeepsDesk (old new : DeskValue) : Type 0 where
   pub names : new.names ≡ old.names
   pub others : (other : List ℕ) → IsNoneOf old.names other → new.content other ≡ old.content other
 
--- a packet was emitted
+-- a call that emits a packet
 pub record Emits (moment : ℕ) (packet : List ℕ) (old new : DeskValue) (answer : WriteAnswer) : Type 0 where
   pub packets : Adds (record { moment = moment; bytes = packet }) old.packets new.packets answer
   pub lines : new.lines ≡ old.lines
@@ -60,7 +62,7 @@ pub record Emits (moment : ℕ) (packet : List ℕ) (old new : DeskValue) (answe
   pub cause : HasCause old.faults new.faults (answer ≡ write.Failed)
   pub keeps : KeepsDesk old new
 
--- a line was put
+-- a call that puts a line
 pub record PutsLine (text : List ℕ) (old new : DeskValue) (answer : WriteAnswer) : Type 0 where
   pub packets : new.packets ≡ old.packets
   pub lines : Adds text old.lines new.lines answer
@@ -68,7 +70,8 @@ pub record PutsLine (text : List ℕ) (old new : DeskValue) (answer : WriteAnswe
   pub cause : HasCause old.faults new.faults (answer ≡ write.Failed)
   pub keeps : KeepsDesk old new
 
--- a desk that writes a log alone, through lent files
+-- a desk that writes a log alone, through lent files: it tells the log's lines and no packets, and is whole where no call
+-- failed and nothing stands behind the log's last line feed, since the next line would else join it
 abbrev pub line_desk : (failed : Bool) → (lender : GName) → (faults reads : ℕ) → (log : List ℕ) → (List ℕ → Content) → DeskValue
 line_desk failed lender faults reads log content = record {
   packets = None;

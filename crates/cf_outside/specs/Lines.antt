@@ -3,10 +3,12 @@
 use Rattle.std.specs.Prelude.{ℕ, ◌==◌, Bool, true, false, Option, None, Some, List, [], ◌∷◌, ◌++◌, if◌then◌else◌}
 use Rattle.cf_outside.specs.Files.{Content, untold, absent, holds}
 
+-- there is no octet
 abbrev pub is_nothing : List ℕ → Bool
 is_nothing [] = true
 is_nothing (byte ∷ bytes) = false
 
+-- a line: its line feed is its last octet and its only one
 abbrev pub is_line : List ℕ → Bool
 is_line [] = false
 is_line (byte ∷ bytes) = if byte == 10 then is_nothing bytes else is_line bytes

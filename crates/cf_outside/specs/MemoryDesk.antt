@@ -1,6 +1,7 @@
 -- What a desk in memory holds, and what its calls do to it. The main definitions are `MemoryDeskValue`, `desk_in_memory`, and
 -- `MemoryEmits` and `MemoryPutsLine`, one for each call.
-use Rattle.std.specs.Prelude.{◌≡◌, ◌≢◌, ◌⊎◌, ◌==◌, ◌∷◌, ◌++◌, ℕ, List, None, Some, [], map, if◌then◌else◌, string_bytes}
+use Rattle.std.specs.Prelude.{◌≡◌, ◌≢◌, ◌⊎◌, ℕ, ◌==◌, if◌then◌else◌, None, Some}
+use Rattle.std.specs.Prelude.{List, [], ◌∷◌, ◌++◌, map, string_bytes}
 use Rattle.cf_outside.specs.Desk.{SentValue, DeskValue}
 use Rattle.cf_outside.specs.Files.{untold}
 use Rattle.cf_outside.specs.Memory.{Counts, next_fail, after_call, after_fault, after_lack}
@@ -9,9 +10,11 @@ use Rattle.cf_outside.specs.declared.memory_desk.Sent.{Sent}
 use Rattle.cf_outside.specs.declared.files.WriteAnswer.{WriteAnswer}
 use Rattle.cf_outside.specs.declared.files.WriteAnswer.TheVariants as write
 
+-- a packet that was emitted, with its bytes as a list
 abbrev pub sent_value : Sent → SentValue
 sent_value sent = record { moment = sent.moment; bytes = sent.bytes.items }
 
+-- its fields, with lists in place of vectors and texts
 pub record MemoryDeskValue : Type 0 where
   pub packets : List SentValue
   pub lines : List (List ℕ)

@@ -1,6 +1,6 @@
 -- What files in memory hold, and what the calls do to them. The main definitions are `MemoryFilesValue`, and `MemoryReads`,
 -- `MemoryCreates` and `MemoryAppends`, one for each call.
-use Rattle.std.specs.Prelude.{◌≡◌, ◌≢◌, ◌⊎◌, ◌≤◌, ◌++◌, ℕ, List, Option, None, Some, IsSome, [], length, take, drop, min}
+use Rattle.std.specs.Prelude.{◌≡◌, ◌≢◌, ◌⊎◌, ◌≤◌, ℕ, min, Option, None, Some, IsSome, List, [], ◌++◌, length, take, drop}
 use Rattle.std.specs.declared.alloc.Global.{Global}
 use Rattle.std.specs.declared.vec.Vec.{Vec}
 use Rattle.std.specs.BTreeMap.{get_by_text}

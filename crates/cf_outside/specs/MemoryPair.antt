@@ -1,6 +1,7 @@
 -- What a pair in memory holds, and what the calls do to it. The main definitions are `MemoryPairValue`, and `MemoryMeets`,
 -- `MemoryTellsMoment`, `MemoryTakes`, `MemoryGives` and `MemoryFinishes`, one for each call.
-use Rattle.std.specs.Prelude.{◌≡◌, ◌⊎◌, ◌≤◌, ◌+◌, ◌++◌, ◌∷◌, Bool, ℕ, List, None, IsSome, [], IsTrue, false, length, take, drop, map, min}
+use Rattle.std.specs.Prelude.{◌≡◌, ◌⊎◌, ◌≤◌, ℕ, ◌+◌, min, Bool, false, IsTrue, None, IsSome}
+use Rattle.std.specs.Prelude.{List, [], ◌∷◌, ◌++◌, length, take, drop, map}
 use Rattle.cf_view.specs.declared.Endpoint.{Endpoint}
 use Rattle.cf_view.specs.declared.Side.{Side}
 use Rattle.cf_view.specs.declared.Side.TheVariants as side
@@ -31,9 +32,11 @@ entry_value (told.End side) = Ended side
 entry_value (told.Idle side) = Idle side
 entry_value (told.Finished side) = Finished side
 
+-- the answers that were kept
 abbrev pub entry_values : List Told → List Entry
 entry_values = map entry_value
 
+-- its fields, with lists in place of vectors
 pub record MemoryPairValue : Type 0 where
   pub client : Endpoint
   pub from_client : List ℕ
@@ -94,7 +97,7 @@ abbrev pub with_taken : Side → ℕ → MemoryPairValue → MemoryPairValue
 with_taken side.Client n pair = record pair { client_taken = pair.client_taken + n }
 with_taken side.Controller n pair = record pair { controller_taken = pair.controller_taken + n }
 
--- a pair that counts one move more, one idle answer, one moment
+-- a pair that counts one move more
 abbrev pub with_move : MemoryPairValue → MemoryPairValue
 with_move pair = record pair { moves = counted pair.moves }
 
@@ -104,9 +107,11 @@ with_lack pair = record pair {
   counts = record { fails = pair.counts.fails; calls = pair.counts.calls; faults = counted pair.counts.faults; lacks = counted pair.counts.lacks };
 }
 
+-- a pair that counts one idle answer more
 abbrev pub with_idle : MemoryPairValue → MemoryPairValue
 with_idle pair = record pair { idles = counted pair.idles }
 
+-- a pair that counts one moment more
 abbrev pub with_moment : MemoryPairValue → MemoryPairValue
 with_moment pair = record pair { moments_told = counted pair.moments_told }
 
@@ -161,6 +166,7 @@ MemoryGives side bytes old new given.Idle =
     (next_fail old.counts ≡ None) × IsTrue (is_idle old) × (new ≡ with_answer (Idle side) (with_idle (with_move old)))
 MemoryGives side bytes old new given.Failed = MemoryFails (with_move old) new
 
+-- a side is closed for sending
 abbrev pub MemoryFinishes : Side → MemoryPairValue → MemoryPairValue → WriteAnswer → Type 0
 MemoryFinishes side old new write.Done = (next_fail old.counts ≡ None) × (new ≡ with_answer (Finished side) old)
 MemoryFinishes side old new write.Failed = MemoryFails old new

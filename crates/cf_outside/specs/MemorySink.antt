@@ -5,6 +5,7 @@ use Rattle.cf_outside.specs.declared.memory_sink.MemorySink.{MemorySink}
 use Rattle.cf_outside.specs.declared.files.WriteAnswer.{WriteAnswer}
 use Rattle.cf_outside.specs.declared.files.WriteAnswer.TheVariants as write
 
+-- its fields, with lists in place of vectors
 pub record MemorySinkValue : Type 0 where
   pub bytes : List ℕ
   pub counts : Counts
@@ -25,5 +26,6 @@ abbrev pub MemoryPuts : List ℕ → MemorySinkValue → MemorySinkValue → Wri
 MemoryPuts bytes old new write.Done =
     (next_fail old.counts ≡ None) × (new ≡ record { bytes = old.bytes ++ bytes; counts = after_call old.counts })
 MemoryPuts bytes old new write.Failed =
-    ((left : ℕ) × (next_fail old.counts ≡ Some left) × (new ≡ record { bytes = old.bytes ++ take left bytes; counts = after_fault old.counts }))
+    ((left : ℕ) × (next_fail old.counts ≡ Some left)
+    × (new ≡ record { bytes = old.bytes ++ take left bytes; counts = after_fault old.counts }))
     ⊎ ((next_fail old.counts ≢ Some 0) × (new ≡ record { bytes = old.bytes; counts = after_lack old.counts }))

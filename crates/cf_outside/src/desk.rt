@@ -28,18 +28,23 @@ pub trait Desk {
         ensures { PutsLine text.now (value self.old) (value self.new) result };
 }
 
-/// Writes a log alone, through lent files. It tells the lines of the log, and no packets. It is whole where `failed` is
-/// false and nothing stands behind the last line feed of the log.
+/// Writes a log alone, through lent files, and counts their failed writes. It tells the lines of the log, and no packets. It
+/// is whole where `failed` is false and nothing stands behind the last line feed of the log, which the next line would else
+/// join. This project's own.
 #[derive(Drop)]
 pub struct LineDesk<'a, F> {
+    /// The files that it writes through.
     pub files: &'a mut F,
+    /// The name of the log.
     pub log: &'a str,
+    /// Whether a call failed: false as the desk is made.
     pub failed: bool,
 }
 
 #[tactic(auto, using(crate::proofs::Lines::line_laws))]
 impl<'a, F: Files> Desk for LineDesk<'a, F> {
-    ghost value = { λ d. line_desk d.failed d.files.ghost_name (F.write_faults d.files.now) (F.read_faults d.files.now) d.log.now (F.content d.files.now) };
+    ghost value = { λ d. line_desk d.failed d.files.ghost_name (F.write_faults d.files.now) (F.read_faults d.files.now)
+        d.log.now (F.content d.files.now) };
 
     /// Does nothing.
     fn emit(&mut self, _moment: u64, _packet: &[u8]) -> WriteAnswer
@@ -55,7 +60,7 @@ impl<'a, F: Files> Desk for LineDesk<'a, F> {
         requires whole { DeskValue.whole (⟦<Self as Desk>⟧.value self.old) ≡ true }
         requires line { is_line text.now ≡ true }
         ensures desk { PutsLine text.now (⟦<Self as Desk>⟧.value self.old) (⟦<Self as Desk>⟧.value self.new) result }
-        ensures log { Appends text.now (F.content self.old.files.now self.old.log.now) (F.content self.new.files.now self.old.log.now) result }
+        ensures log { Appends text.now (F.content self.old.files.now self.old.log.now) (F.content self.new.files.now self.new.log.now) result }
         ensures failed { IsTrue self.new.failed ↔ (result ≡ WriteAnswer.Failed) }
     {
         match self.files.append(self.log, text.as_bytes()) {

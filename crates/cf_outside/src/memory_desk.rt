@@ -13,7 +13,9 @@ use std::alloc::{AllocError, Global};
 /// A packet that was emitted, and its moment in microseconds.
 #[derive(Debug, Drop)]
 pub struct Sent {
+    /// In microseconds.
     pub moment: u64,
+    /// The packet, of at most 1,500 octets.
     pub bytes: Vec<u8>,
 }
 
@@ -22,11 +24,17 @@ pub struct Sent {
 /// `faults` is 0. This project's own.
 #[derive(Debug, Drop)]
 pub struct MemoryDesk {
+    /// The packets that were emitted, in their order.
     pub packets: Vec<Sent>,
+    /// The lines that were put, in their order.
     pub lines: Vec<String>,
+    /// The calls that fail, by their numbers.
     pub fails: Vec<Fail>,
+    /// How many calls there were.
     pub calls: u64,
+    /// How many calls failed.
     pub faults: u64,
+    /// How many of them failed for want of memory.
     pub lacks: u64,
 }
 
@@ -114,7 +122,8 @@ impl Desk for MemoryDesk {
 /// Adds a packet.
 #[tactic(auto, using(std::proofs::lemmas::Grind::common_steps))]
 fn keep_packet(packets: &mut Vec<Sent>, moment: u64, packet: &[u8]) -> Result<(), AllocError>
-    ensures ok { OnOk result (map sent_value packets.new.items ≡ map sent_value packets.old.items ++ record { moment = moment; bytes = packet.now } ∷ []) }
+    ensures ok { OnOk result (map sent_value packets.new.items ≡
+        map sent_value packets.old.items ++ record { moment = moment; bytes = packet.now } ∷ []) }
     ensures err { OnErr result (map sent_value packets.new.items ≡ map sent_value packets.old.items) }
 {
     let bytes = packet.to_vec(*packets.allocator())?;
