@@ -1,2 +1,3 @@
-pub mod FileLaws
-mod RecordLaws
+pub mod Capture
+mod Moments
+mod Written

@@ -1,2 +1,3 @@
-pub mod Captures
-pub mod Files
+pub mod Capture
+pub mod Header
+pub mod Record

@@ -1,6 +1,6 @@
 //! The header of a capture file.
 ghost use Rattle.std.specs.Prelude.{◌≡◌, ◌+◌, ◌≤◌, length};
-ghost use Rattle.cf_pcap.specs.Captures.{fields_of, header_of, is_magic, u16_at, u32_at};
+ghost use Rattle.cf_pcap.specs.Header.{fields_of, header_of, is_magic, u16_at, u32_at};
 
 use cf_view::{LinkKind, View};
 
@@ -29,9 +29,9 @@ pub enum HeaderRefusal {
 }
 
 /// The magic of files whose fractions are microseconds.
-const MICROSECONDS: u32 = 0xA1B2_C3D4;
+pub const MICROSECONDS: u32 = 0xA1B2_C3D4;
 /// The magic of files whose fractions are nanoseconds.
-const NANOSECONDS: u32 = 0xA1B2_3C4D;
+pub const NANOSECONDS: u32 = 0xA1B2_3C4D;
 
 /// The header that begins a capture file of these octets. draft-ietf-opsawg-pcap, section 4; zone, accuracy and snap
 /// length are not used.

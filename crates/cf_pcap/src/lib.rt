@@ -2,11 +2,13 @@
 #![tactic(auto)]
 
 mod header;
+mod laws;
 mod record;
 #[cfg(test)]
 mod tests;
 mod write;
 
-pub use header::{Header, HeaderRefusal, read_header};
-pub use record::{RecordAnswer, octets_have_one_list_of_records, read_record};
+pub use header::{Header, HeaderRefusal, MICROSECONDS, NANOSECONDS, read_header};
+pub use laws::{moments_rise, octets_have_one_list_of_records};
+pub use record::{CAPTURED_LIMIT, RecordAnswer, read_record};
 pub use write::{write_header, write_record_head};

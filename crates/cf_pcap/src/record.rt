@@ -1,15 +1,15 @@
 //! The records of a capture file.
 ghost use Rattle.std.specs.Prelude.{◌≡◌, ℕ, ◌+◌, ◌^◌, ◌<◌, ◌≤◌, length};
-ghost use Rattle.cf_pcap.specs.Captures.{IsInside, record_of, record_seen, stamp_at, captured_at};
-ghost use Rattle.cf_pcap.specs.Files.{HaveOneList, HaveRecords, front_at, front_of, timed_front_at};
+ghost use Rattle.cf_pcap.specs.Capture.{at_place, at_place_by};
+ghost use Rattle.cf_pcap.specs.Record.{IsInside, captured_at, record_answer_value, record_of, stamp_at};
 
 use crate::header::{Header, u32_at};
 use cf_view::View;
 
 /// The captured octets that a record has at most. This project's own.
-pub(crate) const CAPTURED_LIMIT: u32 = 262_144;
+pub const CAPTURED_LIMIT: u32 = 262_144;
 
-/// What stands at the front of a file's records.
+/// What octets of a file say about the record that they begin.
 #[derive(Debug, Drop)]
 pub enum RecordAnswer<'a> {
     /// A record.
@@ -23,19 +23,19 @@ pub enum RecordAnswer<'a> {
     },
     /// The record goes on behind the octets. It takes so many in all: 16 while its head is not whole.
     Need(usize),
-    /// The captured length is above 262,144.
+    /// The captured length is above `CAPTURED_LIMIT`.
     TooLong,
 }
 
 /// The record that begins the octets, in a file with this header. draft-ietf-opsawg-pcap, section 5; the original
 /// length is not used.
-#[tactic(auto, using(crate::proofs::RecordLaws::fronts))]
+#[tactic(auto, using(crate::proofs::Capture::at_near_place))]
 pub fn read_record<'a>(header: &Header, bytes: &'a [u8]) -> RecordAnswer<'a>
-    ensures value { record_seen result ≡ record_of header.now bytes.now }
-    ensures inside { IsInside (record_seen result) (length bytes.now) }
+    ensures value { record_answer_value result ≡ record_of header.now bytes.now }
+    ensures inside { IsInside (record_answer_value result) (length bytes.now) }
     // Of a file's octets it is what stands at their place, while that file ends at place 2^40 or before.
-    ensures front { (place : ℕ) → 0 < length bytes.now → place + length bytes.now ≤ 2 ^ 40
-        → front_at header.now place bytes.now ≡ front_of (record_seen result) }
+    ensures here { (place : ℕ) → 0 < length bytes.now → place + length bytes.now ≤ 2 ^ 40
+        → at_place header.now place bytes.now ≡ at_place_by (record_answer_value result) }
 {
     if bytes.len() < 16 {
         return RecordAnswer::Need(16);
@@ -70,10 +70,3 @@ fn stamp(header: &Header, head: &View<'_>) -> u64
     };
     u64::from(seconds) * 1_000_000 + u64::from(micros)
 }
-
-/// A law: the octets at a place of a file have one list of records, with one ending. The call does nothing.
-pub fn octets_have_one_list_of_records()
-    ensures some { HaveRecords front_at }
-    ensures timed { HaveRecords timed_front_at }
-    ensures one { HaveOneList }
-{}

@@ -1,7 +1,10 @@
 //! Writers of capture files: little-endian, microseconds, raw IP.
-ghost use Rattle.std.specs.Prelude.{◌≡◌, ℕ, ◌*◌, ◌+◌, ◌^◌, ◌<◌, ◌≤◌, ◌++◌, List, Ok, length};
+ghost use Rattle.std.specs.Prelude.{◌≡◌, ℕ, ◌+◌, ◌<◌, ◌≤◌, ◌++◌, List, Ok, length};
 ghost use Rattle.cf_view.specs.Octets.{u32_le_octets};
-ghost use Rattle.cf_pcap.specs.Captures.{Whole, head_octets, header_of, output_header, output_octets, record_of};
+ghost use Rattle.cf_pcap.specs.Capture.{moment_limit};
+ghost use Rattle.cf_pcap.specs.Header.{header_of, output_header, output_octets};
+ghost use Rattle.cf_pcap.specs.Record.{Whole, head_octets, record_of};
+ghost use Rattle.cf_pcap.specs.declared.record.TheConstants.{CAPTURED_LIMIT};
 
 /// The header of every file that is written.
 const OUTPUT_HEADER: [u8; 24] = [
@@ -25,10 +28,10 @@ pub fn write_header(out: &mut [u8; 24])
 
 /// Writes the head of a record at a moment in microseconds, below 2^32 seconds, for so many octets, at most 262,144.
 /// draft-ietf-opsawg-pcap, section 5; both lengths are that of the octets, this project's own choice.
-#[tactic(auto, using(crate::proofs::RecordLaws::written_again))]
+#[tactic(auto, using(crate::proofs::Written::written_again))]
 pub fn write_record_head(moment: u64, len: u32, out: &mut [u8; 16])
-    requires moment { moment < 2 ^ 32 * 1000000 }
-    requires short { len ≤ 262144 }
+    requires moment { moment < moment_limit }
+    requires short { len ≤ CAPTURED_LIMIT }
     ensures octets { out.new ≡ head_octets moment len }
     // With the octets behind it, it is read again, whatever follows.
     ensures again { (body rest : List ℕ) → length body ≡ len → record_of output_header (out.new ++ body ++ rest) ≡ Whole moment body (16 + len) }
@@ -37,7 +40,7 @@ pub fn write_record_head(moment: u64, len: u32, out: &mut [u8; 16])
 }
 
 fn write_head(moment: u64, len: u32, out: &mut [u8; 16])
-    requires { moment < 2 ^ 32 * 1000000 }
+    requires { moment < moment_limit }
     ensures { out.new ≡ head_octets moment len }
 {
     out[..4].copy_from_slice(&octets((moment / 1_000_000) as u32));

@@ -1,7 +1,0 @@
--- Lists of any kind.
-use Rattle.std.specs.Prelude.{Bool, true, false, List, [], ◌∷◌}
-
--- the list has nothing
-abbrev pub is_empty : {A : Type 0} → List A → Bool
-is_empty [] = true
-is_empty (x ∷ xs) = false
