@@ -1,4 +1,4 @@
--- What the verdict means, in other words than those that define it. This project's own.
+-- What the verdict means, in other words than those that define it: AllowsByFirstRule, KeepsDecidedActs.
 use Rattle.std.specs.Prelude.{◌≡◌, ℕ, ◌<◌, ◌↔◌, true, false, List, [], ◌∷◌, ◌++◌, Some, slice_get}
 use Rattle.cf_view.specs.declared.base.Act.{Act}
 use Rattle.cf_policy.specs.declared.policy.Rule.{Rule}

@@ -1,20 +1,21 @@
--- The names of assets and rules, and the words that stand for a decider. This project's own.
+-- Which texts are names of assets and rules: is_name; and what names a decider: name_of.
 use Rattle.std.specs.Prelude.{ℕ, Bool, not, ◌&&◌, ◌||◌, ◌==◌, nat_le, List, [], ◌∷◌, length, codes, bytes_eq, slice_get}
 use Rattle.std.specs.List.{list_any, list_all}
 use Rattle.std.specs.Option.{option_map_or}
 use Rattle.cf_policy.specs.declared.policy.Rule.{Rule}
 use Rattle.cf_policy.specs.declared.policy.Decider.{Decider}
 use Rattle.cf_policy.specs.declared.policy.Decider.TheVariants as decider
-use Rattle.cf_policy.specs.Lists.{is_empty}
+use Rattle.cf_policy.specs.Verdict.{is_empty}
+use Rattle.cf_policy.specs.declared.limits.TheConstants.{LONGEST_NAME}
 
 -- one of a to z, 0 to 9, `_` and `-`
 abbrev pub is_name_byte : ℕ → Bool
 is_name_byte b =
     ((nat_le 97 b && nat_le b 122) || (nat_le 48 b && nat_le b 57)) || ((b == 95) || (b == 45))
 
--- 1 to 32 of them
+-- a name: one of them or more, and not too many
 abbrev pub is_name : List ℕ → Bool
-is_name text = not (is_empty text) && (nat_le (length text) 32 && list_all is_name_byte text)
+is_name text = not (is_empty text) && (nat_le (length text) LONGEST_NAME && list_all is_name_byte text)
 
 -- a name that no rule may have, since it stands for another decider
 abbrev pub is_reserved : List ℕ → Bool

@@ -1,4 +1,4 @@
--- Which rule has an act of a client, and what the rules of an asset say about it. This project's own.
+-- What the rules of an asset say about an act of a client: verdict_of. The first rule that has the act decides.
 use Rattle.std.specs.Prelude.{ℕ, ◌<◌, ℤ, pos, int_le, Bool, true, false, not, ◌&&◌, if◌then◌else◌, List, [], ◌∷◌, length, Option, Some, None, position, slice_get, option_map, option_and_then}
 use Rattle.std.specs.List.{list_any}
 use Rattle.cf_view.specs.declared.base.Act.{Act}
@@ -13,7 +13,11 @@ use Rattle.cf_policy.specs.declared.policy.Decider.{Decider}
 use Rattle.cf_policy.specs.declared.policy.Decider.TheVariants as decider
 use Rattle.cf_policy.specs.declared.policy.Verdict.{Verdict}
 use Rattle.cf_policy.specs.declared.policy.Verdict.TheVariants as verdict
-use Rattle.cf_policy.specs.Lists.{is_empty}
+
+-- the list has nothing
+abbrev pub is_empty : {A : Type 0} → List A → Bool
+is_empty [] = true
+is_empty (x ∷ xs) = false
 
 -- the number lies in the span, whose ends belong to it
 abbrev pub covers : Span → ℤ → Bool
@@ -66,8 +70,8 @@ default_reason rules client act =
     else reason.Value
 
 -- the last list that the rule states, of values and points
-abbrev pub reason_of : Rule → Reason
-reason_of r =
+abbrev pub rule_reason : Rule → Reason
+rule_reason r =
     if not (is_empty r.values) then reason.Value
     else if not (is_empty r.points) then reason.Point
     else reason.Function
@@ -75,7 +79,7 @@ reason_of r =
 -- what a rule of this number does with an act that it decides
 abbrev pub by_rule : ℕ → Rule → Action → Verdict
 by_rule n r Allow = verdict.Allow n
-by_rule n r Refuse = verdict.Refuse (decider.Rule n) (reason_of r)
+by_rule n r Refuse = verdict.Refuse (decider.Rule n) (rule_reason r)
 
 abbrev pub decided : Option (ℕ × Rule) → Reason → Verdict
 decided (Some p) otherwise = by_rule p.0 p.1 p.1.action

@@ -1,46 +1,59 @@
--- The ranges that a policy keeps that was read from a text. This project's own.
-use Rattle.std.specs.Prelude.{◌≡◌, ◌≢◌, ℕ, ◌^◌, ◌<◌, ◌≤◌, ℤ, pos, negsuc, ◌≤ℤ◌, true, false, List, length, All, AllPairs}
+-- What a policy keeps that was read from a text: IsWithin.
+use Rattle.std.specs.Prelude.{◌≡◌, ◌≢◌, ℕ, ◌^◌, ◌<◌, ◌≤◌, ℤ, pos, ◌≤ℤ◌, true, false, List, length, All, AllPairs}
 use Rattle.cf_policy.specs.declared.policy.Span.{Span}
 use Rattle.cf_policy.specs.declared.policy.Rule.{Rule}
 use Rattle.cf_policy.specs.declared.policy.Asset.{Asset}
 use Rattle.cf_policy.specs.declared.policy.Policy.{Policy}
 use Rattle.cf_policy.specs.declared.policy.Protocol.{Protocol}
 use Rattle.cf_policy.specs.declared.policy.Protocol.TheVariants.{Modbus, Dnp3, Iec104}
+use Rattle.cf_policy.specs.declared.limits.TheConstants.{HIGHEST_ADDRESS, HIGHEST_CODE, HIGHEST_COMMON_ADDRESS, HIGHEST_GROUP, HIGHEST_LINK_ADDRESS, HIGHEST_POINT, HIGHEST_UNIT, HIGHEST_VALUE, LONGEST_NAME, LOWEST_VALUE, MOST_ASSETS, MOST_RULES, MOST_SPANS}
 use Rattle.cf_policy.specs.Names.{is_name, is_reserved}
 
--- the numbers from low to high that lists, stations and masters have
+-- the limits, as the code has them, for the definitions of other crates
+abbrev pub most_assets : ℕ
+most_assets = MOST_ASSETS
+
+abbrev pub most_rules : ℕ
+most_rules = MOST_RULES
+
+abbrev pub most_spans : ℕ
+most_spans = MOST_SPANS
+
 abbrev pub highest_address : ℤ
-highest_address = pos 4294967295
+highest_address = HIGHEST_ADDRESS
 
 abbrev pub highest_code : ℤ
-highest_code = pos 255
+highest_code = HIGHEST_CODE
 
 abbrev pub highest_group : ℤ
-highest_group = pos 65535
+highest_group = HIGHEST_GROUP
 
 abbrev pub highest_point : ℤ
-highest_point = pos 4294967295
+highest_point = HIGHEST_POINT
 
--- -2147483648
 abbrev pub lowest_value : ℤ
-lowest_value = negsuc 2147483647
+lowest_value = LOWEST_VALUE
 
 abbrev pub highest_value : ℤ
-highest_value = pos 4294967295
+highest_value = HIGHEST_VALUE
 
+abbrev pub longest_name : ℕ
+longest_name = LONGEST_NAME
+
+-- the stations and masters of each protocol
 abbrev pub lowest_station : Protocol → ℕ
 lowest_station Modbus = 0
 lowest_station Dnp3 = 0
 lowest_station Iec104 = 1
 
 abbrev pub highest_station : Protocol → ℕ
-highest_station Modbus = 255
-highest_station Dnp3 = 65519
-highest_station Iec104 = 65534
+highest_station Modbus = HIGHEST_UNIT
+highest_station Dnp3 = HIGHEST_LINK_ADDRESS
+highest_station Iec104 = HIGHEST_COMMON_ADDRESS
 
 abbrev pub highest_master : Protocol → ℕ
 highest_master Modbus = 0
-highest_master Dnp3 = 65519
+highest_master Dnp3 = HIGHEST_LINK_ADDRESS
 highest_master Iec104 = 0
 
 -- both ends are in the range, and the first is not above the second
@@ -51,7 +64,7 @@ pub record IsSpanWithin (low high : ℤ) (s : Span) : Type 0 where
 
 -- a list as a rule states it, or the empty one of a rule that does not
 pub record AreSpansWithin (low high : ℤ) (spans : List Span) : Type 0 where
-  pub count : length spans ≤ 64
+  pub count : length spans ≤ most_spans
   pub each : All (IsSpanWithin low high) spans
 
 pub record IsRuleWithin (r : Rule) : Type 0 where
@@ -66,7 +79,7 @@ pub record IsRuleWithin (r : Rule) : Type 0 where
   pub values : AreSpansWithin lowest_value highest_value r.values
 
 pub record AreRulesWithin (rules : List Rule) : Type 0 where
-  pub count : length rules ≤ 1024
+  pub count : length rules ≤ most_rules
   pub each : All IsRuleWithin rules
   pub names : AllPairs (λ r s. r.name ≢ s.name) rules
 
@@ -81,7 +94,7 @@ pub record IsAssetWithin (a : Asset) : Type 0 where
   pub rules : AreRulesWithin a.rules
 
 pub record AreAssetsWithin (assets : List Asset) : Type 0 where
-  pub count : length assets ≤ 256
+  pub count : length assets ≤ most_assets
   pub each : All IsAssetWithin assets
   pub names : AllPairs (λ a b. a.name ≢ b.name) assets
   pub endpoints : AllPairs (λ a b. a.endpoint ≢ b.endpoint) assets

@@ -1,9 +1,9 @@
 //! The verdict of an asset's rules about an act of a client.
 ghost use Rattle.std.specs.Prelude.{◌≡◌, ◌<◌, ◌&&◌, IfSome, length, option_map};
 ghost use Rattle.std.specs.List.{list_any};
-ghost use Rattle.cf_policy.specs.Verdict.{verdict_of, first_rule, first_number, has_function, has_point, has_act, takes, takes_value, covers, default_reason, reason_of, is_allow, IsInside};
+ghost use Rattle.cf_policy.specs.Verdict.{verdict_of, first_rule, first_number, has_function, has_point, has_act, takes, takes_value, covers, default_reason, rule_reason, is_allow, IsInside};
 
-use crate::lists::Spans;
+use crate::lists::Items;
 use crate::policy::{Action, Asset, Decider, Rule, Span, Verdict};
 use cf_view::{Act, Reason};
 
@@ -18,7 +18,7 @@ pub fn verdict(asset: &Asset, client: u32, act: &Act) -> Verdict
     match first_rule(rules, client, act) {
         Some((number, rule)) => match rule.action {
             Action::Allow => Verdict::Allow(number),
-            Action::Refuse => Verdict::Refuse(Decider::Rule(number), reason_of(rule)),
+            Action::Refuse => Verdict::Refuse(Decider::Rule(number), rule_reason(rule)),
         },
         None => Verdict::Refuse(Decider::Default, default_reason(rules, client, act)),
     }
@@ -38,8 +38,8 @@ fn first_number(rules: &[Rule], client: u32, act: &Act) -> Option<usize>
     rules.iter().position(|rule| has_act(rule, client, act))
 }
 
-fn reason_of(rule: &Rule) -> Reason
-    ensures { result ≡ reason_of rule.now }
+fn rule_reason(rule: &Rule) -> Reason
+    ensures { result ≡ rule_reason rule.now }
 {
     if !rule.values.is_empty() {
         Reason::Value
@@ -94,7 +94,7 @@ fn has_function(rule: &Rule, client: u32, act: &Act) -> bool
         && takes(&rule.groups, i64::from(act.group))
 }
 
-fn takes_value(spans: &Spans, value: Option<i64>) -> bool
+fn takes_value(spans: &Items<Span>, value: Option<i64>) -> bool
     ensures { result ≡ takes_value spans.now value }
 {
     match value {
@@ -103,7 +103,7 @@ fn takes_value(spans: &Spans, value: Option<i64>) -> bool
     }
 }
 
-fn takes(spans: &Spans, number: i64) -> bool
+fn takes(spans: &Items<Span>, number: i64) -> bool
     ensures { result ≡ takes spans.now number }
 {
     spans.is_empty() || some_covers(spans.as_slice(), number)

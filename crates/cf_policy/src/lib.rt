@@ -3,13 +3,19 @@
 
 mod judge;
 mod laws;
+mod limits;
 mod lists;
 mod names;
 mod policy;
 
 pub use judge::verdict;
 pub use laws::{allows_by_first_rule, keeps_decided_acts};
-pub use lists::{Assets, Name, Rules, Spans};
+pub use limits::{
+    HIGHEST_ADDRESS, HIGHEST_CODE, HIGHEST_COMMON_ADDRESS, HIGHEST_GROUP, HIGHEST_LINK_ADDRESS,
+    HIGHEST_POINT, HIGHEST_UNIT, HIGHEST_VALUE, LONGEST_NAME, LOWEST_VALUE, MOST_ASSETS,
+    MOST_RULES, MOST_SPANS,
+};
+pub use lists::{Items, Name};
 pub use names::decider_name;
 pub use policy::{Action, Asset, Decider, Policy, Protocol, Rule, Span, Verdict};
 

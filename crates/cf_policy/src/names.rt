@@ -2,6 +2,7 @@
 ghost use Rattle.std.specs.Prelude.{◌≡◌, ◌≤◌, length};
 ghost use Rattle.cf_policy.specs.Names.{name_of};
 ghost use Rattle.cf_policy.specs.Verdict.{IsOneOf};
+ghost use Rattle.cf_policy.specs.declared.limits.TheConstants.{LONGEST_NAME};
 
 use crate::policy::{Asset, Decider};
 
@@ -10,7 +11,7 @@ use crate::policy::{Asset, Decider};
 pub fn decider_name<'a>(asset: &'a Asset, decider: &Decider) -> &'a str
     requires { IsOneOf asset.now.rules decider.now }
     ensures name { result.now ≡ name_of asset.now.rules decider.now }
-    ensures short { length result.now ≤ 32 }
+    ensures short { length result.now ≤ LONGEST_NAME }
 {
     match decider {
         Decider::Rule(number) => asset.rules.as_slice()[*number].name.as_str(),

@@ -1,5 +1,5 @@
 //! What a policy says, as plain values.
-use crate::lists::{Assets, Name, Rules, Spans};
+use crate::lists::{Items, Name};
 use cf_view::{Endpoint, Reason};
 
 /// The protocol that a controller speaks.
@@ -34,15 +34,15 @@ pub struct Rule {
     pub name: Name,
     pub action: Action,
     /// Addresses of clients, as numbers of 32 bits, the first octet the highest.
-    pub clients: Spans,
+    pub clients: Items<Span>,
     /// Function codes of Modbus and DNP3, type identifications of IEC 60870-5-104.
-    pub codes: Spans,
+    pub codes: Items<Span>,
     /// The groups of acts, in the terms of `cf_view::Act`.
-    pub groups: Spans,
+    pub groups: Items<Span>,
     /// The points of acts, in the terms of `cf_view::Act`.
-    pub points: Spans,
+    pub points: Items<Span>,
     /// The values that acts write. A rule that states some does not have an act without a value.
-    pub values: Spans,
+    pub values: Items<Span>,
 }
 
 /// A controller, and the rules about commands to it.
@@ -55,13 +55,13 @@ pub struct Asset {
     pub station: u16,
     /// The master's link address of DNP3, and 0 for the other protocols.
     pub master: u16,
-    pub rules: Rules,
+    pub rules: Items<Rule>,
 }
 
 /// The assets that the firewall stands before.
 #[derive(Debug, Drop)]
 pub struct Policy {
-    pub assets: Assets,
+    pub assets: Items<Asset>,
 }
 
 /// What decided about an act or a command.

@@ -5,12 +5,12 @@ use cf_view::{Act, Endpoint, Reason};
 use std::alloc::{AllocError, Global};
 use std::test::Fail;
 
-fn spans(alloc: Global, ends: &[(i64, i64)]) -> Result<Spans, AllocError> {
+fn spans(alloc: Global, ends: &[(i64, i64)]) -> Result<Items<Span>, AllocError> {
     let mut items = Vec::new(alloc);
     for &(low, high) in ends {
         items.push(Span { low, high })?;
     }
-    Ok(Spans::new(items))
+    Ok(Items::new(items))
 }
 
 /// A rule that states clients, codes, groups, points and values, in this order.
@@ -81,7 +81,7 @@ fn pump(alloc: Global) -> Result<Asset, AllocError> {
         protocol: Protocol::Modbus,
         station: 1,
         master: 0,
-        rules: Rules::new(rules),
+        rules: Items::new(rules),
     })
 }
 
