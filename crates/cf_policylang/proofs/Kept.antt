@@ -16,7 +16,7 @@ use Rattle.cf_policy.specs.declared.policy.Protocol.TheVariants.{Modbus, Dnp3, I
 use Rattle.cf_policy.specs.declared.policy.Rule.{Rule}
 use Rattle.cf_policy.specs.declared.policy.Span.{Span}
 use Rattle.cf_policy.specs.Names.{is_name, is_reserved}
-use Rattle.cf_policy.specs.Within.{IsSpanWithin, AreSpansWithin, IsRuleWithin, AreRulesWithin, IsAssetWithin, IsWithin, highest_address, highest_code, highest_group, highest_point, lowest_value, highest_value, lowest_station, highest_station, highest_master}
+use Rattle.cf_policy.specs.Within.{IsSpanWithin, AreSpansWithin, IsRuleWithin, AreRulesWithin, IsAssetWithin, IsWithin, lowest_station, highest_station, highest_master, highest_address, highest_code, highest_group, highest_point, lowest_value, highest_value}
 use Rattle.cf_policylang.specs.declared.fields.Kind.TheVariants as kind
 use Rattle.cf_policylang.specs.declared.lists.Entries.TheVariants as entries
 use Rattle.cf_policylang.specs.declared.refusal.Key.{Key}
@@ -25,14 +25,13 @@ use Rattle.cf_policylang.specs.declared.refusal.Cause.TheVariants as cause
 use Rattle.cf_policylang.specs.declared.refusal.Place.{Place}
 use Rattle.cf_policylang.specs.declared.refusal.PolicyFault.{PolicyFault}
 use Rattle.cf_policylang.specs.declared.refusal.PolicyRefusal.{PolicyRefusal}
-use Rattle.cf_policylang.specs.Answers.{Answers}
+use Rattle.cf_policylang.specs.Tested.{Answers, Tested, or_refused, at_asset, at_document, at_rule}
 use Rattle.cf_policylang.specs.Assets.{asset, asset_keys, asset_name, assets_from, asset_address, endpoint, is_asset_taken, is_endpoint_taken, is_same_endpoint, master, no_master, number_at, protocol}
-use Rattle.cf_policylang.specs.Documents.{document, document_keys, asset_items, meaning, toml_of, version}
-use Rattle.cf_policylang.specs.Fields.{as_text, as_number, as_table, as_array_of, count, has_other, required, stated, natural_in, tables_from}
+use Rattle.cf_policylang.specs.Documents.{document, document_keys, asset_items, text_meaning, toml_of, version}
+use Rattle.cf_policylang.specs.Fields.{as_text, as_number, as_table, as_array_of, count, has_other, required, stated, number_in, tables_from}
 use Rattle.cf_policylang.specs.Numbers.{address}
 use Rattle.cf_policylang.specs.Rules.{rule, rule_keys, rule_name, name, action, is_rule_taken, client_spans, code_spans, group_spans, point_spans, value_spans, rule_items, rules, rules_from}
-use Rattle.cf_policylang.specs.Tested.{Tested, or_refused, at_asset, at_document, at_rule}
-use Rattle.cf_policylang.proofs.Ranges.{and_then_if, and_then_any, unless_if, or_refused_if, IsNaturalIn, natural_in_if, address_if, IsCode, AreRead as AreSpansRead, address_entry_if, code_entry_if, number_entry_if, spans_if, optional_spans_if}
+use Rattle.cf_policylang.proofs.Ranges.{and_then_if, and_then_any, unless_if, or_refused_if, IsNaturalIn, number_in_if, address_if, IsCode, AreRead as AreSpansRead, address_entry_if, code_entry_if, number_entry_if, spans_if, optional_spans_if}
 
 -- ---- names
 
@@ -183,7 +182,7 @@ number_at_if : (k : Key) (low high : ℕ) (p : Place) (ms : Members) → IfOk (n
 number_at_if k low high p ms =
     and_then_any (IsNaturalIn low high) (required k p ms) _
     (λ d. and_then_any (IsNaturalIn low high) (as_number k p d) _
-    (λ z. or_refused_if (IsNaturalIn low high) cause.BadRange k p (natural_in low high z) (natural_in_if low high z)))
+    (λ z. or_refused_if (IsNaturalIn low high) cause.BadRange k p (number_in low high z) (number_in_if low high z)))
 
 asset_address_if : (p : Place) (ms : Members) → IfOk (asset_address p ms) (λ n. n ≤ 4294967295)
 asset_address_if p ms =
@@ -280,10 +279,10 @@ document_if ms =
       endpoints = λ i j d lt inside. (h.apart i j d lt inside).1;
     }))))
 
-meaning_if : (bytes : List ℕ) → IfOk (meaning bytes) IsWithin
+meaning_if : (bytes : List ℕ) → IfOk (text_meaning bytes) IsWithin
 meaning_if bytes = and_then_any IsWithin (or_refused cause.NotToml key.Nothing at_document (toml_of bytes)) _ document_if
 
 -- a call that answers a policy's meaning answers one within its ranges
-pub answer_within : (bytes : List ℕ) (r : Result Policy PolicyFault) → Answers (λ p. p) (meaning bytes) r → IfOk r IsWithin
+pub answer_within : (bytes : List ℕ) (r : Result Policy PolicyFault) → Answers (λ p. p) (text_meaning bytes) r → IfOk r IsWithin
 answer_within bytes (Ok p) h = IfOk-at_ok IsWithin h (meaning_if bytes)
 answer_within bytes (Err e) h = tt

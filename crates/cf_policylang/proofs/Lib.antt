@@ -1,4 +1,4 @@
-pub mod Cuts
+pub mod Marks
 pub mod Kept
 pub mod Printed
 pub mod Ranges

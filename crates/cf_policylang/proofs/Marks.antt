@@ -5,7 +5,7 @@ use Rattle.std.specs.Str.Pattern.{FindsText, LacksTextAt, SplitsAroundMatch}
 use Rattle.std.proofs.Math.Seq.{take-append_seam}
 use Rattle.std.proofs.lemmas.List.{take-append-drop}
 use Rattle.std.proofs.lemmas.Slice.Eq.{bytes_eq-Decides}
-use Rattle.cf_policylang.specs.Numbers.{cut_at}
+use Rattle.cf_policylang.specs.Numbers.{split_at_mark}
 
 prefix_of : (mark s : List ℕ) → starts_with nat_eq s mark ≡ true → s ≡ mark ++ drop (length mark) s
 prefix_of mark s h =
@@ -24,7 +24,7 @@ lacks_prefix mark s lacks =
     refl
 
 cut_found : (mark s : List ℕ) (i : ℕ) → 0 < length mark → ((k : ℕ) → k < i → LacksTextAt mark s k)
-    → drop i s ≡ mark ++ drop (i + length mark) s → cut_at mark s ≡ Some (take i s, drop (i + length mark) s)
+    → drop i s ≡ mark ++ drop (i + length mark) s → split_at_mark mark s ≡ Some (take i s, drop (i + length mark) s)
 cut_found mark [] i some lacks here =
     let long : length (drop {A = ℕ} i []) ≡ length (mark ++ drop (i + length mark) []) = ap length here in
     absurd (omega (arith, long, length-drop {A = ℕ} i [], length-append mark (drop (i + length mark) [])))
@@ -33,18 +33,18 @@ cut_found mark (b ∷ bs) zero some lacks here =
 cut_found mark (b ∷ bs) (suc i) some lacks here =
     let further : suc i + length mark ≡ suc (i + length mark) = omega arith in
     let there : drop i bs ≡ mark ++ drop (i + length mark) bs = here ∙ ap (λ n. mark ++ drop n (b ∷ bs)) further in
-    let found : cut_at mark bs ≡ Some (take i bs, drop (i + length mark) bs) =
+    let found : split_at_mark mark bs ≡ Some (take i bs, drop (i + length mark) bs) =
     cut_found mark bs i some (λ k lt. lacks (suc k) (omega arith)) there in
     rw (lacks_prefix mark (b ∷ bs) (lacks 0 (omega arith)), found, further) refl
 
-cut_none : (mark s : List ℕ) → ((k : ℕ) → k ≤ length s → LacksTextAt mark s k) → cut_at mark s ≡ None
+cut_none : (mark s : List ℕ) → ((k : ℕ) → k ≤ length s → LacksTextAt mark s k) → split_at_mark mark s ≡ None
 cut_none mark [] lacks = refl
 cut_none mark (b ∷ bs) lacks =
     rw (lacks_prefix mark (b ∷ bs) (lacks 0 (omega arith)), cut_none mark bs (λ k le. lacks (suc k) (omega arith))) refl
 
 pub cut_of : (mark s : List ℕ) (r : Option (Bor (List ℕ) × Bor (List ℕ))) → 0 < length mark
     → MatchOption r (FindsText mark s None) (λ x. SplitsAroundMatch (FindsText mark) s x.0.now x.1.now)
-    → option_map (λ p. (p.0.now, p.1.now)) r ≡ cut_at mark s
+    → option_map (λ p. (p.0.now, p.1.now)) r ≡ split_at_mark mark s
 cut_of mark s None some h = sym (cut_none mark s h)
 cut_of mark s (Some x) some (i, j, found, front, back, _, _, _) =
     sym (rw (cut_found mark s i some found.0 (found.1.split ∙ ap (λ n. mark ++ drop n s) found.1.ends), front, back, found.1.ends) refl)

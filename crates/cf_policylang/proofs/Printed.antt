@@ -10,7 +10,7 @@ use Rattle.std.proofs.lemmas.Bool.{true≢false}
 use Rattle.std.proofs.lemmas.Bool.Decides.{nat_tests}
 use Rattle.std.proofs.lemmas.Slice.Eq.{bytes_eq-Decides}
 use Rattle.std.proofs.lemmas.Str.Parse.{IsNumeralModel, numerals_by_value, tells_digits}
-use Rattle.cf_policylang.specs.Numbers.{has_spare, number, number_in, within}
+use Rattle.cf_policylang.specs.Numbers.{has_spare, printed_number, printed_number_in, within}
 
 model : IsNumeralModel (AllDigits 10) (digits_value 10)
 model = numerals_by_value (AllDigits 10) tells_digits
@@ -30,10 +30,10 @@ fits low (negsuc m) (pos n) l h a b = record { sfits = omega (arith, ints) }
 fits (pos k) high (negsuc n) l h a b = record { sfits = omega (arith, ints) }
 fits (negsuc k) high (negsuc n) l h a b = record { sfits = omega (arith, ints) }
 
-pub number_cases : (text : List ℕ) → (number text ≡ None) ⊎ ((z : ℤ) × (number text ≡ Some z) × (text ≡ signed_decimal z))
+pub number_cases : (text : List ℕ) → (printed_number text ≡ None) ⊎ ((z : ℤ) × (printed_number text ≡ Some z) × (text ≡ signed_decimal z))
 number_cases text =
     let z = signed_digits_value 10 text in
-    elim (bytes_eq text (signed_decimal z)) as (λ b. bytes_eq text (signed_decimal z) ≡ b → (number text ≡ None) ⊎ ((y : ℤ) × (number text ≡ Some y) × (text ≡ signed_decimal y))) [
+    elim (bytes_eq text (signed_decimal z)) as (λ b. bytes_eq text (signed_decimal z) ≡ b → (printed_number text ≡ None) ⊎ ((y : ℤ) × (printed_number text ≡ Some y) × (text ≡ signed_decimal y))) [
       | true ↦ λ e. inr (z, rw e refl, (bytes_eq-Decides text (signed_decimal z)).0 e)
       | false ↦ λ e. inl (rw e refl)
     ]
@@ -48,7 +48,7 @@ high_behind_minus : (ds : List ℕ) → 48 < get_or ds 0 0 → has_spare (45 ∷
 high_behind_minus [] h = absurd (omega arith)
 high_behind_minus (d ∷ ds) h = grind (arith, nat_tests)
 
--- a printed number has nothing to spare
+-- a printed printed_number has nothing to spare
 pub printed_plain : (z : ℤ) → FitsSigned w64 z → has_spare (signed_decimal z) ≡ false
 printed_plain (pos zero) f = rw (decimal_digit 0 (omega arith)) refl
 printed_plain (pos (suc n)) f = high_front (decimal (suc n)) (first_decimal (suc n) (omega arith) (omega (arith, f.sfits)))
@@ -108,9 +108,9 @@ plain_printed (b ∷ bs) plain numeral f =
     ]
     refl
 
--- a number that fits is in no range, or it is printed as `parse` reads it
+-- a printed_number that fits is in no range, or it is printed as `parse` reads it
 in_no_range : (low high : ℤ) (text : List ℕ) → FitsSigned w64 low → FitsSigned w64 high
-    → ((z : ℤ) → FitsSigned w64 z → text ≡ signed_decimal z → ⊥) → number_in low high text ≡ None
+    → ((z : ℤ) → FitsSigned w64 z → text ≡ signed_decimal z → ⊥) → printed_number_in low high text ≡ None
 in_no_range low high text l h none =
     ⊎_elim
     (λ e. rw e refl)
@@ -120,19 +120,19 @@ in_no_range low high text l h none =
     (within_cases low high s.0))
     (number_cases text)
 
-pub spare_none : (low high : ℤ) (text : List ℕ) → FitsSigned w64 low → FitsSigned w64 high → has_spare text ≡ true → number_in low high text ≡ None
+pub spare_none : (low high : ℤ) (text : List ℕ) → FitsSigned w64 low → FitsSigned w64 high → has_spare text ≡ true → printed_number_in low high text ≡ None
 spare_none low high text l h spare =
     in_no_range low high text l h (λ z f e. true≢false (sym spare ∙ (ap has_spare e ∙ printed_plain z f)))
 
 pub unread_none : {E : Type 0} (low high : ℤ) (text : List ℕ) (e : E) → FitsSigned w64 low → FitsSigned w64 high
-    → ParsesSigned {E = E} w64 10 text (Err e) → number_in low high text ≡ None
+    → ParsesSigned {E = E} w64 10 text (Err e) → printed_number_in low high text ≡ None
 unread_none {E} low high text e l h unread =
     in_no_range low high text l h
     (λ z f is. let read : ◌≡◌ {A = Result ℤ E} (Err e) (Ok z) = parse-signed_decimal w64 z text (Err e) f f.sfits is unread in cc)
 
 pub read_within : (low high : ℤ) (text : List ℕ) (n : ℤ) → has_spare text ≡ false
     → (IsNumeral 10 (without_leading_sign text) × FitsSigned w64 (signed_digits_value 10 text)) × (n ≡ signed_digits_value 10 text)
-    → number_in low high text ≡ within low high n
+    → printed_number_in low high text ≡ within low high n
 read_within low high text n plain read =
     let printed : text ≡ signed_decimal (signed_digits_value 10 text) = plain_printed text plain read.0.0 read.0.1 in
     let same : bytes_eq text (signed_decimal (signed_digits_value 10 text)) ≡ true = (bytes_eq-Decides text (signed_decimal (signed_digits_value 10 text))).1 printed in

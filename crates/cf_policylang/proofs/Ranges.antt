@@ -16,9 +16,9 @@ use Rattle.cf_policylang.specs.declared.refusal.Cause.{Cause}
 use Rattle.cf_policylang.specs.declared.refusal.Cause.TheVariants as cause
 use Rattle.cf_policylang.specs.declared.refusal.Place.{Place}
 use Rattle.cf_policylang.specs.declared.refusal.PolicyRefusal.{PolicyRefusal}
-use Rattle.cf_policylang.specs.Fields.{as_text, as_number, as_array_of, count, stated, natural_in}
+use Rattle.cf_policylang.specs.Fields.{as_text, as_number, as_array_of, count, stated, number_in}
 use Rattle.cf_policylang.specs.Lists.{kind_of, address_span, code_span, entry, entries_from, spans, spans_if_any, optional_spans}
-use Rattle.cf_policylang.specs.Numbers.{number, number_in, within, span, ends, number_span, octet, octets, joined, address, cut_at}
+use Rattle.cf_policylang.specs.Numbers.{printed_number, printed_number_in, within, span, ends, number_span, octet, octets, joined, address, split_at_mark}
 use Rattle.cf_policylang.specs.Tested.{Tested, and_then, or_refused}
 use Rattle.cf_policylang.proofs.Printed.{within_cases}
 
@@ -65,9 +65,9 @@ pub record IsNaturalIn (low high n : ℕ) : Type 0 where
   pub above : low ≤ n
   pub below : n ≤ high
 
-pub natural_in_if : (low high : ℕ) (z : ℤ) → IfSome (natural_in low high z) (IsNaturalIn low high)
-natural_in_if low high (negsuc n) = tt
-natural_in_if low high (pos n) =
+pub number_in_if : (low high : ℕ) (z : ℤ) → IfSome (number_in low high z) (IsNaturalIn low high)
+number_in_if low high (negsuc n) = tt
+number_in_if low high (pos n) =
     if_some (IsNaturalIn low high) (nat_le low n && nat_le n high) n
     (λ e. record { above = grind (arith, nat_tests); below = grind (arith, nat_tests) })
 
@@ -81,8 +81,8 @@ within_if low high z = ⊎_elim
     (λ h. rw h.0 (record { above = h.1; below = h.2 }))
     (within_cases low high z)
 
-number_in_if : (low high : ℤ) (text : List ℕ) → IfSome (number_in low high text) (IsIn low high)
-number_in_if low high text = and_then_any_some (IsIn low high) (number text) (within low high) (λ z. within_if low high z)
+printed_number_in_if : (low high : ℤ) (text : List ℕ) → IfSome (printed_number_in low high text) (IsIn low high)
+printed_number_in_if low high text = and_then_any_some (IsIn low high) (printed_number text) (within low high) (λ z. within_if low high z)
 
 span_if : (low high a b : ℤ) → IsIn low high a → IsIn low high b → IfSome (span a b) (IsSpanWithin low high)
 span_if low high a b i j =
@@ -91,8 +91,8 @@ span_if low high a b i j =
 
 pub number_span_if : (low high : ℤ) (text : List ℕ) → IfSome (number_span low high text) (IsSpanWithin low high)
 number_span_if low high text =
-    and_then_some (IsIn low high) (IsSpanWithin low high) (number_in low high (ends text).0) _ (number_in_if low high (ends text).0)
-    (λ a i. and_then_some (IsIn low high) (IsSpanWithin low high) (number_in low high (ends text).1) (span a) (number_in_if low high (ends text).1)
+    and_then_some (IsIn low high) (IsSpanWithin low high) (printed_number_in low high (ends text).0) _ (printed_number_in_if low high (ends text).0)
+    (λ a i. and_then_some (IsIn low high) (IsSpanWithin low high) (printed_number_in low high (ends text).1) (span a) (printed_number_in_if low high (ends text).1)
     (λ b j. span_if low high a b i j))
 
 octet_of : (z : ℤ) → IsIn (pos 0) (pos 255) z → nat_abs z ≤ 255
@@ -100,7 +100,7 @@ octet_of (pos n) i = let below = i.below in omega (arith, ints)
 octet_of (negsuc n) i = let above = i.above in absurd (omega (arith, ints))
 
 octet_if : (text : List ℕ) → IfSome (octet text) (λ n. n ≤ 255)
-octet_if text = map_some (IsIn (pos 0) (pos 255)) (λ n. n ≤ 255) (number_in (pos 0) (pos 255) text) nat_abs (number_in_if (pos 0) (pos 255) text) octet_of
+octet_if text = map_some (IsIn (pos 0) (pos 255)) (λ n. n ≤ 255) (printed_number_in (pos 0) (pos 255) text) nat_abs (printed_number_in_if (pos 0) (pos 255) text) octet_of
 
 octets_if : (a b c d : List ℕ) → IfSome (octets a b c d) (λ n. n ≤ 4294967295)
 octets_if a b c d =
@@ -113,9 +113,9 @@ octets_if a b c d =
 -- an address has 32 bits
 pub address_if : (text : List ℕ) → IfSome (address text) (λ n. n ≤ 4294967295)
 address_if text =
-    and_then_any_some (λ n. n ≤ 4294967295) (cut_at (codes ".") text) _
-    (λ p. and_then_any_some (λ n. n ≤ 4294967295) (cut_at (codes ".") p.1) _
-    (λ q. and_then_any_some (λ n. n ≤ 4294967295) (cut_at (codes ".") q.1) _
+    and_then_any_some (λ n. n ≤ 4294967295) (split_at_mark (codes ".") text) _
+    (λ p. and_then_any_some (λ n. n ≤ 4294967295) (split_at_mark (codes ".") p.1) _
+    (λ q. and_then_any_some (λ n. n ≤ 4294967295) (split_at_mark (codes ".") q.1) _
     (λ r. octets_if p.0 q.0 r.0 r.1)))
 
 is_address : (n : ℕ) → n ≤ 4294967295 → IsIn (pos 0) highest_address (pos n)

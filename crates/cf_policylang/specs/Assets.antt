@@ -1,4 +1,4 @@
--- The assets of a policy. This project's own.
+-- What the tables of a policy's assets mean: assets_from, and asset of one.
 use Rattle.std.specs.Prelude.{ℕ, Bool, ◌&&◌, ◌==◌, is_some, if◌then◌else◌, List, [], ◌∷◌, Option, Some, None, Ok, codes, bytes_eq}
 use Rattle.std.specs.List.{list_any}
 use Rattle.toml.specs.Data.{Items, Members}
@@ -11,7 +11,7 @@ use Rattle.cf_policylang.specs.declared.refusal.Key.{Key}
 use Rattle.cf_policylang.specs.declared.refusal.Key.TheVariants as key
 use Rattle.cf_policylang.specs.declared.refusal.Cause.TheVariants as cause
 use Rattle.cf_policylang.specs.declared.refusal.Place.{Place}
-use Rattle.cf_policylang.specs.Fields.{as_text, as_number, has_other, required, stated, natural_in, tables_from}
+use Rattle.cf_policylang.specs.Fields.{as_text, as_number, has_other, required, stated, number_in, tables_from}
 use Rattle.cf_policylang.specs.Numbers.{address}
 use Rattle.cf_policylang.specs.Rules.{name, rules}
 use Rattle.cf_policylang.specs.Tested.{Tested, and_then, refused, or_refused, at_asset, at_document}
@@ -24,34 +24,34 @@ abbrev pub is_asset_taken : List Asset → List ℕ → Bool
 is_asset_taken seen text = list_any (λ a. bytes_eq a.name text) seen
 
 abbrev pub asset_name : Place → List Asset → Members → Tested (List ℕ)
-asset_name p seen ms =
-    and_then (name p ms) (λ text. if is_asset_taken seen text then refused cause.Duplicate key.Name p else Ok text)
+asset_name place seen members =
+    and_then (name place members) (λ text. if is_asset_taken seen text then refused cause.Duplicate key.Name place else Ok text)
 
 abbrev pub asset_address : Place → Members → Tested ℕ
-asset_address p ms =
-    and_then (required key.Address p ms) (λ d.
-    and_then (as_text key.Address p d) (λ text. or_refused cause.BadAddress key.Address p (address text)))
+asset_address place members =
+    and_then (required key.Address place members) (λ value.
+    and_then (as_text key.Address place value) (λ text. or_refused cause.BadAddress key.Address place (address text)))
 
 -- the number at a key, from low to high
 abbrev pub number_at : Key → ℕ → ℕ → Place → Members → Tested ℕ
-number_at k low high p ms =
-    and_then (required k p ms) (λ d.
-    and_then (as_number k p d) (λ z. or_refused cause.BadRange k p (natural_in low high z)))
+number_at key low high place members =
+    and_then (required key place members) (λ value.
+    and_then (as_number key place value) (λ z. or_refused cause.BadRange key place (number_in low high z)))
 
 abbrev pub is_same_endpoint : Endpoint → Endpoint → Bool
 is_same_endpoint a b = (a.address == b.address) && (a.port == b.port)
 
 -- an earlier asset has the endpoint
 abbrev pub is_endpoint_taken : List Asset → Endpoint → Bool
-is_endpoint_taken seen e = list_any (λ a. is_same_endpoint a.endpoint e) seen
+is_endpoint_taken seen own = list_any (λ a. is_same_endpoint a.endpoint own) seen
 
 -- the address, and then the port, at which the whole endpoint is tested
 abbrev pub endpoint : Place → List Asset → Members → Tested Endpoint
-endpoint p seen ms =
-    and_then (asset_address p ms) (λ own_address.
-    and_then (number_at key.Port 1 65535 p ms) (λ own_port.
-    let e : Endpoint = record { address = own_address; port = own_port } in
-    if is_endpoint_taken seen e then refused cause.Duplicate key.Port p else Ok e))
+endpoint place seen members =
+    and_then (asset_address place members) (λ own_address.
+    and_then (number_at key.Port 1 65535 place members) (λ own_port.
+    let own : Endpoint = record { address = own_address; port = own_port } in
+    if is_endpoint_taken seen own then refused cause.Duplicate key.Port place else Ok own))
 
 abbrev pub protocol_of : List ℕ → Option Protocol
 protocol_of text =
@@ -61,30 +61,30 @@ protocol_of text =
     else None
 
 abbrev pub protocol : Place → Members → Tested Protocol
-protocol p ms =
-    and_then (required key.Protocol p ms) (λ d.
-    and_then (as_text key.Protocol p d) (λ text. or_refused cause.BadRange key.Protocol p (protocol_of text)))
+protocol place members =
+    and_then (required key.Protocol place members) (λ value.
+    and_then (as_text key.Protocol place value) (λ text. or_refused cause.BadRange key.Protocol place (protocol_of text)))
 
 -- a key that the protocol does not have, and so counts as unknown
 abbrev pub no_master : Place → Members → Tested ℕ
-no_master p ms = if is_some (stated key.Master ms) then refused cause.UnknownKey key.Nothing p else Ok 0
+no_master place members = if is_some (stated key.Master members) then refused cause.UnknownKey key.Nothing place else Ok 0
 
 -- the master's address, which DNP3 alone has
 abbrev pub master : Protocol → Place → Members → Tested ℕ
-master Dnp3 p ms = number_at key.Master 0 (highest_master Dnp3) p ms
-master _ p ms = no_master p ms
+master Dnp3 place members = number_at key.Master 0 (highest_master Dnp3) place members
+master _ place members = no_master place members
 
 -- the asset of this number, from 1, behind those that were read
 abbrev pub asset : ℕ → List Asset → Members → Tested Asset
-asset n seen ms =
-    let p = at_asset n in
-    if has_other asset_keys ms then refused cause.UnknownKey key.Nothing p else
-    and_then (asset_name p seen ms) (λ own_name.
-    and_then (endpoint p seen ms) (λ own_endpoint.
-    and_then (protocol p ms) (λ own_protocol.
-    and_then (number_at key.Station (lowest_station own_protocol) (highest_station own_protocol) p ms) (λ own_station.
-    and_then (master own_protocol p ms) (λ own_master.
-    and_then (rules n ms) (λ own_rules.
+asset n seen members =
+    let place = at_asset n in
+    if has_other asset_keys members then refused cause.UnknownKey key.Nothing place else
+    and_then (asset_name place seen members) (λ own_name.
+    and_then (endpoint place seen members) (λ own_endpoint.
+    and_then (protocol place members) (λ own_protocol.
+    and_then (number_at key.Station (lowest_station own_protocol) (highest_station own_protocol) place members) (λ own_station.
+    and_then (master own_protocol place members) (λ own_master.
+    and_then (rules n members) (λ own_rules.
     Ok (record {
       name = own_name;
       endpoint = own_endpoint;
@@ -96,4 +96,4 @@ asset n seen ms =
 
 -- the assets in their order, behind n that were read
 abbrev pub assets_from : ℕ → Items → List Asset → Tested (List Asset)
-assets_from n ds seen = tables_from key.Asset at_document asset n ds seen
+assets_from n items seen = tables_from key.Asset at_document asset n items seen

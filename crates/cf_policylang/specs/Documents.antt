@@ -1,5 +1,4 @@
--- What the bytes of a policy's text mean: a policy, or the first refusal. This project's own; the text is TOML 1.1 in
--- UTF-8.
+-- What the bytes of a policy's text mean, a policy or the first refusal: policy_meaning. The text is TOML 1.1 in UTF-8.
 use Rattle.std.specs.Prelude.{ℕ, pos, nat_lt, if◌then◌else◌, List, [], ◌∷◌, length, Option, None, Ok}
 use Rattle.std.specs.Ordering.{int_eq}
 use Rattle.std.specs.Str.{is_utf8}
@@ -13,30 +12,32 @@ use Rattle.cf_policylang.specs.declared.refusal.Cause.TheVariants as cause
 use Rattle.cf_policylang.specs.Assets.{assets_from}
 use Rattle.cf_policylang.specs.Fields.{as_number, as_array_of, count, has_other, required}
 use Rattle.cf_policylang.specs.Tested.{Tested, and_then, refused, or_refused, at_document}
+use Rattle.cf_policy.specs.Within.{most_assets}
+use Rattle.cf_policylang.specs.declared.documents.TheConstants.{LONGEST_TEXT}
 
 abbrev pub document_keys : List Key
 document_keys = key.Version ∷ key.Asset ∷ []
 
 -- the version, which is 1
 abbrev pub version : Members → Tested (Unit {0})
-version ms =
-    and_then (required key.Version at_document ms) (λ d.
-    and_then (as_number key.Version at_document d) (λ z.
+version members =
+    and_then (required key.Version at_document members) (λ value.
+    and_then (as_number key.Version at_document value) (λ z.
     if int_eq z (pos 1) then Ok tt else refused cause.Version key.Version at_document))
 
 -- the array of the assets
 abbrev pub asset_items : Members → Tested Items
-asset_items ms =
-    and_then (required key.Asset at_document ms) (λ d.
-    and_then (as_array_of kind.Table key.Asset at_document d) (λ ds.
-    if nat_lt 256 (count ds) then refused cause.TooMany key.Asset at_document else Ok ds))
+asset_items members =
+    and_then (required key.Asset at_document members) (λ value.
+    and_then (as_array_of kind.Table key.Asset at_document value) (λ items.
+    if nat_lt most_assets (count items) then refused cause.TooMany key.Asset at_document else Ok items))
 
 abbrev pub document : Members → Tested Policy
-document ms =
-    and_then (version ms) (λ _.
-    if has_other document_keys ms then refused cause.UnknownKey key.Nothing at_document else
-    and_then (asset_items ms) (λ ds.
-    and_then (assets_from 0 ds []) (λ own_assets.
+document members =
+    and_then (version members) (λ _.
+    if has_other document_keys members then refused cause.UnknownKey key.Nothing at_document else
+    and_then (asset_items members) (λ items.
+    and_then (assets_from 0 items []) (λ own_assets.
     Ok (record { assets = own_assets }))))
 
 -- the table that bytes in UTF-8 are as TOML
@@ -44,9 +45,9 @@ abbrev pub toml_of : List ℕ → Option Members
 toml_of bytes = if is_utf8 bytes then parse_document bytes else None
 
 -- the meaning of a text of any size
-abbrev pub meaning : List ℕ → Tested Policy
-meaning bytes = and_then (or_refused cause.NotToml key.Nothing at_document (toml_of bytes)) (λ ms. document ms)
+abbrev pub text_meaning : List ℕ → Tested Policy
+text_meaning bytes = and_then (or_refused cause.NotToml key.Nothing at_document (toml_of bytes)) (λ members. document members)
 
--- the meaning of a file, which has at most 4,194,304 bytes
-abbrev pub policy : List ℕ → Tested Policy
-policy bytes = if nat_lt 4194304 (length bytes) then refused cause.TooMany key.Nothing at_document else meaning bytes
+-- the meaning of a file, which has at most so many bytes
+abbrev pub policy_meaning : List ℕ → Tested Policy
+policy_meaning bytes = if nat_lt LONGEST_TEXT (length bytes) then refused cause.TooMany key.Nothing at_document else text_meaning bytes

@@ -13,63 +13,63 @@ use Rattle.cf_policylang.specs.Tested.{Tested, and_then, refused, or_refused}
 
 -- the text is one of the keys
 abbrev pub is_among : List Key → List ℕ → Bool
-is_among known text = list_any (λ k. bytes_eq text (key_text k)) known
+is_among known text = list_any (λ key. bytes_eq text (key_text key)) known
 
 -- the table has a key besides these
 abbrev pub has_other : List Key → Members → Bool
 has_other known no_members = false
-has_other known (member text d ms) = not (is_among known text) || has_other known ms
+has_other known (member text value members) = not (is_among known text) || has_other known members
 
 -- the value at a key, if the table has it
 abbrev pub stated : Key → Members → Option Data
-stated k ms = get_member (key_text k) ms
+stated key members = get_member (key_text key) members
 
 abbrev pub required : Key → Place → Members → Tested Data
-required k p ms = or_refused cause.MissingKey k p (stated k ms)
+required key place members = or_refused cause.MissingKey key place (stated key members)
 
 abbrev pub as_text : Key → Place → Data → Tested (List ℕ)
-as_text k p (string s) = Ok s
-as_text k p _ = refused cause.WrongKind k p
+as_text key place (string s) = Ok s
+as_text key place _ = refused cause.WrongKind key place
 
 abbrev pub as_number : Key → Place → Data → Tested ℤ
-as_number k p (integer z) = Ok z
-as_number k p _ = refused cause.WrongKind k p
+as_number key place (integer z) = Ok z
+as_number key place _ = refused cause.WrongKind key place
 
 abbrev pub as_table : Key → Place → Data → Tested Members
-as_table k p (table ms) = Ok ms
-as_table k p _ = refused cause.WrongKind k p
+as_table key place (table members) = Ok members
+as_table key place _ = refused cause.WrongKind key place
 
 -- the value is of the kind
 abbrev pub is_kind : Kind → Data → Bool
 is_kind kind.Text (string s) = true
 is_kind kind.Number (integer z) = true
-is_kind kind.Table (table ms) = true
+is_kind kind.Table (table entries) = true
 is_kind _ _ = false
 
 -- each entry is of the kind
 abbrev pub all_kind : Kind → Items → Bool
-all_kind k no_items = true
-all_kind k (item d ds) = is_kind k d && all_kind k ds
+all_kind key no_items = true
+all_kind key (item value items) = is_kind key value && all_kind key items
 
 abbrev pub count : Items → ℕ
 count no_items = 0
-count (item d ds) = 1 + count ds
+count (item value items) = 1 + count items
 
 -- an array each of whose entries is of the kind
 abbrev pub as_array_of : Kind → Key → Place → Data → Tested Items
-as_array_of kind k p (array ds) = if all_kind kind ds then Ok ds else refused cause.WrongKind k p
-as_array_of kind k p _ = refused cause.WrongKind k p
+as_array_of kind key place (array items) = if all_kind kind items then Ok items else refused cause.WrongKind key place
+as_array_of kind key place _ = refused cause.WrongKind key place
 
 -- the number, if it is from low to high
-abbrev pub natural_in : ℕ → ℕ → ℤ → Option ℕ
-natural_in low high (pos n) = if nat_le low n && nat_le n high then Some n else None
-natural_in low high (negsuc n) = None
+abbrev pub number_in : ℕ → ℕ → ℤ → Option ℕ
+number_in low high (pos n) = if nat_le low n && nat_le n high then Some n else None
+number_in low high (negsuc n) = None
 
 -- the tables of an array in their order, behind n that were read: read gets the number of each, from 1, and what was
 -- read before it
 abbrev pub tables_from : {X : Type 0} → Key → Place → (ℕ → List X → Members → Tested X) → ℕ → Items → List X → Tested (List X)
-tables_from k p read n no_items seen = Ok seen
-tables_from k p read n (item d ds) seen =
-    and_then (as_table k p d) (λ ms.
-    and_then (read (n + 1) seen ms) (λ x.
-    tables_from k p read (n + 1) ds (seen ++ x ∷ [])))
+tables_from key place read n no_items seen = Ok seen
+tables_from key place read n (item value items) seen =
+    and_then (as_table key place value) (λ members.
+    and_then (read (n + 1) seen members) (λ x.
+    tables_from key place read (n + 1) items (seen ++ x ∷ [])))

@@ -1,4 +1,4 @@
--- The words of a policy's text: keys, and the causes of refusals by number. This project's own.
+-- The words of a policy's text: key_text, cause_number and refusal_text.
 use Rattle.std.specs.Prelude.{ℕ, List, ◌++◌, codes, decimal}
 use Rattle.cf_policylang.specs.declared.refusal.Key.{Key}
 use Rattle.cf_policylang.specs.declared.refusal.Key.TheVariants as key

@@ -1,4 +1,3 @@
-pub mod Answers
 pub mod Assets
 pub mod Documents
 pub mod Fields

@@ -1,4 +1,4 @@
--- The lists of a rule. This project's own.
+-- What the lists of a rule mean: spans.
 use Rattle.std.specs.Prelude.{ℕ, ℤ, pos, nat_eq, nat_lt, if◌then◌else◌, List, [], ◌∷◌, ◌++◌, Option, Some, None, Ok, option_and_then}
 use Rattle.toml.specs.Data.{Data, Items, no_items, item, Members}
 use Rattle.cf_policy.specs.declared.policy.Span.{Span}
@@ -13,6 +13,7 @@ use Rattle.cf_policylang.specs.declared.refusal.Place.{Place}
 use Rattle.cf_policylang.specs.Fields.{as_text, as_number, as_array_of, count, stated}
 use Rattle.cf_policylang.specs.Numbers.{address, ends, number_span, span, within}
 use Rattle.cf_policylang.specs.Tested.{Tested, and_then, refused, or_refused}
+use Rattle.cf_policy.specs.Within.{most_spans}
 
 -- what kind the entries are of
 abbrev pub kind_of : Entries → Kind
@@ -22,39 +23,40 @@ kind_of (entries.Numbers low high) = kind.Text
 
 -- an address, or a range of addresses: a part that is none is a bad address, and else the order is tested
 abbrev pub address_span : Key → Place → List ℕ → Tested Span
-address_span k p text =
-    let e = ends text in
-    and_then (or_refused cause.BadAddress k p (address e.0)) (λ a.
-    and_then (or_refused cause.BadAddress k p (address e.1)) (λ b.
-    or_refused cause.BadRange k p (span (pos a) (pos b))))
+address_span key place text =
+    let both = ends text in
+    and_then (or_refused cause.BadAddress key place (address both.0)) (λ a.
+    and_then (or_refused cause.BadAddress key place (address both.1)) (λ b.
+    or_refused cause.BadRange key place (span (pos a) (pos b))))
 
 -- a code is a span of its own
 abbrev pub code_span : ℤ → Option Span
 code_span z = option_and_then (λ n. span n n) (within (pos 0) highest_code z)
 
 abbrev pub entry : Entries → Key → Place → Data → Tested Span
-entry entries.Addresses k p d = and_then (as_text k p d) (λ text. address_span k p text)
-entry entries.Codes k p d = and_then (as_number k p d) (λ z. or_refused cause.BadRange k p (code_span z))
-entry (entries.Numbers low high) k p d =
-    and_then (as_text k p d) (λ text. or_refused cause.BadRange k p (number_span low high text))
+entry entries.Addresses key place value = and_then (as_text key place value) (λ text. address_span key place text)
+entry entries.Codes key place value = and_then (as_number key place value) (λ z. or_refused cause.BadRange key place (code_span z))
+entry (entries.Numbers low high) key place value =
+    and_then (as_text key place value) (λ text. or_refused cause.BadRange key place (number_span low high text))
 
 -- the entries in their order, behind those before them
 abbrev pub entries_from : Entries → Key → Place → Items → List Span → Tested (List Span)
-entries_from e k p no_items seen = Ok seen
-entries_from e k p (item d ds) seen = and_then (entry e k p d) (λ s. entries_from e k p ds (seen ++ s ∷ []))
+entries_from entries key place no_items seen = Ok seen
+entries_from entries key place (item value items) seen =
+    and_then (entry entries key place value) (λ s. entries_from entries key place items (seen ++ s ∷ []))
 
 -- a list: the kind of all its entries, then how many there are, then the first bad entry
 abbrev pub spans : Entries → Key → Place → Data → Tested (List Span)
-spans e k p d =
-    and_then (as_array_of (kind_of e) k p d) (λ ds.
-    if nat_eq (count ds) 0 then refused cause.BadRange k p
-    else if nat_lt 64 (count ds) then refused cause.TooMany k p
-    else entries_from e k p ds [])
+spans entries key place value =
+    and_then (as_array_of (kind_of entries) key place value) (λ items.
+    if nat_eq (count items) 0 then refused cause.BadRange key place
+    else if nat_lt most_spans (count items) then refused cause.TooMany key place
+    else entries_from entries key place items [])
 
 abbrev pub spans_if_any : Entries → Key → Place → Option Data → Tested (List Span)
-spans_if_any e k p None = Ok []
-spans_if_any e k p (Some d) = spans e k p d
+spans_if_any entries key place None = Ok []
+spans_if_any entries key place (Some value) = spans entries key place value
 
 -- a list that may be absent, and is then empty
 abbrev pub optional_spans : Entries → Key → Place → Members → Tested (List Span)
-optional_spans e k p ms = spans_if_any e k p (stated k ms)
+optional_spans entries key place members = spans_if_any entries key place (stated key members)

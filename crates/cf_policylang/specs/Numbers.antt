@@ -1,4 +1,4 @@
--- Numbers, addresses and ranges as texts of a policy. This project's own.
+-- Which texts are numbers, addresses and ranges: printed_number, address and number_span.
 use Rattle.std.specs.Prelude.{ℕ, ◌+◌, ◌*◌, ℤ, pos, nat_abs, int_le, Bool, ◌&&◌, ◌||◌, nat_eq, nat_lt, if◌then◌else◌, List, [], ◌∷◌, length, drop, Option, Some, None, unwrap_or, option_map, option_and_then, codes, bytes_eq}
 use Rattle.std.specs.List.{starts_with}
 use Rattle.std.specs.Fmt.{signed_decimal}
@@ -7,8 +7,8 @@ use Rattle.cf_policy.specs.declared.policy.Span.{Span}
 
 -- the number that the text's digits write, if the text is how that number is printed: decimal digits without leading
 -- zeros, behind a `-` if it is below zero
-abbrev pub number : List ℕ → Option ℤ
-number text = let z = signed_digits_value 10 text in if bytes_eq text (signed_decimal z) then Some z else None
+abbrev pub printed_number : List ℕ → Option ℤ
+printed_number text = let z = signed_digits_value 10 text in if bytes_eq text (signed_decimal z) then Some z else None
 
 -- a `+`, or a zero before another digit or behind `-`, which no number has as it is printed
 abbrev pub has_spare : List ℕ → Bool
@@ -20,19 +20,19 @@ has_spare text =
 abbrev pub within : ℤ → ℤ → ℤ → Option ℤ
 within low high z = if int_le low z && int_le z high then Some z else None
 
-abbrev pub number_in : ℤ → ℤ → List ℕ → Option ℤ
-number_in low high text = option_and_then (within low high) (number text)
+abbrev pub printed_number_in : ℤ → ℤ → List ℕ → Option ℤ
+printed_number_in low high text = option_and_then (within low high) (printed_number text)
 
 -- what stands before and what stands behind the first place at which the mark stands
-abbrev pub cut_at : List ℕ → List ℕ → Option (List ℕ × List ℕ)
-cut_at mark [] = None
-cut_at mark (b ∷ bs) =
+abbrev pub split_at_mark : List ℕ → List ℕ → Option (List ℕ × List ℕ)
+split_at_mark mark [] = None
+split_at_mark mark (b ∷ bs) =
     if starts_with nat_eq (b ∷ bs) mark then Some ([], drop (length mark) (b ∷ bs))
-    else option_map (λ p. (b ∷ p.0, p.1)) (cut_at mark bs)
+    else option_map (λ p. (b ∷ p.0, p.1)) (split_at_mark mark bs)
 
 -- the first and the last of a range; a text without `..` is both
 abbrev pub ends : List ℕ → List ℕ × List ℕ
-ends text = unwrap_or (cut_at (codes "..") text) (text, text)
+ends text = unwrap_or (split_at_mark (codes "..") text) (text, text)
 
 -- the span from a to b, if a is not above b
 abbrev pub span : ℤ → ℤ → Option Span
@@ -41,11 +41,11 @@ span a b = if int_le a b then Some (record { low = a; high = b }) else None
 -- a number from low to high, or a range of such numbers
 abbrev pub number_span : ℤ → ℤ → List ℕ → Option Span
 number_span low high text =
-    let e = ends text in
-    option_and_then (λ a. option_and_then (span a) (number_in low high e.1)) (number_in low high e.0)
+    let both = ends text in
+    option_and_then (λ a. option_and_then (span a) (printed_number_in low high both.1)) (printed_number_in low high both.0)
 
 abbrev pub octet : List ℕ → Option ℕ
-octet text = option_map nat_abs (number_in (pos 0) (pos 255) text)
+octet text = option_map nat_abs (printed_number_in (pos 0) (pos 255) text)
 
 -- the number of four octets, the first the highest
 abbrev pub joined : ℕ → ℕ → ℕ → ℕ → ℕ
@@ -59,4 +59,4 @@ octets a b c d =
 abbrev pub address : List ℕ → Option ℕ
 address text =
     option_and_then (λ p. option_and_then (λ q. option_and_then (λ r. octets p.0 q.0 r.0 r.1)
-    (cut_at (codes ".") q.1)) (cut_at (codes ".") p.1)) (cut_at (codes ".") text)
+    (split_at_mark (codes ".") q.1)) (split_at_mark (codes ".") p.1)) (split_at_mark (codes ".") text)

@@ -1,4 +1,4 @@
--- The rules of an asset. This project's own.
+-- What the tables of an asset's rules mean: rules, and rule of one.
 use Rattle.std.specs.Prelude.{ℕ, pos, Bool, ◌||◌, nat_lt, if◌then◌else◌, List, [], ◌∷◌, Option, Some, None, Ok, codes, bytes_eq}
 use Rattle.std.specs.List.{list_any}
 use Rattle.toml.specs.Data.{Data, Items, no_items, Members}
@@ -17,24 +17,25 @@ use Rattle.cf_policylang.specs.declared.refusal.Place.{Place}
 use Rattle.cf_policylang.specs.Fields.{as_text, as_array_of, count, has_other, required, stated, tables_from}
 use Rattle.cf_policylang.specs.Lists.{optional_spans, spans}
 use Rattle.cf_policylang.specs.Tested.{Tested, and_then, refused, or_refused, at_asset, at_rule}
+use Rattle.cf_policy.specs.Within.{most_rules}
 
 abbrev pub rule_keys : List Key
 rule_keys = key.Name ∷ key.Action ∷ key.Clients ∷ key.Codes ∷ key.Groups ∷ key.Points ∷ key.Values ∷ []
 
 -- a name, of an asset or a rule
 abbrev pub name : Place → Members → Tested (List ℕ)
-name p ms =
-    and_then (required key.Name p ms) (λ d.
-    and_then (as_text key.Name p d) (λ text.
-    if is_name text then Ok text else refused cause.BadRange key.Name p))
+name place members =
+    and_then (required key.Name place members) (λ value.
+    and_then (as_text key.Name place value) (λ text.
+    if is_name text then Ok text else refused cause.BadRange key.Name place))
 
 -- an earlier rule has the name, or it stands for another decider
 abbrev pub is_rule_taken : List Rule → List ℕ → Bool
 is_rule_taken seen text = is_reserved text || list_any (λ r. bytes_eq r.name text) seen
 
 abbrev pub rule_name : Place → List Rule → Members → Tested (List ℕ)
-rule_name p seen ms =
-    and_then (name p ms) (λ text. if is_rule_taken seen text then refused cause.Duplicate key.Name p else Ok text)
+rule_name place seen members =
+    and_then (name place members) (λ text. if is_rule_taken seen text then refused cause.Duplicate key.Name place else Ok text)
 
 abbrev pub action_of : List ℕ → Option Action
 action_of text =
@@ -43,37 +44,37 @@ action_of text =
     else None
 
 abbrev pub action : Place → Members → Tested Action
-action p ms =
-    and_then (required key.Action p ms) (λ d.
-    and_then (as_text key.Action p d) (λ text. or_refused cause.BadRange key.Action p (action_of text)))
+action place members =
+    and_then (required key.Action place members) (λ value.
+    and_then (as_text key.Action place value) (λ text. or_refused cause.BadRange key.Action place (action_of text)))
 
 -- the lists of a rule: each may be absent but the codes
 abbrev pub client_spans : Place → Members → Tested (List Span)
-client_spans p ms = optional_spans entries.Addresses key.Clients p ms
+client_spans place members = optional_spans entries.Addresses key.Clients place members
 
 abbrev pub code_spans : Place → Members → Tested (List Span)
-code_spans p ms = and_then (required key.Codes p ms) (λ d. spans entries.Codes key.Codes p d)
+code_spans place members = and_then (required key.Codes place members) (λ value. spans entries.Codes key.Codes place value)
 
 abbrev pub group_spans : Place → Members → Tested (List Span)
-group_spans p ms = optional_spans (entries.Numbers (pos 0) highest_group) key.Groups p ms
+group_spans place members = optional_spans (entries.Numbers (pos 0) highest_group) key.Groups place members
 
 abbrev pub point_spans : Place → Members → Tested (List Span)
-point_spans p ms = optional_spans (entries.Numbers (pos 0) highest_point) key.Points p ms
+point_spans place members = optional_spans (entries.Numbers (pos 0) highest_point) key.Points place members
 
 abbrev pub value_spans : Place → Members → Tested (List Span)
-value_spans p ms = optional_spans (entries.Numbers lowest_value highest_value) key.Values p ms
+value_spans place members = optional_spans (entries.Numbers lowest_value highest_value) key.Values place members
 
 -- a rule behind those of its asset that were read
 abbrev pub rule : Place → List Rule → Members → Tested Rule
-rule p seen ms =
-    if has_other rule_keys ms then refused cause.UnknownKey key.Nothing p else
-    and_then (rule_name p seen ms) (λ own_name.
-    and_then (action p ms) (λ own_action.
-    and_then (client_spans p ms) (λ own_clients.
-    and_then (code_spans p ms) (λ own_codes.
-    and_then (group_spans p ms) (λ own_groups.
-    and_then (point_spans p ms) (λ own_points.
-    and_then (value_spans p ms) (λ own_values.
+rule place seen members =
+    if has_other rule_keys members then refused cause.UnknownKey key.Nothing place else
+    and_then (rule_name place seen members) (λ own_name.
+    and_then (action place members) (λ own_action.
+    and_then (client_spans place members) (λ own_clients.
+    and_then (code_spans place members) (λ own_codes.
+    and_then (group_spans place members) (λ own_groups.
+    and_then (point_spans place members) (λ own_points.
+    and_then (value_spans place members) (λ own_values.
     Ok (record {
       name = own_name;
       action = own_action;
@@ -86,14 +87,14 @@ rule p seen ms =
 
 -- the rules of the asset of this number in their order, behind n that were read
 abbrev pub rules_from : ℕ → ℕ → Items → List Rule → Tested (List Rule)
-rules_from a n ds seen = tables_from key.Rule (at_asset a) (λ m. rule (at_rule a m)) n ds seen
+rules_from a n items seen = tables_from key.Rule (at_asset a) (λ m. rule (at_rule a m)) n items seen
 
 -- the array of the rules, which may be absent
 abbrev pub rule_items : Place → Option Data → Tested Items
-rule_items p None = Ok no_items
-rule_items p (Some d) =
-    and_then (as_array_of kind.Table key.Rule p d) (λ ds.
-    if nat_lt 1024 (count ds) then refused cause.TooMany key.Rule p else Ok ds)
+rule_items place None = Ok no_items
+rule_items place (Some value) =
+    and_then (as_array_of kind.Table key.Rule place value) (λ items.
+    if nat_lt most_rules (count items) then refused cause.TooMany key.Rule place else Ok items)
 
 abbrev pub rules : ℕ → Members → Tested (List Rule)
-rules a ms = and_then (rule_items (at_asset a) (stated key.Rule ms)) (λ ds. rules_from a 0 ds [])
+rules a members = and_then (rule_items (at_asset a) (stated key.Rule members)) (λ items. rules_from a 0 items [])

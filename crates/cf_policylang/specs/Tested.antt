@@ -1,8 +1,10 @@
--- A value that is tested in an order: the value, or the first refusal. This project's own.
-use Rattle.std.specs.Prelude.{ℕ, Option, Some, None, Result, Ok, Err}
+-- A value that is tested in an order, Tested: the value, or the first refusal; and a call's answer beside it, Answers.
+use Rattle.std.specs.Prelude.{◌≡◌, ℕ, Option, Some, None, Result, Ok, Err}
 use Rattle.cf_policylang.specs.declared.refusal.Key.{Key}
 use Rattle.cf_policylang.specs.declared.refusal.Cause.{Cause}
 use Rattle.cf_policylang.specs.declared.refusal.Place.{Place}
+use Rattle.cf_policylang.specs.declared.refusal.PolicyFault.{PolicyFault}
+use Rattle.cf_policylang.specs.declared.refusal.PolicyFault.TheVariants.{NoMemory, Refused}
 use Rattle.cf_policylang.specs.declared.refusal.PolicyRefusal.{PolicyRefusal}
 use Rattle.cf_policylang.specs.Keys.{cause_number}
 
@@ -15,15 +17,15 @@ and_then (Ok x) next = next x
 and_then (Err r) next = Err r
 
 abbrev pub refusal : Cause → Key → Place → PolicyRefusal
-refusal c k p = record { number = cause_number c; key = k; asset = p.asset; rule = p.rule }
+refusal cause key place = record { number = cause_number cause; key = key; asset = place.asset; rule = place.rule }
 
 abbrev pub refused : {A : Type 0} → Cause → Key → Place → Tested A
-refused c k p = Err (refusal c k p)
+refused cause key place = Err (refusal cause key place)
 
 -- the value, and where there is none a refusal
 abbrev pub or_refused : {A : Type 0} → Cause → Key → Place → Option A → Tested A
-or_refused c k p None = refused c k p
-or_refused c k p (Some x) = Ok x
+or_refused cause key place None = refused cause key place
+or_refused cause key place (Some x) = Ok x
 
 -- the document itself, an asset, and a rule of an asset, each counted from 1
 abbrev pub at_document : Place
@@ -34,3 +36,14 @@ at_asset n = record { asset = n; rule = 0 }
 
 abbrev pub at_rule : ℕ → ℕ → Place
 at_rule n m = record { asset = n; rule = m }
+
+-- exactly the meaning or exactly its first refusal, but for want of memory; view is what a contract sees of the value
+abbrev pub Answers : {A B : Type 0} → (A → B) → Tested B → Result A PolicyFault → Type 0
+Answers view meaning (Ok x) = meaning ≡ Ok (view x)
+Answers view meaning (Err (Refused r)) = meaning ≡ Err r
+Answers view meaning (Err NoMemory) = Unit {0}
+
+-- the same of a call that takes no memory
+abbrev pub AnswersPlainly : {A B : Type 0} → (A → B) → Tested B → Result A PolicyRefusal → Type 0
+AnswersPlainly view meaning (Ok x) = meaning ≡ Ok (view x)
+AnswersPlainly view meaning (Err r) = meaning ≡ Err r

@@ -2,15 +2,17 @@
 ghost use Rattle.std.specs.Prelude.{◌≡◌, ◌≤◌, [], bytes_eq, vec_len};
 ghost use Rattle.std.specs.List.{list_any};
 ghost use Rattle.toml.specs.View.{table_view, array_view};
-ghost use Rattle.cf_policy.specs.Within.{lowest_station, highest_station, highest_master};
-ghost use Rattle.cf_policylang.specs.Answers.{Answers, AnswersPlainly};
+ghost use Rattle.cf_policy.specs.Within.{lowest_station, highest_station, highest_master, most_assets};
+ghost use Rattle.cf_policylang.specs.Tested.{Answers, AnswersPlainly};
 ghost use Rattle.cf_policylang.specs.Assets.{is_asset_taken, asset_name, asset_address, number_at, is_same_endpoint, is_endpoint_taken, endpoint, protocol_of, protocol, no_master, master, asset, assets_from};
 
-use crate::fields::{as_number, as_table, as_text, has_other, natural_in, required, stated};
+use crate::fields::{as_number, as_table, as_text, has_other, number_in, required, stated};
 use crate::numbers::address;
 use crate::refusal::{Cause, Key, Place, PolicyFault, PolicyRefusal, refusal};
 use crate::rules::{name, rules};
-use cf_policy::{Asset, Assets, Name, Protocol};
+use cf_policy::{
+    Asset, HIGHEST_COMMON_ADDRESS, HIGHEST_LINK_ADDRESS, HIGHEST_UNIT, Items, Name, Protocol,
+};
 use cf_view::Endpoint;
 use std::alloc::Global;
 use toml::Table;
@@ -26,11 +28,9 @@ const ASSET_KEYS: [Key; 7] = [
     Key::Rule,
 ];
 
-const HIGHEST_DNP3_ADDRESS: u16 = 65_519;
-
 /// The assets of a policy.
-pub(crate) fn assets_from(alloc: Global, array: &Array) -> Result<Assets, PolicyFault>
-    requires { vec_len array.now ≤ 256 }
+pub(crate) fn assets_from(alloc: Global, array: &Array) -> Result<Items<Asset>, PolicyFault>
+    requires { vec_len array.now ≤ most_assets }
     ensures { Answers (λ a. a) (assets_from 0 (array_view array.now) []) result }
 {
     let mut assets = Vec::new(alloc);
@@ -39,7 +39,7 @@ pub(crate) fn assets_from(alloc: Global, array: &Array) -> Result<Assets, Policy
         let asset = asset(alloc, index as u32 + 1, assets.as_slice(), table)?;
         assets.push(asset)?;
     }
-    Ok(Assets::new(assets))
+    Ok(Items::new(assets))
 }
 
 /// The asset of this number, from 1, behind those that were read.
@@ -113,7 +113,7 @@ fn number_at(
     ensures { result ≡ number_at key low high place (table_view table.now) }
 {
     let number = as_number(key, place, required(key, place, table)?)?;
-    natural_in(low, high, number).ok_or(refusal(Cause::BadRange, key, place))
+    number_in(low, high, number).ok_or(refusal(Cause::BadRange, key, place))
 }
 
 fn is_endpoint_taken(earlier: &[Asset], endpoint: Endpoint) -> bool
@@ -152,9 +152,9 @@ fn station(protocol: Protocol, place: Place, table: &Table) -> Result<u16, Polic
     ensures { result ≡ number_at Key.Station (lowest_station protocol) (highest_station protocol) place (table_view table.now) }
 {
     let (low, high) = match protocol {
-        Protocol::Modbus => (0, 255),
-        Protocol::Dnp3 => (0, HIGHEST_DNP3_ADDRESS),
-        Protocol::Iec104 => (1, 65_534),
+        Protocol::Modbus => (0, HIGHEST_UNIT),
+        Protocol::Dnp3 => (0, HIGHEST_LINK_ADDRESS),
+        Protocol::Iec104 => (1, HIGHEST_COMMON_ADDRESS),
     };
     number_at(Key::Station, low, high, place, table)
 }
@@ -164,7 +164,7 @@ fn master(protocol: Protocol, place: Place, table: &Table) -> Result<u16, Policy
     ensures { result ≡ master protocol place (table_view table.now) }
 {
     match protocol {
-        Protocol::Dnp3 => number_at(Key::Master, 0, HIGHEST_DNP3_ADDRESS, place, table),
+        Protocol::Dnp3 => number_at(Key::Master, 0, HIGHEST_LINK_ADDRESS, place, table),
         Protocol::Modbus | Protocol::Iec104 => no_master(place, table),
     }
 }

@@ -1,21 +1,20 @@
 //! The document of a policy, and its text.
 ghost use Rattle.std.specs.Prelude.{◌≡◌, ◌≤◌, IfOk, vec_len};
 ghost use Rattle.toml.specs.View.{table_view, array_view};
-ghost use Rattle.cf_policy.specs.Within.{IsWithin};
-ghost use Rattle.cf_policylang.specs.Answers.{Answers, AnswersPlainly};
-ghost use Rattle.cf_policylang.specs.Documents.{version, asset_items, document, toml_of, meaning, policy};
-ghost use Rattle.cf_policylang.specs.Tested.{or_refused, at_document};
+ghost use Rattle.cf_policy.specs.Within.{IsWithin, most_assets};
+ghost use Rattle.cf_policylang.specs.Tested.{Answers, AnswersPlainly, or_refused, at_document};
+ghost use Rattle.cf_policylang.specs.Documents.{version, asset_items, document, toml_of, text_meaning, policy_meaning};
 
 use crate::assets::assets_from;
 use crate::fields::{Kind, as_array_of, as_number, count, has_other, required};
 use crate::refusal::{Cause, Key, Place, PolicyFault, PolicyRefusal, refusal};
-use cf_policy::Policy;
+use cf_policy::{MOST_ASSETS, Policy};
 use std::alloc::Global;
 use toml::Table;
 use toml::value::Array;
 
 /// The most bytes that a policy's text has.
-const LONGEST_TEXT: usize = 4_194_304;
+pub const LONGEST_TEXT: usize = 4_194_304;
 
 const DOCUMENT_KEYS: [Key; 2] = [Key::Version, Key::Asset];
 
@@ -25,18 +24,18 @@ const DOCUMENT_KEYS: [Key; 2] = [Key::Version, Key::Asset];
 /// memory comes besides. The whole text is tested first, then the document's keys, then each asset with its rules.
 /// A policy that is read has its names and endpoints apart and every number in its range.
 pub fn read_policy(alloc: Global, bytes: &[u8]) -> Result<Policy, PolicyFault>
-    ensures meaning { Answers (λ p. p) (policy bytes.now) result }
+    ensures meaning { Answers (λ p. p) (policy_meaning bytes.now) result }
     ensures within { IfOk result (λ p. IsWithin p) }
 {
     if bytes.len() > LONGEST_TEXT {
         return Err(refusal(Cause::TooMany, Key::Nothing, Place::DOCUMENT).into());
     }
-    meaning(alloc, bytes)
+    text_meaning(alloc, bytes)
 }
 
 /// What a text of any size means.
-fn meaning(alloc: Global, bytes: &[u8]) -> Result<Policy, PolicyFault>
-    ensures { Answers (λ p. p) (meaning bytes.now) result }
+fn text_meaning(alloc: Global, bytes: &[u8]) -> Result<Policy, PolicyFault>
+    ensures { Answers (λ p. p) (text_meaning bytes.now) result }
 {
     document(alloc, &toml_of(alloc, bytes)?)
 }
@@ -82,11 +81,11 @@ fn version(table: &Table) -> Result<(), PolicyRefusal>
 
 fn asset_array(table: &Table) -> Result<&Array, PolicyRefusal>
     ensures items { AnswersPlainly (λ a. array_view a.now) (asset_items (table_view table.now)) result }
-    ensures short { IfOk result (λ a. vec_len a.now ≤ 256) }
+    ensures short { IfOk result (λ a. vec_len a.now ≤ most_assets) }
 {
     let value = required(Key::Asset, Place::DOCUMENT, table)?;
     let array = as_array_of(Kind::Table, Key::Asset, Place::DOCUMENT, value)?;
-    if count(array) > 256 {
+    if count(array) > MOST_ASSETS {
         return Err(refusal(Cause::TooMany, Key::Asset, Place::DOCUMENT));
     }
     Ok(array)

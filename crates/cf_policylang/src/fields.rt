@@ -3,8 +3,8 @@ ghost use Rattle.std.specs.Prelude.{◌≡◌, not, option_map, string_bytes, ve
 ghost use Rattle.std.specs.List.{list_all, list_any};
 ghost use Rattle.std.specs.BTreeMap.{keys};
 ghost use Rattle.toml.specs.View.{view, table_view, array_view};
-ghost use Rattle.cf_policylang.specs.Answers.{AnswersPlainly};
-ghost use Rattle.cf_policylang.specs.Fields.{is_among, has_other, stated, required, as_text, as_number, as_table, is_kind, all_kind, as_array_of, count, natural_in};
+ghost use Rattle.cf_policylang.specs.Tested.{AnswersPlainly};
+ghost use Rattle.cf_policylang.specs.Fields.{is_among, has_other, stated, required, as_text, as_number, as_table, is_kind, all_kind, as_array_of, count, number_in};
 
 use crate::refusal::{Cause, Key, Place, PolicyRefusal, refusal};
 use toml::value::Array;
@@ -132,8 +132,8 @@ pub(crate) fn count(array: &Array) -> usize
 }
 
 /// The number, if it is from `low` to `high`.
-pub(crate) fn natural_in(low: u16, high: u16, number: i64) -> Option<u16>
-    ensures { result ≡ natural_in low high number }
+pub(crate) fn number_in(low: u16, high: u16, number: i64) -> Option<u16>
+    ensures { result ≡ number_in low high number }
 {
     let natural = u16::try_from(number).ok()?;
     if low <= natural && natural <= high {

@@ -9,7 +9,7 @@ mod numbers;
 mod refusal;
 mod rules;
 
-pub use documents::read_policy;
+pub use documents::{LONGEST_TEXT, read_policy};
 pub use numbers::address;
 pub use refusal::{Cause, Key, PolicyFault, PolicyRefusal};
 

@@ -1,13 +1,13 @@
 //! The lists of a rule.
 ghost use Rattle.std.specs.Prelude.{◌≡◌, []};
 ghost use Rattle.toml.specs.View.{view, table_view, array_view};
-ghost use Rattle.cf_policylang.specs.Answers.{Answers};
+ghost use Rattle.cf_policylang.specs.Tested.{Answers};
 ghost use Rattle.cf_policylang.specs.Lists.{kind_of, address_span, code_span, entry, entries_from, spans, optional_spans};
 
 use crate::fields::{Kind, as_array_of, as_number, as_text, count, stated};
 use crate::numbers::{address, ends, number_span, span, within};
 use crate::refusal::{Cause, Key, Place, PolicyFault, PolicyRefusal, refusal};
-use cf_policy::{Span, Spans};
+use cf_policy::{HIGHEST_CODE, Items, MOST_SPANS, Span};
 use std::alloc::Global;
 use toml::value::Array;
 use toml::{Table, Value};
@@ -17,7 +17,7 @@ use toml::{Table, Value};
 pub(crate) enum Entries {
     /// Texts: addresses and ranges of addresses.
     Addresses,
-    /// Integers from 0 to 255.
+    /// Integers from 0 to `HIGHEST_CODE`.
     Codes,
     /// Texts: numbers from `low` to `high`, and ranges of such numbers.
     Numbers { low: i64, high: i64 },
@@ -42,11 +42,11 @@ pub(crate) fn optional_spans(
     key: Key,
     place: Place,
     table: &Table,
-) -> Result<Spans, PolicyFault>
+) -> Result<Items<Span>, PolicyFault>
     ensures { Answers (λ s. s) (optional_spans entries key place (table_view table.now)) result }
 {
     match stated(key, table) {
-        None => Ok(Spans::new(Vec::new(alloc))),
+        None => Ok(Items::new(Vec::new(alloc))),
         Some(value) => spans(alloc, entries, key, place, value),
     }
 }
@@ -58,7 +58,7 @@ pub(crate) fn spans(
     key: Key,
     place: Place,
     value: &Value,
-) -> Result<Spans, PolicyFault>
+) -> Result<Items<Span>, PolicyFault>
     ensures { Answers (λ s. s) (spans entries key place (view value.now)) result }
 {
     let array = as_array_of(entries.kind(), key, place, value)?;
@@ -66,7 +66,7 @@ pub(crate) fn spans(
     if entries_count == 0 {
         return Err(refusal(Cause::BadRange, key, place).into());
     }
-    if entries_count > 64 {
+    if entries_count > MOST_SPANS {
         return Err(refusal(Cause::TooMany, key, place).into());
     }
     entries_from(alloc, entries, key, place, array)
@@ -78,7 +78,7 @@ fn entries_from(
     key: Key,
     place: Place,
     array: &Array,
-) -> Result<Spans, PolicyFault>
+) -> Result<Items<Span>, PolicyFault>
     ensures { Answers (λ s. s) (entries_from entries key place (array_view array.now) []) result }
 {
     let mut spans = Vec::new(alloc);
@@ -86,7 +86,7 @@ fn entries_from(
         let span = entry(entries, key, place, value)?;
         spans.push(span)?;
     }
-    Ok(Spans::new(spans))
+    Ok(Items::new(spans))
 }
 
 fn entry(entries: Entries, key: Key, place: Place, value: &Value) -> Result<Span, PolicyRefusal>
@@ -118,6 +118,6 @@ fn address_span(key: Key, place: Place, text: &str) -> Result<Span, PolicyRefusa
 fn code_span(number: i64) -> Option<Span>
     ensures { result ≡ code_span number }
 {
-    let code = within(0, 255, number)?;
+    let code = within(0, HIGHEST_CODE, number)?;
     span(code, code)
 }

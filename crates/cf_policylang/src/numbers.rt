@@ -1,6 +1,6 @@
 //! Numbers, addresses and ranges as texts of a policy.
 ghost use Rattle.std.specs.Prelude.{◌≡◌, ◌<◌, ◌≤ℤ◌, IfSome, length, option_map};
-ghost use Rattle.cf_policylang.specs.Numbers.{has_spare, within, number_in, cut_at, ends, span, number_span, octet, octets, joined, address};
+ghost use Rattle.cf_policylang.specs.Numbers.{has_spare, within, printed_number_in, split_at_mark, ends, span, number_span, octet, octets, joined, address};
 
 use cf_policy::Span;
 
@@ -9,8 +9,8 @@ pub(crate) fn number_span(low: i64, high: i64, text: &str) -> Option<Span>
     ensures { result ≡ number_span low high text.now }
 {
     let (first, last) = ends(text);
-    let first = number_in(low, high, first)?;
-    let last = number_in(low, high, last)?;
+    let first = printed_number_in(low, high, first)?;
+    let last = printed_number_in(low, high, last)?;
     span(first, last)
 }
 
@@ -18,7 +18,7 @@ pub(crate) fn number_span(low: i64, high: i64, text: &str) -> Option<Span>
 pub(crate) fn ends(text: &str) -> (&str, &str)
     ensures { (result.0.now, result.1.now) ≡ ends text.now }
 {
-    cut_at("..", text).unwrap_or((text, text))
+    split_at_mark("..", text).unwrap_or((text, text))
 }
 
 /// The span from `low` to `high`, if the first is not above the second.
@@ -32,13 +32,15 @@ pub(crate) fn span(low: i64, high: i64) -> Option<Span>
     }
 }
 
-/// The number of four octets with points between them, the first the highest.
+/// The number of an address of IPv4: four decimal numbers from 0 to 255 with points between them, the first the highest
+/// octet, as RFC 1123, section 2.1, writes it. A sign, a leading zero, a space and any other text are refused, so that an
+/// address has one text.
 pub fn address(text: &str) -> Option<u32>
     ensures { result ≡ address text.now }
 {
-    let (a, rest) = cut_at(".", text)?;
-    let (b, rest) = cut_at(".", rest)?;
-    let (c, d) = cut_at(".", rest)?;
+    let (a, rest) = split_at_mark(".", text)?;
+    let (b, rest) = split_at_mark(".", rest)?;
+    let (c, d) = split_at_mark(".", rest)?;
     octets(a, b, c, d)
 }
 
@@ -56,21 +58,21 @@ fn octet(text: &str) -> Option<u32>
     ensures value { result ≡ octet text.now }
     ensures small { IfSome result (λ n. n < 256) }
 {
-    let octet = number_in(0, 255, text)?;
+    let octet = printed_number_in(0, 255, text)?;
     Some(octet as u32)
 }
 
 /// What stands before and what stands behind the first place at which the mark stands.
-fn cut_at<'a>(mark: &str, text: &'a str) -> Option<(&'a str, &'a str)>
+fn split_at_mark<'a>(mark: &str, text: &'a str) -> Option<(&'a str, &'a str)>
     requires { 0 < length mark.now }
-    ensures { option_map (λ p. (p.0.now, p.1.now)) result ≡ cut_at mark.now text.now }
+    ensures { option_map (λ p. (p.0.now, p.1.now)) result ≡ split_at_mark mark.now text.now }
 {
     text.split_once(mark)
 }
 
 /// The number from `low` to `high` that the text is, as it is printed.
-fn number_in(low: i64, high: i64, text: &str) -> Option<i64>
-    ensures value { result ≡ number_in low high text.now }
+fn printed_number_in(low: i64, high: i64, text: &str) -> Option<i64>
+    ensures value { result ≡ printed_number_in low high text.now }
     ensures above { IfSome result (λ z. low ≤ℤ z) }
     ensures below { IfSome result (λ z. z ≤ℤ high) }
 {

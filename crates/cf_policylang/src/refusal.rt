@@ -83,7 +83,8 @@ pub enum Cause {
     BadRange = 6,
     /// A name or an endpoint that an earlier one has, or a rule's name that stands for another decider.
     Duplicate = 7,
-    /// A file of more than 4,194,304 bytes, more than 256 assets, 1,024 rules of an asset or 64 entries of a list.
+    /// A file of more than `LONGEST_TEXT` bytes, or more than `MOST_ASSETS` assets, `MOST_RULES` rules of an asset or
+    /// `MOST_SPANS` entries of a list.
     TooMany = 8,
     /// A version other than 1.
     Version = 9,

@@ -2,15 +2,18 @@
 ghost use Rattle.std.specs.Prelude.{◌≡◌, ◌+◌, ◌<◌, ◌≤◌, [], IfOk, IsTrue, bytes_eq, length, vec_len};
 ghost use Rattle.std.specs.List.{list_any, list_all};
 ghost use Rattle.toml.specs.View.{view, table_view, array_view};
+ghost use Rattle.cf_policy.specs.Within.{longest_name, most_rules};
 ghost use Rattle.cf_policy.specs.Names.{is_name, is_name_byte, is_reserved};
-ghost use Rattle.cf_policylang.specs.Answers.{Answers, AnswersPlainly};
+ghost use Rattle.cf_policylang.specs.Tested.{Answers, AnswersPlainly, at_rule};
 ghost use Rattle.cf_policylang.specs.Rules.{name, is_rule_taken, rule_name, action_of, action, client_spans, code_spans, group_spans, point_spans, value_spans, rule, rules_from, rule_items, rules};
-ghost use Rattle.cf_policylang.specs.Tested.{at_rule};
 
 use crate::fields::{Kind, as_array_of, as_table, as_text, count, has_other, required, stated};
 use crate::lists::{Entries, optional_spans, spans};
 use crate::refusal::{Cause, Key, Place, PolicyFault, PolicyRefusal, refusal};
-use cf_policy::{Action, Name, Rule, Rules, Spans};
+use cf_policy::{
+    Action, HIGHEST_GROUP, HIGHEST_POINT, HIGHEST_VALUE, Items, LONGEST_NAME, LOWEST_VALUE,
+    MOST_RULES, Name, Rule, Span,
+};
 use std::alloc::Global;
 use toml::value::Array;
 use toml::{Table, Value};
@@ -61,7 +64,7 @@ fn rule_name(place: Place, earlier: &[Rule], table: &Table) -> Result<Name, Poli
 }
 
 /// Whether the name stands for another decider or an earlier rule has it. It is compared with each of them, so an asset
-/// of 1,024 rules takes about half a million comparisons of at most 32 bytes.
+/// of `MOST_RULES` rules takes about half a million comparisons of at most `LONGEST_NAME` bytes.
 fn is_rule_taken(earlier: &[Rule], text: &str) -> bool
     ensures { result ≡ is_rule_taken earlier.now text.now }
 {
@@ -93,9 +96,9 @@ pub(crate) fn name(place: Place, table: &Table) -> Result<Name, PolicyRefusal>
 
 fn is_name(text: &str) -> bool
     ensures form { result ≡ is_name text.now }
-    ensures short { IsTrue result → length text.now ≤ 32 }
+    ensures short { IsTrue result → length text.now ≤ longest_name }
 {
-    !text.is_empty() && text.len() <= 32 && all_name_bytes(text.as_bytes())
+    !text.is_empty() && text.len() <= LONGEST_NAME && all_name_bytes(text.as_bytes())
 }
 
 fn all_name_bytes(text: &[u8]) -> bool
@@ -127,55 +130,55 @@ fn action_of(text: &str) -> Option<Action>
     }
 }
 
-fn client_spans(alloc: Global, place: Place, table: &Table) -> Result<Spans, PolicyFault>
+fn client_spans(alloc: Global, place: Place, table: &Table) -> Result<Items<Span>, PolicyFault>
     ensures { Answers (λ s. s) (client_spans place (table_view table.now)) result }
 {
     optional_spans(alloc, Entries::Addresses, Key::Clients, place, table)
 }
 
-fn code_spans(alloc: Global, place: Place, table: &Table) -> Result<Spans, PolicyFault>
+fn code_spans(alloc: Global, place: Place, table: &Table) -> Result<Items<Span>, PolicyFault>
     ensures { Answers (λ s. s) (code_spans place (table_view table.now)) result }
 {
     let value = required(Key::Codes, place, table)?;
     spans(alloc, Entries::Codes, Key::Codes, place, value)
 }
 
-fn group_spans(alloc: Global, place: Place, table: &Table) -> Result<Spans, PolicyFault>
+fn group_spans(alloc: Global, place: Place, table: &Table) -> Result<Items<Span>, PolicyFault>
     ensures { Answers (λ s. s) (group_spans place (table_view table.now)) result }
 {
     let groups = Entries::Numbers {
         low: 0,
-        high: 65_535,
+        high: HIGHEST_GROUP,
     };
     optional_spans(alloc, groups, Key::Groups, place, table)
 }
 
-fn point_spans(alloc: Global, place: Place, table: &Table) -> Result<Spans, PolicyFault>
+fn point_spans(alloc: Global, place: Place, table: &Table) -> Result<Items<Span>, PolicyFault>
     ensures { Answers (λ s. s) (point_spans place (table_view table.now)) result }
 {
     let points = Entries::Numbers {
         low: 0,
-        high: 4_294_967_295,
+        high: HIGHEST_POINT,
     };
     optional_spans(alloc, points, Key::Points, place, table)
 }
 
-fn value_spans(alloc: Global, place: Place, table: &Table) -> Result<Spans, PolicyFault>
+fn value_spans(alloc: Global, place: Place, table: &Table) -> Result<Items<Span>, PolicyFault>
     ensures { Answers (λ s. s) (value_spans place (table_view table.now)) result }
 {
     let values = Entries::Numbers {
-        low: i64::from(i32::MIN),
-        high: i64::from(u32::MAX),
+        low: LOWEST_VALUE,
+        high: HIGHEST_VALUE,
     };
     optional_spans(alloc, values, Key::Values, place, table)
 }
 
 /// The rules of the asset of this number.
-pub(crate) fn rules(alloc: Global, asset: u32, table: &Table) -> Result<Rules, PolicyFault>
+pub(crate) fn rules(alloc: Global, asset: u32, table: &Table) -> Result<Items<Rule>, PolicyFault>
     ensures { Answers (λ r. r) (rules asset (table_view table.now)) result }
 {
     let Some(value) = stated(Key::Rule, table) else {
-        return Ok(Rules::new(Vec::new(alloc)));
+        return Ok(Items::new(Vec::new(alloc)));
     };
     rules_from(alloc, asset, rule_array(Place::asset(asset), value)?)
 }
@@ -183,17 +186,17 @@ pub(crate) fn rules(alloc: Global, asset: u32, table: &Table) -> Result<Rules, P
 /// The array of the rules.
 fn rule_array(place: Place, value: &Value) -> Result<&Array, PolicyRefusal>
     ensures items { AnswersPlainly (λ a. array_view a.now) (rule_items place (Some (view value.now))) result }
-    ensures short { IfOk result (λ a. vec_len a.now ≤ 1024) }
+    ensures short { IfOk result (λ a. vec_len a.now ≤ most_rules) }
 {
     let array = as_array_of(Kind::Table, Key::Rule, place, value)?;
-    if count(array) > 1024 {
+    if count(array) > MOST_RULES {
         return Err(refusal(Cause::TooMany, Key::Rule, place));
     }
     Ok(array)
 }
 
-fn rules_from(alloc: Global, asset: u32, array: &Array) -> Result<Rules, PolicyFault>
-    requires { vec_len array.now ≤ 1024 }
+fn rules_from(alloc: Global, asset: u32, array: &Array) -> Result<Items<Rule>, PolicyFault>
+    requires { vec_len array.now ≤ most_rules }
     ensures { Answers (λ r. r) (rules_from asset 0 (array_view array.now) []) result }
 {
     let mut rules = Vec::new(alloc);
@@ -203,12 +206,12 @@ fn rules_from(alloc: Global, asset: u32, array: &Array) -> Result<Rules, PolicyF
         let rule = rule(alloc, place, rules.as_slice(), table)?;
         rules.push(rule)?;
     }
-    Ok(Rules::new(rules))
+    Ok(Items::new(rules))
 }
 
 /// The place of the rule at an index of its asset's array.
 fn rule_place(asset: u32, index: usize) -> Place
-    requires { index < 1024 }
+    requires { index < most_rules }
     ensures { result ≡ at_rule asset (index + 1) }
 {
     Place {

@@ -1,7 +1,7 @@
 use Rattle.std.proofs.Common.{◌≡◌, ◌∙◌, true, false, FitsSigned, w64, sym, rules, to_z-of_z}
 use Rattle.cf_policylang.specs.Numbers.{has_spare}
 use Rattle.cf_policylang.proofs.Printed.{spare_none, unread_none, read_within}
-use Rattle.cf_policylang.proofs.numbers.number_in.Goals as goal
+use Rattle.cf_policylang.proofs.numbers.printed_number_in.Goals as goal
 
 pub returns-then-has_spare-clause-value : goal.returns-then-has_spare-clause-value
 returns-then-has_spare-clause-value c =

@@ -1,5 +1,5 @@
-use Rattle.cf_policylang.proofs.Cuts.{cut_of}
-use Rattle.cf_policylang.proofs.numbers.cut_at.Goals as goal
+use Rattle.cf_policylang.proofs.Marks.{cut_of}
+use Rattle.cf_policylang.proofs.numbers.split_at_mark.Goals as goal
 
 pub returns : goal.returns
 returns c = cut_of c.args.mark.now c.args.text.now c.split_once.result c.requires c.split_once.ensures.cases
