@@ -1,5 +1,5 @@
-pub mod ActLaws
-pub mod AduLaws
+pub mod ActLists
+pub mod Framing
 mod Fronts
-mod RequestLemmas
-pub mod RequestLaws
+mod Layouts
+pub mod Reading

@@ -1,9 +1,9 @@
 //! Application data units: their framing in a stream, by the MBAP header.
 ghost use Rattle.std.specs.Prelude.{◌≡◌, ℕ, ◌↔◌, IsTrue, List};
 ghost use Rattle.cf_view.specs.Octets.{IsOctets};
-ghost use Rattle.cf_view.specs.Units.{HasUnits};
+ghost use Rattle.cf_view.specs.Units.{HasUnits, IsUnitsThenBreak, IsUnitsThenRest};
 ghost use Rattle.cf_view.specs.Framing.{Begins, IsPartial, BreaksAt, Frames, HasFront, framed_value, IsPrefixFree};
-ghost use Rattle.cf_modbus.specs.Adu.{AduOf, adu_of, SpellsAdu, mbap_break, IsHeaderOctet};
+ghost use Rattle.cf_modbus.specs.Adu.{AduValue, adu_value, SpellsAdu, mbap_break, IsHeaderOctet};
 
 use cf_view::{Break, Framed, View};
 
@@ -26,14 +26,14 @@ pub struct Adu<'a> {
 /// `Broken(Protocol)` is told at the first octet of the protocol identifier that is not 0, `Broken(Length)` at the
 /// first octet of the length that no length from 2 to 254 has: no later octet is waited for.
 pub fn next_adu<'a>(bytes: View<'a>) -> Framed<Adu<'a>>
-    ensures true_answer { Frames SpellsAdu mbap_break adu_of result bytes.entry.bytes }
-    ensures unit { (a : AduOf) (n : ℕ) → Begins SpellsAdu bytes.entry.bytes a n
-        → framed_value adu_of result ≡ Framed.Unit a n }
+    ensures true_answer { Frames SpellsAdu mbap_break adu_value result bytes.entry.bytes }
+    ensures unit { (a : AduValue) (n : ℕ) → Begins SpellsAdu bytes.entry.bytes a n
+        → framed_value adu_value result ≡ Framed.Unit a n }
     ensures more { IsPartial SpellsAdu bytes.entry.bytes → result ≡ Framed.More }
     ensures broken { (place : ℕ) → BreaksAt SpellsAdu bytes.entry.bytes place
         → result ≡ Framed.Broken (mbap_break place) }
 {
-    front(bytes)
+    framed_adu(bytes)
 }
 
 /// A law: no ADU's octets begin those of another, and no octets are of two ADUs. The call does nothing.
@@ -41,16 +41,25 @@ pub fn no_adu_begins_another()
     ensures { IsPrefixFree SpellsAdu }
 {}
 
-/// A law: each list of octets begins with an ADU, is a proper prefix of one, or breaks; so each is ADUs and then one of these.
+/// A law: each list of octets begins with an ADU, is a proper prefix of one, or breaks. So each is ADUs and then one of
+/// these two, and in one way: no other ADUs, no other rest, no other place of a break, and not both.
 pub fn each_stream_has_adus()
     ensures front { (bytes : List ℕ) → IsOctets bytes → HasFront SpellsAdu bytes }
     ensures units { (bytes : List ℕ) → IsOctets bytes → HasUnits SpellsAdu bytes }
+    ensures one_rest { (adus others : List AduValue) (stream rest other : List ℕ)
+        → IsUnitsThenRest SpellsAdu adus stream rest → IsUnitsThenRest SpellsAdu others stream other
+        → (adus ≡ others) × (rest ≡ other) }
+    ensures one_break { (adus others : List AduValue) (stream : List ℕ) (place other : ℕ)
+        → IsUnitsThenBreak SpellsAdu adus stream place → IsUnitsThenBreak SpellsAdu others stream other
+        → (adus ≡ others) × (place ≡ other) }
+    ensures either { (adus others : List AduValue) (stream rest : List ℕ) (place : ℕ)
+        → IsUnitsThenRest SpellsAdu adus stream rest → IsUnitsThenBreak SpellsAdu others stream place → ⊥ }
 {}
 
 /// What `next_adu` answers.
-#[tactic(auto, using(crate::proofs::AduLaws::short_header, crate::proofs::AduLaws::short_pdu, crate::proofs::AduLaws::whole_adu))]
-fn front<'a>(bytes: View<'a>) -> Framed<Adu<'a>>
-    ensures { Frames SpellsAdu mbap_break adu_of result bytes.entry.bytes }
+#[tactic(auto, using(crate::proofs::Framing::short_header, crate::proofs::Framing::short_pdu, crate::proofs::Framing::whole_adu))]
+fn framed_adu<'a>(bytes: View<'a>) -> Framed<Adu<'a>>
+    ensures { Frames SpellsAdu mbap_break adu_value result bytes.entry.bytes }
 {
     let len = bytes.len();
     for place in 0..len.min(AFTER_LENGTH) {
