@@ -1,4 +1,4 @@
--- A line of the log without where its names and octets lie in memory. This project's own.
+-- What a contract sees of a line of the log: LineValue, without where its names and octets lie in memory.
 use Rattle.std.specs.Prelude.{ℕ, ◌≤◌, List, Bool, length}
 use Rattle.cf_view.specs.declared.Act.{Act}
 use Rattle.cf_view.specs.declared.Endpoint.{Endpoint}
@@ -6,38 +6,38 @@ use Rattle.cf_view.specs.declared.Reason.{Reason}
 use Rattle.cf_view.specs.declared.Side.{Side}
 use Rattle.cf_audit.specs.declared.line.CutReason.{CutReason}
 use Rattle.cf_audit.specs.declared.line.Why.{Why}
-use Rattle.cf_audit.specs.declared.line.What.{What as WhatFields}
-use Rattle.cf_audit.specs.declared.line.What.TheVariants as fields
-use Rattle.cf_audit.specs.declared.line.Line.{Line as LineFields}
+use Rattle.cf_audit.specs.declared.line.What.{What}
+use Rattle.cf_audit.specs.declared.line.What.TheVariants as what
+use Rattle.cf_audit.specs.declared.line.Line.{Line}
 
-pub data What : Type 0 where
-  Begun : What
-  Refuse : (rule : List ℕ) (reason : Reason) (act : Act) (replied : Bool) (unit : List ℕ) → What
-  Stray : Side → Why → What
-  Partial : Side → (count : ℕ) → What
-  Close : (admitted refused : ℕ) → What
-  Cut : CutReason → What
+pub data WhatValue : Type 0 where
+  Begun : WhatValue
+  Refuse : (rule : List ℕ) (reason : Reason) (act : Act) (replied : Bool) (unit : List ℕ) → WhatValue
+  Stray : Side → Why → WhatValue
+  Partial : Side → (count : ℕ) → WhatValue
+  Close : (admitted refused : ℕ) → WhatValue
+  Cut : CutReason → WhatValue
 
-pub record Line : Type 0 where
+pub record LineValue : Type 0 where
   pub moment : ℕ
   pub client : Endpoint
   pub asset : List ℕ
-  pub what : What
+  pub what : WhatValue
 
 -- what a contract sees of a `What` and a `Line`
-abbrev pub what_of : WhatFields → What
-what_of fields.Begun = Begun
-what_of (fields.Refuse rule reason act replied unit) = Refuse rule.now reason act replied unit.bytes
-what_of (fields.Stray side why) = Stray side why
-what_of (fields.Partial side count) = Partial side count
-what_of (fields.Close admitted refused) = Close admitted refused
-what_of (fields.Cut reason) = Cut reason
+abbrev pub what_value : What → WhatValue
+what_value what.Begun = Begun
+what_value (what.Refuse rule reason act replied unit) = Refuse rule.now reason act replied unit.bytes
+what_value (what.Stray side why) = Stray side why
+what_value (what.Partial side count) = Partial side count
+what_value (what.Close admitted refused) = Close admitted refused
+what_value (what.Cut reason) = Cut reason
 
-abbrev pub line_of : LineFields → Line
-line_of line = record { moment = line.moment; client = line.client; asset = line.asset.now; what = what_of line.what }
+abbrev pub line_value : Line → LineValue
+line_value line = record { moment = line.moment; client = line.client; asset = line.asset.now; what = what_value line.what }
 
 -- the names have at most 32 bytes, as those of a policy
-abbrev pub HasShortRule : What → Type 0
+abbrev pub HasShortRule : WhatValue → Type 0
 HasShortRule Begun = Unit {0}
 HasShortRule (Refuse rule reason act replied unit) = length rule ≤ 32
 HasShortRule (Stray side why) = Unit {0}
@@ -45,5 +45,5 @@ HasShortRule (Partial side count) = Unit {0}
 HasShortRule (Close admitted refused) = Unit {0}
 HasShortRule (Cut reason) = Unit {0}
 
-abbrev pub HasShortNames : Line → Type 0
+abbrev pub HasShortNames : LineValue → Type 0
 HasShortNames line = (length line.asset ≤ 32) × HasShortRule line.what

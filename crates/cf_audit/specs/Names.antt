@@ -1,4 +1,4 @@
--- The words of the log. This project's own.
+-- The words of the log: side_name, reason_name, why_name and break_name.
 use Rattle.std.specs.Prelude.{ℕ, List, Bool, true, false, codes}
 use Rattle.cf_view.specs.declared.Break.{Break}
 use Rattle.cf_view.specs.declared.Break.TheVariants as break

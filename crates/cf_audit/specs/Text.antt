@@ -1,10 +1,10 @@
--- The exact text of each line of the log. This project's own.
+-- The exact text of each line of the log: line_text.
 use Rattle.std.specs.Prelude.{ℕ, ℤ, Option, None, Some, List, [], ◌∷◌, ◌++◌, codes, decimal, take}
 use Rattle.std.specs.Fmt.{signed_decimal}
 use Rattle.hex.specs.Hex.{encode_lower}
 use Rattle.cf_view.specs.Text.{endpoint_text, moment_text}
 use Rattle.cf_view.specs.declared.Act.{Act}
-use Rattle.cf_audit.specs.Line.{Line, What, Begun, Refuse, Stray, Partial, Close, Cut}
+use Rattle.cf_audit.specs.Line.{LineValue, WhatValue, Begun, Refuse, Stray, Partial, Close, Cut}
 use Rattle.cf_audit.specs.Names.{side_name, reason_name, why_name, break_name, mark}
 use Rattle.cf_audit.specs.declared.line.CutReason.{CutReason}
 use Rattle.cf_audit.specs.declared.line.CutReason.TheVariants as cut
@@ -34,7 +34,7 @@ cut_text cut.ResetByClient = codes "client reset"
 cut_text cut.ResetByController = codes "controller reset"
 
 -- what happened
-abbrev pub what_text : What → List ℕ
+abbrev pub what_text : WhatValue → List ℕ
 what_text Begun = codes "open"
 what_text (Refuse rule reason act replied unit) =
     codes "refuse " ++ rule ++ codes " " ++ reason_name reason ++ act_text act ++ codes " " ++ mark replied ++ codes " "
@@ -45,7 +45,7 @@ what_text (Close admitted refused) = codes "close admitted " ++ decimal admitted
 what_text (Cut reason) = codes "cut " ++ cut_text reason
 
 -- a moment, the client, the asset and what happened; a line feed ends it
-abbrev pub line_text : Line → List ℕ
+abbrev pub line_text : LineValue → List ℕ
 line_text line =
     moment_text line.moment ++ codes " " ++ endpoint_text line.client ++ codes " " ++ line.asset ++ codes " "
     ++ what_text line.what ++ codes "\n"

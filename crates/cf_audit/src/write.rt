@@ -1,7 +1,7 @@
 //! Lines of the log as text.
 ghost use Rattle.std.specs.Prelude.{◌≡◌, ◌+◌, ◌≤◌, ◌++◌, length};
 ghost use Rattle.arrayvec.specs.ArrayString.{array_string_len};
-ghost use Rattle.cf_audit.specs.Line.{Close, HasShortNames, HasShortRule, Refuse, line_of, what_of};
+ghost use Rattle.cf_audit.specs.Line.{Close, HasShortNames, HasShortRule, Refuse, line_value, what_value};
 ghost use Rattle.cf_audit.specs.Names.{break_name, mark, reason_name, side_name, why_name};
 ghost use Rattle.cf_audit.specs.Text.{act_text, cut_text, line_text, what_text};
 
@@ -177,9 +177,9 @@ fn push_close<const N: usize>(out: &mut ArrayString<N>, admitted: u64, refused: 
 }
 
 fn push_what<const N: usize>(out: &mut ArrayString<N>, what: &What<'_>)
-    requires name { HasShortRule (what_of what.now) }
+    requires name { HasShortRule (what_value what.now) }
     requires room { array_string_len out.old + 159 ≤ N }
-    ensures bytes { out.new.bytes ≡ out.old.bytes ++ what_text (what_of what.now) }
+    ensures bytes { out.new.bytes ≡ out.old.bytes ++ what_text (what_value what.now) }
     ensures short { array_string_len out.new ≤ array_string_len out.old + 159 }
 {
     match what {
@@ -213,8 +213,8 @@ fn push_what<const N: usize>(out: &mut ArrayString<N>, what: &What<'_>)
 
 /// Writes a line with its line feed, in place of what `out` held. The names have at most 32 bytes, so that it fits.
 pub fn write_line(line: &Line<'_>, out: &mut ArrayString<256>)
-    requires { HasShortNames (line_of line.now) }
-    ensures bytes { out.new.bytes ≡ line_text (line_of line.now) }
+    requires { HasShortNames (line_value line.now) }
+    ensures bytes { out.new.bytes ≡ line_text (line_value line.now) }
     ensures len { array_string_len out.new ≤ 256 }
 {
     out.clear();

@@ -8,7 +8,7 @@ use Rattle.cf_view.specs.declared.LinkKind.TheVariants as link
 use Rattle.cf_packet.specs.Checksum.{words, total, ones_sum, is_right, checksum_of}
 use Rattle.cf_packet.specs.Ipv4.{header_refusal, header_length, total_length, is_other_version, is_short, is_bad_header, is_fragment, source_address, destination_address, data_octets}
 use Rattle.cf_packet.specs.Tcp.{pseudo_header, is_bad, is_right_segment, source_port, destination_port, sequence_number, acknowledgment_number, text_at, control_bits, window_field, options, text_octets, mss_of}
-use Rattle.cf_packet.specs.Packet.{PacketOf, reads, segment_in, packet_in, fields_of}
+use Rattle.cf_packet.specs.Packet.{PacketValue, read_record, segment_in, read_ipv4, fields_of}
 use Rattle.cf_packet.specs.Written.{IsWritable, HasRanges, option_words, option_octets, segment_length, segment_header, segment_with, header_with, header_checksum, segment_checksum, packet_octets}
 use Rattle.cf_packet.proofs.Sums.{ones_folds}
 use Rattle.cf_packet.proofs.PseudoHeader.{octets_cons, octets_none, octets_word, octets_number, pseudo_octets}
@@ -47,7 +47,7 @@ few_words None = omega arith
 few_words (Some m) = omega arith
 
 -- both parts are octets
-module _ (p : PacketOf) (w : IsWritable p) (checksum : ℕ) (c : checksum < 65536) where
+module _ (p : PacketValue) (w : IsWritable p) (checksum : ℕ) (c : checksum < 65536) where
   pub header_octets : p.source.address < 2 ^ 32 → p.dest.address < 2 ^ 32 → IsOctets (header_with checksum p)
   header_octets a b =
       let few = few_words p.mss in
@@ -80,21 +80,21 @@ module _ (p : PacketOf) (w : IsWritable p) (checksum : ℕ) (c : checksum < 6553
       (option_octets_are p.mss p.text r.mss r.text)))))))))
 
 -- the sums with a checksum and with a zero in its place
-pub segment_total : (p : PacketOf) (checksum : ℕ) → total (words (segment_with checksum p)) ≡ total (words (segment_header 0 p)) + total (words p.text) + checksum
+pub segment_total : (p : PacketValue) (checksum : ℕ) → total (words (segment_with checksum p)) ≡ total (words (segment_header 0 p)) + total (words p.text) + checksum
 segment_total p checksum = omega (arith, option_total p.mss p.text)
 
-pub header_total : (p : PacketOf) (checksum : ℕ) → total (words (header_with checksum p)) ≡ total (words (header_with 0 p)) + checksum
+pub header_total : (p : PacketValue) (checksum : ℕ) → total (words (header_with checksum p)) ≡ total (words (header_with 0 p)) + checksum
 header_total p checksum = omega arith
 
 -- both sums are right
-header_right : (p : PacketOf) → HasRanges p → IsWritable p → ones_sum (words (header_with (header_checksum p) p)) ≡ 65535
+header_right : (p : PacketValue) → HasRanges p → IsWritable p → ones_sum (words (header_with (header_checksum p) p)) ≡ 65535
 header_right p r w =
     let c : header_checksum p < 65536 = omega arith in
     right_with (header_with 0 p) (header_with (header_checksum p) p) (header_octets p w 0 (omega arith) r.source_address r.dest_address)
     (header_octets p w (header_checksum p) c r.source_address r.dest_address)
     (header_total p (header_checksum p))
 
-segment_right : (p : PacketOf) → HasRanges p → IsWritable p →
+segment_right : (p : PacketValue) → HasRanges p → IsWritable p →
     ones_sum (words (pseudo_header p.source.address p.dest.address (segment_length p) ++ segment_with (segment_checksum p) p)) ≡ 65535
 segment_right p r w =
     let few = few_words p.mss in
@@ -110,10 +110,10 @@ segment_right p r w =
 
 -- a packet by its parts
 packet_from : (x s : List ℕ) (a b : ℕ) → header_refusal x ≡ None → source_address x ≡ a → destination_address x ≡ b → data_octets x ≡ s →
-    packet_in x ≡ segment_in a b s
+    read_ipv4 x ≡ segment_in a b s
 packet_from x s a b e f g h = rw (e, f, g, h) refl
 
-segment_from : (a b : ℕ) (s : List ℕ) (p : PacketOf) → is_bad s ≡ false → is_right_segment a b s ≡ true → fields_of a b s ≡ p → segment_in a b s ≡ Ok p
+segment_from : (a b : ℕ) (s : List ℕ) (p : PacketValue) → is_bad s ≡ false → is_right_segment a b s ≡ true → fields_of a b s ≡ p → segment_in a b s ≡ Ok p
 segment_from a b s p e f g = rw (e, f, g) refl
 
 not_bad : (s : List ℕ) (k : ℕ) → get_or s 12 0 ≡ k * 16 → 5 ≤ k → 20 ≤ length s → k * 4 ≤ length s → is_bad s ≡ false
@@ -123,7 +123,7 @@ length_options : (mss : Option ℕ) (text : List ℕ) → length (option_octets 
 length_options None text = omega arith
 length_options (Some m) text = omega arith
 
-length_segment : (p : PacketOf) (checksum : ℕ) → length (segment_with checksum p) ≡ segment_length p
+length_segment : (p : PacketValue) (checksum : ℕ) → length (segment_with checksum p) ≡ segment_length p
 length_segment p checksum = omega (arith, length_options p.mss p.text)
 
 -- the options and the text behind 20 octets
@@ -139,13 +139,13 @@ mss_again : (mss : Option ℕ) → ((m : ℕ) → mss ≡ Some m → m < 65536) 
 mss_again None h = refl
 mss_again (Some m) h = ap Some (omega arith)
 
-same_packet : (p q : PacketOf) → p.source ≡ q.source → p.dest ≡ q.dest → p.seq ≡ q.seq → p.ack ≡ q.ack → p.flags ≡ q.flags → p.window ≡ q.window → p.mss ≡ q.mss → p.text ≡ q.text → p ≡ q
+same_packet : (p q : PacketValue) → p.source ≡ q.source → p.dest ≡ q.dest → p.seq ≡ q.seq → p.ack ≡ q.ack → p.flags ≡ q.flags → p.window ≡ q.window → p.mss ≡ q.mss → p.text ≡ q.text → p ≡ q
 same_packet p q a b c d e f g h = rw (a, b, c, d, e, f, g, h) refl
 
 same_endpoint : (x y : Endpoint) → x.address ≡ y.address → x.port ≡ y.port → x ≡ y
 same_endpoint x y a b = rw (a, b) refl
 
-fields_again : (p : PacketOf) → HasRanges p → IsWritable p → (checksum : ℕ) → fields_of p.source.address p.dest.address (segment_with checksum p) ≡ p
+fields_again : (p : PacketValue) → HasRanges p → IsWritable p → (checksum : ℕ) → fields_of p.source.address p.dest.address (segment_with checksum p) ≡ p
 fields_again p r w checksum =
     let s = segment_with checksum p in
     let few = few_words p.mss in
@@ -160,7 +160,7 @@ fields_again p r w checksum =
     (ap mss_of (options_again s p.mss p.text at refl) ∙ mss_again p.mss r.mss) (text_again s p.mss p.text at refl)
 
 -- what is written is read again
-pub written_again : (p : PacketOf) → HasRanges p → IsWritable p → reads link.RawIp (packet_octets p) ≡ Ok p
+pub written_again : (p : PacketValue) → HasRanges p → IsWritable p → read_record link.RawIp (packet_octets p) ≡ Ok p
 written_again p r w =
     let few = few_words p.mss in
     let s = segment_with (segment_checksum p) p in

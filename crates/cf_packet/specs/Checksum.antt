@@ -1,4 +1,4 @@
--- The Internet checksum. RFC 1071, section 1.
+-- The Internet checksum: checksum_of and is_right. RFC 1071, section 1.
 use Rattle.std.specs.Prelude.{◌≡◌, ℕ, ◌+◌, ◌-◌, ◌*◌, ◌≤◌, ◌==◌, nat_lt, Bool, if◌then◌else◌, List, [], ◌∷◌}
 
 -- the words of 16 bits of octets, the high octet first; an odd octet at the end is padded by a zero

@@ -1,4 +1,5 @@
--- TCP segments in IPv4 packets. RFC 791 and RFC 9293; the order of the tests is this project's own.
+-- Which TCP segment the octets of a record are, or why none: read_record. RFC 791 and RFC 9293; the order of the tests is
+-- this project's own.
 use Rattle.std.specs.Prelude.{ℕ, List, Option, Some, None, Result, Ok, Err, not, if◌then◌else◌}
 use Rattle.cf_view.specs.declared.Endpoint.{Endpoint}
 use Rattle.cf_view.specs.declared.LinkKind.{LinkKind}
@@ -9,7 +10,7 @@ use Rattle.cf_packet.specs.declared.packet.PacketRefusal.{PacketRefusal}
 use Rattle.cf_packet.specs.declared.packet.PacketRefusal.TheVariants as refusal
 
 -- a packet without where its text lies in memory
-pub record PacketOf : Type 0 where
+pub record PacketValue : Type 0 where
   pub source : Endpoint
   pub dest : Endpoint
   pub seq : ℕ
@@ -20,8 +21,8 @@ pub record PacketOf : Type 0 where
   pub text : List ℕ
 
 -- what a contract sees of a `Packet`
-abbrev pub packet_seen : Packet → PacketOf
-packet_seen p = record {
+abbrev pub packet_value : Packet → PacketValue
+packet_value p = record {
   source = p.source;
   dest = p.dest;
   seq = p.seq;
@@ -33,12 +34,12 @@ packet_seen p = record {
 }
 
 -- what a contract sees of the answer about octets
-abbrev pub packet_read : Result Packet PacketRefusal → Result PacketOf PacketRefusal
-packet_read (Ok p) = Ok (packet_seen p)
-packet_read (Err r) = Err r
+abbrev pub packet_answer : Result Packet PacketRefusal → Result PacketValue PacketRefusal
+packet_answer (Ok p) = Ok (packet_value p)
+packet_answer (Err r) = Err r
 
 -- what a segment between two addresses says
-abbrev pub fields_of : ℕ → ℕ → List ℕ → PacketOf
+abbrev pub fields_of : ℕ → ℕ → List ℕ → PacketValue
 fields_of source destination segment = record {
   source = record { address = source; port = source_port segment };
   dest = record { address = destination; port = destination_port segment };
@@ -51,24 +52,24 @@ fields_of source destination segment = record {
 }
 
 -- the segment between two addresses, or the first test that it fails
-abbrev pub segment_in : ℕ → ℕ → List ℕ → Result PacketOf PacketRefusal
+abbrev pub segment_in : ℕ → ℕ → List ℕ → Result PacketValue PacketRefusal
 segment_in source destination segment =
     if is_bad segment then Err refusal.BadTcp
     else if not (is_right_segment source destination segment) then Err refusal.BadTcpSum
     else Ok (fields_of source destination segment)
 
 -- the segment in a packet, or the first test that its header fails
-abbrev pub packet_behind : List ℕ → Option PacketRefusal → Result PacketOf PacketRefusal
-packet_behind packet (Some r) = Err r
-packet_behind packet None = segment_in (source_address packet) (destination_address packet) (data_octets packet)
+abbrev pub read_after_header : List ℕ → Option PacketRefusal → Result PacketValue PacketRefusal
+read_after_header packet (Some r) = Err r
+read_after_header packet None = segment_in (source_address packet) (destination_address packet) (data_octets packet)
 
-abbrev pub packet_in : List ℕ → Result PacketOf PacketRefusal
-packet_in packet = packet_behind packet (header_refusal packet)
+abbrev pub read_ipv4 : List ℕ → Result PacketValue PacketRefusal
+read_ipv4 packet = read_after_header packet (header_refusal packet)
 
 -- the packet in the octets of a record
-abbrev pub packet_of : Option (List ℕ) → Result PacketOf PacketRefusal
-packet_of None = Err refusal.NotIpv4
-packet_of (Some packet) = packet_in packet
+abbrev pub read_payload : Option (List ℕ) → Result PacketValue PacketRefusal
+read_payload None = Err refusal.NotIpv4
+read_payload (Some packet) = read_ipv4 packet
 
-abbrev pub reads : LinkKind → List ℕ → Result PacketOf PacketRefusal
-reads link octets = packet_of (payload link octets)
+abbrev pub read_record : LinkKind → List ℕ → Result PacketValue PacketRefusal
+read_record link octets = read_payload (payload link octets)

@@ -1,7 +1,7 @@
 //! Packets read from the octets of a record.
 ghost use Rattle.std.specs.Prelude.{◌≡◌, option_copied};
 ghost use Rattle.cf_packet.specs.Ipv4.{ethernet_payload};
-ghost use Rattle.cf_packet.specs.Packet.{packet_in, packet_read, reads};
+ghost use Rattle.cf_packet.specs.Packet.{read_ipv4, packet_answer, read_record};
 
 use crate::header::{header_length, header_refusal, total_length};
 use crate::packet::{Packet, PacketRefusal};
@@ -12,7 +12,7 @@ use cf_view::{LinkKind, View};
 /// the packet's total length are padding. RFC 791, RFC 9293 and, for Ethernet, RFC 894; the order of the tests is this
 /// project's own.
 pub fn read_packet<'a>(link: &LinkKind, bytes: &'a [u8]) -> Result<Packet<'a>, PacketRefusal>
-    ensures { packet_read result ≡ reads link.now bytes.now }
+    ensures { packet_answer result ≡ read_record link.now bytes.now }
 {
     match link {
         LinkKind::RawIp => read_ipv4(bytes),
@@ -34,7 +34,7 @@ fn ethernet_payload<'a>(octets: &'a [u8]) -> Option<&'a [u8]>
 }
 
 fn read_ipv4<'a>(packet: &'a [u8]) -> Result<Packet<'a>, PacketRefusal>
-    ensures { packet_read result ≡ packet_in packet.now }
+    ensures { packet_answer result ≡ read_ipv4 packet.now }
 {
     if let Some(refusal) = header_refusal(packet) {
         return Err(refusal);

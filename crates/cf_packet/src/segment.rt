@@ -1,7 +1,7 @@
 //! The header of a TCP segment. RFC 9293, section 3.1.
 ghost use Rattle.std.specs.Prelude.{◌≡◌, ◌+◌, ◌*◌, ◌/◌, ◌%◌, ◌≤◌, ◌^◌, false, length};
 ghost use Rattle.cf_packet.specs.Checksum.{total, words};
-ghost use Rattle.cf_packet.specs.Packet.{fields_of, packet_read, packet_seen, segment_in};
+ghost use Rattle.cf_packet.specs.Packet.{fields_of, packet_answer, packet_value, segment_in};
 ghost use Rattle.cf_packet.specs.Tcp.{is_bad, is_right_segment, pseudo_header};
 
 use crate::checksum::{folded, gathered};
@@ -16,7 +16,7 @@ pub(crate) fn read_segment<'a>(
     segment: &'a [u8],
 ) -> Result<Packet<'a>, PacketRefusal>
     requires { length segment.now ≤ 65535 }
-    ensures { packet_read result ≡ segment_in source dest segment.now }
+    ensures { packet_answer result ≡ segment_in source dest segment.now }
 {
     if is_bad(&View::one(segment)) {
         return Err(PacketRefusal::BadTcp);
@@ -30,7 +30,7 @@ pub(crate) fn read_segment<'a>(
 /// What a segment says whose header is whole.
 fn fields<'a>(source: u32, dest: u32, segment: &'a [u8]) -> Packet<'a>
     requires { is_bad segment.now ≡ false }
-    ensures { packet_seen result ≡ fields_of source dest segment.now }
+    ensures { packet_value result ≡ fields_of source dest segment.now }
 {
     let fields = View::one(segment);
     let text_at = usize::from(fields.at(12) / 16) * 4;

@@ -3,7 +3,7 @@ ghost use Rattle.std.specs.Prelude.{◌≡◌, ℕ, ◌+◌, ◌*◌, ◌^◌, �
 ghost use Rattle.arrayvec.specs.ArrayVec.{array_vec_len};
 ghost use Rattle.cf_view.specs.declared.LinkKind.TheVariants as link;
 ghost use Rattle.cf_packet.specs.Checksum.{total, words};
-ghost use Rattle.cf_packet.specs.Packet.{packet_seen, reads};
+ghost use Rattle.cf_packet.specs.Packet.{packet_value, read_record};
 ghost use Rattle.cf_packet.specs.Written.{HasRanges, IsWritable, header_checksum, header_with, option_octets, option_words, packet_octets, segment_checksum, segment_header, segment_length, segment_with};
 
 use crate::checksum::{folded, gathered};
@@ -16,18 +16,18 @@ use cf_view::{push_bytes, push_u16_be, push_u32_be};
 /// pointer 0, and both checksums right. It has at most 1,460 octets of text and none beside a maximum segment size, and
 /// no bit among its flags but the six. RFC 791 and RFC 9293; the settings are this project's own.
 pub fn write_packet(packet: &Packet<'_>, out: &mut ArrayVec<u8, 1500>)
-    requires { IsWritable (packet_seen packet.now) }
-    ensures octets { out.new.items ≡ packet_octets (packet_seen packet.now) }
+    requires { IsWritable (packet_value packet.now) }
+    ensures octets { out.new.items ≡ packet_octets (packet_value packet.now) }
     // It is read again.
-    ensures again { reads link.RawIp out.new.items ≡ Ok (packet_seen packet.now) }
+    ensures again { read_record link.RawIp out.new.items ≡ Ok (packet_value packet.now) }
 {
     write(packet, out);
 }
 
 fn write(packet: &Packet<'_>, out: &mut ArrayVec<u8, 1500>)
-    requires { IsWritable (packet_seen packet.now) }
-    ensures octets { out.new.items ≡ packet_octets (packet_seen packet.now) }
-    ensures ranges { HasRanges (packet_seen packet.now) }
+    requires { IsWritable (packet_value packet.now) }
+    ensures octets { out.new.items ≡ packet_octets (packet_value packet.now) }
+    ensures ranges { HasRanges (packet_value packet.now) }
 {
     out.clear();
     push_header(packet, out);
@@ -36,8 +36,8 @@ fn write(packet: &Packet<'_>, out: &mut ArrayVec<u8, 1500>)
 
 fn push_header(packet: &Packet<'_>, out: &mut ArrayVec<u8, 1500>)
     requires room { array_vec_len out.old + 20 ≤ 1500 }
-    requires writable { IsWritable (packet_seen packet.now) }
-    ensures items { out.new.items ≡ out.old.items ++ header_with (header_checksum (packet_seen packet.now)) (packet_seen packet.now) }
+    requires writable { IsWritable (packet_value packet.now) }
+    ensures items { out.new.items ≡ out.old.items ++ header_with (header_checksum (packet_value packet.now)) (packet_value packet.now) }
     ensures len { array_vec_len out.new ≡ array_vec_len out.old + 20 }
 {
     let checksum = header_checksum(packet);
@@ -52,10 +52,10 @@ fn push_header(packet: &Packet<'_>, out: &mut ArrayVec<u8, 1500>)
 }
 
 fn push_segment(packet: &Packet<'_>, out: &mut ArrayVec<u8, 1500>)
-    requires room { array_vec_len out.old + segment_length (packet_seen packet.now) ≤ 1500 }
-    requires writable { IsWritable (packet_seen packet.now) }
-    ensures items { out.new.items ≡ out.old.items ++ segment_with (segment_checksum (packet_seen packet.now)) (packet_seen packet.now) }
-    ensures ranges { HasRanges (packet_seen packet.now) }
+    requires room { array_vec_len out.old + segment_length (packet_value packet.now) ≤ 1500 }
+    requires writable { IsWritable (packet_value packet.now) }
+    ensures items { out.new.items ≡ out.old.items ++ segment_with (segment_checksum (packet_value packet.now)) (packet_value packet.now) }
+    ensures ranges { HasRanges (packet_value packet.now) }
 {
     let checksum = segment_checksum(packet);
     push_u16_be(out, packet.source.port);
@@ -95,16 +95,16 @@ fn option_words(mss: Option<u16>) -> u8
 }
 
 fn segment_length(packet: &Packet<'_>) -> u16
-    requires { IsWritable (packet_seen packet.now) }
-    ensures value { result ≡ segment_length (packet_seen packet.now) }
+    requires { IsWritable (packet_value packet.now) }
+    ensures value { result ≡ segment_length (packet_value packet.now) }
     ensures small { result ≤ 1480 }
 {
     20 + 4 * u16::from(option_words(packet.mss)) + packet.text.len() as u16
 }
 
 fn header_checksum(packet: &Packet<'_>) -> u16
-    requires { IsWritable (packet_seen packet.now) }
-    ensures { result ≡ header_checksum (packet_seen packet.now) }
+    requires { IsWritable (packet_value packet.now) }
+    ensures { result ≡ header_checksum (packet_value packet.now) }
 {
     let fixed = 0x4500 + 0x4000 + 0x4006;
     let addresses = words_of(packet.source.address) + words_of(packet.dest.address);
@@ -112,9 +112,9 @@ fn header_checksum(packet: &Packet<'_>) -> u16
 }
 
 fn segment_checksum(packet: &Packet<'_>) -> u16
-    requires { IsWritable (packet_seen packet.now) }
-    ensures value { result ≡ segment_checksum (packet_seen packet.now) }
-    ensures ranges { HasRanges (packet_seen packet.now) }
+    requires { IsWritable (packet_value packet.now) }
+    ensures value { result ≡ segment_checksum (packet_value packet.now) }
+    ensures ranges { HasRanges (packet_value packet.now) }
 {
     let length = u64::from(segment_length(packet));
     let pseudo = pseudo_sum(packet.source.address, packet.dest.address, length);
@@ -123,8 +123,8 @@ fn segment_checksum(packet: &Packet<'_>) -> u16
 
 /// The sum of the words of the segment's header, with 0 in its checksum field.
 fn header_sum(packet: &Packet<'_>) -> u64
-    requires { IsWritable (packet_seen packet.now) }
-    ensures value { result ≡ total (words (segment_header 0 (packet_seen packet.now))) }
+    requires { IsWritable (packet_value packet.now) }
+    ensures value { result ≡ total (words (segment_header 0 (packet_value packet.now))) }
     ensures small { result ≤ 2 ^ 20 }
     ensures mss { (m : ℕ) → packet.now.mss ≡ Some m → m < 65536 }
 {

@@ -1,4 +1,4 @@
--- Which letters a receiver takes of what it was offered.
+-- Which letters a receiver takes of what it was offered: first_copy and IsTaken.
 --
 -- RFC 9293, section 3.10.7.4, keeps of a segment what lies in the window, and of one that straddles what is old and
 -- what is new only the new part. That a letter which came ahead of its turn is never replaced either is this project's

@@ -1,8 +1,8 @@
 use Rattle.std.proofs.Common.{◌++◌, ◌≤◌, refl, arith}
-use Rattle.cf_packet.specs.Packet.{packet_seen}
+use Rattle.cf_packet.specs.Packet.{packet_value}
 use Rattle.cf_packet.specs.Tcp.{pseudo_header}
 use Rattle.cf_packet.specs.Written.{segment_with, segment_length}
-use Rattle.cf_packet.proofs.WrittenLaws.{segment_octets, segment_total, few_words}
+use Rattle.cf_packet.proofs.Written.{segment_octets, segment_total, few_words}
 use Rattle.cf_packet.proofs.PseudoHeader.{pseudo_octets}
 use Rattle.cf_packet.proofs.write.segment_checksum.Goals as goal
 
@@ -22,7 +22,7 @@ returns-clause-ranges c =
 
 pub returns-clause-value : goal.returns-clause-value
 returns-clause-value c =
-    let p = packet_seen c.args.packet.now in
+    let p = packet_value c.args.packet.now in
     let r = returns-clause-ranges c in
     let few = few_words p.mss in
     let short : segment_length p ≤ 65535 = omega (arith, c.requires.short) in
