@@ -1,6 +1,9 @@
-pub mod EndLaws
-pub mod LineLaws
-pub mod ListingLaws
-pub mod OutputLaws
-pub mod StatusLaws
-pub mod WordLaws
+pub mod CaptureStops
+pub mod Complete
+pub mod Exact
+pub mod FileNames
+pub mod Listing
+pub mod Numerals
+pub mod OutputFiles
+pub mod Sifting
+pub mod Statuses

@@ -1,87 +1,95 @@
--- What each ending of each command means, and what then stands in the files. This project's own.
-use Rattle.std.specs.Prelude.{◌≡◌, ◌⊎◌, ℕ, List, Option, None, Some, length}
-use Rattle.cf_outside.specs.Files.{Content, IsPartly}
-use Rattle.cf_lane.specs.Filtered.{Output}
+-- How the program ends: `Ends` says it of the words. It is read from the end.
+use Rattle.std.specs.Prelude.{◌≡◌, ℕ, List, Option, None, Some, Result, Ok, Err, codes}
+use Rattle.cf_outside.specs.Files.{IsWhole}
 use Rattle.cf_policy.specs.declared.Asset.{Asset}
 use Rattle.cf_policy.specs.declared.Policy.{Policy}
-use Rattle.cf_box.specs.Outputs.{Three, Stand, IsWritten}
-use Rattle.cf_box.specs.Packets.{PacketsEnds}
-use Rattle.cf_box.specs.Policies.{HasPolicy, IsRefusedBy, asset_named, rule_count}
-use Rattle.cf_box.specs.Sift.{IsSifted, IsUnbuilt, parts_of}
-use Rattle.cf_box.specs.Words.{Command, Check, Packets, Run, Relay, World, Sift, command_of}
-use Rattle.cf_box.specs.declared.packets.PacketsEnd.TheVariants as end
-use Rattle.cf_box.specs.declared.ending.Ending.{Ending}
-use Rattle.cf_box.specs.declared.ending.Ending.TheVariants as ending
+use Rattle.cf_policylang.specs.declared.PolicyRefusal.{PolicyRefusal}
+use Rattle.cf_box.specs.Check.{CheckLeaves, Checks}
+use Rattle.cf_box.specs.Command.{Command, Check, Packets, Run, Relay, World, Sift, asset_name, capture_file, policy_file}
+use Rattle.cf_box.specs.Ending.{Puts, Reports}
+use Rattle.cf_box.specs.Outside.{Outside, ReadFailed, WriteFailed}
+use Rattle.cf_box.specs.Packets.{LacksPartOfPackets, ListingEnds, Lists, PacketsLeaves}
+use Rattle.cf_box.specs.PolicyFile.{HasPolicy, IsRefusedBy, asset_named}
+use Rattle.cf_box.specs.Sift.{LacksPartOfSift, SiftLeaves, Sifts}
+use Rattle.cf_box.specs.declared.ending.CaptureRefusal.{CaptureRefusal}
+use Rattle.cf_box.specs.declared.ending.Done.{Done}
+use Rattle.cf_box.specs.declared.ending.Stop.{Stop}
+use Rattle.cf_box.specs.declared.ending.Stop.TheVariants as stop
 
-module _ (old new : List ℕ → Content) (read_rose write_rose : Type 0) where
-  -- no policy was read: every file is as it was
-  abbrev pub FailsAtPolicy : List ℕ → Ending → Type 0
-  FailsAtPolicy file ending.ReadFault = read_rose × (new ≡ old)
-  FailsAtPolicy file (ending.PolicyRefused refusal) = IsRefusedBy (old file) refusal × (new ≡ old)
-  FailsAtPolicy file ending.NoMemory = new ≡ old
-  FailsAtPolicy file _ = ⊥
+-- the file from which a command reads its policy means none
+abbrev pub RefusesPolicy : Command → Outside → PolicyRefusal → Type 0
+RefusesPolicy c before r = (file : List ℕ) × (policy_file c ≡ Some file) × IsRefusedBy (before.files.content file) r
 
-  -- the stream of an asset was filtered, or why not
-  abbrev pub EndsAtAsset : Asset → ℕ → List ℕ → Three → Ending → Type 0
-  EndsAtAsset asset client stream outputs (ending.Sifted admitted refused) =
-      (output : Output) × IsSifted asset client (old stream) output × Stand IsWritten outputs (parts_of output) old new
-      × (admitted ≡ output.admitted) × (refused ≡ output.refused)
-  EndsAtAsset asset client stream outputs ending.WriteFault =
-      write_rose × ((output : Output) × IsSifted asset client (old stream) output × Stand IsPartly outputs (parts_of output) old new)
-  EndsAtAsset asset client stream outputs ending.ReadFault = read_rose × (new ≡ old)
-  EndsAtAsset asset client stream outputs ending.NoMemory = new ≡ old
-  EndsAtAsset asset client stream outputs ending.Unbuilt = IsUnbuilt asset (old stream) × (new ≡ old)
-  EndsAtAsset asset client stream outputs _ = ⊥
+-- the policy of a command means one that has no asset of the name that the command needs
+abbrev pub LacksAsset : Command → Outside → Type 0
+LacksAsset c before =
+    (file name : List ℕ) × (policy_file c ≡ Some file) × (asset_name c ≡ Some name)
+    × ((p : Policy) × HasPolicy (before.files.content file) p × (asset_named name p ≡ None))
 
-  -- the asset of a name was found, or there is none
-  abbrev pub EndsAtName : Option Asset → ℕ → List ℕ → Three → Ending → Type 0
-  EndsAtName None client stream outputs e = (e ≡ ending.UnknownAsset) × (new ≡ old)
-  EndsAtName (Some asset) client stream outputs e = EndsAtAsset asset client stream outputs e
+-- neither of these is so
+pub record PassesPolicy (c : Command) (before : Outside) : Type 0 where
+  pub policy : (file : List ℕ) → policy_file c ≡ Some file → (p : Policy) × HasPolicy (before.files.content file) p
+  pub asset :
+      (file name : List ℕ) → policy_file c ≡ Some file → asset_name c ≡ Some name →
+      (p : Policy) × HasPolicy (before.files.content file) p × ((a : Asset) × (asset_named name p ≡ Some a))
 
-  -- `sift`: by the policy that the file holds and the asset of that name
-  abbrev pub EndsSift : (file name : List ℕ) → ℕ → List ℕ → Three → Ending → Type 0
-  EndsSift file name client stream outputs e =
-      FailsAtPolicy file e ⊎ ((p : Policy) × HasPolicy (old file) p × EndsAtName (asset_named name p) client stream outputs e)
+-- the capture of a command, read whole, is refused, or ends inside the record at a place
+abbrev pub RefusesCapture : Command → Outside → CaptureRefusal → Type 0
+RefusesCapture c before r =
+    (file : List ℕ) × (capture_file c ≡ Some file)
+    × ((capture : List ℕ) × IsWhole (before.files.content file) capture × ListingEnds capture (Err (stop.CaptureRefused r)))
 
-  -- `check`: by the policy that the file holds, with its numbers of assets and rules
-  abbrev pub EndsCheck : List ℕ → Ending → Type 0
-  EndsCheck file e =
-      FailsAtPolicy file e
-      ⊎ ((p : Policy) × HasPolicy (old file) p × (e ≡ ending.Checked (length p.assets) (rule_count p.assets)) × (new ≡ old))
+abbrev pub CutsCapture : Command → Outside → ℕ → Type 0
+CutsCapture c before place =
+    (file : List ℕ) × (capture_file c ≡ Some file)
+    × ((capture : List ℕ) × IsWhole (before.files.content file) capture × ListingEnds capture (Err (stop.CaptureCut place)))
 
-  -- a command that is not built yet touches nothing
-  abbrev pub EndsUnbuilt : Ending → Type 0
-  EndsUnbuilt e = (e ≡ ending.Unbuilt) × (new ≡ old)
+-- what a command does, or what of its input, is not built: a line a command
+abbrev pub LacksPart : Command → Outside → Type 0
+LacksPart (Check policy) before = ⊥
+LacksPart (Packets capture) before = LacksPartOfPackets capture before
+LacksPart (Run policy capture out log) before = Unit {0}
+LacksPart (Relay policy asset port idles log) before = Unit {0}
+LacksPart (World seed sessions policy capture out log) before = Unit {0}
+LacksPart (Sift policy asset client names) before = LacksPartOfSift policy asset names before
 
-  -- what was told before the command, and what after it
-  module _ (told listed : Option (List ℕ)) (put_rose : Type 0) where
-    -- `packets`: the lines of the records of the capture were put, or why not all of them; no file changes
-    abbrev pub EndsPackets : List ℕ → Ending → Type 0
-    EndsPackets file ending.Listed = PacketsEnds (old file) told listed read_rose put_rose end.Listed × (new ≡ old)
-    EndsPackets file ending.ReadFault = PacketsEnds (old file) told listed read_rose put_rose end.ReadFault × (new ≡ old)
-    EndsPackets file ending.WriteFault = PacketsEnds (old file) told listed read_rose put_rose end.WriteFault × (new ≡ old)
-    EndsPackets file (ending.CaptureRefused r) = PacketsEnds (old file) told listed read_rose put_rose (end.CaptureRefused r) × (new ≡ old)
-    EndsPackets file (ending.CaptureCut place) = PacketsEnds (old file) told listed read_rose put_rose (end.CaptureCut place) × (new ≡ old)
-    EndsPackets file ending.Unbuilt = PacketsEnds (old file) told listed read_rose put_rose end.Unbuilt × (new ≡ old)
-    EndsPackets file ending.NoMemory = PacketsEnds (old file) told listed read_rose put_rose end.NoMemory × (new ≡ old)
-    EndsPackets file _ = ⊥
+-- why work stops: a line a cause, the same for every command. What stands later in the order of the work is no cause
+-- where the policy or the asset is one
+abbrev pub StopsFor : Command → (before after : Outside) → Stop → Type 0
+StopsFor c before after stop.ReadFault = ReadFailed before after
+StopsFor c before after stop.WriteFault = WriteFailed before after × PassesPolicy c before
+StopsFor c before after (stop.PolicyRefused r) = RefusesPolicy c before r
+StopsFor c before after (stop.CaptureRefused r) = RefusesCapture c before r × PassesPolicy c before
+StopsFor c before after (stop.CaptureCut place) = CutsCapture c before place × PassesPolicy c before
+StopsFor c before after stop.UnknownAsset = LacksAsset c before
+StopsFor c before after stop.NoMemory = Unit {0}
+StopsFor c before after stop.Unbuilt = LacksPart c before × PassesPolicy c before
 
-    abbrev pub EndsOf : Option Command → Ending → Type 0
-    EndsOf None e = (e ≡ ending.Usage) × (new ≡ old)
-    EndsOf (Some (Check file)) e = EndsCheck file e
-    EndsOf (Some (Sift file name client stream out replies log)) e =
-        EndsSift file name client stream (record { out = out; replies = replies; log = log }) e
-    EndsOf (Some (Packets capture)) e = EndsPackets capture e
-    EndsOf (Some (Run file capture out log)) e = EndsUnbuilt e
-    EndsOf (Some (Relay file name port idles log)) e = EndsUnbuilt e
-    EndsOf (Some (World seed sessions file capture out log)) e = EndsUnbuilt e
+-- what work that was done means: a line a command
+abbrev pub Does : Command → (before after : Outside) → Done → Type 0
+Does (Check policy) before after d = Checks policy before after d
+Does (Packets capture) before after d = Lists capture before after d
+Does (Run policy capture out log) before after d = ⊥
+Does (Relay policy asset port idles log) before after d = ⊥
+Does (World seed sessions policy capture out log) before after d = ⊥
+Does (Sift policy asset client names) before after d = Sifts policy asset client names before after d
 
--- no command but a listing tells anything before its ending's text
-abbrev pub TellsLines : (told listed : Option (List ℕ)) → Option Command → Type 0
-TellsLines told listed None = listed ≡ told
-TellsLines told listed (Some (Check file)) = listed ≡ told
-TellsLines told listed (Some (Sift file name client stream out replies log)) = listed ≡ told
-TellsLines told listed (Some (Packets capture)) = Unit {0}
-TellsLines told listed (Some (Run file capture out log)) = listed ≡ told
-TellsLines told listed (Some (Relay file name port idles log)) = listed ≡ told
-TellsLines told listed (Some (World seed sessions file capture out log)) = listed ≡ told
+-- what stands after a stop: a line a command
+abbrev pub Leaves : Command → (before after : Outside) → Stop → Type 0
+Leaves (Check policy) before after s = CheckLeaves before after s
+Leaves (Packets capture) before after s = PacketsLeaves capture before after s
+Leaves (Run policy capture out log) before after s = (s ≡ stop.Unbuilt) × (after ≡ before)
+Leaves (Relay policy asset port idles log) before after s = (s ≡ stop.Unbuilt) × (after ≡ before)
+Leaves (World seed sessions policy capture out log) before after s = (s ≡ stop.Unbuilt) × (after ≡ before)
+Leaves (Sift policy asset client names) before after s = SiftLeaves policy asset client names before after s
+
+-- the answer of a command
+abbrev pub Meets : Command → (before after : Outside) → Result Done Stop → Type 0
+Meets c before after (Ok d) = Does c before after d
+Meets c before after (Err s) = StopsFor c before after s × Leaves c before after s
+
+-- the words have no form, and that is printed; or they are a command, which ended so, and that is printed
+abbrev pub Ends : Option Command → (before after : Outside) → (status : ℕ) → Type 0
+Ends None before after status =
+    Puts (codes "usage\n") 2 2 before.sink after.sink status × (after.files ≡ before.files) × (after.pair ≡ before.pair)
+Ends (Some c) before after status = (r : Result Done Stop) × (middle : Outside) × Meets c before middle r × Reports r middle after status

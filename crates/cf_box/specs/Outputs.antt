@@ -1,51 +1,66 @@
--- Three files that are created, and then written. This project's own.
-use Rattle.std.specs.Prelude.{◌≡◌, ◌≢◌, ◌⊎◌, ℕ, List, take}
-use Rattle.cf_outside.specs.Files.{Content, content_after_create, with_appended, content_after_write, IsPartly}
+-- Files that are created in their order, and then written in the same order.
+use Rattle.std.specs.Prelude.{◌≡◌, ◌≢◌, ◌⊎◌, ℕ, List, [], ◌∷◌, take, map}
+use Rattle.cf_outside.specs.Files.{Content, content_after_create, with_appended, content_after_write}
 
--- three names, or what each of three files gets
-pub record Three : Type 0 where
-  pub out : List ℕ
-  pub replies : List ℕ
-  pub log : List ℕ
+-- a file that is written, and what it gets
+pub record OutputFile : Type 0 where
+  pub name : List ℕ
+  pub part : List ℕ
 
--- no two of the names are the same
-pub record AreApart (names : Three) : Type 0 where
-  pub out_replies : names.out ≢ names.replies
-  pub out_log : names.out ≢ names.log
-  pub replies_log : names.replies ≢ names.log
+abbrev pub output_names : List OutputFile → List (List ℕ)
+output_names = map (λ o. o.name)
 
--- every file but the three is as it was
-abbrev pub KeepsAllBut : Three → (List ℕ → Content) → (List ℕ → Content) → Type 0
-KeepsAllBut names old new =
-    (other : List ℕ) → other ≢ names.out → other ≢ names.replies → other ≢ names.log → new other ≡ old other
+module _ (before after : List ℕ → Content) where
+  -- each of the files is as it was
+  abbrev pub AreSame : List (List ℕ) → Type 0
+  AreSame [] = Unit {0}
+  AreSame (name ∷ names) = (after name ≡ before name) × AreSame names
 
--- each of the three files stands to what it was as the relation says of what it gets, and every other is as it was
-pub record Stand (R : List ℕ → Content → Content → Type 0) (names parts : Three) (old new : List ℕ → Content) : Type 0 where
-  pub out : R parts.out (old names.out) (new names.out)
-  pub replies : R parts.replies (old names.replies) (new names.replies)
-  pub log : R parts.log (old names.log) (new names.log)
-  pub others : KeepsAllBut names old new
+  -- each was created
+  abbrev pub AreCreated : List (List ℕ) → Type 0
+  AreCreated [] = Unit {0}
+  AreCreated (name ∷ names) = (after name ≡ content_after_create (before name)) × AreCreated names
 
--- a file that was created, and one that may have been
-abbrev pub IsCreated : List ℕ → Content → Content → Type 0
-IsCreated part old new = new ≡ content_after_create old
+  -- each stands to what it was as the relation says of what it gets
+  abbrev pub EachOutput : (List ℕ → Content → Content → Type 0) → List OutputFile → Type 0
+  EachOutput R [] = Unit {0}
+  EachOutput R (o ∷ os) = R o.part (before o.name) (after o.name) × EachOutput R os
 
-abbrev pub IsPerhapsCreated : List ℕ → Content → Content → Type 0
-IsPerhapsCreated part old new = (new ≡ old) ⊎ (new ≡ content_after_create old)
+  -- the creation of one failed: those before it were created, it is as it was or empty, and those behind it are as they were
+  abbrev pub CreationFails : List (List ℕ) → Type 0
+  CreationFails [] = ⊥
+  CreationFails (name ∷ names) =
+      (((after name ≡ before name) ⊎ (after name ≡ content_after_create (before name))) × AreSame names)
+      ⊎ ((after name ≡ content_after_create (before name)) × CreationFails names)
 
--- a file that got its part, and one that got a prefix of it
+  -- all were created, and the write of one failed: those before it have their part, it has a prefix of its part, and
+  -- those behind it are empty
+  abbrev pub WriteFails : List OutputFile → Type 0
+  WriteFails [] = ⊥
+  WriteFails (o ∷ os) =
+      (((k : ℕ) × (after o.name ≡ content_after_write (before o.name) (take k o.part))) × AreCreated (output_names os))
+      ⊎ ((after o.name ≡ content_after_write (before o.name) o.part) × WriteFails os)
+
+  -- where they are there: an append failed, those before it have their part at their end, it has a prefix, and those
+  -- behind it are as they were
+  abbrev pub AppendFails : List OutputFile → Type 0
+  AppendFails [] = ⊥
+  AppendFails (o ∷ os) =
+      (((k : ℕ) × (after o.name ≡ with_appended (before o.name) (take k o.part))) × AreSame (output_names os))
+      ⊎ ((after o.name ≡ with_appended (before o.name) o.part) × AppendFails os)
+
+  -- the other of these is none of the names, and is as it was
+  abbrev pub IsSameBeside : List ℕ → List (List ℕ) → Type 0
+  IsSameBeside other [] = after other ≡ before other
+  IsSameBeside other (name ∷ names) = other ≢ name → IsSameBeside other names
+
+  -- every file of another name is as it was
+  abbrev pub KeepsAllBut : List (List ℕ) → Type 0
+  KeepsAllBut names = (other : List ℕ) → IsSameBeside other names
+
+-- a file that got its part at its end, and one that was created and got it
 abbrev pub IsExtended : List ℕ → Content → Content → Type 0
 IsExtended part old new = new ≡ with_appended old part
 
-abbrev pub IsPartlyExtended : List ℕ → Content → Content → Type 0
-IsPartlyExtended part old new = (k : ℕ) × (new ≡ with_appended old (take k part))
-
--- a file that was created and got its part
 abbrev pub IsWritten : List ℕ → Content → Content → Type 0
 IsWritten part old new = new ≡ content_after_write old part
-
--- the same of the last two files alone
-pub record StandBehind (R : List ℕ → Content → Content → Type 0) (names parts : Three) (old new : List ℕ → Content) : Type 0 where
-  pub replies : R parts.replies (old names.replies) (new names.replies)
-  pub log : R parts.log (old names.log) (new names.log)
-  pub others : (other : List ℕ) → other ≢ names.replies → other ≢ names.log → new other ≡ old other

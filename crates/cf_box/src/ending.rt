@@ -1,29 +1,32 @@
-//! How the program ends: a status and a printed text.
-ghost use Rattle.std.specs.Prelude.{◌≡◌, ◌≤◌, ◌++◌, [], codes, decimal};
+//! How the program ends: what was done, or why the work stopped, as a status and a printed text.
+ghost use Rattle.std.specs.Prelude.{◌≡◌, ◌≤◌, ◌++◌, codes, decimal, length, option_map};
+ghost use Rattle.cf_box.specs.Ending.{Prints, Puts, capture_number, done_text, end_text, status_of, stop_status, stop_text, unprinted_status};
+ghost use Rattle.cf_box.specs.Outside.{sink_value};
 ghost use Rattle.cf_policylang.specs.Keys.{refusal_text};
-ghost use Rattle.cf_box.specs.Endings.{Reports, capture_number, is_silent, status_of, status_unprinted, text_of};
-ghost use Rattle.cf_outside.specs.Faults.{HasCause, Rose};
 
-use crate::packets::CaptureRefusal;
 use arrayvec::ArrayString;
 use cf_outside::{Sink, WriteAnswer};
+use cf_pcap::HeaderRefusal;
 use cf_policylang::PolicyRefusal;
 use cf_view::{push_number, push_u32};
 
-/// An ending.
+/// Work that was done.
 #[derive(Clone, Copy, PartialEq, Eq, Debug)]
-pub enum Ending {
+pub enum Done {
     /// A stream was filtered, with its numbers of admitted and refused commands.
     Sifted { admitted: u64, refused: u64 },
     /// A policy was read, with its numbers of assets and of all rules.
     Checked { assets: u64, rules: u64 },
     /// Each record of a capture has its line.
     Listed,
-    /// The words have no form.
-    Usage,
+}
+
+/// Why the work stopped: the same causes for every command.
+#[derive(Clone, Copy, PartialEq, Eq, Debug)]
+pub enum Stop {
     /// A read failed.
     ReadFault,
-    /// A creation or an append failed.
+    /// A creation, an append or a put failed.
     WriteFault,
     /// The policy's text means no policy.
     PolicyRefused(PolicyRefusal),
@@ -35,85 +38,123 @@ pub enum Ending {
     UnknownAsset,
     /// Memory ran out.
     NoMemory,
-    /// The input needs a part that is not built.
+    /// The command, or its input, needs a part that is not built.
     Unbuilt,
 }
 
-/// The status of an ending.
-fn status(ending: &Ending) -> u8
-    ensures { result ≡ status_of ending.now }
-{
-    match ending {
-        Ending::Sifted { .. } | Ending::Checked { .. } | Ending::Listed => 0,
-        Ending::Usage => 2,
-        Ending::ReadFault => 3,
-        Ending::WriteFault => 4,
-        Ending::PolicyRefused(_) => 5,
-        Ending::CaptureRefused(_) => 6,
-        Ending::CaptureCut(_) => 7,
-        Ending::UnknownAsset => 10,
-        Ending::NoMemory => 13,
-        Ending::Unbuilt => 14,
+/// Why a capture is refused. The tests stand in this order, those of records at each record.
+#[derive(Clone, Copy, PartialEq, Eq, Debug)]
+pub enum CaptureRefusal {
+    /// It has fewer than 24 octets.
+    Short,
+    /// Its magic is none of a capture file.
+    Magic,
+    /// Its version is not 2.4.
+    Version,
+    /// Its link type is neither Ethernet nor raw IP.
+    LinkType,
+    /// A record has more than 262,144 octets.
+    TooLong,
+    /// An octet of a record stands at place 2^40 or above. It never comes while longer captures are not read.
+    Large,
+}
+
+impl From<HeaderRefusal> for Stop {
+    ghost use Rattle.std.specs.Prelude.{◌≡◌};
+    ghost use Rattle.cf_box.specs.Packets.{header_refusal};
+    ghost use Rattle.cf_box.specs.declared.ending.Stop.TheVariants.{CaptureRefused};
+
+    ghost from_gives = { λ r s. s ≡ CaptureRefused (header_refusal r) };
+
+    fn from(refusal: HeaderRefusal) -> Self {
+        Stop::CaptureRefused(match refusal {
+            HeaderRefusal::Short => CaptureRefusal::Short,
+            HeaderRefusal::Magic => CaptureRefusal::Magic,
+            HeaderRefusal::Version => CaptureRefusal::Version,
+            HeaderRefusal::LinkType => CaptureRefusal::LinkType,
+        })
     }
 }
 
-/// The status of an ending whose text was not printed whole.
-fn unprinted_status(ending: &Ending) -> u8
-    ensures { result ≡ status_unprinted ending.now }
+/// The status of a cause.
+fn stop_status(stop: &Stop) -> u8
+    ensures { result ≡ stop_status stop.now }
 {
-    match ending {
-        Ending::Sifted { .. } | Ending::Checked { .. } => 4,
-        _ => status(ending),
+    match stop {
+        Stop::ReadFault => 3,
+        Stop::WriteFault => 4,
+        Stop::PolicyRefused(_) => 5,
+        Stop::CaptureRefused(_) => 6,
+        Stop::CaptureCut(_) => 7,
+        Stop::UnknownAsset => 10,
+        Stop::NoMemory => 13,
+        Stop::Unbuilt => 14,
     }
 }
 
-fn silent(ending: &Ending) -> bool
-    ensures { result ≡ is_silent ending.now }
+fn status(ended: &Result<Done, Stop>) -> u8
+    ensures { result ≡ status_of ended.now }
 {
-    matches!(
-        ending,
-        Ending::Listed | Ending::WriteFault | Ending::NoMemory
-    )
+    match ended {
+        Ok(_) => 0,
+        Err(stop) => stop_status(stop),
+    }
 }
 
-fn push_sifted(out: &mut ArrayString<128>, admitted: u64, refused: u64)
-    requires { out.old.bytes ≡ [] }
-    ensures { out.new.bytes ≡ codes "admitted " ++ decimal admitted ++ codes "\nrefused " ++ decimal refused ++ codes "\n" }
+/// The status of an ending whose text was not printed whole: work that was done and not told is a write fault.
+fn unprinted_status(ended: &Result<Done, Stop>) -> u8
+    ensures { result ≡ unprinted_status ended.now }
 {
-    out.push_str("admitted ");
-    push_number(out, admitted);
-    out.push_str("\nrefused ");
-    push_number(out, refused);
-    out.push_str("\n");
+    match ended {
+        Ok(_) => 4,
+        Err(stop) => stop_status(stop),
+    }
 }
 
-fn push_checked(out: &mut ArrayString<128>, assets: u64, rules: u64)
-    requires { out.old.bytes ≡ [] }
-    ensures { out.new.bytes ≡ codes "ok " ++ decimal assets ++ codes " " ++ decimal rules ++ codes "\n" }
+/// The text that ends the work: a line or two.
+type EndText = ArrayString<128>;
+
+fn sifted_text(admitted: u64, refused: u64) -> EndText
+    ensures { result.bytes ≡ codes "admitted " ++ decimal admitted ++ codes "\nrefused " ++ decimal refused ++ codes "\n" }
 {
-    out.push_str("ok ");
-    push_number(out, assets);
-    out.push_str(" ");
-    push_number(out, rules);
-    out.push_str("\n");
+    let mut text = EndText::new();
+    text.push_str("admitted ");
+    push_number(&mut text, admitted);
+    text.push_str("\nrefused ");
+    push_number(&mut text, refused);
+    text.push_str("\n");
+    text
 }
 
-fn push_refusal(out: &mut ArrayString<128>, refusal: &PolicyRefusal)
-    requires { out.old.bytes ≡ [] }
-    ensures { out.new.bytes ≡ codes "policy refused " ++ refusal_text refusal.now ++ codes "\n" }
+fn checked_text(assets: u64, rules: u64) -> EndText
+    ensures { result.bytes ≡ codes "ok " ++ decimal assets ++ codes " " ++ decimal rules ++ codes "\n" }
 {
-    out.push_str("policy refused ");
-    push_number(out, u64::from(refusal.number));
-    out.push_str(" ");
-    out.push_str(refusal.key.as_str());
-    out.push_str(" asset ");
-    push_u32(out, refusal.asset);
-    out.push_str(" rule ");
-    push_u32(out, refusal.rule);
-    out.push_str("\n");
+    let mut text = EndText::new();
+    text.push_str("ok ");
+    push_number(&mut text, assets);
+    text.push_str(" ");
+    push_number(&mut text, rules);
+    text.push_str("\n");
+    text
 }
 
-/// The number of a refusal of a capture.
+fn policy_refused_text(refusal: &PolicyRefusal) -> EndText
+    ensures { result.bytes ≡ codes "policy refused " ++ refusal_text refusal.now ++ codes "\n" }
+{
+    let mut text = EndText::new();
+    text.push_str("policy refused ");
+    push_number(&mut text, u64::from(refusal.number));
+    text.push_str(" ");
+    text.push_str(refusal.key.as_str());
+    text.push_str(" asset ");
+    push_u32(&mut text, refusal.asset);
+    text.push_str(" rule ");
+    push_u32(&mut text, refusal.rule);
+    text.push_str("\n");
+    text
+}
+
+/// The number of a refusal of a capture; 6 is that of a moment, which a listing does not test.
 fn capture_number(refusal: CaptureRefusal) -> u64
     ensures { result ≡ capture_number refusal }
 {
@@ -127,56 +168,84 @@ fn capture_number(refusal: CaptureRefusal) -> u64
     }
 }
 
-fn push_capture_refusal(out: &mut ArrayString<128>, refusal: CaptureRefusal)
-    requires { out.old.bytes ≡ [] }
-    ensures { out.new.bytes ≡ codes "capture refused " ++ decimal (capture_number refusal) ++ codes "\n" }
+/// A line that ends in a number.
+fn numbered_line(words: &str, number: u64) -> EndText
+    requires { length words.now ≤ 64 }
+    ensures { result.bytes ≡ words.now ++ decimal number ++ codes "\n" }
 {
-    out.push_str("capture refused ");
-    push_number(out, capture_number(refusal));
-    out.push_str("\n");
+    let mut text = EndText::new();
+    text.push_str(words);
+    push_number(&mut text, number);
+    text.push_str("\n");
+    text
 }
 
-fn push_cut(out: &mut ArrayString<128>, place: u64)
-    requires { out.old.bytes ≡ [] }
-    ensures { out.new.bytes ≡ codes "capture cut at " ++ decimal place ++ codes "\n" }
+fn line(words: &str) -> EndText
+    requires { length words.now ≤ 64 }
+    ensures { result.bytes ≡ words.now }
 {
-    out.push_str("capture cut at ");
-    push_number(out, place);
-    out.push_str("\n");
+    let mut text = EndText::new();
+    text.push_str(words);
+    text
 }
 
-/// Writes the text of an ending into an empty text.
-fn write_text(ending: &Ending, out: &mut ArrayString<128>)
-    requires { out.old.bytes ≡ [] }
-    ensures { out.new.bytes ≡ text_of ending.now }
+/// What is printed of work that was done; the lines of a listing were printed before.
+fn done_text(done: &Done) -> Option<EndText>
+    ensures { option_map (λ t. t.bytes) result ≡ done_text done.now }
 {
-    match ending {
-        Ending::Sifted { admitted, refused } => push_sifted(out, *admitted, *refused),
-        Ending::Checked { assets, rules } => push_checked(out, *assets, *rules),
-        Ending::Usage => out.push_str("usage\n"),
-        Ending::ReadFault => out.push_str("read fault\n"),
-        Ending::Listed | Ending::WriteFault | Ending::NoMemory => {}
-        Ending::PolicyRefused(refusal) => push_refusal(out, refusal),
-        Ending::CaptureRefused(refusal) => push_capture_refusal(out, *refusal),
-        Ending::CaptureCut(place) => push_cut(out, *place),
-        Ending::UnknownAsset => out.push_str("unknown asset\n"),
-        Ending::Unbuilt => out.push_str("unbuilt\n"),
+    match done {
+        Done::Sifted { admitted, refused } => Some(sifted_text(*admitted, *refused)),
+        Done::Checked { assets, rules } => Some(checked_text(*assets, *rules)),
+        Done::Listed => None,
     }
 }
 
-/// Prints the text of an ending, and answers its status. Work that was done and could not be told has a write fault; a
-/// fault of the sink changes no other ending. Takes no memory.
-pub fn report<O: Sink>(ending: &Ending, out: &mut O) -> u8
-    ensures reports { Reports ending.now result (O.text out.old) (O.text out.new) (Rose (O.faults out.old) (O.faults out.new)) }
+/// What is printed of a cause.
+fn stop_text(stop: &Stop) -> Option<EndText>
+    ensures { option_map (λ t. t.bytes) result ≡ stop_text stop.now }
+{
+    match stop {
+        Stop::WriteFault | Stop::NoMemory => None,
+        Stop::ReadFault => Some(line("read fault\n")),
+        Stop::PolicyRefused(refusal) => Some(policy_refused_text(refusal)),
+        Stop::CaptureRefused(refusal) => Some(numbered_line(
+            "capture refused ",
+            capture_number(*refusal),
+        )),
+        Stop::CaptureCut(place) => Some(numbered_line("capture cut at ", *place)),
+        Stop::UnknownAsset => Some(line("unknown asset\n")),
+        Stop::Unbuilt => Some(line("unbuilt\n")),
+    }
+}
+
+fn end_text(ended: &Result<Done, Stop>) -> Option<EndText>
+    ensures { option_map (λ t. t.bytes) result ≡ end_text ended.now }
+{
+    match ended {
+        Ok(done) => done_text(done),
+        Err(stop) => stop_text(stop),
+    }
+}
+
+/// Puts a text, and answers the first status, or the second where the put failed.
+pub(crate) fn put_text<O: Sink>(text: &str, put: u8, failed: u8, out: &mut O) -> u8
+    ensures puts { Puts text.now put failed (sink_value O.Sink out.old) (sink_value O.Sink out.new) result }
     ensures later { O.faults out.old ≤ O.faults out.new }
 {
-    if silent(ending) {
-        return status(ending);
+    match out.put(text.as_bytes()) {
+        WriteAnswer::Done => put,
+        WriteAnswer::Failed => failed,
     }
-    let mut text = ArrayString::<128>::new();
-    write_text(ending, &mut text);
-    match out.put(text.as_str().as_bytes()) {
-        WriteAnswer::Done => status(ending),
-        WriteAnswer::Failed => unprinted_status(ending),
+}
+
+/// Prints how a command ended, and answers its status. Takes no memory.
+pub(crate) fn report<O: Sink>(ended: &Result<Done, Stop>, out: &mut O) -> u8
+    ensures prints { Prints (end_text ended.now) (status_of ended.now) (unprinted_status ended.now) (sink_value O.Sink out.old)
+        (sink_value O.Sink out.new) result }
+    ensures later { O.faults out.old ≤ O.faults out.new }
+{
+    match end_text(ended) {
+        None => status(ended),
+        Some(text) => put_text(text.as_str(), status(ended), unprinted_status(ended), out),
     }
 }

@@ -1,20 +1,24 @@
-//! The program: the words that it takes, what it does for each, and the status that it ends with.
+//! The program: the words that it takes, what it does for each command, and the status that it ends with.
 #![tactic(auto)]
 
-mod commands;
+mod check;
+mod command;
 mod ending;
-#[cfg(test)]
-mod packet_tests;
+mod names;
+mod outputs;
+mod packet_line;
 mod packets;
 mod policy_file;
+mod relay;
+mod run;
 mod sift;
-mod words;
+mod top;
+mod world;
 
-pub use commands::box_main;
-pub use ending::{Ending, report};
-pub use packets::{CaptureRefusal, PacketsEnd};
+pub use command::{Command, read_words};
+pub use ending::{CaptureRefusal, Done, Stop};
 pub use sift::{STREAM_LIMIT, SiftDone, SiftFault, SiftNames, sift_stream};
-pub use words::{Command, read_words};
+pub use top::box_main;
 
 #[cfg(test)]
 mod tests;

@@ -1,10 +1,12 @@
 //! The policy that a file holds.
-ghost use Rattle.std.specs.Prelude.{◌≡◌, ◌≤◌, IfOk, IfErr, bytes_eq, find, length, option_map};
-ghost use Rattle.cf_box.specs.Policies.{HasPolicy, IsRefusedBy, asset_named, rule_count};
-ghost use Rattle.cf_box.specs.Loads.{IsLoadFault};
-ghost use Rattle.cf_outside.specs.Faults.{HasCause, Rose};
-ghost use Rattle.cf_policy.specs.Within.{IsWithin, AreAssetsWithin};
+ghost use Rattle.std.specs.Prelude.{◌≡◌, ◌≢◌, IfOk, IfErr, Some, bytes_eq, find, option_map};
+ghost use Rattle.cf_box.specs.Command.{Command, policy_file};
+ghost use Rattle.cf_box.specs.Ends.{StopsFor};
+ghost use Rattle.cf_box.specs.Outside.{PairValue, ReadsOnly, SinkValue, files_value, outside};
+ghost use Rattle.cf_box.specs.PolicyFile.{HasPolicy, asset_named, rule_count};
+ghost use Rattle.cf_policy.specs.Within.{AreAssetsWithin, IsWithin};
 
+use crate::ending::Stop;
 use cf_outside::{Files, WholeFault, read_whole};
 use cf_policy::{Asset, Policy};
 use cf_policylang::{Cause, Key, PolicyFault, PolicyRefusal, read_policy};
@@ -13,47 +15,37 @@ use std::alloc::Global;
 /// How many bytes a policy file has at most.
 const POLICY_LIMIT: u64 = 4_194_304;
 
-/// Why no policy was read from a file.
-#[derive(Clone, Copy, PartialEq, Eq, Debug)]
-pub(crate) enum LoadFault {
-    /// A read failed.
-    Read,
-    /// The file's bytes mean no policy.
-    Refused(PolicyRefusal),
-    /// Memory ran out.
-    NoMemory,
-}
+/// The refusal of a file of more bytes: of the document as a whole.
+const TOO_LONG: PolicyRefusal = PolicyRefusal {
+    number: Cause::TooMany as u8,
+    key: Key::Nothing,
+    asset: 0,
+    rule: 0,
+};
 
-/// Reads the policy of a file. Changes no file.
+/// Reads the policy of a file, or says why each command that reads it stops. Changes no file.
 pub(crate) fn load_policy<F: Files>(
     alloc: Global,
-    files: &mut F,
     name: &str,
-) -> Result<Policy, LoadFault>
+    files: &mut F,
+) -> Result<Policy, Stop>
     ensures has { IfOk result (λ p. HasPolicy (F.content files.old name.now) p) }
     ensures within { IfOk result (λ p. IsWithin p) }
-    ensures fault { IfErr result (λ fault. IsLoadFault (F.content files.old name.now) (Rose (F.read_faults files.old) (F.read_faults files.new)) fault) }
-    ensures later { F.read_faults files.old ≤ F.read_faults files.new }
-    ensures same { F.content files.new ≡ F.content files.old }
-    ensures writes { F.write_faults files.new ≡ F.write_faults files.old }
+    ensures stop { IfErr result (λ s. (c : Command) (sink : SinkValue) (pair : PairValue) → policy_file c ≡ Some name.now
+        → StopsFor c (outside (files_value F.Files files.old) sink pair) (outside (files_value F.Files files.new) sink pair) s) }
+    ensures unwritten { IfErr result (λ s. s ≢ Stop.WriteFault) }
+    ensures only { ReadsOnly (files_value F.Files files.old) (files_value F.Files files.new) }
 {
     let bytes = match read_whole(alloc, files, name, POLICY_LIMIT) {
         Ok(bytes) => bytes,
-        Err(WholeFault::Read) => return Err(LoadFault::Read),
-        Err(WholeFault::TooLong) => {
-            return Err(LoadFault::Refused(PolicyRefusal {
-                number: Cause::TooMany.number(),
-                key: Key::Nothing,
-                asset: 0,
-                rule: 0,
-            }));
-        }
-        Err(WholeFault::NoMemory) => return Err(LoadFault::NoMemory),
+        Err(WholeFault::Read) => return Err(Stop::ReadFault),
+        Err(WholeFault::TooLong) => return Err(Stop::PolicyRefused(TOO_LONG)),
+        Err(WholeFault::NoMemory) => return Err(Stop::NoMemory),
     };
     match read_policy(alloc, &bytes) {
         Ok(policy) => Ok(policy),
-        Err(PolicyFault::Refused(refusal)) => Err(LoadFault::Refused(refusal)),
-        Err(PolicyFault::NoMemory) => Err(LoadFault::NoMemory),
+        Err(PolicyFault::Refused(refusal)) => Err(Stop::PolicyRefused(refusal)),
+        Err(PolicyFault::NoMemory) => Err(Stop::NoMemory),
     }
 }
 

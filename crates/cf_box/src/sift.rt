@@ -1,17 +1,27 @@
-//! The filter of a stored stream of one client.
-ghost use Rattle.std.specs.Prelude.{◌≡◌, ◌≢◌, ◌⊎◌, ℕ, List, IsErr, IsErrOf, OnErr, OnOk, IfOk};
-ghost use Rattle.cf_outside.specs.Faults.{HasCause, Rose};
-ghost use Rattle.cf_outside.specs.Files.{IsPartly, KeepsOthers, content_after_create};
-ghost use Rattle.cf_box.specs.Outputs.{AreApart, IsCreated, IsExtended, IsPartlyExtended, IsPerhapsCreated, IsWritten, Stand, StandBehind};
-ghost use Rattle.cf_box.specs.Sift.{SiftEnds, outputs_of, parts_of};
+//! `sift POLICY ASSET CLIENT STREAM OUT REPLIES LOG`: the stored stream of one client is filtered.
+ghost use Rattle.std.specs.Prelude.{◌≡◌, IfSome, IsErr, OnErr, OnOk, map, option_map, string_bytes};
+ghost use Rattle.cf_box.specs.Command.{Sift};
+ghost use Rattle.cf_box.specs.Ends.{Meets};
+ghost use Rattle.cf_box.specs.Outputs.{AppendFails, AreCreated, CreationFails, EachOutput, IsExtended, IsWritten, KeepsAllBut};
+ghost use Rattle.cf_box.specs.Outside.{FilesNeverFall, PairValue, SinkValue, files_value, outside};
+ghost use Rattle.cf_box.specs.Sift.{AreApart, OutputsFail, SiftStream, sift_command, sift_names_of, sift_names_value, sift_of, sift_output_names, sift_outputs};
+ghost use Rattle.cf_box.specs.Words.{HasApartFiles, command_value};
 ghost use Rattle.cf_lane.specs.Filtered.{output_seen};
+ghost use Rattle.cf_outside.specs.Faults.{HasCause};
 
+use crate::command::Command;
+use crate::ending::{Done, Stop};
+use crate::names::are_names;
+use crate::outputs::create;
+use crate::policy_file::{find_asset, load_policy};
 use cf_audit::CutReason;
 use cf_lane::{FilterFault, Filtered, filter_client};
-use cf_outside::{Files, WholeFault, WriteAnswer, append_all, read_whole};
+use cf_outside::{Files, WholeFault, append_all, read_whole};
 use cf_policy::{Asset, Protocol};
+use cf_policylang::address;
 use cf_view::{Endpoint, WriteFault};
 use std::alloc::Global;
+use thiserror::Error;
 
 /// How many bytes a stream has at most that is filtered as a whole.
 pub const STREAM_LIMIT: u64 = 65_536;
@@ -38,80 +48,143 @@ pub struct SiftDone {
 }
 
 /// Why a stream was not filtered.
-#[derive(Clone, Copy, PartialEq, Eq, Debug)]
+#[derive(Clone, Copy, PartialEq, Eq, Debug, Error)]
 pub enum SiftFault {
-    /// Memory ran out.
+    #[error("out of memory")]
     NoMemory,
-    /// A read failed.
+    #[error("a read failed")]
     Read,
-    /// A creation or an append failed.
+    #[error("a creation or an append failed")]
     Write,
     /// The asset does not speak Modbus, or the stream has more than 65,536 bytes, or its bytes are no ADUs.
+    #[error("the stream needs a part that is not built")]
     Unbuilt,
 }
 
-/// Creates the three outputs in their order.
-fn create_outputs<F: Files>(files: &mut F, names: &SiftNames<'_>) -> Result<(), WriteFault>
-    requires { AreApart (outputs_of names.now) }
-    ensures done { OnOk result (Stand IsCreated (outputs_of names.now) (outputs_of names.now) (F.content files.old) (F.content files.new)) }
-    ensures fault { OnErr result (Stand IsPerhapsCreated (outputs_of names.now) (outputs_of names.now) (F.content files.old) (F.content files.new)) }
-    ensures cause { HasCause (F.write_faults files.old) (F.write_faults files.new) (IsErr result) }
-    ensures reads { F.read_faults files.new ≡ F.read_faults files.old }
-{
-    create(files, names.out)?;
-    create(files, names.replies)?;
-    create(files, names.log)
-}
+impl From<WholeFault> for SiftFault {
+    ghost use Rattle.std.specs.Prelude.{◌≡◌};
+    ghost use Rattle.cf_box.specs.Sift.{read_fault};
 
-fn create<F: Files>(files: &mut F, name: &str) -> Result<(), WriteFault>
-    ensures done { OnOk result (F.content files.new name.now ≡ content_after_create (F.content files.old name.now)) }
-    ensures fault { OnErr result ((F.content files.new name.now ≡ F.content files.old name.now) ⊎ (F.content files.new name.now ≡ content_after_create (F.content files.old name.now))) }
-    ensures others { KeepsOthers name.now (F.content files.old) (F.content files.new) }
-    ensures cause { HasCause (F.write_faults files.old) (F.write_faults files.new) (IsErr result) }
-    ensures reads { F.read_faults files.new ≡ F.read_faults files.old }
-{
-    match files.create(name) {
-        WriteAnswer::Done => Ok(()),
-        WriteAnswer::Failed => Err(WriteFault),
+    ghost from_gives = { λ whole fault. fault ≡ read_fault whole };
+
+    fn from(fault: WholeFault) -> Self {
+        match fault {
+            WholeFault::Read => SiftFault::Read,
+            WholeFault::TooLong => SiftFault::Unbuilt,
+            WholeFault::NoMemory => SiftFault::NoMemory,
+        }
     }
 }
 
-/// Appends to each of the three outputs its part.
-fn append_outputs<F: Files>(
-    files: &mut F,
-    names: &SiftNames<'_>,
-    filtered: &Filtered,
-) -> Result<(), WriteFault>
-    requires { AreApart (outputs_of names.now) }
-    ensures done { OnOk result (Stand IsExtended (outputs_of names.now) (parts_of (output_seen filtered.now)) (F.content files.old) (F.content files.new)) }
-    ensures fault { OnErr result (Stand IsPartlyExtended (outputs_of names.now) (parts_of (output_seen filtered.now)) (F.content files.old) (F.content files.new)) }
-    ensures cause { HasCause (F.write_faults files.old) (F.write_faults files.new) (IsErr result) }
-    ensures reads { F.read_faults files.new ≡ F.read_faults files.old }
-{
-    append_all(files, names.out, &filtered.to_controller)?;
-    append_behind(files, names, filtered)
+impl From<WriteFault> for SiftFault {
+    ghost use Rattle.std.specs.Prelude.{◌≡◌};
+    ghost use Rattle.cf_box.specs.declared.sift.SiftFault.TheVariants.{Write};
+
+    ghost from_gives = { λ _ fault. fault ≡ Write };
+
+    fn from(_: WriteFault) -> Self {
+        SiftFault::Write
+    }
 }
 
-/// Appends to the last two outputs their parts.
-fn append_behind<F: Files>(
-    files: &mut F,
-    names: &SiftNames<'_>,
-    filtered: &Filtered,
-) -> Result<(), WriteFault>
-    requires { AreApart (outputs_of names.now) }
-    ensures done { OnOk result (StandBehind IsExtended (outputs_of names.now) (parts_of (output_seen filtered.now)) (F.content files.old) (F.content files.new)) }
-    ensures fault { OnErr result (StandBehind IsPartlyExtended (outputs_of names.now) (parts_of (output_seen filtered.now)) (F.content files.old) (F.content files.new)) }
-    ensures cause { HasCause (F.write_faults files.old) (F.write_faults files.new) (IsErr result) }
-    ensures reads { F.read_faults files.new ≡ F.read_faults files.old }
+impl From<SiftFault> for Stop {
+    ghost use Rattle.std.specs.Prelude.{◌≡◌};
+    ghost use Rattle.cf_box.specs.Sift.{sift_stop};
+
+    ghost from_gives = { λ fault stop. stop ≡ sift_stop fault };
+
+    fn from(fault: SiftFault) -> Self {
+        match fault {
+            SiftFault::NoMemory => Stop::NoMemory,
+            SiftFault::Read => Stop::ReadFault,
+            SiftFault::Write => Stop::WriteFault,
+            SiftFault::Unbuilt => Stop::Unbuilt,
+        }
+    }
+}
+
+/// The words behind `sift`.
+pub(crate) fn read_sift(words: &[String]) -> Option<Command<'_>>
+    ensures command { option_map command_value result ≡ sift_of (map string_bytes words.now) }
+    ensures apart { IfSome result HasApartFiles }
 {
-    append_all(files, names.replies, &filtered.to_client)?;
-    append_all(files, names.log, &filtered.log)
+    let [policy, asset, client, files @ ..] = words else {
+        return None;
+    };
+    let names = read_names(files)?;
+    read_with_names(policy.as_str(), asset.as_str(), client.as_str(), names)
+}
+
+/// `STREAM OUT REPLIES LOG`.
+fn read_names(words: &[String]) -> Option<SiftNames<'_>>
+    ensures { option_map sift_names_value result ≡ sift_names_of (map string_bytes words.now) }
+{
+    let [stream, out, replies, log] = words else {
+        return None;
+    };
+    Some(SiftNames {
+        stream: stream.as_str(),
+        out: out.as_str(),
+        replies: replies.as_str(),
+        log: log.as_str(),
+    })
+}
+
+/// The command, where the client is an address and the names of the files differ.
+#[tactic(auto, using(crate::proofs::FileNames::apart_from_names))]
+fn read_with_names<'a>(
+    policy: &'a str,
+    asset: &'a str,
+    client: &'a str,
+    names: SiftNames<'a>,
+) -> Option<Command<'a>>
+    ensures command { option_map command_value result ≡ sift_command policy.now asset.now client.now (sift_names_value names.entry) }
+    ensures apart { IfSome result HasApartFiles }
+{
+    if !are_names(&[policy, names.stream, names.out, names.replies, names.log]) {
+        return None;
+    }
+    let client = address(client)?;
+    Some(Command::Sift {
+        policy,
+        asset,
+        client,
+        names,
+    })
+}
+
+/// Reads the policy, and filters the stream for its asset of a name.
+pub(crate) fn sift<F: Files>(
+    alloc: Global,
+    policy_file: &str,
+    asset_name: &str,
+    client: u32,
+    names: &SiftNames<'_>,
+    files: &mut F,
+) -> Result<Done, Stop>
+    requires { AreApart (sift_names_value names.now) }
+    ensures meets { (sink : SinkValue) (pair : PairValue) → Meets (Sift policy_file.now asset_name.now client (sift_names_value names.now))
+        (outside (files_value F.Files files.old) sink pair) (outside (files_value F.Files files.new) sink pair) result }
+    ensures later { FilesNeverFall (files_value F.Files files.old) (files_value F.Files files.new) }
+{
+    let policy = match load_policy(alloc, policy_file, files) {
+        Ok(policy) => policy,
+        Err(stop) => return Err(stop),
+    };
+    let Some(asset) = find_asset(&policy, asset_name) else {
+        return Err(Stop::UnknownAsset);
+    };
+    let done = sift_stream(alloc, asset, client, names, files)?;
+    Ok(Done::Sifted {
+        admitted: done.admitted,
+        refused: done.refused,
+    })
 }
 
 /// Filters the stored stream of a client with this address, whose port is not known, at moment 0. The stream is read
 /// whole first; then the outputs are created, those towards the controller, towards the client and the log in this
-/// order, and written. After `Read`, `Unbuilt` and `NoMemory` every file is as it was; after `Write` each output is as
-/// it was, or was created and got a prefix of its part.
+/// order, and written in the same order. After `Read`, `Unbuilt` and `NoMemory` every file is as it was; after `Write`
+/// nothing more is created or written.
 pub fn sift_stream<F: Files>(
     alloc: Global,
     asset: &Asset,
@@ -119,19 +192,14 @@ pub fn sift_stream<F: Files>(
     names: &SiftNames<'_>,
     files: &mut F,
 ) -> Result<SiftDone, SiftFault>
-    requires { AreApart (outputs_of names.now) }
-    ensures ends { SiftEnds asset.now client names.now (F.content files.old) (F.content files.new)
-        (Rose (F.read_faults files.old) (F.read_faults files.new)) (Rose (F.write_faults files.old) (F.write_faults files.new)) result }
+    requires { AreApart (sift_names_value names.now) }
+    ensures stream { SiftStream asset.now client (sift_names_value names.now) (files_value F.Files files.old) (files_value F.Files files.new) result }
+    ensures later { FilesNeverFall (files_value F.Files files.old) (files_value F.Files files.new) }
 {
     if asset.protocol != Protocol::Modbus {
         return Err(SiftFault::Unbuilt);
     }
-    let stream = match read_whole(alloc, files, names.stream, STREAM_LIMIT) {
-        Ok(stream) => stream,
-        Err(WholeFault::Read) => return Err(SiftFault::Read),
-        Err(WholeFault::TooLong) => return Err(SiftFault::Unbuilt),
-        Err(WholeFault::NoMemory) => return Err(SiftFault::NoMemory),
-    };
+    let stream = read_whole(alloc, files, names.stream, STREAM_LIMIT)?;
     let client = Endpoint {
         address: client,
         port: 0,
@@ -141,9 +209,7 @@ pub fn sift_stream<F: Files>(
         Err(FilterFault::Broken(_)) => return Err(SiftFault::Unbuilt),
         Err(FilterFault::NoMemory) => return Err(SiftFault::NoMemory),
     };
-    if write_outputs(files, names, &filtered).is_err() {
-        return Err(SiftFault::Write);
-    }
+    write_outputs(files, names, &filtered)?;
     Ok(SiftDone {
         cut: None,
         admitted: filtered.admitted,
@@ -152,18 +218,54 @@ pub fn sift_stream<F: Files>(
 }
 
 /// Creates the three outputs, and then writes them.
-#[tactic(auto, using(crate::proofs::OutputLaws::written_laws))]
+#[tactic(auto, using(crate::proofs::OutputFiles::written_laws))]
 fn write_outputs<F: Files>(
     files: &mut F,
     names: &SiftNames<'_>,
     filtered: &Filtered,
 ) -> Result<(), WriteFault>
-    requires { AreApart (outputs_of names.now) }
-    ensures done { OnOk result (Stand IsWritten (outputs_of names.now) (parts_of (output_seen filtered.now)) (F.content files.old) (F.content files.new)) }
-    ensures fault { OnErr result (Stand IsPartly (outputs_of names.now) (parts_of (output_seen filtered.now)) (F.content files.old) (F.content files.new)) }
+    requires { AreApart (sift_names_value names.now) }
+    ensures done { OnOk result (EachOutput (F.content files.old) (F.content files.new) IsWritten
+        (sift_outputs (sift_names_value names.now) (output_seen filtered.now))) }
+    ensures fault { OnErr result (OutputsFail (sift_names_value names.now) (output_seen filtered.now) (F.content files.old) (F.content files.new)) }
+    ensures others { KeepsAllBut (F.content files.old) (F.content files.new) (sift_output_names (sift_names_value names.now)) }
     ensures cause { HasCause (F.write_faults files.old) (F.write_faults files.new) (IsErr result) }
     ensures reads { F.read_faults files.new ≡ F.read_faults files.old }
 {
     create_outputs(files, names)?;
     append_outputs(files, names, filtered)
+}
+
+/// Creates the three outputs in their order.
+fn create_outputs<F: Files>(files: &mut F, names: &SiftNames<'_>) -> Result<(), WriteFault>
+    requires { AreApart (sift_names_value names.now) }
+    ensures done { OnOk result (AreCreated (F.content files.old) (F.content files.new) (sift_output_names (sift_names_value names.now))) }
+    ensures fault { OnErr result (CreationFails (F.content files.old) (F.content files.new) (sift_output_names (sift_names_value names.now))) }
+    ensures others { KeepsAllBut (F.content files.old) (F.content files.new) (sift_output_names (sift_names_value names.now)) }
+    ensures cause { HasCause (F.write_faults files.old) (F.write_faults files.new) (IsErr result) }
+    ensures reads { F.read_faults files.new ≡ F.read_faults files.old }
+{
+    create(files, names.out)?;
+    create(files, names.replies)?;
+    create(files, names.log)
+}
+
+/// Appends to each of the three outputs its part, in their order.
+fn append_outputs<F: Files>(
+    files: &mut F,
+    names: &SiftNames<'_>,
+    filtered: &Filtered,
+) -> Result<(), WriteFault>
+    requires { AreApart (sift_names_value names.now) }
+    ensures done { OnOk result (EachOutput (F.content files.old) (F.content files.new) IsExtended
+        (sift_outputs (sift_names_value names.now) (output_seen filtered.now))) }
+    ensures fault { OnErr result (AppendFails (F.content files.old) (F.content files.new)
+        (sift_outputs (sift_names_value names.now) (output_seen filtered.now))) }
+    ensures others { KeepsAllBut (F.content files.old) (F.content files.new) (sift_output_names (sift_names_value names.now)) }
+    ensures cause { HasCause (F.write_faults files.old) (F.write_faults files.new) (IsErr result) }
+    ensures reads { F.read_faults files.new ≡ F.read_faults files.old }
+{
+    append_all(files, names.out, &filtered.to_controller)?;
+    append_all(files, names.replies, &filtered.to_client)?;
+    append_all(files, names.log, &filtered.log)
 }

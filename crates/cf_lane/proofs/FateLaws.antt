@@ -5,10 +5,10 @@ use Rattle.cf_view.specs.declared.Act.{Act}
 use Rattle.cf_view.specs.declared.Reason.{Reason}
 use Rattle.cf_policy.specs.declared.Decider.{Decider}
 use Rattle.cf_modbus.specs.Acts.{acts}
-use Rattle.cf_modbus.specs.Adu.{AduOf}
-use Rattle.cf_modbus.specs.Request.{RequestOf, Reads}
+use Rattle.cf_modbus.specs.Adu.{AduValue}
+use Rattle.cf_modbus.specs.Request.{RequestValue, Reads}
 use Rattle.cf_modbus.specs.declared.RequestRefusal.{RequestRefusal}
-use Rattle.cf_modbus.proofs.RequestLaws.{one_reading}
+use Rattle.cf_modbus.proofs.Reading.{one_reading}
 use Rattle.cf_policy.specs.Laws.{IsAllowed}
 use Rattle.cf_policy.specs.Verdict.{verdict_of}
 use Rattle.cf_policy.specs.declared.Asset.{Asset}
@@ -76,7 +76,7 @@ admits_what_is_allowed asset client a f (of_its_acts station r reads is) = (
   λ e. record { station = station; request = r; form = reads; each = to_allowed asset client (acts r) (sym is ∙ e) },
   λ allowed.
       let same : r ≡ allowed.request = cc (one_reading (Ok r) (Ok allowed.request) a.pdu reads allowed.form) in
-      let P : RequestOf → Type 0 = λ q. AllByRecursion (λ act. IsAllowed (verdict_of asset client act)) (acts q) in
+      let P : RequestValue → Type 0 = λ q. AllByRecursion (λ act. IsAllowed (verdict_of asset client act)) (acts q) in
       is ∙ from_allowed asset client (acts r) (subst P (sym same) allowed.each),
 )
 

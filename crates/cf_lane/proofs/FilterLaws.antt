@@ -8,12 +8,12 @@ use Rattle.std.specs.List.{list_any, AllByRecursion}
 use Rattle.cf_view.specs.Framing.{Begins, IsPartial, BreaksAt}
 use Rattle.cf_view.specs.Units.{BeginsWithUnits, IsUnitsThenRest, IsUnitsThenBreak}
 use Rattle.cf_view.proofs.Units.{begins_with_more, one_units_then_rest}
-use Rattle.cf_modbus.proofs.AduLaws.{prefix_free}
+use Rattle.cf_modbus.proofs.Framing.{prefix_free}
 use Rattle.cf_lane.specs.Laws.{HasOneOutput, PassesAllowed, FiltersByAllowance}
 use Rattle.cf_lane.proofs.FateLaws.{has_one_fate, admits_what_is_allowed}
 use Rattle.cf_view.specs.declared.Endpoint.{Endpoint}
 use Rattle.cf_view.specs.declared.Side.TheVariants as side
-use Rattle.cf_modbus.specs.Adu.{AduOf, SpellsAdu, mbap_break, spelling}
+use Rattle.cf_modbus.specs.Adu.{AduValue, SpellsAdu, mbap_break, spelling}
 use Rattle.cf_modbus.specs.Exception.{exception_of}
 use Rattle.cf_policy.specs.declared.Asset.{Asset}
 use Rattle.cf_lane.specs.Fate.{HasFate, HasCommandFate}
@@ -30,7 +30,7 @@ pub same_output : (x y : Output) → x.to_controller ≡ y.to_controller → x.t
     x.admitted ≡ y.admitted → x.refused ≡ y.refused → x ≡ y
 same_output x y a b c d e = rw (a, b, c, d, e) refl
 
-module _ (asset : Asset) (client : Endpoint) (moment : ℕ) (a : AduOf) (old new : Output) where
+module _ (asset : Asset) (client : Endpoint) (moment : ℕ) (a : AduValue) (old new : Output) where
   -- an admitted command goes on, and nothing else does
   pub takes_admitted : HasCommandFate asset client.address a fate.Admitted →
       new.to_controller ≡ old.to_controller ++ spelling a → new.to_client ≡ old.to_client → new.log ≡ old.log →
@@ -92,7 +92,7 @@ fates-more asset client (k ∷ js) j before here = (before.0, fates-more asset c
 
 -- the units up to a place, judged, and their output
 pub record SoFar (asset : Asset) (client : Endpoint) (moment : ℕ) (stream : List ℕ) (at : ℕ) (out : Output) : Type 0 where
-  pub units : List AduOf
+  pub units : List AduValue
   pub judged : List Judged
   pub starts : BeginsWithUnits SpellsAdu units stream (drop at stream)
   pub items : map (λ j. j.item) judged ≡ map ClientAdu units
@@ -122,7 +122,7 @@ module _ (asset : Asset) (client : Endpoint) (moment : ℕ) (stream : List ℕ) 
         ∙ sym (output-more asset client moment so_far.judged j)
 
     -- one more command
-    pub one_further : (a : AduOf) (n : ℕ) (new : Output) → Begins SpellsAdu (drop at stream) a n → TakesCommand asset client moment a out new →
+    pub one_further : (a : AduValue) (n : ℕ) (new : Output) → Begins SpellsAdu (drop at stream) a n → TakesCommand asset client moment a out new →
         SoFar asset client moment stream (at + n) new
     one_further a n new begins takes =
         let j : Judged = record { item = ClientAdu a; fate = takes.fate } in
@@ -198,7 +198,7 @@ has_one_output asset client moment stream x y a b =
 
 module _ (asset : Asset) (client : ℕ) where
   -- a command before others puts its spelling before theirs, if it is allowed
-  one_passes : (a : AduOf) (f : Fate) (units : List AduOf) (more : List ℕ) → HasCommandFate asset client a f →
+  one_passes : (a : AduValue) (f : Fate) (units : List AduValue) (more : List ℕ) → HasCommandFate asset client a f →
       PassesAllowed asset client units more → PassesAllowed asset client (a ∷ units) (to_controller (ClientAdu a) f ++ more)
   one_passes a fate.Admitted units more has passes = inl ((admits_what_is_allowed asset client a fate.Admitted has).0 refl, (more, refl, passes))
   one_passes a fate.Carried units more has passes =
@@ -206,7 +206,7 @@ module _ (asset : Asset) (client : ℕ) where
   one_passes a (fate.Refused r) units more has passes =
       inr (λ allowed. cc ((admits_what_is_allowed asset client a (fate.Refused r) has).1 allowed), passes)
 
-  pass_by : (units : List AduOf) (n : ℕ) (earlier js : List Judged) → map (λ j. j.item) js ≡ client_items units n → HaveFates asset client js →
+  pass_by : (units : List AduValue) (n : ℕ) (earlier js : List Judged) → map (λ j. j.item) js ≡ client_items units n → HaveFates asset client js →
       PassesAllowed asset client units (in_turn (output side.Controller) earlier js)
   pass_by [] n earlier [] same fates = cc
   pass_by [] n earlier (j ∷ []) same fates =

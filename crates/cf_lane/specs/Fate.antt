@@ -3,8 +3,8 @@ use Rattle.std.specs.Prelude.{◌≡◌, ◌≢◌, ℕ, List, [], ◌∷◌, Op
 use Rattle.cf_view.specs.declared.Act.{Act}
 use Rattle.cf_view.specs.declared.Reason.TheVariants as reason
 use Rattle.cf_modbus.specs.Acts.{acts}
-use Rattle.cf_modbus.specs.Adu.{AduOf}
-use Rattle.cf_modbus.specs.Request.{RequestOf, Reads, reason_of}
+use Rattle.cf_modbus.specs.Adu.{AduValue}
+use Rattle.cf_modbus.specs.Request.{RequestValue, Reads, refusal_reason}
 use Rattle.cf_modbus.specs.declared.RequestRefusal.{RequestRefusal}
 use Rattle.cf_policy.specs.Verdict.{verdict_of, IsOneOf}
 use Rattle.cf_policy.specs.declared.Asset.{Asset}
@@ -18,15 +18,15 @@ use Rattle.cf_lane.specs.declared.fate.Fate.TheVariants as fate
 use Rattle.cf_lane.specs.declared.fate.Refusal.{Refusal}
 
 -- the act that stands for a whole command: its function code, with a point
-abbrev pub whole_act : AduOf → ℕ → Act
+abbrev pub whole_act : AduValue → ℕ → Act
 whole_act a point = record { code = slice_index a.pdu 0; group = 0; point = point; value = None }
 
 -- a command for another station shows the station that it is for
-abbrev pub station_refusal : AduOf → Refusal
+abbrev pub station_refusal : AduValue → Refusal
 station_refusal a = record { decider = decider.Station; reason = reason.Station; act = whole_act a a.unit }
 
-abbrev pub form_refusal : AduOf → RequestRefusal → Refusal
-form_refusal a refusal = record { decider = decider.Form; reason = reason_of refusal; act = whole_act a 0 }
+abbrev pub form_refusal : AduValue → RequestRefusal → Refusal
+form_refusal a refusal = record { decider = decider.Form; reason = refusal_reason refusal; act = whole_act a 0 }
 
 -- what a verdict says of an act, where later acts decide if it is allowed
 abbrev pub refusal_or : Act → Verdict → Option Refusal → Option Refusal
@@ -47,10 +47,10 @@ abbrev pub fate_of_acts : Asset → ℕ → List Act → Fate
 fate_of_acts asset client acts = by_refusal (first_refusal asset client acts)
 
 -- the fate of a client's ADU: the station is compared first, then the form is read, then the acts are judged
-pub data HasCommandFate (asset : Asset) (client : ℕ) (a : AduOf) (f : Fate) : Type 0 where
+pub data HasCommandFate (asset : Asset) (client : ℕ) (a : AduValue) (f : Fate) : Type 0 where
   of_other_station : a.unit ≢ asset.station → f ≡ fate.Refused (station_refusal a) → HasCommandFate asset client a f
   of_no_form : a.unit ≡ asset.station → (refusal : RequestRefusal) → Reads (Err refusal) a.pdu → f ≡ fate.Refused (form_refusal a refusal) → HasCommandFate asset client a f
-  of_its_acts : a.unit ≡ asset.station → (r : RequestOf) → Reads (Ok r) a.pdu → f ≡ fate_of_acts asset client (acts r) → HasCommandFate asset client a f
+  of_its_acts : a.unit ≡ asset.station → (r : RequestValue) → Reads (Ok r) a.pdu → f ≡ fate_of_acts asset client (acts r) → HasCommandFate asset client a f
 
 -- the fate of any item: what the controller sends goes on, and so does an end
 abbrev pub HasFate : Asset → ℕ → Item → Fate → Type 0

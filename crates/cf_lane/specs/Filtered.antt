@@ -5,7 +5,7 @@ use Rattle.cf_view.specs.Units.{IsUnitsThenRest, IsUnitsThenBreak}
 use Rattle.cf_view.specs.declared.Break.{Break}
 use Rattle.cf_view.specs.declared.Endpoint.{Endpoint}
 use Rattle.cf_view.specs.declared.Side.TheVariants as side
-use Rattle.cf_modbus.specs.Adu.{AduOf, SpellsAdu, mbap_break}
+use Rattle.cf_modbus.specs.Adu.{AduValue, SpellsAdu, mbap_break}
 use Rattle.cf_policy.specs.declared.Asset.{Asset}
 use Rattle.cf_lane.specs.Fate.{HasFate, HasCommandFate}
 use Rattle.cf_lane.specs.Item.{Item, ClientAdu, Ended}
@@ -28,7 +28,7 @@ is_refused fate.Admitted = false
 is_refused (fate.Refused refusal) = true
 
 -- the items of a stream in which only the client speaks, and then ends
-abbrev pub client_items : List AduOf → ℕ → List Item
+abbrev pub client_items : List AduValue → ℕ → List Item
 client_items units rest = map ClientAdu units ++ Ended side.Client rest ∷ []
 
 -- each item has its fate
@@ -37,7 +37,7 @@ HaveFates asset client judged = AllByRecursion (λ j. HasFate asset client j.ite
 
 -- these items, judged, are the units of the stream and its end
 pub record IsJudged (asset : Asset) (client : ℕ) (stream : List ℕ) (judged : List Judged) : Type 0 where
-  pub units : List AduOf
+  pub units : List AduValue
   pub rest : List ℕ
   pub cut : IsUnitsThenRest SpellsAdu units stream rest
   pub items : map (λ j. j.item) judged ≡ client_items units (length rest)
@@ -86,7 +86,7 @@ output_seen f = record {
 }
 
 -- a command was taken by its fate
-pub record TakesCommand (asset : Asset) (client : Endpoint) (moment : ℕ) (a : AduOf) (old new : Output) : Type 0 where
+pub record TakesCommand (asset : Asset) (client : Endpoint) (moment : ℕ) (a : AduValue) (old new : Output) : Type 0 where
   pub fate : Fate
   pub has : HasCommandFate asset client.address a fate
   pub more : new ≡ more_output asset client moment false old (record { item = ClientAdu a; fate = fate })
@@ -99,7 +99,7 @@ pub record IsFiltered (asset : Asset) (client : Endpoint) (moment : ℕ) (stream
 
 -- an octet of the stream is one that no ADU has there
 pub record IsBrokenBy (stream : List ℕ) (reason : Break) : Type 0 where
-  pub units : List AduOf
+  pub units : List AduValue
   pub place : ℕ
   pub broken : IsUnitsThenBreak SpellsAdu units stream place
   pub is_reason : reason ≡ mbap_break place

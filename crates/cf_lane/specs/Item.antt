@@ -2,13 +2,13 @@
 use Rattle.std.specs.Prelude.{ℕ, Bool, true, false}
 use Rattle.cf_view.specs.declared.Side.{Side}
 use Rattle.cf_view.specs.declared.Side.TheVariants as side
-use Rattle.cf_modbus.specs.Adu.{AduOf}
+use Rattle.cf_modbus.specs.Adu.{AduValue}
 
 pub data Item : Type 0 where
   -- an ADU of the client: a command
-  ClientAdu : AduOf → Item
+  ClientAdu : AduValue → Item
   -- an ADU of the controller
-  ControllerAdu : AduOf → Item
+  ControllerAdu : AduValue → Item
   -- a side sends no more, and so many bytes are left that are no whole unit
   Ended : Side → (rest : ℕ) → Item
 

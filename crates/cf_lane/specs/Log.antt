@@ -2,9 +2,9 @@
 use Rattle.std.specs.Prelude.{ℕ, zero, suc, Bool, not, List, []}
 use Rattle.cf_view.specs.declared.Endpoint.{Endpoint}
 use Rattle.cf_view.specs.declared.Side.{Side}
-use Rattle.cf_audit.specs.Line.{Line, What, Refuse, Partial}
+use Rattle.cf_audit.specs.Line.{LineValue, WhatValue, Refuse, Partial}
 use Rattle.cf_audit.specs.Text.{line_text}
-use Rattle.cf_modbus.specs.Adu.{AduOf, spelling}
+use Rattle.cf_modbus.specs.Adu.{AduValue, spelling}
 use Rattle.cf_policy.specs.Names.{name_of}
 use Rattle.cf_policy.specs.declared.Asset.{Asset}
 use Rattle.cf_lane.specs.Item.{Item, ClientAdu, ControllerAdu, Ended}
@@ -14,12 +14,12 @@ use Rattle.cf_lane.specs.declared.fate.Fate.TheVariants as fate
 use Rattle.cf_lane.specs.declared.fate.Refusal.{Refusal}
 
 -- a line about a client of an asset
-abbrev pub line_about : Asset → Endpoint → ℕ → What → List ℕ
+abbrev pub line_about : Asset → Endpoint → ℕ → WhatValue → List ℕ
 line_about asset client moment what =
     line_text (record { moment = moment; client = client; asset = asset.name; what = what })
 
 -- a refused command, named by what decided; whether it had its reply
-abbrev pub refusal_line : Asset → Refusal → (replied : Bool) → AduOf → What
+abbrev pub refusal_line : Asset → Refusal → (replied : Bool) → AduValue → WhatValue
 refusal_line asset refusal replied a = Refuse (name_of asset.rules refusal.decider) refusal.reason refusal.act replied (spelling a)
 
 -- a side ended; a line tells where bytes are left

@@ -4,7 +4,7 @@ use Rattle.std.specs.List.{list_any}
 use Rattle.cf_view.specs.declared.Reason.{Reason}
 use Rattle.cf_view.specs.declared.Side.{Side}
 use Rattle.cf_view.specs.declared.Side.TheVariants as side
-use Rattle.cf_modbus.specs.Adu.{AduOf, spelling}
+use Rattle.cf_modbus.specs.Adu.{AduValue, spelling}
 use Rattle.cf_modbus.specs.Exception.{exception_of}
 use Rattle.cf_lane.specs.Item.{Item, ClientAdu, ControllerAdu, Ended, ends_controller}
 use Rattle.cf_lane.specs.declared.fate.Fate.{Fate}
@@ -20,7 +20,7 @@ abbrev pub has_ended : List Judged → Bool
 has_ended judged = list_any (λ j. ends_controller j.item) judged
 
 -- the exception response of a refused command; nothing follows an end
-abbrev pub reply : Bool → AduOf → Reason → List ℕ
+abbrev pub reply : Bool → AduValue → Reason → List ℕ
 reply true a reason = []
 reply false a reason = spelling (exception_of a reason)
 

@@ -1,8 +1,8 @@
 //! The fate of a command.
 ghost use Rattle.std.specs.Prelude.{◌≡◌, ◌≢◌, ◌≤◌, length};
 ghost use Rattle.cf_modbus.specs.Acts.{acts};
-ghost use Rattle.cf_modbus.specs.Adu.{adu_of};
-ghost use Rattle.cf_modbus.specs.Request.{IsRead, request_of};
+ghost use Rattle.cf_modbus.specs.Adu.{adu_value};
+ghost use Rattle.cf_modbus.specs.Request.{IsRead, request_value};
 ghost use Rattle.cf_lane.specs.Fate.{HasCommandFate, HasOwnDecider, IsOfCommand, fate_of_acts};
 
 use cf_modbus::{Adu, Request, act_at, act_count, read_request};
@@ -35,7 +35,7 @@ pub enum Fate {
 pub fn judge(asset: &Asset, client: u32, adu: &Adu<'_>) -> Fate
     requires at_least { 1 ≤ length adu.now.pdu.bytes }
     requires at_most { length adu.now.pdu.bytes ≤ 253 }
-    ensures fate { HasCommandFate asset.now client (adu_of adu.now) result }
+    ensures fate { HasCommandFate asset.now client (adu_value adu.now) result }
     ensures decider { HasOwnDecider asset.now.rules result }
     ensures command { IsOfCommand result }
 {
@@ -67,8 +67,8 @@ fn refused(decider: Decider, reason: Reason, code: u16, point: u32) -> Fate
 
 /// The fate of a request with the right station and form.
 fn judge_acts(asset: &Asset, client: u32, request: &Request<'_>) -> Fate
-    requires { IsRead (request_of request.now) }
-    ensures fate { result ≡ fate_of_acts asset.now client (acts (request_of request.now)) }
+    requires { IsRead (request_value request.now) }
+    ensures fate { result ≡ fate_of_acts asset.now client (acts (request_value request.now)) }
     ensures decider { HasOwnDecider asset.now.rules result }
     ensures command { IsOfCommand result }
 {

@@ -1,10 +1,10 @@
 //! The filter of one client's whole stream.
 ghost use Rattle.std.specs.Prelude.{◌≡◌, ◌+◌, ◌-◌, ◌^◌, ◌<◌, ◌≤◌, ◌++◌, true, IfErr, IfOk, OnOk, length};
-ghost use Rattle.cf_audit.specs.Line.{HasShortNames, line_of};
+ghost use Rattle.cf_audit.specs.Line.{HasShortNames, line_value};
 ghost use Rattle.cf_audit.specs.Text.{line_text};
 ghost use Rattle.cf_lane.specs.Filtered.{HasFilterFault, IsFiltered, TakesCommand, output_seen};
 ghost use Rattle.cf_lane.specs.Log.{end_line, line_about, refusal_line};
-ghost use Rattle.cf_modbus.specs.Adu.{adu_of, spelling};
+ghost use Rattle.cf_modbus.specs.Adu.{adu_value, spelling};
 ghost use Rattle.cf_modbus.specs.Exception.{exception_of};
 ghost use Rattle.cf_policy.specs.Verdict.{IsOneOf};
 
@@ -98,7 +98,7 @@ pub fn filter_client(
 fn add_reply(replies: &mut Vec<u8>, adu: &Adu<'_>, reason: Reason) -> Result<(), AllocError>
     requires at_least { 1 ≤ length adu.now.pdu.bytes }
     requires at_most { length adu.now.pdu.bytes ≤ 253 }
-    ensures { OnOk result (replies.new.items ≡ replies.old.items ++ spelling (exception_of (adu_of adu.now) reason)) }
+    ensures { OnOk result (replies.new.items ≡ replies.old.items ++ spelling (exception_of (adu_value adu.now) reason)) }
 {
     let mut reply = ArrayVec::<u8, 260>::new();
     exception(adu, &reason, &mut reply);
@@ -116,8 +116,8 @@ fn log_refusal(
     octets: &[u8],
 ) -> Result<(), AllocError>
     requires decider { IsOneOf asset.now.rules refusal.now.decider }
-    requires octets { octets.now ≡ spelling (adu_of adu.now) }
-    ensures { OnOk result (log.new.items ≡ log.old.items ++ line_about asset.now client.now moment (refusal_line asset.now refusal.now true (adu_of adu.now))) }
+    requires octets { octets.now ≡ spelling (adu_value adu.now) }
+    ensures { OnOk result (log.new.items ≡ log.old.items ++ line_about asset.now client.now moment (refusal_line asset.now refusal.now true (adu_value adu.now))) }
 {
     let line = Line {
         moment,
@@ -160,8 +160,8 @@ fn log_end(
 }
 
 fn add_line(log: &mut Vec<u8>, line: &Line<'_>) -> Result<(), AllocError>
-    requires { HasShortNames (line_of line.now) }
-    ensures { OnOk result (log.new.items ≡ log.old.items ++ line_text (line_of line.now)) }
+    requires { HasShortNames (line_value line.now) }
+    ensures { OnOk result (log.new.items ≡ log.old.items ++ line_text (line_value line.now)) }
 {
     let mut text = ArrayString::<256>::new();
     write_line(line, &mut text);
@@ -179,9 +179,9 @@ fn take_command(
 ) -> Result<(), AllocError>
     requires at_least { 1 ≤ length adu.now.pdu.bytes }
     requires at_most { length adu.now.pdu.bytes ≤ 253 }
-    requires octets { octets.now ≡ spelling (adu_of adu.now) }
+    requires octets { octets.now ≡ spelling (adu_value adu.now) }
     requires counts { done.old.admitted + done.old.refused < 2 ^ 64 - 1 }
-    ensures taken { OnOk result (TakesCommand asset.now client.now moment (adu_of adu.now) (output_seen done.old) (output_seen done.new)) }
+    ensures taken { OnOk result (TakesCommand asset.now client.now moment (adu_value adu.now) (output_seen done.old) (output_seen done.new)) }
     ensures counts { OnOk result (done.new.admitted + done.new.refused ≡ done.old.admitted + done.old.refused + 1) }
 {
     match judge(asset, client.address, adu) {

@@ -1,10 +1,9 @@
 -- The moments of a file's records.
-use Rattle.std.proofs.Common.{◌≡◌, ℕ, zero, suc, ◌+◌, ◌*◌, ◌^◌, ◌<◌, ◌≤◌, max, List, [], ◌∷◌, length, drop, nat_lt, true, false, inl, inr, refl, sym, ◌∙◌, arith, add-one, slice_get, Some}
-use Rattle.std.proofs.lemmas.Bool.{cases_Bool}
+use Rattle.std.proofs.Common.{◌≡◌, ℕ, zero, suc, ◌+◌, ◌*◌, ◌^◌, ◌<◌, max, List, [], ◌∷◌, drop, refl, arith, add-one, slice_get, Some}
 use Rattle.std.proofs.lemmas.Bool.Decides.{nat_tests}
 use Rattle.cf_pcap.specs.declared.header.Header.{Header}
 use Rattle.cf_pcap.specs.Record.{Record}
-use Rattle.cf_pcap.specs.Capture.{AtPlace, FileEnd, Fits, Cut, TooLong, Clock, Large, LastPlace, AreTimed, BeginAtTwo, GoOnByTwo, NoneAfterTheLastMoment, StayBelowTheLimit, at_place, first_moment, moment_from, moment_limit, moments, moments_from, timed}
+use Rattle.cf_pcap.specs.Capture.{AtPlace, FileEnd, Fits, Cut, TooLong, Clock, Large, LastPlace, AreTimed, BeginAtTwo, GoOnByTwo, NoneAfterTheLastMoment, StayBelowTheLimit, at_place, first_moment, moment_from, moment_limit, moments_from, timed}
 
 pub begin_at_two : BeginAtTwo
 begin_at_two [] r at = cc

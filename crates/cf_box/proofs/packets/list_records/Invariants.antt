@@ -1,5 +1,5 @@
 use Rattle.std.proofs.Common.{◌-◌, ◌≤◌, length}
-use Rattle.cf_box.proofs.ListingLaws.{AreListed}
+use Rattle.cf_box.proofs.Listing.{AreListed}
 use Rattle.cf_box.proofs.packets.list_records.Given as goal
 
 abbrev pub invariant-records : goal.invariant-records

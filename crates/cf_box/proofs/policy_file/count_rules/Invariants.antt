@@ -1,5 +1,5 @@
 use Rattle.std.proofs.Common.{◌≡◌, ◌≤◌, ◌*◌, take}
-use Rattle.cf_box.specs.Policies.{rule_count}
+use Rattle.cf_box.specs.PolicyFile.{rule_count}
 use Rattle.cf_box.proofs.policy_file.count_rules.Given as goal
 
 abbrev pub invariant-loop-asset : goal.invariant-loop-asset

@@ -1,5 +1,5 @@
 use Rattle.std.proofs.Common.{◌≡◌, sym, ◌∙◌}
-use Rattle.cf_modbus.specs.Request.{request_of}
+use Rattle.cf_modbus.specs.Request.{request_value}
 use Rattle.cf_lane.specs.Fate.{of_no_form, of_its_acts}
 use Rattle.cf_lane.proofs.fate.judge.Goals as goal
 
@@ -11,4 +11,4 @@ returns-in-Err-clause-fate c =
 pub returns-in-Ok-clause-fate : goal.returns-in-Ok-clause-fate
 returns-in-Ok-clause-fate c =
     let station : c.args.adu.now.unit ≡ c.args.asset.now.station = cc in
-    of_its_acts station (request_of c.in-Ok.request) c.in-Ok.ensures.true_answer c.judge_acts.ensures.fate
+    of_its_acts station (request_value c.in-Ok.request) c.in-Ok.ensures.true_answer c.judge_acts.ensures.fate

@@ -2,8 +2,8 @@ use Rattle.std.proofs.Common.{◌≡◌, ℕ, List, [], ◌++◌, length, drop, 
 use Rattle.std.proofs.lemmas.List.{length-drop, take_rest}
 use Rattle.cf_view.specs.Framing.{Begins, IsPartial}
 use Rattle.cf_view.specs.declared.Side.TheVariants as side
-use Rattle.cf_modbus.specs.Adu.{SpellsAdu, adu_of}
-use Rattle.cf_modbus.proofs.AduLaws.{own_length}
+use Rattle.cf_modbus.specs.Adu.{SpellsAdu, adu_value}
+use Rattle.cf_modbus.proofs.Framing.{own_length}
 use Rattle.cf_lane.specs.Filtered.{output_of, output_seen}
 use Rattle.cf_lane.specs.Log.{end_line}
 use Rattle.cf_lane.proofs.FilterLaws.{same_output, nothing_so_far, one_further, at_the_end}
@@ -19,14 +19,14 @@ units-init c = record {
 
 pub units-preserved : goal.units-preserved
 units-preserved c =
-    let P : List ℕ → Type 0 = λ xs. Begins SpellsAdu xs (adu_of c.in-Unit.unit) c.in-Unit.used in
+    let P : List ℕ → Type 0 = λ xs. Begins SpellsAdu xs (adu_value c.in-Unit.unit) c.in-Unit.used in
     let begins = subst P (c.one.ensures.bytes ∙ take_rest c.args.stream.now c.units.at) c.in-Unit.ensures.true_answer in
-    let some = own_length (adu_of c.in-Unit.unit) (drop c.units.at c.args.stream.now) c.in-Unit.used begins in
+    let some = own_length (adu_value c.in-Unit.unit) (drop c.units.at c.args.stream.now) c.in-Unit.used begins in
     record {
       inside = omega (arith, begins.inside, length-drop c.units.at c.args.stream.now, c.units.invariant.inside);
       counts = omega (arith, c.in_ok-take_command-in-Unit.ensures.counts, c.units.invariant.counts, some);
       so_far = one_further c.args.asset.now c.args.client.now c.args.moment c.args.stream.now c.units.at (output_seen c.units.done) c.units.invariant.so_far
-          (adu_of c.in-Unit.unit) c.in-Unit.used _ begins c.in_ok-take_command-in-Unit.ensures.taken;
+          (adu_value c.in-Unit.unit) c.in-Unit.used _ begins c.in_ok-take_command-in-Unit.ensures.taken;
     }
 
 pub returns-in-More-clause-filtered : goal.returns-in-More-clause-filtered

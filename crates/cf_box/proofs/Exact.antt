@@ -1,0 +1,193 @@
+-- Causes that stand in the input, where it is told: no other status comes but those to which they yield.
+use Rattle.std.proofs.Common.{◌≡◌, ◌⊎◌, ℕ, List, Some, Result, Ok, Err, length, refl, sym, subst, ◌∙◌, ap, inl, inr, arith}
+use Rattle.cf_lane.specs.Filtered.{IsBrokenBy, Output}
+use Rattle.cf_modbus.proofs.Framing.{prefix_free}
+use Rattle.cf_modbus.specs.Adu.{SpellsAdu}
+use Rattle.cf_policy.specs.declared.Asset.{Asset}
+use Rattle.cf_policy.specs.declared.Policy.{Policy}
+use Rattle.cf_policylang.specs.Documents.{policy_meaning}
+use Rattle.cf_policylang.specs.declared.PolicyRefusal.{PolicyRefusal}
+use Rattle.cf_view.proofs.Units.{rest_not_break}
+use Rattle.cf_box.specs.Command.{Command, Check, Packets, Run, Relay, World, Sift, SiftNamesValue, policy_file}
+use Rattle.cf_box.specs.Ending.{stop_status}
+use Rattle.cf_box.specs.Ends.{Does, LacksAsset, Meets, PassesPolicy, RefusesPolicy}
+use Rattle.cf_box.specs.Outside.{Outside, ReadFailed, SinkValue}
+use Rattle.cf_box.specs.Packets.{ListsFile, TellsLongCapture}
+use Rattle.cf_box.specs.PolicyFile.{HasPolicy, IsRefusedBy}
+use Rattle.cf_box.specs.Sift.{FindsAsset, IsSifted, TellsUnbuiltStream}
+use Rattle.cf_box.specs.Status.{IsExact, TellsLack, TellsNoAsset, TellsNoPolicy}
+use Rattle.cf_box.specs.declared.ending.Done.{Done}
+use Rattle.cf_box.specs.declared.ending.Stop.{Stop}
+use Rattle.cf_box.specs.declared.ending.Stop.TheVariants as stop
+use Rattle.cf_box.proofs.Complete.{not_refused, same_bytes, same_policy}
+use Rattle.cf_box.proofs.Sifting.{passes}
+use Rattle.cf_box.proofs.Statuses.{Explains, IsOf, Unprinted, explained, read_failed, stop_is}
+
+-- work that was done has passed the policy: a line a command
+does_pass : (before after : Outside) (c : Command) (d : Done) → Does c before after d → PassesPolicy c before
+does_pass before after (Check policy) d m = record {
+  policy = λ file e. let same : policy ≡ file = cc in (m.policy, subst (λ f. HasPolicy (before.files.content f) m.policy) same m.has);
+  asset = λ file name e f. cc f;
+}
+does_pass before after (Packets capture) d m = record { policy = λ file e. cc e; asset = λ file name e f. cc e }
+does_pass before after (Run policy capture out log) d m = absurd m
+does_pass before after (Relay policy asset port idles log) d m = absurd m
+does_pass before after (World seed sessions policy capture out log) d m = absurd m
+does_pass before after (Sift policy name client names) d m = passes policy name client names before after m.asset m.finds
+
+module _ (failed : Type 0) (status : ℕ) (before after : Outside) where
+  -- the status that is due, or one of those to which it yields
+  abbrev Due : ℕ → Type 0
+  Due n = (status ≡ n) ⊎ (((status ≡ 3) × ReadFailed before after) ⊎ (status ≡ 13))
+
+  module _ (c : Command) (t : TellsNoPolicy c before) where
+    no_policy : (file : List ℕ) → policy_file c ≡ Some file → (p : Policy) → HasPolicy (before.files.content file) p → ⊥
+    no_policy file e p has =
+        let needs = t.needs in
+        let here : file ≡ t.file = cc in
+        let there : HasPolicy (before.files.content t.file) p = subst (λ f. HasPolicy (before.files.content f) p) here has in
+        let same : there.bytes ≡ t.bytes = same_bytes (before.files.content t.file) t.bytes there.bytes t.told there.whole in
+        let means : policy_meaning t.bytes ≡ Ok p = ap policy_meaning (sym same) ∙ there.means in
+        let refuses = t.means in
+        cc
+
+    not_passed : PassesPolicy c before → ⊥
+    not_passed passed = let p = passed.policy t.file t.needs in no_policy t.file t.needs p.0 p.1
+
+    refused_from : (r : Result Done Stop) → Meets c before after r → IsOf r failed status → Due 5
+    refused_from (Ok d) meets h = absurd (not_passed (does_pass before after c d meets))
+    refused_from (Err stop.ReadFault) meets h = inr (inl (stop_is failed status stop.ReadFault h, meets.0))
+    refused_from (Err stop.NoMemory) meets h = inr (inr (stop_is failed status stop.NoMemory h))
+    refused_from (Err (stop.PolicyRefused r)) meets h = inl (stop_is failed status (stop.PolicyRefused r) h)
+    refused_from (Err stop.UnknownAsset) meets h = let cause : LacksAsset c before = meets.0 in absurd (no_policy cause.0 cause.2 cause.4.0 cause.4.1)
+    refused_from (Err stop.WriteFault) meets h = absurd (not_passed meets.0.1)
+    refused_from (Err (stop.CaptureRefused r)) meets h = absurd (not_passed meets.0.1)
+    refused_from (Err (stop.CaptureCut place)) meets h = absurd (not_passed meets.0.1)
+    refused_from (Err stop.Unbuilt) meets h = absurd (not_passed meets.0.1)
+
+  module _ (c : Command) (t : TellsNoAsset c before) where
+    not_found : PassesPolicy c before → ⊥
+    not_found passed =
+        let found = passed.asset t.file t.name t.needs t.asks in
+        let same : found.0 ≡ t.meaning = same_policy (before.files.content t.file) t.bytes t.meaning found.0 t.told t.means found.1 in
+        let none = t.lacks in
+        let some = found.2.1 in
+        cc
+
+    known_policy : (r : PolicyRefusal) → RefusesPolicy c before r → ⊥
+    known_policy r cause =
+        let needs = t.needs in
+        let e = cause.1 in
+        let here : cause.0 ≡ t.file = cc in
+        not_refused (before.files.content t.file) t.bytes t.meaning r t.told t.means
+        (subst (λ f. IsRefusedBy (before.files.content f) r) here cause.2)
+
+    unknown_from : (r : Result Done Stop) → Meets c before after r → IsOf r failed status → Due 10
+    unknown_from (Ok d) meets h = absurd (not_found (does_pass before after c d meets))
+    unknown_from (Err stop.ReadFault) meets h = inr (inl (stop_is failed status stop.ReadFault h, meets.0))
+    unknown_from (Err stop.NoMemory) meets h = inr (inr (stop_is failed status stop.NoMemory h))
+    unknown_from (Err (stop.PolicyRefused r)) meets h = absurd (known_policy r meets.0)
+    unknown_from (Err stop.UnknownAsset) meets h = inl (stop_is failed status stop.UnknownAsset h)
+    unknown_from (Err stop.WriteFault) meets h = absurd (not_found meets.0.1)
+    unknown_from (Err (stop.CaptureRefused r)) meets h = absurd (not_found meets.0.1)
+    unknown_from (Err (stop.CaptureCut place)) meets h = absurd (not_found meets.0.1)
+    unknown_from (Err stop.Unbuilt) meets h = absurd (not_found meets.0.1)
+
+  module _ (capture : List ℕ) (t : TellsLongCapture capture before) where
+    not_listed : (old new : SinkValue) (r : Result Done Stop) → ListsFile (before.files.content capture) old new r → ⊥
+    not_listed old new r l =
+        let same : l.capture ≡ t.0 = same_bytes (before.files.content capture) t.0 l.capture t.1 l.whole in
+        omega (arith, ap length same, l.short, t.2)
+
+    long_from : (r : Result Done Stop) → Meets (Packets capture) before after r → IsOf r failed status → Due 14
+    long_from (Ok d) meets h = absurd (not_listed before.sink after.sink (Ok d) meets.lists)
+    long_from (Err stop.ReadFault) meets h = inr (inl (stop_is failed status stop.ReadFault h, meets.0))
+    long_from (Err stop.NoMemory) meets h = inr (inr (stop_is failed status stop.NoMemory h))
+    long_from (Err (stop.PolicyRefused r)) meets h = cc (meets.0.1)
+    long_from (Err stop.UnknownAsset) meets h = cc (meets.0.2)
+    long_from (Err stop.WriteFault) meets h = absurd (not_listed before.sink after.sink (Err stop.WriteFault) meets.1.lines)
+    long_from (Err (stop.CaptureRefused r)) meets h = absurd (not_listed before.sink after.sink (Err (stop.CaptureRefused r)) meets.1.lines)
+    long_from (Err (stop.CaptureCut place)) meets h = absurd (not_listed before.sink after.sink (Err (stop.CaptureCut place)) meets.1.lines)
+    long_from (Err stop.Unbuilt) meets h = inl (stop_is failed status stop.Unbuilt h)
+
+  module _ (file name : List ℕ) (client : ℕ) (names : SiftNamesValue) (t : TellsUnbuiltStream file name names before) where
+    same_asset : (a : Asset) → FindsAsset (before.files.content file) name a → a ≡ t.asset
+    same_asset a finds =
+        let same : finds.policy ≡ t.policy = same_policy (before.files.content file) t.bytes t.policy finds.policy t.told t.means finds.has in
+        let found = finds.named in
+        let named = t.named in
+        cc
+
+    not_sifted : (a : Asset) (output : Output) → FindsAsset (before.files.content file) name a → IsSifted a client
+        (before.files.content names.stream) output → ⊥
+    not_sifted a output finds sifted = elim t.lacks [
+      | inl other ↦ other (ap (λ x. x.protocol) (sym (same_asset a finds)) ∙ sifted.modbus)
+      | inr stream ↦
+          let same : sifted.stream ≡ stream.0 = same_bytes (before.files.content names.stream) stream.0 sifted.stream stream.1 sifted.whole in
+          elim stream.2 [
+            | inl long ↦ omega (arith, ap length same, sifted.short, long)
+            | inr broken ↦
+                let breaks : IsBrokenBy sifted.stream broken.0 = subst (λ s. IsBrokenBy s broken.0) (sym same) broken.1 in
+                rest_not_break SpellsAdu prefix_free sifted.filtered.is_judged.units breaks.units sifted.stream sifted.filtered.is_judged.rest
+                breaks.place
+                sifted.filtered.is_judged.cut breaks.broken
+          ]
+    ]
+
+    unfiltered_from : (r : Result Done Stop) → Meets (Sift file name client names) before after r → IsOf r failed status → Due 14
+    unfiltered_from (Ok d) meets h = absurd (not_sifted meets.asset meets.output meets.finds meets.sifted)
+    unfiltered_from (Err stop.ReadFault) meets h = inr (inl (stop_is failed status stop.ReadFault h, meets.0))
+    unfiltered_from (Err stop.NoMemory) meets h = inr (inr (stop_is failed status stop.NoMemory h))
+    unfiltered_from (Err (stop.PolicyRefused r)) meets h =
+        let cause : RefusesPolicy (Sift file name client names) before r = meets.0 in
+        let e = cause.1 in
+        let here : cause.0 ≡ file = cc in
+        absurd (not_refused (before.files.content file) t.bytes t.policy r t.told t.means
+        (subst (λ f. IsRefusedBy (before.files.content f) r) here cause.2))
+    unfiltered_from (Err stop.UnknownAsset) meets h =
+        let cause : LacksAsset (Sift file name client names) before = meets.0 in
+        let e = cause.2 in
+        let f = cause.3 in
+        let here : cause.0 ≡ file = cc in
+        let called : cause.1 ≡ name = cc in
+        let has : HasPolicy (before.files.content file) cause.4.0 = subst (λ x. HasPolicy (before.files.content x) cause.4.0) here cause.4.1 in
+        let same : cause.4.0 ≡ t.policy = same_policy (before.files.content file) t.bytes t.policy cause.4.0 t.told t.means has in
+        let none = cause.4.2 in
+        let named = t.named in
+        cc
+    unfiltered_from (Err stop.WriteFault) meets h = elim meets.1 [
+      | inl l ↦ absurd (l.0 refl)
+      | inr l ↦ absurd (not_sifted l.1.asset l.1.output l.1.finds l.1.sifted)
+    ]
+    unfiltered_from (Err (stop.CaptureRefused r)) meets h = cc (meets.0.0.1)
+    unfiltered_from (Err (stop.CaptureCut place)) meets h = cc (meets.0.0.1)
+    unfiltered_from (Err stop.Unbuilt) meets h = inl (stop_is failed status stop.Unbuilt h)
+
+  -- a part that is not built: a line a command
+  unbuilt_from : (c : Command) → TellsLack c before → (r : Result Done Stop) → Meets c before after r → IsOf r failed status → Due 14
+  unbuilt_from (Check policy) t r meets h = absurd t
+  unbuilt_from (Packets capture) t r meets h = long_from capture t r meets h
+  unbuilt_from (Run policy capture out log) t (Ok d) meets h = absurd meets
+  unbuilt_from (Run policy capture out log) t (Err s) meets h = inl (stop_is failed status s h ∙ ap stop_status meets.1.0)
+  unbuilt_from (Relay policy asset port idles log) t (Ok d) meets h = absurd meets
+  unbuilt_from (Relay policy asset port idles log) t (Err s) meets h = inl (stop_is failed status s h ∙ ap stop_status meets.1.0)
+  unbuilt_from (World seed sessions policy capture out log) t (Ok d) meets h = absurd meets
+  unbuilt_from (World seed sessions policy capture out log) t (Err s) meets h = inl (stop_is failed status s h ∙ ap stop_status meets.1.0)
+  unbuilt_from (Sift policy asset client names) t r meets h = unfiltered_from policy asset client names t r meets h
+
+-- what is due at the answer is due at the end
+later : (status n : ℕ) (before middle after : Outside) → (ReadFailed before middle → ReadFailed before after) → Due ⊥ status before middle n →
+    Due ⊥ status before after n
+later status n before middle after rise (inl h) = inl h
+later status n before middle after rise (inr (inl h)) = inr (inl (h.0, rise h.1))
+later status n before middle after rise (inr (inr h)) = inr (inr h)
+
+pub exact_told : {c : Command} {before after : Outside} {status : ℕ} (e : Explains c before after status) → IsExact c before after status
+exact_told {c = c} {before = before} {after = after} {status = status} e = record {
+  refused = λ t. later status 5 before e.middle after (read_failed e)
+      (refused_from (Unprinted e) status before e.middle c t e.r e.meets (explained e));
+  unknown = λ t. later status 10 before e.middle after (read_failed e)
+      (unknown_from (Unprinted e) status before e.middle c t e.r e.meets (explained e));
+  unbuilt = λ t. later status 14 before e.middle after (read_failed e)
+      (unbuilt_from (Unprinted e) status before e.middle c t e.r e.meets (explained e));
+}

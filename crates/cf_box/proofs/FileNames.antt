@@ -1,0 +1,53 @@
+-- Names of files that are not empty and differ.
+use Rattle.std.proofs.Common.{◌≡◌, ◌≢◌, ℕ, Bool, true, false, ◌&&◌, List, [], ◌∷◌, map, refl, sym, ap, ◌∙◌, arith, Bor, length, ◌==◌, not}
+use Rattle.std.specs.Prelude.{bytes_eq}
+use Rattle.std.specs.List.{list_any}
+use Rattle.std.proofs.lemmas.Bool.{and_parts, or_parts, not-true, both_ways}
+use Rattle.std.proofs.lemmas.Slice.Eq.{bytes_eq-Decides}
+use Rattle.cf_box.specs.Names.{are_names}
+use Rattle.cf_box.specs.Sift.{AreApart}
+
+-- a test of each image is a test of each element
+pub list_any_of_map : {X Y : Type 0} (p : Y → Bool) (f : X → Y) (xs : List X) → list_any p (map f xs) ≡ list_any (λ x. p (f x)) xs
+list_any_of_map p f [] = refl
+list_any_of_map p f (x ∷ xs) = grind (arith, list_any_of_map p f xs)
+
+-- a name that is not empty and not among the others leaves the question to the others
+pub names_step : (names rest : List (Bor (List ℕ))) (name : Bor (List ℕ)) → names ≡ name ∷ rest → false ≡ (length name.now == 0) →
+    false ≡ list_any (λ n. bytes_eq name.now n.now) rest → are_names (map (λ n. n.now) rest) ≡ are_names (map (λ n. n.now) names)
+names_step names rest name is some other =
+    let among : list_any (λ o. bytes_eq name.now o) (map (λ n. n.now) rest) ≡ false = list_any_of_map (λ o. bytes_eq name.now o) (λ n. n.now)
+    rest ∙ sym other in
+    let tests : are_names (map (λ n. n.now) rest) ≡ are_names (map (λ n. n.now) (name ∷ rest)) = rw (← some, among) refl in
+    tests ∙ ap (λ ns. are_names (map (λ n. n.now) ns)) (sym is)
+
+-- the names behind the first are names
+rest : (name : List ℕ) (others : List (List ℕ)) → are_names (name ∷ others) ≡ true → are_names others ≡ true
+rest name others named =
+    (and_parts (not (list_any (λ o. bytes_eq name o) others)) (are_names others)
+    (and_parts (not (length name == 0)) (not (list_any (λ o. bytes_eq name o) others) && are_names others) named).1).1
+
+-- two names of which one is not among others that have the other
+apart : (name : List ℕ) (others : List (List ℕ)) (other : List ℕ) → are_names (name ∷ others) ≡ true →
+    (list_any (λ o. bytes_eq name o) others ≡ false → bytes_eq name other ≡ false) → name ≢ other
+apart name others other named among same =
+    let parts = and_parts (not (length name == 0)) (not (list_any (λ o. bytes_eq name o) others) && are_names others) named in
+    let none = and_parts (not (list_any (λ o. bytes_eq name o) others)) (are_names others) parts.1 in
+    let differ : bytes_eq name other ≡ false = among (not-true _ none.0) in
+    both_ways (bytes_eq name other) differ ((bytes_eq-Decides name other).1 same)
+
+-- the last four of five names
+pub apart_from_names : (policy stream out replies log : List ℕ) → are_names (policy ∷ stream ∷ out ∷ replies ∷ log ∷ []) ≡ true →
+    AreApart (record { stream = stream; out = out; replies = replies; log = log })
+apart_from_names policy stream out replies log named =
+    let four = rest policy (stream ∷ out ∷ replies ∷ log ∷ []) named in
+    let three = rest stream (out ∷ replies ∷ log ∷ []) four in
+    let two = rest out (replies ∷ log ∷ []) three in
+    record {
+      stream_out = apart stream (out ∷ replies ∷ log ∷ []) out four (λ none. (or_parts _ _ none).0);
+      stream_replies = apart stream (out ∷ replies ∷ log ∷ []) replies four (λ none. (or_parts _ _ (or_parts _ _ none).1).0);
+      stream_log = apart stream (out ∷ replies ∷ log ∷ []) log four (λ none. (or_parts _ _ (or_parts _ _ (or_parts _ _ none).1).1).0);
+      out_replies = apart out (replies ∷ log ∷ []) replies three (λ none. (or_parts _ _ none).0);
+      out_log = apart out (replies ∷ log ∷ []) log three (λ none. (or_parts _ _ (or_parts _ _ none).1).0);
+      replies_log = apart replies (log ∷ []) log two (λ none. (or_parts _ _ none).0);
+    }

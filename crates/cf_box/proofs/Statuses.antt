@@ -1,0 +1,206 @@
+-- What a status tells, from the answer that explains it.
+use Rattle.std.proofs.Common.{◌≡◌, ◌≢◌, ◌⊎◌, ℕ, List, Option, None, Some, Result, Ok, Err, sym, subst, ◌≤◌, ◌∙◌, ap, inl, inr, arith}
+use Rattle.cf_lane.proofs.FilterLaws.{passes_what_is_allowed}
+use Rattle.cf_outside.specs.Faults.{Rose}
+use Rattle.cf_pcap.specs.Header.{header_of}
+use Rattle.cf_pcap.specs.declared.Header.{Header}
+use Rattle.cf_pcap.specs.declared.HeaderRefusal.{HeaderRefusal}
+use Rattle.cf_policylang.specs.declared.PolicyRefusal.{PolicyRefusal}
+use Rattle.cf_box.specs.Command.{Command, Check, Packets, Run, Relay, World, Sift, SiftNamesValue}
+use Rattle.cf_box.specs.Ending.{Prints, Reports, end_text, status_of, stop_status, unprinted_status}
+use Rattle.cf_box.specs.Ends.{CutsCapture, LacksAsset, Leaves, Meets, RefusesCapture, RefusesPolicy}
+use Rattle.cf_box.specs.Outside.{Outside, ReadFailed, SinkValue, WriteFailed}
+use Rattle.cf_box.specs.Packets.{Lists, ListsBehind, ListsFile}
+use Rattle.cf_box.specs.Sift.{stored_client}
+use Rattle.cf_box.specs.Status.{IsStatus, SiftPassesAllowed}
+use Rattle.cf_box.specs.declared.ending.CaptureRefusal.{CaptureRefusal}
+use Rattle.cf_box.specs.declared.ending.Done.{Done}
+use Rattle.cf_box.specs.declared.ending.Done.TheVariants as done
+use Rattle.cf_box.specs.declared.ending.Stop.{Stop}
+use Rattle.cf_box.specs.declared.ending.Stop.TheVariants as stop
+
+-- the status is that of an ending, printed or not
+abbrev pub IsOf : Result Done Stop → (failed : Type 0) → ℕ → Type 0
+IsOf r failed status = (status ≡ status_of r) ⊎ ((status ≡ unprinted_status r) × failed)
+
+printed : (text : Option (List ℕ)) (put unprinted : ℕ) (before after : SinkValue) (status : ℕ) → Prints text put unprinted before after status →
+    (status ≡ put) ⊎ ((status ≡ unprinted) × Rose before.faults after.faults)
+printed None put unprinted before after status h = inl h.0
+printed (Some text) put unprinted before after status (inl h) = inl h.0
+printed (Some text) put unprinted before after status (inr h) = inr (h.0, h.1)
+
+-- the answer of a command explains a status: it was the answer between the two moments, and then it was reported
+pub record Explains (c : Command) (before after : Outside) (status : ℕ) : Type 0 where
+  pub r : Result Done Stop
+  pub middle : Outside
+  pub meets : Meets c before middle r
+  pub reports : Reports r middle after status
+  pub early : before.sink.faults ≤ middle.sink.faults
+  pub late : middle.sink.faults ≤ after.sink.faults
+
+module _ (failed : Type 0) (status : ℕ) where
+  pub stop_is : (s : Stop) → IsOf (Err s) failed status → status ≡ stop_status s
+  stop_is s (inl h) = h
+  stop_is s (inr h) = h.0
+
+  is_one : (r : Result Done Stop) → IsOf r failed status → IsStatus status
+  is_one (Ok d) (inl h) = inl h
+  is_one (Ok d) (inr h) = inr (inr (inr (inl h.0)))
+  is_one (Err stop.ReadFault) h = inr (inr (inl (stop_is stop.ReadFault h)))
+  is_one (Err stop.WriteFault) h = inr (inr (inr (inl (stop_is stop.WriteFault h))))
+  is_one (Err (stop.PolicyRefused r)) h = inr (inr (inr (inr (inl (stop_is (stop.PolicyRefused r) h)))))
+  is_one (Err (stop.CaptureRefused r)) h = inr (inr (inr (inr (inr (inl (stop_is (stop.CaptureRefused r) h))))))
+  is_one (Err (stop.CaptureCut place)) h = inr (inr (inr (inr (inr (inr (inl (stop_is (stop.CaptureCut place) h)))))))
+  is_one (Err stop.UnknownAsset) h = inr (inr (inr (inr (inr (inr (inr (inl (stop_is stop.UnknownAsset h))))))))
+  is_one (Err stop.NoMemory) h = inr (inr (inr (inr (inr (inr (inr (inr (inl (stop_is stop.NoMemory h)))))))))
+  is_one (Err stop.Unbuilt) h = inr (inr (inr (inr (inr (inr (inr (inr (inr (stop_is stop.Unbuilt h)))))))))
+
+  -- another ending's status is another
+  other : (r : Result Done Stop) (n : ℕ) → IsOf r failed status → status ≡ n → status_of r ≢ n → unprinted_status r ≢ n → ⊥
+  other r n (inl h) is printed unprinted = printed (sym h ∙ is)
+  other r n (inr h) is printed unprinted = unprinted (sym h.0 ∙ is)
+
+  not_two : (r : Result Done Stop) → IsOf r failed status → status ≢ 2
+  not_two (Err stop.ReadFault) h is = other (Err stop.ReadFault) 2 h is (omega arith) (omega arith)
+  not_two r h is = other r 2 h is (omega arith) (omega arith)
+
+  -- work that stopped was not done
+  not_done : (s : Stop) → IsOf (Err s) failed status → status ≢ 0
+  not_done stop.ReadFault h is = other (Err stop.ReadFault) 0 h is (omega arith) (omega arith)
+  not_done s h is = other (Err s) 0 h is (omega arith) (omega arith)
+
+  module _ (c : Command) (before middle : Outside) where
+    read_from : (r : Result Done Stop) → Meets c before middle r → IsOf r failed status → status ≡ 3 → ReadFailed before middle
+    read_from (Err stop.ReadFault) meets h is = meets.0
+    read_from r meets h is = absurd (other r 3 h is (omega arith) (omega arith))
+
+    write_from : (r : Result Done Stop) → Meets c before middle r → IsOf r failed status → status ≡ 4 → WriteFailed before middle ⊎ failed
+    write_from (Err stop.WriteFault) meets h is = inl meets.0.0
+    write_from (Ok d) meets (inl h) is = absurd (omega arith)
+    write_from (Ok d) meets (inr h) is = inr h.1
+    write_from r meets h is = absurd (other r 4 h is (omega arith) (omega arith))
+
+    refusal_from : (r : Result Done Stop) → Meets c before middle r → IsOf r failed status → status ≡ 5 → (p : PolicyRefusal) × RefusesPolicy c
+        before p
+    refusal_from (Err (stop.PolicyRefused p)) meets h is = (p, meets.0)
+    refusal_from r meets h is = absurd (other r 5 h is (omega arith) (omega arith))
+
+    capture_from : (r : Result Done Stop) → Meets c before middle r → IsOf r failed status → status ≡ 6 → (p : CaptureRefusal) × RefusesCapture c
+        before p
+    capture_from (Err (stop.CaptureRefused p)) meets h is = (p, meets.0.0)
+    capture_from r meets h is = absurd (other r 6 h is (omega arith) (omega arith))
+
+    cut_from : (r : Result Done Stop) → Meets c before middle r → IsOf r failed status → status ≡ 7 → (place : ℕ) × CutsCapture c before place
+    cut_from (Err (stop.CaptureCut place)) meets h is = (place, meets.0.0)
+    cut_from r meets h is = absurd (other r 7 h is (omega arith) (omega arith))
+
+    lack_from : (r : Result Done Stop) → Meets c before middle r → IsOf r failed status → status ≡ 10 → LacksAsset c before
+    lack_from (Err stop.UnknownAsset) meets h is = meets.0
+    lack_from r meets h is = absurd (other r 10 h is (omega arith) (omega arith))
+
+    -- a stop that is no write fault leaves the files as they were: a line a command
+    kept : (k : Command) (s : Stop) → s ≢ stop.WriteFault → Leaves k before middle s → middle.files.content ≡ before.files.content
+    kept (Check policy) s some l = l.same.content
+    kept (Packets file) s some l = l.content
+    kept (Run policy capture out log) s some l = ap (λ o. o.files.content) l.1
+    kept (Relay policy asset port idles log) s some l = ap (λ o. o.files.content) l.1
+    kept (World seed sessions policy capture out log) s some l = ap (λ o. o.files.content) l.1
+    kept (Sift policy asset client names) s some (inl l) = l.1.content
+    kept (Sift policy asset client names) s some (inr l) = absurd (some l.0)
+
+    kept_from : (r : Result Done Stop) → Meets c before middle r → IsOf r failed status → status ≢ 0 → status ≢ 4 → middle.files.content ≡
+        before.files.content
+    kept_from (Ok d) meets (inl h) some written = absurd (some h)
+    kept_from (Ok d) meets (inr h) some written = absurd (written h.0)
+    kept_from (Err s) meets h some written = kept c s (λ e. written (stop_is s h ∙ ap stop_status e)) meets.1
+
+  -- what was filtered is what the policy allows
+  passes_from : (before middle after : Outside) (policy name : List ℕ) (client : ℕ) (names : SiftNamesValue) → after.files ≡ middle.files →
+      (r : Result Done Stop) → Meets (Sift policy name client names) before middle r → IsOf r failed status → status ≡ 0 →
+      SiftPassesAllowed policy name client names before after
+  passes_from before middle after policy name client names same (Ok d) m h is = record {
+    asset = m.asset;
+    finds = m.finds;
+    bytes = m.sifted.stream;
+    whole = m.sifted.whole;
+    passed = m.output.to_controller;
+    passes = passes_what_is_allowed m.asset (stored_client client) 0 m.sifted.stream m.output m.sifted.filtered;
+    output = ap (λ f. f.content names.out) same ∙ m.outputs.0;
+  }
+  passes_from before middle after policy name client names same (Err s) m h is = absurd (not_done s h is)
+
+  -- a listing answers so alone
+  listed : (d : Done) (r : Result Header HeaderRefusal) (capture : List ℕ) (old new : Option (List ℕ)) (put_failed : Type 0) →
+      ListsBehind r capture old new put_failed (Ok d) → d ≡ done.Listed
+  listed d (Ok h) capture old new put_failed l = l.answers.0
+  listed d (Err r) capture old new put_failed l = cc (l.0)
+
+  -- each record of a capture has its line, and nothing else was told
+  lists_from : (before middle after : Outside) (file : List ℕ) (r : Result Done Stop) → Meets (Packets file) before middle r → Reports r middle
+      after status →
+      IsOf r failed status → status ≡ 0 → Lists file before after done.Listed
+  lists_from before middle after file (Ok done.Listed) m reports h is = record {
+    lists = subst (λ s. ListsFile (before.files.content file) before.sink s (Ok done.Listed)) (sym reports.prints.1) m.lists;
+    content = ap (λ f. f.content) reports.files ∙ m.content;
+    pair = reports.pair ∙ m.pair;
+  }
+  lists_from before middle after file (Ok (done.Sifted admitted refused)) m reports h is =
+      cc (listed (done.Sifted admitted refused) (header_of m.lists.capture) m.lists.capture _ _ _ m.lists.lists)
+  lists_from before middle after file (Ok (done.Checked assets rules)) m reports h is =
+      cc (listed (done.Checked assets rules) (header_of m.lists.capture) m.lists.capture _ _ _ m.lists.lists)
+  lists_from before middle after file (Err s) m reports h is = absurd (not_done s h is)
+
+module _ {c : Command} {before after : Outside} {status : ℕ} (e : Explains c before after status) where
+  -- the last put failed
+  abbrev pub Unprinted : Type 0
+  Unprinted = Rose e.middle.sink.faults after.sink.faults
+
+  pub explained : IsOf e.r Unprinted status
+  explained = printed (end_text e.r) (status_of e.r) (unprinted_status e.r) e.middle.sink after.sink status e.reports.prints
+
+  -- a write that failed in either part failed
+  pub write_failed : WriteFailed before e.middle ⊎ Unprinted → WriteFailed before after
+  write_failed (inl (inl rose)) = inl (subst (λ f. Rose before.files.write_faults f.write_faults) (sym e.reports.files) rose)
+  write_failed (inl (inr rose)) = let late = e.late in inr (omega arith)
+  write_failed (inr rose) = let early = e.early in inr (omega arith)
+
+  pub read_failed : ReadFailed before e.middle → ReadFailed before after
+  read_failed rose = subst (λ f. Rose before.files.read_faults f.read_faults) (sym e.reports.files) rose
+
+  pub status_told : IsStatus status
+  status_told = is_one Unprinted status e.r explained
+
+  pub no_usage : status ≢ 2
+  no_usage = not_two Unprinted status e.r explained
+
+  pub read_told : status ≡ 3 → ReadFailed before after
+  read_told is = read_failed (read_from Unprinted status c before e.middle e.r e.meets explained is)
+
+  pub write_told : status ≡ 4 → WriteFailed before after
+  write_told is = write_failed (write_from Unprinted status c before e.middle e.r e.meets explained is)
+
+  pub refusal_told : status ≡ 5 → (p : PolicyRefusal) × RefusesPolicy c before p
+  refusal_told = refusal_from Unprinted status c before e.middle e.r e.meets explained
+
+  pub capture_told : status ≡ 6 → (p : CaptureRefusal) × RefusesCapture c before p
+  capture_told = capture_from Unprinted status c before e.middle e.r e.meets explained
+
+  pub cut_told : status ≡ 7 → (place : ℕ) × CutsCapture c before place
+  cut_told = cut_from Unprinted status c before e.middle e.r e.meets explained
+
+  pub lack_told : status ≡ 10 → LacksAsset c before
+  lack_told = lack_from Unprinted status c before e.middle e.r e.meets explained
+
+  pub kept_told : status ≢ 0 → status ≢ 4 → after.files.content ≡ before.files.content
+  kept_told some written =
+      ap (λ f. f.content) e.reports.files ∙ kept_from Unprinted status c before e.middle e.r e.meets explained some written
+
+  pub passes_told : (policy name : List ℕ) (client : ℕ) (names : SiftNamesValue) → c ≡ Sift policy name client names → status ≡ 0 →
+      SiftPassesAllowed policy name client names before after
+  passes_told policy name client names is =
+      passes_from Unprinted status before e.middle after policy name client names e.reports.files e.r
+      (subst (λ k. Meets k before e.middle e.r) is e.meets) explained
+
+  pub lists_told : (file : List ℕ) → c ≡ Packets file → status ≡ 0 → Lists file before after done.Listed
+  lists_told file is =
+      lists_from Unprinted status before e.middle after file e.r (subst (λ k. Meets k before e.middle e.r) is e.meets) e.reports explained

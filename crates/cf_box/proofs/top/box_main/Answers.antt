@@ -1,0 +1,80 @@
+use Rattle.std.proofs.Common.{◌≡◌, refl, subst}
+use Rattle.cf_box.specs.Command.{Command}
+use Rattle.cf_box.specs.Ends.{Ends}
+use Rattle.cf_box.specs.Outside.{Outside, outside_value, pair_value}
+use Rattle.cf_box.specs.Status.{CutsItsCapture, LacksItsAsset, RefusesItsCapture, RefusesItsPolicy}
+use Rattle.cf_box.specs.Words.{command_value}
+use Rattle.cf_box.proofs.Complete.{complete_told}
+use Rattle.cf_box.proofs.Exact.{exact_told}
+use Rattle.cf_box.proofs.Statuses.{Explains, capture_told, cut_told, kept_told, lack_told, lists_told, passes_told, read_told, refusal_told, write_told}
+use Rattle.cf_box.proofs.top.box_main.Given.{Over}
+use Rattle.cf_box.proofs.top.box_main.Goals as goal
+
+module _ (g : Over) (c : goal.After-report g) where
+  abbrev before : Outside
+  before = outside_value g.F.Files g.O.Sink g.P.Pair c.args.files.now c.args.out.now c.args.pair.now
+
+  abbrev middle : Outside
+  middle = outside_value g.F.Files g.O.Sink g.P.Pair c.perform-ended.new.files c.perform-ended.new.out c.args.pair.now
+
+  abbrev after : Outside
+  after = outside_value g.F.Files g.O.Sink g.P.Pair c.perform-ended.new.files c.report.new.out c.args.pair.now
+
+  abbrev command : Command
+  command = command_value c.in-Some.command
+
+  -- the answer of the command explains the status
+  explains : Explains command before after c.report.result
+  explains = record {
+    r = c.perform-ended.result;
+    middle = middle;
+    meets = c.perform-ended.ensures.meets (pair_value g.P.Pair c.args.pair.now);
+    reports = record { prints = c.report.ensures.prints; files = refl; pair = refl };
+    early = c.perform-ended.ensures.puts;
+    late = c.report.ensures.later;
+  }
+
+pub returns-in-Some-clause-ends : goal.returns-in-Some-clause-ends
+returns-in-Some-clause-ends g c =
+    let e : Explains (command g c) (before g c) (after g c) c.report.result = explains g c in
+    subst (λ words. Ends words (before g c) (after g c) c.report.result) c.in-Some.ensures.command (e.r, e.middle, e.meets, e.reports)
+
+pub returns-in-Some-clause-read : goal.returns-in-Some-clause-read
+returns-in-Some-clause-read g c = read_told (explains g c)
+
+pub returns-in-Some-clause-write : goal.returns-in-Some-clause-write
+returns-in-Some-clause-write g c = write_told (explains g c)
+
+pub returns-in-Some-clause-refused : goal.returns-in-Some-clause-refused
+returns-in-Some-clause-refused g c = λ is. subst (λ words. RefusesItsPolicy words (before g c)) c.in-Some.ensures.command
+    (refusal_told (explains g c) is)
+
+pub returns-in-Some-clause-capture : goal.returns-in-Some-clause-capture
+returns-in-Some-clause-capture g c = λ is. subst (λ words. RefusesItsCapture words (before g c)) c.in-Some.ensures.command
+    (capture_told (explains g c) is)
+
+pub returns-in-Some-clause-cut : goal.returns-in-Some-clause-cut
+returns-in-Some-clause-cut g c = λ is. subst (λ words. CutsItsCapture words (before g c)) c.in-Some.ensures.command (cut_told (explains g c) is)
+
+pub returns-in-Some-clause-unknown : goal.returns-in-Some-clause-unknown
+returns-in-Some-clause-unknown g c = λ is. subst (λ words. LacksItsAsset words (before g c)) c.in-Some.ensures.command (lack_told (explains g c) is)
+
+pub returns-in-Some-clause-exact : goal.returns-in-Some-clause-exact
+returns-in-Some-clause-exact g c = λ form is.
+    let same : command g c ≡ form = let known = c.in-Some.ensures.command in cc in
+    exact_told (subst (λ k. Explains k (before g c) (after g c) c.report.result) same (explains g c))
+
+pub returns-in-Some-clause-complete : goal.returns-in-Some-clause-complete
+returns-in-Some-clause-complete g c = λ form is input fails.
+    let same : command g c ≡ form = let known = c.in-Some.ensures.command in cc in
+    complete_told (subst (λ k. Explains k (before g c) (after g c) c.report.result) same (explains g c)) input fails
+
+pub returns-in-Some-clause-lists : goal.returns-in-Some-clause-lists
+returns-in-Some-clause-lists g c = λ capture is. lists_told (explains g c) capture (let known = c.in-Some.ensures.command in cc)
+
+pub returns-in-Some-clause-passes : goal.returns-in-Some-clause-passes
+returns-in-Some-clause-passes g c = λ policy name client names is. passes_told (explains g c) policy name client names
+    (let known = c.in-Some.ensures.command in cc)
+
+pub returns-in-Some-clause-kept : goal.returns-in-Some-clause-kept
+returns-in-Some-clause-kept g c = kept_told (explains g c)

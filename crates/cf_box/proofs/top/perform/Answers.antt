@@ -1,0 +1,11 @@
+use Rattle.cf_box.specs.Outside.{sink_value}
+use Rattle.cf_box.proofs.top.perform.Goals as goal
+
+pub returns-in-Check-clause-meets : goal.returns-in-Check-clause-meets
+returns-in-Check-clause-meets g c = λ pair. rw c.in-Check.is (c.check.ensures.meets (sink_value g.O.Sink c.args.out.now) pair)
+
+pub returns-in-Packets-clause-meets : goal.returns-in-Packets-clause-meets
+returns-in-Packets-clause-meets g c = λ pair. rw c.in-Packets.is (c.packets.ensures.meets pair)
+
+pub returns-in-Sift-clause-meets : goal.returns-in-Sift-clause-meets
+returns-in-Sift-clause-meets g c = λ pair. rw c.in-Sift.is (c.sift.ensures.meets (sink_value g.O.Sink c.args.out.now) pair)

@@ -1,0 +1,33 @@
+-- `check POLICY`: a policy is read, and its assets and rules are counted.
+use Rattle.std.specs.Prelude.{◌≡◌, ◌≢◌, ℕ, List, [], ◌∷◌, Option, None, Some, length, if◌then◌else◌}
+use Rattle.cf_policy.specs.declared.Policy.{Policy}
+use Rattle.cf_box.specs.Command.{Command, Check}
+use Rattle.cf_box.specs.Names.{are_names}
+use Rattle.cf_box.specs.Outside.{Outside}
+use Rattle.cf_box.specs.PolicyFile.{HasPolicy, rule_count}
+use Rattle.cf_box.specs.declared.ending.Done.{Done}
+use Rattle.cf_box.specs.declared.ending.Done.TheVariants as done
+use Rattle.cf_box.specs.declared.ending.Stop.{Stop}
+use Rattle.cf_box.specs.declared.ending.Stop.TheVariants as stop
+
+abbrev pub check_of : List (List ℕ) → Option Command
+check_of (policy ∷ []) = if are_names (policy ∷ []) then Some (Check policy) else None
+check_of _ = None
+
+-- nothing but counts of failed reads changed
+pub record ChangesNothing (before after : Outside) : Type 0 where
+  pub content : after.files.content ≡ before.files.content
+  pub sink : after.sink ≡ before.sink
+  pub pair : after.pair ≡ before.pair
+
+-- the numbers of assets and of all rules were counted
+pub record Checks (file : List ℕ) (before after : Outside) (d : Done) : Type 0 where
+  pub policy : Policy
+  pub has : HasPolicy (before.files.content file) policy
+  pub counts : d ≡ done.Checked (length policy.assets) (rule_count policy.assets)
+  pub same : ChangesNothing before after
+
+-- whatever stops it
+pub record CheckLeaves (before after : Outside) (s : Stop) : Type 0 where
+  pub unwritten : s ≢ stop.WriteFault
+  pub same : ChangesNothing before after

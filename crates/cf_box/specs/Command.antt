@@ -1,0 +1,44 @@
+-- What the words ask for, and what each command needs.
+use Rattle.std.specs.Prelude.{ℕ, List, Option, None, Some}
+
+-- the files of a stored stream: where it is read, and the three outputs
+pub record SiftNamesValue : Type 0 where
+  pub stream : List ℕ
+  pub out : List ℕ
+  pub replies : List ℕ
+  pub log : List ℕ
+
+pub data Command : Type 0 where
+  Check : (policy : List ℕ) → Command
+  Packets : (capture : List ℕ) → Command
+  Run : (policy capture out log : List ℕ) → Command
+  Relay : (policy asset : List ℕ) (port idles : ℕ) (log : List ℕ) → Command
+  World : (seed sessions : ℕ) (policy capture out log : List ℕ) → Command
+  Sift : (policy asset : List ℕ) (client : ℕ) (names : SiftNamesValue) → Command
+
+-- the file from which a command reads its policy; a command that is not built reads nothing
+abbrev pub policy_file : Command → Option (List ℕ)
+policy_file (Check policy) = Some policy
+policy_file (Packets capture) = None
+policy_file (Run policy capture out log) = None
+policy_file (Relay policy asset port idles log) = None
+policy_file (World seed sessions policy capture out log) = None
+policy_file (Sift policy asset client names) = Some policy
+
+-- the asset that it needs of that policy
+abbrev pub asset_name : Command → Option (List ℕ)
+asset_name (Check policy) = None
+asset_name (Packets capture) = None
+asset_name (Run policy capture out log) = None
+asset_name (Relay policy asset port idles log) = None
+asset_name (World seed sessions policy capture out log) = None
+asset_name (Sift policy asset client names) = Some asset
+
+-- the file from which it reads a capture
+abbrev pub capture_file : Command → Option (List ℕ)
+capture_file (Check policy) = None
+capture_file (Packets capture) = Some capture
+capture_file (Run policy capture out log) = None
+capture_file (Relay policy asset port idles log) = None
+capture_file (World seed sessions policy capture out log) = None
+capture_file (Sift policy asset client names) = None

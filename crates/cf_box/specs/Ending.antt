@@ -1,0 +1,79 @@
+-- How the program ends: the status of each ending, and what is printed.
+use Rattle.std.specs.Prelude.{◌≡◌, ◌⊎◌, ℕ, List, ◌++◌, Option, None, Some, Result, Ok, Err, codes, decimal, take}
+use Rattle.cf_outside.specs.Faults.{Rose}
+use Rattle.cf_outside.specs.Sink.{printed_with}
+use Rattle.cf_policylang.specs.Keys.{refusal_text}
+use Rattle.cf_box.specs.Outside.{Outside, SinkValue}
+use Rattle.cf_box.specs.declared.ending.CaptureRefusal.{CaptureRefusal}
+use Rattle.cf_box.specs.declared.ending.CaptureRefusal.TheVariants as refusal
+use Rattle.cf_box.specs.declared.ending.Done.{Done}
+use Rattle.cf_box.specs.declared.ending.Done.TheVariants as done
+use Rattle.cf_box.specs.declared.ending.Stop.{Stop}
+use Rattle.cf_box.specs.declared.ending.Stop.TheVariants as stop
+
+-- the status of each cause
+abbrev pub stop_status : Stop → ℕ
+stop_status stop.ReadFault = 3
+stop_status stop.WriteFault = 4
+stop_status (stop.PolicyRefused r) = 5
+stop_status (stop.CaptureRefused r) = 6
+stop_status (stop.CaptureCut place) = 7
+stop_status stop.UnknownAsset = 10
+stop_status stop.NoMemory = 13
+stop_status stop.Unbuilt = 14
+
+abbrev pub status_of : Result Done Stop → ℕ
+status_of (Ok d) = 0
+status_of (Err s) = stop_status s
+
+-- the status where the last text was not printed: work that was done and not told is a write fault, and a cause stays
+abbrev pub unprinted_status : Result Done Stop → ℕ
+unprinted_status (Ok d) = 4
+unprinted_status (Err s) = stop_status s
+
+-- the number of each refusal of a capture; 6 is that of a moment, which a listing does not test
+abbrev pub capture_number : CaptureRefusal → ℕ
+capture_number refusal.Short = 1
+capture_number refusal.Magic = 2
+capture_number refusal.Version = 3
+capture_number refusal.LinkType = 4
+capture_number refusal.TooLong = 5
+capture_number refusal.Large = 7
+
+-- what is printed of work that was done; the lines of a listing were printed before
+abbrev pub done_text : Done → Option (List ℕ)
+done_text (done.Sifted admitted refused) = Some (codes "admitted " ++ decimal admitted ++ codes "\nrefused " ++ decimal refused ++ codes "\n")
+done_text (done.Checked assets rules) = Some (codes "ok " ++ decimal assets ++ codes " " ++ decimal rules ++ codes "\n")
+done_text done.Listed = None
+
+-- what is printed of a cause: nothing of a write fault, and nothing where memory ran out
+abbrev pub stop_text : Stop → Option (List ℕ)
+stop_text stop.ReadFault = Some (codes "read fault\n")
+stop_text stop.WriteFault = None
+stop_text (stop.PolicyRefused r) = Some (codes "policy refused " ++ refusal_text r ++ codes "\n")
+stop_text (stop.CaptureRefused r) = Some (codes "capture refused " ++ decimal (capture_number r) ++ codes "\n")
+stop_text (stop.CaptureCut place) = Some (codes "capture cut at " ++ decimal place ++ codes "\n")
+stop_text stop.UnknownAsset = Some (codes "unknown asset\n")
+stop_text stop.NoMemory = None
+stop_text stop.Unbuilt = Some (codes "unbuilt\n")
+
+abbrev pub end_text : Result Done Stop → Option (List ℕ)
+end_text (Ok d) = done_text d
+end_text (Err s) = stop_text s
+
+-- a text was put, and the status is the first; or the put failed, a prefix was put, and the status is the second
+abbrev pub Puts : List ℕ → (put failed : ℕ) → (before after : SinkValue) → (status : ℕ) → Type 0
+Puts text put failed before after status =
+    ((status ≡ put) × (after.text ≡ printed_with before.text text))
+    ⊎ ((status ≡ failed) × Rose before.faults after.faults × ((k : ℕ) × (after.text ≡ printed_with before.text (take k text))))
+
+-- the same of a text that there may be; without one nothing is put
+abbrev pub Prints : Option (List ℕ) → (put failed : ℕ) → (before after : SinkValue) → (status : ℕ) → Type 0
+Prints None put failed before after status = (status ≡ put) × (after ≡ before)
+Prints (Some text) put failed before after status = Puts text put failed before after status
+
+-- the status and what is printed are those of an ending, and nothing else changed
+pub record Reports (r : Result Done Stop) (before after : Outside) (status : ℕ) : Type 0 where
+  pub prints : Prints (end_text r) (status_of r) (unprinted_status r) before.sink after.sink status
+  pub files : after.files ≡ before.files
+  pub pair : after.pair ≡ before.pair

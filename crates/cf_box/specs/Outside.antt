@@ -1,0 +1,64 @@
+-- What the objects outside tell at a moment, and their counts of faults: the main definition is `Outside`.
+use Rattle.std.specs.Prelude.{◌≡◌, ◌⊎◌, ◌≤◌, ℕ, List, Option}
+use Rattle.cf_outside.specs.Faults.{Rose}
+use Rattle.cf_outside.specs.Files.{Content}
+use Rattle.cf_outside.specs.Pair.{Entry}
+use Rattle.cf_outside.specs.declared.Files.{Ghosts as FilesOf}
+use Rattle.cf_outside.specs.declared.Pair.{Ghosts as PairOf}
+use Rattle.cf_outside.specs.declared.Sink.{Ghosts as SinkOf}
+
+-- the files by their names, and how often a read failed, and a creation or an append
+pub record FilesValue : Type 0 where
+  pub content : List ℕ → Content
+  pub read_faults : ℕ
+  pub write_faults : ℕ
+
+-- all bytes put, and how often a put failed
+pub record SinkValue : Type 0 where
+  pub text : Option (List ℕ)
+  pub faults : ℕ
+
+-- the answers of the pair, how often a call of it failed, and how often the answer was `Idle`
+pub record PairValue : Type 0 where
+  pub told : Option (List Entry)
+  pub faults : ℕ
+  pub idles : ℕ
+
+pub record Outside : Type 0 where
+  pub files : FilesValue
+  pub sink : SinkValue
+  pub pair : PairValue
+
+abbrev pub files_value : {F : Type 0} → FilesOf F → F → FilesValue
+files_value F files = record { content = F.content files; read_faults = F.read_faults files; write_faults = F.write_faults files }
+
+abbrev pub sink_value : {O : Type 0} → SinkOf O → O → SinkValue
+sink_value O out = record { text = O.text out; faults = O.faults out }
+
+abbrev pub pair_value : {P : Type 0} → PairOf P → P → PairValue
+pair_value P pair = record { told = P.told pair; faults = P.faults pair; idles = P.idles pair }
+
+abbrev pub outside : FilesValue → SinkValue → PairValue → Outside
+outside files sink pair = record { files = files; sink = sink; pair = pair }
+
+abbrev pub outside_value : {F O P : Type 0} → FilesOf F → SinkOf O → PairOf P → F → O → P → Outside
+outside_value F O P files out pair = outside (files_value F files) (sink_value O out) (pair_value P pair)
+
+-- a read failed in between
+abbrev pub ReadFailed : Outside → Outside → Type 0
+ReadFailed before after = Rose before.files.read_faults after.files.read_faults
+
+-- a creation, an append or a put failed in between
+abbrev pub WriteFailed : Outside → Outside → Type 0
+WriteFailed before after = Rose before.files.write_faults after.files.write_faults ⊎ Rose before.sink.faults after.sink.faults
+
+-- files were read, and no file changed
+pub record ReadsOnly (before after : FilesValue) : Type 0 where
+  pub content : after.content ≡ before.content
+  pub reads : before.read_faults ≤ after.read_faults
+  pub writes : after.write_faults ≡ before.write_faults
+
+-- no count of the files falls
+pub record FilesNeverFall (before after : FilesValue) : Type 0 where
+  pub reads : before.read_faults ≤ after.read_faults
+  pub writes : before.write_faults ≤ after.write_faults

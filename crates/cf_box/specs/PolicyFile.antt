@@ -1,0 +1,28 @@
+-- The policy that a file holds, and the asset of a name.
+use Rattle.std.specs.Prelude.{◌≡◌, ℕ, List, Option, Ok, Err, length, bytes_eq, find}
+use Rattle.std.specs.List.{sum_by}
+use Rattle.cf_outside.specs.Files.{Content, untold, absent, holds, IsWhole}
+use Rattle.cf_policy.specs.declared.Asset.{Asset}
+use Rattle.cf_policy.specs.declared.Policy.{Policy}
+use Rattle.cf_policylang.specs.Documents.{policy_meaning}
+use Rattle.cf_policylang.specs.declared.PolicyRefusal.{PolicyRefusal}
+
+-- the file's bytes mean this policy
+pub record HasPolicy (file : Content) (p : Policy) : Type 0 where
+  pub bytes : List ℕ
+  pub whole : IsWhole file bytes
+  pub means : policy_meaning bytes ≡ Ok p
+
+-- the file's bytes mean none, and this is the first refusal
+abbrev pub IsRefusedBy : Content → PolicyRefusal → Type 0
+IsRefusedBy untold refusal = Unit {0}
+IsRefusedBy absent refusal = ⊥
+IsRefusedBy (holds bytes) refusal = policy_meaning bytes ≡ Err refusal
+
+-- the asset of a name
+abbrev pub asset_named : List ℕ → Policy → Option Asset
+asset_named name p = find (λ a. bytes_eq a.name name) p.assets
+
+-- how many rules all assets have
+abbrev pub rule_count : List Asset → ℕ
+rule_count assets = sum_by (λ a. length a.rules) assets

@@ -1,0 +1,121 @@
+-- What a status tells, each by itself.
+use Rattle.std.specs.Prelude.{◌≡◌, ◌⊎◌, ℕ, List, drop, Option, None, Some, Ok, Err}
+use Rattle.cf_lane.specs.Laws.{PassesWhatIsAllowed}
+use Rattle.cf_outside.specs.Files.{holds, IsWhole, content_after_write}
+use Rattle.cf_pcap.specs.Header.{header_of}
+use Rattle.cf_pcap.specs.Capture.{FileEnd, AreRecords, at_place}
+use Rattle.cf_pcap.specs.Record.{Record}
+use Rattle.cf_pcap.specs.declared.Header.{Header}
+use Rattle.cf_policy.specs.declared.Asset.{Asset}
+use Rattle.cf_policy.specs.declared.Policy.{Policy}
+use Rattle.cf_policylang.specs.Documents.{policy_meaning}
+use Rattle.cf_policylang.specs.declared.PolicyRefusal.{PolicyRefusal}
+use Rattle.cf_box.specs.Command.{Command, Check, Packets, Run, Relay, World, Sift, SiftNamesValue, asset_name, capture_file, policy_file}
+use Rattle.cf_box.specs.Ends.{CutsCapture, LacksAsset, LacksPart, RefusesCapture, RefusesPolicy}
+use Rattle.cf_box.specs.Outside.{Outside, ReadFailed, WriteFailed}
+use Rattle.cf_box.specs.Packets.{TellsLongCapture}
+use Rattle.cf_box.specs.PolicyFile.{asset_named}
+use Rattle.cf_box.specs.Sift.{FindsAsset, TellsUnbuiltStream}
+use Rattle.cf_box.specs.declared.ending.CaptureRefusal.{CaptureRefusal}
+
+-- the words are a command of which this is so
+abbrev pub OfCommand : Option Command → (Command → Type 0) → Type 0
+OfCommand None P = ⊥
+OfCommand (Some c) P = P c
+
+abbrev pub RefusesItsPolicy : Option Command → Outside → Type 0
+RefusesItsPolicy words before = OfCommand words (λ c. (r : PolicyRefusal) × RefusesPolicy c before r)
+
+abbrev pub LacksItsAsset : Option Command → Outside → Type 0
+LacksItsAsset words before = OfCommand words (λ c. LacksAsset c before)
+
+abbrev pub RefusesItsCapture : Option Command → Outside → Type 0
+RefusesItsCapture words before = OfCommand words (λ c. (r : CaptureRefusal) × RefusesCapture c before r)
+
+abbrev pub CutsItsCapture : Option Command → Outside → Type 0
+CutsItsCapture words before = OfCommand words (λ c. (place : ℕ) × CutsCapture c before place)
+
+-- of the commands in the stream exactly those went to the output that the bytes of the policy allow, in their spelling
+-- and at their place
+pub record SiftPassesAllowed (policy name : List ℕ) (client : ℕ) (names : SiftNamesValue) (before after : Outside) : Type 0 where
+  pub asset : Asset
+  pub finds : FindsAsset (before.files.content policy) name asset
+  pub bytes : List ℕ
+  pub whole : IsWhole (before.files.content names.stream) bytes
+  pub passed : List ℕ
+  pub passes : PassesWhatIsAllowed asset client bytes passed
+  pub output : after.files.content names.out ≡ content_after_write (before.files.content names.out) passed
+
+-- a capture's records, up to the end of its bytes
+abbrev pub HasRecords : List ℕ → Type 0
+HasRecords bytes =
+    (h : Header) × (header_of bytes ≡ Ok h)
+    × ((records : List Record) × (place : ℕ) × AreRecords (at_place h) 24 (drop 24 bytes) records (record { place = place; found = FileEnd }))
+
+-- what a command needs is told, and in form: its policy has a meaning and the asset of the name, its capture is one whose
+-- records end with the file, and nothing of it is not built
+pub record HasInput (c : Command) (before : Outside) : Type 0 where
+  pub policy :
+      (file : List ℕ) → policy_file c ≡ Some file →
+      (bytes : List ℕ) × (before.files.content file ≡ holds bytes) × ((p : Policy) × (policy_meaning bytes ≡ Ok p)
+      × ((name : List ℕ) → asset_name c ≡ Some name → (a : Asset) × (asset_named name p ≡ Some a)))
+  pub capture : (file : List ℕ) → capture_file c ≡ Some file → (bytes : List ℕ) × (before.files.content file ≡ holds bytes) × HasRecords bytes
+  pub built : LacksPart c before → ⊥
+
+-- no read failed, and no creation, append or put
+pub record NothingFails (before after : Outside) : Type 0 where
+  pub reads : ReadFailed before after → ⊥
+  pub writes : WriteFailed before after → ⊥
+
+-- where all that the words need is in form and nothing fails, the work is done, or memory ran out
+abbrev pub IsComplete : Option Command → (before after : Outside) → (status : ℕ) → Type 0
+IsComplete words before after status =
+    (c : Command) → words ≡ Some c → HasInput c before → NothingFails before after → (status ≡ 0) ⊎ (status ≡ 13)
+
+-- what an exact cause yields to: a read that failed, and want of memory
+abbrev pub Yields : (before after : Outside) → (status : ℕ) → Type 0
+Yields before after status = ((status ≡ 3) × ReadFailed before after) ⊎ (status ≡ 13)
+
+-- the policy is told, and its bytes mean none
+pub record TellsNoPolicy (c : Command) (before : Outside) : Type 0 where
+  pub file : List ℕ
+  pub needs : policy_file c ≡ Some file
+  pub bytes : List ℕ
+  pub told : before.files.content file ≡ holds bytes
+  pub refusal : PolicyRefusal
+  pub means : policy_meaning bytes ≡ Err refusal
+
+-- the policy is told, and its bytes mean one that has no asset of the name that the command needs
+pub record TellsNoAsset (c : Command) (before : Outside) : Type 0 where
+  pub file : List ℕ
+  pub needs : policy_file c ≡ Some file
+  pub bytes : List ℕ
+  pub told : before.files.content file ≡ holds bytes
+  pub meaning : Policy
+  pub means : policy_meaning bytes ≡ Ok meaning
+  pub name : List ℕ
+  pub asks : asset_name c ≡ Some name
+  pub lacks : asset_named name meaning ≡ None
+
+-- what a command needs is told, and is not built: a line a command
+abbrev pub TellsLack : Command → Outside → Type 0
+TellsLack (Check file) before = ⊥
+TellsLack (Packets file) before = TellsLongCapture file before
+TellsLack (Run file capture out log) before = Unit {0}
+TellsLack (Relay file asset port idles log) before = Unit {0}
+TellsLack (World seed sessions file capture out log) before = Unit {0}
+TellsLack (Sift file asset client names) before = TellsUnbuiltStream file asset names before
+
+-- each of these gives its status, and nothing but a failed read or want of memory comes before it
+pub record IsExact (c : Command) (before after : Outside) (status : ℕ) : Type 0 where
+  pub refused : TellsNoPolicy c before → (status ≡ 5) ⊎ Yields before after status
+  pub unknown : TellsNoAsset c before → (status ≡ 10) ⊎ Yields before after status
+  pub unbuilt : TellsLack c before → (status ≡ 14) ⊎ Yields before after status
+
+abbrev pub IsExactly : Option Command → (before after : Outside) → (status : ℕ) → Type 0
+IsExactly words before after status = (c : Command) → words ≡ Some c → IsExact c before after status
+
+-- the statuses that there are
+abbrev pub IsStatus : ℕ → Type 0
+IsStatus s =
+    (s ≡ 0) ⊎ (s ≡ 2) ⊎ (s ≡ 3) ⊎ (s ≡ 4) ⊎ (s ≡ 5) ⊎ (s ≡ 6) ⊎ (s ≡ 7) ⊎ (s ≡ 10) ⊎ (s ≡ 13) ⊎ (s ≡ 14)

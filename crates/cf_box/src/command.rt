@@ -1,0 +1,83 @@
+//! The words that the program takes.
+ghost use Rattle.std.specs.Prelude.{◌≡◌, IfSome, map, option_map, string_bytes};
+ghost use Rattle.cf_box.specs.Words.{HasApartFiles, command_of, command_value};
+
+use crate::check::read_check;
+use crate::packets::read_packets;
+use crate::relay::read_relay;
+use crate::run::read_run;
+use crate::sift::{SiftNames, read_sift};
+use crate::world::read_world;
+
+/// What the words ask for. Names of files are not empty, and no two of one command are equal.
+#[derive(Clone, Copy, Debug)]
+pub enum Command<'a> {
+    /// Read a policy.
+    Check {
+        policy: &'a str,
+    },
+    /// List the records of a capture.
+    Packets {
+        capture: &'a str,
+    },
+    /// Run a policy over a capture.
+    Run {
+        policy: &'a str,
+        capture: &'a str,
+        out: &'a str,
+        log: &'a str,
+    },
+    /// Stand between two streams: a listening port from 1 to 65,535, and 1 to 1,000,000 idle turns.
+    Relay {
+        policy: &'a str,
+        asset: &'a str,
+        port: u64,
+        idles: u64,
+        log: &'a str,
+    },
+    /// Make a world of 1 to 200 sessions from a number, and run it.
+    World {
+        seed: u64,
+        sessions: u64,
+        policy: &'a str,
+        capture: &'a str,
+        out: &'a str,
+        log: &'a str,
+    },
+    /// Filter the stored stream of a client with this address, a number of 32 bits whose first octet is the highest.
+    Sift {
+        policy: &'a str,
+        asset: &'a str,
+        client: u32,
+        names: SiftNames<'a>,
+    },
+}
+
+/// The command that the words are, if they are one: the first names it. Takes no memory.
+pub fn read_words(words: &[String]) -> Option<Command<'_>>
+    ensures command { option_map command_value result ≡ command_of (map string_bytes words.now) }
+    ensures apart { IfSome result HasApartFiles }
+{
+    let [name, rest @ ..] = words else {
+        return None;
+    };
+    if name.as_str() == "check" {
+        return read_check(rest);
+    }
+    if name.as_str() == "packets" {
+        return read_packets(rest);
+    }
+    if name.as_str() == "run" {
+        return read_run(rest);
+    }
+    if name.as_str() == "relay" {
+        return read_relay(rest);
+    }
+    if name.as_str() == "world" {
+        return read_world(rest);
+    }
+    if name.as_str() == "sift" {
+        return read_sift(rest);
+    }
+    None
+}

@@ -1,0 +1,107 @@
+//! The top call.
+ghost use Rattle.std.specs.Prelude.{◌≡◌, ◌≢◌, ◌≤◌, ◌⊎◌, ◌↔◌, IsNone, List, Some, map, string_bytes, ℕ};
+ghost use Rattle.cf_box.specs.Command.{Packets, Sift, SiftNamesValue};
+ghost use Rattle.cf_box.specs.Ends.{Ends, Meets};
+ghost use Rattle.cf_box.specs.Outside.{FilesNeverFall, PairValue, files_value, outside, outside_value, sink_value};
+ghost use Rattle.cf_box.specs.Packets.{Lists};
+ghost use Rattle.cf_box.specs.Status.{CutsItsCapture, IsComplete, IsExactly, IsStatus, LacksItsAsset, RefusesItsCapture, RefusesItsPolicy, SiftPassesAllowed};
+ghost use Rattle.cf_box.specs.Words.{HasApartFiles, command_of, command_value};
+ghost use Rattle.cf_outside.specs.Faults.{Rose};
+
+use crate::check::check;
+use crate::command::{Command, read_words};
+use crate::ending::{Done, Stop, put_text, report};
+use crate::packets::packets;
+use crate::sift::sift;
+use cf_outside::{Files, Pair, Sink};
+use std::alloc::Global;
+
+/// Does what a command asks for. Nothing is asked of the pair yet.
+fn perform<F: Files, O: Sink>(
+    alloc: Global,
+    command: Command<'_>,
+    files: &mut F,
+    out: &mut O,
+) -> Result<Done, Stop>
+    requires { HasApartFiles command }
+    ensures meets { (pair : PairValue) → Meets (command_value command.entry)
+        (outside (files_value F.Files files.old) (sink_value O.Sink out.old) pair)
+        (outside (files_value F.Files files.new) (sink_value O.Sink out.new) pair) result }
+    ensures later { FilesNeverFall (files_value F.Files files.old) (files_value F.Files files.new) }
+    ensures puts { O.faults out.old ≤ O.faults out.new }
+{
+    match command {
+        Command::Check { policy } => check(alloc, policy, files),
+        Command::Packets { capture } => packets(alloc, capture, files, out),
+        Command::Sift {
+            policy,
+            asset,
+            client,
+            names,
+        } => sift(alloc, policy, asset, client, &names, files),
+        Command::Run { .. } | Command::Relay { .. } | Command::World { .. } => Err(Stop::Unbuilt),
+    }
+}
+
+/// The program: does what the words ask for, prints how that ended, and answers its status.
+///
+/// Statuses: 0 done; 2 the words have no form; 3 a read failed; 4 a write failed, or work that was done could not be
+/// printed; 5 the policy's text means none; 6 the capture is refused; 7 it ends inside a record; 10 the policy has no
+/// asset of the name; 13 memory ran out; 14 the input needs a part that is not built.
+pub fn box_main<F: Files, O: Sink, P: Pair>(
+    alloc: Global,
+    words: &[String],
+    files: &mut F,
+    out: &mut O,
+    pair: &mut P,
+) -> u8
+    // The answer of the command explains the files, the status, and all that was printed.
+    ensures ends { Ends (command_of (map string_bytes words.now)) (outside_value F.Files O.Sink P.Pair files.old out.old pair.old)
+        (outside_value F.Files O.Sink P.Pair files.new out.new pair.new) result }
+    ensures statuses { IsStatus result }
+
+    // Each status by itself.
+    ensures usage { (result ≡ 2) ↔ IsNone (command_of (map string_bytes words.now)) }
+    ensures read { result ≡ 3 → Rose (F.read_faults files.old) (F.read_faults files.new) }
+    ensures write { result ≡ 4 → Rose (F.write_faults files.old) (F.write_faults files.new) ⊎ Rose (O.faults out.old) (O.faults out.new) }
+    ensures refused { result ≡ 5 → RefusesItsPolicy (command_of (map string_bytes words.now))
+        (outside_value F.Files O.Sink P.Pair files.old out.old pair.old) }
+    ensures capture { result ≡ 6 → RefusesItsCapture (command_of (map string_bytes words.now))
+        (outside_value F.Files O.Sink P.Pair files.old out.old pair.old) }
+    ensures cut { result ≡ 7 → CutsItsCapture (command_of (map string_bytes words.now))
+        (outside_value F.Files O.Sink P.Pair files.old out.old pair.old) }
+    ensures unknown { result ≡ 10 → LacksItsAsset (command_of (map string_bytes words.now))
+        (outside_value F.Files O.Sink P.Pair files.old out.old pair.old) }
+
+    // Where the input is told, a cause in it gives its status, whatever stands behind it in the order of the work.
+    ensures exact { IsExactly (command_of (map string_bytes words.now)) (outside_value F.Files O.Sink P.Pair files.old out.old pair.old)
+        (outside_value F.Files O.Sink P.Pair files.new out.new pair.new) result }
+
+    // Work whose input is in form is done where nothing fails and memory lasts.
+    ensures complete { IsComplete (command_of (map string_bytes words.now)) (outside_value F.Files O.Sink P.Pair files.old out.old pair.old)
+        (outside_value F.Files O.Sink P.Pair files.new out.new pair.new) result }
+
+    // Each record of a capture has its line.
+    ensures lists { (capture : List ℕ) → command_of (map string_bytes words.now) ≡ Some (Packets capture) → result ≡ 0 →
+        Lists capture (outside_value F.Files O.Sink P.Pair files.old out.old pair.old)
+        (outside_value F.Files O.Sink P.Pair files.new out.new pair.new) Done.Listed }
+
+    // Of the commands of a stream exactly those went on that the policy's bytes allow.
+    ensures passes { (policy asset : List ℕ) (client : ℕ) (names : SiftNamesValue) → command_of (map string_bytes words.now) ≡ Some
+        (Sift policy asset client names) → result ≡ 0 →
+        SiftPassesAllowed policy asset client names (outside_value F.Files O.Sink P.Pair files.old out.old pair.old)
+        (outside_value F.Files O.Sink P.Pair files.new out.new pair.new) }
+
+    // Nothing is written but where the work was done, or a write failed; and nothing is asked of the pair.
+    ensures kept { result ≢ 0 → result ≢ 4 → F.content files.new ≡ F.content files.old }
+    ensures pair { pair.new ≡ pair.old }
+{
+    let _ = pair;
+    match read_words(words) {
+        None => put_text("usage\n", 2, 2, out),
+        Some(command) => {
+            let ended = perform(alloc, command, files, out);
+            report(&ended, out)
+        }
+    }
+}
