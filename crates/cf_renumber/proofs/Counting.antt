@@ -1,5 +1,5 @@
 -- What each call does to values that are those of the events.
-use Rattle.std.proofs.Common.{◌≡◌, ℕ, ◌+◌, ◌-◌, ◌%◌, ◌<◌, ◌≤◌, Bool, true, false, List, [], ◌∷◌, ◌++◌, length, take, drop, nat_lt, if◌then◌else◌, Option, Some, None, IsSome, inl, inr, refl, sym, ◌∙◌, ap, arith, length-append, count_by}
+use Rattle.std.proofs.Common.{◌≡◌, ℕ, ◌+◌, ◌-◌, ◌%◌, ◌<◌, ◌≤◌, Bool, true, false, List, [], ◌∷◌, ◌++◌, length, drop, nat_lt, if◌then◌else◌, Option, Some, None, IsSome, inl, inr, refl, sym, ◌∙◌, ap, arith, length-append, count_by}
 use Rattle.std.proofs.lemmas.Bool.Decides.{nat_tests}
 use Rattle.std.proofs.lemmas.Bool.{false≢true, cases_lt, le-ltb, lt-ltb}
 use Rattle.cf_renumber.specs.declared.answer.Stamp.{Stamp}
@@ -8,7 +8,7 @@ use Rattle.cf_renumber.specs.declared.mark.Fate.{Fate}
 use Rattle.cf_renumber.specs.declared.mark.Fate.TheVariants as fates
 use Rattle.cf_renumber.specs.declared.mark.Origin.{Origin}
 use Rattle.cf_renumber.specs.declared.mark.Origin.TheVariants as origins
-use Rattle.cf_renumber.specs.Counts.{Event, Started, Stopped, Admitted, Refused, ClientAck, Carried, ControllerAck, client_frames, frames_to_client, from_client, to_controller, from_controller, to_client, is_admitted, is_controllers, controllers_among, covered_by, count_from, acked_by_client, acked_by_controller, last_told, client_translated, owed_ack, outstanding_refusal}
+use Rattle.cf_renumber.specs.Counts.{Event, Admitted, Refused, ClientAck, Carried, ControllerAck, client_frames, frames_to_client, from_client, to_controller, from_controller, to_client, is_admitted, is_controllers, controllers_among, covered_by, count_from, acked_by_client, acked_by_controller, last_told, client_translated, owed_ack, outstanding_refusal}
 use Rattle.cf_renumber.specs.Numbers.{NumbersValue, IsNumbersValue, waiting, HasCountsOf, IsNumbersOf, IsNumbersAwaiting, uncovered, after_client_ack, after_controller_ack, after_admitted, after_dropped, after_mirror, after_refused, after_carried, stamp_for_controller, stamp_for_client, ack_owed, next_stamp_for_controller, next_stamp_for_client}
 use Rattle.cf_renumber.proofs.Lists.{count_by-append, count_by-split, among-add, among-append, uncovered-add, uncovered-append, uncovered_again, uncovered_admitted, count-uncovered, length-uncovered, covered_by-le}
 

@@ -2,3 +2,4 @@ mod Counting
 mod Greatest
 mod Lists
 mod Runs
+mod Window

@@ -1,11 +1,11 @@
 -- Fronts of lists of frames, and what is left of them.
-use Rattle.std.proofs.Common.{◌≡◌, ℕ, zero, suc, ◌+◌, ◌-◌, ◌<◌, ◌≤◌, Bool, List, Some, get_or, [], ◌∷◌, ◌++◌, length, take, drop, refl, sym, ◌∙◌, ap, arith, length-append, cond, count_by}
+use Rattle.std.proofs.Common.{◌≡◌, ℕ, zero, suc, ◌+◌, ◌-◌, ◌<◌, ◌≤◌, Bool, List, Some, get_or, [], ◌∷◌, ◌++◌, length, take, drop, refl, sym, ◌∙◌, ap, arith, cond, count_by}
 use Rattle.std.proofs.Math.Nat.{suc-add}
 use Rattle.std.proofs.Math.Seq.{take-add}
 use Rattle.std.specs.List.{slice_get}
 use Rattle.std.proofs.lemmas.Option.{get_or_from_slice_get, slice_get_within}
-use Rattle.std.proofs.lemmas.List.{take_more, take-append-drop, drop-drop, length-drop, take-append-le}
-use Rattle.std.proofs.lemmas.List.Sums.{sum_by-append, count_by-le-length}
+use Rattle.std.proofs.lemmas.List.{take_more, take-append-drop, length-drop, take-append-le}
+use Rattle.std.proofs.lemmas.List.Sums.{sum_by-append}
 use Rattle.cf_renumber.specs.declared.mark.Fate.{Fate}
 use Rattle.cf_renumber.specs.declared.mark.Fate.TheVariants as fates
 use Rattle.cf_renumber.specs.declared.mark.Origin.{Origin}

@@ -5,7 +5,7 @@ use Rattle.cf_renumber.specs.declared.mark.Fate.{Fate}
 use Rattle.cf_renumber.specs.declared.mark.Fate.TheVariants as fates
 use Rattle.cf_renumber.specs.declared.mark.Origin.{Origin}
 use Rattle.cf_renumber.specs.declared.mark.Origin.TheVariants as origins
-use Rattle.cf_renumber.specs.Counts.{Event, client_frames, frames_to_client, from_client, to_controller, from_controller, to_client, is_admitted, is_controllers, acked_by_client, acked_by_controller, controllers_among, covered_by, count_from, last_told, is_running, has_started}
+use Rattle.cf_renumber.specs.Counts.{Event, client_frames, frames_to_client, from_client, to_controller, from_controller, to_client, is_controllers, acked_by_client, acked_by_controller, controllers_among, covered_by, count_from, last_told, is_running, has_started}
 
 -- what a contract sees of a `Numbers`
 pub record NumbersValue : Type 0 where

@@ -5,7 +5,7 @@ use Rattle.cf_renumber.specs.declared.answer.Stamp.{Stamp}
 use Rattle.cf_renumber.specs.declared.answer.RefusedStamp.{RefusedStamp}
 use Rattle.cf_renumber.specs.declared.answer.NumberRefusal.{NumberRefusal}
 use Rattle.cf_renumber.specs.Counts.{Event, Started, Stopped, Admitted, Refused, ClientAck, Carried, ControllerAck, may_send, client_refusal, client_ack_refusal, controller_refusal, controller_ack_refusal, admitted_stamp, refused_stamp, carried_stamp, client_translated, controller_translated}
-use Rattle.cf_renumber.specs.Numbers.{NumbersValue, IsNumbersOf, IsNumbersAwaiting, empty}
+use Rattle.cf_renumber.specs.Numbers.{NumbersValue, IsNumbersOf, IsNumbersAwaiting}
 
 pub data NumbersCall : Type 0 where
   Start : NumbersCall

@@ -11,5 +11,5 @@ mod numbers;
 mod tests;
 
 pub use answer::{NumberRefusal, RefusedStamp, Stamp};
-pub use laws::{covers_the_most, every_numbers_run, one_count};
+pub use laws::{covers_the_most, every_numbers_run, one_count, one_count_in_every_run};
 pub use numbers::Numbers;

@@ -1,8 +1,8 @@
-use Rattle.std.proofs.Common.{◌≡◌, ℕ, ◌∷◌, ◌∙◌, ap, Option, Some, None, true, false}
+use Rattle.std.proofs.Common.{◌≡◌, ℕ, ◌∷◌, ◌∙◌, ap, Option, Some, None, false}
 use Rattle.cf_renumber.specs.declared.answer.RefusedStamp.{RefusedStamp}
 use Rattle.cf_renumber.specs.declared.answer.Stamp.{Stamp}
-use Rattle.cf_renumber.specs.Counts.{Event, Refused, owed_ack, mirror_stamp}
-use Rattle.cf_renumber.specs.Numbers.{IsNumbersOf, IsNumbersAwaiting}
+use Rattle.cf_renumber.specs.Counts.{Refused, owed_ack, mirror_stamp}
+use Rattle.cf_renumber.specs.Numbers.{IsNumbersOf}
 use Rattle.cf_renumber.proofs.Runs.{did_refuse}
 use Rattle.cf_renumber.proofs.Counting.{stands_refused, stands_mirrored, stamp_client, ack_is}
 use Rattle.cf_renumber.proofs.numbers.Numbers.refused.Goals as goal

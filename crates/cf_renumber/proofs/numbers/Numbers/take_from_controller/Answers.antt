@@ -1,5 +1,4 @@
-use Rattle.std.proofs.Common.{◌≡◌, ◌-◌, ◌∷◌, ◌∙◌, ap, length, refl, sym, Some, None, List}
-use Rattle.cf_renumber.specs.declared.mark.Origin.{Origin}
+use Rattle.std.proofs.Common.{◌≡◌, ◌-◌, ◌∷◌, ◌∙◌, ap, length, refl, None, List}
 use Rattle.cf_renumber.specs.Counts.{Event, ControllerAck, acked_by_client, from_controller, to_client, outstanding_refusal}
 use Rattle.cf_renumber.specs.Numbers.{NumbersValue, IsNumbersOf}
 use Rattle.cf_renumber.proofs.Counting.{stands_controller_ack, stamp_client, stands_carried, origins_left, not_full}
