@@ -1,6 +1,6 @@
 -- The type identifications of commands, and the information element of each: the main definition is element_of.
--- IEC 60870-5-104, section 8, and IEC 60870-5-101, section 7.3.2 to 7.3.5. That no number is read of the short floating point
--- numbers, the read and the two time commands is this project's own.
+-- IEC 60870-5-104, section 8, and IEC 60870-5-101, sections 7.3.2, 7.3.4 and 7.3.5. That no number is read of short floating
+-- point numbers and of the read, clock and test commands is this project's own.
 use Rattle.std.specs.Prelude.{ℕ, ◌+◌, ◌%◌, ◌==◌, if◌then◌else◌, nat_lt, List, slice_index, Option, Some, None, ℤ, pos, ◌-ℤ◌}
 use Rattle.cf_view.specs.Octets.{u16_le_at, u32_le_at}
 use Rattle.cf_asdu.specs.declared.element.Element.{Element}
