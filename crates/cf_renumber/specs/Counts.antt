@@ -1,5 +1,6 @@
--- Counts of the I frames of an IEC 60870-5-104 session, and what a number of 15 bits stands for. IEC 60870-5-104,
--- section 5.1: N(S) counts the frames that were sent, N(R) those that were received, both modulo 32768.
+-- Counts of the I frames of an IEC 60870-5-104 session, and what a number of 15 bits stands for: the main definitions are the
+-- stamps and the refusals, which stand last. IEC 60870-5-104, section 5.1: N(S) counts the frames that were sent, N(R) those that
+-- were received, both modulo 32768. That a firewall between the two sides renumbers both is this project's own.
 --
 -- What went on so far is a list of events, the newest first, so that what was before an event is the list after it. The
 -- lists of frames are in their order, the first frame first, so that the first j of them are a front.
@@ -43,10 +44,12 @@ frames_to_client (Refused nr mirrored ∷ earlier) =
 frames_to_client (Carried nr ∷ earlier) = frames_to_client earlier ++ origins.Controller ∷ []
 frames_to_client (_ ∷ earlier) = frames_to_client earlier
 
+-- which frames of the client went on
 abbrev pub is_admitted : Fate → Bool
 is_admitted fates.Admitted = true
 is_admitted fates.Refused = false
 
+-- which frames to the client are the controller's
 abbrev pub is_controllers : Origin → Bool
 is_controllers origins.Controller = true
 is_controllers origins.Mirror = false
@@ -79,7 +82,7 @@ count_from low number = low + (number + 32768 - low % 32768) % 32768
 abbrev pub is_counted : ℕ → ℕ → ℕ → Bool
 is_counted low high number = nat_lt number 32768 && nat_le (count_from low number) high
 
--- how many I frames each side has acknowledged
+-- how many of the I frames to it the client has acknowledged
 abbrev pub acked_by_client : List Event → ℕ
 acked_by_client [] = 0
 acked_by_client (Admitted nr ∷ earlier) = count_from (acked_by_client earlier) nr
@@ -87,6 +90,7 @@ acked_by_client (Refused nr mirrored ∷ earlier) = count_from (acked_by_client 
 acked_by_client (ClientAck nr ∷ earlier) = count_from (acked_by_client earlier) nr
 acked_by_client (_ ∷ earlier) = acked_by_client earlier
 
+-- of the admitted ones, those that the controller has
 abbrev pub acked_by_controller : List Event → ℕ
 acked_by_controller [] = 0
 acked_by_controller (Carried nr ∷ earlier) = count_from (acked_by_controller earlier) nr
@@ -122,19 +126,20 @@ last_told (Refused nr mirrored ∷ earlier) =
 last_told (ClientAck nr ∷ earlier) = client_translated earlier nr
 last_told (_ ∷ earlier) = last_told earlier
 
--- whether a side may send I frames: the client where the last of the two was a start, the controller from the first
--- start on
+-- whether the last of start and stop was a start
 abbrev pub is_running : List Event → Bool
 is_running [] = false
 is_running (Started ∷ earlier) = true
 is_running (Stopped ∷ earlier) = false
 is_running (_ ∷ earlier) = is_running earlier
 
+-- whether a start ever came
 abbrev pub has_started : List Event → Bool
 has_started [] = false
 has_started (Started ∷ earlier) = true
 has_started (_ ∷ earlier) = has_started earlier
 
+-- whether a side may send I frames: the client while the last of the two is a start, the controller from the first start on
 abbrev pub may_send : Side → List Event → Bool
 may_send sides.Client events = is_running events
 may_send sides.Controller events = has_started events
@@ -156,6 +161,7 @@ abbrev pub owed_ack : List Event → ℕ → Option ℕ
 owed_ack earlier nr =
     if nat_lt (last_told earlier) (client_translated earlier nr) then Some (client_translated earlier nr % 32768) else None
 
+-- what a refused frame leaves: the numbers of its mirror, where one goes back, and the N(R) of an S frame
 abbrev pub refused_stamp : List Event → ℕ → Bool → RefusedStamp
 refused_stamp earlier nr mirrored =
     record { reply = (if mirrored then Some (mirror_stamp earlier) else None); ack = owed_ack earlier nr }
@@ -164,15 +170,17 @@ refused_stamp earlier nr mirrored =
 abbrev pub carried_stamp : List Event → ℕ → Stamp
 carried_stamp earlier nr = record { send = to_client earlier % 32768; receive = controller_translated earlier nr % 32768 }
 
--- why a number is refused, if it is
+-- why an N(S) is refused, if it is: it is not the number of the frames before it
 abbrev pub send_refusal : ℕ → ℕ → Option NumberRefusal
 send_refusal count ns =
     if ns == count % 32768 then None else Some (refusals.WrongSend (count % 32768) ns)
 
+-- why an N(R) is refused, if it is: it stands for no count from low to high
 abbrev pub receive_refusal : ℕ → ℕ → ℕ → Option NumberRefusal
 receive_refusal low high nr =
     if is_counted low high nr then None else Some (refusals.WrongReceive (low % 32768) (high % 32768) nr)
 
+-- 4,096 frames are not acknowledged: this project's own limit
 abbrev pub outstanding_refusal : ℕ → Option NumberRefusal
 outstanding_refusal unacked = if unacked == 4096 then Some refusals.Outstanding else None
 
@@ -180,18 +188,22 @@ outstanding_refusal unacked = if unacked == 4096 then Some refusals.Outstanding 
 abbrev pub unacked_by_controller : List Event → ℕ
 unacked_by_controller events = from_client events - covered_by (acked_by_controller events) (client_frames events)
 
+-- why the N(R) of a side is refused, if it is
 abbrev pub client_ack_refusal : List Event → ℕ → Option NumberRefusal
 client_ack_refusal events nr = receive_refusal (acked_by_client events) (to_client events) nr
 
 abbrev pub controller_ack_refusal : List Event → ℕ → Option NumberRefusal
 controller_ack_refusal events nr = receive_refusal (acked_by_controller events) (to_controller events) nr
 
+-- why an I frame of the client is refused, if it is, in the order of the tests
 abbrev pub client_refusal : List Event → ℕ → ℕ → Option NumberRefusal
 client_refusal events ns nr =
     option_or (send_refusal (from_client events) ns)
     (option_or (client_ack_refusal events nr)
-    (option_or (outstanding_refusal (unacked_by_controller events)) (outstanding_refusal (to_client events - count_from (acked_by_client events) nr))))
+    (option_or (outstanding_refusal (unacked_by_controller events))
+    (outstanding_refusal (to_client events - count_from (acked_by_client events) nr))))
 
+-- why an I frame of the controller is refused, if it is, in the order of the tests
 abbrev pub controller_refusal : List Event → ℕ → ℕ → Option NumberRefusal
 controller_refusal events ns nr =
     option_or (send_refusal (from_controller events) ns)

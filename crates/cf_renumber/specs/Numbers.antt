@@ -1,4 +1,4 @@
--- What is kept of the frames of a session to number the next ones.
+-- What is kept of the frames of a session to number the next ones: the main definition is IsNumbersOf.
 use Rattle.std.specs.Prelude.{◌≡◌, ℕ, ◌+◌, ◌-◌, ◌%◌, ◌<◌, ◌≤◌, if◌then◌else◌, Bool, true, false, List, [], ◌∷◌, ◌++◌, length, drop, Option, Some, None, count_by, nat_lt}
 use Rattle.cf_renumber.specs.declared.answer.Stamp.{Stamp}
 use Rattle.cf_renumber.specs.declared.mark.Fate.{Fate}
@@ -73,6 +73,7 @@ pub record IsNumbersAwaiting (numbers : NumbersValue) (events : List Event) (nr 
 abbrev pub empty : NumbersValue
 empty = record { started = false; running = false; fates = []; origins = []; received = 0; admitted = 0; carried = 0; sent = 0; owed = None }
 
+-- what each event leaves of the values
 abbrev pub after_start : NumbersValue → NumbersValue
 after_start numbers = record numbers { started = true; running = true }
 

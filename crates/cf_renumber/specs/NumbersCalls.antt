@@ -1,4 +1,5 @@
--- Lists of calls with their answers, the newest first.
+-- Lists of calls with their answers, the newest first: the main definitions are NumbersStep, which each call keeps, and
+-- AllAnswered, which every list of calls in order then is.
 use Rattle.std.specs.Prelude.{◌≡◌, ℕ, ◌%◌, Bool, List, [], ◌∷◌, Option, Some, None, Result, Ok, Err}
 use Rattle.cf_view.specs.declared.Side.{Side}
 use Rattle.cf_renumber.specs.declared.answer.Stamp.{Stamp}
@@ -7,6 +8,7 @@ use Rattle.cf_renumber.specs.declared.answer.NumberRefusal.{NumberRefusal}
 use Rattle.cf_renumber.specs.Counts.{Event, Started, Stopped, Admitted, Refused, ClientAck, Carried, ControllerAck, may_send, client_refusal, client_ack_refusal, controller_refusal, controller_ack_refusal, admitted_stamp, refused_stamp, carried_stamp, client_translated, controller_translated}
 use Rattle.cf_renumber.specs.Numbers.{NumbersValue, IsNumbersOf, IsNumbersAwaiting}
 
+-- a call with its arguments and its answer; of a client's frame the refusal alone
 pub data NumbersCall : Type 0 where
   Start : NumbersCall
   Stop : NumbersCall
@@ -24,6 +26,7 @@ pub data Turn : Type 0 where
   Waiting : ℕ → Turn
   Over : Turn
 
+-- a refusal ends the calls
 abbrev pub after_result : {A : Type 0} → Result A NumberRefusal → Turn
 after_result (Ok x) = Idle
 after_result (Err e) = Over
@@ -33,6 +36,7 @@ abbrev pub error_of : {A : Type 0} → Result A NumberRefusal → Option NumberR
 error_of (Ok x) = None
 error_of (Err e) = Some e
 
+-- which calls may follow these
 abbrev pub turn_after : List NumbersCall → Turn
 turn_after [] = Idle
 turn_after (FromClient ns nr None ∷ earlier) = Waiting nr
@@ -42,6 +46,7 @@ turn_after (FromController ns nr r ∷ earlier) = after_result r
 turn_after (AckOfController nr r ∷ earlier) = after_result r
 turn_after (_ ∷ earlier) = Idle
 
+-- the call may be made then
 abbrev pub MayCall : Turn → NumbersCall → Type 0
 MayCall Idle (Admit s) = ⊥
 MayCall Idle (Refuse reply s) = ⊥
@@ -51,15 +56,17 @@ MayCall (Waiting nr) (Refuse reply s) = Unit {0}
 MayCall (Waiting nr) _ = ⊥
 MayCall Over _ = ⊥
 
+-- each was one that might be made then
 abbrev pub IsInOrder : List NumbersCall → Type 0
 IsInOrder [] = Unit {0}
 IsInOrder (call ∷ earlier) = MayCall (turn_after earlier) call × IsInOrder earlier
 
--- what happened by the calls
+-- what happened by the judging of a frame that waits
 abbrev pub judged : Turn → (ℕ → Event) → List Event → List Event
 judged (Waiting nr) event events = event nr ∷ events
 judged _ event events = events
 
+-- what happened by the calls
 abbrev pub events_of : List NumbersCall → List Event
 events_of [] = []
 events_of (Start ∷ earlier) = Started ∷ events_of earlier
@@ -71,6 +78,7 @@ events_of (FromController ns nr r ∷ earlier) = Carried nr ∷ events_of earlie
 events_of (AckOfController nr r ∷ earlier) = ControllerAck nr ∷ events_of earlier
 events_of (_ ∷ earlier) = events_of earlier
 
+-- a refusal, or else the value
 abbrev pub answer : {A : Type 0} → Option NumberRefusal → A → Result A NumberRefusal
 answer None x = Ok x
 answer (Some e) x = Err e
@@ -88,6 +96,7 @@ Answered p events (FromController ns nr r) = r ≡ answer (controller_refusal ev
 Answered p events (AckOfController nr r) = r ≡ answer (controller_ack_refusal events nr) (controller_translated events nr % 32768)
 Answered p events _ = Unit {0}
 
+-- each answer is the one that the counts before it give
 abbrev pub AllAnswered : List NumbersCall → Type 0
 AllAnswered [] = Unit {0}
 AllAnswered (call ∷ earlier) = Answered (turn_after earlier) (events_of earlier) call × AllAnswered earlier
