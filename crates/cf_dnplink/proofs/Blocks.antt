@@ -1,5 +1,5 @@
 -- Where the user octets stand in the blocks.
-use Rattle.std.proofs.Common.{◌≡◌, ℕ, zero, suc, ◌+◌, ◌-◌, ◌*◌, ◌/◌, ◌<◌, ◌≤◌, ◌++◌, List, [], length, get_or, take, drop, inl, inr, refl, sym, ◌∙◌, ap, append_assoc, arith, length-take}
+use Rattle.std.proofs.Common.{◌≡◌, ℕ, zero, suc, ◌+◌, ◌-◌, ◌*◌, ◌/◌, ◌<◌, ◌++◌, List, length, get_or, take, drop, inl, inr, refl, ◌∙◌, ap, arith, length-take}
 use Rattle.std.proofs.lemmas.Bool.{cases_lt}
 use Rattle.std.proofs.lemmas.List.{length-drop, get_or-drop, get_or-take, get_or_append_left, get_or-append_right}
 use Rattle.cf_view.specs.Octets.{u16_le_octets}

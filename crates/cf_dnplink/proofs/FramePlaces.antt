@@ -1,14 +1,12 @@
 -- The places of a frame.
-use Rattle.std.proofs.Common.{◌≡◌, ℕ, zero, suc, ◌+◌, ◌-◌, ◌*◌, ◌/◌, ◌%◌, ◌<◌, ◌≤◌, ◌==◌, nat_lt, nat_le, ◌⊎◌, if◌then◌else◌, Bool, true, false, List, [], ◌∷◌, ◌++◌, length, get_or, take, drop, inl, inr, refl, sym, ◌∙◌, ap, arith, length-append, length-take, slice_range}
+use Rattle.std.proofs.Common.{◌≡◌, ℕ, zero, suc, ◌+◌, ◌-◌, ◌<◌, ◌≤◌, ◌==◌, nat_lt, nat_le, ◌⊎◌, if◌then◌else◌, true, List, [], ◌∷◌, ◌++◌, length, get_or, take, drop, inl, inr, refl, sym, ◌∙◌, ap, arith, length-append, slice_range}
 use Rattle.std.proofs.Math.Seq.{get_or-append_seam}
-use Rattle.std.proofs.lemmas.Bool.{cases_lt, cases_Bool, le-ltb, lt-ltb}
+use Rattle.std.proofs.lemmas.Bool.{cases_lt, le-ltb, lt-ltb}
 use Rattle.std.proofs.lemmas.Bool.Decides.{nat_tests}
 use Rattle.std.proofs.lemmas.List.{take-take, drop-take, get_or_append_left, get_or-take, length-take-le}
 use Rattle.cf_view.specs.Octets.{IsOctets, u16_le_at}
 use Rattle.cf_view.specs.Framing.{IsPrefixFree, HasFront}
 use Rattle.cf_dnplink.specs.Crc.{crc_of}
-use Rattle.cf_view.specs.Places.{IsRight, SpellsBy}
-use Rattle.cf_dnplink.specs.LinkFrame.{FrameValue}
 use Rattle.cf_dnplink.specs.FramePlaces.{frame_size, size_of, block_start, block_end, crc_octet, checks, follows, fields_of, SpellsByPlaces}
 use Rattle.cf_view.proofs.Places.{IsTold, GoesOn, prefix_free, has_front}
 

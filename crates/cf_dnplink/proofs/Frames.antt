@@ -1,5 +1,5 @@
 -- The frames by places are those that are spelled.
-use Rattle.std.proofs.Common.{◌≡◌, ℕ, zero, suc, ◌+◌, ◌-◌, ◌*◌, ◌/◌, ◌<◌, ◌≤◌, min, List, [], length, take, drop, get_or, refl, sym, ◌∙◌, ap, arith}
+use Rattle.std.proofs.Common.{◌≡◌, ℕ, zero, suc, ◌+◌, ◌-◌, ◌*◌, ◌/◌, ◌<◌, ◌≤◌, min, List, length, take, drop, get_or, refl, sym, ◌∙◌, ap, arith}
 use Rattle.cf_view.specs.Framing.{Frames, IsPrefixFree, HasFront}
 use Rattle.cf_view.specs.declared.Framed.{Framed}
 use Rattle.cf_view.specs.declared.Framed.TheVariants as framed

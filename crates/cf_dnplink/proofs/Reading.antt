@@ -1,15 +1,15 @@
 -- Each frame is spelled from its user octets.
-use Rattle.std.proofs.Common.{◌≡◌, ℕ, zero, suc, ◌+◌, ◌-◌, ◌*◌, ◌/◌, ◌%◌, ◌<◌, ◌≤◌, ◌==◌, ◌^◌, min, nat_lt, nat_le, Bool, true, false, List, [], ◌∷◌, ◌++◌, length, get_or, take, drop, inl, inr, refl, sym, ◌∙◌, ap, subst, append_assoc, arith, length-append, length-take, slice_range, take-append-drop, add-one, drop-cons}
-use Rattle.std.proofs.Math.Seq.{take-append_seam, drop-append_seam, take-add}
+use Rattle.std.proofs.Common.{◌≡◌, ℕ, zero, suc, ◌+◌, ◌-◌, ◌*◌, ◌/◌, ◌%◌, ◌<◌, ◌≤◌, ◌==◌, min, nat_le, true, List, [], ◌∷◌, ◌++◌, length, get_or, take, drop, inl, inr, refl, sym, ◌∙◌, ap, append_assoc, arith, length-append, length-take, slice_range, take-append-drop}
+use Rattle.std.proofs.Math.Seq.{take-append_seam, drop-append_seam}
 use Rattle.std.proofs.lemmas.Bool.Decides.{nat_tests}
-use Rattle.std.proofs.lemmas.Bool.{cases_lt, le-ltb, lt-ltb}
-use Rattle.std.proofs.lemmas.List.{length-drop, drop-drop, get_or-drop, get_or_append_left, append-nil, length-take-le, take_all, drop_all, drop-append-le, nil_from_length}
+use Rattle.std.proofs.lemmas.Bool.{cases_lt, le-ltb}
+use Rattle.std.proofs.lemmas.List.{length-drop, drop-drop, append-nil, take_all, drop_all}
 use Rattle.cf_view.proofs.OctetLists.{octet_split}
-use Rattle.cf_view.specs.Octets.{IsOctets, u16_le_octets, u16_le_at}
+use Rattle.cf_view.specs.Octets.{u16_le_octets, u16_le_at}
 use Rattle.cf_dnplink.specs.Crc.{crc_of}
-use Rattle.cf_view.specs.Places.{IsRight, IsUnit, SpellsBy}
-use Rattle.cf_dnplink.specs.LinkFrame.{FrameValue, with_crc, blocks_by, blocks_of, header_of, spelling}
-use Rattle.cf_dnplink.specs.FramePlaces.{frame_size, size_of, block_start, block_end, crc_octet, checks, follows, fields_of, SpellsByPlaces}
+use Rattle.cf_view.specs.Places.{IsRight, IsUnit}
+use Rattle.cf_dnplink.specs.LinkFrame.{FrameValue, with_crc, blocks_by, blocks_of, spelling}
+use Rattle.cf_dnplink.specs.FramePlaces.{frame_size, size_of, block_start, block_end, crc_octet, checks, follows, SpellsByPlaces}
 use Rattle.cf_dnplink.specs.UserOctets.{user_by, user_of}
 use Rattle.cf_dnplink.proofs.FramePlaces.{follows_front, size_long, size_least}
 use Rattle.cf_dnplink.proofs.Writing.{start_is, end_is, length-with_crc, length-blocks_by}

@@ -1,16 +1,15 @@
 -- What is spelled is a frame.
-use Rattle.std.proofs.Common.{◌≡◌, ℕ, zero, suc, ◌+◌, ◌-◌, ◌*◌, ◌/◌, ◌%◌, ◌<◌, ◌≤◌, ◌==◌, ◌^◌, min, nat_lt, nat_le, ◌⊎◌, if◌then◌else◌, Bool, true, false, List, [], ◌∷◌, ◌++◌, length, get_or, take, drop, inl, inr, refl, sym, ◌∙◌, ap, subst, append_assoc, arith, length-append, length-take, slice_range}
+use Rattle.std.proofs.Common.{◌≡◌, ℕ, zero, suc, ◌+◌, ◌-◌, ◌*◌, ◌/◌, ◌%◌, ◌<◌, ◌≤◌, ◌==◌, min, nat_le, true, List, [], ◌∷◌, ◌++◌, length, get_or, take, drop, inl, inr, refl, sym, ◌∙◌, ap, subst, append_assoc, arith, length-append, length-take, slice_range}
 use Rattle.std.proofs.Math.Nat.{suc-add}
 use Rattle.std.proofs.Math.Seq.{take-append_seam, drop-append_seam}
 use Rattle.std.proofs.lemmas.Bool.Decides.{nat_tests}
 use Rattle.std.proofs.lemmas.Bool.{cases_lt, le-ltb, lt-ltb}
-use Rattle.std.proofs.lemmas.List.{length-drop, drop-drop, get_or_append_left, get_or-append-add, get_or-append_right, append-nil, length-take-le, take_all, drop-append-le}
+use Rattle.std.proofs.lemmas.List.{length-drop, drop-drop, get_or_append_left, get_or-append_right, append-nil, take_all}
 use Rattle.cf_view.proofs.OctetLists.{IsOctets-take, IsOctets-drop, IsOctets-append}
-use Rattle.cf_view.specs.Octets.{IsOctets, u16_le_octets, u16_le_at}
+use Rattle.cf_view.specs.Octets.{IsOctets, u16_le_octets}
 use Rattle.cf_dnplink.specs.Crc.{crc_of}
-use Rattle.cf_view.specs.Places.{IsRight, IsUnit, SpellsBy}
-use Rattle.cf_dnplink.specs.LinkFrame.{FrameValue, with_crc, blocks_by, blocks_of, header_of, spelling, frame_with}
-use Rattle.cf_dnplink.specs.FramePlaces.{frame_size, size_of, block_start, block_end, crc_octet, checks, follows, fields_of, SpellsByPlaces}
+use Rattle.cf_dnplink.specs.LinkFrame.{with_crc, blocks_by, blocks_of, header_of, spelling, frame_with}
+use Rattle.cf_dnplink.specs.FramePlaces.{block_start, block_end, crc_octet, checks, follows, SpellsByPlaces}
 use Rattle.cf_dnplink.proofs.FramePlaces.{follows_front, same_octet, size_long}
 
 pub length-with_crc : (xs : List ℕ) → length (with_crc xs) ≡ length xs + 2

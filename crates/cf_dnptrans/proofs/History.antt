@@ -1,11 +1,10 @@
 -- What a segment does to the fragment that is put together.
-use Rattle.std.proofs.Common.{◌≡◌, ℕ, ◌+◌, ◌%◌, ◌<◌, ◌≤◌, ◌==◌, ◌&&◌, nat_le, Bool, true, false, not, if◌then◌else◌, List, [], ◌∷◌, ◌++◌, length, drop, Option, Some, None, inl, inr, refl, sym, ◌∙◌, ap, arith, length-append}
+use Rattle.std.proofs.Common.{◌≡◌, ℕ, ◌+◌, ◌%◌, ◌<◌, ◌≤◌, ◌==◌, ◌&&◌, Bool, true, false, not, if◌then◌else◌, List, [], ◌∷◌, ◌++◌, length, drop, Option, Some, None, inl, inr, refl, sym, ◌∙◌, ap, arith, length-append}
 use Rattle.std.proofs.lemmas.Bool.{cases_Bool, cases_lt}
 use Rattle.std.proofs.lemmas.Bool.Decides.{nat_tests}
 use Rattle.cf_dnptrans.specs.declared.assembly.SegmentAnswer.{SegmentAnswer}
-use Rattle.cf_dnptrans.specs.declared.assembly.SegmentAnswer.TheVariants as answer_
-use Rattle.cf_dnptrans.specs.Transport.{is_final, is_first, sequence, since_first, octets_of, is_linked, fitting, made_of, left_of, sequence_of, last_fragment, unfinished, last_sequence, added, continued, answer_of, answer_to}
-use Rattle.cf_dnptrans.specs.AssemblyValue.{AssemblyValue, open_of, IsAssemblyOf, continuing, makes, leaves, sequence_after, Steps}
+use Rattle.cf_dnptrans.specs.Transport.{is_final, is_first, sequence, since_first, octets_of, is_linked, fitting, made_of, left_of, sequence_of, last_fragment, unfinished, last_sequence, answer_of, answer_to}
+use Rattle.cf_dnptrans.specs.AssemblyValue.{AssemblyValue, open_of, IsAssemblyOf, continuing, makes, leaves, Steps}
 
 -- what fits is no longer than what it begins
 fitting-longer : (xs ys : List ℕ) → 2048 < length xs → fitting (xs ++ ys) ≡ None

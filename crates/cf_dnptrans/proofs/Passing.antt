@@ -1,5 +1,5 @@
 -- The first of the segments of fragments that go out one after the other.
-use Rattle.std.proofs.Common.{◌≡◌, ℕ, zero, suc, ◌+◌, ◌-◌, ◌*◌, ◌<◌, ◌≤◌, ◌&&◌, Bool, true, false, not, if◌then◌else◌, List, [], ◌∷◌, ◌++◌, length, take, drop, reverse, replicate, Option, Some, None, inl, inr, refl, sym, ◌∙◌, ap, subst, arith, length-append, append_assoc}
+use Rattle.std.proofs.Common.{◌≡◌, ℕ, zero, suc, ◌+◌, ◌-◌, ◌*◌, ◌<◌, ◌≤◌, List, [], ◌∷◌, ◌++◌, length, take, reverse, replicate, Some, None, inl, inr, refl, sym, ◌∙◌, ap, subst, arith, length-append, append_assoc}
 use Rattle.std.specs.List.{flat_map, AllByRecursion}
 use Rattle.std.proofs.lemmas.List.{append-nil, reverse-append, reverse-reverse, length-reverse}
 use Rattle.std.proofs.lemmas.List.Concat.{flat_map-cons}
@@ -8,9 +8,9 @@ use Rattle.std.proofs.lemmas.Bool.{cases_lt}
 use Rattle.cf_dnptrans.specs.declared.assembly.SegmentAnswer.{SegmentAnswer}
 use Rattle.cf_dnptrans.specs.declared.assembly.SegmentAnswer.TheVariants as answer_
 use Rattle.cf_dnptrans.specs.Segments.{count_of, segment_of, first_segments, segments_of}
-use Rattle.cf_dnptrans.specs.Transport.{is_final, answer_to, last_fragment, unfinished, left_of, since_first}
+use Rattle.cf_dnptrans.specs.Transport.{answer_to, last_fragment, unfinished}
 use Rattle.cf_dnptrans.specs.Passing.{IsSent, all_segments, answers_to, completed, fragments_of, answers_for, AreOfNext, held, PutTogether}
-use Rattle.cf_dnptrans.proofs.Segments.{more, whole, same, since, made, final_is, final_not, same_fragment}
+use Rattle.cf_dnptrans.proofs.Segments.{more, whole, same, since, made, final_is, final_not}
 
 pub reverse-cons : {A : Type 0} (x : A) (xs : List A) → reverse (x ∷ xs) ≡ reverse xs ++ x ∷ []
 reverse-cons x xs = reverse-append (x ∷ []) xs

@@ -1,12 +1,11 @@
 -- Segments of one fragment.
-use Rattle.std.proofs.Common.{◌≡◌, ℕ, zero, suc, ◌+◌, ◌-◌, ◌*◌, ◌/◌, ◌%◌, ◌<◌, ◌≤◌, ◌==◌, ◌&&◌, nat_le, Bool, true, false, not, if◌then◌else◌, List, [], ◌∷◌, ◌++◌, length, take, drop, Option, Some, None, refl, sym, ◌∙◌, ap, arith, length-append}
+use Rattle.std.proofs.Common.{◌≡◌, ℕ, zero, suc, ◌+◌, ◌-◌, ◌*◌, ◌%◌, ◌<◌, ◌≤◌, ◌==◌, true, false, if◌then◌else◌, List, ◌∷◌, ◌++◌, length, take, drop, Some, refl, sym, ◌∙◌, ap, arith}
 use Rattle.std.proofs.Math.Seq.{take-add}
-use Rattle.std.proofs.lemmas.List.{take_all, length-take-le, length-take}
+use Rattle.std.proofs.lemmas.List.{take_all, length-take}
 use Rattle.std.proofs.lemmas.Bool.Decides.{nat_tests}
-use Rattle.cf_dnptrans.specs.declared.assembly.SegmentAnswer.{SegmentAnswer}
 use Rattle.cf_dnptrans.specs.declared.assembly.SegmentAnswer.TheVariants as answer_
-use Rattle.cf_dnptrans.specs.Segments.{count_of, octet_of, segment_of, first_segments, segments_of}
-use Rattle.cf_dnptrans.specs.Transport.{is_final, is_first, sequence, since_first, octets_of, is_linked, fitting, made_of, left_of, sequence_of, last_fragment, unfinished, last_sequence, added, continued, answer_of, answer_to}
+use Rattle.cf_dnptrans.specs.Segments.{count_of, segment_of, first_segments, segments_of}
+use Rattle.cf_dnptrans.specs.Transport.{is_final, is_first, sequence, since_first, octets_of, is_linked, made_of, last_fragment, unfinished, last_sequence, added, answer_to}
 use Rattle.cf_dnptrans.proofs.History.{fits}
 
 module _ (f : List ℕ) (start : ℕ) where

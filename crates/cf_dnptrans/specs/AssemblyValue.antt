@@ -1,5 +1,5 @@
 -- What an `Assembly` keeps of the segments so far, and what one more segment does to it. The main definition is `IsAssemblyOf`.
-use Rattle.std.specs.Prelude.{◌≡◌, ℕ, ◌+◌, ◌%◌, ◌==◌, nat_le, Bool, true, false, if◌then◌else◌, List, [], ◌∷◌, ◌++◌, drop, Option, Some, None}
+use Rattle.std.specs.Prelude.{◌≡◌, ℕ, ◌+◌, ◌%◌, ◌==◌, Bool, true, if◌then◌else◌, List, [], ◌∷◌, ◌++◌, drop, Option, Some, None}
 use Rattle.cf_dnptrans.specs.declared.assembly.SegmentAnswer.{SegmentAnswer}
 use Rattle.cf_dnptrans.specs.declared.assembly.SegmentAnswer.TheVariants as answer_
 use Rattle.cf_dnptrans.specs.Transport.{is_final, is_first, sequence, fitting, last_fragment, unfinished, last_sequence, added, answer_of}

@@ -1,4 +1,4 @@
-use Rattle.std.proofs.Common.{◌≡◌, ◌<◌, ◌++◌, ◌∷◌, [], ℕ, List, ap, sym, ◌∙◌, arith, length, take, get_or}
+use Rattle.std.proofs.Common.{◌<◌, ◌++◌, ◌∷◌, [], ℕ, List, ap, sym, ◌∙◌, arith, length, take}
 use Rattle.std.proofs.lemmas.List.{take_more, take_more_set, length-set}
 use Rattle.cf_dnplink.specs.LinkFrame.{frame_value}
 use Rattle.cf_dnplink.specs.UserOctets.{user_of}

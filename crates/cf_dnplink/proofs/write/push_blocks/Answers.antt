@@ -1,4 +1,4 @@
-use Rattle.std.proofs.Common.{◌≡◌, ℕ, ◌+◌, ◌*◌, ◌-◌, ◌++◌, List, take, drop, sym, ◌∙◌, ap, append_assoc, arith, length, min, length-take, slice_range}
+use Rattle.std.proofs.Common.{◌≡◌, ℕ, ◌*◌, ◌-◌, ◌++◌, List, take, drop, sym, ◌∙◌, ap, append_assoc, arith, length, min, length-take, slice_range}
 use Rattle.std.proofs.lemmas.List.{append-nil, length-drop}
 use Rattle.cf_dnplink.specs.LinkFrame.{with_crc, blocks_by}
 use Rattle.cf_dnplink.proofs.Writing.{blocks_more, block_cut}

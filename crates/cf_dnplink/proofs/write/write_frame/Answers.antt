@@ -1,6 +1,6 @@
-use Rattle.std.proofs.Common.{◌≡◌, ◌++◌, ◌∙◌, ap, List, ℕ, sym, refl, arith}
+use Rattle.std.proofs.Common.{refl, arith}
 use Rattle.cf_view.proofs.Framing.{begins_by}
-use Rattle.cf_dnplink.specs.LinkFrame.{SpellsFrame, blocks_of, spelling, frame_with}
+use Rattle.cf_dnplink.specs.LinkFrame.{SpellsFrame, frame_with}
 use Rattle.cf_dnplink.proofs.write.write_frame.Goals as goal
 
 spelled : (c : goal.After-push_blocks) → SpellsFrame (frame_with c.args.control c.args.dest c.args.source c.args.user.now) c.push_blocks.new.out.items
