@@ -1,13 +1,13 @@
 -- The headers of a fragment, one after the other.
-use Rattle.std.proofs.Common.{◌≡◌, ℕ, zero, suc, ◌+◌, ◌-◌, ◌*◌, ◌<◌, ◌≤◌, ◌==◌, ◌&&◌, ◌||◌, nat_lt, nat_le, if◌then◌else◌, Bool, true, false, List, [], ◌∷◌, length, take, drop, slice_index, Option, Some, None, Result, Ok, Err, inl, inr, refl, sym, ◌∙◌, ap, subst, arith}
-use Rattle.std.proofs.lemmas.List.{length-drop, length-take-le, take_all, drop_all, drop-drop, get_or-take}
-use Rattle.std.proofs.lemmas.Bool.{cases_lt, cases_Bool, le-ltb, lt-ltb}
+use Rattle.std.proofs.Common.{◌≡◌, ℕ, zero, suc, ◌+◌, ◌-◌, ◌*◌, ◌<◌, ◌≤◌, ◌&&◌, ◌||◌, nat_lt, nat_le, if◌then◌else◌, Bool, true, false, List, [], ◌∷◌, length, take, drop, slice_index, Option, Some, None, Result, Ok, Err, inl, inr, refl, sym, ◌∙◌, ap, arith}
+use Rattle.std.proofs.lemmas.List.{length-drop, length-take-le, get_or-take}
+use Rattle.std.proofs.lemmas.Bool.{cases_Bool, le-ltb}
 use Rattle.std.proofs.lemmas.Bool.Decides.{nat_tests}
 use Rattle.cf_dnpobj.specs.declared.fragment.FragmentRefusal.{FragmentRefusal}
 use Rattle.cf_dnpobj.specs.declared.fragment.FragmentRefusal.TheVariants as refusal
 use Rattle.cf_dnpobj.specs.declared.object.Layout.{Layout}
 use Rattle.cf_dnpobj.specs.Objects.{layout_of, takes, is_span, is_all, width, range_size, objects_size}
-use Rattle.cf_dnpobj.specs.Headers.{number_at, count_of, size_of, is_whole, sized, header_size, IsHeader, BeginsWithHeader, with_first, after_size, headers_by, headers_in}
+use Rattle.cf_dnpobj.specs.Headers.{number_at, count_of, size_of, is_whole, sized, header_size, BeginsWithHeader, with_first, after_size, headers_by, headers_in}
 
 abbrev IsLong : Result ℕ FragmentRefusal → Type 0
 IsLong (Ok n) = 3 ≤ n

@@ -1,14 +1,14 @@
 -- Acts and replies, header by header.
 use Rattle.std.proofs.Common.{◌≡◌, ℕ, zero, suc, ◌+◌, ◌-◌, ◌<◌, ◌≤◌, List, [], ◌∷◌, ◌++◌, length, map, drop, if◌then◌else◌, Bool, true, false, Option, Some, None, IsSome, Result, Ok, Err, refl, sym, ◌∙◌, ap, subst, arith, append_assoc}
 use Rattle.std.specs.List.{flat_map, range_with_len, slice_get}
-use Rattle.std.proofs.lemmas.List.{length-drop, drop-drop, drop_all}
+use Rattle.std.proofs.lemmas.List.{drop-drop, drop_all}
 use Rattle.std.proofs.lemmas.Bool.{false≢true}
 use Rattle.std.proofs.lemmas.List.Concat.{flat_map-cons}
 use Rattle.cf_view.specs.declared.Act.{Act}
 use Rattle.cf_dnpobj.specs.declared.fragment.FragmentRefusal.{FragmentRefusal}
 use Rattle.cf_dnpobj.specs.Objects.{is_command}
 use Rattle.cf_dnpobj.specs.Headers.{BeginsWithHeader, count_of, headers_in}
-use Rattle.cf_dnpobj.specs.Acts.{header_acts, header_count, object_act, plain_act, group_of, acts_by, acts_in}
+use Rattle.cf_dnpobj.specs.Acts.{header_acts, header_count, object_act, plain_act, group_of, acts_in}
 use Rattle.cf_dnpobj.specs.Reply.{refused}
 use Rattle.cf_dnpobj.proofs.Headers.{headers_later}
 use Rattle.cf_dnpobj.proofs.Sums.{header_counted, some_headers}

@@ -1,7 +1,6 @@
 -- What is read, and the reply to it.
-use Rattle.std.proofs.Common.{◌≡◌, ℕ, ◌+◌, ◌%◌, ◌==◌, nat_lt, not, List, [], ◌∷◌, length, drop, slice_index, if◌then◌else◌, Bool, true, false, Result, Ok, Err, refl, sym, ◌∙◌, ap}
+use Rattle.std.proofs.Common.{◌≡◌, ℕ, ◌+◌, ◌%◌, nat_lt, not, List, [], ◌∷◌, length, drop, slice_index, if◌then◌else◌, Bool, true, false, Result, Ok, Err, refl, sym, ◌∙◌, ap}
 use Rattle.std.specs.List.{flat_map}
-use Rattle.std.proofs.lemmas.Bool.{cases_Bool, false≢true}
 use Rattle.cf_view.specs.declared.Reason.{Reason}
 use Rattle.cf_dnpobj.specs.declared.fragment.FragmentRefusal.{FragmentRefusal}
 use Rattle.cf_dnpobj.specs.declared.fragment.FragmentRefusal.TheVariants as refusal

@@ -1,8 +1,8 @@
 -- Numbers of headers and of acts, header by header.
-use Rattle.std.proofs.Common.{◌≡◌, ℕ, zero, suc, ◌+◌, ◌-◌, ◌<◌, ◌≤◌, List, [], ◌∷◌, ◌++◌, length, map, take, drop, if◌then◌else◌, Bool, true, false, Result, Ok, Err, inl, inr, refl, sym, ◌∙◌, ap, subst, arith, length-append}
-use Rattle.std.specs.List.{sum_by, flat_map, range_with_len}
+use Rattle.std.proofs.Common.{◌≡◌, ℕ, zero, suc, ◌+◌, ◌-◌, ◌<◌, ◌≤◌, List, [], ◌∷◌, length, take, drop, true, false, Result, Ok, Err, inl, inr, refl, sym, ◌∙◌, ap, arith, length-append}
+use Rattle.std.specs.List.{sum_by, flat_map}
 use Rattle.std.proofs.lemmas.List.{length-drop, take_all, drop-drop}
-use Rattle.std.proofs.lemmas.List.Concat.{flat_map-cons, length-flat_map}
+use Rattle.std.proofs.lemmas.List.Concat.{flat_map-cons}
 use Rattle.std.proofs.lemmas.List.FromFn.{length-map-range_with_len}
 use Rattle.std.proofs.lemmas.List.Sums.{sum_by-cons}
 use Rattle.std.proofs.lemmas.Bool.{cases_Bool, false≢true}
@@ -11,8 +11,8 @@ use Rattle.cf_dnpobj.specs.declared.fragment.FragmentRefusal.{FragmentRefusal}
 use Rattle.cf_dnpobj.specs.Objects.{is_command}
 use Rattle.cf_dnpobj.specs.Headers.{BeginsWithHeader, header_size, count_of, with_first, after_size, headers_by, headers_in}
 use Rattle.cf_dnpobj.specs.Fragment.{counted}
-use Rattle.cf_dnpobj.specs.Acts.{summed, header_count, header_acts, object_act, plain_act, group_of, acts_by, acts_in}
-use Rattle.cf_dnpobj.proofs.Headers.{headers_step, headers_fault}
+use Rattle.cf_dnpobj.specs.Acts.{summed, header_count, header_acts, object_act, acts_in}
+use Rattle.cf_dnpobj.proofs.Headers.{headers_step}
 
 -- the number behind some others
 abbrev pub plus : ℕ → Result ℕ FragmentRefusal → Result ℕ FragmentRefusal

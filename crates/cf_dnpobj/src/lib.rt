@@ -12,4 +12,6 @@ pub use fragment::{Fragment, FragmentRefusal, read_fragment, requests_are_spelle
 pub use reply::{reply_for, wants_reply};
 
 #[cfg(test)]
+mod reply_tests;
+#[cfg(test)]
 mod tests;

@@ -1,8 +1,7 @@
-//! Requests by hand and after other programs: each code, each qualifier, each refusal at the last octet where it comes and the
-//! first where it does not, and replies.
+//! Requests by hand and after other programs: each code, each qualifier, and each refusal at the last octet where it comes and
+//! the first where it does not.
 use super::*;
-use arrayvec::ArrayVec;
-use cf_view::{Reason, View};
+use cf_view::View;
 use std::process::Abort;
 
 /// What is read of a request: how many acts it has, and group, variation, index and value of the last one; that it is a
@@ -20,9 +19,8 @@ const OBJECT: Reading = Refused(FragmentRefusal::Object);
 
 const PARAMETER: Reading = Refused(FragmentRefusal::Parameter);
 
-/// Requests, and what is read of them.
-const REQUESTS: [(&[u8], Reading); 166] = [
-    // The tests before the headers, in their order.
+/// The tests before the headers, in their order.
+const FRONTS: [(&[u8], Reading); 16] = [
     (&[], Refused(FragmentRefusal::Short)),
     (&[0xC3], Refused(FragmentRefusal::Short)),
     (&[0x83, 0x01], Refused(FragmentRefusal::NotSingle)),
@@ -39,7 +37,10 @@ const REQUESTS: [(&[u8], Reading); 166] = [
     (&[0xC0, 0x81], Refused(FragmentRefusal::Function)),
     (&[0xC0, 0x82], Refused(FragmentRefusal::Function)),
     (&[0xFF, 0xFF, 0x3C], Refused(FragmentRefusal::Function)),
-    // The codes without a header, and a confirmation with one.
+];
+
+/// The codes without a header, and a confirmation with one.
+const CODES: [(&[u8], Reading); 21] = [
     (&[0xC3, 0x00], Confirm),
     (&[0xFF, 0x00], Confirm),
     (&[0xC3, 0x00, 0x3C], PARAMETER),
@@ -61,8 +62,12 @@ const REQUESTS: [(&[u8], Reading); 166] = [
     (&[0xC3, 0x04], PARAMETER),
     (&[0xC3, 0x05], PARAMETER),
     (&[0xC3, 0x06], PARAMETER),
-    // Requests that masters send, after the tests of opendnp3 and section 4.4 of the standard: all classes, class 0, unsolicited
-    // responses on and off, clear the restart bit, a time, cold restart, delay measurement, freeze, assign class.
+];
+
+/// Requests that masters send, after the tests of opendnp3 and section 4.4 of the standard: all classes, class 0,
+/// unsolicited responses on and off, clear the restart bit, a time, cold restart, delay measurement, freeze, assign
+/// class.
+const SENT: [(&[u8], Reading); 15] = [
     (
         &[
             0xC3, 0x01, 0x3C, 0x02, 0x06, 0x3C, 0x03, 0x06, 0x3C, 0x04, 0x06, 0x3C, 0x01, 0x06,
@@ -133,7 +138,10 @@ const REQUESTS: [(&[u8], Reading); 166] = [
         ],
         Acts(1, 41, 2, 1, Some(12345)),
     ),
-    // Each qualifier of a request that names objects, at its limits and past them.
+];
+
+/// Each qualifier of a request that names objects, at its limits and past them.
+const QUALIFIERS: [(&[u8], Reading); 35] = [
     (&[0xC3, 0x01, 0x3C, 0x02, 0x06], Acts(1, 60, 2, 0, None)),
     (
         &[0xC3, 0x01, 0x01, 0x02, 0x00, 0x00, 0x07],
@@ -250,7 +258,10 @@ const REQUESTS: [(&[u8], Reading); 166] = [
         &[0xC3, 0x01, 0x3C, 0x02, 0xFF, 0x01, 0x00, 0x01, 0x00],
         PARAMETER,
     ),
-    // Headers that are cut off at each octet, and one behind a whole one.
+];
+
+/// Headers that are cut off at each octet, and one behind a whole one.
+const CUT_OFF: [(&[u8], Reading); 16] = [
     (&[0xC3, 0x01, 0x3C], PARAMETER),
     (&[0xC3, 0x01, 0x3C, 0x02], PARAMETER),
     (&[0xC3, 0x01, 0x01, 0x02, 0x00], PARAMETER),
@@ -267,7 +278,10 @@ const REQUESTS: [(&[u8], Reading); 166] = [
     (&[0xC3, 0x01, 0x3C, 0x02, 0x06, 0x3C], PARAMETER),
     (&[0xC3, 0x01, 0x3C, 0x02, 0x06, 0x3C, 0x03], PARAMETER),
     (&[0xC3, 0x01, 0x3C, 0x02, 0x06, 0x3C, 0x03, 0x07], PARAMETER),
-    // Objects and qualifiers of commands.
+];
+
+/// Objects and qualifiers of commands.
+const COMMANDS: [(&[u8], Reading); 32] = [
     (
         &[
             0xC3, 0x05, 0x0C, 0x02, 0x17, 0x01, 0x05, 0x01, 0x01, 0x01, 0x00, 0x00, 0x00, 0x01,
@@ -434,7 +448,10 @@ const REQUESTS: [(&[u8], Reading); 166] = [
         ],
         OBJECT,
     ),
-    // Values, and indexes of both widths.
+];
+
+/// Values, and indexes of both widths.
+const VALUES: [(&[u8], Reading); 12] = [
     (
         &[
             0xC3, 0x06, 0x0C, 0x01, 0x17, 0x01, 0xFF, 0xFE, 0x01, 0x64, 0x00, 0x00, 0x00, 0x64,
@@ -511,7 +528,10 @@ const REQUESTS: [(&[u8], Reading); 166] = [
         ],
         PARAMETER,
     ),
-    // What is written.
+];
+
+/// What is written.
+const WRITES: [(&[u8], Reading); 19] = [
     (
         &[
             0xC3, 0x02, 0x32, 0x01, 0x08, 0x01, 0x00, 0x01, 0x02, 0x03, 0x04, 0x05, 0x06,
@@ -585,99 +605,6 @@ const REQUESTS: [(&[u8], Reading); 166] = [
     ),
 ];
 
-/// Requests, reasons, and the replies.
-const REPLIES: [(&[u8], Reason, &[u8]); 16] = [
-    // A direct operate of this project's and its refusal.
-    (
-        &[
-            0xC3, 0x05, 0x0C, 0x01, 0x17, 0x01, 0x05, 0x03, 0x01, 0x64, 0, 0, 0, 0x64, 0, 0, 0, 0,
-        ],
-        Reason::Point,
-        &[
-            0xC3, 0x81, 0, 0, 0x0C, 0x01, 0x17, 0x01, 0x05, 0x03, 0x01, 0x64, 0, 0, 0, 0x64, 0, 0,
-            0, 9,
-        ],
-    ),
-    // Select and operate, two headers, two objects, indexes of both widths; CON and UNS are not repeated.
-    (
-        &[
-            0xF1, 0x03, 0x29, 0x02, 0x17, 0x02, 0x01, 0x0A, 0, 0, 0x02, 0xFF, 0xFF, 0xFF,
-        ],
-        Reason::Value,
-        &[
-            0xC1, 0x81, 0, 0, 0x29, 0x02, 0x17, 0x02, 0x01, 0x0A, 0, 9, 0x02, 0xFF, 0xFF, 9,
-        ],
-    ),
-    (
-        &[
-            0xCF, 0x04, 0x29, 0x02, 0x17, 0x01, 0x01, 0x0A, 0, 1, 0x29, 0x03, 0x28, 0x01, 0, 0x02,
-            0x01, 0, 0, 0x80, 0x3F, 1,
-        ],
-        Reason::Function,
-        &[
-            0xCF, 0x81, 0, 0, 0x29, 0x02, 0x17, 0x01, 0x01, 0x0A, 0, 9, 0x29, 0x03, 0x28, 0x01, 0,
-            0x02, 0x01, 0, 0, 0x80, 0x3F, 9,
-        ],
-    ),
-    (
-        &[
-            0xC0, 0x05, 0x29, 0x01, 0x17, 0x01, 0x01, 1, 2, 3, 4, 5, 0x29, 0x04, 0x17, 0x01, 0x01,
-            1, 2, 3, 4, 5, 6, 7, 8, 0,
-        ],
-        Reason::Function,
-        &[
-            0xC0, 0x81, 0, 0, 0x29, 0x01, 0x17, 0x01, 0x01, 1, 2, 3, 4, 9, 0x29, 0x04, 0x17, 0x01,
-            0x01, 1, 2, 3, 4, 5, 6, 7, 8, 9,
-        ],
-    ),
-    // Commands that are not well formed.
-    (&[0xC3, 0x05], Reason::Value, &[0xC3, 0x81, 0, 4]),
-    (
-        &[0xC3, 0x05, 0x0C, 0x02, 0x17, 0x01, 0x05],
-        Reason::Point,
-        &[0xC3, 0x81, 0, 2],
-    ),
-    (
-        &[0x83, 0x05, 0x29, 0x02, 0x17, 0x01, 0x01, 0x0A, 0, 0],
-        Reason::Value,
-        &[0xC3, 0x81, 0, 4],
-    ),
-    (
-        &[0xC3, 0x04, 0x29, 0x02, 0x17, 0x01, 0x01, 0x0A, 0],
-        Reason::Value,
-        &[0xC3, 0x81, 0, 4],
-    ),
-    // Every other request.
-    (
-        &[0xC4, 0x01, 0x3C, 0x02, 0x06],
-        Reason::Function,
-        &[0xC4, 0x81, 0, 1],
-    ),
-    (
-        &[0xC4, 0x01, 0x3C, 0x02, 0x06],
-        Reason::Point,
-        &[0xC4, 0x81, 0, 2],
-    ),
-    (
-        &[0xC4, 0x01, 0x3C, 0x02, 0x06],
-        Reason::Value,
-        &[0xC4, 0x81, 0, 4],
-    ),
-    (
-        &[0xC0, 0x02, 0x50, 0x01, 0x00, 0x07, 0x07, 0x00],
-        Reason::Function,
-        &[0xC0, 0x81, 0, 1],
-    ),
-    (&[0xDF, 0x0D], Reason::Function, &[0xCF, 0x81, 0, 1]),
-    (
-        &[0xC0, 0x07, 0x14, 0x00, 0x06],
-        Reason::Function,
-        &[0xC0, 0x81, 0, 1],
-    ),
-    (&[0xC9, 0x0B], Reason::Function, &[0xC9, 0x81, 0, 1]),
-    (&[0x00, 0xFF], Reason::Value, &[0xC0, 0x81, 0, 4]),
-];
-
 fn read(rt: &impl Abort, octets: &[u8]) -> Reading {
     match read_fragment(View::one(octets)) {
         Err(refusal) => Refused(refusal),
@@ -699,75 +626,40 @@ fn read(rt: &impl Abort, octets: &[u8]) -> Reading {
     }
 }
 
-fn reply_to(rt: &impl Abort, octets: &[u8], reason: &Reason) -> ArrayVec<u8, 2056> {
-    assert!(rt; 2 <= octets.len() && octets.len() <= 2048);
-    assert!(rt; wants_reply(octets[1]));
-    assert!(rt; *reason != Reason::Station);
-    let mut out = ArrayVec::new();
-    out.push(0x55);
-    reply_for(View::one(octets), reason, &mut out);
-    out
-}
-
-#[test]
-fn reads_requests_at_their_edges(rt: HostRuntime) {
-    for (octets, wanted) in REQUESTS {
-        assert_eq!(rt; read(&rt, octets), wanted, "{octets:?}");
+fn reads(rt: &impl Abort, requests: &[(&[u8], Reading)]) {
+    for (octets, wanted) in requests {
+        assert_eq!(rt; read(rt, octets), *wanted, "{octets:?}");
     }
 }
 
 #[test]
-fn replies_to_refused_requests(rt: HostRuntime) {
-    for (octets, reason, wanted) in REPLIES {
-        assert_eq!(rt;
-            reply_to(&rt, octets, &reason).as_slice(),
-            wanted,
-            "{octets:?}"
-        );
-    }
-    for code in 0..=255u8 {
-        assert_eq!(rt; wants_reply(code), ![0, 6, 8, 10].contains(&code), "{code}");
-    }
+fn reads_the_front_and_the_code(rt: HostRuntime) {
+    reads(&rt, &FRONTS);
+    reads(&rt, &CODES);
 }
 
-/// A direct operate of 255 and of 253 analog outputs: its acts are in the order of its octets, and its reply is two octets longer.
 #[test]
-fn reads_and_refuses_a_long_command(rt: HostRuntime) {
-    let mut octets: ArrayVec<u8, 2048> = ArrayVec::new();
-    for octet in [0xC3, 0x05, 0x29, 0x02, 0x17, 0xFF] {
-        let _ = octets.try_push(octet);
-    }
-    for i in 0..=254u8 {
-        for octet in [i, i, 0, 0] {
-            let _ = octets.try_push(octet);
-        }
-    }
-    for octet in [0x29, 0x02, 0x17, 0xFD] {
-        let _ = octets.try_push(octet);
-    }
-    for i in 0..=252u8 {
-        for octet in [i, i, 1, 0] {
-            let _ = octets.try_push(octet);
-        }
-    }
-    assert_eq!(rt; octets.len(), 2042);
-    match read_fragment(View::one(octets.as_slice())) {
-        Err(refusal) => assert!(rt; false, "{refusal:?}"),
-        Ok(fragment) => {
-            assert!(rt; fragment.objects.len() <= 2046 && fragment.code != 0);
-            assert_eq!(rt; act_count(&fragment), 508);
-            for i in 0..act_count(&fragment) {
-                let (point, value) = if i < 255 { (i, i) } else { (i - 255, i + 1) };
-                let act = act_at(&fragment, i);
-                assert_eq!(rt; (act.point, act.value), (point, Some(i64::from(value))));
-            }
-        }
-    }
-    let reply = reply_to(&rt, octets.as_slice(), &Reason::Value);
-    assert_eq!(rt; reply.len(), 2044);
-    assert!(rt;
-        reply
-            .as_slice()
-            .ends_with(&[251, 251, 1, 9, 252, 252, 1, 9])
-    );
+fn reads_requests_that_masters_send(rt: HostRuntime) {
+    reads(&rt, &SENT);
+}
+
+#[test]
+fn reads_each_qualifier(rt: HostRuntime) {
+    reads(&rt, &QUALIFIERS);
+}
+
+#[test]
+fn refuses_what_is_cut_off(rt: HostRuntime) {
+    reads(&rt, &CUT_OFF);
+}
+
+#[test]
+fn reads_commands_and_values(rt: HostRuntime) {
+    reads(&rt, &COMMANDS);
+    reads(&rt, &VALUES);
+}
+
+#[test]
+fn reads_writes(rt: HostRuntime) {
+    reads(&rt, &WRITES);
 }

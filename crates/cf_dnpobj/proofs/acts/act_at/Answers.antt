@@ -1,4 +1,4 @@
-use Rattle.std.proofs.Common.{◌≡◌, ◌∙◌, arith, length}
+use Rattle.std.proofs.Common.{◌∙◌, length}
 use Rattle.cf_dnpobj.proofs.Sums.{above_zero}
 use Rattle.cf_dnpobj.proofs.InOrder.{act_is, act_there}
 use Rattle.cf_dnpobj.proofs.acts.act_at.Goals as goal

@@ -1,4 +1,4 @@
-use Rattle.std.proofs.Common.{◌≡◌, arith, length}
+use Rattle.std.proofs.Common.{length}
 use Rattle.cf_dnpobj.proofs.Sums.{acts_summed, above_zero}
 use Rattle.cf_dnpobj.proofs.acts.act_count.Goals as goal
 

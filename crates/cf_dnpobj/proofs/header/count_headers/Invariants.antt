@@ -1,4 +1,4 @@
-use Rattle.std.proofs.Common.{◌-◌, ◌≡◌, ℕ, ◌+◌, ◌<◌, ◌≤◌, length, drop}
+use Rattle.std.proofs.Common.{◌-◌, ◌≡◌, ◌≤◌, drop}
 use Rattle.cf_dnpobj.specs.Headers.{headers_in}
 use Rattle.cf_dnpobj.specs.Fragment.{counted}
 use Rattle.cf_dnpobj.proofs.Sums.{plus}

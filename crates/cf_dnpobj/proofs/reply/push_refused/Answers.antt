@@ -1,4 +1,4 @@
-use Rattle.std.proofs.Common.{◌≡◌, ◌+◌, ◌∙◌, ℕ, List, drop, sym, subst, arith, length}
+use Rattle.std.proofs.Common.{◌≡◌, ◌+◌, ℕ, List, drop, sym, subst, arith}
 use Rattle.std.proofs.lemmas.List.{length-drop}
 use Rattle.cf_dnpobj.specs.Headers.{BeginsWithHeader}
 use Rattle.cf_dnpobj.proofs.Sums.{rest_is}
