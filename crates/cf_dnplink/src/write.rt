@@ -8,7 +8,7 @@ use crate::check::crc;
 use arrayvec::ArrayVec;
 use cf_view::{View, push_bytes, push_u16_le};
 
-/// Replaces the contents of `out` by a frame with at most 250 user octets.
+/// Replaces the contents of `out` by a frame with at most 250 user octets, 10 to 292 octets in all. IEEE 1815-2012, section 9.2.
 pub fn write_frame(control: u8, dest: u16, source: u16, user: &[u8], out: &mut ArrayVec<u8, 292>)
     requires { length user.now ≤ 250 }
     ensures written { out.new.items ≡ spelling control dest source user.now }
@@ -30,6 +30,7 @@ fn push_block(out: &mut ArrayVec<u8, 292>, octets: &[u8])
     push_u16_le(out, crc(View::one(octets)));
 }
 
+/// Appends the header of a frame, its CRC included.
 fn push_header(out: &mut ArrayVec<u8, 292>, len: u8, control: u8, dest: u16, source: u16)
     requires { out.old.items ≡ [] }
     ensures items { out.new.items ≡ header_of len control dest source }
@@ -48,6 +49,7 @@ fn push_header(out: &mut ArrayVec<u8, 292>, len: u8, control: u8, dest: u16, sou
     push_block(out, &octets);
 }
 
+/// Appends user octets in blocks of 16, each with its CRC.
 fn push_blocks(out: &mut ArrayVec<u8, 292>, user: &[u8])
     requires user { length user.now ≤ 250 }
     requires room { array_vec_len out.old ≡ 10 }
