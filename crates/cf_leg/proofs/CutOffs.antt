@@ -1,0 +1,73 @@
+-- A leg that was cut.
+use Rattle.std.proofs.Common.{◌≡◌, ℕ, ◌+◌, ◌%◌, ◌^◌, Bool, true, false, cond, ◌||◌, List, [], ◌∷◌, ◌++◌, length, Option, refl, sym, ◌∙◌, ap, subst}
+use Rattle.cf_outside.specs.Desk.{SentValue}
+use Rattle.cf_outq.specs.SendQueue.{Queue}
+use Rattle.cf_packet.specs.Packet.{PacketOf}
+use Rattle.cf_rebuild.specs.ReceiveWindow.{base_of}
+use Rattle.cf_stream.specs.Position.{sequence_number}
+use Rattle.cf_stream.specs.Stream.{Stream, letter_count}
+use Rattle.cf_leg.proofs.Events.{open_is_greeted, own_same, peer_same}
+use Rattle.cf_leg.proofs.Hears.{phase_greeted, phase_is_open}
+use Rattle.cf_leg.specs.Calls.{CutOff, is_greeted_phase, rst_as, rst_of}
+use Rattle.cf_leg.specs.Emits.{Greets, IsGreeting, Cuts, IsRight, cut_by, rst, syn, syn_ack_for}
+use Rattle.cf_leg.specs.Emitted.{with_segment}
+use Rattle.cf_leg.specs.Event.{Came, Nothing, Greeting, Packet, Unspoken, Cut, LegEvent, greeted_by}
+use Rattle.cf_leg.specs.Heard.{opened}
+use Rattle.cf_leg.specs.LegValue.{LegValue, IsLegOf, is_open, marks, phase_of}
+use Rattle.cf_leg.specs.Told.{letters_sent, letters_sent_at, letters_sent_by, letters_sent_by_all, is_greeted, own_number, peer_number}
+use Rattle.cf_leg.specs.declared.ends.Ends.{Ends}
+use Rattle.cf_leg.specs.declared.ends.Role.{Role}
+use Rattle.cf_leg.specs.declared.ends.Role.TheVariants as role
+
+-- a greeting carries no letter
+greeting_carries : (ends : Ends) (r : Role) (p : PacketOf) → IsGreeting ends r p → (o c : ℕ) → letters_sent_by o c p ≡ c
+greeting_carries ends (role.Active n) p k o c = subst (λ (x : PacketOf). letters_sent_by o c x ≡ c) (sym k) refl
+greeting_carries ends (role.Passive n mss) p k o c = subst (λ (x : PacketOf). letters_sent_by o c x ≡ c) (sym k) refl
+
+came_carries : (ends : Ends) (es : List LegEvent) (a : Came) → Greets ends es a → (o c : ℕ) → letters_sent_by_all o c (greeted_by a ++ []) ≡ c
+came_carries ends es Nothing g o c = refl
+came_carries ends es (Packet p) g o c = refl
+came_carries ends es (Greeting p) g o c = greeting_carries ends ends.role p g.0 o c
+
+module _ (leg : LegValue) (q : Queue) (e : LegEvent) (es : List LegEvent) (h : IsLegOf leg (marks q) (record e { ending = Unspoken } ∷ es)) (out : PacketOf) where
+  sent_is : q.sent ≡ letters_sent_at leg.ends.role es e
+  sent_is = h.of_sent ∙ came_carries leg.ends es e.came h.of_right.0.came (own_number leg.ends.role (record e { ending = Unspoken } ∷ es)) (letters_sent_at leg.ends.role es e)
+
+  open_is : is_open leg.phase ≡ opened leg.ends.role (record e { ending = Unspoken } ∷ es)
+  open_is = ap is_open h.of_phase ∙ phase_is_open (opened leg.ends.role (record e { ending = Unspoken } ∷ es)) (is_greeted (record e { ending = Unspoken } ∷ es))
+
+  greeted_is : is_greeted_phase leg.phase ≡ is_greeted (record e { ending = Unspoken } ∷ es)
+  greeted_is = ap is_greeted_phase h.of_phase ∙ phase_greeted (opened leg.ends.role (record e { ending = Unspoken } ∷ es)) (is_greeted (record e { ending = Unspoken } ∷ es)) (open_is_greeted leg.ends.role (record e { ending = Unspoken } ∷ es))
+
+  taken_is : base_of leg.window ≡ letter_count h.of_window.taken
+  taken_is = sym (ap (λ (b : Bool). length h.of_window.taken.bytes + cond b 1 0) (sym h.of_window.ended) ∙ ap (λ (n : ℕ). n + cond leg.window.ended 1 0) (sym h.of_window.count))
+
+  pub rst_is : rst_of leg q ≡ cut_by leg.ends (record e { ending = Cut out } ∷ es) (letters_sent_at leg.ends.role es e) (letter_count h.of_window.taken) leg.ends.role
+  rst_is = by leg.ends.role h.of_own h.of_other
+    where
+      by : (r : Role) → leg.own ≡ own_number r (record e { ending = Unspoken } ∷ es) → leg.other ≡ peer_number r (record e { ending = Unspoken } ∷ es)
+          → rst_as leg q r ≡ cut_by leg.ends (record e { ending = Cut out } ∷ es) (letters_sent_at leg.ends.role es e) (letter_count h.of_window.taken) r
+      by (role.Active n) o p =
+          ap (λ (b : Bool). cond b (rst leg.ends (sequence_number leg.own q.sent) (sequence_number leg.other (base_of leg.window)) 20) (rst leg.ends (sequence_number leg.own 0) 0 4)) open_is
+          ∙ ap (λ (x : ℕ). cond (opened leg.ends.role (record e { ending = Unspoken } ∷ es)) (rst leg.ends (sequence_number x q.sent) (sequence_number leg.other (base_of leg.window)) 20) (rst leg.ends (sequence_number x 0) 0 4)) o
+          ∙ ap (λ (x : ℕ). cond (opened leg.ends.role (record e { ending = Unspoken } ∷ es)) (rst leg.ends (sequence_number n x) (sequence_number leg.other (base_of leg.window)) 20) (rst leg.ends (sequence_number n 0) 0 4)) sent_is
+          ∙ ap (λ (x : ℕ). cond (opened leg.ends.role (record e { ending = Unspoken } ∷ es)) (rst leg.ends (sequence_number n (letters_sent_at leg.ends.role es e)) (sequence_number leg.other x) 20) (rst leg.ends (sequence_number n 0) 0 4)) taken_is
+          ∙ ap (λ (x : ℕ). cond (opened leg.ends.role (record e { ending = Unspoken } ∷ es)) (rst leg.ends (sequence_number n (letters_sent_at leg.ends.role es e)) (sequence_number x (letter_count h.of_window.taken)) 20) (rst leg.ends (sequence_number n 0) 0 4)) (h.of_other ∙ sym (peer_same (record e { ending = Unspoken }) es (Cut out) leg.ends.role))
+      by (role.Passive n mss) o p =
+          ap (λ (b : Bool). cond b (rst leg.ends (sequence_number leg.own q.sent) (sequence_number leg.other (base_of leg.window)) 20) (rst leg.ends 0 (sequence_number leg.other 0) 20)) greeted_is
+          ∙ ap (λ (x : ℕ). cond (is_greeted (record e { ending = Unspoken } ∷ es)) (rst leg.ends (sequence_number x q.sent) (sequence_number leg.other (base_of leg.window)) 20) (rst leg.ends 0 (sequence_number leg.other 0) 20)) (h.of_own ∙ sym (own_same (record e { ending = Unspoken }) es (Cut out) leg.ends.role))
+          ∙ ap (λ (x : ℕ). cond (is_greeted (record e { ending = Unspoken } ∷ es)) (rst leg.ends (sequence_number (own_number leg.ends.role (record e { ending = Cut out } ∷ es)) x) (sequence_number leg.other (base_of leg.window)) 20) (rst leg.ends 0 (sequence_number leg.other 0) 20)) sent_is
+          ∙ ap (λ (x : ℕ). cond (is_greeted (record e { ending = Unspoken } ∷ es)) (rst leg.ends (sequence_number (own_number leg.ends.role (record e { ending = Cut out } ∷ es)) (letters_sent_at leg.ends.role es e)) (sequence_number leg.other x) 20) (rst leg.ends 0 (sequence_number leg.other 0) 20)) taken_is
+          ∙ ap (λ (x : ℕ). cond (is_greeted (record e { ending = Unspoken } ∷ es)) (rst leg.ends (sequence_number (own_number leg.ends.role (record e { ending = Cut out } ∷ es)) (letters_sent_at leg.ends.role es e)) (sequence_number x (letter_count h.of_window.taken)) 20) (rst leg.ends 0 (sequence_number x 0) 20)) p
+
+pub cut_of : (now : ℕ) (leg : LegValue) (q : Queue) (before after : Option (List SentValue)) → after ≡ with_segment before now (rst_of leg q) → CutOff now leg q before after
+cut_of now leg q before after is = record {
+  out = rst_of leg q;
+  packets = is;
+  right = λ e es h. record {
+    over = h.of_right.0.over;
+    fired = h.of_right.0.fired;
+    came = h.of_right.0.came;
+    ending = record { taken = h.of_window.taken; is_taken = h.of_window.is_taken; rst = rst_is leg q e es h (rst_of leg q) };
+  };
+}

@@ -1,0 +1,193 @@
+-- A new leg, and one that greeted.
+use Rattle.std.proofs.Common.{◌≡◌, ℕ, ◌+◌, ◌<◌, ◌≤◌, Bool, true, false, cond, not, ◌&&◌, ◌||◌, List, [], ◌∷◌, ◌++◌, Option, Some, None, refl, sym, ◌∙◌, ap, subst, arith, inl, inr}
+use Rattle.std.specs.Prelude.{nat_lt, ◌==◌}
+use Rattle.std.specs.Option.{option_or, is_some}
+use Rattle.std.proofs.lemmas.Bool.{cases_Bool, true≢false, false≢true}
+use Rattle.cf_outside.specs.Desk.{SentValue}
+use Rattle.cf_packet.specs.Packet.{PacketOf}
+use Rattle.cf_rebuild.specs.ReceiveWindow.{Window, IsWindow, Consumes, base_of}
+use Rattle.cf_rebuild.specs.ReceiveWindow.{IsWindowOf}
+use Rattle.cf_stream.specs.FirstCopy.{Offer}
+use Rattle.cf_stream.specs.Position.{natural, position, sequence_number}
+use Rattle.cf_stream.specs.Stream.{letter_count}
+use Rattle.cf_leg.proofs.Clocked.{greeted_idle, own_idle, peer_idle, mss_idle, or_none}
+use Rattle.cf_leg.proofs.Speech.{position_ahead}
+use Rattle.cf_leg.proofs.Spoken.{parts_told}
+use Rattle.cf_leg.specs.Calls.{Greeted, IsMade, IsOwn, greeted_as, greeting_as, greeting_of, is_greeted_phase, no_marks, window_by}
+use Rattle.cf_leg.specs.Emits.{IsGreeting, peer_mss, send_mss, syn, syn_ack_for}
+use Rattle.cf_leg.specs.Emitted.{with_segment}
+use Rattle.cf_leg.specs.Event.{Greeting, Nothing, Unspoken, LegEvent, moment, stream_after}
+use Rattle.cf_leg.specs.Heard.{opened, acked, offers}
+use Rattle.cf_leg.specs.LegValue.{Marks, LegValue, IsLeg, IsLegOf, first_told, phase_of, told_of}
+use Rattle.cf_leg.specs.Timer.{armed, due, tries, backoff, has_fired, second}
+use Rattle.cf_leg.specs.Told.{told, told_at, told_by, told_by_all, letters_sent, letters_sent_at, letters_sent_by_all, greeting, is_greeted, own_number, peer_number, seq_of}
+use Rattle.cf_leg.specs.declared.ends.Ends.{Ends}
+use Rattle.cf_leg.specs.declared.ends.Phase.{Phase}
+use Rattle.cf_leg.specs.declared.ends.Phase.TheVariants as phase
+use Rattle.cf_leg.specs.declared.ends.Role.{Role}
+use Rattle.cf_leg.specs.declared.ends.Role.TheVariants as role
+use Rattle.cf_leg.specs.declared.ends.Told.{Told}
+
+-- ---- a new leg stands for no events
+pub made_stands : (ends : Ends) (own other mss : ℕ) (leg : LegValue) → own ≡ own_number ends.role [] → other ≡ peer_number ends.role [] → mss ≡ send_mss (peer_mss ends.role [])
+    → IsMade ends own other mss leg → IsLegOf leg no_marks []
+made_stands ends own other mss leg o n m i = subst (λ (l : LegValue). IsLegOf l no_marks []) (sym i.parts) (record {
+  of_right = tt;
+  of_phase = refl;
+  of_own = o;
+  of_other = n;
+  of_mss = m;
+  of_base = refl;
+  of_edge = i.edge;
+  of_first = λ c g. absurd (false≢true g);
+  of_window = i.window;
+  of_sent = refl;
+  of_edge_shown = refl;
+  of_shown = refl;
+  of_acked = refl;
+  of_owes = refl;
+  of_running = refl;
+  of_deadline = refl;
+  of_fired = refl;
+})
+
+-- ---- a leg that greeted
+made_parts : (o g : Bool) → phase.Made ≡ phase_of o g → (o ≡ false) × (g ≡ false)
+made_parts true g h = absurd (false≢true (ap is_greeted_phase h))
+made_parts false true h = absurd (false≢true (ap is_greeted_phase h))
+made_parts false false h = (refl, refl)
+
+none_of : (o : Option PacketOf) → is_some o ≡ false → o ≡ None
+none_of None h = refl
+none_of (Some p) h = absurd (true≢false h)
+
+module _ (leg : LegValue) (i : IsLeg leg) (w : IsWindow leg.window) (m : Marks) (now number : ℕ) (e : LegEvent) (es : List LegEvent)
+    (made : leg.phase ≡ phase.Made) (own : IsOwn leg.ends.role number) (at : now ≡ moment e) (h : IsLegOf leg m (record e { came = Nothing; ending = Unspoken } ∷ es)) where
+  out : PacketOf
+  out = greeting_as leg.ends number leg.other leg.ends.role
+
+  parts : (opened leg.ends.role (record e { came = Nothing; ending = Unspoken } ∷ es) ≡ false) × (is_greeted (record e { came = Nothing; ending = Unspoken } ∷ es) ≡ false)
+  parts = made_parts (opened leg.ends.role (record e { came = Nothing; ending = Unspoken } ∷ es)) (is_greeted (record e { came = Nothing; ending = Unspoken } ∷ es)) (sym made ∙ h.of_phase)
+
+  closed : opened leg.ends.role es ≡ false
+  closed = sym (or_none (opened leg.ends.role es)) ∙ parts.0
+
+  ungreeted : is_greeted es ≡ false
+  ungreeted = sym (greeted_idle e.tick e.ticked e.fired es) ∙ parts.1
+
+  none : greeting es ≡ None
+  none = none_of (greeting es) ungreeted
+
+  greets : is_greeted (record e { came = Greeting (greeting_as leg.ends number leg.other leg.ends.role); ending = Unspoken } ∷ es) ≡ true
+  greets = ap (λ (o : Option PacketOf). is_some (option_or o (Some (greeting_as leg.ends number leg.other leg.ends.role)))) none
+
+  told_zero : told_at leg.ends.role es e ≡ record { base = 0; edge = 0 }
+  told_zero = sym (parts_told leg.base leg.window.edge 0 0 (told leg.ends.role (record e { came = Nothing; ending = Unspoken } ∷ es)) h.of_base h.of_edge)
+      ∙ parts_told leg.base leg.window.edge 0 0 (record { base = 0; edge = 0 }) (omega (arith, i.base, w.base, i.early made)) (i.early made)
+
+  seq_is : (r : Role) → (greeting_as leg.ends number leg.other r).seq ≡ number
+  seq_is (role.Active k) = refl
+  seq_is (role.Passive other mss) = refl
+
+  own_is : (r : Role) → IsOwn r number → number ≡ own_number r (record e { came = Greeting (greeting_as leg.ends number leg.other r); ending = Unspoken } ∷ es)
+  own_is (role.Active k) o = o
+  own_is (role.Passive other mss) o = sym (ap (λ (g : Option PacketOf). seq_of (option_or g (Some (greeting_as leg.ends number leg.other (role.Passive other mss))))) none)
+
+  peer_is : (r : Role) (p : PacketOf) → peer_number r (record e { came = Nothing; ending = Unspoken } ∷ es) ≡ peer_number r (record e { came = Greeting p; ending = Unspoken } ∷ es)
+  peer_is (role.Active k) p = refl
+  peer_is (role.Passive other mss) p = refl
+
+  mss_is : (r : Role) (p : PacketOf) → peer_mss r (record e { came = Nothing; ending = Unspoken } ∷ es) ≡ peer_mss r (record e { came = Greeting p; ending = Unspoken } ∷ es)
+  mss_is (role.Active k) p = refl
+  mss_is (role.Passive other mss) p = refl
+
+  right : (r : Role) → IsOwn r number → leg.other ≡ peer_number r es → IsGreeting leg.ends r (greeting_as leg.ends number leg.other r)
+  right (role.Active k) o n = ap (λ (x : ℕ). syn leg.ends x) o
+  right (role.Passive other mss) o n = ap (λ (x : ℕ). syn_ack_for leg.ends x number) n
+
+  told_then : (r : Role) → leg.other ≡ peer_number r es → (T : Told) → T ≡ record { base = 0; edge = 0 }
+      → told_by (peer_number r (record e { came = Greeting (greeting_as leg.ends number leg.other r); ending = Unspoken } ∷ es)) T (greeting_as leg.ends number leg.other r) ≡ first_told r
+  told_then (role.Active k) n T z = z
+  told_then (role.Passive other mss) n T z =
+      subst (λ (u : Told). ◌≡◌ {A = Told} (record { base = natural (position (sequence_number leg.other 0) other u.base); edge = natural (position (sequence_number leg.other 0) other u.base) + 16384 }) (record { base = 0; edge = 16384 })) (sym z)
+      (subst (λ (x : ℕ). ◌≡◌ {A = Told} (record { base = natural (position (sequence_number x 0) other 0); edge = natural (position (sequence_number x 0) other 0) + 16384 }) (record { base = 0; edge = 16384 })) (sym n)
+      (ap (λ (b : ℕ). record { base = b; edge = b + 16384 }) (ap natural (position_ahead other 0 0 (omega arith) (omega arith)))))
+
+  told_first : told leg.ends.role (record e { came = Greeting (greeting_as leg.ends number leg.other leg.ends.role); ending = Unspoken } ∷ es) ≡ first_told leg.ends.role
+  told_first = told_then leg.ends.role (h.of_other ∙ peer_idle e.tick e.ticked e.fired es leg.ends.role) (told_at leg.ends.role es e) told_zero
+
+  base_first : (r : Role) → leg.base ≡ (first_told r).base
+  base_first (role.Active k) = omega (arith, i.base, w.base, i.early made)
+  base_first (role.Passive other mss) = omega (arith, i.base, w.base, i.early made)
+
+  edge_first : (r : Role) → (window_by r leg.window).edge ≡ (first_told r).edge
+  edge_first (role.Active k) = i.early made
+  edge_first (role.Passive other mss) = refl
+
+  window_first : (r : Role) (os : List Offer) → IsWindowOf leg.window os → IsWindowOf (window_by r leg.window) os
+  window_first (role.Active k) os x = x
+  window_first (role.Passive other mss) os x = record { taken = x.taken; is_taken = x.is_taken; ended = x.ended; count = x.count; pending = x.pending; ahead = x.ahead }
+
+  carries : (r : Role) (c : ℕ) (o : ℕ) → c ≡ letters_sent_by_all o c (greeting_as leg.ends number leg.other r ∷ [])
+  carries (role.Active k) c o = refl
+  carries (role.Passive other mss) c o = refl
+
+  pub greeted_stands : IsLegOf (greeted_as leg number now) m (record e { came = Greeting (greeting_as leg.ends number leg.other leg.ends.role); ending = Unspoken } ∷ es)
+  greeted_stands = record {
+    of_right = (record { over = h.of_right.0.over; fired = h.of_right.0.fired; came = (right leg.ends.role own (h.of_other ∙ peer_idle e.tick e.ticked e.fired es leg.ends.role), ungreeted); ending = tt }, h.of_right.1);
+    of_phase = sym (ap (λ (b : Bool). phase_of (opened leg.ends.role es || false) b) greets ∙ ap (λ (b : Bool). phase_of b true) parts.0);
+    of_own = own_is leg.ends.role own;
+    of_other = h.of_other ∙ peer_is leg.ends.role (greeting_as leg.ends number leg.other leg.ends.role);
+    of_mss = h.of_mss ∙ ap send_mss (mss_is leg.ends.role (greeting_as leg.ends number leg.other leg.ends.role));
+    of_base = base_first leg.ends.role ∙ ap (λ (t : Told). t.base) (sym told_first);
+    of_edge = edge_first leg.ends.role ∙ ap (λ (t : Told). t.edge) (sym told_first);
+    of_first = λ o g. told_first;
+    of_window = window_first leg.ends.role (offers leg.ends.role es) h.of_window;
+    of_sent = h.of_sent ∙ carries leg.ends.role (letters_sent_at leg.ends.role es e) (own_number leg.ends.role (record e { came = Greeting (greeting_as leg.ends number leg.other leg.ends.role); ending = Unspoken } ∷ es));
+    of_edge_shown = h.of_edge_shown;
+    of_shown = h.of_shown;
+    of_acked = h.of_acked;
+    of_owes = h.of_owes;
+    of_running = h.of_running;
+    of_deadline = ap (λ (n : ℕ). n + second) at
+        ∙ sym (ap (λ (b : Bool). cond (b || false) (moment e + second) (cond (has_fired e) (e.tick + backoff (tries leg.ends.role es + 1)) (due leg.ends.role es))) arms);
+    of_fired = h.of_fired;
+  }
+    where
+      arms : (armed leg.ends.role (record e { came = Greeting (greeting_as leg.ends number leg.other leg.ends.role); ending = Unspoken } ∷ es) && not (armed leg.ends.role es)) ≡ true
+      arms =
+          ap (λ (b : Bool). cond b (nat_lt (acked leg.ends.role es) (letter_count (stream_after es))) (is_greeted (record e { came = Greeting (greeting_as leg.ends number leg.other leg.ends.role); ending = Unspoken } ∷ es)) && not (armed leg.ends.role es)) parts.0
+          ∙ ap (λ (b : Bool). b && not (armed leg.ends.role es)) greets
+          ∙ ap (λ (b : Bool). not (cond b (nat_lt (acked leg.ends.role es) (letter_count (stream_after es))) (is_greeted es))) closed
+          ∙ ap not ungreeted
+
+pub greeted_of : (leg mid : LegValue) (now number : ℕ) (before after : Option (List SentValue)) → IsLeg leg → IsWindow leg.window → leg.phase ≡ phase.Made → IsOwn leg.ends.role number
+    → mid ≡ greeted_as leg number now → after ≡ with_segment before now (greeting_of mid) → Greeted now leg mid before after
+greeted_of leg mid now number before after i w made own is sent = record {
+  out = greeting_as leg.ends number leg.other leg.ends.role;
+  packets = sent ∙ ap (λ (l : LegValue). with_segment before now (greeting_of l)) is;
+  stands = λ m e es at h. subst (λ (l : LegValue). IsLegOf l m (record e { came = Greeting (greeting_as leg.ends number leg.other leg.ends.role); ending = Unspoken } ∷ es)) (sym is) (greeted_stands leg i w m now number e es made own at h);
+}
+
+-- ---- a leg whose bytes were consumed
+pub consumed_stands : (leg new : LegValue) → new ≡ record leg { window = new.window } → new.window.edge ≡ leg.window.edge
+    → ((os : List Offer) → IsWindowOf leg.window os → IsWindowOf new.window os) → (m : Marks) (es : List LegEvent) → IsLegOf leg m es → IsLegOf new m es
+consumed_stands leg new is edge w m es h = subst (λ (l : LegValue). IsLegOf l m es) (sym is) (record {
+  of_right = h.of_right;
+  of_phase = h.of_phase;
+  of_own = h.of_own;
+  of_other = h.of_other;
+  of_mss = h.of_mss;
+  of_base = h.of_base;
+  of_edge = edge ∙ h.of_edge;
+  of_first = h.of_first;
+  of_window = w (offers leg.ends.role es) h.of_window;
+  of_sent = h.of_sent;
+  of_edge_shown = h.of_edge_shown;
+  of_shown = h.of_shown;
+  of_acked = h.of_acked;
+  of_owes = h.of_owes;
+  of_running = h.of_running;
+  of_deadline = h.of_deadline;
+  of_fired = h.of_fired;
+})

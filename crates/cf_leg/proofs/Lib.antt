@@ -1,0 +1,16 @@
+mod Begun
+mod Clocked
+mod Counts
+mod CutOffs
+mod Desks
+mod Events
+mod Fixed
+mod Greets
+mod Grows
+mod Hears
+mod Numbers
+mod Phases
+mod Pieces
+mod Reach
+mod Speech
+mod Spoken

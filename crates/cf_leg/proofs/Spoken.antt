@@ -1,0 +1,323 @@
+-- A leg that spoke stands for the events with the speech.
+use Rattle.std.proofs.Common.{◌≡◌, ◌≢◌, ℕ, ◌+◌, ◌-◌, ◌^◌, ◌<◌, ◌≤◌, min, max, Bool, true, false, cond, not, ◌&&◌, ◌||◌, List, [], ◌∷◌, ◌++◌, length, Option, refl, sym, ◌∙◌, ap, subst, arith, inl, inr}
+use Rattle.std.specs.Prelude.{MatchBool, nat_lt, ◌==◌}
+use Rattle.std.proofs.lemmas.Bool.{cases_Bool, true≢false, false≢true, eqb-true, ltb-true, ltb-false, and_parts}
+use Rattle.cf_outq.specs.SendQueue.{Queue, queue_length}
+use Rattle.cf_outq.specs.SendQueue.{IsQueueOf}
+use Rattle.cf_packet.specs.Packet.{PacketOf}
+use Rattle.cf_rebuild.specs.ReceiveWindow.{Window, IsWindow, base_of}
+use Rattle.cf_rebuild.specs.ReceiveWindow.{IsWindowOf}
+use Rattle.cf_outside.specs.Desk.{SentValue}
+use Rattle.cf_stream.specs.FirstCopy.{Offer}
+use Rattle.cf_leg.specs.Calls.{Addressed, Spoken, rearmed}
+use Rattle.cf_stream.specs.Position.{sequence_number}
+use Rattle.cf_stream.specs.Stream.{Stream, letter_count, no_letters}
+use Rattle.cf_leg.proofs.Events.{opens_greeted, or_cases, own_same, peer_same, mss_same, open_is_greeted, phase_open, phase_closed, no_greeting, acked_grows}
+use Rattle.cf_leg.proofs.Pieces.{count_is}
+use Rattle.cf_leg.proofs.Speech.{told_pieces, carried_pieces, told_segment, carried_segment}
+use Rattle.cf_leg.specs.Emits.{Pieces, SaysIf, Says, SpeaksOpen, differs, to_tell, Greets, way_of, send_mss, peer_mss}
+use Rattle.cf_leg.specs.Event.{Unspoken, Spoke, LegEvent, moment, greeted_by, stream_after}
+use Rattle.cf_leg.specs.Heard.{opened, opens, end_state, counted, acked, shown, offers, owed}
+use Rattle.cf_leg.specs.Timer.{armed, due, tries, rises, has_fired, second, backoff}
+use Rattle.cf_leg.specs.Segment.{segment}
+use Rattle.cf_leg.specs.LegValue.{LegValue, IsLeg, IsLegOf, arms, is_open, marks, phase_of, told_of, way_at}
+use Rattle.cf_leg.specs.Told.{told, told_at, letters_sent, letters_sent_at, told_by, told_by_all, letters_sent_by_all, is_greeted, own_number, peer_number}
+use Rattle.cf_leg.specs.declared.ends.Phase.{Phase}
+use Rattle.cf_leg.specs.declared.ends.Phase.TheVariants as phase
+use Rattle.cf_leg.specs.declared.ends.Told.{Told}
+use Rattle.cf_leg.specs.declared.ends.Way.{Way}
+
+-- ---- where nothing differs, the same was told
+or_false : (a b : Bool) → (a || b) ≡ false → (a ≡ false) × (b ≡ false)
+or_false true b h = absurd (true≢false h)
+or_false false b h = (refl, h)
+
+not_false : (a : Bool) → not a ≡ false → a ≡ true
+not_false true h = refl
+not_false false h = absurd (true≢false h)
+
+pub same_told : (t u : Told) → differs t u ≡ false → t ≡ u
+same_told t u h =
+    let k = or_false (not (t.base == u.base)) (not (t.edge == u.edge)) h in
+    let base = eqb-true t.base u.base (not_false (t.base == u.base) k.0) in
+    let edge = eqb-true t.edge u.edge (not_false (t.edge == u.edge) k.1) in
+    ap (λ (n : ℕ). record { base = n; edge = t.edge }) base ∙ ap (λ (n : ℕ). record { base = u.base; edge = n }) edge
+
+-- ---- what was said, read again
+module _ (way : Way) (b t : Told) (owes : Bool) (whole : Stream) (mss shown sent : ℕ) (outs : List PacketOf)
+    (low : b.base ≤ t.base) (high : t.base < b.base + 2 ^ 31) (e : t.base ≤ t.edge) where
+  pub told_said : SaysIf way t (owes || differs b t) whole mss shown sent outs → told_by_all way.other b outs ≡ t
+  told_said h = by (nat_lt sent (min shown (letter_count whole))) refl h
+    where
+      after : (d : Bool) → (owes || differs b t) ≡ d → told_by_all way.other b (cond d (segment way t (sequence_number way.own sent) no_letters ∷ []) []) ≡ t
+      after true k = told_segment way t (sequence_number way.own sent) no_letters b low high e
+      after false k = same_told b t (or_false owes (differs b t) k).1
+
+      by : (x : Bool) → nat_lt sent (min shown (letter_count whole)) ≡ x
+          → MatchBool x (Pieces way t whole mss shown sent outs) (outs ≡ cond (owes || differs b t) (segment way t (sequence_number way.own sent) no_letters ∷ []) [])
+          → told_by_all way.other b outs ≡ t
+      by true k p = told_pieces way t whole mss shown e b sent outs low high (ltb-true sent (min shown (letter_count whole)) k) p
+      by false k p = ap (λ (ps : List PacketOf). told_by_all way.other b ps) p ∙ after (owes || differs b t) refl
+
+  pub carried_said : SaysIf way t (owes || differs b t) whole mss shown sent outs → letters_sent_by_all way.own sent outs ≡ max sent (min shown (letter_count whole))
+  carried_said h = by (nat_lt sent (min shown (letter_count whole))) refl h
+    where
+      after : (d : Bool) → letters_sent_by_all way.own sent (cond d (segment way t (sequence_number way.own sent) no_letters ∷ []) []) ≡ sent
+      after true = carried_segment way t (sequence_number way.own sent) no_letters sent refl ∙ omega arith
+      after false = refl
+
+      by : (x : Bool) → nat_lt sent (min shown (letter_count whole)) ≡ x
+          → MatchBool x (Pieces way t whole mss shown sent outs) (outs ≡ cond (owes || differs b t) (segment way t (sequence_number way.own sent) no_letters ∷ []) [])
+          → letters_sent_by_all way.own sent outs ≡ max sent (min shown (letter_count whole))
+      by true k p = carried_pieces way t whole mss shown e sent outs p
+      by false k p = ap (λ (ps : List PacketOf). letters_sent_by_all way.own sent ps) p ∙ after (owes || differs b t) ∙ omega (arith, ltb-false sent (min shown (letter_count whole)) k)
+
+-- ---- what is to be told
+module _ (leg : LegValue) (i : IsLeg leg) (w : IsWindow leg.window) (roomy : Bool) where
+  pub tell_low : leg.base ≤ base_of leg.window
+  tell_low = i.base
+
+  pub tell_high : base_of leg.window < leg.base + 2 ^ 31
+  tell_high = omega (arith, i.edge, w.base)
+
+  pub tell_edge : base_of leg.window ≤ (to_tell (told_of leg) (base_of leg.window) roomy).edge
+  tell_edge = by roomy
+    where
+      by : (b : Bool) → base_of leg.window ≤ cond b (base_of leg.window + 16384) leg.window.edge
+      by true = omega arith
+      by false = w.base
+
+-- ---- the timer
+pub arms_is : (o g : Bool) (q : Queue) (a n : ℕ) → q.acked ≡ a → queue_length q ≡ n → arms (phase_of o g) q ≡ cond o (nat_lt a n) g
+arms_is true g q a n e f = ap (λ (x : ℕ). nat_lt x (queue_length q)) e ∙ ap (λ (x : ℕ). nat_lt a x) f
+arms_is false true q a n e f = refl
+arms_is false false q a n e f = refl
+
+-- the deadline after a speech: armed after it, before the event, and before the speech
+pub deadline_is : (after before mid rises : Bool) (soon later : ℕ) → ((mid && not before) ≡ true → (after && not before) ≡ true)
+    → cond (after && not before) soon (cond ((mid && not before) || rises) soon later) ≡ cond ((after && not before) || rises) soon later
+deadline_is true false mid rises soon later k = refl
+deadline_is true true true rises soon later k = refl
+deadline_is true true false rises soon later k = refl
+deadline_is false true true rises soon later k = refl
+deadline_is false true false rises soon later k = refl
+deadline_is false false true rises soon later k = absurd (false≢true (k refl))
+deadline_is false false false rises soon later k = refl
+
+-- what arms before the speech arms after it: o whether the leg is open, o0 whether it was before the event
+pub still_arms : (o o0 g g0 : Bool) (a a0 n n0 : ℕ) → a0 ≤ a → (o ≡ true → o0 ≡ false → g0 ≡ true)
+    → (cond o (nat_lt a n0) g && not (cond o0 (nat_lt a0 n0) g0)) ≡ true → (cond o (nat_lt a n) g && not (cond o0 (nat_lt a0 n0) g0)) ≡ true
+still_arms false o0 g g0 a a0 n n0 l k h = h
+still_arms true false g g0 a a0 n n0 l k h = absurd (by g0 (k refl refl) (nat_lt a n0) h)
+  where
+    by : (x : Bool) → x ≡ true → (y : Bool) → (y && not x) ≡ true → ⊥
+    by true e true f = false≢true f
+    by true e false f = false≢true f
+    by false e y f = false≢true e
+still_arms true true g g0 a a0 n n0 l k h = absurd (by (nat_lt a n0) (nat_lt a0 n0) refl refl h)
+  where
+    by : (x y : Bool) → nat_lt a n0 ≡ x → nat_lt a0 n0 ≡ y → (x && not y) ≡ true → ⊥
+    by true true e f m = false≢true m
+    by true false e f m = omega (arith, ltb-true a n0 e, ltb-false a0 n0 f, l)
+    by false y e f m = false≢true m
+
+-- ---- the step
+pub parts_told : (b n t u : ℕ) (T : Told) → b ≡ T.base → n ≡ T.edge → ◌≡◌ {A = Told} (record { base = b; edge = n }) T
+parts_told b n t u T e f = ap (λ (x : ℕ). record { base = x; edge = n }) e ∙ ap (λ (x : ℕ). record { base = T.base; edge = x }) f
+
+module _ (leg : LegValue) (i : IsLeg leg) (w : IsWindow leg.window) (q : Queue) (roomy : Bool) (now : ℕ) (e : LegEvent) (es : List LegEvent) (whole : Stream) (outs : List PacketOf)
+    (at : now ≡ moment e) (h : IsLegOf leg (marks q) (record e { ending = Unspoken } ∷ es)) (s : IsQueueOf q whole) where
+  running_is : (q' : Queue) → q'.acked ≡ q.acked → queue_length q' ≡ queue_length q → arms leg.phase q' ≡ armed leg.ends.role (record e { ending = Spoke whole roomy outs } ∷ es)
+  running_is q' a l =
+      ap (λ (p : Phase). arms p q') h.of_phase
+      ∙ arms_is (opened leg.ends.role (record e { ending = Unspoken } ∷ es)) (is_greeted (record e { ending = Unspoken } ∷ es)) q' (acked leg.ends.role (record e { ending = Unspoken } ∷ es)) (letter_count whole)
+      (a ∙ h.of_acked) (l ∙ count_is q whole s)
+
+  still : (armed leg.ends.role (record e { ending = Unspoken } ∷ es) && not (armed leg.ends.role es)) ≡ true
+      → (armed leg.ends.role (record e { ending = Spoke whole roomy outs } ∷ es) && not (armed leg.ends.role es)) ≡ true
+  still =
+      still_arms (opened leg.ends.role (record e { ending = Unspoken } ∷ es)) (opened leg.ends.role es) (is_greeted (record e { ending = Unspoken } ∷ es)) (is_greeted es)
+      (acked leg.ends.role (record e { ending = Unspoken } ∷ es)) (acked leg.ends.role es) (letter_count whole) (letter_count (stream_after es))
+      (acked_grows (end_state leg.ends.role es (record e { ending = Unspoken })) e.came (acked leg.ends.role es))
+      (λ o c. opens_greeted (end_state leg.ends.role es (record e { ending = Unspoken })) e.came c (or_cases (opened leg.ends.role es) (opens (end_state leg.ends.role es (record e { ending = Unspoken })) e.came) o c))
+
+  due_is : (q' : Queue) → q'.acked ≡ q.acked → queue_length q' ≡ queue_length q
+      → cond (arms leg.phase q' && not leg.running) (now + second) leg.deadline ≡ due leg.ends.role (record e { ending = Spoke whole roomy outs } ∷ es)
+  due_is q' a l =
+      ap (λ (b : Bool). cond (b && not leg.running) (now + second) leg.deadline) (running_is q' a l)
+      ∙ ap (λ (b : Bool). cond (armed leg.ends.role (record e { ending = Spoke whole roomy outs } ∷ es) && not b) (now + second) leg.deadline) h.of_running
+      ∙ ap (λ (n : ℕ). cond (armed leg.ends.role (record e { ending = Spoke whole roomy outs } ∷ es) && not (armed leg.ends.role es)) (now + second) n) h.of_deadline
+      ∙ ap (λ (n : ℕ). cond (armed leg.ends.role (record e { ending = Spoke whole roomy outs } ∷ es) && not (armed leg.ends.role es)) (n + second) (due leg.ends.role (record e { ending = Unspoken } ∷ es))) at
+      ∙ deadline_is (armed leg.ends.role (record e { ending = Spoke whole roomy outs } ∷ es)) (armed leg.ends.role es) (armed leg.ends.role (record e { ending = Unspoken } ∷ es))
+      (counted leg.ends.role es e && rises leg.ends.role es e) (moment e + second)
+      (cond (has_fired e) (e.tick + backoff (tries leg.ends.role es + 1)) (due leg.ends.role es)) still
+
+  -- what was told and letters_sent before the speech
+  quiet : opened leg.ends.role (record e { ending = Unspoken } ∷ es) ≡ true → greeted_by e.came ≡ []
+  quiet o = no_greeting leg.ends es (opened leg.ends.role es) (end_state leg.ends.role es e) e.came (open_is_greeted leg.ends.role es) h.of_right.0.came o
+
+  told_before : opened leg.ends.role (record e { ending = Unspoken } ∷ es) ≡ true → told_of leg ≡ told_at leg.ends.role es e
+  told_before o =
+      parts_told leg.base leg.window.edge 0 0 (told leg.ends.role (record e { ending = Unspoken } ∷ es)) h.of_base h.of_edge
+      ∙ ap (λ (ps : List PacketOf). told_by_all (peer_number leg.ends.role (record e { ending = Unspoken } ∷ es)) (told_at leg.ends.role es e) (ps ++ [])) (quiet o)
+
+  carried_before : opened leg.ends.role (record e { ending = Unspoken } ∷ es) ≡ true → q.sent ≡ letters_sent_at leg.ends.role es e
+  carried_before o = h.of_sent ∙ ap (λ (ps : List PacketOf). letters_sent_by_all (own_number leg.ends.role (record e { ending = Unspoken } ∷ es)) (letters_sent_at leg.ends.role es e) (ps ++ [])) (quiet o)
+
+  -- and after it
+  told_after : (n : Told) (o : opened leg.ends.role (record e { ending = Unspoken } ∷ es) ≡ true) → told_by_all leg.other (told_of leg) outs ≡ n → told leg.ends.role (record e { ending = Spoke whole roomy outs } ∷ es) ≡ n
+  told_after n o k =
+      ap (λ (ps : List PacketOf). told_by_all (peer_number leg.ends.role (record e { ending = Spoke whole roomy outs } ∷ es)) (told_at leg.ends.role es e) (ps ++ outs)) (quiet o)
+      ∙ ap (λ (x : ℕ). told_by_all x (told_at leg.ends.role es e) outs) (peer_same (record e { ending = Unspoken }) es (Spoke whole roomy outs) leg.ends.role ∙ sym h.of_other)
+      ∙ ap (λ (x : Told). told_by_all leg.other x outs) (sym (told_before o)) ∙ k
+
+  carried_after : (n : ℕ) (o : opened leg.ends.role (record e { ending = Unspoken } ∷ es) ≡ true) → letters_sent_by_all leg.own q.sent outs ≡ n → letters_sent leg.ends.role (record e { ending = Spoke whole roomy outs } ∷ es) ≡ n
+  carried_after n o k =
+      ap (λ (ps : List PacketOf). letters_sent_by_all (own_number leg.ends.role (record e { ending = Spoke whole roomy outs } ∷ es)) (letters_sent_at leg.ends.role es e) (ps ++ outs)) (quiet o)
+      ∙ ap (λ (x : ℕ). letters_sent_by_all x (letters_sent_at leg.ends.role es e) outs) (own_same (record e { ending = Unspoken }) es (Spoke whole roomy outs) leg.ends.role ∙ sym h.of_own)
+      ∙ ap (λ (x : ℕ). letters_sent_by_all leg.own x outs) (sym (carried_before o)) ∙ k
+
+  taken_is : letter_count h.of_window.taken ≡ base_of leg.window
+  taken_is = ap (λ (b : Bool). length h.of_window.taken.bytes + cond b 1 0) (sym h.of_window.ended) ∙ ap (λ (n : ℕ). n + cond leg.window.ended 1 0) (sym h.of_window.count)
+
+  way_is : way_at leg ≡ way_of leg.ends (record e { ending = Spoke whole roomy outs } ∷ es)
+  way_is = ap (λ (n : ℕ). record { source = leg.ends.own; dest = leg.ends.peer; own = n; other = leg.other }) (h.of_own ∙ sym (own_same (record e { ending = Unspoken }) es (Spoke whole roomy outs) leg.ends.role))
+      ∙ ap (λ (n : ℕ). record { source = leg.ends.own; dest = leg.ends.peer; own = own_number leg.ends.role (record e { ending = Spoke whole roomy outs } ∷ es); other = n }) (h.of_other ∙ sym (peer_same (record e { ending = Unspoken }) es (Spoke whole roomy outs) leg.ends.role))
+
+  mss_is : leg.mss ≡ send_mss (peer_mss leg.ends.role (record e { ending = Spoke whole roomy outs } ∷ es))
+  mss_is = h.of_mss ∙ ap send_mss (sym (mss_same (record e { ending = Unspoken }) es (Spoke whole roomy outs) leg.ends.role))
+
+  -- an open leg
+  module _ (o : opened leg.ends.role (record e { ending = Unspoken } ∷ es) ≡ true)
+      (says : SaysIf (way_at leg) (to_tell (told_of leg) (base_of leg.window) roomy) (leg.owes || differs (told_of leg) (to_tell (told_of leg) (base_of leg.window) roomy)) whole leg.mss q.shown q.sent outs)
+      (window : IsWindowOf (record leg.window { edge = (to_tell (told_of leg) (base_of leg.window) roomy).edge }) (offers leg.ends.role (record e { ending = Unspoken } ∷ es))) where
+    tell_is : ◌≡◌ {A = Told} (to_tell (told_of leg) (base_of leg.window) roomy) (to_tell (told_at leg.ends.role es e) (letter_count h.of_window.taken) roomy)
+    tell_is = ap (λ (t : Told). to_tell t (base_of leg.window) roomy) (told_before o) ∙ ap (λ (n : ℕ). to_tell (told_at leg.ends.role es e) n roomy) (sym taken_is)
+
+    speaks_open : SpeaksOpen leg.ends es (record e { ending = Spoke whole roomy outs }) whole roomy outs
+    speaks_open = record {
+      taken = h.of_window.taken;
+      is_taken = h.of_window.is_taken;
+      says =
+          subst (λ (v : Way). Says v (told_at leg.ends.role es e) (to_tell (told_at leg.ends.role es e) (letter_count h.of_window.taken) roomy) (owed leg.ends.role es e) whole (send_mss (peer_mss leg.ends.role (record e { ending = Spoke whole roomy outs } ∷ es))) (shown leg.ends.role (record e { ending = Spoke whole roomy outs } ∷ es)) (letters_sent_at leg.ends.role es e) outs) way_is
+          (subst (λ (n : ℕ). Says (way_at leg) (told_at leg.ends.role es e) (to_tell (told_at leg.ends.role es e) (letter_count h.of_window.taken) roomy) (owed leg.ends.role es e) whole n (shown leg.ends.role (record e { ending = Spoke whole roomy outs } ∷ es)) (letters_sent_at leg.ends.role es e) outs) mss_is
+          (subst (λ (n : ℕ). Says (way_at leg) (told_at leg.ends.role es e) (to_tell (told_at leg.ends.role es e) (letter_count h.of_window.taken) roomy) (owed leg.ends.role es e) whole leg.mss n (letters_sent_at leg.ends.role es e) outs) h.of_shown
+          (subst (λ (n : ℕ). Says (way_at leg) (told_at leg.ends.role es e) (to_tell (told_at leg.ends.role es e) (letter_count h.of_window.taken) roomy) (owed leg.ends.role es e) whole leg.mss q.shown n outs) (carried_before o)
+          (subst (λ (b : Bool). Says (way_at leg) (told_at leg.ends.role es e) (to_tell (told_at leg.ends.role es e) (letter_count h.of_window.taken) roomy) b whole leg.mss q.shown q.sent outs) h.of_owes
+          (subst (λ (t : Told). Says (way_at leg) (told_at leg.ends.role es e) t leg.owes whole leg.mss q.shown q.sent outs) tell_is
+          (subst (λ (t : Told). Says (way_at leg) t (to_tell (told_of leg) (base_of leg.window) roomy) leg.owes whole leg.mss q.shown q.sent outs) (told_before o) says))))));
+    }
+
+    told_now : told leg.ends.role (record e { ending = Spoke whole roomy outs } ∷ es) ≡ to_tell (told_of leg) (base_of leg.window) roomy
+    told_now = told_after (to_tell (told_of leg) (base_of leg.window) roomy) o
+        (told_said (way_at leg) (told_of leg) (to_tell (told_of leg) (base_of leg.window) roomy) leg.owes whole leg.mss q.shown q.sent outs (tell_low leg i w roomy) (tell_high leg i w roomy) (tell_edge leg i w roomy) says)
+
+    carried_now : letters_sent leg.ends.role (record e { ending = Spoke whole roomy outs } ∷ es) ≡ max q.sent (min q.shown (letter_count whole))
+    carried_now = carried_after (max q.sent (min q.shown (letter_count whole))) o
+        (carried_said (way_at leg) (told_of leg) (to_tell (told_of leg) (base_of leg.window) roomy) leg.owes whole leg.mss q.shown q.sent outs (tell_low leg i w roomy) (tell_high leg i w roomy) (tell_edge leg i w roomy) says)
+
+    pub spoke_open : IsLegOf
+        (rearmed (record leg { base = base_of leg.window; window = record leg.window { edge = (to_tell (told_of leg) (base_of leg.window) roomy).edge }; owes = false }) (record q { sent = max q.sent (min q.shown (queue_length q)) }) now)
+        (marks (record q { sent = max q.sent (min q.shown (queue_length q)) })) (record e { ending = Spoke whole roomy outs } ∷ es)
+    spoke_open = record {
+      of_right = (
+        record {
+          over = h.of_right.0.over;
+          fired = h.of_right.0.fired;
+          came = h.of_right.0.came;
+          ending = subst (λ (b : Bool). MatchBool b (SpeaksOpen leg.ends es (record e { ending = Spoke whole roomy outs }) whole roomy outs) (outs ≡ [])) (sym o) speaks_open;
+        },
+        h.of_right.1,
+      );
+      of_phase = h.of_phase;
+      of_own = h.of_own ∙ sym (own_same (record e { ending = Unspoken }) es (Spoke whole roomy outs) leg.ends.role);
+      of_other = h.of_other ∙ sym (peer_same (record e { ending = Unspoken }) es (Spoke whole roomy outs) leg.ends.role);
+      of_mss = mss_is;
+      of_base = ap (λ (t : Told). t.base) (sym told_now);
+      of_edge = ap (λ (t : Told). t.edge) (sym told_now);
+      of_first = λ c g. absurd (true≢false (sym o ∙ c));
+      of_window = window;
+      of_sent = ap (λ (n : ℕ). max q.sent (min q.shown n)) (count_is q whole s) ∙ sym carried_now;
+      of_edge_shown = h.of_edge_shown;
+      of_shown = h.of_shown;
+      of_acked = h.of_acked;
+      of_owes = refl;
+      of_running = running_is (record q { sent = max q.sent (min q.shown (queue_length q)) }) refl refl;
+      of_deadline = due_is (record q { sent = max q.sent (min q.shown (queue_length q)) }) refl refl;
+      of_fired = h.of_fired;
+    }
+
+  -- a leg that is not open says nothing
+  module _ (o : opened leg.ends.role (record e { ending = Unspoken } ∷ es) ≡ false) (none : outs ≡ []) where
+    told_still : told leg.ends.role (record e { ending = Spoke whole roomy outs } ∷ es) ≡ told leg.ends.role (record e { ending = Unspoken } ∷ es)
+    told_still =
+        ap (λ (ps : List PacketOf). told_by_all (peer_number leg.ends.role (record e { ending = Spoke whole roomy outs } ∷ es)) (told_at leg.ends.role es e) (greeted_by e.came ++ ps)) none
+        ∙ ap (λ (x : ℕ). told_by_all x (told_at leg.ends.role es e) (greeted_by e.came ++ [])) (peer_same (record e { ending = Unspoken }) es (Spoke whole roomy outs) leg.ends.role)
+
+    carried_still : letters_sent leg.ends.role (record e { ending = Spoke whole roomy outs } ∷ es) ≡ letters_sent leg.ends.role (record e { ending = Unspoken } ∷ es)
+    carried_still =
+        ap (λ (ps : List PacketOf). letters_sent_by_all (own_number leg.ends.role (record e { ending = Spoke whole roomy outs } ∷ es)) (letters_sent_at leg.ends.role es e) (greeted_by e.came ++ ps)) none
+        ∙ ap (λ (x : ℕ). letters_sent_by_all x (letters_sent_at leg.ends.role es e) (greeted_by e.came ++ [])) (own_same (record e { ending = Unspoken }) es (Spoke whole roomy outs) leg.ends.role)
+
+    pub spoke_closed : IsLegOf (rearmed leg q now) (marks q) (record e { ending = Spoke whole roomy outs } ∷ es)
+    spoke_closed = record {
+      of_right = (
+        record {
+          over = h.of_right.0.over;
+          fired = h.of_right.0.fired;
+          came = h.of_right.0.came;
+          ending = subst (λ (b : Bool). MatchBool b (SpeaksOpen leg.ends es (record e { ending = Spoke whole roomy outs }) whole roomy outs) (outs ≡ [])) (sym o) none;
+        },
+        h.of_right.1,
+      );
+      of_phase = h.of_phase;
+      of_own = h.of_own ∙ sym (own_same (record e { ending = Unspoken }) es (Spoke whole roomy outs) leg.ends.role);
+      of_other = h.of_other ∙ sym (peer_same (record e { ending = Unspoken }) es (Spoke whole roomy outs) leg.ends.role);
+      of_mss = mss_is;
+      of_base = h.of_base ∙ ap (λ (t : Told). t.base) (sym told_still);
+      of_edge = h.of_edge ∙ ap (λ (t : Told). t.edge) (sym told_still);
+      of_first = λ c g. told_still ∙ h.of_first c g;
+      of_window = h.of_window;
+      of_sent = h.of_sent ∙ sym carried_still;
+      of_edge_shown = h.of_edge_shown;
+      of_shown = h.of_shown;
+      of_acked = h.of_acked;
+      of_owes = refl;
+      of_running = running_is q refl refl;
+      of_deadline = due_is q refl refl;
+      of_fired = h.of_fired;
+    }
+
+-- ---- the call
+pub spoken_of : (leg mid new : LegValue) (q q' : Queue) (roomy : Bool) (now : ℕ) (before after : Option (List SentValue))
+    → IsLeg leg → IsWindow leg.window → Addressed roomy now leg mid q q' before after → new ≡ rearmed mid q' now → Spoken roomy now leg new q q' before after
+spoken_of leg mid new q q' roomy now before after i w a is = record {
+  outs = a.outs;
+  packets = a.packets;
+  stands = λ e es whole at h s.
+      elim (cases_Bool (is_open leg.phase)) [
+        | inl o ↦ (let open_now : opened leg.ends.role (record e { ending = Unspoken } ∷ es) ≡ true = phase_true (opened leg.ends.role (record e { ending = Unspoken } ∷ es)) (is_greeted (record e { ending = Unspoken } ∷ es)) (sym (ap is_open h.of_phase) ∙ o) in
+            let is' : new ≡ rearmed (record leg { base = base_of leg.window; window = record leg.window { edge = (to_tell (told_of leg) (base_of leg.window) roomy).edge }; owes = false }) (record q { sent = max q.sent (min q.shown (queue_length q)) }) now =
+            is ∙ ap (λ (l : LegValue). rearmed l q' now) (a.leg o) ∙ ap (λ (x : Queue). rearmed (record leg { base = base_of leg.window; window = record leg.window { edge = (to_tell (told_of leg) (base_of leg.window) roomy).edge }; owes = false }) x now) (a.sent o) in
+            subst (λ (l : LegValue). IsLegOf l (marks q') (record e { ending = Spoke whole roomy a.outs } ∷ es)) (sym is')
+            (subst (λ (x : Queue). IsLegOf (rearmed (record leg { base = base_of leg.window; window = record leg.window { edge = (to_tell (told_of leg) (base_of leg.window) roomy).edge }; owes = false }) (record q { sent = max q.sent (min q.shown (queue_length q)) }) now) (marks x) (record e { ending = Spoke whole roomy a.outs } ∷ es)) (sym (a.sent o))
+            (spoke_open leg i w q roomy now e es whole a.outs at h s open_now (a.says o whole s) (window_opened leg.window (to_tell (told_of leg) (base_of leg.window) roomy).edge (offers leg.ends.role (record e { ending = Unspoken } ∷ es)) h.of_window))))
+        | inr o ↦ (let closed_now : opened leg.ends.role (record e { ending = Unspoken } ∷ es) ≡ false = phase_false (opened leg.ends.role (record e { ending = Unspoken } ∷ es)) (is_greeted (record e { ending = Unspoken } ∷ es)) (sym (ap is_open h.of_phase) ∙ o) in
+            let is' : new ≡ rearmed leg q now = is ∙ ap (λ (l : LegValue). rearmed l q' now) (a.same o) ∙ ap (λ (x : Queue). rearmed leg x now) (a.kept o) in
+            subst (λ (l : LegValue). IsLegOf l (marks q') (record e { ending = Spoke whole roomy a.outs } ∷ es)) (sym is')
+            (subst (λ (x : Queue). IsLegOf (rearmed leg q now) (marks x) (record e { ending = Spoke whole roomy a.outs } ∷ es)) (sym (a.kept o))
+            (spoke_closed leg i w q roomy now e es whole a.outs at h s closed_now (a.silent o))))
+      ];
+}
+  where
+    window_opened : (v : Window) (edge : ℕ) (os : List Offer) → IsWindowOf v os → IsWindowOf (record v { edge = edge }) os
+    window_opened v edge os x = record { taken = x.taken; is_taken = x.is_taken; ended = x.ended; count = x.count; pending = x.pending; ahead = x.ahead }
+
+    phase_true : (o g : Bool) → is_open (phase_of o g) ≡ true → o ≡ true
+    phase_true true g k = refl
+    phase_true false true k = absurd (false≢true k)
+    phase_true false false k = absurd (false≢true k)
+
+    phase_false : (o g : Bool) → is_open (phase_of o g) ≡ false → o ≡ false
+    phase_false true g k = absurd (true≢false k)
+    phase_false false g k = refl

@@ -1,0 +1,38 @@
+use Rattle.std.proofs.Common.{◌≡◌, ◌∙◌, ap, rules, arith, sym, ℕ, ◌+◌, lt-ltb}
+use Rattle.cf_outq.specs.SendQueue.{Queue, queue_length, piece_letters}
+use Rattle.cf_leg.proofs.Desks.{keeps_both}
+use Rattle.cf_leg.proofs.Pieces.{sends_one_more, sends_all, piece_within, left_of}
+use Rattle.cf_leg.proofs.send.send_new.Goals as goal
+
+pub loop-piece-preserved : goal.loop-piece-preserved
+loop-piece-preserved g c =
+    let i = c.loop-piece.invariant in
+    let sent = ap (λ (q : Queue). q.sent) c.in-Some.ensures.new in
+    record {
+      sends = rw sent (sends_one_more c.args.way c.args.told c.args.mss c.args.queue.now c.loop-piece.queue c.next_piece.new.self c.args.now _ _ _ c.in-Some.piece
+          i.sends (ap (λ (q : Queue). q.shown) i.queue) i.low c.in-Some.ensures.letters c.in-Some.ensures.answer c.in_ok-send_piece.ensures.packets i.stands
+          (λ whole s. c.in-Some.ensures.stands whole (i.stands whole s)));
+      queue = c.in-Some.ensures.new ∙ ap (λ (q : Queue). record q { sent = c.loop-piece.queue.sent + piece_letters c.in-Some.piece }) i.queue ∙ ap (λ (n : ℕ). record c.args.queue.now { sent = n }) (sym sent);
+      stands = λ whole s. c.in-Some.ensures.stands whole (i.stands whole s);
+      low = omega (arith, sent, i.low);
+      high = (let length = ap (λ (q : Queue). queue_length q) i.queue in
+          let shown = ap (λ (q : Queue). q.shown) i.queue in
+          let left = left_of c.loop-piece.queue c.args.mss c.in-Some.piece c.in-Some.ensures.answer in
+          let within = piece_within c.loop-piece.queue c.args.mss c.loop-piece.queue.sent c.loop-piece.queue.shown c.in-Some.piece c.in-Some.ensures.answer.piece (omega (arith, left)) in
+          omega (arith, sent, within, length, shown));
+      some = sym (lt-ltb _ _ (omega (arith, i.low, sent, c.in-Some.ensures.letters)));
+      lines = c.in_ok-send_piece.ensures.lines ∙ i.lines;
+      whole = c.in_ok-send_piece.ensures.whole;
+      keeps = keeps_both (g.D.Desk.value c.args.desk.now) (g.D.Desk.value c.loop-piece.desk) (g.D.Desk.value c.send_piece.new.desk) i.keeps c.in_ok-send_piece.ensures.keeps;
+    }
+
+pub returns-clause-pieces : goal.returns-clause-pieces
+returns-clause-pieces g c =
+    let i = c.loop-piece.invariant in
+    sends_all c.args.way c.args.told c.args.mss c.args.queue.now c.args.now c.loop-piece.queue.sent _ _ i.sends
+    (let none = c.in_default.ensures.answer.none.0 (search rules) in
+    omega (arith, none, ap (λ (q : Queue). q.shown) i.queue, ap (λ (q : Queue). queue_length q) i.queue)) i.low i.high
+
+pub returns-in_err-send_piece-clause-keeps : goal.returns-in_err-send_piece-clause-keeps
+returns-in_err-send_piece-clause-keeps g c =
+    keeps_both (g.D.Desk.value c.args.desk.now) (g.D.Desk.value c.loop-piece.desk) (g.D.Desk.value c.send_piece.new.desk) c.loop-piece.invariant.keeps c.in_err-send_piece.ensures.keeps

@@ -1,0 +1,9 @@
+pub mod Calls
+pub mod Emits
+pub mod Emitted
+pub mod Event
+pub mod Heard
+pub mod LegValue
+pub mod Segment
+pub mod Timer
+pub mod Told

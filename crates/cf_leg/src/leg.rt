@@ -1,0 +1,237 @@
+//! One end of a TCP connection.
+ghost use Rattle.std.specs.Prelude.{◌≡◌, ℕ, ◌+◌, ◌-◌, ◌*◌, ◌%◌, ◌^◌, ◌<◌, ◌≤◌, ◌==◌, min, max, not, nat_lt, nat_le, ◌&&◌, ◌||◌, if◌then◌else◌, true, false, List, [], ◌∷◌, length, None, Some, Ok, Err, IsErr, IfOk, OnOk, pos, negsuc, ◌≤ℤ◌, ◌+ℤ◌};
+ghost use Rattle.cf_outside.specs.Faults.{HasCause};
+ghost use Rattle.cf_outq.specs.SendQueue.{IsQueue, Queue, queue_length};
+ghost use Rattle.cf_outq.specs.SendQueue.{IsQueueOf};
+ghost use Rattle.cf_packet.specs.Packet.{PacketOf, packet_seen};
+ghost use Rattle.cf_rebuild.specs.ReceiveWindow.{Consumes, IsWindow, base_of};
+ghost use Rattle.cf_rebuild.specs.ReceiveWindow.{IsWindowOf};
+ghost use Rattle.cf_stream.specs.FirstCopy.{Offer};
+ghost use Rattle.cf_leg.specs.Segment.{letters_in};
+ghost use Rattle.cf_stream.specs.Stream.{Stream, letter_count};
+ghost use Rattle.cf_leg.specs.Calls.{KeepsList, Widens, window_by, Continues, IsTold, CutOff, origin_as, rst_of, Greeted, IsMade, IsOwn, greeted_as, no_marks, Addressed, Clocked, Counts, Heard, SendsAgain, SendsOldest, Spoken, greeting_of, is_due, is_greeted_phase, leg_opened, end_state_of, queue_counted, queue_opened, rearmed, rises_by};
+ghost use Rattle.cf_leg.specs.Emits.{differs, rst, send_mss, to_tell};
+ghost use Rattle.cf_leg.specs.Heard.{ack_place, text_place};
+ghost use Rattle.cf_stream.specs.Position.{natural};
+ghost use Rattle.cf_leg.specs.Emitted.{with_segment};
+ghost use Rattle.cf_leg.specs.Event.{LegEvent};
+ghost use Rattle.cf_leg.specs.Timer.{backoff};
+ghost use Rattle.cf_leg.specs.LegValue.{IsLeg, IsLegOf, Marks, LegValue, arms, is_open, marks, told_of, way_at};
+ghost use Rattle.cf_outside.specs.Desk.{DeskValue, KeepsDesk};
+
+mod clock;
+mod counting;
+mod cutting;
+mod opening;
+mod speaking;
+
+use crate::ends::{Ends, Phase, Role, Told, Way};
+use crate::send::natural;
+use cf_outq::Outq;
+use cf_rebuild::Rebuild;
+use cf_view::{Endpoint, NoMemory};
+use opening::send_mss;
+use std::alloc::Global;
+use std::marker::Model;
+
+/// How far the edge is told past the base. This project's own choice.
+const WINDOW: u64 = 16_384;
+
+/// A second, in microseconds.
+const SECOND: u64 = 1_000_000;
+
+/// One end of a TCP connection. Its queue is handed in.
+#[derive(Drop)]
+pub struct Leg {
+    ends: Ends,
+    phase: Phase,
+    own: u32,
+    other: u32,
+    mss: usize,
+    window: Rebuild,
+    base: u64,
+    shown: u64,
+    owes: bool,
+    running: bool,
+    deadline: u64,
+    fired: u32,
+}
+
+impl Model for Leg {
+    ghost use Rattle.std.specs.Prelude.{◌≡◌};
+    ghost use Rattle.cf_leg.specs.LegValue.{LegValue, IsLeg};
+
+    ghost Value = { LegValue };
+
+    ghost view = { λ a. record { ends = a.ends; phase = a.phase; own = a.own; other = a.other; mss = a.mss; window = a.window; base = a.base; shown = a.shown; owes = a.owes; running = a.running; deadline = a.deadline; fired = a.fired } };
+
+    ghost invariant = { λ a. IsLeg (record { ends = a.ends; phase = a.phase; own = a.own; other = a.other; mss = a.mss; window = a.window; base = a.base; shown = a.shown; owes = a.owes; running = a.running; deadline = a.deadline; fired = a.fired }) };
+}
+
+impl Leg {
+    /// An end that opens the connection by a SYN with this sequence number.
+    pub fn active(
+        alloc: Global,
+        own: Endpoint,
+        peer: Endpoint,
+        own_seq: u32,
+    ) -> Result<Leg, NoMemory>
+        ensures ends { IfOk result (λ l. l.ends ≡ record { own = own; peer = peer; role = Role.Active own_seq }) }
+        ensures stands { IfOk result (λ l. IsLegOf l no_marks []) }
+        ensures window { IfOk result (λ l. (base_of l.window ≡ 0) × (l.window.edge ≡ 0)) }
+        ensures made { IfOk result (λ l. l.phase ≡ Phase.Made) }
+    {
+        let role = Role::Active(own_seq);
+        Leg::made(alloc, Ends { own, peer, role }, own_seq, 0, 536)
+    }
+
+    /// An end to whose peer's SYN, with that sequence number and that maximum segment size, a SYN ACK is due.
+    pub fn passive(
+        alloc: Global,
+        own: Endpoint,
+        peer: Endpoint,
+        peer_seq: u32,
+        mss: Option<u16>,
+    ) -> Result<Leg, NoMemory>
+        ensures ends { IfOk result (λ l. l.ends ≡ record { own = own; peer = peer; role = Role.Passive peer_seq mss }) }
+        ensures stands { IfOk result (λ l. IsLegOf l no_marks []) }
+        ensures window { IfOk result (λ l. (base_of l.window ≡ 0) × (l.window.edge ≡ 0)) }
+        ensures made { IfOk result (λ l. l.phase ≡ Phase.Made) }
+    {
+        let role = Role::Passive(peer_seq, mss);
+        Leg::made(alloc, Ends { own, peer, role }, 0, peer_seq, send_mss(mss))
+    }
+
+    fn made(alloc: Global, ends: Ends, own: u32, other: u32, mss: usize) -> Result<Leg, NoMemory>
+        requires { (0 < mss) × (mss ≤ 1460) }
+        ensures made { IfOk result (λ l. IsMade ends own other mss l) }
+        ensures base { IfOk result (λ l. base_of l.window ≡ 0) }
+    {
+        match Rebuild::new(alloc) {
+            Ok(window) => Ok(Leg {
+                ends,
+                phase: Phase::Made,
+                own,
+                other,
+                mss,
+                window,
+                base: 0,
+                shown: 0,
+                owes: false,
+                running: false,
+                deadline: 0,
+                fired: 0,
+            }),
+            Err(error) => Err(error),
+        }
+    }
+
+    /// The sequence number of the peer's SYN, once that was seen.
+    pub fn peer_origin(&self) -> Option<u32>
+        ensures value { result ≡ origin_as self.now.ends.role self.now.phase self.now.other }
+    {
+        match self.ends.role {
+            Role::Active(_) => {
+                if self.is_open() {
+                    Some(self.other)
+                } else {
+                    None
+                }
+            }
+            Role::Passive(_, _) => Some(self.other),
+        }
+    }
+
+    /// What the peer sent.
+    pub fn window(&self) -> &Rebuild
+        ensures value { result.now ≡ self.now.window }
+    {
+        &self.window
+    }
+
+    /// Consumes the first bytes of those that were taken and not consumed.
+    pub fn consume(&mut self, n: usize)
+        requires { n ≤ length self.old.window.pending }
+        ensures new { self.new ≡ record self.old { window = self.new.window } }
+        ensures window { Consumes self.old.window n self.new.window }
+        ensures stands { (m : Marks) (es : List LegEvent) → IsLegOf self.old m es → IsLegOf self.new m es }
+    {
+        self.window.consume(n);
+    }
+
+    fn is_open(&self) -> bool
+        ensures { result ≡ is_open self.now.phase }
+    {
+        match self.phase {
+            Phase::Made | Phase::Greeted => false,
+            Phase::Open => true,
+        }
+    }
+
+    /// What the peer was told.
+    fn told(&self) -> Told
+        ensures value { result ≡ told_of self.now }
+        ensures leg { IsLeg self.now }
+        ensures bounds { IsWindow self.now.window }
+    {
+        Told {
+            base: self.base,
+            edge: natural(self.window.edge()),
+        }
+    }
+
+    fn way(&self) -> Way
+        ensures { result ≡ way_at self.now }
+    {
+        Way {
+            source: self.ends.own,
+            dest: self.ends.peer,
+            own: self.own,
+            other: self.other,
+        }
+    }
+
+    /// What is to be told now.
+    fn to_tell(&self, roomy: bool) -> Told
+        ensures value { result ≡ to_tell (told_of self.now) (base_of self.now.window) roomy }
+        ensures bounds { IsWindow self.now.window }
+    {
+        let base = natural(self.window.base());
+        let edge = natural(self.window.edge());
+        Told {
+            base,
+            edge: if roomy { base + WINDOW } else { edge },
+        }
+    }
+
+    /// Whether something is unanswered.
+    fn arms(&self, queue: &Outq) -> bool
+        ensures { result ≡ arms self.now.phase queue.now }
+    {
+        match self.phase {
+            Phase::Made => false,
+            Phase::Greeted => true,
+            Phase::Open => queue.unacked() > 0,
+        }
+    }
+
+    fn is_greeted(&self) -> bool
+        ensures { result ≡ is_greeted_phase self.now.phase }
+    {
+        match self.phase {
+            Phase::Made => false,
+            Phase::Greeted | Phase::Open => true,
+        }
+    }
+
+    /// Whether neither SYN nor SYN ACK went out.
+    pub fn is_made(&self) -> bool
+        ensures made { result ≡ true → self.now.phase ≡ Phase.Made }
+        ensures greeted { result ≡ not (is_greeted_phase self.now.phase) }
+    {
+        match self.phase {
+            Phase::Made => true,
+            Phase::Greeted | Phase::Open => false,
+        }
+    }
+}

@@ -1,0 +1,163 @@
+//! The retransmission timer of an end.
+ghost use Rattle.std.specs.Prelude.{◌≡◌, ℕ, ◌+◌, ◌-◌, ◌*◌, ◌%◌, ◌^◌, ◌<◌, ◌≤◌, ◌==◌, min, max, not, nat_lt, nat_le, ◌&&◌, ◌||◌, if◌then◌else◌, true, false, List, [], ◌∷◌, length, None, Some, Ok, Err, IsErr, IfOk, OnOk, pos, negsuc, ◌≤ℤ◌, ◌+ℤ◌};
+ghost use Rattle.cf_outside.specs.Faults.{HasCause};
+ghost use Rattle.cf_outq.specs.SendQueue.{IsQueue, Queue, queue_length};
+ghost use Rattle.cf_outq.specs.SendQueue.{IsQueueOf};
+ghost use Rattle.cf_packet.specs.Packet.{PacketOf, packet_seen};
+ghost use Rattle.cf_rebuild.specs.ReceiveWindow.{Consumes, IsWindow, base_of};
+ghost use Rattle.cf_rebuild.specs.ReceiveWindow.{IsWindowOf};
+ghost use Rattle.cf_stream.specs.FirstCopy.{Offer};
+ghost use Rattle.cf_leg.specs.Segment.{letters_in};
+ghost use Rattle.cf_stream.specs.Stream.{Stream, letter_count};
+ghost use Rattle.cf_leg.specs.Calls.{KeepsList, Widens, window_by, Continues, IsTold, CutOff, origin_as, rst_of, Greeted, IsMade, IsOwn, greeted_as, no_marks, Addressed, Clocked, Counts, Heard, SendsAgain, SendsOldest, Spoken, greeting_of, is_due, is_greeted_phase, leg_opened, end_state_of, queue_counted, queue_opened, rearmed, rises_by};
+ghost use Rattle.cf_leg.specs.Emits.{differs, rst, send_mss, to_tell};
+ghost use Rattle.cf_leg.specs.Heard.{ack_place, text_place};
+ghost use Rattle.cf_stream.specs.Position.{natural};
+ghost use Rattle.cf_leg.specs.Emitted.{with_segment};
+ghost use Rattle.cf_leg.specs.Event.{LegEvent};
+ghost use Rattle.cf_leg.specs.Timer.{backoff};
+ghost use Rattle.cf_leg.specs.LegValue.{IsLeg, IsLegOf, Marks, LegValue, arms, is_open, marks, told_of, way_at};
+ghost use Rattle.cf_outside.specs.Desk.{DeskValue, KeepsDesk};
+
+use super::{Leg, SECOND};
+use crate::ends::ClockAnswer;
+use crate::send::{acked_of, send_empty, send_piece};
+use cf_outq::Outq;
+use cf_outside::Desk;
+use cf_view::WriteFault;
+
+/// How often a leg repeats without an answer. This project's own choice.
+const MOST: u32 = 6;
+
+impl Leg {
+    /// Sends the oldest letters that are not acknowledged again, or an empty segment where all that were sent are.
+    fn send_oldest<D: Desk>(
+        &self,
+        now: u64,
+        queue: &Outq,
+        desk: &mut D,
+    ) -> Result<ClockAnswer, WriteFault>
+        requires base { base_of self.now.window ≤ 2 ^ 30 + 16384 }
+        requires whole { DeskValue.whole (D.value desk.old) ≡ true }
+        requires moment { now < 2 ^ 32 * 1000000 }
+        ensures sends { IfOk result (λ answer. SendsOldest self.now queue.now now answer (DeskValue.packets (D.value desk.old)) (DeskValue.packets (D.value desk.new))) }
+        ensures lines { DeskValue.lines (D.value desk.new) ≡ DeskValue.lines (D.value desk.old) }
+        ensures keeps { KeepsDesk (D.value desk.old) (D.value desk.new) }
+        ensures whole { OnOk result (DeskValue.whole (D.value desk.new) ≡ true) }
+        ensures cause { HasCause (DeskValue.faults (D.value desk.old)) (DeskValue.faults (D.value desk.new)) (IsErr result) }
+    {
+        let told = self.told();
+        let way = self.way();
+        let acked = acked_of(queue);
+        match queue.first_piece(self.mss) {
+            Some(piece) => {
+                send_piece(way, told, queue, piece, now, desk)?;
+                Ok(ClockAnswer::Repeated)
+            }
+            None => {
+                send_empty(way, told, number_before(self.own, acked), now, desk)?;
+                Ok(ClockAnswer::Probed)
+            }
+        }
+    }
+
+    /// Sends again what is unanswered.
+    fn send_again<D: Desk>(
+        &self,
+        now: u64,
+        queue: &Outq,
+        desk: &mut D,
+    ) -> Result<ClockAnswer, WriteFault>
+        requires base { base_of self.now.window ≤ 2 ^ 30 + 16384 }
+        requires whole { DeskValue.whole (D.value desk.old) ≡ true }
+        requires moment { now < 2 ^ 32 * 1000000 }
+        ensures bounds { IsLeg self.now }
+        ensures window { IsWindow self.now.window }
+        ensures sends { IfOk result (λ answer. SendsAgain self.now queue.now now answer (DeskValue.packets (D.value desk.old)) (DeskValue.packets (D.value desk.new))) }
+        ensures lines { DeskValue.lines (D.value desk.new) ≡ DeskValue.lines (D.value desk.old) }
+        ensures keeps { KeepsDesk (D.value desk.old) (D.value desk.new) }
+        ensures whole { OnOk result (DeskValue.whole (D.value desk.new) ≡ true) }
+        ensures cause { HasCause (DeskValue.faults (D.value desk.old)) (DeskValue.faults (D.value desk.new)) (IsErr result) }
+    {
+        let _told = self.told();
+        if self.is_open() {
+            return self.send_oldest(now, queue, desk);
+        }
+        self.send_greeting(now, desk)?;
+        Ok(ClockAnswer::Repeated)
+    }
+
+    /// Whether the timer has expired.
+    fn is_due(&self, now: u64) -> bool
+        ensures { result ≡ is_due self.now now }
+    {
+        self.running && self.deadline <= now
+    }
+
+    /// Whether it expired as often as it may.
+    fn is_spent(&self) -> bool
+        ensures { result ≡ not (nat_lt self.now.fired 6) }
+    {
+        self.fired >= MOST
+    }
+
+    /// The timer is set anew.
+    fn fire(&mut self, now: u64)
+        requires few { nat_lt self.old.fired 6 ≡ true }
+        requires moment { now < 2 ^ 32 * 1000000 }
+        ensures new { self.new ≡ record self.old { fired = self.old.fired + 1; deadline = now + backoff (self.old.fired + 1) } }
+    {
+        self.fired += 1;
+        self.deadline = now + backoff(self.fired);
+    }
+
+    /// The clock stands at a moment. Where the retransmission timer has expired, the leg sends again what is unanswered:
+    /// its SYN or SYN ACK, the oldest letters that are not acknowledged, or an empty segment. At the seventh time without
+    /// an answer it sends nothing.
+    pub fn on_clock<D: Desk>(
+        &mut self,
+        now: u64,
+        queue: &mut Outq,
+        desk: &mut D,
+    ) -> Result<ClockAnswer, WriteFault>
+        requires base { base_of self.old.window ≤ 2 ^ 30 + 16384 }
+        requires whole { DeskValue.whole (D.value desk.old) ≡ true }
+        requires moment { now < 2 ^ 32 * 1000000 }
+        ensures ends { self.new.ends ≡ self.old.ends }
+        ensures kept { self.new.window ≡ self.old.window }
+        ensures clocked { IfOk result (λ answer. Clocked now self.old self.new queue.old answer (DeskValue.packets (D.value desk.old)) (DeskValue.packets (D.value desk.new))) }
+        ensures queue { queue.new ≡ queue.old }
+        ensures lines { DeskValue.lines (D.value desk.new) ≡ DeskValue.lines (D.value desk.old) }
+        ensures keeps { KeepsDesk (D.value desk.old) (D.value desk.new) }
+        ensures whole { OnOk result (DeskValue.whole (D.value desk.new) ≡ true) }
+        ensures cause { HasCause (DeskValue.faults (D.value desk.old)) (DeskValue.faults (D.value desk.new)) (IsErr result) }
+    {
+        if !self.is_due(now) {
+            return Ok(ClockAnswer::Quiet);
+        }
+        if self.is_spent() {
+            return Ok(ClockAnswer::NoAnswer);
+        }
+        let _acked = acked_of(queue);
+        let answer = self.send_again(now, queue, desk)?;
+        self.fire(now);
+        Ok(answer)
+    }
+}
+
+/// The wait after the n-th firing, in microseconds.
+fn backoff(n: u32) -> u64
+    requires { n ≤ 6 }
+    ensures value { result ≡ backoff n }
+    ensures small { result ≤ 32 * 1000000 }
+{
+    (1_u64 << n).min(32) * SECOND
+}
+
+/// The sequence number before that of a letter.
+fn number_before(own: u32, place: u64) -> u32
+    requires { place ≤ 2 ^ 32 }
+    ensures { result ≡ (own + place) % 2 ^ 32 }
+{
+    ((u64::from(own) + place) % (1 << 32)) as u32
+}

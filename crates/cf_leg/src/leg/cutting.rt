@@ -1,0 +1,99 @@
+//! The RST of an end that gives up.
+ghost use Rattle.std.specs.Prelude.{◌≡◌, ℕ, ◌+◌, ◌-◌, ◌*◌, ◌%◌, ◌^◌, ◌<◌, ◌≤◌, ◌==◌, min, max, not, nat_lt, nat_le, ◌&&◌, ◌||◌, if◌then◌else◌, true, false, List, [], ◌∷◌, length, None, Some, Ok, Err, IsErr, IfOk, OnOk, pos, negsuc, ◌≤ℤ◌, ◌+ℤ◌};
+ghost use Rattle.cf_outside.specs.Faults.{HasCause};
+ghost use Rattle.cf_outq.specs.SendQueue.{IsQueue, Queue, queue_length};
+ghost use Rattle.cf_outq.specs.SendQueue.{IsQueueOf};
+ghost use Rattle.cf_packet.specs.Packet.{PacketOf, packet_seen};
+ghost use Rattle.cf_rebuild.specs.ReceiveWindow.{Consumes, IsWindow, base_of};
+ghost use Rattle.cf_rebuild.specs.ReceiveWindow.{IsWindowOf};
+ghost use Rattle.cf_stream.specs.FirstCopy.{Offer};
+ghost use Rattle.cf_leg.specs.Segment.{letters_in};
+ghost use Rattle.cf_stream.specs.Stream.{Stream, letter_count};
+ghost use Rattle.cf_leg.specs.Calls.{KeepsList, Widens, window_by, Continues, IsTold, CutOff, origin_as, rst_of, Greeted, IsMade, IsOwn, greeted_as, no_marks, Addressed, Clocked, Counts, Heard, SendsAgain, SendsOldest, Spoken, greeting_of, is_due, is_greeted_phase, leg_opened, end_state_of, queue_counted, queue_opened, rearmed, rises_by};
+ghost use Rattle.cf_leg.specs.Emits.{differs, rst, send_mss, to_tell};
+ghost use Rattle.cf_leg.specs.Heard.{ack_place, text_place};
+ghost use Rattle.cf_stream.specs.Position.{natural};
+ghost use Rattle.cf_leg.specs.Emitted.{with_segment};
+ghost use Rattle.cf_leg.specs.Event.{LegEvent};
+ghost use Rattle.cf_leg.specs.Timer.{backoff};
+ghost use Rattle.cf_leg.specs.LegValue.{IsLeg, IsLegOf, Marks, LegValue, arms, is_open, marks, told_of, way_at};
+ghost use Rattle.cf_outside.specs.Desk.{DeskValue, KeepsDesk};
+
+use super::Leg;
+use crate::ends::{Ends, Role};
+use crate::send::{natural, next_number, send};
+use cf_outq::Outq;
+use cf_outside::Desk;
+use cf_packet::{ACK, Packet, RST, sequence_number};
+use cf_view::WriteFault;
+
+impl Leg {
+    fn send_rst<D: Desk>(&self, now: u64, queue: &Outq, desk: &mut D) -> Result<(), WriteFault>
+        requires base { base_of self.now.window ≤ 2 ^ 30 + 16384 }
+        requires whole { DeskValue.whole (D.value desk.old) ≡ true }
+        requires moment { now < 2 ^ 32 * 1000000 }
+        ensures packets { OnOk result (DeskValue.packets (D.value desk.new) ≡ with_segment (DeskValue.packets (D.value desk.old)) now (rst_of self.now queue.now)) }
+        ensures lines { DeskValue.lines (D.value desk.new) ≡ DeskValue.lines (D.value desk.old) }
+        ensures keeps { KeepsDesk (D.value desk.old) (D.value desk.new) }
+        ensures whole { OnOk result (DeskValue.whole (D.value desk.new) ≡ true) }
+        ensures cause { HasCause (DeskValue.faults (D.value desk.old)) (DeskValue.faults (D.value desk.new)) (IsErr result) }
+    {
+        let sent = next_number(self.own, queue);
+        let taken = sequence_number(self.other, natural(self.window.base()));
+        match self.ends.role {
+            Role::Active(_) => {
+                if self.is_open() {
+                    send(desk, now, &rst(self.ends, sent, taken, RST + ACK))
+                } else {
+                    send(
+                        desk,
+                        now,
+                        &rst(self.ends, sequence_number(self.own, 0), 0, RST),
+                    )
+                }
+            }
+            Role::Passive(_, _) => {
+                if self.is_greeted() {
+                    send(desk, now, &rst(self.ends, sent, taken, RST + ACK))
+                } else {
+                    send(
+                        desk,
+                        now,
+                        &rst(self.ends, 0, sequence_number(self.other, 0), RST + ACK),
+                    )
+                }
+            }
+        }
+    }
+
+    /// Sends the RST of a cut. The leg is dropped then.
+    pub fn cut<D: Desk>(&mut self, now: u64, queue: &Outq, desk: &mut D) -> Result<(), WriteFault>
+        requires base { base_of self.old.window ≤ 2 ^ 30 + 16384 }
+        requires whole { DeskValue.whole (D.value desk.old) ≡ true }
+        requires moment { now < 2 ^ 32 * 1000000 }
+        ensures cut { OnOk result (CutOff now self.old queue.now (DeskValue.packets (D.value desk.old)) (DeskValue.packets (D.value desk.new))) }
+        ensures lines { DeskValue.lines (D.value desk.new) ≡ DeskValue.lines (D.value desk.old) }
+        ensures keeps { KeepsDesk (D.value desk.old) (D.value desk.new) }
+        ensures whole { OnOk result (DeskValue.whole (D.value desk.new) ≡ true) }
+        ensures cause { HasCause (DeskValue.faults (D.value desk.old)) (DeskValue.faults (D.value desk.new)) (IsErr result) }
+    {
+        self.send_rst(now, queue, desk)?;
+        Ok(())
+    }
+}
+
+/// An RST.
+fn rst<'a>(ends: Ends, seq: u32, ack: u32, flags: u8) -> Packet<'a>
+    ensures { packet_seen result ≡ rst ends seq ack flags }
+{
+    Packet {
+        source: ends.own,
+        dest: ends.peer,
+        seq,
+        ack,
+        flags,
+        window: 0,
+        mss: None,
+        text: &[],
+    }
+}

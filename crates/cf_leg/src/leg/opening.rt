@@ -1,0 +1,127 @@
+//! How an end opens: its SYN or SYN ACK, and the packet that opens it.
+ghost use Rattle.std.specs.Prelude.{◌≡◌, ℕ, ◌+◌, ◌-◌, ◌*◌, ◌%◌, ◌^◌, ◌<◌, ◌≤◌, ◌==◌, min, max, not, nat_lt, nat_le, ◌&&◌, ◌||◌, if◌then◌else◌, true, false, List, [], ◌∷◌, length, None, Some, Ok, Err, IsErr, IfOk, OnOk, pos, negsuc, ◌≤ℤ◌, ◌+ℤ◌};
+ghost use Rattle.cf_outside.specs.Faults.{HasCause};
+ghost use Rattle.cf_outq.specs.SendQueue.{IsQueue, Queue, queue_length};
+ghost use Rattle.cf_outq.specs.SendQueue.{IsQueueOf};
+ghost use Rattle.cf_packet.specs.Packet.{PacketOf, packet_seen};
+ghost use Rattle.cf_rebuild.specs.ReceiveWindow.{Consumes, IsWindow, base_of};
+ghost use Rattle.cf_rebuild.specs.ReceiveWindow.{IsWindowOf};
+ghost use Rattle.cf_stream.specs.FirstCopy.{Offer};
+ghost use Rattle.cf_leg.specs.Segment.{letters_in};
+ghost use Rattle.cf_stream.specs.Stream.{Stream, letter_count};
+ghost use Rattle.cf_leg.specs.Calls.{KeepsList, Widens, window_by, Continues, IsTold, CutOff, origin_as, rst_of, Greeted, IsMade, IsOwn, greeted_as, no_marks, Addressed, Clocked, Counts, Heard, SendsAgain, SendsOldest, Spoken, greeting_of, is_due, is_greeted_phase, leg_opened, end_state_of, queue_counted, queue_opened, rearmed, rises_by};
+ghost use Rattle.cf_leg.specs.Emits.{differs, rst, send_mss, to_tell};
+ghost use Rattle.cf_leg.specs.Heard.{ack_place, text_place};
+ghost use Rattle.cf_stream.specs.Position.{natural};
+ghost use Rattle.cf_leg.specs.Emitted.{with_segment};
+ghost use Rattle.cf_leg.specs.Event.{LegEvent};
+ghost use Rattle.cf_leg.specs.Timer.{backoff};
+ghost use Rattle.cf_leg.specs.LegValue.{IsLeg, IsLegOf, Marks, LegValue, arms, is_open, marks, told_of, way_at};
+ghost use Rattle.cf_outside.specs.Desk.{DeskValue, KeepsDesk};
+
+use super::{Leg, SECOND};
+use crate::ends::{Phase, Role};
+use crate::send::send;
+use cf_outq::Outq;
+use cf_outside::Desk;
+use cf_packet::{ACK, Packet, SYN, sequence_number};
+use cf_view::WriteFault;
+
+impl Leg {
+    /// The SYN or the SYN ACK is about to go out.
+    fn begin(&mut self, now: u64, number: u32)
+        requires made { self.old.phase ≡ Phase.Made }
+        requires moment { now < 2 ^ 32 * 1000000 }
+        ensures leg { IsLeg self.old }
+        ensures window { IsWindow self.old.window }
+        ensures new { self.new ≡ greeted_as self.old number now }
+    {
+        let _edge = self.window.edge();
+        self.own = number;
+        self.phase = Phase::Greeted;
+        self.deadline = now + SECOND;
+        if let Role::Passive(_, _) = self.ends.role {
+            self.window.open_to(16_384);
+        }
+    }
+
+    /// Sends the SYN of an active end, with the number that it was made with, or the SYN ACK of a passive one. Once in its
+    /// life.
+    pub fn greet<D: Desk>(&mut self, now: u64, own_seq: u32, desk: &mut D) -> Result<(), WriteFault>
+        requires made { self.old.phase ≡ Phase.Made }
+        requires number { IsOwn self.old.ends.role own_seq }
+        requires whole { DeskValue.whole (D.value desk.old) ≡ true }
+        requires moment { now < 2 ^ 32 * 1000000 }
+        ensures ends { OnOk result (self.new.ends ≡ self.old.ends) }
+        ensures number { OnOk result (self.new.own ≡ own_seq) }
+        ensures window { OnOk result (self.new.window ≡ window_by self.old.ends.role self.old.window) }
+        ensures greeted { OnOk result (Greeted now self.old self.new (DeskValue.packets (D.value desk.old)) (DeskValue.packets (D.value desk.new))) }
+        ensures lines { DeskValue.lines (D.value desk.new) ≡ DeskValue.lines (D.value desk.old) }
+        ensures keeps { KeepsDesk (D.value desk.old) (D.value desk.new) }
+        ensures whole { OnOk result (DeskValue.whole (D.value desk.new) ≡ true) }
+        ensures cause { HasCause (DeskValue.faults (D.value desk.old)) (DeskValue.faults (D.value desk.new)) (IsErr result) }
+    {
+        self.begin(now, own_seq);
+        self.send_greeting(now, desk)?;
+        Ok(())
+    }
+
+    /// Sends the SYN or the SYN ACK.
+    pub(super) fn send_greeting<D: Desk>(&self, now: u64, desk: &mut D) -> Result<(), WriteFault>
+        requires whole { DeskValue.whole (D.value desk.old) ≡ true }
+        requires moment { now < 2 ^ 32 * 1000000 }
+        ensures packets { OnOk result (DeskValue.packets (D.value desk.new) ≡ with_segment (DeskValue.packets (D.value desk.old)) now (greeting_of self.now)) }
+        ensures lines { DeskValue.lines (D.value desk.new) ≡ DeskValue.lines (D.value desk.old) }
+        ensures keeps { KeepsDesk (D.value desk.old) (D.value desk.new) }
+        ensures whole { OnOk result (DeskValue.whole (D.value desk.new) ≡ true) }
+        ensures cause { HasCause (DeskValue.faults (D.value desk.old)) (DeskValue.faults (D.value desk.new)) (IsErr result) }
+    {
+        let (ack, flags) = match self.ends.role {
+            Role::Active(_) => (0, SYN),
+            Role::Passive(_, _) => (sequence_number(self.other, 0), SYN + ACK),
+        };
+        let packet = Packet {
+            source: self.ends.own,
+            dest: self.ends.peer,
+            seq: self.own,
+            ack,
+            flags,
+            window: 16_384,
+            mss: Some(1460),
+            text: &[],
+        };
+        send(desk, now, &packet)
+    }
+
+    /// The packet opened the leg, or did not. A SYN ACK tells the peer's number, its maximum segment size and an edge.
+    pub(super) fn open_if(&mut self, opens: bool, packet: &Packet<'_>, queue: &mut Outq)
+        ensures new { self.new ≡ leg_opened opens self.old (packet_seen packet.now) }
+        ensures queue { queue.new ≡ queue_opened opens self.old.ends.role queue.old (packet_seen packet.now) }
+        ensures stands { (whole : Stream) → IsQueueOf queue.old whole → IsQueueOf queue.new whole }
+    {
+        if !opens {
+            return;
+        }
+        self.phase = Phase::Open;
+        self.fired = 0;
+        if let Role::Active(_) = self.ends.role {
+            self.other = packet.seq;
+            self.mss = send_mss(packet.mss);
+            self.shown = self.shown.max(u64::from(packet.window));
+            queue.shown(i64::from(packet.window));
+        }
+    }
+}
+
+/// The greatest text of a segment: the peer's maximum segment size in octets, between 64 and 1,460, and 536 where it told
+/// none. RFC 9293, section 3.7.1; the bounds are this project's own.
+pub(super) fn send_mss(mss: Option<u16>) -> usize
+    ensures value { result ≡ send_mss mss }
+    ensures some { 0 < result }
+    ensures most { result ≤ 1460 }
+{
+    match mss {
+        Some(mss) => usize::from(mss).max(64).min(1460),
+        None => 536,
+    }
+}

@@ -1,0 +1,127 @@
+//! What an end says at the end of an event.
+ghost use Rattle.std.specs.Prelude.{◌≡◌, ℕ, ◌+◌, ◌-◌, ◌*◌, ◌%◌, ◌^◌, ◌<◌, ◌≤◌, ◌==◌, min, max, not, nat_lt, nat_le, ◌&&◌, ◌||◌, if◌then◌else◌, true, false, List, [], ◌∷◌, length, None, Some, Ok, Err, IsErr, IfOk, OnOk, pos, negsuc, ◌≤ℤ◌, ◌+ℤ◌};
+ghost use Rattle.cf_outside.specs.Faults.{HasCause};
+ghost use Rattle.cf_outq.specs.SendQueue.{IsQueue, Queue, queue_length};
+ghost use Rattle.cf_outq.specs.SendQueue.{IsQueueOf};
+ghost use Rattle.cf_packet.specs.Packet.{PacketOf, packet_seen};
+ghost use Rattle.cf_rebuild.specs.ReceiveWindow.{Consumes, IsWindow, base_of};
+ghost use Rattle.cf_rebuild.specs.ReceiveWindow.{IsWindowOf};
+ghost use Rattle.cf_stream.specs.FirstCopy.{Offer};
+ghost use Rattle.cf_leg.specs.Segment.{letters_in};
+ghost use Rattle.cf_stream.specs.Stream.{Stream, letter_count};
+ghost use Rattle.cf_leg.specs.Calls.{KeepsList, Widens, window_by, Continues, IsTold, CutOff, origin_as, rst_of, Greeted, IsMade, IsOwn, greeted_as, no_marks, Addressed, Clocked, Counts, Heard, SendsAgain, SendsOldest, Spoken, greeting_of, is_due, is_greeted_phase, leg_opened, end_state_of, queue_counted, queue_opened, rearmed, rises_by};
+ghost use Rattle.cf_leg.specs.Emits.{differs, rst, send_mss, to_tell};
+ghost use Rattle.cf_leg.specs.Heard.{ack_place, text_place};
+ghost use Rattle.cf_stream.specs.Position.{natural};
+ghost use Rattle.cf_leg.specs.Emitted.{with_segment};
+ghost use Rattle.cf_leg.specs.Event.{LegEvent};
+ghost use Rattle.cf_leg.specs.Timer.{backoff};
+ghost use Rattle.cf_leg.specs.LegValue.{IsLeg, IsLegOf, Marks, LegValue, arms, is_open, marks, told_of, way_at};
+ghost use Rattle.cf_outside.specs.Desk.{DeskValue, KeepsDesk};
+
+use super::{Leg, SECOND};
+use crate::ends::Told;
+use crate::send::say;
+use cf_outq::Outq;
+use cf_outside::Desk;
+use cf_view::WriteFault;
+
+impl Leg {
+    /// Tells a base and an edge, and what is due.
+    fn tell(&mut self, told: Told)
+        requires is_open { is_open self.old.phase ≡ true }
+        requires grows { self.old.window.edge ≤ told.edge }
+        requires base { told.base ≡ base_of self.old.window }
+        requires near { told.edge ≤ told.base + 16384 }
+        requires room { told.edge ≤ self.old.window.consumed + 32768 }
+        requires limit { told.edge ≤ 2 ^ 31 }
+        ensures new { self.new ≡ record self.old { base = told.base; window = record self.old.window { edge = told.edge }; owes = false } }
+    {
+        self.window.open_to(told.edge as i64);
+        self.base = told.base;
+        self.owes = false;
+    }
+
+    /// An open leg says what it has to say.
+    fn address<D: Desk>(
+        &mut self,
+        now: u64,
+        roomy: bool,
+        queue: &mut Outq,
+        desk: &mut D,
+    ) -> Result<(), WriteFault>
+        requires base { base_of self.old.window ≤ 2 ^ 30 + 16384 }
+        requires room { roomy ≡ true → base_of self.old.window ≤ self.old.window.consumed + 16384 }
+        requires whole { DeskValue.whole (D.value desk.old) ≡ true }
+        requires moment { now < 2 ^ 32 * 1000000 }
+        ensures bounds { IsLeg self.old }
+        ensures window { IsWindow self.old.window }
+        ensures addressed { OnOk result (Addressed roomy now self.old self.new queue.old queue.new (DeskValue.packets (D.value desk.old)) (DeskValue.packets (D.value desk.new))) }
+        ensures stands { (whole : Stream) → IsQueueOf queue.old whole → IsQueueOf queue.new whole }
+        ensures lines { DeskValue.lines (D.value desk.new) ≡ DeskValue.lines (D.value desk.old) }
+        ensures keeps { KeepsDesk (D.value desk.old) (D.value desk.new) }
+        ensures whole { OnOk result (DeskValue.whole (D.value desk.new) ≡ true) }
+        ensures cause { HasCause (DeskValue.faults (D.value desk.old)) (DeskValue.faults (D.value desk.new)) (IsErr result) }
+    {
+        let told = self.told();
+        if !self.is_open() {
+            return Ok(());
+        }
+        let way = self.way();
+        let tell = self.to_tell(roomy);
+        let is_due = is_due(self.owes, told, tell);
+        self.tell(tell);
+        say(way, tell, self.mss, is_due, queue, now, desk)?;
+        Ok(())
+    }
+
+    /// Starts the timer where something is unanswered and it did not run.
+    fn rearm(&mut self, now: u64, queue: &Outq)
+        requires moment { now < 2 ^ 32 * 1000000 }
+        ensures new { self.new ≡ rearmed self.old queue.now now }
+    {
+        let arms = self.arms(queue);
+        if arms && !self.running {
+            self.deadline = now + SECOND;
+        }
+        self.running = arms;
+        self.owes = false;
+    }
+
+    /// Ends an event: an open leg sends every letter that its peer lets in, in pieces of at most its maximum segment size;
+    /// or, where there is none, an acknowledgment if one is owed or the base or the edge to be told differs from those
+    /// told. `roomy` says that few letters are unacknowledged in both directions.
+    pub fn speak<D: Desk>(
+        &mut self,
+        now: u64,
+        roomy: bool,
+        queue: &mut Outq,
+        desk: &mut D,
+    ) -> Result<(), WriteFault>
+        requires base { base_of self.old.window ≤ 2 ^ 30 + 16384 }
+        requires room { roomy ≡ true → base_of self.old.window ≤ self.old.window.consumed + 16384 }
+        requires whole { DeskValue.whole (D.value desk.old) ≡ true }
+        requires moment { now < 2 ^ 32 * 1000000 }
+        ensures ends { OnOk result (self.new.ends ≡ self.old.ends) }
+        ensures window { OnOk result (Widens roomy self.old.window self.new.window) }
+        ensures queue { OnOk result (queue.new ≡ record queue.old { sent = queue.new.sent }) }
+        ensures told { OnOk result (is_open self.old.phase ≡ true → IsTold roomy self.old.window self.new) }
+        ensures spoken { OnOk result (Spoken roomy now self.old self.new queue.old queue.new (DeskValue.packets (D.value desk.old)) (DeskValue.packets (D.value desk.new))) }
+        ensures stands { (whole : Stream) → IsQueueOf queue.old whole → IsQueueOf queue.new whole }
+        ensures lines { DeskValue.lines (D.value desk.new) ≡ DeskValue.lines (D.value desk.old) }
+        ensures keeps { KeepsDesk (D.value desk.old) (D.value desk.new) }
+        ensures whole { OnOk result (DeskValue.whole (D.value desk.new) ≡ true) }
+        ensures cause { HasCause (DeskValue.faults (D.value desk.old)) (DeskValue.faults (D.value desk.new)) (IsErr result) }
+    {
+        self.address(now, roomy, queue, desk)?;
+        self.rearm(now, queue);
+        Ok(())
+    }
+}
+
+/// Whether an acknowledgment is due: one is owed, or something new is to be told.
+fn is_due(owes: bool, told: Told, tell: Told) -> bool
+    ensures { result ≡ (owes || differs told tell) }
+{
+    owes || !(told.base == tell.base) || !(told.edge == tell.edge)
+}

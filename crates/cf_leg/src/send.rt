@@ -1,0 +1,241 @@
+//! Segments that go out.
+ghost use Rattle.std.specs.Prelude.{◌≡◌, ℕ, ◌+◌, ◌-◌, ◌*◌, ◌%◌, ◌^◌, ◌<◌, ◌≤◌, ◌==◌, ◌↔◌, min, max, not, nat_lt, ◌&&◌, ◌||◌, if◌then◌else◌, true, false, List, [], ◌∷◌, length, None, Some, Ok, Err, IsErr, IfOk, OnOk, IsTrue, pos, ◌≤ℤ◌};
+ghost use Rattle.cf_outside.specs.Desk.{DeskValue, KeepsDesk};
+ghost use Rattle.cf_outside.specs.Faults.{HasCause};
+ghost use Rattle.cf_outq.specs.SendQueue.{IsQueue, IsUnacked, carried, queue_length};
+ghost use Rattle.cf_outq.specs.SendQueue.{IsQueueOf};
+ghost use Rattle.cf_packet.specs.Packet.{PacketOf, packet_seen};
+ghost use Rattle.cf_packet.specs.Written.{IsWritable};
+ghost use Rattle.cf_stream.specs.Position.{natural, sequence_number};
+ghost use Rattle.cf_stream.specs.Stream.{Stream, letter_count, no_letters};
+ghost use Rattle.cf_leg.specs.Emits.{Pieces, piece};
+ghost use Rattle.cf_leg.specs.Emitted.{spelled, with_segment, with_segments};
+ghost use Rattle.cf_leg.specs.Segment.{flags_with, segment};
+ghost use Rattle.cf_leg.specs.Calls.{SaysTo, SendsNew, SendsPiece};
+
+use crate::ends::{Told, Way};
+use arrayvec::ArrayVec;
+use cf_outq::{Outq, Piece};
+use cf_outside::{Desk, WriteAnswer};
+use cf_packet::{ACK, FIN, PSH, Packet, sequence_number, write_packet};
+use cf_view::WriteFault;
+
+/// Emits a packet.
+#[tactic(auto, unfolding(crate::specs::Emitted::spelled))]
+pub(crate) fn send<D: Desk>(desk: &mut D, now: u64, packet: &Packet<'_>) -> Result<(), WriteFault>
+    requires whole { DeskValue.whole (D.value desk.old) ≡ true }
+    requires moment { now < 2 ^ 32 * 1000000 }
+    requires writable { IsWritable (packet_seen packet.now) }
+    ensures packets { OnOk result (DeskValue.packets (D.value desk.new) ≡ with_segment (DeskValue.packets (D.value desk.old)) now (packet_seen packet.now)) }
+    ensures lines { DeskValue.lines (D.value desk.new) ≡ DeskValue.lines (D.value desk.old) }
+    ensures keeps { KeepsDesk (D.value desk.old) (D.value desk.new) }
+    ensures whole { OnOk result (DeskValue.whole (D.value desk.new) ≡ true) }
+    ensures cause { HasCause (DeskValue.faults (D.value desk.old)) (DeskValue.faults (D.value desk.new)) (IsErr result) }
+{
+    let mut octets = ArrayVec::new();
+    write_packet(packet, &mut octets);
+    match desk.emit(now, octets.as_slice()) {
+        WriteAnswer::Done => Ok(()),
+        WriteAnswer::Failed => Err(WriteFault),
+    }
+}
+
+/// The flags of a segment with these letters.
+fn flags_with(text: &[u8], end: bool) -> u8
+    ensures value { result ≡ flags_with (record { bytes = text.now; ended = end }) }
+    ensures small { result < 64 }
+{
+    let push = if text.is_empty() { 0 } else { PSH };
+    let fin = if end { FIN } else { 0 };
+    ACK + push + fin
+}
+
+/// The segment with a sequence number and these letters.
+fn segment<'a>(way: Way, told: Told, number: u32, text: &'a [u8], end: bool) -> Packet<'a>
+    requires told { (told.base ≤ told.edge) × (told.edge - told.base < 65536) × (told.base ≤ 2 ^ 31) }
+    ensures { packet_seen result ≡ segment way told number (record { bytes = text.now; ended = end }) }
+{
+    Packet {
+        source: way.source,
+        dest: way.dest,
+        seq: number,
+        ack: sequence_number(way.other, told.base),
+        flags: flags_with(text, end),
+        window: (told.edge - told.base) as u16,
+        mss: None,
+        text,
+    }
+}
+
+/// Sends a segment without letters.
+pub(crate) fn send_empty<D: Desk>(
+    way: Way,
+    told: Told,
+    number: u32,
+    now: u64,
+    desk: &mut D,
+) -> Result<(), WriteFault>
+    requires told { (told.base ≤ told.edge) × (told.edge - told.base < 65536) × (told.base ≤ 2 ^ 31) }
+    requires whole { DeskValue.whole (D.value desk.old) ≡ true }
+    requires moment { now < 2 ^ 32 * 1000000 }
+    ensures packets { OnOk result (DeskValue.packets (D.value desk.new) ≡ with_segment (DeskValue.packets (D.value desk.old)) now (segment way told number no_letters)) }
+    ensures lines { DeskValue.lines (D.value desk.new) ≡ DeskValue.lines (D.value desk.old) }
+    ensures keeps { KeepsDesk (D.value desk.old) (D.value desk.new) }
+    ensures whole { OnOk result (DeskValue.whole (D.value desk.new) ≡ true) }
+    ensures cause { HasCause (DeskValue.faults (D.value desk.old)) (DeskValue.faults (D.value desk.new)) (IsErr result) }
+{
+    send(desk, now, &segment(way, told, number, &[], false))
+}
+
+/// A place as a number.
+pub(crate) fn natural(place: i64) -> u64
+    requires { pos 0 ≤ℤ place }
+    ensures { result ≡ natural place }
+{
+    place as u64
+}
+
+/// The place of a piece.
+fn place_of(piece: Piece) -> u64
+    requires { pos 0 ≤ℤ piece.at }
+    ensures { result ≡ natural piece.at }
+{
+    natural(piece.at)
+}
+
+/// Sends the letters of a piece.
+pub(crate) fn send_piece<D: Desk>(
+    way: Way,
+    told: Told,
+    queue: &Outq,
+    piece: Piece,
+    now: u64,
+    desk: &mut D,
+) -> Result<(), WriteFault>
+    requires told { (told.base ≤ told.edge) × (told.edge - told.base < 65536) × (told.base ≤ 2 ^ 31) }
+    requires unacked { IsUnacked queue.now piece }
+    requires small { piece.len ≤ 1460 }
+    requires place { natural piece.at ≤ 2 ^ 31 }
+    requires whole { DeskValue.whole (D.value desk.old) ≡ true }
+    requires moment { now < 2 ^ 32 * 1000000 }
+    ensures packets { OnOk result (SendsPiece way told queue.now piece now (DeskValue.packets (D.value desk.old)) (DeskValue.packets (D.value desk.new))) }
+    ensures lines { DeskValue.lines (D.value desk.new) ≡ DeskValue.lines (D.value desk.old) }
+    ensures keeps { KeepsDesk (D.value desk.old) (D.value desk.new) }
+    ensures whole { OnOk result (DeskValue.whole (D.value desk.new) ≡ true) }
+    ensures cause { HasCause (DeskValue.faults (D.value desk.old)) (DeskValue.faults (D.value desk.new)) (IsErr result) }
+{
+    let mut buffer = [0; 1460];
+    let text = &mut buffer[..piece.len];
+    queue.copy(piece, text);
+    let number = sequence_number(way.own, place_of(piece));
+    send(desk, now, &segment(way, told, number, text, piece.end))
+}
+
+/// Sends every letter that was not sent and that the peer lets in. Answers whether there was one.
+pub(crate) fn send_new<D: Desk>(
+    way: Way,
+    told: Told,
+    mss: usize,
+    queue: &mut Outq,
+    now: u64,
+    desk: &mut D,
+) -> Result<bool, WriteFault>
+    requires told { (told.base ≤ told.edge) × (told.edge - told.base < 65536) × (told.base ≤ 2 ^ 31) }
+    requires mss { (0 < mss) × (mss ≤ 1460) }
+    requires whole { DeskValue.whole (D.value desk.old) ≡ true }
+    requires moment { now < 2 ^ 32 * 1000000 }
+    ensures some { IfOk result (λ some. some ≡ nat_lt queue.old.sent (min queue.old.shown (queue_length queue.old))) }
+    ensures pieces { OnOk result (SendsNew way told mss queue.old now (DeskValue.packets (D.value desk.old)) (DeskValue.packets (D.value desk.new))) }
+    ensures new { OnOk result (queue.new ≡ record queue.old { sent = max queue.old.sent (min queue.old.shown (queue_length queue.old)) }) }
+    ensures stands { (whole : Stream) → IsQueueOf queue.old whole → IsQueueOf queue.new whole }
+    ensures lines { DeskValue.lines (D.value desk.new) ≡ DeskValue.lines (D.value desk.old) }
+    ensures keeps { KeepsDesk (D.value desk.old) (D.value desk.new) }
+    ensures whole { OnOk result (DeskValue.whole (D.value desk.new) ≡ true) }
+    ensures cause { HasCause (DeskValue.faults (D.value desk.old)) (DeskValue.faults (D.value desk.new)) (IsErr result) }
+{
+    let mut some = false;
+    // Its place is one of the queue's, which are at most 2^31.
+    let _sent = queue.sent();
+    while let Some(piece) = queue.next_piece(mss) {
+        send_piece(way, told, queue, piece, now, desk)?;
+        some = true;
+    }
+    Ok(some)
+}
+
+/// Sends a segment without letters, or nothing.
+fn acknowledge<D: Desk>(
+    is_due: bool,
+    way: Way,
+    told: Told,
+    number: u32,
+    now: u64,
+    desk: &mut D,
+) -> Result<(), WriteFault>
+    requires told { (told.base ≤ told.edge) × (told.edge - told.base < 65536) × (told.base ≤ 2 ^ 31) }
+    requires whole { DeskValue.whole (D.value desk.old) ≡ true }
+    requires moment { now < 2 ^ 32 * 1000000 }
+    ensures packets { OnOk result (DeskValue.packets (D.value desk.new) ≡ with_segments (DeskValue.packets (D.value desk.old)) now (if is_due then segment way told number no_letters ∷ [] else [])) }
+    ensures lines { DeskValue.lines (D.value desk.new) ≡ DeskValue.lines (D.value desk.old) }
+    ensures keeps { KeepsDesk (D.value desk.old) (D.value desk.new) }
+    ensures whole { OnOk result (DeskValue.whole (D.value desk.new) ≡ true) }
+    ensures cause { HasCause (DeskValue.faults (D.value desk.old)) (DeskValue.faults (D.value desk.new)) (IsErr result) }
+{
+    if is_due {
+        send_empty(way, told, number, now, desk)
+    } else {
+        Ok(())
+    }
+}
+
+/// Whether an acknowledgment is due that no segment carried.
+fn is_left(is_due: bool, some: bool) -> bool
+    ensures { result ≡ (is_due && not some) }
+{
+    is_due && !some
+}
+
+/// How many letters were acknowledged.
+pub(crate) fn acked_of(queue: &Outq) -> u64
+    ensures value { result ≡ queue.now.acked }
+    ensures bounds { IsQueue queue.now }
+{
+    natural(queue.length() - queue.unacked())
+}
+
+/// The sequence number of the next new letter.
+pub(crate) fn next_number(own: u32, queue: &Outq) -> u32
+    ensures { result ≡ sequence_number own queue.now.sent }
+{
+    sequence_number(own, natural(queue.sent()))
+}
+
+/// What an open end says to its peer: every new letter that it lets in, or, if there is none, an acknowledgment where one
+/// is due.
+pub(crate) fn say<D: Desk>(
+    way: Way,
+    told: Told,
+    mss: usize,
+    is_due: bool,
+    queue: &mut Outq,
+    now: u64,
+    desk: &mut D,
+) -> Result<(), WriteFault>
+    requires told { (told.base ≤ told.edge) × (told.edge - told.base < 65536) × (told.base ≤ 2 ^ 31) }
+    requires mss { (0 < mss) × (mss ≤ 1460) }
+    requires whole { DeskValue.whole (D.value desk.old) ≡ true }
+    requires moment { now < 2 ^ 32 * 1000000 }
+    ensures says { OnOk result (SaysTo way told mss is_due queue.old now (DeskValue.packets (D.value desk.old)) (DeskValue.packets (D.value desk.new))) }
+    ensures new { OnOk result (queue.new ≡ record queue.old { sent = max queue.old.sent (min queue.old.shown (queue_length queue.old)) }) }
+    ensures stands { (whole : Stream) → IsQueueOf queue.old whole → IsQueueOf queue.new whole }
+    ensures lines { DeskValue.lines (D.value desk.new) ≡ DeskValue.lines (D.value desk.old) }
+    ensures keeps { KeepsDesk (D.value desk.old) (D.value desk.new) }
+    ensures whole { OnOk result (DeskValue.whole (D.value desk.new) ≡ true) }
+    ensures cause { HasCause (DeskValue.faults (D.value desk.old)) (DeskValue.faults (D.value desk.new)) (IsErr result) }
+{
+    let number = next_number(way.own, queue);
+    let some = send_new(way, told, mss, queue, now, desk)?;
+    let is_empty = is_left(is_due, some);
+    acknowledge(is_empty, way, told, number, now, desk)?;
+    Ok(())
+}
