@@ -156,7 +156,7 @@ abbrev some_or : PacketOf → Option PacketOf → PacketOf
 some_or x None = x
 some_or x (Some y) = y
 
-greeting_right : (ends : Ends) (es : List LegEvent) → AllRight ends es → (p : PacketOf) → greeting es ≡ Some p → IsGreeting ends ends.role p
+pub greeting_right : (ends : Ends) (es : List LegEvent) → AllRight ends es → (p : PacketOf) → greeting es ≡ Some p → IsGreeting ends ends.role p
 greeting_right ends [] a p g = absurd (false≢true (ap is_some g))
 greeting_right ends (e ∷ es) a p g = by (greeting_right ends es a.1) (greeting es) refl e.came a.0.came g
   where

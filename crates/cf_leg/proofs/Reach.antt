@@ -26,7 +26,7 @@ carried_all way t whole mss edge from (p ∷ ps) h =
     let short = piece_short whole mss edge from h.0 in
     rw one (carried_all way t whole mss edge (from + letter_count (piece whole mss edge from)) ps h.2 ∙ omega (arith, short, h.0))
 
-carried_after : (way : Way) (t : Told) (due : Bool) (whole : Stream) (mss edge from : ℕ) (outs : List PacketOf) → SaysIf way t due whole mss edge from outs → letters_sent_by_all way.own from outs ≡ max from (min edge (letter_count whole))
+pub carried_after : (way : Way) (t : Told) (due : Bool) (whole : Stream) (mss edge from : ℕ) (outs : List PacketOf) → SaysIf way t due whole mss edge from outs → letters_sent_by_all way.own from outs ≡ max from (min edge (letter_count whole))
 carried_after way t due whole mss edge from outs h = by (nat_lt from (min edge (letter_count whole))) refl h
   where
     after : (d : Bool) → letters_sent_by_all way.own from (cond d (segment way t (sequence_number way.own from) no_letters ∷ []) []) ≡ from

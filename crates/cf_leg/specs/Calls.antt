@@ -13,8 +13,8 @@ use Rattle.cf_leg.specs.LegValue.{Marks, LegValue, IsLegOf, is_open, arms, marks
 use Rattle.cf_leg.specs.Timer.{clock_answer, second}
 use Rattle.cf_rebuild.specs.ReceiveWindow.{Window, base_of, unread}
 use Rattle.cf_rebuild.specs.ReceiveWindow.{IsWindowOf}
-use Rattle.cf_stream.specs.FirstCopy.{Offer}
-use Rattle.cf_leg.specs.Heard.{ack_place, answer_to, end_state, text_place}
+use Rattle.cf_stream.specs.FirstCopy.{IsTaken, Offer, first_copy}
+use Rattle.cf_leg.specs.Heard.{ack_place, answer_to, end_state, offers, text_place}
 use Rattle.cf_leg.specs.declared.ends.LegAnswer.{LegAnswer}
 use Rattle.cf_leg.specs.declared.ends.Phase.{Phase}
 use Rattle.cf_leg.specs.declared.ends.Phase.TheVariants as phase
@@ -186,6 +186,18 @@ pub record Heard (now : ℕ) (p : PacketOf) (old new : LegValue) (queue queue' :
   pub answer : (e : LegEvent) (es : List LegEvent) → IsLegOf old (marks queue) (record e { came = Nothing; ending = Unspoken } ∷ es) → given ≡ answer_to (end_state old.ends.role es e) p
   pub stands : (e : LegEvent) (es : List LegEvent) → now ≡ moment e → IsLegOf old (marks queue) (record e { came = Nothing; ending = Unspoken } ∷ es)
       → IsLegOf new (marks queue') (record e { came = Packet p; ending = Unspoken } ∷ es)
+
+-- a list and more letters after its own
+abbrev pub with_letters : Stream → Stream → Stream
+with_letters s more = record { bytes = s.bytes ++ more.bytes; ended = if more.ended then true else s.ended }
+
+-- these letters were taken by the packet: they are pending now, and what is taken goes on by them
+pub record Newly (now : ℕ) (p : PacketOf) (old new : LegValue) (queue : Queue) : Type 0 where
+  pub letters : Stream
+  pub pending : new.window.pending ≡ old.window.pending ++ letters.bytes
+  pub ended : new.window.ended ≡ (old.window.ended || letters.ended)
+  pub taken : (e : LegEvent) (es : List LegEvent) (t : Stream) → now ≡ moment e → IsLegOf old (marks queue) (record e { came = Nothing; ending = Unspoken } ∷ es)
+      → IsTaken (first_copy (offers old.ends.role es)) t → IsTaken (first_copy (offers old.ends.role (record e { came = Packet p; ending = Unspoken } ∷ es))) (with_letters t letters)
 
 -- ---- the greeting
 

@@ -6,7 +6,7 @@ use Rattle.cf_stream.specs.Position.{sequence_number}
 use Rattle.cf_stream.specs.Stream.{Stream, no_letters, letter_count, part}
 use Rattle.cf_leg.specs.Event.{Came, Nothing, Greeting, Packet, Ending, Unspoken, Spoke, Cut, LegEvent, is_settled, stream_after}
 use Rattle.cf_leg.specs.Heard.{opened, owed, acked, shown, offers}
-use Rattle.cf_leg.specs.Segment.{segment}
+use Rattle.cf_leg.specs.Segment.{letters_of, segment}
 use Rattle.cf_leg.specs.Timer.{fires, tries}
 use Rattle.cf_leg.specs.Told.{greeting, is_greeted, own_number, peer_number, syn_ack, told, told_at, letters_sent, letters_sent_at}
 use Rattle.cf_leg.specs.declared.ends.Ends.{Ends}
@@ -137,6 +137,17 @@ pub record Cuts (ends : Ends) (es : List LegEvent) (e : LegEvent) (p : PacketOf)
   pub taken : Stream
   pub is_taken : IsTaken (first_copy (offers ends.role (e ∷ es))) taken
   pub rst : p ≡ cut_by ends (e ∷ es) (letters_sent_at ends.role es e) (letter_count taken) ends.role
+
+-- ---- segments without letters
+
+-- how many letters some segments have, and how many of them have none
+abbrev pub letters_of_all : List PacketOf → ℕ
+letters_of_all [] = 0
+letters_of_all (p ∷ ps) = letters_of p + letters_of_all ps
+
+abbrev pub empties : List PacketOf → ℕ
+empties [] = 0
+empties (p ∷ ps) = (if letters_of p == 0 then 1 else 0) + empties ps
 
 -- ---- all of an event
 

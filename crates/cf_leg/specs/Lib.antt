@@ -1,9 +1,11 @@
+pub mod Asked
 pub mod Calls
 pub mod Emits
 pub mod Emitted
 pub mod Event
 pub mod Heard
 pub mod LegValue
+pub mod OneStream
 pub mod Segment
 pub mod Timer
 pub mod Told

@@ -5,6 +5,7 @@ mod ends;
 mod heard;
 mod laws;
 mod leg;
+mod runs;
 mod send;
 
 pub use ends::{ClockAnswer, EndState, Ends, LegAnswer, Phase, Role, Told, Way};
@@ -13,3 +14,7 @@ pub use laws::{
     pieces_are_read, sends_are_fixed, speeches_reach,
 };
 pub use leg::Leg;
+pub use runs::{
+    edges_never_move_back, events_fix_what_is_sent, nothing_passes_the_edge,
+    one_empty_segment_where_owed, repeats_carry_what_was_carried, segments_carry_one_stream,
+};

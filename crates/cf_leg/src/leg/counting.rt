@@ -9,7 +9,7 @@ ghost use Rattle.cf_rebuild.specs.ReceiveWindow.{IsWindowOf};
 ghost use Rattle.cf_stream.specs.FirstCopy.{Offer};
 ghost use Rattle.cf_leg.specs.Segment.{letters_in};
 ghost use Rattle.cf_stream.specs.Stream.{Stream, letter_count};
-ghost use Rattle.cf_leg.specs.Calls.{KeepsList, Widens, window_by, Continues, IsTold, CutOff, origin_as, rst_of, Greeted, IsMade, IsOwn, greeted_as, no_marks, Addressed, Clocked, Counts, Heard, SendsAgain, SendsOldest, Spoken, greeting_of, is_due, is_greeted_phase, leg_opened, end_state_of, queue_counted, queue_opened, rearmed, rises_by};
+ghost use Rattle.cf_leg.specs.Calls.{KeepsList, Widens, window_by, Continues, Newly, IsTold, CutOff, origin_as, rst_of, Greeted, IsMade, IsOwn, greeted_as, no_marks, Addressed, Clocked, Counts, Heard, SendsAgain, SendsOldest, Spoken, greeting_of, is_due, is_greeted_phase, leg_opened, end_state_of, queue_counted, queue_opened, rearmed, rises_by};
 ghost use Rattle.cf_leg.specs.Emits.{differs, rst, send_mss, to_tell};
 ghost use Rattle.cf_leg.specs.Heard.{ack_place, text_place};
 ghost use Rattle.cf_stream.specs.Position.{natural};
@@ -82,6 +82,7 @@ impl Leg {
         requires moment { now < 2 ^ 32 * 1000000 }
         ensures ends { self.new.ends ≡ self.old.ends }
         ensures heard { Heard now (packet_seen packet.now) self.old self.new queue.old queue.new result }
+        ensures newly { Newly now (packet_seen packet.now) self.old self.new queue.old }
         ensures window { Continues self.old.window self.new.window }
         ensures queue { KeepsList queue.old queue.new }
         ensures stands { (whole : Stream) → IsQueueOf queue.old whole → IsQueueOf queue.new whole }

@@ -1,4 +1,5 @@
 use Rattle.std.proofs.Common.{◌∙◌, ap, sym, subst, Bool, ℕ, pos}
+use Rattle.cf_leg.proofs.Newly.{ends_counted, ends_opened, newly_of}
 use Rattle.std.specs.Prelude.{◌≤ℤ◌}
 use Rattle.cf_outq.specs.SendQueue.{Queue}
 use Rattle.cf_packet.specs.Packet.{packet_seen}
@@ -44,3 +45,13 @@ returns-clause-queue c =
     subst (λ (q : Queue). KeepsList c.args.queue.now q)
     (sym (c.count_if.ensures.counts.moved ∙ ap (λ (q : Queue). queue_counted c.counts.result q (ack_place c.state-state.result (packet_seen c.args.packet.now)) c.args.packet.now.window) c.open_if.ensures.queue))
     (list_kept c.is_opening.result c.counts.result c.args.self.now.ends.role c.args.queue.now (packet_seen c.args.packet.now) _ _)
+
+pub returns-clause-ends : goal.returns-clause-ends
+returns-clause-ends c =
+    ap (λ (l : LegValue). l.ends) c.self.view_is
+    ∙ ap (λ (l : LegValue). l.ends) c.count_if.ensures.counts.leg ∙ ends_counted c.counts.result c.open_if.new.self c.count_if.new.self.window _ _ _ _
+    ∙ ap (λ (l : LegValue). l.ends) c.open_if.ensures.new ∙ ends_opened c.is_opening.result c.args.self.now (packet_seen c.args.packet.now)
+
+pub returns-clause-newly : goal.returns-clause-newly
+returns-clause-newly c =
+    newly_of c.args.now (packet_seen c.args.packet.now) c.args.self.now _ c.args.queue.now c.count_if.new.queue c.answer_to-answer.result (returns-clause-heard c) (returns-clause-ends c) (returns-clause-window c)

@@ -1,0 +1,87 @@
+-- One segment without letters goes out where one is owed and no letter goes out.
+use Rattle.std.proofs.Common.{◌≡◌, ℕ, ◌+◌, ◌-◌, ◌<◌, ◌≤◌, min, max, Bool, true, false, cond, ◌&&◌, ◌||◌, List, [], ◌∷◌, length, drop, take, refl, sym, ◌∙◌, ap, subst, arith, inl, inr, Option, Some, None, length-take, length-drop}
+use Rattle.std.specs.Prelude.{MatchBool, ◌==◌, nat_lt}
+use Rattle.std.proofs.lemmas.Bool.{cases_lt, eqb-false, ltb-false, ltb-true, ne_eqb}
+use Rattle.cf_packet.specs.Packet.{PacketOf}
+use Rattle.cf_stream.proofs.Taken.{same_taken}
+use Rattle.cf_stream.specs.FirstCopy.{IsTaken, first_copy}
+use Rattle.cf_stream.specs.Position.{sequence_number}
+use Rattle.cf_stream.specs.Stream.{Stream, letter_count, no_letters}
+use Rattle.cf_leg.proofs.Speech.{segment_letters}
+use Rattle.cf_leg.specs.Emits.{IsRight, Pieces, SaysIf, SpeaksOpen, differs, empties, letters_of_all, peer_mss, piece, send_mss, to_tell, way_of}
+use Rattle.cf_leg.specs.Event.{Spoke, LegEvent}
+use Rattle.cf_leg.specs.Heard.{offers, opened, owed, shown}
+use Rattle.cf_leg.specs.Segment.{letters_of, segment}
+use Rattle.cf_leg.specs.Told.{letters_sent_at, told_at}
+use Rattle.cf_leg.specs.declared.ends.Ends.{Ends}
+use Rattle.cf_leg.specs.declared.ends.Told.{Told}
+use Rattle.cf_leg.specs.declared.ends.Way.{Way}
+
+send_mss_some : (o : Option ℕ) → 0 < send_mss o
+send_mss_some None = omega arith
+send_mss_some (Some m) = omega arith
+
+-- a piece has a letter
+piece_some : (s : Stream) (mss edge from : ℕ) → 0 < mss → from < min edge (letter_count s) → 0 < letter_count (piece s mss edge from)
+piece_some s mss edge from m l = by s.ended refl l
+  where
+    n : ℕ
+    n = min mss (min edge (length s.bytes) - from)
+
+    by : (b : Bool) → s.ended ≡ b → from < min edge (length s.bytes + cond b 1 0)
+        → 0 < length (take (min mss (min edge (length s.bytes) - from)) (drop from s.bytes)) + cond (b && (((from + min mss (min edge (length s.bytes) - from)) == length s.bytes) && nat_lt (length s.bytes) edge)) 1 0
+    by false k h = rw (length-take, length-drop) (omega (arith, h, m))
+    by true k h = of ((from + min mss (min edge (length s.bytes) - from)) == length s.bytes) (nat_lt (length s.bytes) edge) refl refl
+      where
+        of : (x y : Bool) → ((from + min mss (min edge (length s.bytes) - from)) == length s.bytes) ≡ x → nat_lt (length s.bytes) edge ≡ y
+            → 0 < length (take (min mss (min edge (length s.bytes) - from)) (drop from s.bytes)) + cond (x && y) 1 0
+        of true true e f = rw (length-take, length-drop) (omega arith)
+        of true false e f = (let past = ltb-false (length s.bytes) edge f in rw (length-take, length-drop) (omega (arith, h, m, past)))
+        of false y e f = rw (length-take, length-drop) (omega (arith, h, m, not_there e))
+          where
+            not_there : ((from + min mss (min edge (length s.bytes) - from)) == length s.bytes) ≡ false → 0 < min mss (min edge (length s.bytes) - from)
+            not_there e = elim (cases_lt 0 (min mss (min edge (length s.bytes) - from))) [ inl v ↦ v | inr v ↦ absurd (eqb-false (from + min mss (min edge (length s.bytes) - from)) (length s.bytes) e (omega (arith, h, m, v))) ]
+
+module _ (way : Way) (t : Told) (s : Stream) (mss edge : ℕ) (m : 0 < mss) where
+  pieces_full : (from : ℕ) (outs : List PacketOf) → Pieces way t s mss edge from outs → empties outs ≡ 0
+  pieces_full from [] h = refl
+  pieces_full from (p ∷ ps) h =
+      let count : letters_of p ≡ letter_count (piece s mss edge from) = ap letters_of h.1 ∙ segment_letters way t (sequence_number way.own from) (piece s mss edge from) in
+      let some = piece_some s mss edge from m h.0 in
+      let none : (letters_of p == 0) ≡ false = ne_eqb (letters_of p) 0 (λ z. omega (arith, count, some, z)) in
+      let rest = pieces_full (from + letter_count (piece s mss edge from)) ps h.2 in
+      rw none (omega (arith, rest))
+
+  pieces_carry : (from : ℕ) (outs : List PacketOf) → from < min edge (letter_count s) → Pieces way t s mss edge from outs → 0 < letters_of_all outs
+  pieces_carry from [] l h = absurd (omega (arith, l, h))
+  pieces_carry from (p ∷ ps) l h =
+      let count : letters_of p ≡ letter_count (piece s mss edge from) = ap letters_of h.1 ∙ segment_letters way t (sequence_number way.own from) (piece s mss edge from) in
+      let some = piece_some s mss edge from m l in
+      omega (arith, count, some)
+
+  said_once : (due : Bool) (from : ℕ) (outs : List PacketOf) → SaysIf way t due s mss edge from outs → empties outs ≡ cond ((letters_of_all outs == 0) && due) 1 0
+  said_once due from outs h = by (nat_lt from (min edge (letter_count s))) refl h
+    where
+      of : (d : Bool) → empties (cond d (segment way t (sequence_number way.own from) no_letters ∷ []) []) ≡ cond ((letters_of_all (cond d (segment way t (sequence_number way.own from) no_letters ∷ []) []) == 0) && d) 1 0
+      of true = refl
+      of false = refl
+
+      by : (b : Bool) → nat_lt from (min edge (letter_count s)) ≡ b
+          → MatchBool b (Pieces way t s mss edge from outs) (outs ≡ cond due (segment way t (sequence_number way.own from) no_letters ∷ []) []) → empties outs ≡ cond ((letters_of_all outs == 0) && due) 1 0
+      by true k p =
+          (let carry = pieces_carry from outs (ltb-true from (min edge (letter_count s)) k) p in
+          let none : (letters_of_all outs == 0) ≡ false = ne_eqb (letters_of_all outs) 0 (λ z. omega (arith, carry, z)) in
+          rw none (pieces_full from outs p))
+      by false k e = subst (λ (ps : List PacketOf). empties ps ≡ cond ((letters_of_all ps == 0) && due) 1 0) (sym e) (of due)
+
+pub owed_once : (ends : Ends) (es : List LegEvent) (e : LegEvent) (whole : Stream) (roomy : Bool) (outs : List PacketOf) (taken : Stream)
+    → IsRight ends es (record e { ending = Spoke whole roomy outs }) → opened ends.role (record e { ending = Spoke whole roomy outs } ∷ es) ≡ true
+    → IsTaken (first_copy (offers ends.role (record e { ending = Spoke whole roomy outs } ∷ es))) taken
+    → empties outs ≡ cond ((letters_of_all outs == 0) && (owed ends.role es e || differs (told_at ends.role es e) (to_tell (told_at ends.role es e) (letter_count taken) roomy))) 1 0
+owed_once ends es e whole roomy outs taken h o t =
+    let s = subst (λ (b : Bool). MatchBool b (SpeaksOpen ends es (record e { ending = Spoke whole roomy outs }) whole roomy outs) (outs ≡ [])) o h.ending in
+    let took = same_taken (first_copy (offers ends.role (record e { ending = Spoke whole roomy outs } ∷ es))) s.taken taken s.is_taken t in
+    said_once (way_of ends (record e { ending = Spoke whole roomy outs } ∷ es)) (to_tell (told_at ends.role es e) (letter_count s.taken) roomy) whole
+    (send_mss (peer_mss ends.role (record e { ending = Spoke whole roomy outs } ∷ es))) (shown ends.role (record e { ending = Spoke whole roomy outs } ∷ es)) (send_mss_some (peer_mss ends.role (record e { ending = Spoke whole roomy outs } ∷ es)))
+    (owed ends.role es e || differs (told_at ends.role es e) (to_tell (told_at ends.role es e) (letter_count s.taken) roomy)) (letters_sent_at ends.role es e) outs s.says
+    ∙ ap (λ (u : Stream). cond ((letters_of_all outs == 0) && (owed ends.role es e || differs (told_at ends.role es e) (to_tell (told_at ends.role es e) (letter_count u) roomy))) 1 0) took
