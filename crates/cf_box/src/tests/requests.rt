@@ -77,13 +77,6 @@ p 255 07 0 10 station station code 7 group 0 point 255 value -
 p 2 ff 0 10 station station code 255 group 0 point 2 value -
 ";
 
-/// The next word of a line.
-fn next<'a>(line: &mut &'a str) -> &'a str {
-    let (word, rest) = line.split_once(' ').unwrap_or((*line, ""));
-    *line = rest;
-    word
-}
-
 /// The ADU of a PDU, which has at most 253 octets: transaction 7.
 fn adu(alloc: Global, station: u8, head: &[u8], fill: usize) -> Result<Vec<u8>, TestFail> {
     let len = u8::try_from(head.len().checked_add(fill).ok_or("length")?)?;
@@ -102,12 +95,13 @@ fn sifted(alloc: Global, policy: &str, stream: &[u8]) -> Result<Left, TestFail> 
 #[test]
 fn each_request_has_its_fate(rt: HostRuntime) -> Result<(), TestFail> {
     for request in REQUESTS.lines() {
-        let mut words = request;
-        let policy = next(&mut words);
-        let station = next(&mut words).parse::<u8>()?;
-        let head = octets(rt.alloc(), next(&mut words))?;
-        let fill = next(&mut words).parse::<usize>()?;
-        let exception = next(&mut words).parse::<u8>()?;
+        let mut fields = request.splitn(6, ' ');
+        let policy = fields.next().ok_or("policy")?;
+        let station = fields.next().ok_or("station")?.parse::<u8>()?;
+        let head = octets(rt.alloc(), fields.next().ok_or("head")?)?;
+        let fill = fields.next().ok_or("fill")?.parse::<usize>()?;
+        let exception = fields.next().ok_or("exception")?.parse::<u8>()?;
+        let words = fields.next().unwrap_or("");
         let stream = adu(rt.alloc(), station, &head, fill)?;
         let left = sifted(rt.alloc(), policy, &stream)?;
         assert_eq!(rt; left.status, 0, "{request}");
@@ -121,13 +115,14 @@ fn each_request_has_its_fate(rt: HostRuntime) -> Result<(), TestFail> {
         let reply = [0x00, 0x07, 0x00, 0x00, 0x00, 0x03, station, code, exception];
         let mut spelled = ArrayString::<32>::new();
         push_hex(&mut spelled, &View::one(&stream));
-        let octets = spelled.as_str();
-        let line = format!(in rt.alloc();
-            "0.000000 10.0.0.5:0 pump refuse {words} replied {octets}\n"
-        )?;
+        let mut line = b"0.000000 10.0.0.5:0 pump refuse ".to_vec(rt.alloc())?;
+        line.extend_from_slice(words.as_bytes())?;
+        line.extend_from_slice(b" replied ")?;
+        line.extend_from_slice(spelled.as_str().as_bytes())?;
+        line.push(b'\n')?;
         assert_eq!(rt; left.file("o"), Some([].as_slice()), "{request}");
         assert_eq!(rt; left.file("r"), Some(reply.as_slice()), "{request}");
-        assert_eq!(rt; left.file("l"), Some(line.as_bytes()), "{request}");
+        assert_eq!(rt; left.file("l"), Some(line.as_slice()), "{request}");
     }
     Ok(())
 }
