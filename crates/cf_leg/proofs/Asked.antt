@@ -1,7 +1,7 @@
 -- Two lists of right events in which the same is asked are one.
 use Rattle.std.proofs.Common.{◌≡◌, ℕ, Bool, true, false, cond, ◌&&◌, List, [], ◌∷◌, refl, sym, ◌∙◌, ap, subst}
 use Rattle.std.specs.Prelude.{nat_lt, nat_le}
-use Rattle.cf_packet.specs.Packet.{PacketOf}
+use Rattle.cf_packet.specs.Packet.{PacketValue}
 use Rattle.cf_stream.proofs.Taken.{same_taken}
 use Rattle.cf_stream.specs.FirstCopy.{first_copy}
 use Rattle.cf_stream.specs.Position.{sequence_number}
@@ -18,7 +18,7 @@ use Rattle.cf_leg.specs.declared.ends.Ends.{Ends}
 use Rattle.cf_leg.specs.declared.ends.Role.{Role}
 use Rattle.cf_leg.specs.declared.ends.Role.TheVariants as role
 
-same_greeting : (ends : Ends) (r : Role) (p q : PacketOf) → IsGreeting ends r p → IsGreeting ends r q → p.seq ≡ q.seq → p ≡ q
+same_greeting : (ends : Ends) (r : Role) (p q : PacketValue) → IsGreeting ends r p → IsGreeting ends r q → p.seq ≡ q.seq → p ≡ q
 same_greeting ends (role.Active own) p q h k e = h ∙ sym k
 same_greeting ends (role.Passive other mss) p q h k e = h ∙ ap (λ (n : ℕ). syn_ack_for ends other n) e ∙ sym k
 
@@ -33,7 +33,7 @@ same_came ends es (Packet p) (Greeting q) g h s = absurd s
 same_came ends es (Greeting p) Nothing g h s = absurd s
 same_came ends es (Greeting p) (Packet q) g h s = absurd s
 
-same_cut : (ends : Ends) (es : List LegEvent) (e : LegEvent) (p q : PacketOf) → Cuts ends es (record e { ending = Cut p }) p → Cuts ends es (record e { ending = Cut q }) q → p ≡ q
+same_cut : (ends : Ends) (es : List LegEvent) (e : LegEvent) (p q : PacketValue) → Cuts ends es (record e { ending = Cut p }) p → Cuts ends es (record e { ending = Cut q }) q → p ≡ q
 same_cut ends es e p q h k =
     h.rst ∙ ap (λ (s : Stream). cut_by ends (record e { ending = Cut p } ∷ es) (letters_sent_at ends.role es e) (letter_count s) ends.role) took
     ∙ by ends.role ∙ sym k.rst
@@ -55,7 +55,7 @@ same_ending ends es e (Cut p) (Cut q) h k s = ap Cut (same_cut ends es e p q h.e
 same_ending ends es e (Spoke whole roomy xs) (Spoke there room ys) h k s =
     let moved = subst (λ (u : Stream). IsRight ends es (record e { ending = Spoke u room ys })) (sym s.0) k in
     let same = subst (λ (b : Bool). IsRight ends es (record e { ending = Spoke whole b ys })) (sym s.1) moved in
-    ap (λ (ps : List PacketOf). Spoke whole roomy ps) (same_speech ends es e whole roomy xs ys h same)
+    ap (λ (ps : List PacketValue). Spoke whole roomy ps) (same_speech ends es e whole roomy xs ys h same)
     ∙ ap (λ (u : Stream). Spoke u roomy ys) s.0 ∙ ap (λ (b : Bool). Spoke there b ys) s.1
 same_ending ends es e Unspoken (Cut q) h k s = absurd s
 same_ending ends es e Unspoken (Spoke there room ys) h k s = absurd s
@@ -79,7 +79,7 @@ same_event ends es e f h k s =
     moved =
         ap (λ (n : ℕ). record e { tick = n }) s.tick
         ∙ ap (λ (b : Bool). record e { tick = f.tick; ticked = b }) s.ticked
-        ∙ ap (λ (ps : List PacketOf). record e { tick = f.tick; ticked = f.ticked; fired = ps }) fired
+        ∙ ap (λ (ps : List PacketValue). record e { tick = f.tick; ticked = f.ticked; fired = ps }) fired
         ∙ ap (λ (c : Came). record e { tick = f.tick; ticked = f.ticked; fired = f.fired; came = c }) (same_came ends es e.came f.came h.came k.came s.came)
 
 pub same_events : (ends : Ends) (es fs : List LegEvent) → AllRight ends es → AllRight ends fs → AllAsked es fs → es ≡ fs

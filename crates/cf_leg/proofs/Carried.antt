@@ -6,7 +6,7 @@ use Rattle.std.proofs.lemmas.Bool.Decides.{nat_tests}
 use Rattle.std.proofs.lemmas.Grind.{common_steps}
 use Rattle.std.proofs.lemmas.List.{get_or-drop, get_or-take, get_or_append_left, length-append}
 use Rattle.std.specs.Option.{is_some, option_or}
-use Rattle.cf_packet.specs.Packet.{PacketOf}
+use Rattle.cf_packet.specs.Packet.{PacketValue}
 use Rattle.cf_stream.specs.Position.{sequence_number, position}
 use Rattle.cf_stream.specs.Stream.{Stream, Letter, Byte, End, Carries, Extends, IsPart, letter_at, letter_count, letter_from, no_letters, part}
 use Rattle.cf_leg.proofs.Speech.{carried_segment, piece_short, position_ahead, segment_stream}
@@ -134,25 +134,25 @@ module _ (way : Way) (t : Told) (s whole : Stream) (x : Extends s whole) (mss ed
   pub carry_piece : (from : ℕ) → from < min edge (letter_count s) → Carries whole (pos from) (piece s mss edge from)
   carry_piece from l = carries_on s whole x (pos from) (piece s mss edge from) (part_carries s from _ _ (piece_part s mss edge from l))
 
-  pub carry_pieces : (from : ℕ) (outs : List PacketOf) → Pieces way t s mss edge from outs → CarryAll whole way.own from outs
+  pub carry_pieces : (from : ℕ) (outs : List PacketValue) → Pieces way t s mss edge from outs → CarryAll whole way.own from outs
   carry_pieces from [] h = tt
   carry_pieces from (p ∷ ps) h =
       let one : letters_sent_by way.own from p ≡ from + letter_count (piece s mss edge from) =
       rw h.1 (carried_segment way t (sequence_number way.own from) (piece s mss edge from) from refl) in
       let text = ap letters_in h.1 ∙ segment_stream way t (sequence_number way.own from) (piece s mss edge from) in
-      let at = ap (λ (x : PacketOf). position x.seq way.own from) h.1 ∙ position_ahead way.own from from (omega arith) (omega arith) in (
+      let at = ap (λ (x : PacketValue). position x.seq way.own from) h.1 ∙ position_ahead way.own from from (omega arith) (omega arith) in (
         subst (λ (z : ℤ). Carries whole z (letters_in p)) (sym at) (subst (λ (u : Stream). Carries whole (pos from) u) (sym text) (carry_piece from h.0)),
         subst (λ (n : ℕ). CarryAll whole way.own n ps) (sym one) (carry_pieces (from + letter_count (piece s mss edge from)) ps h.2),
       )
 
   -- every place from the first one on, up to the last, has a letter
-  pub pieces_some : (from : ℕ) (outs : List PacketOf) → Pieces way t s mss edge from outs → (q : ℕ) → from ≤ q → q < letters_sent_by_all way.own from outs → (l : Letter) × (first_in way.own from outs q ≡ Some l)
+  pub pieces_some : (from : ℕ) (outs : List PacketValue) → Pieces way t s mss edge from outs → (q : ℕ) → from ≤ q → q < letters_sent_by_all way.own from outs → (l : Letter) × (first_in way.own from outs q ≡ Some l)
   pieces_some from [] h q low high = absurd (omega (arith, low, high))
   pieces_some from (p ∷ ps) h q low high =
       let one : letters_sent_by way.own from p ≡ from + letter_count (piece s mss edge from) =
       rw h.1 (carried_segment way t (sequence_number way.own from) (piece s mss edge from) from refl) in
       let text = ap letters_in h.1 ∙ segment_stream way t (sequence_number way.own from) (piece s mss edge from) in
-      let at = ap (λ (x : PacketOf). position x.seq way.own from) h.1 ∙ position_ahead way.own from from (omega arith) (omega arith) in
+      let at = ap (λ (x : PacketValue). position x.seq way.own from) h.1 ∙ position_ahead way.own from from (omega arith) (omega arith) in
       let here : letter_in way.own from p q ≡ letter_from (pos from) (piece s mss edge from) q =
       ap (λ (z : ℤ). letter_from z (letters_in p) q) at ∙ ap (λ (u : Stream). letter_from (pos from) u q) text in
       elim (cases_lt q (from + letter_count (piece s mss edge from))) [
@@ -163,7 +163,7 @@ module _ (way : Way) (t : Told) (s whole : Stream) (x : Extends s whole) (mss ed
             (rest.0, ap (λ (n : ℕ). first_in way.own n ps q) one ∙ rest.1))
       ]
 
-  pub carry_said : (due : Bool) (from : ℕ) (outs : List PacketOf) → SaysIf way t due s mss edge from outs → CarryAll whole way.own from outs
+  pub carry_said : (due : Bool) (from : ℕ) (outs : List PacketValue) → SaysIf way t due s mss edge from outs → CarryAll whole way.own from outs
   carry_said due from outs h = by (nat_lt from (min edge (letter_count s))) h
     where
       empty : (d : Bool) → CarryAll whole way.own from (cond d (segment way t (sequence_number way.own from) no_letters ∷ []) [])
@@ -172,9 +172,9 @@ module _ (way : Way) (t : Told) (s whole : Stream) (x : Extends s whole) (mss ed
 
       by : (b : Bool) → MatchBool b (Pieces way t s mss edge from outs) (outs ≡ cond due (segment way t (sequence_number way.own from) no_letters ∷ []) []) → CarryAll whole way.own from outs
       by true p = carry_pieces from outs p
-      by false e = subst (λ (ps : List PacketOf). CarryAll whole way.own from ps) (sym e) (empty due)
+      by false e = subst (λ (ps : List PacketValue). CarryAll whole way.own from ps) (sym e) (empty due)
 
-  pub said_some : (due : Bool) (from : ℕ) (outs : List PacketOf) → SaysIf way t due s mss edge from outs → (q : ℕ) → from ≤ q → q < letters_sent_by_all way.own from outs → (l : Letter) × (first_in way.own from outs q ≡ Some l)
+  pub said_some : (due : Bool) (from : ℕ) (outs : List PacketValue) → SaysIf way t due s mss edge from outs → (q : ℕ) → from ≤ q → q < letters_sent_by_all way.own from outs → (l : Letter) × (first_in way.own from outs q ≡ Some l)
   said_some due from outs h q low high = by (nat_lt from (min edge (letter_count s))) h
     where
       same : (d : Bool) → letters_sent_by_all way.own from (cond d (segment way t (sequence_number way.own from) no_letters ∷ []) []) ≡ from
@@ -183,4 +183,4 @@ module _ (way : Way) (t : Told) (s whole : Stream) (x : Extends s whole) (mss ed
 
       by : (b : Bool) → MatchBool b (Pieces way t s mss edge from outs) (outs ≡ cond due (segment way t (sequence_number way.own from) no_letters ∷ []) []) → (l : Letter) × (first_in way.own from outs q ≡ Some l)
       by true p = pieces_some from outs p q low high
-      by false e = (let still = ap (λ (ps : List PacketOf). letters_sent_by_all way.own from ps) e ∙ same due in absurd (omega (arith, low, high, still)))
+      by false e = (let still = ap (λ (ps : List PacketValue). letters_sent_by_all way.own from ps) e ∙ same due in absurd (omega (arith, low, high, still)))

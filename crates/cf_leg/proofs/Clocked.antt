@@ -6,7 +6,7 @@ use Rattle.std.proofs.lemmas.Bool.{cases_Bool, true≢false, false≢true, eqb-t
 use Rattle.std.proofs.lemmas.Int.{ints}
 use Rattle.cf_outq.specs.SendQueue.{Queue, IsQueue, queue_length}
 use Rattle.cf_outq.specs.SendQueue.{IsQueueOf}
-use Rattle.cf_packet.specs.Packet.{PacketOf}
+use Rattle.cf_packet.specs.Packet.{PacketValue}
 use Rattle.cf_rebuild.specs.ReceiveWindow.{IsWindow, base_of}
 use Rattle.cf_stream.specs.Position.{natural, position, sequence_number}
 use Rattle.cf_stream.specs.Stream.{Stream, letter_count, no_letters}
@@ -31,7 +31,7 @@ use Rattle.cf_leg.specs.declared.ends.Role.TheVariants as role
 use Rattle.cf_leg.specs.declared.ends.Told.{Told}
 use Rattle.cf_leg.specs.declared.ends.Way.{Way}
 
-pub option_or_none : (o : Option PacketOf) → option_or o None ≡ o
+pub option_or_none : (o : Option PacketValue) → option_or o None ≡ o
 option_or_none None = refl
 option_or_none (Some p) = refl
 
@@ -44,7 +44,7 @@ and_not true = refl
 and_not false = refl
 
 -- ---- an event in which nothing came yet
-module _ (now : ℕ) (ticked : Bool) (fired : List PacketOf) (es : List LegEvent) where
+module _ (now : ℕ) (ticked : Bool) (fired : List PacketValue) (es : List LegEvent) where
   pub own_idle : (r : Role) → own_number r (record { tick = now; ticked = ticked; fired = fired; came = Nothing; ending = Unspoken } ∷ es) ≡ own_number r es
   own_idle (role.Active own) = refl
   own_idle (role.Passive other mss) = ap seq_of (option_or_none (greeting es))
@@ -93,12 +93,12 @@ settled_owes r (e ∷ es) h = by e.came e.ending h
 
 -- ---- the step
 module _ (leg : LegValue) (q : Queue) (now : ℕ) (es : List LegEvent) (settled : is_settled es ≡ true) (h : IsLegOf leg (marks q) es) where
-  pub fires_is : (outs : List PacketOf) → fires leg.ends.role es (clocked now outs) ≡ is_due leg now
+  pub fires_is : (outs : List PacketValue) → fires leg.ends.role es (clocked now outs) ≡ is_due leg now
   fires_is outs =
       ap (λ (b : Bool). b && nat_le (due leg.ends.role es) now) (sym (h.of_running ∙ settled_armed leg.ends.role es settled))
       ∙ ap (λ (n : ℕ). leg.running && nat_le n now) (sym h.of_deadline)
 
-  pub clocked_stands : (outs : List PacketOf) (deadline fired : ℕ) → outs ≡ fired_at leg.ends es (clocked now outs)
+  pub clocked_stands : (outs : List PacketValue) (deadline fired : ℕ) → outs ≡ fired_at leg.ends es (clocked now outs)
       → told_by_all (peer_number leg.ends.role es) (told leg.ends.role es) outs ≡ told leg.ends.role es
       → letters_sent_by_all (own_number leg.ends.role es) (letters_sent leg.ends.role es) outs ≡ letters_sent leg.ends.role es
       → deadline ≡ cond (nat_lt 0 (length outs)) (now + backoff (tries leg.ends.role es + 1)) (due leg.ends.role es)
@@ -152,19 +152,19 @@ module _ (leg : LegValue) (i : IsLeg leg) (w : IsWindow leg.window) (q : Queue) 
       by false e = refl
 
 -- ---- what was sent as a greeting
-abbrev some_or : PacketOf → Option PacketOf → PacketOf
+abbrev some_or : PacketValue → Option PacketValue → PacketValue
 some_or x None = x
 some_or x (Some y) = y
 
-pub greeting_right : (ends : Ends) (es : List LegEvent) → AllRight ends es → (p : PacketOf) → greeting es ≡ Some p → IsGreeting ends ends.role p
+pub greeting_right : (ends : Ends) (es : List LegEvent) → AllRight ends es → (p : PacketValue) → greeting es ≡ Some p → IsGreeting ends ends.role p
 greeting_right ends [] a p g = absurd (false≢true (ap is_some g))
 greeting_right ends (e ∷ es) a p g = by (greeting_right ends es a.1) (greeting es) refl e.came a.0.came g
   where
-    by : ((x : PacketOf) → greeting es ≡ Some x → IsGreeting ends ends.role x) → (o : Option PacketOf) → greeting es ≡ o → (c : Came) → Greets ends es c → option_or o (greeting_in c) ≡ Some p → IsGreeting ends ends.role p
+    by : ((x : PacketValue) → greeting es ≡ Some x → IsGreeting ends ends.role x) → (o : Option PacketValue) → greeting es ≡ o → (c : Came) → Greets ends es c → option_or o (greeting_in c) ≡ Some p → IsGreeting ends ends.role p
     by r (Some x) k c b m = r p (k ∙ m)
     by r None k Nothing b m = absurd (false≢true (ap is_some m))
     by r None k (Packet x) b m = absurd (false≢true (ap is_some m))
-    by r None k (Greeting x) b m = subst (λ (y : PacketOf). IsGreeting ends ends.role y) (same m) b.0
+    by r None k (Greeting x) b m = subst (λ (y : PacketValue). IsGreeting ends ends.role y) (same m) b.0
       where
         same : Some x ≡ Some p → x ≡ p
         same y = ap (some_or x) y
@@ -178,7 +178,7 @@ module _ (leg : LegValue) (i : IsLeg leg) (w : IsWindow leg.window) (q : Queue) 
   way_now = ap (λ (n : ℕ). record { source = leg.ends.own; dest = leg.ends.peer; own = n; other = leg.other }) h.of_own
       ∙ ap (λ (n : ℕ). record { source = leg.ends.own; dest = leg.ends.peer; own = own_number leg.ends.role es; other = n }) h.of_other
 
-  form : Way → Told → ℕ → ℕ → ℕ → ℕ → PacketOf
+  form : Way → Told → ℕ → ℕ → ℕ → ℕ → PacketValue
   form v t own mss sent from =
       cond (nat_lt from sent) (segment v t (sequence_number own from) (piece (stream_after es) mss sent from)) (segment v t ((own + from) % 2 ^ 32) no_letters)
 
@@ -193,14 +193,14 @@ module _ (leg : LegValue) (i : IsLeg leg) (w : IsWindow leg.window) (q : Queue) 
       ∙ ap (λ (n : ℕ). form (way_of leg.ends es) (told leg.ends.role es) (own_number leg.ends.role es) (send_mss (peer_mss leg.ends.role es)) (letters_sent leg.ends.role es) n) h.of_acked
 
   -- an out that tells and carries nothing new for the leg does so for the events
-  pub told_same : (out : PacketOf) → told_by leg.other (told_of leg) out ≡ told_of leg → told_by (peer_number leg.ends.role es) (told leg.ends.role es) out ≡ told leg.ends.role es
+  pub told_same : (out : PacketValue) → told_by leg.other (told_of leg) out ≡ told_of leg → told_by (peer_number leg.ends.role es) (told leg.ends.role es) out ≡ told leg.ends.role es
   told_same out k = subst (λ (n : ℕ). told_by n (told leg.ends.role es) out ≡ told leg.ends.role es) h.of_other (subst (λ (t : Told). told_by leg.other t out ≡ t) told_is k)
 
-  pub carried_same : (out : PacketOf) → letters_sent_by leg.own q.sent out ≡ q.sent → letters_sent_by (own_number leg.ends.role es) (letters_sent leg.ends.role es) out ≡ letters_sent leg.ends.role es
+  pub carried_same : (out : PacketValue) → letters_sent_by leg.own q.sent out ≡ q.sent → letters_sent_by (own_number leg.ends.role es) (letters_sent leg.ends.role es) out ≡ letters_sent leg.ends.role es
   carried_same out k = subst (λ (n : ℕ). letters_sent_by n (letters_sent leg.ends.role es) out ≡ letters_sent leg.ends.role es) h.of_own (subst (λ (n : ℕ). letters_sent_by leg.own n out ≡ n) h.of_sent k)
 
   -- the greeting
-  pub greeting_is : (p : PacketOf) → greeting es ≡ Some p → greeting_of leg ≡ p
+  pub greeting_is : (p : PacketValue) → greeting es ≡ Some p → greeting_of leg ≡ p
   greeting_is p g = by leg.ends.role (greeting_right leg.ends es h.of_right p g) h.of_own h.of_other
     where
       by : (r : Role) → IsGreeting leg.ends r p → leg.own ≡ own_number r es → leg.other ≡ peer_number r es → greeting_as leg.ends leg.own leg.other r ≡ p
@@ -269,7 +269,7 @@ module _ (leg : LegValue) (i : IsLeg leg) (w : IsWindow leg.window) (q : Queue) 
 
   again_open : is_open leg.phase ≡ true → a.out ∷ [] ≡ repeats leg.ends es
   again_open o =
-      ap (λ (p : PacketOf). p ∷ []) (a.open_is o (stream_after es) s ∙ oldest_is leg i w q iq es h)
+      ap (λ (p : PacketValue). p ∷ []) (a.open_is o (stream_after es) s ∙ oldest_is leg i w q iq es h)
       ∙ sym (ap (λ (b : Bool). cond b (repeat_open leg.ends es ∷ []) (again (greeting es))) (sym opened_is ∙ o))
 
   greeted_now : is_open leg.phase ≡ false → is_greeted es ≡ true
@@ -279,22 +279,22 @@ module _ (leg : LegValue) (i : IsLeg leg) (w : IsWindow leg.window) (q : Queue) 
   again_first o =
       by (greeting es) refl (greeted_now o) ∙ sym (ap (λ (b : Bool). cond b (repeat_open leg.ends es ∷ []) (again (greeting es))) (sym opened_is ∙ o))
     where
-      by : (g : Option PacketOf) → greeting es ≡ g → is_some g ≡ true → a.out ∷ [] ≡ again (greeting es)
+      by : (g : Option PacketValue) → greeting es ≡ g → is_some g ≡ true → a.out ∷ [] ≡ again (greeting es)
       by None e n = absurd (false≢true n)
-      by (Some p) e n = ap (λ (x : PacketOf). x ∷ []) (a.first_is o ∙ greeting_is leg i w q iq es h p e) ∙ sym (ap again e)
+      by (Some p) e n = ap (λ (x : PacketValue). x ∷ []) (a.first_is o ∙ greeting_is leg i w q iq es h p e) ∙ sym (ap again e)
 
   out_tells : told_by (peer_number leg.ends.role es) (told leg.ends.role es) a.out ≡ told leg.ends.role es
   out_tells =
       elim (cases_Bool (is_open leg.phase)) [
-        | inl o ↦ told_same leg i w q iq es h a.out (ap (λ (p : PacketOf). told_by leg.other (told_of leg) p) (a.open_is o (stream_after es) s) ∙ oldest_tells leg i w q iq (stream_after es) s)
-        | inr o ↦ ap (λ (p : PacketOf). told_by (peer_number leg.ends.role es) (told leg.ends.role es) p) (a.first_is o) ∙ greeting_tells leg i w q iq es h (sym opened_is ∙ o) (greeted_now o)
+        | inl o ↦ told_same leg i w q iq es h a.out (ap (λ (p : PacketValue). told_by leg.other (told_of leg) p) (a.open_is o (stream_after es) s) ∙ oldest_tells leg i w q iq (stream_after es) s)
+        | inr o ↦ ap (λ (p : PacketValue). told_by (peer_number leg.ends.role es) (told leg.ends.role es) p) (a.first_is o) ∙ greeting_tells leg i w q iq es h (sym opened_is ∙ o) (greeted_now o)
       ]
 
   out_carries : letters_sent_by (own_number leg.ends.role es) (letters_sent leg.ends.role es) a.out ≡ letters_sent leg.ends.role es
   out_carries =
       elim (cases_Bool (is_open leg.phase)) [
-        | inl o ↦ carried_same leg i w q iq es h a.out (ap (λ (p : PacketOf). letters_sent_by leg.own q.sent p) (a.open_is o (stream_after es) s) ∙ oldest_carries leg i w q iq (stream_after es) s)
-        | inr o ↦ ap (λ (p : PacketOf). letters_sent_by (own_number leg.ends.role es) (letters_sent leg.ends.role es) p) (a.first_is o) ∙ greeting_carries leg i w q iq es h
+        | inl o ↦ carried_same leg i w q iq es h a.out (ap (λ (p : PacketValue). letters_sent_by leg.own q.sent p) (a.open_is o (stream_after es) s) ∙ oldest_carries leg i w q iq (stream_after es) s)
+        | inr o ↦ ap (λ (p : PacketValue). letters_sent_by (own_number leg.ends.role es) (letters_sent leg.ends.role es) p) (a.first_is o) ∙ greeting_carries leg i w q iq es h
       ]
 
   again_is : a.out ∷ [] ≡ repeats leg.ends es

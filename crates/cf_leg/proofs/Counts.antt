@@ -3,7 +3,7 @@ use Rattle.std.proofs.Common.{◌≡◌, ℕ, Bool, true, false, cond, not, ◌&
 use Rattle.std.proofs.lemmas.Int.{ints}
 use Rattle.std.proofs.lemmas.Bool.{cases_Bool}
 use Rattle.std.specs.Prelude.{int_lt, int_le}
-use Rattle.cf_packet.specs.Packet.{PacketOf}
+use Rattle.cf_packet.specs.Packet.{PacketValue}
 use Rattle.cf_leg.specs.Heard.{counts, counts_as, counts_open, counts_first, answer_to, open_answer, first_answer, reset_answer, is_opening, is_at, is_in_reach, ack_place, text_place, opens_as, resets_as}
 use Rattle.cf_leg.specs.Segment.{has_ack, has_syn, has_rst}
 use Rattle.cf_leg.specs.declared.ends.LegAnswer.{LegAnswer}
@@ -45,7 +45,7 @@ by_first ro true false o = refl
 by_first ro false x true = refl
 by_first ro false x false = refl
 
-by_role : (ro : Role) (at : EndState) (p : PacketOf) → counts_as ro (cond (is_opening (first_answer at p)) answer.Opened answer.Ignored) ≡ counts_first ro at p
+by_role : (ro : Role) (at : EndState) (p : PacketValue) → counts_as ro (cond (is_opening (first_answer at p)) answer.Opened answer.Ignored) ≡ counts_first ro at p
 by_role (role.Active own) at p = of (is_opening (first_answer at p))
   where
     of : (b : Bool) → counts_as (role.Active own) (cond b answer.Opened answer.Ignored) ≡ false
@@ -57,7 +57,7 @@ by_role (role.Passive other mss) at p = of (is_opening (first_answer at p))
     of true = refl
     of false = refl
 
-pub counts_is : (at : EndState) (p : PacketOf) → counts_as at.role (answer_to at p) ≡ counts at p
+pub counts_is : (at : EndState) (p : PacketValue) → counts_as at.role (answer_to at p) ≡ counts at p
 counts_is at p = by at.is_open refl
   where
     by : (b : Bool) → at.is_open ≡ b → counts_as at.role (cond b (open_answer at p) (first_answer at p)) ≡ cond b (counts_open at p) (counts_first at.role at p)

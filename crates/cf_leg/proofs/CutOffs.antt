@@ -2,7 +2,7 @@
 use Rattle.std.proofs.Common.{◌≡◌, ℕ, ◌+◌, ◌%◌, ◌^◌, Bool, true, false, cond, ◌||◌, List, [], ◌∷◌, ◌++◌, length, Option, refl, sym, ◌∙◌, ap, subst}
 use Rattle.cf_outside.specs.Desk.{SentValue}
 use Rattle.cf_outq.specs.SendQueue.{Queue}
-use Rattle.cf_packet.specs.Packet.{PacketOf}
+use Rattle.cf_packet.specs.Packet.{PacketValue}
 use Rattle.cf_rebuild.specs.ReceiveWindow.{base_of}
 use Rattle.cf_stream.specs.Position.{sequence_number}
 use Rattle.cf_stream.specs.Stream.{Stream, letter_count}
@@ -20,16 +20,16 @@ use Rattle.cf_leg.specs.declared.ends.Role.{Role}
 use Rattle.cf_leg.specs.declared.ends.Role.TheVariants as role
 
 -- a greeting carries no letter
-greeting_carries : (ends : Ends) (r : Role) (p : PacketOf) → IsGreeting ends r p → (o c : ℕ) → letters_sent_by o c p ≡ c
-greeting_carries ends (role.Active n) p k o c = subst (λ (x : PacketOf). letters_sent_by o c x ≡ c) (sym k) refl
-greeting_carries ends (role.Passive n mss) p k o c = subst (λ (x : PacketOf). letters_sent_by o c x ≡ c) (sym k) refl
+greeting_carries : (ends : Ends) (r : Role) (p : PacketValue) → IsGreeting ends r p → (o c : ℕ) → letters_sent_by o c p ≡ c
+greeting_carries ends (role.Active n) p k o c = subst (λ (x : PacketValue). letters_sent_by o c x ≡ c) (sym k) refl
+greeting_carries ends (role.Passive n mss) p k o c = subst (λ (x : PacketValue). letters_sent_by o c x ≡ c) (sym k) refl
 
 came_carries : (ends : Ends) (es : List LegEvent) (a : Came) → Greets ends es a → (o c : ℕ) → letters_sent_by_all o c (greeted_by a ++ []) ≡ c
 came_carries ends es Nothing g o c = refl
 came_carries ends es (Packet p) g o c = refl
 came_carries ends es (Greeting p) g o c = greeting_carries ends ends.role p g.0 o c
 
-module _ (leg : LegValue) (q : Queue) (e : LegEvent) (es : List LegEvent) (h : IsLegOf leg (marks q) (record e { ending = Unspoken } ∷ es)) (out : PacketOf) where
+module _ (leg : LegValue) (q : Queue) (e : LegEvent) (es : List LegEvent) (h : IsLegOf leg (marks q) (record e { ending = Unspoken } ∷ es)) (out : PacketValue) where
   sent_is : q.sent ≡ letters_sent_at leg.ends.role es e
   sent_is = h.of_sent ∙ came_carries leg.ends es e.came h.of_right.0.came (own_number leg.ends.role (record e { ending = Unspoken } ∷ es)) (letters_sent_at leg.ends.role es e)
 

@@ -3,7 +3,7 @@ use Rattle.std.proofs.Common.{◌≡◌, ℕ, suc, ◌+◌, ◌-◌, ◌^◌, �
 use Rattle.std.specs.Prelude.{MatchBool, nat_lt}
 use Rattle.std.specs.Option.{option_or, is_some}
 use Rattle.std.proofs.lemmas.Bool.{cases_lt, cases_Bool, le-ltb, true≢false, false≢true}
-use Rattle.cf_packet.specs.Packet.{PacketOf}
+use Rattle.cf_packet.specs.Packet.{PacketValue}
 use Rattle.cf_stream.proofs.Taken.{same_taken, some_taken, taken_extends}
 use Rattle.cf_stream.specs.FirstCopy.{IsTaken, Offer, first_copy, offered}
 use Rattle.cf_stream.specs.Position.{natural, position, sequence_number}
@@ -52,14 +52,14 @@ syn_ack_tells ends other number base edge z =
     ∙ ap (λ (n : ℕ). let t : Told = record { base = n; edge = n + 16384 } in t) zero
 
 -- the first one, and one that goes out again, tell the same
-greeting_tells : (ends : Ends) (r : Role) (es : List LegEvent) (p : PacketOf) (t : Told) → IsGreeting ends r p → t.base ≡ 0 → (r ≡ r → t ≡ record { base = 0; edge = 0 } ⊎ t ≡ first_told r) → told_by (peer_number r es) t p ≡ first_told r
-greeting_tells ends (role.Active own) es p t k z f = subst (λ (x : PacketOf). told_by (peer_number (role.Active own) es) t x ≡ first_told (role.Active own)) (sym k) (by (f refl))
+greeting_tells : (ends : Ends) (r : Role) (es : List LegEvent) (p : PacketValue) (t : Told) → IsGreeting ends r p → t.base ≡ 0 → (r ≡ r → t ≡ record { base = 0; edge = 0 } ⊎ t ≡ first_told r) → told_by (peer_number r es) t p ≡ first_told r
+greeting_tells ends (role.Active own) es p t k z f = subst (λ (x : PacketValue). told_by (peer_number (role.Active own) es) t x ≡ first_told (role.Active own)) (sym k) (by (f refl))
   where
     by : (t ≡ record { base = 0; edge = 0 }) ⊎ (t ≡ first_told (role.Active own)) → t ≡ first_told (role.Active own)
     by (inl e) = e
     by (inr e) = e
 greeting_tells ends (role.Passive other mss) es p t k z f =
-    subst (λ (x : PacketOf). told_by other t x ≡ first_told (role.Passive other mss)) (sym k) (syn_ack_tells ends other p.seq t.base t.edge z)
+    subst (λ (x : PacketValue). told_by other t x ≡ first_told (role.Passive other mss)) (sym k) (syn_ack_tells ends other p.seq t.base t.edge z)
 
 first_base : (r : Role) → (first_told r).base ≡ 0
 first_base (role.Active own) = refl
@@ -80,9 +80,9 @@ module _ (ends : Ends) (es : List LegEvent) (all : AllRight ends es) (h : TellsU
       by false = of ((own_number ends.role es + acked ends.role es) % 2 ^ 32) no_letters
 
   pub fired_tells : (e : LegEvent) → e.fired ≡ fired_at ends es e → told_at ends.role es e ≡ told ends.role es
-  fired_tells e f = ap (λ (ps : List PacketOf). told_by_all (peer_number ends.role es) (told ends.role es) ps) f ∙ by (fires ends.role es e && nat_lt (tries ends.role es) 6)
+  fired_tells e f = ap (λ (ps : List PacketValue). told_by_all (peer_number ends.role es) (told ends.role es) ps) f ∙ by (fires ends.role es e && nat_lt (tries ends.role es) 6)
     where
-      first : opened ends.role es ≡ false → (g : Option PacketOf) → greeting es ≡ g → told_by_all (peer_number ends.role es) (told ends.role es) (again g) ≡ told ends.role es
+      first : opened ends.role es ≡ false → (g : Option PacketValue) → greeting es ≡ g → told_by_all (peer_number ends.role es) (told ends.role es) (again g) ≡ told ends.role es
       first o None k = refl
       first o (Some p) k =
           (let t = h.first o (ap is_some k) in
@@ -101,11 +101,11 @@ or_first : (a b : Bool) → (a || b) ≡ false → a ≡ false
 or_first true b k = k
 or_first false b k = refl
 
-option_or_none : (o : Option PacketOf) → option_or o None ≡ o
+option_or_none : (o : Option PacketValue) → option_or o None ≡ o
 option_or_none None = refl
 option_or_none (Some p) = refl
 
-some_last : (o : Option PacketOf) (p : PacketOf) → is_some (option_or o (Some p)) ≡ true
+some_last : (o : Option PacketValue) (p : PacketValue) → is_some (option_or o (Some p)) ≡ true
 some_last None p = refl
 some_last (Some q) p = refl
 
@@ -198,11 +198,11 @@ module _ (ends : Ends) (e : LegEvent) (es : List LegEvent) (right : IsRight ends
 
   said_up : (n : Ending) → EndsBy ends es e n → (t : Told) → t ≡ told ends.role es → Up (offers ends.role (e ∷ es)) (told ends.role es) (told_by_all (peer_number ends.role (e ∷ es)) t (said_by n))
   said_up Unspoken g t k = stays_at t k
-  said_up (Cut p) g t k = stays_at _ (ap (λ (x : PacketOf). told_by (peer_number ends.role (e ∷ es)) t x) g.rst ∙ cut_tells ends (e ∷ es) _ _ ends.role (peer_number ends.role (e ∷ es)) t ∙ k)
+  said_up (Cut p) g t k = stays_at _ (ap (λ (x : PacketValue). told_by (peer_number ends.role (e ∷ es)) t x) g.rst ∙ cut_tells ends (e ∷ es) _ _ ends.role (peer_number ends.role (e ∷ es)) t ∙ k)
   said_up (Spoke whole roomy outs) g t k = by (opened ends.role (e ∷ es)) g
     where
       by : (b : Bool) → MatchBool b (SpeaksOpen ends es e whole roomy outs) (outs ≡ []) → Up (offers ends.role (e ∷ es)) (told ends.role es) (told_by_all (peer_number ends.role (e ∷ es)) t outs)
-      by false n = stays_at _ (ap (λ (ps : List PacketOf). told_by_all (peer_number ends.role (e ∷ es)) t ps) n ∙ k)
+      by false n = stays_at _ (ap (λ (ps : List PacketValue). told_by_all (peer_number ends.role (e ∷ es)) t ps) n ∙ k)
       by true s =
           (let m = moves s.taken roomy s.is_taken in
           let w = within s.taken s.is_taken in
@@ -219,10 +219,10 @@ module _ (ends : Ends) (e : LegEvent) (es : List LegEvent) (right : IsRight ends
   -- an end that is not open tells nothing more
   said_first : (n : Ending) → EndsBy ends es e n → opened ends.role (e ∷ es) ≡ false → (t : Told) → told_by_all (peer_number ends.role (e ∷ es)) t (said_by n) ≡ t
   said_first Unspoken g o t = refl
-  said_first (Cut p) g o t = ap (λ (x : PacketOf). told_by (peer_number ends.role (e ∷ es)) t x) g.rst ∙ cut_tells ends (e ∷ es) _ _ ends.role (peer_number ends.role (e ∷ es)) t
+  said_first (Cut p) g o t = ap (λ (x : PacketValue). told_by (peer_number ends.role (e ∷ es)) t x) g.rst ∙ cut_tells ends (e ∷ es) _ _ ends.role (peer_number ends.role (e ∷ es)) t
   said_first (Spoke whole roomy outs) g o t =
       (let none : outs ≡ [] = subst (λ (b : Bool). MatchBool b (SpeaksOpen ends es e whole roomy outs) (outs ≡ [])) o g in
-      ap (λ (ps : List PacketOf). told_by_all (peer_number ends.role (e ∷ es)) t ps) none)
+      ap (λ (ps : List PacketValue). told_by_all (peer_number ends.role (e ∷ es)) t ps) none)
 
   -- all of the packet half
   record Then (t : Told) : Type 0 where
@@ -248,12 +248,12 @@ module _ (ends : Ends) (e : LegEvent) (es : List LegEvent) (right : IsRight ends
   }
     where
       is : told ends.role (e ∷ es) ≡ told_by_all (peer_number ends.role (e ∷ es)) (told_at ends.role es e) (said_by e.ending)
-      is = ap (λ (ps : List PacketOf). told_by_all (peer_number ends.role (e ∷ es)) (told_at ends.role es e) (ps ++ said_by e.ending)) s
+      is = ap (λ (ps : List PacketValue). told_by_all (peer_number ends.role (e ∷ es)) (told_at ends.role es e) (ps ++ said_by e.ending)) s
 
       greeted : is_greeted (e ∷ es) ≡ is_greeted es
-      greeted = ap (λ (o : Option PacketOf). is_some (option_or (greeting es) o)) n ∙ ap is_some (option_or_none (greeting es))
+      greeted = ap (λ (o : Option PacketValue). is_some (option_or (greeting es) o)) n ∙ ap is_some (option_or_none (greeting es))
 
-  then_greeting : (p : PacketOf) → e.came ≡ Greeting p → Greets ends es (Greeting p) → Then (told ends.role (e ∷ es))
+  then_greeting : (p : PacketValue) → e.came ≡ Greeting p → Greets ends es (Greeting p) → Then (told ends.role (e ∷ es))
   then_greeting p k g = record {
     up = subst (λ (u : Told). Up (offers ends.role (e ∷ es)) (told ends.role es) u) (sym is) (begins ends.role);
     first = λ o m. is;

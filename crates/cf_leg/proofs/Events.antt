@@ -2,7 +2,7 @@
 use Rattle.std.proofs.Common.{◌≡◌, ◌≢◌, ℕ, ◌+◌, ◌-◌, ◌<◌, ◌≤◌, min, max, Bool, true, false, cond, not, ◌&&◌, ◌||◌, List, [], ◌∷◌, ◌++◌, refl, sym, ◌∙◌, ap, subst, arith, Option, Some, None, inl, inr}
 use Rattle.std.proofs.lemmas.Bool.{cases_Bool, true≢false, false≢true, and_parts}
 use Rattle.std.specs.Option.{option_or, is_some}
-use Rattle.cf_packet.specs.Packet.{PacketOf}
+use Rattle.cf_packet.specs.Packet.{PacketValue}
 use Rattle.cf_leg.specs.Emits.{Greets, peer_mss, send_mss}
 use Rattle.cf_stream.specs.Position.{natural}
 use Rattle.cf_leg.specs.declared.ends.Ends.{Ends}
@@ -38,7 +38,7 @@ pub or_cases : (a b : Bool) → (a || b) ≡ true → a ≡ false → b ≡ true
 or_cases true b h e = absurd (true≢false e)
 or_cases false b h e = h
 
-first_greeted : (at : EndState) (p : PacketOf) → is_opening (first_answer at p) ≡ true → at.is_greeted ≡ true
+first_greeted : (at : EndState) (p : PacketValue) → is_opening (first_answer at p) ≡ true → at.is_greeted ≡ true
 first_greeted at p h = by (has_rst p) (resets_as at.role at p) at.is_greeted (opens_as at.role at p) h
   where
     by : (a b c d : Bool) → is_opening (cond a (cond b answer.Reset answer.Ignored) (cond (c && d) answer.Opened answer.Ignored)) ≡ true → c ≡ true
@@ -52,7 +52,7 @@ opens_greeted at Nothing e h = absurd (false≢true h)
 opens_greeted at (Greeting p) e h = absurd (false≢true h)
 opens_greeted at (Packet p) e h = first_greeted at p (subst (λ (b : Bool). is_opening (cond b (open_answer at p) (first_answer at p)) ≡ true) e h)
 
-greeted_on : (o : Option PacketOf) (p : Option PacketOf) → is_some o ≡ true → is_some (option_or o p) ≡ true
+greeted_on : (o : Option PacketValue) (p : Option PacketValue) → is_some o ≡ true → is_some (option_or o p) ≡ true
 greeted_on None p h = absurd (false≢true h)
 greeted_on (Some q) p h = refl
 

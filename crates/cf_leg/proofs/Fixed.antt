@@ -1,7 +1,7 @@
 -- What a leg sends is fixed by the events before, what came, the list of its queue and whether there is room.
 use Rattle.std.proofs.Common.{◌≡◌, ℕ, ◌+◌, ◌<◌, ◌≤◌, min, Bool, true, false, cond, ◌||◌, List, [], ◌∷◌, refl, sym, ◌∙◌, ap, subst, arith}
 use Rattle.std.specs.Prelude.{MatchBool, nat_lt}
-use Rattle.cf_packet.specs.Packet.{PacketOf}
+use Rattle.cf_packet.specs.Packet.{PacketValue}
 use Rattle.cf_stream.proofs.Taken.{same_taken}
 use Rattle.cf_stream.specs.FirstCopy.{first_copy, IsTaken}
 use Rattle.cf_stream.specs.Position.{sequence_number}
@@ -16,24 +16,24 @@ use Rattle.cf_leg.specs.declared.ends.Ends.{Ends}
 use Rattle.cf_leg.specs.declared.ends.Told.{Told}
 use Rattle.cf_leg.specs.declared.ends.Way.{Way}
 
-pub same_pieces : (way : Way) (t : Told) (whole : Stream) (mss edge from : ℕ) (xs ys : List PacketOf) → Pieces way t whole mss edge from xs → Pieces way t whole mss edge from ys → xs ≡ ys
+pub same_pieces : (way : Way) (t : Told) (whole : Stream) (mss edge from : ℕ) (xs ys : List PacketValue) → Pieces way t whole mss edge from xs → Pieces way t whole mss edge from ys → xs ≡ ys
 same_pieces way t whole mss edge from [] [] h k = refl
 same_pieces way t whole mss edge from [] (y ∷ ys) h k = absurd (omega (arith, h, k.0))
 same_pieces way t whole mss edge from (x ∷ xs) [] h k = absurd (omega (arith, k, h.0))
 same_pieces way t whole mss edge from (x ∷ xs) (y ∷ ys) h k =
-    ap (λ (p : PacketOf). p ∷ xs) (h.1 ∙ sym k.1) ∙ ap (λ (ps : List PacketOf). y ∷ ps) (same_pieces way t whole mss edge (from + letter_count (piece whole mss edge from)) xs ys h.2 k.2)
+    ap (λ (p : PacketValue). p ∷ xs) (h.1 ∙ sym k.1) ∙ ap (λ (ps : List PacketValue). y ∷ ps) (same_pieces way t whole mss edge (from + letter_count (piece whole mss edge from)) xs ys h.2 k.2)
 
-same_says : (b : Bool) (way : Way) (t : Told) (d : List PacketOf) (whole : Stream) (mss edge from : ℕ) (xs ys : List PacketOf)
+same_says : (b : Bool) (way : Way) (t : Told) (d : List PacketValue) (whole : Stream) (mss edge from : ℕ) (xs ys : List PacketValue)
     → MatchBool b (Pieces way t whole mss edge from xs) (xs ≡ d) → MatchBool b (Pieces way t whole mss edge from ys) (ys ≡ d) → xs ≡ ys
 same_says true way t d whole mss edge from xs ys h k = same_pieces way t whole mss edge from xs ys h k
 same_says false way t d whole mss edge from xs ys h k = h ∙ sym k
 
 -- a firing
-pub same_fired : (ends : Ends) (es : List LegEvent) (e : LegEvent) (fired : List PacketOf) (n : Ending) → IsRight ends es e → IsRight ends es (record e { fired = fired; ending = n }) → fired ≡ e.fired
+pub same_fired : (ends : Ends) (es : List LegEvent) (e : LegEvent) (fired : List PacketValue) (n : Ending) → IsRight ends es e → IsRight ends es (record e { fired = fired; ending = n }) → fired ≡ e.fired
 same_fired ends es e fired n h k = k.fired ∙ sym h.fired
 
 -- a speech
-pub same_speech : (ends : Ends) (es : List LegEvent) (e : LegEvent) (whole : Stream) (roomy : Bool) (xs ys : List PacketOf)
+pub same_speech : (ends : Ends) (es : List LegEvent) (e : LegEvent) (whole : Stream) (roomy : Bool) (xs ys : List PacketValue)
     → IsRight ends es (record e { ending = Spoke whole roomy xs }) → IsRight ends es (record e { ending = Spoke whole roomy ys }) → xs ≡ ys
 same_speech ends es e whole roomy xs ys h k = by (opened ends.role (record e { ending = Spoke whole roomy xs } ∷ es)) h.ending k.ending
   where

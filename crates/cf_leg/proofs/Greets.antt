@@ -4,7 +4,7 @@ use Rattle.std.specs.Prelude.{nat_lt, ◌==◌}
 use Rattle.std.specs.Option.{option_or, is_some}
 use Rattle.std.proofs.lemmas.Bool.{cases_Bool, true≢false, false≢true}
 use Rattle.cf_outside.specs.Desk.{SentValue}
-use Rattle.cf_packet.specs.Packet.{PacketOf}
+use Rattle.cf_packet.specs.Packet.{PacketValue}
 use Rattle.cf_rebuild.specs.ReceiveWindow.{Window, IsWindow, Consumes, base_of}
 use Rattle.cf_rebuild.specs.ReceiveWindow.{IsWindowOf}
 use Rattle.cf_stream.specs.FirstCopy.{Offer}
@@ -57,13 +57,13 @@ made_parts true g h = absurd (false≢true (ap is_greeted_phase h))
 made_parts false true h = absurd (false≢true (ap is_greeted_phase h))
 made_parts false false h = (refl, refl)
 
-none_of : (o : Option PacketOf) → is_some o ≡ false → o ≡ None
+none_of : (o : Option PacketValue) → is_some o ≡ false → o ≡ None
 none_of None h = refl
 none_of (Some p) h = absurd (true≢false h)
 
 module _ (leg : LegValue) (i : IsLeg leg) (w : IsWindow leg.window) (m : Marks) (now number : ℕ) (e : LegEvent) (es : List LegEvent)
     (made : leg.phase ≡ phase.Made) (own : IsOwn leg.ends.role number) (at : now ≡ moment e) (h : IsLegOf leg m (record e { came = Nothing; ending = Unspoken } ∷ es)) where
-  out : PacketOf
+  out : PacketValue
   out = greeting_as leg.ends number leg.other leg.ends.role
 
   parts : (opened leg.ends.role (record e { came = Nothing; ending = Unspoken } ∷ es) ≡ false) × (is_greeted (record e { came = Nothing; ending = Unspoken } ∷ es) ≡ false)
@@ -79,7 +79,7 @@ module _ (leg : LegValue) (i : IsLeg leg) (w : IsWindow leg.window) (m : Marks) 
   none = none_of (greeting es) ungreeted
 
   greets : is_greeted (record e { came = Greeting (greeting_as leg.ends number leg.other leg.ends.role); ending = Unspoken } ∷ es) ≡ true
-  greets = ap (λ (o : Option PacketOf). is_some (option_or o (Some (greeting_as leg.ends number leg.other leg.ends.role)))) none
+  greets = ap (λ (o : Option PacketValue). is_some (option_or o (Some (greeting_as leg.ends number leg.other leg.ends.role)))) none
 
   told_zero : told_at leg.ends.role es e ≡ record { base = 0; edge = 0 }
   told_zero = sym (parts_told leg.base leg.window.edge 0 0 (told leg.ends.role (record e { came = Nothing; ending = Unspoken } ∷ es)) h.of_base h.of_edge)
@@ -91,13 +91,13 @@ module _ (leg : LegValue) (i : IsLeg leg) (w : IsWindow leg.window) (m : Marks) 
 
   own_is : (r : Role) → IsOwn r number → number ≡ own_number r (record e { came = Greeting (greeting_as leg.ends number leg.other r); ending = Unspoken } ∷ es)
   own_is (role.Active k) o = o
-  own_is (role.Passive other mss) o = sym (ap (λ (g : Option PacketOf). seq_of (option_or g (Some (greeting_as leg.ends number leg.other (role.Passive other mss))))) none)
+  own_is (role.Passive other mss) o = sym (ap (λ (g : Option PacketValue). seq_of (option_or g (Some (greeting_as leg.ends number leg.other (role.Passive other mss))))) none)
 
-  peer_is : (r : Role) (p : PacketOf) → peer_number r (record e { came = Nothing; ending = Unspoken } ∷ es) ≡ peer_number r (record e { came = Greeting p; ending = Unspoken } ∷ es)
+  peer_is : (r : Role) (p : PacketValue) → peer_number r (record e { came = Nothing; ending = Unspoken } ∷ es) ≡ peer_number r (record e { came = Greeting p; ending = Unspoken } ∷ es)
   peer_is (role.Active k) p = refl
   peer_is (role.Passive other mss) p = refl
 
-  mss_is : (r : Role) (p : PacketOf) → peer_mss r (record e { came = Nothing; ending = Unspoken } ∷ es) ≡ peer_mss r (record e { came = Greeting p; ending = Unspoken } ∷ es)
+  mss_is : (r : Role) (p : PacketValue) → peer_mss r (record e { came = Nothing; ending = Unspoken } ∷ es) ≡ peer_mss r (record e { came = Greeting p; ending = Unspoken } ∷ es)
   mss_is (role.Active k) p = refl
   mss_is (role.Passive other mss) p = refl
 

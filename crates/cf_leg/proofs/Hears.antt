@@ -5,7 +5,7 @@ use Rattle.std.proofs.lemmas.Int.{ints}
 use Rattle.std.specs.Option.{option_or, is_some}
 use Rattle.std.proofs.lemmas.Bool.{cases_Bool, true≢false, false≢true, ltb-true, ltb-false, and_parts}
 use Rattle.cf_outq.specs.SendQueue.{Queue, after_acked, after_shown}
-use Rattle.cf_packet.specs.Packet.{PacketOf}
+use Rattle.cf_packet.specs.Packet.{PacketValue}
 use Rattle.cf_rebuild.specs.ReceiveWindow.{Window}
 use Rattle.cf_rebuild.specs.ReceiveWindow.{IsWindowOf}
 use Rattle.cf_stream.specs.FirstCopy.{Offer}
@@ -72,7 +72,7 @@ module _ (leg : LegValue) (q : Queue) (e : LegEvent) (es : List LegEvent) (h : I
       ∙ ap (λ (n : ℕ). record { role = leg.ends.role; is_greeted = is_greeted es; is_open = opened leg.ends.role es; own = own_number leg.ends.role es; other = peer_number leg.ends.role es; told = told_at leg.ends.role es e; sent = n }) h.of_sent
 
 -- ---- the numbers of the peer once a packet came
-module _ (e : LegEvent) (es : List LegEvent) (p : PacketOf) where
+module _ (e : LegEvent) (es : List LegEvent) (p : PacketValue) where
   pub own_heard : (r : Role) → own_number r (record e { came = Packet p; ending = Unspoken } ∷ es) ≡ own_number r es
   own_heard (role.Active own) = refl
   own_heard (role.Passive other mss) = ap seq_of (option_or_none (greeting es))
@@ -82,7 +82,7 @@ module _ (e : LegEvent) (es : List LegEvent) (p : PacketOf) where
       → syn_ack own (record e { came = Packet p; ending = Unspoken } ∷ es) ≡ cond b (Some p) (syn_ack own es)
   active_syn_ack own b k = by (syn_ack own es) (active_opened own es) b k
     where
-      by : (o : Option PacketOf) → opened (role.Active own) es ≡ is_some o → (b : Bool) → is_opening (answer_to (end_state (role.Active own) es e) p) ≡ b
+      by : (o : Option PacketValue) → opened (role.Active own) es ≡ is_some o → (b : Bool) → is_opening (answer_to (end_state (role.Active own) es e) p) ≡ b
           → option_or o (syn_ack_in own (is_greeted es) (Packet p)) ≡ cond b (Some p) o
       by (Some x) o true k = absurd (false≢true (sym (ap (λ (b : Bool). is_opening (cond b (open_answer (end_state (role.Active own) es e) p) (first_answer (end_state (role.Active own) es e) p))) o ∙ open_opens_not (end_state (role.Active own) es e) p) ∙ k))
       by (Some x) o false k = refl
@@ -97,8 +97,8 @@ module _ (e : LegEvent) (es : List LegEvent) (p : PacketOf) where
   peer_heard (role.Passive other mss) false k = refl
 
   pub mss_heard : (r : Role) (b : Bool) → is_opening (answer_to (end_state r es e) p) ≡ b → send_mss (peer_mss r (record e { came = Packet p; ending = Unspoken } ∷ es)) ≡ cond b (mss_by r (send_mss (peer_mss r es)) p) (send_mss (peer_mss r es))
-  mss_heard (role.Active own) true k = ap (λ (o : Option PacketOf). send_mss (mss_in o)) (active_syn_ack own true k)
-  mss_heard (role.Active own) false k = ap (λ (o : Option PacketOf). send_mss (mss_in o)) (active_syn_ack own false k)
+  mss_heard (role.Active own) true k = ap (λ (o : Option PacketValue). send_mss (mss_in o)) (active_syn_ack own true k)
+  mss_heard (role.Active own) false k = ap (λ (o : Option PacketValue). send_mss (mss_in o)) (active_syn_ack own false k)
   mss_heard (role.Passive other mss) true k = refl
   mss_heard (role.Passive other mss) false k = refl
 
@@ -116,7 +116,7 @@ opening_counts r answer.Ignored h = absurd (false≢true h)
 opening_counts r answer.Reset h = absurd (false≢true h)
 
 -- the edge after a packet, by the leg and by the definition
-pub edge_heard : (r : Role) (b x : Bool) (before window count : ℕ) → (b ≡ true → x ≡ is_passive r) → (p : PacketOf) → p.window ≡ window
+pub edge_heard : (r : Role) (b x : Bool) (before window count : ℕ) → (b ≡ true → x ≡ is_passive r) → (p : PacketValue) → p.window ≡ window
     → cond x (max (cond b (edge_by r before p) before) count) (cond b (edge_by r before p) before) ≡ cond x (max before count) (cond b (max before window) before)
 edge_heard r false x before window count k p w = refl
 edge_heard (role.Active own) true x before window count k p w = rw (k refl) (ap (λ (n : ℕ). max before n) w)
@@ -153,14 +153,14 @@ opened_on true b h = refl
 opened_on false b h = absurd (false≢true h)
 
 -- what a leg and its queue keep after a packet, part by part
-leg_phase : (b x : Bool) (leg : LegValue) (p : PacketOf) (w : Window) (a : ℕ) (ack : ℤ) (size now : ℕ) → (leg_counted x (leg_opened b leg p) w a ack size now).phase ≡ cond b phase.Open leg.phase
+leg_phase : (b x : Bool) (leg : LegValue) (p : PacketValue) (w : Window) (a : ℕ) (ack : ℤ) (size now : ℕ) → (leg_counted x (leg_opened b leg p) w a ack size now).phase ≡ cond b phase.Open leg.phase
 leg_phase true true leg p w a ack size now = refl
 leg_phase true false leg p w a ack size now = refl
 leg_phase false true leg p w a ack size now = refl
 leg_phase false false leg p w a ack size now = refl
 
 -- ---- the step
-module _ (leg : LegValue) (q : Queue) (now : ℕ) (e : LegEvent) (es : List LegEvent) (p : PacketOf) (at : now ≡ moment e) (h : IsLegOf leg (marks q) (record e { came = Nothing; ending = Unspoken } ∷ es)) where
+module _ (leg : LegValue) (q : Queue) (now : ℕ) (e : LegEvent) (es : List LegEvent) (p : PacketValue) (at : now ≡ moment e) (h : IsLegOf leg (marks q) (record e { came = Nothing; ending = Unspoken } ∷ es)) where
   unarmed : (armed leg.ends.role (record e { came = Packet p; ending = Unspoken } ∷ es) && not (armed leg.ends.role es)) ≡ false
   unarmed =
       ap (λ (g : Bool). cond (opened leg.ends.role (record e { came = Packet p; ending = Unspoken } ∷ es)) (nat_lt (acked leg.ends.role (record e { came = Packet p; ending = Unspoken } ∷ es)) (letter_count (stream_after es))) g && not (armed leg.ends.role es)) (greeted_idle e.tick e.ticked e.fired es)
@@ -290,7 +290,7 @@ module _ (leg : LegValue) (q : Queue) (now : ℕ) (e : LegEvent) (es : List LegE
     }
 
 -- ---- the leg of the code is that
-leg_is : (b x : Bool) (leg : LegValue) (p : PacketOf) (w : Window) (a : ℕ) (ack : ℤ) (now : ℕ) (o : Bool) → (x ≡ false → w ≡ leg.window)
+leg_is : (b x : Bool) (leg : LegValue) (p : PacketValue) (w : Window) (a : ℕ) (ack : ℤ) (now : ℕ) (o : Bool) → (x ≡ false → w ≡ leg.window)
     → record (leg_counted x (leg_opened b leg p) w a ack p.window now) { owes = o } ≡ record leg {
       phase = cond b phase.Open leg.phase;
       other = cond b (other_by leg.ends.role leg.other p) leg.other;
@@ -306,7 +306,7 @@ leg_is false true leg p w a ack now o f = refl
 leg_is true false leg p w a ack now o f = ap (λ (v : Window). record leg { phase = phase.Open; other = other_by leg.ends.role leg.other p; mss = mss_by leg.ends.role leg.mss p; window = v; shown = edge_by leg.ends.role leg.shown p; fired = 0; owes = o }) (sym (f refl))
 leg_is false false leg p w a ack now o f = ap (λ (v : Window). record leg { window = v; owes = o }) (sym (f refl))
 
-marks_is : (b x : Bool) (r : Role) (q : Queue) (p : PacketOf) (ack : ℤ)
+marks_is : (b x : Bool) (r : Role) (q : Queue) (p : PacketValue) (ack : ℤ)
     → marks (queue_counted x (queue_opened b r q p) ack p.window) ≡ record {
       acked = cond x (max q.acked (natural ack)) q.acked;
       sent = q.sent;
@@ -317,11 +317,11 @@ marks_is true false r q p ack = refl
 marks_is false true r q p ack = refl
 marks_is false false r q p ack = refl
 
-pub window_of : (b : Bool) (leg : LegValue) (p : PacketOf) → (leg_opened b leg p).window ≡ leg.window
+pub window_of : (b : Bool) (leg : LegValue) (p : PacketValue) → (leg_opened b leg p).window ≡ leg.window
 window_of true leg p = refl
 window_of false leg p = refl
 
-acked_of : (b : Bool) (r : Role) (q : Queue) (p : PacketOf) → (queue_opened b r q p).acked ≡ q.acked
+acked_of : (b : Bool) (r : Role) (q : Queue) (p : PacketValue) → (queue_opened b r q p).acked ≡ q.acked
 acked_of true r q p = refl
 acked_of false r q p = refl
 
@@ -329,7 +329,7 @@ uncounted : (leg : LegValue) (w : Window) (a : ℕ) (ack : ℤ) (size now : ℕ)
 uncounted leg w a ack size now true k = absurd (true≢false k)
 uncounted leg w a ack size now false k = refl
 
-pub heard_of : (leg mid after new : LegValue) (q q1 q2 : Queue) (now : ℕ) (p : PacketOf) (given : LegAnswer)
+pub heard_of : (leg mid after new : LegValue) (q q1 q2 : Queue) (now : ℕ) (p : PacketValue) (given : LegAnswer)
     → given ≡ answer_to (end_state_of leg q) p
     → mid ≡ leg_opened (is_opening given) leg p → q1 ≡ queue_opened (is_opening given) leg.ends.role q p
     → Counts (counts_as leg.ends.role given) (end_state_of leg q) now p mid after q1 q2
@@ -373,7 +373,7 @@ heard_of leg mid after new q q1 q2 now p given g o oq c n = record {
 }
 
 -- ---- what counts acknowledges what was sent
-pub counted_within : (at : EndState) (p : PacketOf) → counts at p ≡ true → ack_place at p ≤ℤ pos at.sent
+pub counted_within : (at : EndState) (p : PacketValue) → counts at p ≡ true → ack_place at p ≤ℤ pos at.sent
 counted_within at p k = by at.is_open k
   where
     within : (z : ℤ) (n : ℕ) → int_le z (pos n) ≡ true → z ≤ℤ pos n
@@ -402,7 +402,7 @@ counted_within at p k = by at.is_open k
     by true m = within (ack_place at p) at.sent (and_parts (is_in_reach at p) (int_le (ack_place at p) (pos at.sent)) (and_parts (has_ack p && not (has_syn p || has_rst p)) (is_in_reach at p && int_le (ack_place at p) (pos at.sent)) m).1).1
     by false m = first at.role refl m
 
-pub sent_of : (b : Bool) (r : Role) (q : Queue) (p : PacketOf) → (queue_opened b r q p).sent ≡ q.sent
+pub sent_of : (b : Bool) (r : Role) (q : Queue) (p : PacketValue) → (queue_opened b r q p).sent ≡ q.sent
 sent_of true r q p = refl
 sent_of false r q p = refl
 
@@ -414,6 +414,6 @@ pub cond_below : (b : Bool) (x y n : ℕ) → x < n → y < n → cond b x y < n
 cond_below true x y n h k = h
 cond_below false x y n h k = k
 
-pub counts_moves : {at : EndState} {now : ℕ} {p : PacketOf} {new : LegValue} {q q' : Queue} (b : Bool) → b ≡ true → {view leg : LegValue} → view ≡ leg → Counts true at now p view new q q' → Counts b at now p leg new q q'
+pub counts_moves : {at : EndState} {now : ℕ} {p : PacketValue} {new : LegValue} {q q' : Queue} (b : Bool) → b ≡ true → {view leg : LegValue} → view ≡ leg → Counts true at now p view new q q' → Counts b at now p leg new q q'
 counts_moves {at} {now} {p} {new} {q} {q'} b e {view} {leg} v c =
     subst (λ (x : Bool). Counts x at now p leg new q q') (sym e) (subst (λ (l : LegValue). Counts true at now p l new q q') v c)

@@ -1,7 +1,7 @@
 -- Which letters are taken by a packet.
 use Rattle.std.proofs.Common.{◌≡◌, ℕ, ◌+◌, ◌≤◌, Bool, true, false, cond, ◌||◌, List, [], ◌∷◌, ◌++◌, length, drop, refl, sym, ap, ◌∙◌, subst, arith, ℤ}
 use Rattle.std.proofs.lemmas.List.{append-nil, append_cancel_left, drop-append-le}
-use Rattle.cf_packet.specs.Packet.{PacketOf}
+use Rattle.cf_packet.specs.Packet.{PacketValue}
 use Rattle.cf_outq.specs.SendQueue.{Queue}
 use Rattle.cf_rebuild.specs.ReceiveWindow.{Window, unread, IsWindowOf}
 use Rattle.cf_leg.proofs.Clocked.{or_none}
@@ -56,7 +56,7 @@ module _ (w v : Window) (os : List Offer) (b : Bool) (o : Offer) (t : Stream) (o
   pub ended_is : w.ended ≡ t.ended
   ended_is = old.ended ∙ ap (λ (s : Stream). s.ended) old_is
 
-pub newly_of : (now : ℕ) (p : PacketOf) (leg new : LegValue) (q q' : Queue) (given : LegAnswer) → Heard now p leg new q q' given → new.ends ≡ leg.ends → Continues leg.window new.window → Newly now p leg new q
+pub newly_of : (now : ℕ) (p : PacketValue) (leg new : LegValue) (q q' : Queue) (given : LegAnswer) → Heard now p leg new q q' given → new.ends ≡ leg.ends → Continues leg.window new.window → Newly now p leg new q
 newly_of now p leg new q q' given h same c = by leg.window.ended refl
   where
     by : (b : Bool) → leg.window.ended ≡ b → Newly now p leg new q
@@ -78,7 +78,7 @@ newly_of now p leg new q q' given h same c = by leg.window.ended refl
     }
 
 -- ---- neither opening nor counting moves an end elsewhere
-pub ends_opened : (b : Bool) (leg : LegValue) (p : PacketOf) → (leg_opened b leg p).ends ≡ leg.ends
+pub ends_opened : (b : Bool) (leg : LegValue) (p : PacketValue) → (leg_opened b leg p).ends ≡ leg.ends
 ends_opened true leg p = refl
 ends_opened false leg p = refl
 

@@ -4,7 +4,7 @@ use Rattle.std.proofs.lemmas.List.{length-drop}
 use Rattle.std.proofs.lemmas.Bool.{cases_Bool, true≢false, false≢true}
 use Rattle.cf_outside.specs.Desk.{SentValue}
 use Rattle.cf_outq.specs.SendQueue.{Queue}
-use Rattle.cf_packet.specs.Packet.{PacketOf}
+use Rattle.cf_packet.specs.Packet.{PacketValue}
 use Rattle.cf_rebuild.specs.ReceiveWindow.{Window, IsWindow, base_of}
 use Rattle.cf_leg.specs.Calls.{Addressed, KeepsList, Widens, queue_counted, queue_opened, rearmed}
 use Rattle.cf_leg.specs.Emits.{to_tell}
@@ -12,7 +12,7 @@ use Rattle.cf_leg.specs.LegValue.{LegValue, is_open, told_of}
 use Rattle.cf_leg.specs.declared.ends.Role.{Role}
 use Rattle.cf_leg.specs.declared.ends.Role.TheVariants as role
 
-opened_list : (b : Bool) (r : Role) (q : Queue) (p : PacketOf) → KeepsList q (queue_opened b r q p)
+opened_list : (b : Bool) (r : Role) (q : Queue) (p : PacketValue) → KeepsList q (queue_opened b r q p)
 opened_list true r q p = record { pushed = refl; ended = refl; kept = omega (arith) }
 opened_list false r q p = record { pushed = refl; ended = refl; kept = omega (arith) }
 
@@ -23,7 +23,7 @@ counted_list : (c : Bool) (q : Queue) (ack : ℤ) (size : ℕ) → KeepsList q (
 counted_list true q ack size = record { pushed = refl; ended = refl; kept = dropped _ q.kept }
 counted_list false q ack size = record { pushed = refl; ended = refl; kept = omega (arith) }
 
-pub list_kept : (b c : Bool) (r : Role) (q : Queue) (p : PacketOf) (ack : ℤ) (size : ℕ) → KeepsList q (queue_counted c (queue_opened b r q p) ack size)
+pub list_kept : (b c : Bool) (r : Role) (q : Queue) (p : PacketValue) (ack : ℤ) (size : ℕ) → KeepsList q (queue_counted c (queue_opened b r q p) ack size)
 list_kept b c r q p ack size =
     let x = opened_list b r q p in
     let y = counted_list c (queue_opened b r q p) ack size in

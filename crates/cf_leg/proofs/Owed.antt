@@ -2,7 +2,7 @@
 use Rattle.std.proofs.Common.{◌≡◌, ℕ, ◌+◌, ◌-◌, ◌<◌, ◌≤◌, min, max, Bool, true, false, cond, ◌&&◌, ◌||◌, List, [], ◌∷◌, length, drop, take, refl, sym, ◌∙◌, ap, subst, arith, inl, inr, Option, Some, None, length-take, length-drop}
 use Rattle.std.specs.Prelude.{MatchBool, ◌==◌, nat_lt}
 use Rattle.std.proofs.lemmas.Bool.{cases_lt, eqb-false, ltb-false, ltb-true, ne_eqb}
-use Rattle.cf_packet.specs.Packet.{PacketOf}
+use Rattle.cf_packet.specs.Packet.{PacketValue}
 use Rattle.cf_stream.proofs.Taken.{same_taken}
 use Rattle.cf_stream.specs.FirstCopy.{IsTaken, first_copy}
 use Rattle.cf_stream.specs.Position.{sequence_number}
@@ -43,7 +43,7 @@ piece_some s mss edge from m l = by s.ended refl l
             not_there e = elim (cases_lt 0 (min mss (min edge (length s.bytes) - from))) [ inl v ↦ v | inr v ↦ absurd (eqb-false (from + min mss (min edge (length s.bytes) - from)) (length s.bytes) e (omega (arith, h, m, v))) ]
 
 module _ (way : Way) (t : Told) (s : Stream) (mss edge : ℕ) (m : 0 < mss) where
-  pieces_full : (from : ℕ) (outs : List PacketOf) → Pieces way t s mss edge from outs → empties outs ≡ 0
+  pieces_full : (from : ℕ) (outs : List PacketValue) → Pieces way t s mss edge from outs → empties outs ≡ 0
   pieces_full from [] h = refl
   pieces_full from (p ∷ ps) h =
       let count : letters_of p ≡ letter_count (piece s mss edge from) = ap letters_of h.1 ∙ segment_letters way t (sequence_number way.own from) (piece s mss edge from) in
@@ -52,14 +52,14 @@ module _ (way : Way) (t : Told) (s : Stream) (mss edge : ℕ) (m : 0 < mss) wher
       let rest = pieces_full (from + letter_count (piece s mss edge from)) ps h.2 in
       rw none (omega (arith, rest))
 
-  pieces_carry : (from : ℕ) (outs : List PacketOf) → from < min edge (letter_count s) → Pieces way t s mss edge from outs → 0 < letters_of_all outs
+  pieces_carry : (from : ℕ) (outs : List PacketValue) → from < min edge (letter_count s) → Pieces way t s mss edge from outs → 0 < letters_of_all outs
   pieces_carry from [] l h = absurd (omega (arith, l, h))
   pieces_carry from (p ∷ ps) l h =
       let count : letters_of p ≡ letter_count (piece s mss edge from) = ap letters_of h.1 ∙ segment_letters way t (sequence_number way.own from) (piece s mss edge from) in
       let some = piece_some s mss edge from m l in
       omega (arith, count, some)
 
-  said_once : (due : Bool) (from : ℕ) (outs : List PacketOf) → SaysIf way t due s mss edge from outs → empties outs ≡ cond ((letters_of_all outs == 0) && due) 1 0
+  said_once : (due : Bool) (from : ℕ) (outs : List PacketValue) → SaysIf way t due s mss edge from outs → empties outs ≡ cond ((letters_of_all outs == 0) && due) 1 0
   said_once due from outs h = by (nat_lt from (min edge (letter_count s))) refl h
     where
       of : (d : Bool) → empties (cond d (segment way t (sequence_number way.own from) no_letters ∷ []) []) ≡ cond ((letters_of_all (cond d (segment way t (sequence_number way.own from) no_letters ∷ []) []) == 0) && d) 1 0
@@ -72,9 +72,9 @@ module _ (way : Way) (t : Told) (s : Stream) (mss edge : ℕ) (m : 0 < mss) wher
           (let carry = pieces_carry from outs (ltb-true from (min edge (letter_count s)) k) p in
           let none : (letters_of_all outs == 0) ≡ false = ne_eqb (letters_of_all outs) 0 (λ z. omega (arith, carry, z)) in
           rw none (pieces_full from outs p))
-      by false k e = subst (λ (ps : List PacketOf). empties ps ≡ cond ((letters_of_all ps == 0) && due) 1 0) (sym e) (of due)
+      by false k e = subst (λ (ps : List PacketValue). empties ps ≡ cond ((letters_of_all ps == 0) && due) 1 0) (sym e) (of due)
 
-pub owed_once : (ends : Ends) (es : List LegEvent) (e : LegEvent) (whole : Stream) (roomy : Bool) (outs : List PacketOf) (taken : Stream)
+pub owed_once : (ends : Ends) (es : List LegEvent) (e : LegEvent) (whole : Stream) (roomy : Bool) (outs : List PacketValue) (taken : Stream)
     → IsRight ends es (record e { ending = Spoke whole roomy outs }) → opened ends.role (record e { ending = Spoke whole roomy outs } ∷ es) ≡ true
     → IsTaken (first_copy (offers ends.role (record e { ending = Spoke whole roomy outs } ∷ es))) taken
     → empties outs ≡ cond ((letters_of_all outs == 0) && (owed ends.role es e || differs (told_at ends.role es e) (to_tell (told_at ends.role es e) (letter_count taken) roomy))) 1 0

@@ -3,7 +3,7 @@ use Rattle.std.proofs.Common.{◌≡◌, ℕ, Bool, true, false, cond, not, ◌&
 use Rattle.std.specs.Prelude.{nat_lt, ◌==◌}
 use Rattle.std.specs.Option.{option_or, is_some}
 use Rattle.std.proofs.lemmas.Bool.{cases_Bool, true≢false, false≢true, and_parts}
-use Rattle.cf_packet.specs.Packet.{PacketOf}
+use Rattle.cf_packet.specs.Packet.{PacketValue}
 use Rattle.cf_stream.specs.Position.{sequence_number}
 use Rattle.cf_leg.specs.Event.{Came, Nothing, Greeting, Packet, LegEvent}
 use Rattle.cf_leg.specs.Heard.{opened, opens, end_state_if, answer_to, open_answer, first_answer, is_opening, opens_as, resets_as, reset_answer, is_in_reach, ack_place, text_place, is_at}
@@ -31,12 +31,12 @@ not_opening_tests false false true false p x h = refl
 not_opening_tests false false true true true x h = refl
 not_opening_tests false false true true false x h = refl
 
-pub open_opens_not : (at : EndState) (p : PacketOf) → is_opening (open_answer at p) ≡ false
+pub open_opens_not : (at : EndState) (p : PacketValue) → is_opening (open_answer at p) ≡ false
 open_opens_not at p = not_opening_tests (has_rst p) (has_syn p) (has_ack p) (is_in_reach at p) (int_lt (pos at.sent) (ack_place at p)) (reset_answer at.told (text_place at p))
     (not_opening_reset (is_at (text_place at p) at.told.base) (int_lt (pos at.told.base) (text_place at p) && int_lt (text_place at p) (pos at.told.edge)))
 
 -- an active leg is opened by the first SYN ACK for its SYN after it greeted
-pub first_active : (own : ℕ) (at : EndState) (p : PacketOf) → at.role ≡ role.Active own → at.own ≡ own → is_opening (first_answer at p) ≡ (at.is_greeted && answers_syn own p)
+pub first_active : (own : ℕ) (at : EndState) (p : PacketValue) → at.role ≡ role.Active own → at.own ≡ own → is_opening (first_answer at p) ≡ (at.is_greeted && answers_syn own p)
 first_active own at p e f =
     ap (λ (r : Role). is_opening (cond (has_rst p) (cond (resets_as r at p) answer.Reset answer.Ignored) (cond (at.is_greeted && opens_as r at p) answer.Opened answer.Ignored))) e
     ∙ ap (λ (n : ℕ). is_opening (cond (has_rst p) (cond (at.is_greeted && (has_ack p && (p.ack == sequence_number n 0))) answer.Reset answer.Ignored) (cond (at.is_greeted && answers_syn n p) answer.Opened answer.Ignored))) f
@@ -55,7 +55,7 @@ first_active own at p e f =
         of true = refl
         of false = refl
 
-some_cond : (b : Bool) (p : PacketOf) → is_some (cond b (Some p) None) ≡ b
+some_cond : (b : Bool) (p : PacketValue) → is_some (cond b (Some p) None) ≡ b
 some_cond true p = refl
 some_cond false p = refl
 
@@ -63,7 +63,7 @@ pub active_opened : (own : ℕ) (es : List LegEvent) → opened (role.Active own
 active_opened own [] = refl
 active_opened own (e ∷ es) = by (syn_ack own es) (active_opened own es) e.came
   where
-    by : (o : Option PacketOf) → opened (role.Active own) es ≡ is_some o → (c : Came)
+    by : (o : Option PacketValue) → opened (role.Active own) es ≡ is_some o → (c : Came)
         → (opened (role.Active own) es || opens (end_state_if (opened (role.Active own) es) (role.Active own) es e) c) ≡ is_some (option_or o (syn_ack_in own (is_greeted es) c))
     by (Some x) h c = ap (λ (b : Bool). b || opens (end_state_if (opened (role.Active own) es) (role.Active own) es e) c) h
     by None h Nothing = ap (λ (b : Bool). b || false) h

@@ -7,7 +7,7 @@ use Rattle.cf_outside.specs.Desk.{SentValue}
 use Rattle.cf_outq.specs.SendQueue.{Queue, IsPiece, IsAnswer, carried, piece_letters, queue_length}
 use Rattle.cf_outq.specs.SendQueue.{IsQueueOf}
 use Rattle.cf_outq.specs.declared.Piece.{Piece}
-use Rattle.cf_packet.specs.Packet.{PacketOf}
+use Rattle.cf_packet.specs.Packet.{PacketValue}
 use Rattle.cf_stream.specs.Position.{natural, sequence_number}
 use Rattle.cf_stream.specs.Stream.{Stream, letter_count, no_letters, part}
 use Rattle.cf_leg.specs.Calls.{SaysTo, SendsPiece, SendsSome, SendsNew}
@@ -27,7 +27,7 @@ same_end false a n m l h = by a (n == m) (nat_lt m l) refl refl refl
     by true false d e f g = refl
     by false c d e f g = refl
 
-with_segments-append : (told : Option (List SentValue)) (now : ℕ) (xs : List PacketOf) (p : PacketOf) → with_segments told now (xs ++ p ∷ []) ≡ with_segment (with_segments told now xs) now p
+with_segments-append : (told : Option (List SentValue)) (now : ℕ) (xs : List PacketValue) (p : PacketValue) → with_segments told now (xs ++ p ∷ []) ≡ with_segment (with_segments told now xs) now p
 with_segments-append told now [] p = refl
 with_segments-append told now (x ∷ xs) p = with_segments-append (with_segment told now x) now xs p
 
@@ -103,7 +103,7 @@ module _ (way : Way) (t : Told) (mss : ℕ) (q before after : Queue) (now : ℕ)
     pieces = λ whole s more rest.
         (let count : letter_count (piece whole mss q.shown before.sent) ≡ piece_letters p = subst (λ (n : ℕ). letter_count (piece whole mss n before.sent) ≡ piece_letters p) shown (piece_count before whole (stands_before whole s) mss before.sent before.shown p answer.piece) in
         let rest' = subst (λ (n : ℕ). Pieces way t whole mss q.shown (before.sent + n) more) (sym count) rest in
-        subst (λ (ps : List PacketOf). Pieces way t whole mss q.shown q.sent ps) (sym (append_assoc some.outs (segment way t (sequence_number way.own (natural p.at)) (record { bytes = one.text; ended = p.end }) ∷ []) more))
+        subst (λ (ps : List PacketValue). Pieces way t whole mss q.shown q.sent ps) (sym (append_assoc some.outs (segment way t (sequence_number way.own (natural p.at)) (record { bytes = one.text; ended = p.end }) ∷ []) more))
         (some.pieces whole s (segment way t (sequence_number way.own (natural p.at)) (record { bytes = one.text; ended = p.end }) ∷ more) (left whole s, out_is whole s, rest')));
   }
 
@@ -144,4 +144,4 @@ says_of way t mss due q now old mid new false e sends is = record {
     same false = refl
 
     before : mid ≡ old
-    before = sends.packets ∙ ap (λ (ps : List PacketOf). with_segments old now ps) (sends.none (ltb-false q.sent (min q.shown (queue_length q)) (sym e)))
+    before = sends.packets ∙ ap (λ (ps : List PacketValue). with_segments old now ps) (sends.none (ltb-false q.sent (min q.shown (queue_length q)) (sym e)))

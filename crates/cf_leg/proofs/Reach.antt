@@ -4,7 +4,7 @@ use Rattle.std.specs.Prelude.{MatchBool, nat_lt}
 use Rattle.std.proofs.lemmas.Bool.{ltb-true, ltb-false}
 use Rattle.cf_outq.specs.SendQueue.{Queue}
 use Rattle.cf_outq.specs.SendQueue.{IsQueueOf}
-use Rattle.cf_packet.specs.Packet.{PacketOf}
+use Rattle.cf_packet.specs.Packet.{PacketValue}
 use Rattle.cf_stream.specs.Position.{sequence_number}
 use Rattle.cf_stream.specs.Stream.{Stream, letter_count, no_letters}
 use Rattle.cf_leg.proofs.Events.{no_greeting, open_is_greeted}
@@ -18,7 +18,7 @@ use Rattle.cf_leg.specs.Told.{letters_sent, letters_sent_at, letters_sent_by, le
 use Rattle.cf_leg.specs.declared.ends.Told.{Told}
 use Rattle.cf_leg.specs.declared.ends.Way.{Way}
 
-carried_all : (way : Way) (t : Told) (whole : Stream) (mss edge from : ℕ) (outs : List PacketOf) → Pieces way t whole mss edge from outs → letters_sent_by_all way.own from outs ≡ max from (min edge (letter_count whole))
+carried_all : (way : Way) (t : Told) (whole : Stream) (mss edge from : ℕ) (outs : List PacketValue) → Pieces way t whole mss edge from outs → letters_sent_by_all way.own from outs ≡ max from (min edge (letter_count whole))
 carried_all way t whole mss edge from [] h = omega (arith, h)
 carried_all way t whole mss edge from (p ∷ ps) h =
     let one : letters_sent_by way.own from p ≡ from + letter_count (piece whole mss edge from) =
@@ -26,7 +26,7 @@ carried_all way t whole mss edge from (p ∷ ps) h =
     let short = piece_short whole mss edge from h.0 in
     rw one (carried_all way t whole mss edge (from + letter_count (piece whole mss edge from)) ps h.2 ∙ omega (arith, short, h.0))
 
-pub carried_after : (way : Way) (t : Told) (due : Bool) (whole : Stream) (mss edge from : ℕ) (outs : List PacketOf) → SaysIf way t due whole mss edge from outs → letters_sent_by_all way.own from outs ≡ max from (min edge (letter_count whole))
+pub carried_after : (way : Way) (t : Told) (due : Bool) (whole : Stream) (mss edge from : ℕ) (outs : List PacketValue) → SaysIf way t due whole mss edge from outs → letters_sent_by_all way.own from outs ≡ max from (min edge (letter_count whole))
 carried_after way t due whole mss edge from outs h = by (nat_lt from (min edge (letter_count whole))) refl h
   where
     after : (d : Bool) → letters_sent_by_all way.own from (cond d (segment way t (sequence_number way.own from) no_letters ∷ []) []) ≡ from
@@ -35,14 +35,14 @@ carried_after way t due whole mss edge from outs h = by (nat_lt from (min edge (
 
     by : (x : Bool) → nat_lt from (min edge (letter_count whole)) ≡ x → MatchBool x (Pieces way t whole mss edge from outs) (outs ≡ cond due (segment way t (sequence_number way.own from) no_letters ∷ []) []) → letters_sent_by_all way.own from outs ≡ max from (min edge (letter_count whole))
     by true k p = carried_all way t whole mss edge from outs p
-    by false k p = ap (λ (ps : List PacketOf). letters_sent_by_all way.own from ps) p ∙ after due ∙ omega (arith, ltb-false from (min edge (letter_count whole)) k)
+    by false k p = ap (λ (ps : List PacketValue). letters_sent_by_all way.own from ps) p ∙ after due ∙ omega (arith, ltb-false from (min edge (letter_count whole)) k)
 
-pub reach : (leg : LegValue) (q : Queue) (e : LegEvent) (es : List LegEvent) (whole : Stream) (roomy : Bool) (outs : List PacketOf)
+pub reach : (leg : LegValue) (q : Queue) (e : LegEvent) (es : List LegEvent) (whole : Stream) (roomy : Bool) (outs : List PacketValue)
     → IsLegOf leg (marks q) (record e { ending = Spoke whole roomy outs } ∷ es) → IsQueueOf q whole → opened leg.ends.role (record e { ending = Spoke whole roomy outs } ∷ es) ≡ true
     → letters_sent leg.ends.role (record e { ending = Spoke whole roomy outs } ∷ es) ≡ min (shown leg.ends.role (record e { ending = Spoke whole roomy outs } ∷ es)) (letter_count whole)
 reach leg q e es whole roomy outs h s o =
     let speaks = subst (λ (b : Bool). MatchBool b (SpeaksOpen leg.ends es (record e { ending = Spoke whole roomy outs }) whole roomy outs) (outs ≡ [])) o h.of_right.0.ending in
     let quiet = no_greeting leg.ends es (opened leg.ends.role es) (end_state leg.ends.role es e) e.came (open_is_greeted leg.ends.role es) h.of_right.0.came o in
-    let went = ap (λ (ps : List PacketOf). letters_sent_by_all (own_number leg.ends.role (record e { ending = Spoke whole roomy outs } ∷ es)) (letters_sent_at leg.ends.role es e) (ps ++ outs)) quiet
+    let went = ap (λ (ps : List PacketValue). letters_sent_by_all (own_number leg.ends.role (record e { ending = Spoke whole roomy outs } ∷ es)) (letters_sent_at leg.ends.role es e) (ps ++ outs)) quiet
     ∙ carried_after _ _ _ whole _ (shown leg.ends.role (record e { ending = Spoke whole roomy outs } ∷ es)) (letters_sent_at leg.ends.role es e) outs speaks.says in
     omega (arith, went, h.of_sent, h.of_shown, s.sent, s.shown)

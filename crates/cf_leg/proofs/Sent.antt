@@ -5,7 +5,7 @@ use Rattle.std.specs.Option.{option_or, is_some}
 use Rattle.std.proofs.lemmas.Bool.{cases_lt, cases_Bool, true≢false, false≢true, ltb-true, ltb-false}
 use Rattle.std.proofs.lemmas.Int.{ints}
 use Rattle.std.proofs.lemmas.List.{length-append}
-use Rattle.cf_packet.specs.Packet.{PacketOf}
+use Rattle.cf_packet.specs.Packet.{PacketValue}
 use Rattle.cf_stream.specs.Position.{natural, position, sequence_number}
 use Rattle.cf_stream.specs.Stream.{Stream, Letter, Carries, Extends, letter_at, letter_count, letter_from, no_letters}
 use Rattle.cf_leg.proofs.Carried.{at_inside, carries_none, carry_piece, carry_said, from_inside, none≢some, said_some, some_right}
@@ -25,20 +25,20 @@ use Rattle.cf_leg.specs.declared.ends.Role.TheVariants as role
 
 -- segments that go out where so many letters were sent: they carry letters of a list, each place from there on has one, and
 -- no letter comes to the top or past it
-pub record Goes (whole : Stream) (own sent top : ℕ) (ps : List PacketOf) : Type 0 where
+pub record Goes (whole : Stream) (own sent top : ℕ) (ps : List PacketValue) : Type 0 where
   pub carries : CarryAll whole own sent ps
   pub low : sent ≤ letters_sent_by_all own sent ps
   pub high : letters_sent_by_all own sent ps ≤ max sent top
   pub some : (q : ℕ) → sent ≤ q → q < letters_sent_by_all own sent ps → (l : Letter) × (first_in own sent ps q ≡ Some l)
 
 -- segments without a new letter
-pub record Repeats (whole : Stream) (own sent : ℕ) (ps : List PacketOf) : Type 0 where
+pub record Repeats (whole : Stream) (own sent : ℕ) (ps : List PacketValue) : Type 0 where
   pub carries : CarryAll whole own sent ps
   pub same : letters_sent_by_all own sent ps ≡ sent
   pub old : (q : ℕ) (l : Letter) → first_in own sent ps q ≡ Some l → q < sent
 
 -- ---- segments without letters
-sends_none : (own sent : ℕ) (p : PacketOf) → letters_in p ≡ no_letters → letters_sent_by own sent p ≡ sent
+sends_none : (own sent : ℕ) (p : PacketValue) → letters_in p ≡ no_letters → letters_sent_by own sent p ≡ sent
 sends_none own sent p h = ap (λ (s : Stream). cond (letter_count s == 0) sent (max sent (natural (position p.seq own sent +ℤ pos (letter_count s))))) h
 
 carry_none : (whole : Stream) (z : ℤ) (text : Stream) → text ≡ no_letters → Carries whole z text
@@ -55,7 +55,7 @@ option_or_none (Some l) = refl
 repeats_none : (whole : Stream) (own sent : ℕ) → Repeats whole own sent []
 repeats_none whole own sent = record { carries = tt; same = refl; old = λ q l e. absurd (none≢some l e) }
 
-repeats_empty : (whole : Stream) (own sent : ℕ) (p : PacketOf) → letters_in p ≡ no_letters → Repeats whole own sent (p ∷ [])
+repeats_empty : (whole : Stream) (own sent : ℕ) (p : PacketValue) → letters_in p ≡ no_letters → Repeats whole own sent (p ∷ [])
 repeats_empty whole own sent p h = record {
   carries = (carry_none whole (position p.seq own sent) (letters_in p) h, tt);
   same = sends_none own sent p h;
@@ -64,7 +64,7 @@ repeats_empty whole own sent p h = record {
       (ap (λ (s : Stream). letter_from (position p.seq own sent) s q) (sym h) ∙ sym (option_or_none (letter_in own sent p q)) ∙ e));
 }
 
-goes_still : (whole : Stream) (own sent top : ℕ) (ps : List PacketOf) → Repeats whole own sent ps → Goes whole own sent top ps
+goes_still : (whole : Stream) (own sent top : ℕ) (ps : List PacketValue) → Repeats whole own sent ps → Goes whole own sent top ps
 goes_still whole own sent top ps r = record {
   carries = r.carries;
   low = omega (arith, r.same);
@@ -73,7 +73,7 @@ goes_still whole own sent top ps r = record {
 }
 
 -- a segment without letters before the others
-goes_behind : (whole : Stream) (own sent top : ℕ) (p : PacketOf) (ps : List PacketOf) → letters_in p ≡ no_letters → Goes whole own sent top ps → Goes whole own sent top (p ∷ ps)
+goes_behind : (whole : Stream) (own sent top : ℕ) (p : PacketValue) (ps : List PacketValue) → letters_in p ≡ no_letters → Goes whole own sent top ps → Goes whole own sent top (p ∷ ps)
 goes_behind whole own sent top p ps h g =
     let same = sends_none own sent p h in
     record {
@@ -85,7 +85,7 @@ goes_behind whole own sent top p ps h g =
           some_right (letter_in own sent p q) (first_in own (letters_sent_by own sent p) ps q) (there.0, ap (λ (n : ℕ). first_in own n ps q) same ∙ there.1));
     }
 
-greeting_empty : (ends : Ends) (r : Role) (p : PacketOf) → IsGreeting ends r p → letters_in p ≡ no_letters
+greeting_empty : (ends : Ends) (r : Role) (p : PacketValue) → IsGreeting ends r p → letters_in p ≡ no_letters
 greeting_empty ends (role.Active own) p h = ap letters_in h
 greeting_empty ends (role.Passive other mss) p h = ap letters_in h
 
@@ -110,7 +110,7 @@ module _ (ends : Ends) (es : List LegEvent) (all : AllRight ends es) (whole : St
       text : Stream
       text = piece (stream_after es) (send_mss (peer_mss ends.role es)) (letters_sent ends.role es) (acked ends.role es)
 
-      out : PacketOf
+      out : PacketValue
       out = segment (way_of ends es) (told ends.role es) (sequence_number (own_number ends.role es) (acked ends.role es)) text
 
       by : (b : Bool) → nat_lt (acked ends.role es) (letters_sent ends.role es) ≡ b
@@ -147,9 +147,9 @@ module _ (ends : Ends) (es : List LegEvent) (all : AllRight ends es) (whole : St
           })
 
   pub fired_repeats : (e : LegEvent) → e.fired ≡ fired_at ends es e → Repeats whole (own_number ends.role es) (letters_sent ends.role es) e.fired
-  fired_repeats e f = subst (λ (ps : List PacketOf). Repeats whole (own_number ends.role es) (letters_sent ends.role es) ps) (sym f) (by (fires ends.role es e && nat_lt (tries ends.role es) 6))
+  fired_repeats e f = subst (λ (ps : List PacketValue). Repeats whole (own_number ends.role es) (letters_sent ends.role es) ps) (sym f) (by (fires ends.role es e && nat_lt (tries ends.role es) 6))
     where
-      first : (g : Option PacketOf) → greeting es ≡ g → Repeats whole (own_number ends.role es) (letters_sent ends.role es) (again g)
+      first : (g : Option PacketValue) → greeting es ≡ g → Repeats whole (own_number ends.role es) (letters_sent ends.role es) (again g)
       first None k = repeats_none whole (own_number ends.role es) (letters_sent ends.role es)
       first (Some p) k = repeats_empty whole (own_number ends.role es) (letters_sent ends.role es) p (greeting_empty ends ends.role p (greeting_right ends es all p k))
 
@@ -172,7 +172,7 @@ module _ (ends : Ends) (es : List LegEvent) (e : LegEvent) (whole : Stream) wher
       (subst (λ (m : ℕ). Goes whole (own_number ends.role (e ∷ es)) m (min (shown ends.role (e ∷ es)) (letter_count w)) outs) (sym c) (by (opened ends.role (e ∷ es)) h))
     where
       by : (b : Bool) → MatchBool b (SpeaksOpen ends es e w roomy outs) (outs ≡ []) → Goes whole (own_number ends.role (e ∷ es)) (letters_sent_at ends.role es e) (min (shown ends.role (e ∷ es)) (letter_count w)) outs
-      by false none = subst (λ (ps : List PacketOf). Goes whole (own_number ends.role (e ∷ es)) (letters_sent_at ends.role es e) (min (shown ends.role (e ∷ es)) (letter_count w)) ps) (sym none)
+      by false none = subst (λ (ps : List PacketValue). Goes whole (own_number ends.role (e ∷ es)) (letters_sent_at ends.role es e) (min (shown ends.role (e ∷ es)) (letter_count w)) ps) (sym none)
           (goes_still whole _ _ _ [] (repeats_none whole _ _))
       by true s =
           (let went = carried_after (way_of ends (e ∷ es)) _ _ w (send_mss (peer_mss ends.role (e ∷ es))) (shown ends.role (e ∷ es)) (letters_sent_at ends.role es e) outs s.says in

@@ -3,7 +3,7 @@ use Rattle.std.proofs.Common.{◌≡◌, ℕ, ◌+◌, ◌-◌, ◌*◌, ◌/◌
 use Rattle.std.specs.Prelude.{◌==◌, nat_lt}
 use Rattle.std.proofs.lemmas.Bool.{and_parts, cases_lt, cases_Bool, true≢false, eqb-true, ltb-true, lt-ltb, le-ltb, eq-eqb}
 use Rattle.std.proofs.lemmas.Int.{ints}
-use Rattle.cf_packet.specs.Packet.{PacketOf}
+use Rattle.cf_packet.specs.Packet.{PacketValue}
 use Rattle.cf_stream.specs.Position.{natural, sequence_number, position, signed32}
 use Rattle.cf_stream.specs.Stream.{Stream, letter_count, part, no_letters}
 use Rattle.cf_leg.specs.Emits.{Pieces, piece, differs}
@@ -101,20 +101,20 @@ module _ (whole : Stream) (mss edge from : ℕ) where
 
 module _ (way : Way) (t : Told) (whole : Stream) (mss edge : ℕ) (e : t.base ≤ t.edge) where
   -- once a piece told it, the others tell the same
-  pub told_again : (from : ℕ) (outs : List PacketOf) → Pieces way t whole mss edge from outs → told_by_all way.other t outs ≡ t
+  pub told_again : (from : ℕ) (outs : List PacketValue) → Pieces way t whole mss edge from outs → told_by_all way.other t outs ≡ t
   told_again from [] h = refl
   told_again from (p ∷ ps) h =
       let one : told_by way.other t p ≡ t = rw h.1 (told_segment way t (sequence_number way.own from) (piece whole mss edge from) t (omega arith) (omega arith) e) in
       rw one (told_again (from + letter_count (piece whole mss edge from)) ps h.2)
 
-  pub told_pieces : (b : Told) (from : ℕ) (outs : List PacketOf) → b.base ≤ t.base → t.base < b.base + 2 ^ 31
+  pub told_pieces : (b : Told) (from : ℕ) (outs : List PacketValue) → b.base ≤ t.base → t.base < b.base + 2 ^ 31
       → from < min edge (letter_count whole) → Pieces way t whole mss edge from outs → told_by_all way.other b outs ≡ t
   told_pieces b from [] low high some h = absurd (omega (arith, some, h))
   told_pieces b from (p ∷ ps) low high some h =
       let one : told_by way.other b p ≡ t = rw h.1 (told_segment way t (sequence_number way.own from) (piece whole mss edge from) b low high e) in
       rw one (told_again (from + letter_count (piece whole mss edge from)) ps h.2)
 
-  pub carried_pieces : (from : ℕ) (outs : List PacketOf) → Pieces way t whole mss edge from outs → letters_sent_by_all way.own from outs ≡ max from (min edge (letter_count whole))
+  pub carried_pieces : (from : ℕ) (outs : List PacketValue) → Pieces way t whole mss edge from outs → letters_sent_by_all way.own from outs ≡ max from (min edge (letter_count whole))
   carried_pieces from [] h = omega (arith, h)
   carried_pieces from (p ∷ ps) h =
       let one : letters_sent_by way.own from p ≡ from + letter_count (piece whole mss edge from) =

@@ -4,7 +4,7 @@ use Rattle.std.specs.Prelude.{MatchBool, nat_lt, ◌==◌}
 use Rattle.std.proofs.lemmas.Bool.{cases_Bool, true≢false, false≢true, eqb-true, ltb-true, ltb-false, and_parts}
 use Rattle.cf_outq.specs.SendQueue.{Queue, queue_length}
 use Rattle.cf_outq.specs.SendQueue.{IsQueueOf}
-use Rattle.cf_packet.specs.Packet.{PacketOf}
+use Rattle.cf_packet.specs.Packet.{PacketValue}
 use Rattle.cf_rebuild.specs.ReceiveWindow.{Window, IsWindow, base_of}
 use Rattle.cf_rebuild.specs.ReceiveWindow.{IsWindowOf}
 use Rattle.cf_outside.specs.Desk.{SentValue}
@@ -44,7 +44,7 @@ same_told t u h =
     ap (λ (n : ℕ). record { base = n; edge = t.edge }) base ∙ ap (λ (n : ℕ). record { base = u.base; edge = n }) edge
 
 -- ---- what was said, read again
-module _ (way : Way) (b t : Told) (owes : Bool) (whole : Stream) (mss shown sent : ℕ) (outs : List PacketOf)
+module _ (way : Way) (b t : Told) (owes : Bool) (whole : Stream) (mss shown sent : ℕ) (outs : List PacketValue)
     (low : b.base ≤ t.base) (high : t.base < b.base + 2 ^ 31) (e : t.base ≤ t.edge) where
   pub told_said : SaysIf way t (owes || differs b t) whole mss shown sent outs → told_by_all way.other b outs ≡ t
   told_said h = by (nat_lt sent (min shown (letter_count whole))) refl h
@@ -57,7 +57,7 @@ module _ (way : Way) (b t : Told) (owes : Bool) (whole : Stream) (mss shown sent
           → MatchBool x (Pieces way t whole mss shown sent outs) (outs ≡ cond (owes || differs b t) (segment way t (sequence_number way.own sent) no_letters ∷ []) [])
           → told_by_all way.other b outs ≡ t
       by true k p = told_pieces way t whole mss shown e b sent outs low high (ltb-true sent (min shown (letter_count whole)) k) p
-      by false k p = ap (λ (ps : List PacketOf). told_by_all way.other b ps) p ∙ after (owes || differs b t) refl
+      by false k p = ap (λ (ps : List PacketValue). told_by_all way.other b ps) p ∙ after (owes || differs b t) refl
 
   pub carried_said : SaysIf way t (owes || differs b t) whole mss shown sent outs → letters_sent_by_all way.own sent outs ≡ max sent (min shown (letter_count whole))
   carried_said h = by (nat_lt sent (min shown (letter_count whole))) refl h
@@ -70,7 +70,7 @@ module _ (way : Way) (b t : Told) (owes : Bool) (whole : Stream) (mss shown sent
           → MatchBool x (Pieces way t whole mss shown sent outs) (outs ≡ cond (owes || differs b t) (segment way t (sequence_number way.own sent) no_letters ∷ []) [])
           → letters_sent_by_all way.own sent outs ≡ max sent (min shown (letter_count whole))
       by true k p = carried_pieces way t whole mss shown e sent outs p
-      by false k p = ap (λ (ps : List PacketOf). letters_sent_by_all way.own sent ps) p ∙ after (owes || differs b t) ∙ omega (arith, ltb-false sent (min shown (letter_count whole)) k)
+      by false k p = ap (λ (ps : List PacketValue). letters_sent_by_all way.own sent ps) p ∙ after (owes || differs b t) ∙ omega (arith, ltb-false sent (min shown (letter_count whole)) k)
 
 -- ---- what is to be told
 module _ (leg : LegValue) (i : IsLeg leg) (w : IsWindow leg.window) (roomy : Bool) where
@@ -125,7 +125,7 @@ still_arms true true g g0 a a0 n n0 l k h = absurd (by (nat_lt a n0) (nat_lt a0 
 pub parts_told : (b n t u : ℕ) (T : Told) → b ≡ T.base → n ≡ T.edge → ◌≡◌ {A = Told} (record { base = b; edge = n }) T
 parts_told b n t u T e f = ap (λ (x : ℕ). record { base = x; edge = n }) e ∙ ap (λ (x : ℕ). record { base = T.base; edge = x }) f
 
-module _ (leg : LegValue) (i : IsLeg leg) (w : IsWindow leg.window) (q : Queue) (roomy : Bool) (now : ℕ) (e : LegEvent) (es : List LegEvent) (whole : Stream) (outs : List PacketOf)
+module _ (leg : LegValue) (i : IsLeg leg) (w : IsWindow leg.window) (q : Queue) (roomy : Bool) (now : ℕ) (e : LegEvent) (es : List LegEvent) (whole : Stream) (outs : List PacketValue)
     (at : now ≡ moment e) (h : IsLegOf leg (marks q) (record e { ending = Unspoken } ∷ es)) (s : IsQueueOf q whole) where
   running_is : (q' : Queue) → q'.acked ≡ q.acked → queue_length q' ≡ queue_length q → arms leg.phase q' ≡ armed leg.ends.role (record e { ending = Spoke whole roomy outs } ∷ es)
   running_is q' a l =
@@ -159,21 +159,21 @@ module _ (leg : LegValue) (i : IsLeg leg) (w : IsWindow leg.window) (q : Queue) 
   told_before : opened leg.ends.role (record e { ending = Unspoken } ∷ es) ≡ true → told_of leg ≡ told_at leg.ends.role es e
   told_before o =
       parts_told leg.base leg.window.edge 0 0 (told leg.ends.role (record e { ending = Unspoken } ∷ es)) h.of_base h.of_edge
-      ∙ ap (λ (ps : List PacketOf). told_by_all (peer_number leg.ends.role (record e { ending = Unspoken } ∷ es)) (told_at leg.ends.role es e) (ps ++ [])) (quiet o)
+      ∙ ap (λ (ps : List PacketValue). told_by_all (peer_number leg.ends.role (record e { ending = Unspoken } ∷ es)) (told_at leg.ends.role es e) (ps ++ [])) (quiet o)
 
   carried_before : opened leg.ends.role (record e { ending = Unspoken } ∷ es) ≡ true → q.sent ≡ letters_sent_at leg.ends.role es e
-  carried_before o = h.of_sent ∙ ap (λ (ps : List PacketOf). letters_sent_by_all (own_number leg.ends.role (record e { ending = Unspoken } ∷ es)) (letters_sent_at leg.ends.role es e) (ps ++ [])) (quiet o)
+  carried_before o = h.of_sent ∙ ap (λ (ps : List PacketValue). letters_sent_by_all (own_number leg.ends.role (record e { ending = Unspoken } ∷ es)) (letters_sent_at leg.ends.role es e) (ps ++ [])) (quiet o)
 
   -- and after it
   told_after : (n : Told) (o : opened leg.ends.role (record e { ending = Unspoken } ∷ es) ≡ true) → told_by_all leg.other (told_of leg) outs ≡ n → told leg.ends.role (record e { ending = Spoke whole roomy outs } ∷ es) ≡ n
   told_after n o k =
-      ap (λ (ps : List PacketOf). told_by_all (peer_number leg.ends.role (record e { ending = Spoke whole roomy outs } ∷ es)) (told_at leg.ends.role es e) (ps ++ outs)) (quiet o)
+      ap (λ (ps : List PacketValue). told_by_all (peer_number leg.ends.role (record e { ending = Spoke whole roomy outs } ∷ es)) (told_at leg.ends.role es e) (ps ++ outs)) (quiet o)
       ∙ ap (λ (x : ℕ). told_by_all x (told_at leg.ends.role es e) outs) (peer_same (record e { ending = Unspoken }) es (Spoke whole roomy outs) leg.ends.role ∙ sym h.of_other)
       ∙ ap (λ (x : Told). told_by_all leg.other x outs) (sym (told_before o)) ∙ k
 
   carried_after : (n : ℕ) (o : opened leg.ends.role (record e { ending = Unspoken } ∷ es) ≡ true) → letters_sent_by_all leg.own q.sent outs ≡ n → letters_sent leg.ends.role (record e { ending = Spoke whole roomy outs } ∷ es) ≡ n
   carried_after n o k =
-      ap (λ (ps : List PacketOf). letters_sent_by_all (own_number leg.ends.role (record e { ending = Spoke whole roomy outs } ∷ es)) (letters_sent_at leg.ends.role es e) (ps ++ outs)) (quiet o)
+      ap (λ (ps : List PacketValue). letters_sent_by_all (own_number leg.ends.role (record e { ending = Spoke whole roomy outs } ∷ es)) (letters_sent_at leg.ends.role es e) (ps ++ outs)) (quiet o)
       ∙ ap (λ (x : ℕ). letters_sent_by_all x (letters_sent_at leg.ends.role es e) outs) (own_same (record e { ending = Unspoken }) es (Spoke whole roomy outs) leg.ends.role ∙ sym h.of_own)
       ∙ ap (λ (x : ℕ). letters_sent_by_all leg.own x outs) (sym (carried_before o)) ∙ k
 
@@ -251,12 +251,12 @@ module _ (leg : LegValue) (i : IsLeg leg) (w : IsWindow leg.window) (q : Queue) 
   module _ (o : opened leg.ends.role (record e { ending = Unspoken } ∷ es) ≡ false) (none : outs ≡ []) where
     told_still : told leg.ends.role (record e { ending = Spoke whole roomy outs } ∷ es) ≡ told leg.ends.role (record e { ending = Unspoken } ∷ es)
     told_still =
-        ap (λ (ps : List PacketOf). told_by_all (peer_number leg.ends.role (record e { ending = Spoke whole roomy outs } ∷ es)) (told_at leg.ends.role es e) (greeted_by e.came ++ ps)) none
+        ap (λ (ps : List PacketValue). told_by_all (peer_number leg.ends.role (record e { ending = Spoke whole roomy outs } ∷ es)) (told_at leg.ends.role es e) (greeted_by e.came ++ ps)) none
         ∙ ap (λ (x : ℕ). told_by_all x (told_at leg.ends.role es e) (greeted_by e.came ++ [])) (peer_same (record e { ending = Unspoken }) es (Spoke whole roomy outs) leg.ends.role)
 
     carried_still : letters_sent leg.ends.role (record e { ending = Spoke whole roomy outs } ∷ es) ≡ letters_sent leg.ends.role (record e { ending = Unspoken } ∷ es)
     carried_still =
-        ap (λ (ps : List PacketOf). letters_sent_by_all (own_number leg.ends.role (record e { ending = Spoke whole roomy outs } ∷ es)) (letters_sent_at leg.ends.role es e) (greeted_by e.came ++ ps)) none
+        ap (λ (ps : List PacketValue). letters_sent_by_all (own_number leg.ends.role (record e { ending = Spoke whole roomy outs } ∷ es)) (letters_sent_at leg.ends.role es e) (greeted_by e.came ++ ps)) none
         ∙ ap (λ (x : ℕ). letters_sent_by_all x (letters_sent_at leg.ends.role es e) (greeted_by e.came ++ [])) (own_same (record e { ending = Unspoken }) es (Spoke whole roomy outs) leg.ends.role)
 
     pub spoke_closed : IsLegOf (rearmed leg q now) (marks q) (record e { ending = Spoke whole roomy outs } ∷ es)

@@ -3,7 +3,7 @@ use Rattle.std.proofs.Common.{◌≡◌, ℕ, ◌+◌, ◌^◌, ◌<◌, ◌≤�
 use Rattle.std.specs.Option.{option_or}
 use Rattle.std.proofs.lemmas.Bool.{cases_lt, cases_Bool}
 use Rattle.std.proofs.lemmas.List.{length-append}
-use Rattle.cf_packet.specs.Packet.{PacketOf}
+use Rattle.cf_packet.specs.Packet.{PacketValue}
 use Rattle.cf_stream.proofs.Extends.{extends_both}
 use Rattle.cf_stream.specs.Position.{natural, position}
 use Rattle.cf_stream.specs.Stream.{Stream, Letter, Extends, letter_at, letter_count}
@@ -66,7 +66,7 @@ along ends (e ∷ es) whole a g x m =
     }
 
 -- ---- what went out first is the stream's
-first_of : (whole : Stream) (own sent : ℕ) (ps : List PacketOf) (q : ℕ) (l : Letter) → CarryAll whole own sent ps → first_in own sent ps q ≡ Some l → letter_at whole q ≡ Some l
+first_of : (whole : Stream) (own sent : ℕ) (ps : List PacketValue) (q : ℕ) (l : Letter) → CarryAll whole own sent ps → first_in own sent ps q ≡ Some l → letter_at whole q ≡ Some l
 first_of whole own sent [] q l c e = absurd (none≢some l e)
 first_of whole own sent (p ∷ ps) q l c e = by (first_of whole own (letters_sent_by own sent p) ps q l c.1) (letter_in own sent p q) refl e
   where

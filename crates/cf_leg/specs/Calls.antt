@@ -4,7 +4,7 @@ use Rattle.cf_outside.specs.Desk.{SentValue}
 use Rattle.cf_outq.specs.SendQueue.{Queue, carried, queue_length, after_acked, after_shown}
 use Rattle.cf_outq.specs.SendQueue.{IsQueueOf}
 use Rattle.cf_outq.specs.declared.Piece.{Piece}
-use Rattle.cf_packet.specs.Packet.{PacketOf}
+use Rattle.cf_packet.specs.Packet.{PacketValue}
 use Rattle.cf_stream.specs.Position.{natural, sequence_number}
 use Rattle.cf_stream.specs.Stream.{Stream, Extends, no_letters}
 use Rattle.cf_leg.specs.Emits.{IsRight, Pieces, SaysIf, rst, send_mss, differs, to_tell, syn, syn_ack_for, piece}
@@ -37,14 +37,14 @@ pub record SendsPiece (way : Way) (t : Told) (queue : Queue) (piece : Piece) (no
 
 -- some pieces went out, and so many letters were sent then
 pub record SendsSome (way : Way) (t : Told) (mss : ℕ) (queue : Queue) (sent : ℕ) (now : ℕ) (old new : Option (List SentValue)) : Type 0 where
-  pub outs : List PacketOf
+  pub outs : List PacketValue
   pub packets : new ≡ with_segments old now outs
   pub none : sent ≡ queue.sent → outs ≡ []
-  pub pieces : (whole : Stream) → IsQueueOf queue whole → (more : List PacketOf) → Pieces way t whole mss queue.shown sent more → Pieces way t whole mss queue.shown queue.sent (outs ++ more)
+  pub pieces : (whole : Stream) → IsQueueOf queue whole → (more : List PacketValue) → Pieces way t whole mss queue.shown sent more → Pieces way t whole mss queue.shown queue.sent (outs ++ more)
 
 -- what was not sent and is let in went out in pieces
 pub record SendsNew (way : Way) (t : Told) (mss : ℕ) (queue : Queue) (now : ℕ) (old new : Option (List SentValue)) : Type 0 where
-  pub outs : List PacketOf
+  pub outs : List PacketValue
   pub packets : new ≡ with_segments old now outs
   pub none : min queue.shown (queue_length queue) ≤ queue.sent → outs ≡ []
   pub pieces : (whole : Stream) → IsQueueOf queue whole → Pieces way t whole mss queue.shown queue.sent outs
@@ -52,13 +52,13 @@ pub record SendsNew (way : Way) (t : Told) (mss : ℕ) (queue : Queue) (now : �
 -- the peer of an open leg was told something, and got what it lets in: every new letter, or an acknowledgment if there is
 -- none and one is due
 pub record SaysTo (way : Way) (t : Told) (mss : ℕ) (owes : Bool) (queue : Queue) (now : ℕ) (old new : Option (List SentValue)) : Type 0 where
-  pub outs : List PacketOf
+  pub outs : List PacketValue
   pub packets : new ≡ with_segments old now outs
   pub says : (whole : Stream) → IsQueueOf queue whole → SaysIf way t owes whole mss queue.shown queue.sent outs
 
 -- the leg said what it has to say, if it is open
 pub record Addressed (roomy : Bool) (now : ℕ) (old new : LegValue) (queue queue' : Queue) (before after : Option (List SentValue)) : Type 0 where
-  pub outs : List PacketOf
+  pub outs : List PacketValue
   pub packets : after ≡ with_segments before now outs
   pub says : is_open old.phase ≡ true → (whole : Stream) → IsQueueOf queue whole
       → SaysIf (way_at old) (to_tell (told_of old) (base_of old.window) roomy) (old.owes || differs (told_of old) (to_tell (told_of old) (base_of old.window) roomy))
@@ -76,35 +76,35 @@ rearmed leg q now = record leg { running = arms leg.phase q; deadline = if arms 
 
 -- the leg spoke: it stands for the events with the speech
 pub record Spoken (roomy : Bool) (now : ℕ) (old new : LegValue) (queue queue' : Queue) (before after : Option (List SentValue)) : Type 0 where
-  pub outs : List PacketOf
+  pub outs : List PacketValue
   pub packets : after ≡ with_segments before now outs
   pub stands : (e : LegEvent) (es : List LegEvent) (whole : Stream) → now ≡ moment e → IsLegOf old (marks queue) (record e { ending = Unspoken } ∷ es) → IsQueueOf queue whole
       → IsLegOf new (marks queue') (record e { ending = Spoke whole roomy outs } ∷ es)
 
 -- the SYN or the SYN ACK of a leg
-abbrev pub greeting_as : Ends → ℕ → ℕ → Role → PacketOf
+abbrev pub greeting_as : Ends → ℕ → ℕ → Role → PacketValue
 greeting_as ends own other (role.Active n) = syn ends own
 greeting_as ends own other (role.Passive n mss) = syn_ack_for ends other own
 
-abbrev pub greeting_of : LegValue → PacketOf
+abbrev pub greeting_of : LegValue → PacketValue
 greeting_of leg = greeting_as leg.ends leg.own leg.other leg.ends.role
 
 -- the oldest letters went out again, or a probe
-abbrev pub oldest : LegValue → Queue → Stream → PacketOf
+abbrev pub oldest : LegValue → Queue → Stream → PacketValue
 oldest leg q whole =
     if nat_lt q.acked q.sent
     then segment (way_at leg) (told_of leg) (sequence_number leg.own q.acked) (piece whole leg.mss q.sent q.acked)
     else segment (way_at leg) (told_of leg) ((leg.own + q.acked) % 2 ^ 32) no_letters
 
 pub record SendsOldest (leg : LegValue) (queue : Queue) (now : ℕ) (given : ClockAnswer) (before after : Option (List SentValue)) : Type 0 where
-  pub out : PacketOf
+  pub out : PacketValue
   pub packets : after ≡ with_segment before now out
   pub is : (whole : Stream) → IsQueueOf queue whole → out ≡ oldest leg queue whole
   pub answer : given ≡ (if nat_lt queue.acked queue.sent then answers.Repeated else answers.Probed)
 
 -- what was sent last went out again
 pub record SendsAgain (leg : LegValue) (queue : Queue) (now : ℕ) (given : ClockAnswer) (before after : Option (List SentValue)) : Type 0 where
-  pub out : PacketOf
+  pub out : PacketValue
   pub packets : after ≡ with_segment before now out
   pub open_is : is_open leg.phase ≡ true → (whole : Stream) → IsQueueOf queue whole → out ≡ oldest leg queue whole
   pub open_answer : is_open leg.phase ≡ true → given ≡ (if nat_lt queue.acked queue.sent then answers.Repeated else answers.Probed)
@@ -117,7 +117,7 @@ is_due leg now = leg.running && nat_le leg.deadline now
 
 -- a clock call at a moment did this; the leg stands for the events with one that has just begun
 pub record Clocked (now : ℕ) (old new : LegValue) (queue : Queue) (given : ClockAnswer) (before after : Option (List SentValue)) : Type 0 where
-  pub outs : List PacketOf
+  pub outs : List PacketValue
   pub packets : after ≡ with_segments before now outs
   pub stands : (es : List LegEvent) → is_settled es ≡ true → IsLegOf old (marks queue) es → IsQueueOf queue (stream_after es) → IsLegOf new (marks queue) (clocked now outs ∷ es)
   pub answer : (es : List LegEvent) → is_settled es ≡ true → IsLegOf old (marks queue) es → IsQueueOf queue (stream_after es) → given ≡ clock_answer old.ends.role es (clocked now outs)
@@ -134,24 +134,24 @@ abbrev pub end_state_of : LegValue → Queue → EndState
 end_state_of leg q = record { role = leg.ends.role; is_greeted = is_greeted_phase leg.phase; is_open = is_open leg.phase; own = leg.own; other = leg.other; told = told_of leg; sent = q.sent }
 
 -- what the SYN ACK of a peer says; a passive leg knows it from the SYN
-abbrev pub other_by : Role → ℕ → PacketOf → ℕ
+abbrev pub other_by : Role → ℕ → PacketValue → ℕ
 other_by (role.Active own) other p = p.seq
 other_by (role.Passive n mss) other p = other
 
-abbrev pub mss_by : Role → ℕ → PacketOf → ℕ
+abbrev pub mss_by : Role → ℕ → PacketValue → ℕ
 mss_by (role.Active own) mss p = send_mss p.mss
 mss_by (role.Passive n m) mss p = mss
 
-abbrev pub edge_by : Role → ℕ → PacketOf → ℕ
+abbrev pub edge_by : Role → ℕ → PacketValue → ℕ
 edge_by (role.Active own) edge p = max edge p.window
 edge_by (role.Passive n mss) edge p = edge
 
 -- the leg and its queue once a packet opened it, or did not
-abbrev pub leg_opened : Bool → LegValue → PacketOf → LegValue
+abbrev pub leg_opened : Bool → LegValue → PacketValue → LegValue
 leg_opened false leg p = leg
 leg_opened true leg p = record leg { phase = phase.Open; fired = 0; other = other_by leg.ends.role leg.other p; mss = mss_by leg.ends.role leg.mss p; shown = edge_by leg.ends.role leg.shown p }
 
-abbrev pub queue_opened : Bool → Role → Queue → PacketOf → Queue
+abbrev pub queue_opened : Bool → Role → Queue → PacketValue → Queue
 queue_opened false r q p = q
 queue_opened true r q p = record q { shown = edge_by r q.shown p }
 
@@ -175,14 +175,14 @@ pub record Continues (old new : Window) : Type 0 where
   pub consumed : new.consumed ≡ old.consumed
   pub edge : new.edge ≡ old.edge
 
-pub record Counts (counted : Bool) (at : EndState) (now : ℕ) (p : PacketOf) (old new : LegValue) (queue queue' : Queue) : Type 0 where
+pub record Counts (counted : Bool) (at : EndState) (now : ℕ) (p : PacketValue) (old new : LegValue) (queue queue' : Queue) : Type 0 where
   pub leg : new ≡ leg_counted counted old new.window queue.acked (ack_place at p) p.window now
   pub moved : queue' ≡ queue_counted counted queue (ack_place at p) p.window
   pub window : counted ≡ true → (os : List Offer) → IsWindowOf old.window os → IsWindowOf new.window (record { at = text_place at p; text = letters_in p; edge = old.window.edge } ∷ os)
   pub edge : new.window.edge ≡ old.window.edge
 
 -- the packet was heard: the leg stands for the events with the packet
-pub record Heard (now : ℕ) (p : PacketOf) (old new : LegValue) (queue queue' : Queue) (given : LegAnswer) : Type 0 where
+pub record Heard (now : ℕ) (p : PacketValue) (old new : LegValue) (queue queue' : Queue) (given : LegAnswer) : Type 0 where
   pub answer : (e : LegEvent) (es : List LegEvent) → IsLegOf old (marks queue) (record e { came = Nothing; ending = Unspoken } ∷ es) → given ≡ answer_to (end_state old.ends.role es e) p
   pub stands : (e : LegEvent) (es : List LegEvent) → now ≡ moment e → IsLegOf old (marks queue) (record e { came = Nothing; ending = Unspoken } ∷ es)
       → IsLegOf new (marks queue') (record e { came = Packet p; ending = Unspoken } ∷ es)
@@ -192,7 +192,7 @@ abbrev pub with_letters : Stream → Stream → Stream
 with_letters s more = record { bytes = s.bytes ++ more.bytes; ended = if more.ended then true else s.ended }
 
 -- these letters were taken by the packet: they are pending now, and what is taken goes on by them
-pub record Newly (now : ℕ) (p : PacketOf) (old new : LegValue) (queue : Queue) : Type 0 where
+pub record Newly (now : ℕ) (p : PacketValue) (old new : LegValue) (queue : Queue) : Type 0 where
   pub letters : Stream
   pub pending : new.window.pending ≡ old.window.pending ++ letters.bytes
   pub ended : new.window.ended ≡ (old.window.ended || letters.ended)
@@ -210,7 +210,7 @@ greeted_as leg number now = record leg { own = number; phase = phase.Greeted; de
 
 -- the leg greeted: it stands for the events with the greeting
 pub record Greeted (now : ℕ) (old new : LegValue) (before after : Option (List SentValue)) : Type 0 where
-  pub out : PacketOf
+  pub out : PacketValue
   pub packets : after ≡ with_segment before now out
   pub stands : (m : Marks) (e : LegEvent) (es : List LegEvent) → now ≡ moment e → IsLegOf old m (record e { came = Nothing; ending = Unspoken } ∷ es)
       → IsLegOf new m (record e { came = Greeting out; ending = Unspoken } ∷ es)
@@ -232,7 +232,7 @@ no_marks = record { acked = 0; sent = 0; shown = 0 }
 
 -- ---- a cut
 
-abbrev pub rst_as : LegValue → Queue → Role → PacketOf
+abbrev pub rst_as : LegValue → Queue → Role → PacketValue
 rst_as leg q (role.Active n) =
     if is_open leg.phase then rst leg.ends (sequence_number leg.own q.sent) (sequence_number leg.other (base_of leg.window)) 20
     else rst leg.ends (sequence_number leg.own 0) 0 4
@@ -240,12 +240,12 @@ rst_as leg q (role.Passive n mss) =
     if is_greeted_phase leg.phase then rst leg.ends (sequence_number leg.own q.sent) (sequence_number leg.other (base_of leg.window)) 20
     else rst leg.ends 0 (sequence_number leg.other 0) 20
 
-abbrev pub rst_of : LegValue → Queue → PacketOf
+abbrev pub rst_of : LegValue → Queue → PacketValue
 rst_of leg q = rst_as leg q leg.ends.role
 
 -- the leg was cut: its RST is right after the events
 pub record CutOff (now : ℕ) (leg : LegValue) (queue : Queue) (before after : Option (List SentValue)) : Type 0 where
-  pub out : PacketOf
+  pub out : PacketValue
   pub packets : after ≡ with_segment before now out
   pub right : (e : LegEvent) (es : List LegEvent) → IsLegOf leg (marks queue) (record e { ending = Unspoken } ∷ es) → IsRight leg.ends es (record e { ending = Cut out })
 

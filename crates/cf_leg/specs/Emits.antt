@@ -1,6 +1,6 @@
 -- What a TCP end sends: the segments of each event, given the events before it.
 use Rattle.std.specs.Prelude.{MatchBool, ◌≡◌, ◌≢◌, ℕ, ◌+◌, ◌-◌, ◌%◌, ◌^◌, ◌<◌, ◌≤◌, ◌==◌, min, max, nat_lt, not, Bool, true, false, ◌&&◌, ◌||◌, if◌then◌else◌, List, [], ◌∷◌, length, drop, Option, Some, None}
-use Rattle.cf_packet.specs.Packet.{PacketOf}
+use Rattle.cf_packet.specs.Packet.{PacketValue}
 use Rattle.cf_stream.specs.FirstCopy.{first_copy, IsTaken}
 use Rattle.cf_stream.specs.Position.{sequence_number}
 use Rattle.cf_stream.specs.Stream.{Stream, no_letters, letter_count, part}
@@ -24,7 +24,7 @@ abbrev pub send_mss : Option ℕ → ℕ
 send_mss None = 536
 send_mss (Some mss) = min 1460 (max 64 mss)
 
-abbrev pub mss_in : Option PacketOf → Option ℕ
+abbrev pub mss_in : Option PacketValue → Option ℕ
 mss_in None = None
 mss_in (Some p) = p.mss
 
@@ -37,13 +37,13 @@ way_of ends es = record { source = ends.own; dest = ends.peer; own = own_number 
 
 -- ---- greetings: the SYN of an active leg, the SYN ACK of a passive one
 
-abbrev pub syn : Ends → ℕ → PacketOf
+abbrev pub syn : Ends → ℕ → PacketValue
 syn ends number = record { source = ends.own; dest = ends.peer; seq = number; ack = 0; flags = 2; window = window_size; mss = Some 1460; text = [] }
 
-abbrev pub syn_ack_for : Ends → ℕ → ℕ → PacketOf
+abbrev pub syn_ack_for : Ends → ℕ → ℕ → PacketValue
 syn_ack_for ends other number = record { source = ends.own; dest = ends.peer; seq = number; ack = sequence_number other 0; flags = 18; window = window_size; mss = Some 1460; text = [] }
 
-abbrev pub IsGreeting : Ends → Role → PacketOf → Type 0
+abbrev pub IsGreeting : Ends → Role → PacketValue → Type 0
 IsGreeting ends (role.Active own) p = p ≡ syn ends own
 IsGreeting ends (role.Passive other mss) p = p ≡ syn_ack_for ends other p.seq
 
@@ -57,7 +57,7 @@ piece whole mss edge from =
     part whole from n (whole.ended && (((from + n) == length whole.bytes) && nat_lt (length whole.bytes) edge))
 
 -- the segments carry the letters from a place on in pieces, until none below the edge is left
-abbrev pub Pieces : Way → Told → Stream → ℕ → ℕ → ℕ → List PacketOf → Type 0
+abbrev pub Pieces : Way → Told → Stream → ℕ → ℕ → ℕ → List PacketValue → Type 0
 Pieces way t whole mss edge from [] = min edge (letter_count whole) ≤ from
 Pieces way t whole mss edge from (p ∷ ps) =
     (from < min edge (letter_count whole))
@@ -75,23 +75,23 @@ differs t u = not (t.base == u.base) || not (t.edge == u.edge)
 
 -- an open leg sends every letter that the peer lets in; or, if there is none, an acknowledgment where one is owed or
 -- something new is to be told
-abbrev pub SaysIf : Way → Told → Bool → Stream → ℕ → ℕ → ℕ → List PacketOf → Type 0
+abbrev pub SaysIf : Way → Told → Bool → Stream → ℕ → ℕ → ℕ → List PacketValue → Type 0
 SaysIf way t due whole mss edge from outs =
     MatchBool (nat_lt from (min edge (letter_count whole)))
     (Pieces way t whole mss edge from outs)
     (outs ≡ (if due then segment way t (sequence_number way.own from) no_letters ∷ [] else []))
 
-abbrev pub Says : Way → Told → Told → Bool → Stream → ℕ → ℕ → ℕ → List PacketOf → Type 0
+abbrev pub Says : Way → Told → Told → Bool → Stream → ℕ → ℕ → ℕ → List PacketValue → Type 0
 Says way before t owes whole mss edge from outs = SaysIf way t (owes || differs before t) whole mss edge from outs
 
-pub record SpeaksOpen (ends : Ends) (es : List LegEvent) (e : LegEvent) (whole : Stream) (roomy : Bool) (outs : List PacketOf) : Type 0 where
+pub record SpeaksOpen (ends : Ends) (es : List LegEvent) (e : LegEvent) (whole : Stream) (roomy : Bool) (outs : List PacketValue) : Type 0 where
   -- the letters taken, those of the event included
   pub taken : Stream
   pub is_taken : IsTaken (first_copy (offers ends.role (e ∷ es))) taken
   pub says : Says (way_of ends (e ∷ es)) (told_at ends.role es e) (to_tell (told_at ends.role es e) (letter_count taken) roomy) (owed ends.role es e)
       whole (send_mss (peer_mss ends.role (e ∷ es))) (shown ends.role (e ∷ es)) (letters_sent_at ends.role es e) outs
 
-abbrev pub Speaks : Ends → List LegEvent → LegEvent → Stream → Bool → List PacketOf → Type 0
+abbrev pub Speaks : Ends → List LegEvent → LegEvent → Stream → Bool → List PacketValue → Type 0
 Speaks ends es e whole roomy outs =
     MatchBool (opened ends.role (e ∷ es)) (SpeaksOpen ends es e whole roomy outs) (outs ≡ [])
 
@@ -99,11 +99,11 @@ Speaks ends es e whole roomy outs =
 
 -- the segment that goes out at a firing: the SYN or the SYN ACK again; or the oldest letters that are not acknowledged,
 -- of those that were sent; or, where all are, none with the number before the oldest one
-abbrev pub again : Option PacketOf → List PacketOf
+abbrev pub again : Option PacketValue → List PacketValue
 again None = []
 again (Some p) = p ∷ []
 
-abbrev pub repeat_open : Ends → List LegEvent → PacketOf
+abbrev pub repeat_open : Ends → List LegEvent → PacketValue
 repeat_open ends es =
     let from = acked ends.role es in
     let sent = letters_sent ends.role es in
@@ -111,20 +111,20 @@ repeat_open ends es =
     then segment (way_of ends es) (told ends.role es) (sequence_number (own_number ends.role es) from) (piece (stream_after es) (send_mss (peer_mss ends.role es)) sent from)
     else segment (way_of ends es) (told ends.role es) ((own_number ends.role es + from) % 2 ^ 32) no_letters
 
-abbrev pub repeats : Ends → List LegEvent → List PacketOf
+abbrev pub repeats : Ends → List LegEvent → List PacketValue
 repeats ends es = if opened ends.role es then repeat_open ends es ∷ [] else again (greeting es)
 
 -- at the first six firings since an answer
-abbrev pub fired_at : Ends → List LegEvent → LegEvent → List PacketOf
+abbrev pub fired_at : Ends → List LegEvent → LegEvent → List PacketValue
 fired_at ends es e = if fires ends.role es e && nat_lt (tries ends.role es) 6 then repeats ends es else []
 
 -- ---- the RST of a cut
 
-abbrev pub rst : Ends → ℕ → ℕ → ℕ → PacketOf
+abbrev pub rst : Ends → ℕ → ℕ → ℕ → PacketValue
 rst ends number ack flags = record { source = ends.own; dest = ends.peer; seq = number; ack = ack; flags = flags; window = 0; mss = None; text = [] }
 
 -- before a SYN ACK went out it answers the peer's SYN, and before one came it takes back the own SYN
-abbrev pub cut_by : Ends → List LegEvent → ℕ → ℕ → Role → PacketOf
+abbrev pub cut_by : Ends → List LegEvent → ℕ → ℕ → Role → PacketValue
 cut_by ends es from count (role.Active own) =
     if opened ends.role es then rst ends (sequence_number own from) (sequence_number (peer_number ends.role es) count) 20
     else rst ends (sequence_number own 0) 0 4
@@ -133,7 +133,7 @@ cut_by ends es from count (role.Passive other mss) =
     else rst ends 0 (sequence_number other 0) 20
 
 -- it tells the letters taken, those of the event included
-pub record Cuts (ends : Ends) (es : List LegEvent) (e : LegEvent) (p : PacketOf) : Type 0 where
+pub record Cuts (ends : Ends) (es : List LegEvent) (e : LegEvent) (p : PacketValue) : Type 0 where
   pub taken : Stream
   pub is_taken : IsTaken (first_copy (offers ends.role (e ∷ es))) taken
   pub rst : p ≡ cut_by ends (e ∷ es) (letters_sent_at ends.role es e) (letter_count taken) ends.role
@@ -141,11 +141,11 @@ pub record Cuts (ends : Ends) (es : List LegEvent) (e : LegEvent) (p : PacketOf)
 -- ---- segments without letters
 
 -- how many letters some segments have, and how many of them have none
-abbrev pub letters_of_all : List PacketOf → ℕ
+abbrev pub letters_of_all : List PacketValue → ℕ
 letters_of_all [] = 0
 letters_of_all (p ∷ ps) = letters_of p + letters_of_all ps
 
-abbrev pub empties : List PacketOf → ℕ
+abbrev pub empties : List PacketValue → ℕ
 empties [] = 0
 empties (p ∷ ps) = (if letters_of p == 0 then 1 else 0) + empties ps
 

@@ -1,7 +1,7 @@
 -- What a packet is to a TCP end. RFC 9293, section 3.10.7, and RFC 5961, sections 3 to 5, whose challenge ACKs also answer
 -- segments that RFC 9293 would drop; where the two leave a choice, the rule is this project's own.
 use Rattle.std.specs.Prelude.{ℕ, ◌+◌, ◌==◌, max, nat_lt, not, Bool, true, false, ◌&&◌, ◌||◌, if◌then◌else◌, List, [], ◌∷◌, ℤ, pos, ◌+ℤ◌, int_lt, int_le}
-use Rattle.cf_packet.specs.Packet.{PacketOf}
+use Rattle.cf_packet.specs.Packet.{PacketValue}
 use Rattle.cf_stream.specs.FirstCopy.{Offer}
 use Rattle.cf_stream.specs.Position.{sequence_number, position, natural}
 use Rattle.cf_stream.specs.Stream.{Stream}
@@ -16,10 +16,10 @@ use Rattle.cf_leg.specs.declared.ends.LegAnswer.{LegAnswer}
 use Rattle.cf_leg.specs.declared.ends.LegAnswer.TheVariants as answer
 
 -- where a packet's letters begin, and up to where it acknowledges
-abbrev pub text_place : EndState → PacketOf → ℤ
+abbrev pub text_place : EndState → PacketValue → ℤ
 text_place at p = position p.seq at.other at.told.base
 
-abbrev pub ack_place : EndState → PacketOf → ℤ
+abbrev pub ack_place : EndState → PacketValue → ℤ
 ack_place at p = position p.ack at.own at.sent
 
 -- n letters from a place on are in reach: one of them lies in the window; or there is none, and the place is one from
@@ -29,25 +29,25 @@ in_reach t at n =
     if n == 0 then int_le (pos t.base) at && int_le at (pos t.edge)
     else nat_lt t.base t.edge && (int_lt at (pos t.edge) && int_lt (pos t.base) (at +ℤ pos n))
 
-abbrev pub is_in_reach : EndState → PacketOf → Bool
+abbrev pub is_in_reach : EndState → PacketValue → Bool
 is_in_reach at p = in_reach at.told (text_place at p) (letters_of p)
 
 abbrev pub is_at : ℤ → ℕ → Bool
 is_at z n = int_le z (pos n) && int_le (pos n) z
 
 -- the packet opens a leg that is not open
-abbrev pub opens_as : Role → EndState → PacketOf → Bool
+abbrev pub opens_as : Role → EndState → PacketValue → Bool
 opens_as (role.Active own) at p = answers_syn at.own p
 opens_as (role.Passive other mss) at p =
     has_ack p && (not (has_syn p || has_rst p) && (is_in_reach at p && is_at (ack_place at p) 0))
 
 -- an RST ends a leg that is not open
-abbrev pub resets_as : Role → EndState → PacketOf → Bool
+abbrev pub resets_as : Role → EndState → PacketValue → Bool
 resets_as (role.Active own) at p = at.is_greeted && (has_ack p && (p.ack == sequence_number at.own 0))
 resets_as (role.Passive other mss) at p = p.seq == sequence_number at.other 0
 
 -- a packet on a leg that is not open
-abbrev pub first_answer : EndState → PacketOf → LegAnswer
+abbrev pub first_answer : EndState → PacketValue → LegAnswer
 first_answer at p =
     if has_rst p then (if resets_as at.role at p then answer.Reset else answer.Ignored)
     else if at.is_greeted && opens_as at.role at p then answer.Opened
@@ -61,7 +61,7 @@ reset_answer t at =
     else answer.Ignored
 
 -- a packet on an open leg
-abbrev pub open_answer : EndState → PacketOf → LegAnswer
+abbrev pub open_answer : EndState → PacketValue → LegAnswer
 open_answer at p =
     if has_rst p then reset_answer at.told (text_place at p)
     else if has_syn p then answer.Challenged
@@ -70,7 +70,7 @@ open_answer at p =
     else if int_lt (pos at.sent) (ack_place at p) then answer.Challenged
     else answer.Counted
 
-abbrev pub answer_to : EndState → PacketOf → LegAnswer
+abbrev pub answer_to : EndState → PacketValue → LegAnswer
 answer_to at p = if at.is_open then open_answer at p else first_answer at p
 
 abbrev pub is_opening : LegAnswer → Bool
@@ -84,15 +84,15 @@ opens at _ = false
 
 -- a segment counts: it has ACK and neither SYN nor RST, is in reach, and acknowledges nothing that was not sent. That
 -- which opens a passive leg counts; a SYN ACK does not
-abbrev pub counts_open : EndState → PacketOf → Bool
+abbrev pub counts_open : EndState → PacketValue → Bool
 counts_open at p =
     (has_ack p && not (has_syn p || has_rst p)) && (is_in_reach at p && int_le (ack_place at p) (pos at.sent))
 
-abbrev pub counts_first : Role → EndState → PacketOf → Bool
+abbrev pub counts_first : Role → EndState → PacketValue → Bool
 counts_first (role.Active own) at p = false
 counts_first (role.Passive other mss) at p = is_opening (first_answer at p)
 
-abbrev pub counts : EndState → PacketOf → Bool
+abbrev pub counts : EndState → PacketValue → Bool
 counts at p = if at.is_open then counts_open at p else counts_first at.role at p
 
 -- the packet counts, by its answer
@@ -106,7 +106,7 @@ counts_as r answer.Reset = false
 
 -- an acknowledgment is owed to the packet: to a SYN ACK that opens, to one that draws nothing else, and to one that
 -- counts and has text or FIN
-abbrev pub owes_for : Role → PacketOf → LegAnswer → Bool
+abbrev pub owes_for : Role → PacketValue → LegAnswer → Bool
 owes_for r p answer.Counted = not (letters_of p == 0)
 owes_for (role.Active own) p answer.Opened = true
 owes_for (role.Passive other mss) p answer.Opened = not (letters_of p == 0)

@@ -1,7 +1,7 @@
 -- What all segments of an end carry, taken together. The main definition is `IsOneStream`, read from the end.
 use Rattle.std.specs.Prelude.{ℕ, ◌^◌, ◌≤◌, List, [], ◌∷◌, Option, None}
 use Rattle.std.specs.Option.{option_or}
-use Rattle.cf_packet.specs.Packet.{PacketOf}
+use Rattle.cf_packet.specs.Packet.{PacketValue}
 use Rattle.cf_stream.specs.Position.{position}
 use Rattle.cf_stream.specs.Stream.{Stream, Letter, Carries, Extends, letter_count, letter_from}
 use Rattle.cf_leg.specs.Emits.{AllRight}
@@ -12,11 +12,11 @@ use Rattle.cf_leg.specs.declared.ends.Ends.{Ends}
 use Rattle.cf_leg.specs.declared.ends.Role.{Role}
 
 -- the letter of a segment at a place. Its sequence number is read near the number of letters sent before it
-abbrev pub letter_in : ℕ → ℕ → PacketOf → ℕ → Option Letter
+abbrev pub letter_in : ℕ → ℕ → PacketValue → ℕ → Option Letter
 letter_in own sent p place = letter_from (position p.seq own sent) (letters_in p) place
 
 -- each segment carries the letters of a stream at its places
-abbrev pub CarryAll : Stream → ℕ → ℕ → List PacketOf → Type 0
+abbrev pub CarryAll : Stream → ℕ → ℕ → List PacketValue → Type 0
 CarryAll whole own sent [] = Unit {0}
 CarryAll whole own sent (p ∷ ps) =
     Carries whole (position p.seq own sent) (letters_in p) × CarryAll whole own (letters_sent_by own sent p) ps
@@ -29,7 +29,7 @@ IsOneStream whole r (e ∷ es) =
     × IsOneStream whole r es
 
 -- the letter at a place in the first of the segments that carries one there
-abbrev pub first_in : ℕ → ℕ → List PacketOf → ℕ → Option Letter
+abbrev pub first_in : ℕ → ℕ → List PacketValue → ℕ → Option Letter
 first_in own sent [] place = None
 first_in own sent (p ∷ ps) place =
     option_or (letter_in own sent p place) (first_in own (letters_sent_by own sent p) ps place)

@@ -1,7 +1,7 @@
 -- What the peer of an end was told and sent, read from the segments that went out.
 use Rattle.std.specs.Prelude.{ℕ, ◌+◌, ◌==◌, max, not, Bool, ◌&&◌, if◌then◌else◌, List, [], ◌∷◌, Option, Some, None, pos, ◌+ℤ◌}
 use Rattle.std.specs.Option.{option_or, is_some}
-use Rattle.cf_packet.specs.Packet.{PacketOf}
+use Rattle.cf_packet.specs.Packet.{PacketValue}
 use Rattle.cf_stream.specs.Position.{sequence_number, position, natural}
 use Rattle.cf_leg.specs.Event.{Came, Nothing, Greeting, Packet, LegEvent, sent_in}
 use Rattle.cf_leg.specs.Segment.{has_syn, has_rst, has_ack, letters_of}
@@ -10,31 +10,31 @@ use Rattle.cf_leg.specs.declared.ends.Role.{Role}
 use Rattle.cf_leg.specs.declared.ends.Role.TheVariants as role
 
 -- the SYN or the SYN ACK that the end sent
-abbrev pub greeting_in : Came → Option PacketOf
+abbrev pub greeting_in : Came → Option PacketValue
 greeting_in (Greeting p) = Some p
 greeting_in _ = None
 
-abbrev pub greeting : List LegEvent → Option PacketOf
+abbrev pub greeting : List LegEvent → Option PacketValue
 greeting [] = None
 greeting (e ∷ es) = option_or (greeting es) (greeting_in e.came)
 
 abbrev pub is_greeted : List LegEvent → Bool
 is_greeted es = is_some (greeting es)
 
-abbrev pub seq_of : Option PacketOf → ℕ
+abbrev pub seq_of : Option PacketValue → ℕ
 seq_of None = 0
 seq_of (Some p) = p.seq
 
 -- the packet is a SYN ACK for the SYN with a sequence number
-abbrev pub answers_syn : ℕ → PacketOf → Bool
+abbrev pub answers_syn : ℕ → PacketValue → Bool
 answers_syn own p = (has_syn p && has_ack p) && (not (has_rst p) && (p.ack == sequence_number own 0))
 
 -- the SYN ACK that opened an end that had sent a SYN with a sequence number
-abbrev pub syn_ack_in : ℕ → Bool → Came → Option PacketOf
+abbrev pub syn_ack_in : ℕ → Bool → Came → Option PacketValue
 syn_ack_in own greeted (Packet p) = if greeted && answers_syn own p then Some p else None
 syn_ack_in own greeted _ = None
 
-abbrev pub syn_ack : ℕ → List LegEvent → Option PacketOf
+abbrev pub syn_ack : ℕ → List LegEvent → Option PacketValue
 syn_ack own [] = None
 syn_ack own (e ∷ es) = option_or (syn_ack own es) (syn_ack_in own (is_greeted es) e.came)
 
@@ -48,13 +48,13 @@ peer_number (role.Active own) es = seq_of (syn_ack own es)
 peer_number (role.Passive other mss) es = other
 
 -- the base and the edge told after a segment: it tells them where it has ACK and not RST
-abbrev pub told_by : ℕ → Told → PacketOf → Told
+abbrev pub told_by : ℕ → Told → PacketValue → Told
 told_by other t p =
     if has_ack p && not (has_rst p) then
     (let base = natural (position p.ack other t.base) in record { base = base; edge = base + p.window })
     else t
 
-abbrev pub told_by_all : ℕ → Told → List PacketOf → Told
+abbrev pub told_by_all : ℕ → Told → List PacketValue → Told
 told_by_all other t [] = t
 told_by_all other t (p ∷ ps) = told_by_all other (told_by other t p) ps
 
@@ -64,12 +64,12 @@ told r (e ∷ es) =
     told_by_all (peer_number r (e ∷ es)) (told_by_all (peer_number r es) (told r es) e.fired) (sent_in e)
 
 -- how many places segments have sent: a segment with letters carries those up to its last one
-abbrev pub letters_sent_by : ℕ → ℕ → PacketOf → ℕ
+abbrev pub letters_sent_by : ℕ → ℕ → PacketValue → ℕ
 letters_sent_by own before p =
     if letters_of p == 0 then before
     else max before (natural (position p.seq own before +ℤ pos (letters_of p)))
 
-abbrev pub letters_sent_by_all : ℕ → ℕ → List PacketOf → ℕ
+abbrev pub letters_sent_by_all : ℕ → ℕ → List PacketValue → ℕ
 letters_sent_by_all own before [] = before
 letters_sent_by_all own before (p ∷ ps) = letters_sent_by_all own (letters_sent_by own before p) ps
 

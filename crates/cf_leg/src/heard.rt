@@ -1,6 +1,6 @@
 //! What a packet is to a TCP end.
 ghost use Rattle.std.specs.Prelude.{◌≡◌, ◌+◌, ◌-◌, ◌*◌, ◌^◌, ◌<◌, ◌≤◌, ◌==◌, max, not, nat_lt, ◌&&◌, if◌then◌else◌, length, pos, negsuc, ◌+ℤ◌, ◌≤ℤ◌, int_le, int_lt};
-ghost use Rattle.cf_packet.specs.Packet.{packet_seen};
+ghost use Rattle.cf_packet.specs.Packet.{packet_value};
 ghost use Rattle.cf_stream.specs.Position.{natural, position, sequence_number};
 ghost use Rattle.cf_leg.specs.Heard.{ack_place, answer_to, counts_as, first_answer, in_reach, is_at, is_in_reach, is_opening, open_answer, opens_as, owes_for, reset_answer, resets_as, text_place};
 ghost use Rattle.cf_leg.specs.Segment.{has_ack, has_fin, has_rst, has_syn, letters_of};
@@ -10,25 +10,25 @@ use crate::ends::{EndState, LegAnswer, Role, Told};
 use cf_packet::{ACK, Packet, RST, SYN, sequence_number};
 
 pub(crate) fn has_fin(packet: &Packet<'_>) -> bool
-    ensures { result ≡ has_fin (packet_seen packet.now) }
+    ensures { result ≡ has_fin (packet_value packet.now) }
 {
     packet.flags % 2 == 1
 }
 
 fn has_syn(packet: &Packet<'_>) -> bool
-    ensures { result ≡ has_syn (packet_seen packet.now) }
+    ensures { result ≡ has_syn (packet_value packet.now) }
 {
     packet.flags / SYN % 2 == 1
 }
 
 fn has_rst(packet: &Packet<'_>) -> bool
-    ensures { result ≡ has_rst (packet_seen packet.now) }
+    ensures { result ≡ has_rst (packet_value packet.now) }
 {
     packet.flags / RST % 2 == 1
 }
 
 fn has_ack(packet: &Packet<'_>) -> bool
-    ensures { result ≡ has_ack (packet_seen packet.now) }
+    ensures { result ≡ has_ack (packet_value packet.now) }
 {
     packet.flags / ACK % 2 == 1
 }
@@ -46,7 +46,7 @@ pub(crate) fn place_of(number: u32, origin: u32, base: u64) -> i64
 /// How many letters a packet has.
 pub(crate) fn letters_of(packet: &Packet<'_>) -> u64
     requires { length packet.now.text.now ≤ 65535 }
-    ensures value { result ≡ letters_of (packet_seen packet.now) }
+    ensures value { result ≡ letters_of (packet_value packet.now) }
     ensures small { result ≤ 65536 }
 {
     packet.text.len() as u64 + u64::from(has_fin(packet))
@@ -70,7 +70,7 @@ fn in_reach(told: Told, at: i64, count: u64) -> bool
 fn is_in_reach(at: &EndState, packet: &Packet<'_>) -> bool
     requires told { (at.now.told.base ≤ 2 ^ 31) × (at.now.told.edge ≤ 2 ^ 31) }
     requires text { length packet.now.text.now ≤ 65535 }
-    ensures { result ≡ is_in_reach at.now (packet_seen packet.now) }
+    ensures { result ≡ is_in_reach at.now (packet_value packet.now) }
 {
     in_reach(at.told, text_place(at, packet), letters_of(packet))
 }
@@ -78,7 +78,7 @@ fn is_in_reach(at: &EndState, packet: &Packet<'_>) -> bool
 /// Where the letters of a packet begin.
 pub(crate) fn text_place(at: &EndState, packet: &Packet<'_>) -> i64
     requires { at.now.told.base ≤ 2 ^ 31 }
-    ensures value { result ≡ text_place at.now (packet_seen packet.now) }
+    ensures value { result ≡ text_place at.now (packet_value packet.now) }
     ensures from { negsuc (2 ^ 31 - 1) ≤ℤ result }
     ensures to { result ≤ℤ pos (2 ^ 32) }
 {
@@ -88,7 +88,7 @@ pub(crate) fn text_place(at: &EndState, packet: &Packet<'_>) -> i64
 /// Up to where a packet acknowledges.
 pub(crate) fn ack_place(at: &EndState, packet: &Packet<'_>) -> i64
     requires { at.now.sent ≤ 2 ^ 31 }
-    ensures value { result ≡ ack_place at.now (packet_seen packet.now) }
+    ensures value { result ≡ ack_place at.now (packet_value packet.now) }
     ensures from { negsuc (2 ^ 31 - 1) ≤ℤ result }
     ensures to { result ≤ℤ pos (2 ^ 32) }
 {
@@ -97,7 +97,7 @@ pub(crate) fn ack_place(at: &EndState, packet: &Packet<'_>) -> i64
 
 /// The packet is a SYN ACK for the SYN with that sequence number.
 fn answers_syn(own: u32, packet: &Packet<'_>) -> bool
-    ensures { result ≡ answers_syn own (packet_seen packet.now) }
+    ensures { result ≡ answers_syn own (packet_value packet.now) }
 {
     has_syn(packet) && has_ack(packet) && !has_rst(packet) && packet.ack == sequence_number(own, 0)
 }
@@ -106,7 +106,7 @@ fn opens(at: &EndState, packet: &Packet<'_>) -> bool
     requires told { (at.now.told.base ≤ 2 ^ 31) × (at.now.told.edge ≤ 2 ^ 31) }
     requires sent { at.now.sent ≤ 2 ^ 31 }
     requires text { length packet.now.text.now ≤ 65535 }
-    ensures { result ≡ opens_as at.now.role at.now (packet_seen packet.now) }
+    ensures { result ≡ opens_as at.now.role at.now (packet_value packet.now) }
 {
     match at.role {
         Role::Active(_) => answers_syn(at.own, packet),
@@ -120,7 +120,7 @@ fn opens(at: &EndState, packet: &Packet<'_>) -> bool
 }
 
 fn resets(at: &EndState, packet: &Packet<'_>) -> bool
-    ensures { result ≡ resets_as at.now.role at.now (packet_seen packet.now) }
+    ensures { result ≡ resets_as at.now.role at.now (packet_value packet.now) }
 {
     match at.role {
         Role::Active(_) => at.is_greeted
@@ -135,7 +135,7 @@ fn first_answer(at: &EndState, packet: &Packet<'_>) -> LegAnswer
     requires told { (at.now.told.base ≤ 2 ^ 31) × (at.now.told.edge ≤ 2 ^ 31) }
     requires sent { at.now.sent ≤ 2 ^ 31 }
     requires text { length packet.now.text.now ≤ 65535 }
-    ensures { result ≡ first_answer at.now (packet_seen packet.now) }
+    ensures { result ≡ first_answer at.now (packet_value packet.now) }
 {
     if has_rst(packet) {
         if resets(at, packet) {
@@ -169,7 +169,7 @@ fn reset_answer(told: Told, at: i64) -> LegAnswer
 /// Whether a packet acknowledges what was not sent.
 fn is_past(at: &EndState, packet: &Packet<'_>) -> bool
     requires { at.now.sent ≤ 2 ^ 31 }
-    ensures { result ≡ int_lt (pos at.now.sent) (ack_place at.now (packet_seen packet.now)) }
+    ensures { result ≡ int_lt (pos at.now.sent) (ack_place at.now (packet_value packet.now)) }
 {
     let sent = at.sent as i64;
     sent < ack_place(at, packet)
@@ -180,7 +180,7 @@ fn open_answer(at: &EndState, packet: &Packet<'_>) -> LegAnswer
     requires told { (at.now.told.base ≤ 2 ^ 31) × (at.now.told.edge ≤ 2 ^ 31) }
     requires sent { at.now.sent ≤ 2 ^ 31 }
     requires text { length packet.now.text.now ≤ 65535 }
-    ensures { result ≡ open_answer at.now (packet_seen packet.now) }
+    ensures { result ≡ open_answer at.now (packet_value packet.now) }
 {
     if has_rst(packet) {
         reset_answer(at.told, text_place(at, packet))
@@ -200,7 +200,7 @@ pub(crate) fn answer_to(at: &EndState, packet: &Packet<'_>) -> LegAnswer
     requires told { (at.now.told.base ≤ 2 ^ 31) × (at.now.told.edge ≤ 2 ^ 31) }
     requires sent { at.now.sent ≤ 2 ^ 31 }
     requires text { length packet.now.text.now ≤ 65535 }
-    ensures { result ≡ answer_to at.now (packet_seen packet.now) }
+    ensures { result ≡ answer_to at.now (packet_value packet.now) }
 {
     if at.is_open {
         open_answer(at, packet)
@@ -212,7 +212,7 @@ pub(crate) fn answer_to(at: &EndState, packet: &Packet<'_>) -> LegAnswer
 /// Whether an acknowledgment is owed to a packet with that answer.
 pub(crate) fn owes(role: Role, packet: &Packet<'_>, answer: LegAnswer) -> bool
     requires { length packet.now.text.now ≤ 65535 }
-    ensures { result ≡ owes_for role (packet_seen packet.now) answer }
+    ensures { result ≡ owes_for role (packet_value packet.now) answer }
 {
     match answer {
         LegAnswer::Counted => letters_of(packet) > 0,

@@ -2,7 +2,7 @@
 ghost use Rattle.std.specs.Prelude.{◌≡◌, ℕ, ◌+◌, ◌^◌, ◌<◌, ◌≤◌, ◌==◌, min, max, ◌&&◌, ◌||◌, if◌then◌else◌, true, Bool, List, ◌∷◌, Some};
 ghost use Rattle.cf_outq.specs.SendQueue.{Queue};
 ghost use Rattle.cf_outq.specs.SendQueue.{IsQueueOf};
-ghost use Rattle.cf_packet.specs.Packet.{PacketOf};
+ghost use Rattle.cf_packet.specs.Packet.{PacketValue};
 ghost use Rattle.cf_stream.specs.Stream.{Stream, Letter, Extends, letter_at, letter_count};
 ghost use Rattle.cf_leg.specs.Emits.{AllRight, IsRight, Pieces, differs, empties, letters_of_all, to_tell};
 ghost use Rattle.cf_leg.specs.Asked.{AllAsked};
@@ -22,8 +22,8 @@ ghost use Rattle.cf_leg.specs.declared.ends.Way.{Way};
 
 /// Segments that carry what was not sent are read as that, and as telling one base and edge.
 pub fn pieces_are_read()
-    ensures told { (way : Way) (t b : Told) (whole : Stream) (mss edge from : ℕ) (outs : List PacketOf) → t.base ≤ t.edge → b.base ≤ t.base → t.base < b.base + 2 ^ 31 → from < min edge (letter_count whole) → Pieces way t whole mss edge from outs → told_by_all way.other b outs ≡ t }
-    ensures carried { (way : Way) (t : Told) (whole : Stream) (mss edge from : ℕ) (outs : List PacketOf) → t.base ≤ t.edge → Pieces way t whole mss edge from outs → letters_sent_by_all way.own from outs ≡ max from (min edge (letter_count whole)) }
+    ensures told { (way : Way) (t b : Told) (whole : Stream) (mss edge from : ℕ) (outs : List PacketValue) → t.base ≤ t.edge → b.base ≤ t.base → t.base < b.base + 2 ^ 31 → from < min edge (letter_count whole) → Pieces way t whole mss edge from outs → told_by_all way.other b outs ≡ t }
+    ensures carried { (way : Way) (t : Told) (whole : Stream) (mss edge from : ℕ) (outs : List PacketValue) → t.base ≤ t.edge → Pieces way t whole mss edge from outs → letters_sent_by_all way.own from outs ≡ max from (min edge (letter_count whole)) }
 {}
 
 /// A leg that is open has greeted its peer.
@@ -48,11 +48,11 @@ pub fn base_counts_the_taken()
 
 /// What a leg sends is fixed by the events before, what came, the list of its queue and whether there is room.
 pub fn sends_are_fixed()
-    ensures fired { (ends : Ends) (es : List LegEvent) (e : LegEvent) (fired : List PacketOf) (n : Ending) → IsRight ends es e → IsRight ends es (record e { fired = fired; ending = n }) → fired ≡ e.fired }
-    ensures speech { (ends : Ends) (es : List LegEvent) (e : LegEvent) (whole : Stream) (roomy : Bool) (xs ys : List PacketOf) → IsRight ends es (spoke e whole roomy xs) → IsRight ends es (spoke e whole roomy ys) → xs ≡ ys }
+    ensures fired { (ends : Ends) (es : List LegEvent) (e : LegEvent) (fired : List PacketValue) (n : Ending) → IsRight ends es e → IsRight ends es (record e { fired = fired; ending = n }) → fired ≡ e.fired }
+    ensures speech { (ends : Ends) (es : List LegEvent) (e : LegEvent) (whole : Stream) (roomy : Bool) (xs ys : List PacketValue) → IsRight ends es (spoke e whole roomy xs) → IsRight ends es (spoke e whole roomy ys) → xs ≡ ys }
 {}
 
 /// After a speech of an open leg the letters sent are those of its queue's list below the greatest edge shown.
 pub fn speeches_reach()
-    ensures { (leg : LegValue) (q : Queue) (e : LegEvent) (es : List LegEvent) (whole : Stream) (roomy : Bool) (outs : List PacketOf) → IsLegOf leg (marks q) (spoke e whole roomy outs ∷ es) → IsQueueOf q whole → opened leg.ends.role (spoke e whole roomy outs ∷ es) ≡ true → letters_sent leg.ends.role (spoke e whole roomy outs ∷ es) ≡ min (shown leg.ends.role (spoke e whole roomy outs ∷ es)) (letter_count whole) }
+    ensures { (leg : LegValue) (q : Queue) (e : LegEvent) (es : List LegEvent) (whole : Stream) (roomy : Bool) (outs : List PacketValue) → IsLegOf leg (marks q) (spoke e whole roomy outs ∷ es) → IsQueueOf q whole → opened leg.ends.role (spoke e whole roomy outs ∷ es) ≡ true → letters_sent leg.ends.role (spoke e whole roomy outs ∷ es) ≡ min (shown leg.ends.role (spoke e whole roomy outs ∷ es)) (letter_count whole) }
 {}

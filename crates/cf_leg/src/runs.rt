@@ -2,7 +2,7 @@
 ghost use Rattle.std.specs.Prelude.{◌≡◌, ℕ, ◌+◌, ◌^◌, ◌<◌, ◌≤◌, ◌==◌, min, max, ◌&&◌, ◌||◌, if◌then◌else◌, true, Bool, List, ◌∷◌, Some};
 ghost use Rattle.cf_outq.specs.SendQueue.{Queue};
 ghost use Rattle.cf_outq.specs.SendQueue.{IsQueueOf};
-ghost use Rattle.cf_packet.specs.Packet.{PacketOf};
+ghost use Rattle.cf_packet.specs.Packet.{PacketValue};
 ghost use Rattle.cf_stream.specs.Stream.{Stream, Letter, Extends, letter_at, letter_count};
 ghost use Rattle.cf_leg.specs.Emits.{AllRight, IsRight, Pieces, differs, empties, letters_of_all, to_tell};
 ghost use Rattle.cf_leg.specs.Asked.{AllAsked};
@@ -42,7 +42,7 @@ pub fn nothing_passes_the_edge()
 /// A speech of an open end has one segment without letters where it has no letter and one is owed, or the base or the edge
 /// to be told differs from that told; and none elsewhere.
 pub fn one_empty_segment_where_owed()
-    ensures { (ends : Ends) (es : List LegEvent) (e : LegEvent) (whole : Stream) (roomy : Bool) (outs : List PacketOf) (taken : Stream) → IsRight ends es (spoke e whole roomy outs) → opened ends.role (spoke e whole roomy outs ∷ es) ≡ true → IsTaken (first_copy (offers ends.role (spoke e whole roomy outs ∷ es))) taken → empties outs ≡ (if (letters_of_all outs == 0) && (owed ends.role es e || differs (told_at ends.role es e) (to_tell (told_at ends.role es e) (letter_count taken) roomy)) then 1 else 0) }
+    ensures { (ends : Ends) (es : List LegEvent) (e : LegEvent) (whole : Stream) (roomy : Bool) (outs : List PacketValue) (taken : Stream) → IsRight ends es (spoke e whole roomy outs) → opened ends.role (spoke e whole roomy outs ∷ es) ≡ true → IsTaken (first_copy (offers ends.role (spoke e whole roomy outs ∷ es))) taken → empties outs ≡ (if (letters_of_all outs == 0) && (owed ends.role es e || differs (told_at ends.role es e) (to_tell (told_at ends.role es e) (letter_count taken) roomy)) then 1 else 0) }
 {}
 
 /// What must be sent is a function of the events so far: two lists of right events in which the same is asked are one.

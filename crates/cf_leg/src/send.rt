@@ -4,7 +4,7 @@ ghost use Rattle.cf_outside.specs.Desk.{DeskValue, KeepsDesk};
 ghost use Rattle.cf_outside.specs.Faults.{HasCause};
 ghost use Rattle.cf_outq.specs.SendQueue.{IsQueue, IsUnacked, carried, queue_length};
 ghost use Rattle.cf_outq.specs.SendQueue.{IsQueueOf};
-ghost use Rattle.cf_packet.specs.Packet.{PacketOf, packet_seen};
+ghost use Rattle.cf_packet.specs.Packet.{PacketValue, packet_value};
 ghost use Rattle.cf_packet.specs.Written.{IsWritable};
 ghost use Rattle.cf_stream.specs.Position.{natural, sequence_number};
 ghost use Rattle.cf_stream.specs.Stream.{Stream, letter_count, no_letters};
@@ -25,8 +25,8 @@ use cf_view::WriteFault;
 pub(crate) fn send<D: Desk>(desk: &mut D, now: u64, packet: &Packet<'_>) -> Result<(), WriteFault>
     requires whole { DeskValue.whole (D.value desk.old) ≡ true }
     requires moment { now < 2 ^ 32 * 1000000 }
-    requires writable { IsWritable (packet_seen packet.now) }
-    ensures packets { OnOk result (DeskValue.packets (D.value desk.new) ≡ with_segment (DeskValue.packets (D.value desk.old)) now (packet_seen packet.now)) }
+    requires writable { IsWritable (packet_value packet.now) }
+    ensures packets { OnOk result (DeskValue.packets (D.value desk.new) ≡ with_segment (DeskValue.packets (D.value desk.old)) now (packet_value packet.now)) }
     ensures lines { DeskValue.lines (D.value desk.new) ≡ DeskValue.lines (D.value desk.old) }
     ensures keeps { KeepsDesk (D.value desk.old) (D.value desk.new) }
     ensures whole { OnOk result (DeskValue.whole (D.value desk.new) ≡ true) }
@@ -53,7 +53,7 @@ fn flags_with(text: &[u8], end: bool) -> u8
 /// The segment with a sequence number and these letters.
 fn segment<'a>(way: Way, told: Told, number: u32, text: &'a [u8], end: bool) -> Packet<'a>
     requires told { (told.base ≤ told.edge) × (told.edge - told.base < 65536) × (told.base ≤ 2 ^ 31) }
-    ensures { packet_seen result ≡ segment way told number (record { bytes = text.now; ended = end }) }
+    ensures { packet_value result ≡ segment way told number (record { bytes = text.now; ended = end }) }
 {
     Packet {
         source: way.source,

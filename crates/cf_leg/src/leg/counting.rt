@@ -3,7 +3,7 @@ ghost use Rattle.std.specs.Prelude.{◌≡◌, ℕ, ◌+◌, ◌-◌, ◌*◌, �
 ghost use Rattle.cf_outside.specs.Faults.{HasCause};
 ghost use Rattle.cf_outq.specs.SendQueue.{IsQueue, Queue, queue_length};
 ghost use Rattle.cf_outq.specs.SendQueue.{IsQueueOf};
-ghost use Rattle.cf_packet.specs.Packet.{PacketOf, packet_seen};
+ghost use Rattle.cf_packet.specs.Packet.{PacketValue, packet_value};
 ghost use Rattle.cf_rebuild.specs.ReceiveWindow.{Consumes, IsWindow, base_of};
 ghost use Rattle.cf_rebuild.specs.ReceiveWindow.{IsWindowOf};
 ghost use Rattle.cf_stream.specs.FirstCopy.{Offer};
@@ -58,9 +58,9 @@ impl Leg {
         requires text { length packet.now.text.now ≤ 65535 }
         requires told { at.now.told.base ≤ 2 ^ 31 }
         requires sent { at.now.sent ≤ 2 ^ 31 }
-        requires acked { counts ≡ true → ack_place at.now (packet_seen packet.now) ≤ℤ pos queue.old.sent }
+        requires acked { counts ≡ true → ack_place at.now (packet_value packet.now) ≤ℤ pos queue.old.sent }
         requires moment { now < 2 ^ 32 * 1000000 }
-        ensures counts { Counts counts at.now now (packet_seen packet.now) self.old self.new queue.old queue.new }
+        ensures counts { Counts counts at.now now (packet_value packet.now) self.old self.new queue.old queue.new }
         ensures window { Continues self.old.window self.new.window }
         ensures stands { (whole : Stream) → IsQueueOf queue.old whole → IsQueueOf queue.new whole }
     {
@@ -81,8 +81,8 @@ impl Leg {
         requires text { length packet.now.text.now ≤ 65535 }
         requires moment { now < 2 ^ 32 * 1000000 }
         ensures ends { self.new.ends ≡ self.old.ends }
-        ensures heard { Heard now (packet_seen packet.now) self.old self.new queue.old queue.new result }
-        ensures newly { Newly now (packet_seen packet.now) self.old self.new queue.old }
+        ensures heard { Heard now (packet_value packet.now) self.old self.new queue.old queue.new result }
+        ensures newly { Newly now (packet_value packet.now) self.old self.new queue.old }
         ensures window { Continues self.old.window self.new.window }
         ensures queue { KeepsList queue.old queue.new }
         ensures stands { (whole : Stream) → IsQueueOf queue.old whole → IsQueueOf queue.new whole }
@@ -114,7 +114,7 @@ fn rises(at: &EndState, packet: &Packet<'_>, acked: u64, shown: u64) -> bool
     requires sent { at.now.sent ≤ 2 ^ 31 }
     requires acked { acked < 2 ^ 33 }
     requires shown { shown < 2 ^ 33 }
-    ensures { result ≡ rises_by acked shown (ack_place at.now (packet_seen packet.now)) packet.now.window }
+    ensures { result ≡ rises_by acked shown (ack_place at.now (packet_value packet.now)) packet.now.window }
 {
     greatest(acked, ack_place(at, packet)) > acked || shown_after(at, packet, shown) > shown
 }
@@ -123,7 +123,7 @@ fn rises(at: &EndState, packet: &Packet<'_>, acked: u64, shown: u64) -> bool
 fn shown_after(at: &EndState, packet: &Packet<'_>, shown: u64) -> u64
     requires sent { at.now.sent ≤ 2 ^ 31 }
     requires shown { shown < 2 ^ 33 }
-    ensures value { result ≡ max shown (natural (ack_place at.now (packet_seen packet.now) +ℤ pos packet.now.window)) }
+    ensures value { result ≡ max shown (natural (ack_place at.now (packet_value packet.now) +ℤ pos packet.now.window)) }
     ensures small { result < 2 ^ 33 }
 {
     greatest(shown, edge_shown(ack_place(at, packet), packet.window))
@@ -142,8 +142,8 @@ fn edge_shown(ack: i64, window: u16) -> i64
 /// The peer has the letters below a place, and lets in a window from there on.
 fn acknowledge(at: &EndState, packet: &Packet<'_>, queue: &mut Outq)
     requires carried { at.now.sent ≤ 2 ^ 31 }
-    requires sent { ack_place at.now (packet_seen packet.now) ≤ℤ pos queue.old.sent }
-    ensures new { queue.new ≡ queue_counted true queue.old (ack_place at.now (packet_seen packet.now)) packet.now.window }
+    requires sent { ack_place at.now (packet_value packet.now) ≤ℤ pos queue.old.sent }
+    ensures new { queue.new ≡ queue_counted true queue.old (ack_place at.now (packet_value packet.now)) packet.now.window }
     ensures stands { (whole : Stream) → IsQueueOf queue.old whole → IsQueueOf queue.new whole }
 {
     queue.acked(ack_place(at, packet));
@@ -154,7 +154,7 @@ fn acknowledge(at: &EndState, packet: &Packet<'_>, queue: &mut Outq)
 fn offer(at: &EndState, packet: &Packet<'_>, window: &mut Rebuild)
     requires told { at.now.told.base ≤ 2 ^ 31 }
     requires text { length packet.now.text.now ≤ 65535 }
-    ensures stands { (os : List Offer) → IsWindowOf window.old os → IsWindowOf window.new (record { at = text_place at.now (packet_seen packet.now); text = letters_in (packet_seen packet.now); edge = window.old.edge } ∷ os) }
+    ensures stands { (os : List Offer) → IsWindowOf window.old os → IsWindowOf window.new (record { at = text_place at.now (packet_value packet.now); text = letters_in (packet_value packet.now); edge = window.old.edge } ∷ os) }
     ensures grows { base_of window.old ≤ base_of window.new }
     ensures edge { window.new.edge ≡ window.old.edge }
     ensures window { Continues window.old window.new }

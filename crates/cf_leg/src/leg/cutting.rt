@@ -3,7 +3,7 @@ ghost use Rattle.std.specs.Prelude.{◌≡◌, ℕ, ◌+◌, ◌-◌, ◌*◌, �
 ghost use Rattle.cf_outside.specs.Faults.{HasCause};
 ghost use Rattle.cf_outq.specs.SendQueue.{IsQueue, Queue, queue_length};
 ghost use Rattle.cf_outq.specs.SendQueue.{IsQueueOf};
-ghost use Rattle.cf_packet.specs.Packet.{PacketOf, packet_seen};
+ghost use Rattle.cf_packet.specs.Packet.{PacketValue, packet_value};
 ghost use Rattle.cf_rebuild.specs.ReceiveWindow.{Consumes, IsWindow, base_of};
 ghost use Rattle.cf_rebuild.specs.ReceiveWindow.{IsWindowOf};
 ghost use Rattle.cf_stream.specs.FirstCopy.{Offer};
@@ -84,7 +84,7 @@ impl Leg {
 
 /// An RST.
 fn rst<'a>(ends: Ends, seq: u32, ack: u32, flags: u8) -> Packet<'a>
-    ensures { packet_seen result ≡ rst ends seq ack flags }
+    ensures { packet_value result ≡ rst ends seq ack flags }
 {
     Packet {
         source: ends.own,

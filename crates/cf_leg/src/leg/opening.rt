@@ -3,7 +3,7 @@ ghost use Rattle.std.specs.Prelude.{◌≡◌, ℕ, ◌+◌, ◌-◌, ◌*◌, �
 ghost use Rattle.cf_outside.specs.Faults.{HasCause};
 ghost use Rattle.cf_outq.specs.SendQueue.{IsQueue, Queue, queue_length};
 ghost use Rattle.cf_outq.specs.SendQueue.{IsQueueOf};
-ghost use Rattle.cf_packet.specs.Packet.{PacketOf, packet_seen};
+ghost use Rattle.cf_packet.specs.Packet.{PacketValue, packet_value};
 ghost use Rattle.cf_rebuild.specs.ReceiveWindow.{Consumes, IsWindow, base_of};
 ghost use Rattle.cf_rebuild.specs.ReceiveWindow.{IsWindowOf};
 ghost use Rattle.cf_stream.specs.FirstCopy.{Offer};
@@ -95,8 +95,8 @@ impl Leg {
 
     /// The packet opened the leg, or did not. A SYN ACK tells the peer's number, its maximum segment size and an edge.
     pub(super) fn open_if(&mut self, opens: bool, packet: &Packet<'_>, queue: &mut Outq)
-        ensures new { self.new ≡ leg_opened opens self.old (packet_seen packet.now) }
-        ensures queue { queue.new ≡ queue_opened opens self.old.ends.role queue.old (packet_seen packet.now) }
+        ensures new { self.new ≡ leg_opened opens self.old (packet_value packet.now) }
+        ensures queue { queue.new ≡ queue_opened opens self.old.ends.role queue.old (packet_value packet.now) }
         ensures stands { (whole : Stream) → IsQueueOf queue.old whole → IsQueueOf queue.new whole }
     {
         if !opens {

@@ -1,5 +1,5 @@
 use Rattle.std.proofs.Common.{◌≡◌, ◌∙◌, ap, sym, cond, ◌&&◌, not, Bool, ℕ, List, [], ◌∷◌}
-use Rattle.cf_packet.specs.Packet.{PacketOf}
+use Rattle.cf_packet.specs.Packet.{PacketValue}
 use Rattle.cf_leg.specs.Emitted.{with_segments}
 use Rattle.cf_leg.specs.Segment.{segment}
 use Rattle.cf_stream.specs.Position.{natural, sequence_number}
