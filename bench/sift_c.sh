@@ -1,11 +1,10 @@
 #!/usr/bin/env bash
 # The instructions of `cmdwall sift` on a stream of admitted writes with 32 rules, beside those of a plain C filter that tests
-# the same and writes the same, both counted by valgrind's callgrind in the same run; and the resident memory of `sift` on a
-# longer stream. Ratios, and no promise. Words: the millions of octets to count on (4), and to measure memory on (100).
+# the same and writes the same, both counted by valgrind's callgrind in the same run, less those on an empty stream. A
+# ratio, and no promise. Word: the octets of the stream (60,000).
 set -eu
 top=$(cd "$(dirname "$0")/.." && pwd)
-counted=${1:-4}
-long=${2:-100}
+counted=${1:-60000}
 for tool in valgrind cc python3; do
     command -v "$tool" > /dev/null || { echo "$tool is missing here, and nothing was counted"; exit 0; }
 done
@@ -14,22 +13,19 @@ trap 'rm -rf "$work"' EXIT
 "$top/cmdwall" --version > /dev/null
 program=$top/crates/cmdwall/out/cmdwall
 
-python3 - "$work" "$counted" "$long" <<'PY'
+python3 - "$work" "$counted" <<'PY'
 import struct, sys
 
-work, counted, long = sys.argv[1], int(sys.argv[2]), int(sys.argv[3])
+work, counted = sys.argv[1], int(sys.argv[2])
 with open(f"{work}/policy", "w") as policy:
     policy.write('version = 1\n[[asset]]\nname = "pump"\naddress = "10.0.0.9"\nport = 502\nprotocol = "modbus"\nstation = 1\n')
     for rule in range(31):
         policy.write(f'[[asset.rule]]\nname = "r{rule}"\naction = "refuse"\ncodes = [6]\npoints = ["{100 * rule + 1000}..{100 * rule + 1049}"]\n')
     policy.write('[[asset.rule]]\nname = "set"\naction = "allow"\ncodes = [6, 16]\npoints = ["0..99"]\nvalues = ["0..500"]\n')
-for name, millions in (("stream", counted), ("long", long)):
-    block = b"".join(struct.pack(">HHHBBHH", k, 0, 6, 1, 6, k % 100, k % 500) for k in range(50_000))
-    with open(f"{work}/{name}", "wb") as stream:
-        written = 0
-        while written < millions * 1_000_000:
-            stream.write(block)
-            written += len(block)
+with open(f"{work}/stream", "wb") as stream:
+    for k in range(counted // 12):
+        stream.write(struct.pack(">HHHBBHH", k % 65_536, 0, 6, 1, 6, k % 100, k % 500))
+open(f"{work}/empty", "wb").close()
 PY
 
 cat > "$work/filter.c" <<'C'
@@ -100,20 +96,14 @@ cmp "$work/c_printed" "$work/printed"
 count() {
     valgrind --tool=callgrind --callgrind-out-file=/dev/null "$@" 2>&1 > /dev/null | sed -n 's/.*Collected : \([0-9]*\).*/\1/p'
 }
-ours=$(count "$program" sift "$work/policy" pump 10.0.0.5 "$work/stream" "$work/out" "$work/replies" "$work/log")
-plain=$(count "$work/filter" "$work/stream" "$work/c_out")
+sift() {
+    count "$program" sift "$work/policy" pump 10.0.0.5 "$1" "$work/out" "$work/replies" "$work/log"
+}
+ours=$(($(sift "$work/stream") - $(sift "$work/empty")))
+plain=$(($(count "$work/filter" "$work/stream" "$work/c_out") - $(count "$work/filter" "$work/empty" "$work/c_out")))
 size=$(stat -c %s "$work/stream")
 awk -v o="$ours" -v p="$plain" -v n="$size" 'BEGIN {
-    printf "sift %.1f instructions an octet\n", o / n
+    printf "sift %.1f instructions an octet of %d\n", o / n, n
     printf "C    %.1f instructions an octet\n", p / n
     printf "sift takes %.2f times the instructions of the C filter\n", o / p
 }'
-python3 - "$program" "$work" <<'PY'
-import os, resource, subprocess, sys
-
-program, work = sys.argv[1:]
-names = [f"{work}/{n}" for n in ("out", "replies", "log")]
-subprocess.run([program, "sift", f"{work}/policy", "pump", "10.0.0.5", f"{work}/long", *names], stdout=subprocess.DEVNULL, check=True)
-most = resource.getrusage(resource.RUSAGE_CHILDREN).ru_maxrss
-print(f"sift of {os.path.getsize(work + '/long'):,} octets holds at most {most / 1024:.1f} MB")
-PY
