@@ -7,8 +7,8 @@ ghost use Rattle.cf_policylang.specs.Keys.{refusal_text};
 use arrayvec::ArrayString;
 use cf_outside::{Sink, WriteAnswer};
 use cf_pcap::HeaderRefusal;
-use cf_policylang::PolicyRefusal;
-use cf_view::{push_number, push_u32};
+use cf_policylang::{PolicyRefusal, push_refusal};
+use cf_view::push_number;
 
 /// Work that was done.
 #[derive(Clone, Copy, PartialEq, Eq, Debug)]
@@ -143,13 +143,7 @@ fn policy_refused_text(refusal: &PolicyRefusal) -> EndText
 {
     let mut text = EndText::new();
     text.push_str("policy refused ");
-    push_number(&mut text, u64::from(refusal.number));
-    text.push_str(" ");
-    text.push_str(refusal.key.as_str());
-    text.push_str(" asset ");
-    push_u32(&mut text, refusal.asset);
-    text.push_str(" rule ");
-    push_u32(&mut text, refusal.rule);
+    push_refusal(&mut text, refusal);
     text.push_str("\n");
     text
 }

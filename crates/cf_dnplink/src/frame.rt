@@ -2,7 +2,7 @@
 ghost use Rattle.std.specs.Prelude.{◌≡◌, ℕ, ◌<◌, ◌≤◌, MatchOption, false, List, length, take, slice_index};
 ghost use Rattle.cf_view.specs.Framing.{Begins, IsPartial, BreaksAt, Frames, HasFront, framed_value, IsPrefixFree};
 ghost use Rattle.cf_view.specs.Octets.{IsOctets};
-ghost use Rattle.cf_view.specs.Units.{HasUnits};
+ghost use Rattle.cf_view.specs.Units.{HasUnits, IsUnitsThenBreak, IsUnitsThenRest};
 ghost use Rattle.cf_view.specs.Places.{IsRight};
 ghost use Rattle.cf_dnplink.specs.LinkFrame.{FrameValue, frame_value, SpellsFrame, frame_break};
 ghost use Rattle.cf_dnplink.specs.FramePlaces.{SpellsByPlaces, follows, size_of, block_start, block_end, checks, crc_octet};
@@ -53,10 +53,18 @@ pub fn no_frame_begins_another()
 {}
 
 /// A law: each list of octets begins with a frame, is a proper prefix of one, or breaks; so each is frames and then one of
-/// these. The call does nothing.
+/// these, in one way. The call does nothing.
 pub fn each_stream_has_frames()
     ensures front { (bytes : List ℕ) → IsOctets bytes → HasFront SpellsFrame bytes }
     ensures units { (bytes : List ℕ) → IsOctets bytes → HasUnits SpellsFrame bytes }
+    ensures one_rest { (frames others : List FrameValue) (bytes rest other : List ℕ)
+        → IsUnitsThenRest SpellsFrame frames bytes rest → IsUnitsThenRest SpellsFrame others bytes other
+        → (frames ≡ others) × (rest ≡ other) }
+    ensures one_break { (frames others : List FrameValue) (bytes : List ℕ) (place other : ℕ)
+        → IsUnitsThenBreak SpellsFrame frames bytes place → IsUnitsThenBreak SpellsFrame others bytes other
+        → (frames ≡ others) × (place ≡ other) }
+    ensures either { (frames others : List FrameValue) (bytes rest : List ℕ) (place : ℕ)
+        → IsUnitsThenRest SpellsFrame frames bytes rest → IsUnitsThenBreak SpellsFrame others bytes place → ⊥ }
 {}
 
 /// What `next_frame` answers, by places.

@@ -11,7 +11,7 @@ mod rules;
 
 pub use documents::{LONGEST_TEXT, read_policy};
 pub use numbers::address;
-pub use refusal::{Cause, Key, PolicyFault, PolicyRefusal};
+pub use refusal::{Cause, Key, PolicyFault, PolicyRefusal, push_refusal};
 
 #[cfg(test)]
 mod tests;

@@ -1,8 +1,11 @@
 //! Refusals of a policy's text, and their words.
-ghost use Rattle.std.specs.Prelude.{◌≡◌, codes};
-ghost use Rattle.cf_policylang.specs.Keys.{key_text, cause_number};
+ghost use Rattle.std.specs.Prelude.{◌≡◌, ◌+◌, ◌≤◌, ◌++◌, codes, length};
+ghost use Rattle.arrayvec.specs.ArrayString.{array_string_len};
+ghost use Rattle.cf_policylang.specs.Keys.{cause_number, key_text, refusal_text};
 ghost use Rattle.cf_policylang.specs.Tested.{refusal};
 
+use arrayvec::ArrayString;
+use cf_view::{push_u16, push_u32};
 use std::alloc::{AllocError, AllocFailed};
 use std::fmt;
 use thiserror::Error;
@@ -32,7 +35,8 @@ pub enum Key {
 impl Key {
     /// How the key is written in a policy, and `-` for no key.
     pub fn as_str(self) -> &'static str
-        ensures { result.now ≡ key_text self }
+        ensures name { result.now ≡ key_text self }
+        ensures short { length result.now ≤ 8 }
     {
         match self {
             Key::Nothing => "-",
@@ -119,14 +123,25 @@ impl fmt::Display for PolicyRefusal {
     ghost output = { λ r. Some (refusal_text r) };
 
     fn fmt<W: fmt::Write>(&self, f: &mut fmt::Formatter<W>) -> fmt::Result {
-        let PolicyRefusal {
-            number,
-            key,
-            asset,
-            rule,
-        } = *self;
-        write!(f, "{number} {key} asset {asset} rule {rule}")
+        let mut text = ArrayString::<64>::new();
+        push_refusal(&mut text, self);
+        f.write_str(text.as_str())
     }
+}
+
+/// Appends a refusal as it is printed: number, key, asset and rule, at most 64 octets.
+pub fn push_refusal<const N: usize>(out: &mut ArrayString<N>, refusal: &PolicyRefusal)
+    requires { array_string_len out.old + 64 ≤ N }
+    ensures bytes { out.new.bytes ≡ out.old.bytes ++ refusal_text refusal.now }
+    ensures short { array_string_len out.new ≤ array_string_len out.old + 64 }
+{
+    push_u16(out, u16::from(refusal.number));
+    out.push_str(" ");
+    out.push_str(refusal.key.as_str());
+    out.push_str(" asset ");
+    push_u32(out, refusal.asset);
+    out.push_str(" rule ");
+    push_u32(out, refusal.rule);
 }
 
 /// Why no policy was read.

@@ -3,4 +3,4 @@ use Rattle.toml.proofs.Views.{table_get}
 use Rattle.cf_policylang.proofs.fields.stated.Goals as goal
 
 pub returns : goal.returns
-returns c = rw (← c.as_str.ensures) (table_get c.get.result c.as_str.result.now c.args.table.now.entries c.get.ensures.value)
+returns c = rw (← c.as_str.ensures.name) (table_get c.get.result c.as_str.result.now c.args.table.now.entries c.get.ensures.value)
