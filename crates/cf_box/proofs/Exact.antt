@@ -1,6 +1,6 @@
 -- Causes that stand in the input, where it is told: no other status comes but those to which they yield.
 use Rattle.std.proofs.Common.{◌≡◌, ◌⊎◌, ℕ, List, Some, Result, Ok, Err, length, refl, sym, subst, ◌∙◌, ap, inl, inr, arith}
-use Rattle.cf_lane.specs.Filtered.{IsBrokenBy, Output}
+use Rattle.cf_filter.specs.Filtered.{IsBrokenBy, Output}
 use Rattle.cf_modbus.proofs.Framing.{prefix_free}
 use Rattle.cf_modbus.specs.Adu.{SpellsAdu}
 use Rattle.cf_policy.specs.declared.Asset.{Asset}

@@ -1,6 +1,6 @@
 -- What a status tells, from the answer that explains it.
 use Rattle.std.proofs.Common.{◌≡◌, ◌≢◌, ◌⊎◌, ℕ, List, Option, None, Some, Result, Ok, Err, sym, subst, ◌≤◌, ◌∙◌, ap, inl, inr, arith}
-use Rattle.cf_lane.proofs.FilterLaws.{passes_what_is_allowed}
+use Rattle.cf_filter.proofs.FilterLaws.{passes_what_is_allowed}
 use Rattle.cf_outside.specs.Faults.{Rose}
 use Rattle.cf_pcap.specs.Header.{header_of}
 use Rattle.cf_pcap.specs.declared.Header.{Header}

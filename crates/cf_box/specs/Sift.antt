@@ -1,6 +1,6 @@
 -- `sift POLICY ASSET CLIENT STREAM OUT REPLIES LOG`: the stored stream of one client is filtered.
 use Rattle.std.specs.Prelude.{◌≡◌, ◌≢◌, ◌<◌, ◌≤◌, ◌⊎◌, ℕ, List, [], ◌∷◌, Option, None, Some, Result, Ok, Err, length, if◌then◌else◌, option_and_then, option_map}
-use Rattle.cf_lane.specs.Filtered.{IsFiltered, IsBrokenBy, Output}
+use Rattle.cf_filter.specs.Filtered.{IsFiltered, IsBrokenBy, Output}
 use Rattle.cf_outside.specs.Faults.{Rose}
 use Rattle.cf_outside.specs.Files.{Content, holds, IsWhole, IsLongerThan}
 use Rattle.cf_outside.specs.declared.WholeFault.{WholeFault}

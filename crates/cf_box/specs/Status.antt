@@ -1,6 +1,6 @@
 -- What a status tells, each by itself.
 use Rattle.std.specs.Prelude.{◌≡◌, ◌⊎◌, ℕ, List, drop, Option, None, Some, Ok, Err}
-use Rattle.cf_lane.specs.Laws.{PassesWhatIsAllowed}
+use Rattle.cf_filter.specs.Laws.{PassesWhatIsAllowed}
 use Rattle.cf_outside.specs.Files.{holds, IsWhole, content_after_write}
 use Rattle.cf_pcap.specs.Header.{header_of}
 use Rattle.cf_pcap.specs.Capture.{FileEnd, AreRecords, at_place}

@@ -6,7 +6,7 @@ ghost use Rattle.cf_box.specs.Outputs.{AppendFails, AreCreated, CreationFails, E
 ghost use Rattle.cf_box.specs.Outside.{FilesNeverFall, PairValue, SinkValue, files_value, outside};
 ghost use Rattle.cf_box.specs.Sift.{AreApart, OutputsFail, SiftStream, sift_command, sift_names_of, sift_names_value, sift_of, sift_output_names, sift_outputs};
 ghost use Rattle.cf_box.specs.Words.{HasApartFiles, command_value};
-ghost use Rattle.cf_lane.specs.Filtered.{output_seen};
+ghost use Rattle.cf_filter.specs.Filtered.{output_seen};
 ghost use Rattle.cf_outside.specs.Faults.{HasCause};
 
 use crate::command::Command;
@@ -15,7 +15,7 @@ use crate::names::are_names;
 use crate::outputs::create;
 use crate::policy_file::{find_asset, load_policy};
 use cf_audit::CutReason;
-use cf_lane::{FilterFault, Filtered, filter_client};
+use cf_filter::{FilterFault, Filtered, filter_client};
 use cf_outside::{Files, WholeFault, append_all, read_whole};
 use cf_policy::{Asset, Protocol};
 use cf_policylang::address;

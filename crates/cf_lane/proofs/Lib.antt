@@ -1,2 +1,14 @@
-pub mod FateLaws
-pub mod FilterLaws
+mod Allowed
+mod Commands
+mod Ends
+mod Failing
+mod Feeding
+mod Growth
+mod Handling
+mod Histories
+mod Judgements
+mod LineFeeds
+mod ModbusUnits
+mod Pieces
+mod Recuts
+mod Taking

@@ -1,39 +1,89 @@
--- The lines of the log: one for each refused command, and one for bytes that are left at an end. This project's own.
-use Rattle.std.specs.Prelude.{ℕ, zero, suc, Bool, not, List, []}
+-- The lines of the log: one for each refused command, each stray frame, and bytes that are left at an end. This project's own.
+use Rattle.cf_audit.specs.Line.{Begun, Close, Cut, LineValue, Partial, Refuse, Stray, WhatValue}
+use Rattle.cf_audit.specs.Text.{line_text}
+use Rattle.cf_lane.specs.Dnp3.{frame_octets, is_fragment_unfinished}
+use Rattle.cf_lane.specs.Iec104.{apdu_octets}
+use Rattle.cf_lane.specs.Item.{Broke, Ended, Item, Took}
+use Rattle.cf_lane.specs.Judged.{Judged, in_turn}
+use Rattle.cf_lane.specs.Modbus.{adu_octets}
+use Rattle.cf_lane.specs.Output.{output}
+use Rattle.cf_lane.specs.Unit.{Adu, Apdu, Frame, UnitValue}
+use Rattle.cf_lane.specs.declared.fate.Fate.{Fate}
+use Rattle.cf_lane.specs.declared.fate.Refusal.{Refusal}
+use Rattle.cf_policy.specs.Names.{is_name_byte, name_of}
+use Rattle.cf_policy.specs.declared.Asset.{Asset}
+use Rattle.cf_policy.specs.declared.Protocol.{Protocol}
 use Rattle.cf_view.specs.declared.Endpoint.{Endpoint}
 use Rattle.cf_view.specs.declared.Side.{Side}
-use Rattle.cf_audit.specs.Line.{LineValue, WhatValue, Refuse, Partial}
-use Rattle.cf_audit.specs.Text.{line_text}
-use Rattle.cf_modbus.specs.Adu.{AduValue, spelling}
-use Rattle.cf_policy.specs.Names.{name_of}
-use Rattle.cf_policy.specs.declared.Asset.{Asset}
-use Rattle.cf_lane.specs.Item.{Item, ClientAdu, ControllerAdu, Ended}
-use Rattle.cf_lane.specs.Stream.{Judged, has_ended, in_turn}
-use Rattle.cf_lane.specs.declared.fate.Fate.{Fate}
+use Rattle.std.specs.List.{list_all}
+use Rattle.std.specs.Prelude.{Bool, List, Option, [], false, option_map, suc, true, zero, ℕ, ◌++◌, ◌∷◌, ◌≡◌}
 use Rattle.cf_lane.specs.declared.fate.Fate.TheVariants as fate
-use Rattle.cf_lane.specs.declared.fate.Refusal.{Refusal}
+use Rattle.cf_policy.specs.declared.Protocol.TheVariants as protocol
+use Rattle.cf_view.specs.declared.Side.TheVariants as side
 
 -- a line about a client of an asset
 abbrev pub line_about : Asset → Endpoint → ℕ → WhatValue → List ℕ
 line_about asset client moment what =
     line_text (record { moment = moment; client = client; asset = asset.name; what = what })
 
--- a refused command, named by what decided; whether it had its reply
-abbrev pub refusal_line : Asset → Refusal → (replied : Bool) → AduValue → WhatValue
-refusal_line asset refusal replied a = Refuse (name_of asset.rules refusal.decider) refusal.reason refusal.act replied (spelling a)
+-- a refused command, named by what decided; whether it had its reply; and its octets as they were received
+abbrev pub refusal_line : Asset → Refusal → (replied : Bool) → List ℕ → WhatValue
+refusal_line asset refusal replied octets = Refuse (name_of asset.rules refusal.decider) refusal.reason refusal.act replied octets
 
--- a side ended; a line tells where bytes are left
-abbrev pub end_line : Asset → Endpoint → ℕ → Side → (rest : ℕ) → List ℕ
-end_line asset client moment side zero = []
-end_line asset client moment side (suc n) = line_about asset client moment (Partial side (suc n))
+-- whether bytes were put out
+abbrev pub is_some_bytes : List ℕ → Bool
+is_some_bytes [] = false
+is_some_bytes (x ∷ xs) = true
 
-abbrev pub item_line : Asset → Endpoint → ℕ → (ended : Bool) → Item → Fate → List ℕ
-item_line asset client moment ended (ClientAdu a) (fate.Refused refusal) = line_about asset client moment (refusal_line asset refusal (not ended) a)
-item_line asset client moment ended (ClientAdu a) fate.Admitted = []
-item_line asset client moment ended (ClientAdu a) fate.Carried = []
-item_line asset client moment ended (ControllerAdu a) f = []
-item_line asset client moment ended (Ended side rest) f = end_line asset client moment side rest
+-- the octets that the line of a command shows: one case a protocol
+abbrev pub command_octets : Asset → List Judged → Side → UnitValue → List ℕ
+command_octets asset earlier s (Adu a) = adu_octets a
+command_octets asset earlier s (Frame x) = frame_octets asset earlier s x
+command_octets asset earlier s (Apdu a) = apdu_octets a
 
--- the lines of items at one moment
-abbrev pub lines : Asset → Endpoint → ℕ → List Judged → List Judged → List ℕ
-lines asset client moment earlier judged = in_turn (λ before j. item_line asset client moment (has_ended before) j.item j.fate) earlier judged
+-- the lines of a unit: that of a refused command says if anything went to the client for it
+abbrev pub unit_lines : Asset → Endpoint → ℕ → (replied : Bool) → Side → (octets : List ℕ) → Fate → List (List ℕ)
+unit_lines asset client moment replied s octets (fate.Refused refusal) = line_about asset client moment (refusal_line asset refusal replied octets) ∷ []
+unit_lines asset client moment replied s octets (fate.Stray because) = line_about asset client moment (Stray s because) ∷ []
+unit_lines asset client moment replied s octets fate.Carried = []
+unit_lines asset client moment replied s octets fate.Admitted = []
+unit_lines asset client moment replied s octets fate.Lengthens = []
+unit_lines asset client moment replied s octets (fate.Cuts because) = []
+
+-- more of a side is left unfinished than bytes that are no whole unit: one case a protocol
+abbrev pub has_unfinished : Asset → Protocol → Side → List Judged → Bool
+has_unfinished asset protocol.Modbus s earlier = false
+has_unfinished asset protocol.Dnp3 s earlier = is_fragment_unfinished asset s earlier
+has_unfinished asset protocol.Iec104 s earlier = false
+
+-- a side ended; a line tells where bytes or a fragment are left
+abbrev pub end_lines : Asset → Endpoint → ℕ → Side → (unfinished : Bool) → (rest : ℕ) → List (List ℕ)
+end_lines asset client moment s false zero = []
+end_lines asset client moment s true zero = line_about asset client moment (Partial s 0) ∷ []
+end_lines asset client moment s unfinished (suc n) = line_about asset client moment (Partial s (suc n)) ∷ []
+
+abbrev pub item_lines : Asset → Endpoint → List Judged → Judged → Item → List (List ℕ)
+item_lines asset client earlier j (Took s unit) =
+    unit_lines asset client j.moment (is_some_bytes (output asset side.Client earlier j)) s (command_octets asset earlier s unit) j.fate
+item_lines asset client earlier j (Ended s rest) = end_lines asset client j.moment s (has_unfinished asset asset.protocol s earlier) rest
+item_lines asset client earlier j (Broke s because) = []
+
+-- the lines of items, each with its moment; that of a cut is its caller's
+abbrev pub lines : Asset → Endpoint → List Judged → List Judged → List (List ℕ)
+lines asset client earlier js = in_turn (λ before j. item_lines asset client before j j.item) earlier js
+
+-- a log with more lines, where it is told
+abbrev pub with_lines : Option (List (List ℕ)) → List (List ℕ) → Option (List (List ℕ))
+with_lines log more = option_map (λ all. all ++ more) log
+
+-- the names of a line are those of a policy, and have no line feed
+abbrev pub HasPlainRule : WhatValue → Type 0
+HasPlainRule Begun = Unit {0}
+HasPlainRule (Refuse rule reason act replied unit) = list_all is_name_byte rule ≡ true
+HasPlainRule (Stray side why) = Unit {0}
+HasPlainRule (Partial side count) = Unit {0}
+HasPlainRule (Close admitted refused) = Unit {0}
+HasPlainRule (Cut reason) = Unit {0}
+
+abbrev pub HasPlainNames : LineValue → Type 0
+HasPlainNames line = (list_all is_name_byte line.asset ≡ true) × HasPlainRule line.what

@@ -3,8 +3,11 @@ ghost use Rattle.std.specs.Prelude.{◌≡◌, ◌≢◌, ◌≤◌, length};
 ghost use Rattle.cf_modbus.specs.Acts.{acts};
 ghost use Rattle.cf_modbus.specs.Adu.{adu_value};
 ghost use Rattle.cf_modbus.specs.Request.{IsRead, request_value};
-ghost use Rattle.cf_lane.specs.Fate.{HasCommandFate, HasOwnDecider, IsOfCommand, fate_of_acts};
+ghost use Rattle.cf_lane.specs.Acts.{fate_of_acts};
+ghost use Rattle.cf_lane.specs.Fate.{HasOwnDecider, IsOfCommand};
+ghost use Rattle.cf_lane.specs.Modbus.{HasCommandFate};
 
+use cf_audit::{CutReason, Why};
 use cf_modbus::{Adu, Request, act_at, act_count, read_request};
 use cf_policy::{Asset, Decider, Verdict, verdict};
 use cf_view::{Act, Reason};
@@ -28,6 +31,12 @@ pub enum Fate {
     Admitted,
     /// A command that is answered in the controller's place, and goes no further.
     Refused(Refusal),
+    /// A DNP3 frame, segment or fragment that goes nowhere.
+    Stray(Why),
+    /// A DNP3 frame that only lengthens a fragment.
+    Lengthens,
+    /// The session is cut here.
+    Cuts(CutReason),
 }
 
 /// The fate of a client's ADU. The station is compared first, then the form is read, then each act is judged in its

@@ -1,23 +1,33 @@
-//! Laws of fates: each is the contract of a function that does nothing.
-ghost use Rattle.cf_lane.specs.Laws.{AdmitsWhatIsAllowed, FiltersByAllowance, HasOneFate, HasOneOutput};
+//! Laws of the items of histories: each is the contract of a function that does nothing.
+ghost use Rattle.cf_lane.specs.Laws.{EndJoins, GrowsLittle, HasOneJudgement, JudgedJoin, LanePassesAllowed, ModbusIsPrefixFree, NothingTaken, PiecesJoin, StreamsGoOn};
 
-/// A command is admitted exactly where its station is the asset's, its form is read and each of its acts is allowed.
-pub fn admits_what_is_allowed()
-    ensures { AdmitsWhatIsAllowed }
+/// A history of Modbus has one list of judged items.
+pub fn has_one_judgement()
+    ensures { HasOneJudgement }
 {}
 
-/// A command has one fate.
-pub fn has_one_fate()
-    ensures { HasOneFate }
+/// However the bytes of a side are cut at one moment, their items are the same, and so are the judged items of each history
+/// with them; bytes without letters change nothing, and an End behind bytes is of their element.
+pub fn pieces_join()
+    ensures items { PiecesJoin }
+    ensures judged { JudgedJoin }
+    ensures nothing { NothingTaken }
+    ensures ends { EndJoins }
+    ensures modbus { ModbusIsPrefixFree }
 {}
 
-/// A stream has one output: what the filter puts out is a function of the asset, the client, the moment and the stream.
-pub fn has_one_output()
-    ensures { HasOneOutput }
+/// Between two places of a history each stream grows by at most twice the letters taken, and 8,192.
+pub fn grows_little()
+    ensures { GrowsLittle }
 {}
 
-/// Of the commands of a stream exactly those whose station is the asset's, whose form is read and each of whose acts
-/// is allowed go to the controller, in their spelling and at their place.
-pub fn passes_what_is_allowed()
-    ensures { FiltersByAllowance }
+/// Where a history goes on, the two streams and the log go on.
+pub fn streams_go_on()
+    ensures { StreamsGoOn }
+{}
+
+/// Of the commands of a history exactly those whose station is the asset's, whose form is read and each of whose acts is
+/// allowed go to the controller, in their spelling and at their place.
+pub fn lane_passes_allowed()
+    ensures { LanePassesAllowed }
 {}

@@ -1,10 +1,18 @@
-//! The filter of commands: the fate of each, and what goes to each side and into the log.
+//! The lane: the filter of one session's two streams.
 #![tactic(auto)]
 
 mod fate;
-mod filter;
+mod lane;
 mod laws;
+mod log;
+mod modbus;
+mod rows;
 
 pub use fate::{Fate, Refusal, judge};
-pub use filter::{FilterFault, Filtered, filter_client};
-pub use laws::{admits_what_is_allowed, has_one_fate, has_one_output, passes_what_is_allowed};
+pub use lane::{Fed, Lane};
+pub use laws::{grows_little, has_one_judgement, lane_passes_allowed, pieces_join, streams_go_on};
+pub use log::put_line;
+pub use rows::rows_hold;
+
+#[cfg(test)]
+mod tests;

@@ -1,6 +1,6 @@
-use Rattle.std.proofs.Common.{◌≡◌, sym, ◌∙◌}
+use Rattle.std.proofs.Common.{◌≡◌}
 use Rattle.cf_modbus.specs.Request.{request_value}
-use Rattle.cf_lane.specs.Fate.{of_no_form, of_its_acts}
+use Rattle.cf_lane.specs.Modbus.{of_no_form, of_its_acts}
 use Rattle.cf_lane.proofs.fate.judge.Goals as goal
 
 pub returns-in-Err-clause-fate : goal.returns-in-Err-clause-fate

@@ -1,7 +1,6 @@
-use Rattle.std.proofs.Common.{◌≡◌, sym, ◌∙◌}
 use Rattle.cf_modbus.specs.Acts.{acts}
 use Rattle.cf_modbus.specs.Request.{request_value}
-use Rattle.cf_lane.proofs.FateLaws.{allowed_at, refused_at}
+use Rattle.cf_lane.proofs.Commands.{allowed_at, refused_at}
 use Rattle.cf_lane.proofs.fate.judge_acts.Goals as goal
 
 pub returns-in-Refuse-clause-fate : goal.returns-in-Refuse-clause-fate

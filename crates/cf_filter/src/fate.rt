@@ -1,0 +1,89 @@
+//! The fate of a command.
+ghost use Rattle.std.specs.Prelude.{◌≡◌, ◌≢◌, ◌≤◌, length};
+ghost use Rattle.cf_modbus.specs.Acts.{acts};
+ghost use Rattle.cf_modbus.specs.Adu.{adu_value};
+ghost use Rattle.cf_modbus.specs.Request.{IsRead, request_value};
+ghost use Rattle.cf_filter.specs.Fate.{HasCommandFate, HasOwnDecider, IsOfCommand, fate_of_acts};
+
+use cf_modbus::{Adu, Request, act_at, act_count, read_request};
+use cf_policy::{Asset, Decider, Verdict, verdict};
+use cf_view::{Act, Reason};
+
+/// Why a command is refused.
+#[derive(Clone, Copy, PartialEq, Eq, Debug)]
+pub struct Refusal {
+    /// The rule that decided, or what else did.
+    pub decider: Decider,
+    pub reason: Reason,
+    /// The first act that is not allowed. For another station and for a wrong form it stands for the whole command.
+    pub act: Act,
+}
+
+/// What becomes of an item of a stream.
+#[derive(Clone, Copy, PartialEq, Eq, Debug)]
+pub enum Fate {
+    /// It goes on unjudged.
+    Carried,
+    /// A command that goes on.
+    Admitted,
+    /// A command that is answered in the controller's place, and goes no further.
+    Refused(Refusal),
+}
+
+/// The fate of a client's ADU. The station is compared first, then the form is read, then each act is judged in its
+/// order; the first that is not allowed decides. This project's own order.
+pub fn judge(asset: &Asset, client: u32, adu: &Adu<'_>) -> Fate
+    requires at_least { 1 ≤ length adu.now.pdu.bytes }
+    requires at_most { length adu.now.pdu.bytes ≤ 253 }
+    ensures fate { HasCommandFate asset.now client (adu_value adu.now) result }
+    ensures decider { HasOwnDecider asset.now.rules result }
+    ensures command { IsOfCommand result }
+{
+    let code = u16::from(adu.pdu.at(0));
+    if u16::from(adu.unit) != asset.station {
+        return refused(Decider::Station, Reason::Station, code, u32::from(adu.unit));
+    }
+    match read_request(adu) {
+        Err(refusal) => refused(Decider::Form, refusal.reason(), code, 0),
+        Ok(request) => judge_acts(asset, client, &request),
+    }
+}
+
+/// A refusal of a whole command: its act is the function code with this point.
+fn refused(decider: Decider, reason: Reason, code: u16, point: u32) -> Fate
+    ensures { result ≡ Fate.Refused (record { decider = decider; reason = reason; act = record { code = code; group = 0; point = point; value = None } }) }
+{
+    Fate::Refused(Refusal {
+        decider,
+        reason,
+        act: Act {
+            code,
+            group: 0,
+            point,
+            value: None,
+        },
+    })
+}
+
+/// The fate of a request with the right station and form.
+fn judge_acts(asset: &Asset, client: u32, request: &Request<'_>) -> Fate
+    requires { IsRead (request_value request.now) }
+    ensures fate { result ≡ fate_of_acts asset.now client (acts (request_value request.now)) }
+    ensures decider { HasOwnDecider asset.now.rules result }
+    ensures command { IsOfCommand result }
+{
+    for i in 0..act_count(request) {
+        let act = act_at(request, i);
+        match verdict(asset, client, &act) {
+            Verdict::Allow(_) => {}
+            Verdict::Refuse(decider, reason) => {
+                return Fate::Refused(Refusal {
+                    decider,
+                    reason,
+                    act,
+                });
+            }
+        }
+    }
+    Fate::Admitted
+}

@@ -1,0 +1,142 @@
+-- Laws of the loop of `feed`.
+use Rattle.cf_audit.specs.declared.line.CutReason.{CutReason}
+use Rattle.cf_lane.proofs.Histories.{Along, along_more, fed_broken, fed_whole}
+use Rattle.cf_lane.proofs.ModbusUnits.{short_unit}
+use Rattle.cf_lane.proofs.Taking.{grows_both, grows_more, room_left, room_less}
+use Rattle.cf_lane.specs.Follows.{Follows, IsEndBehindCut, Rests, rest_of, with_rest}
+use Rattle.cf_lane.specs.Handled.{Breaks, Grows, HasRoom, IsOpen, State, Steps, TakesUnit, WritesLog, letters_in}
+use Rattle.cf_lane.specs.History.{Element, bytes_at, letters_at}
+use Rattle.cf_lane.specs.Unit.{SpellsUnit}
+use Rattle.cf_lane.specs.declared.lane.Step.{Step}
+use Rattle.cf_outq.specs.SendQueue.{Queue}
+use Rattle.cf_outside.specs.Faults.{HasCause}
+use Rattle.cf_outside.specs.Desk.{DeskValue, IsNoneOf}
+use Rattle.cf_policy.specs.declared.Asset.{Asset}
+use Rattle.cf_view.specs.Framing.{IsPartial}
+use Rattle.cf_view.specs.declared.Side.{Side}
+use Rattle.std.proofs.Common.{Bool, List, None, Option, Some, [], ap, arith, drop, false, inl, inr, length, refl, subst, sym, true, ℕ, ◌*◌, ◌++◌, ◌+◌, ◌-◌, ◌<◌, ◌∙◌, ◌∷◌, ◌≡◌, ◌≤◌, ◌⊎◌}
+use Rattle.std.proofs.lemmas.List.{length-drop}
+use Rattle.cf_policy.specs.declared.Protocol.TheVariants as protocol
+use Rattle.cf_view.specs.declared.Side.TheVariants as side
+use Rattle.cf_lane.specs.declared.lane.Step.TheVariants as step
+
+pub grows_none : (d : ℕ) (q : Queue) → Grows 0 d d q q
+grows_none d q = record { kept = omega arith; pushed = omega arith; rest = refl }
+
+pub writes_none : (d : DeskValue) → WritesLog d d
+writes_none d = record { packets = refl; keeps = record { later = omega arith; lender = refl; reads = refl; names = refl; others = λ other h. refl } }
+
+pub writes_both : (c d e : DeskValue) → WritesLog c d → WritesLog d e → WritesLog c e
+writes_both c d e a b = record {
+  packets = b.packets ∙ a.packets;
+  keeps = record {
+    later = omega (arith, a.keeps.later, b.keeps.later);
+    lender = b.keeps.lender ∙ a.keeps.lender;
+    reads = b.keeps.reads ∙ a.keeps.reads;
+    names = b.keeps.names ∙ a.keeps.names;
+    others = λ other h. b.keeps.others other (subst (λ names. IsNoneOf names other) (sym a.keeps.names) h) ∙ a.keeps.others other h;
+  };
+}
+
+-- a cause that came later came
+pub cause_after : (a b c : ℕ) (P : Type 0) → a ≤ b → HasCause b c P → HasCause a c P
+cause_after a b c P l h = record {
+  later = omega (arith, h.later, l);
+  rose = λ p. (let r = h.rose p in omega (arith, r, l));
+}
+
+pub no_cause : (a b : ℕ) (P : Type 0) → a ≤ b → (P → ⊥) → HasCause a b P
+no_cause a b P l n = record { later = l; rose = λ p. absurd (n p) }
+
+-- a queue that grew is open where it was
+pub open_stays : (s : Side) (m n d e : ℕ) (c k c' k' : Queue) → IsOpen s c k → Grows m d e c c' → Grows n d e k k' → IsOpen s c' k'
+open_stays side.Client m n d e c k c' k' o a b = ap (λ (q : Queue). q.ended) b.rest ∙ o
+open_stays side.Controller m n d e c k c' k' o a b = ap (λ (q : Queue). q.ended) a.rest ∙ o
+
+pub room_for_rest : (bytes rest : List ℕ) (used d e : ℕ) (p q : Queue) → rest ≡ drop used bytes → used ≤ length bytes → HasRoom (d + 2 * length bytes) p → Grows (2 * used) d e p q →
+    HasRoom (e + 2 * length rest) q
+room_for_rest bytes rest used d e p q is inside r g =
+    let size : length rest + used ≡ length bytes = omega (arith, ap length is, length-drop used bytes, inside) in
+    room_left (2 * used) (2 * length rest) d e p q (room_less (d + 2 * length bytes) (d + (2 * used + 2 * length rest)) p (omega (arith, size)) r) g
+
+module _ (asset : Asset) (h : List Element) (rests : Rests) (first : Option (List (List ℕ))) (moment : ℕ) (s : Side) (piece bytes rest : List ℕ) (used : ℕ) (old mid new : State)
+    (is : bytes ≡ rest_of s rests ++ piece) (f : Follows asset h rests None first old) (a : Along asset moment s bytes used old mid)
+    (left : rest ≡ drop used bytes) where
+  pub ends_more : Steps asset moment s rest mid new step.More →
+      Follows asset (h ++ bytes_at moment s piece ∷ []) (with_rest s rests (drop used bytes)) None first new
+  ends_more steps =
+      subst (λ n. Follows asset (h ++ bytes_at moment s piece ∷ []) (with_rest s rests (drop used bytes)) None first n) (sym steps.1)
+      (fed_whole asset h rests first moment s piece bytes used old mid is f a (subst (IsPartial (SpellsUnit asset.protocol)) left steps.0))
+
+  -- (where IEC 104 comes, its cut by a unit is the second case)
+  pub ends_cut : asset.protocol ≡ protocol.Modbus → (ended : Bool) (reason : CutReason) → Steps asset moment s rest mid new (step.Cut reason) →
+      Follows asset (h ++ letters_at moment s piece ended ∷ []) (with_rest s rests (drop used bytes)) (Some reason) first new
+  ends_cut modbus ended reason (inl here) =
+      subst (λ n. Follows asset (h ++ letters_at moment s piece ended ∷ []) (with_rest s rests (drop used bytes)) (Some reason) first n) (sym here.1)
+      (fed_broken asset h rests first moment s piece bytes used old mid is f a ended reason (subst (λ xs. Breaks asset s xs reason) left here.0))
+  ends_cut modbus ended reason (inr never) = cc (sym modbus ∙ never.0)
+
+module _ (asset : Asset) (moment : ℕ) (s : Side) (bytes rest : List ℕ) (used : ℕ) (left : rest ≡ drop used bytes) (inside : used ≤ length bytes) where
+  rest_length : length rest + used ≡ length bytes
+  rest_length = omega (arith, ap length left, length-drop used bytes, inside)
+
+  pub within : (st : Step) → letters_in st ≤ length rest → used + letters_in st ≤ length bytes
+  within st l = omega (arith, l, rest_length)
+
+  pub along_took : (old mid new : State) (st : Step) (n : ℕ) → st ≡ step.Took n → Along asset moment s bytes used old mid → Steps asset moment s rest mid new st →
+      Along asset moment s bytes (used + n) old new
+  along_took old mid new st n is a steps =
+      let P : Step → Type 0 = λ st. Steps asset moment s rest mid new st in
+      along_more asset moment s bytes used n old mid new a (subst (λ xs. TakesUnit asset moment s xs n None mid new) left (subst P is steps))
+
+  pub some_letters : (mid new : State) (st : Step) (n : ℕ) → st ≡ step.Took n → Steps asset moment s rest mid new st → 0 < n
+  some_letters mid new st n is steps =
+      let P : Step → Type 0 = λ st. Steps asset moment s rest mid new st in (subst P is steps).some_bytes
+
+  pub smaller : (st : Step) (n : ℕ) → st ≡ step.Took n → 0 < n → letters_in st ≤ length rest → length bytes - (used + n) < length bytes - used
+  smaller st n is some l = omega (arith, some, l, ap letters_in is, rest_length)
+
+  pub grows_took : (d e g : ℕ) (p q r : Queue) (st : Step) (n : ℕ) → st ≡ step.Took n → Grows (2 * used) d e p q → Grows (2 * letters_in st) e g q r → Grows (2 * (used + n)) d g p r
+  grows_took d e g p q r st n is a b =
+      grows_more (2 * used + 2 * letters_in st) (2 * (used + n)) d g p r (omega (arith, ap letters_in is)) (grows_both (2 * used) (2 * letters_in st) d e g p q r a b)
+
+  pub grows_end : (d e g : ℕ) (p q r : Queue) (st : Step) → letters_in st ≡ 0 → Grows (2 * used) d e p q → Grows (2 * letters_in st) e g q r → Grows (2 * used) d g p r
+  grows_end d e g p q r st none a b =
+      grows_more (2 * used + 2 * letters_in st) (2 * used) d g p r (omega (arith, none)) (grows_both (2 * used) (2 * letters_in st) d e g p q r a b)
+
+module _ (asset : Asset) (moment : ℕ) (s : Side) (bytes rest : List ℕ) (used : ℕ) (old mid new : State)
+    (a : Along asset moment s bytes used old mid) (left : rest ≡ drop used bytes) (st : Step) (steps : Steps asset moment s rest mid new st) where
+  -- where no whole unit is left, the history goes on by the piece
+  pub follows_more : st ≡ step.More → (h : List Element) (rests : Rests) (first : Option (List (List ℕ))) (piece : List ℕ) (ended : Bool) → IsEndBehindCut ended None →
+      bytes ≡ rest_of s rests ++ piece →
+      Follows asset h rests None first old → Follows asset (h ++ letters_at moment s piece ended ∷ []) (with_rest s rests (drop used bytes)) None first new
+  follows_more e h rests first piece false behind is f =
+      let P : Step → Type 0 = λ st. Steps asset moment s rest mid new st in
+      ends_more asset h rests first moment s piece bytes rest used old mid new is f a left (subst P e steps)
+  follows_more e h rests first piece true behind is f = absurd behind
+
+  pub follows_cut : asset.protocol ≡ protocol.Modbus → (reason : CutReason) → st ≡ step.Cut reason → (h : List Element) (rests : Rests) (first : Option (List (List ℕ))) (piece : List ℕ) (ended : Bool) →
+      IsEndBehindCut ended (Some reason) → bytes ≡ rest_of s rests ++ piece → Follows asset h rests None first old →
+      Follows asset (h ++ letters_at moment s piece ended ∷ []) (with_rest s rests (drop used bytes)) (Some reason) first new
+  follows_cut modbus reason e h rests first piece ended behind is f =
+      let P : Step → Type 0 = λ st. Steps asset moment s rest mid new st in
+      ends_cut asset h rests first moment s piece bytes rest used old mid new is f a left modbus ended reason (subst P e steps)
+
+  -- what is left is shorter than a unit
+  pub little_left : asset.protocol ≡ protocol.Modbus → st ≡ step.More → length (drop used bytes) < 300
+  little_left modbus e =
+      let P : Step → Type 0 = λ st. Steps asset moment s rest mid new st in
+      let partial = (subst P e steps).0 in
+      short_unit asset.protocol modbus (drop used bytes) (subst (IsPartial (SpellsUnit asset.protocol)) left partial)
+
+  -- the lane stays that of its client
+  pub same_client : asset.protocol ≡ protocol.Modbus → ((st ≡ step.More) ⊎ ((reason : CutReason) × (st ≡ step.Cut reason))) → new.lane.client ≡ old.lane.client
+  same_client modbus (inl e) =
+      let P : Step → Type 0 = λ st. Steps asset moment s rest mid new st in
+      ap (λ (x : State). x.lane.client) (subst P e steps).1 ∙ a.handled.client
+  same_client modbus (inr e) =
+      let P : Step → Type 0 = λ st. Steps asset moment s rest mid new st in
+      by_case (subst P e.1 steps) where
+        by_case : Steps asset moment s rest mid new (step.Cut e.0) → new.lane.client ≡ old.lane.client
+        by_case (inl here) = ap (λ (x : State). x.lane.client) here.1 ∙ a.handled.client
+        by_case (inr never) = cc (sym modbus ∙ never.0)

@@ -1,0 +1,129 @@
+-- Laws of one unit, and of what a queue grows by.
+use Rattle.cf_lane.proofs.Handling.{adu_handled, push-nothing, with_lines-nothing}
+use Rattle.cf_lane.proofs.ModbusUnits.{begins_unit, breaks_unit, unit_break_is}
+use Rattle.cf_lane.specs.Handled.{Breaks, Grows, HasRoom, IsOpen, State, TakesCommand, TakesUnit}
+use Rattle.cf_lane.specs.Log.{is_some_bytes, line_about, refusal_line, with_lines}
+use Rattle.cf_lane.specs.Modbus.{HasCommandFate, adu_reply}
+use Rattle.cf_lane.specs.Unit.{Adu}
+use Rattle.cf_lane.specs.declared.fate.Refusal.{Refusal}
+use Rattle.cf_modbus.proofs.Framing.{own_length, own_octets}
+use Rattle.cf_modbus.specs.Adu.{AduValue, SpellsAdu, mbap_break, spelling}
+use Rattle.cf_outq.specs.SendQueue.{Queue, after_push}
+use Rattle.cf_policy.specs.declared.Asset.{Asset}
+use Rattle.cf_view.specs.Framing.{Begins, BreaksAt}
+use Rattle.cf_view.specs.declared.Break.{Break}
+use Rattle.cf_view.specs.declared.Side.{Side}
+use Rattle.std.proofs.Common.{Bool, List, None, [], ap, arith, false, length, refl, subst, sym, true, ℕ, ◌+◌, ◌∙◌, ◌∷◌, ◌≡◌, ◌≤◌}
+use Rattle.std.proofs.lemmas.List.{length-append, length-take}
+use Rattle.cf_audit.specs.declared.line.CutReason.TheVariants as cut
+use Rattle.cf_lane.specs.declared.fate.Fate.TheVariants as fate
+use Rattle.cf_policy.specs.declared.Protocol.TheVariants as protocol
+use Rattle.cf_view.specs.declared.Side.TheVariants as side
+
+-- an admitted command has no reply
+admitted_reply : (b : Bool) (a : AduValue) → adu_reply b fate.Admitted a ≡ []
+admitted_reply true a = refl
+admitted_reply false a = refl
+
+module _ (asset : Asset) (moment : ℕ) (a : AduValue) (old new : State) (client : new.lane.client ≡ old.lane.client) where
+  -- an admitted command goes on, and nothing else does
+  pub takes_admitted : old.to_controller.ended ≡ false → HasCommandFate asset old.lane.client.address a fate.Admitted →
+      new.lane.admitted ≡ old.lane.admitted + 1 → new.lane.refused ≡ old.lane.refused →
+      new.to_client ≡ old.to_client → new.to_controller ≡ after_push old.to_controller (spelling a) → new.lines ≡ old.lines →
+      TakesCommand asset moment a old new
+  takes_admitted goes has admitted refused c s t = record {
+    fate = fate.Admitted;
+    uncut = refl;
+    handled = adu_handled asset moment side.Client a fate.Admitted old new has client admitted (refused ∙ omega arith)
+        (c ∙ sym (push-nothing old.to_client) ∙ ap (after_push old.to_client) (sym (admitted_reply old.to_client.ended a)))
+        s (t ∙ sym (with_lines-nothing old.lines)) (λ e. admitted_reply old.to_client.ended a) (λ e. cc (e, goes));
+  }
+
+  -- a refused command has its reply, where one may still go out, and its line
+  pub takes_refused : (r : Refusal) → HasCommandFate asset old.lane.client.address a (fate.Refused r) →
+      new.lane.admitted ≡ old.lane.admitted → new.lane.refused ≡ old.lane.refused + 1 →
+      new.to_client ≡ after_push old.to_client (adu_reply old.to_client.ended (fate.Refused r) a) → new.to_controller ≡ old.to_controller →
+      new.lines ≡ with_lines old.lines (line_about asset old.lane.client moment
+      (refusal_line asset r (is_some_bytes (adu_reply old.to_client.ended (fate.Refused r) a)) (spelling a)) ∷ []) →
+      TakesCommand asset moment a old new
+  takes_refused r has admitted refused c s t = record {
+    fate = fate.Refused r;
+    uncut = refl;
+    handled = adu_handled asset moment side.Client a (fate.Refused r) old new has client (admitted ∙ omega arith) refused
+        c (s ∙ sym (push-nothing old.to_controller)) t (λ e. ap (λ b. adu_reply b (fate.Refused r) a) e) (λ e. refl);
+  }
+
+-- no more than so many is no more than more
+pub grows_more : (m n d e : ℕ) (p q : Queue) → m ≤ n → Grows m d e p q → Grows n d e p q
+grows_more m n d e p q l g = record { kept = omega (arith, g.kept, l); pushed = omega (arith, g.pushed, l); rest = g.rest }
+
+pub grows_push : (n : ℕ) (q : Queue) (xs : List ℕ) → length xs ≤ n → Grows n 0 0 q (after_push q xs)
+grows_push n q xs l = record { kept = omega (arith, length-append q.kept xs, l); pushed = omega (arith, l); rest = refl }
+
+pub grows_both : (m n c d e : ℕ) (p q r : Queue) → Grows m c d p q → Grows n d e q r → Grows (m + n) c e p r
+grows_both m n c d e p q r a b = record {
+  kept = omega (arith, a.kept, b.kept);
+  pushed = omega (arith, a.pushed, b.pushed);
+  rest = b.rest ∙ ap (λ (x : Queue). record x { kept = r.kept; pushed = r.pushed }) a.rest;
+}
+
+pub room_less : (m n : ℕ) (q : Queue) → n ≤ m → HasRoom m q → HasRoom n q
+room_less m n q l r = record { room = omega (arith, r.room, l); limit = omega (arith, r.limit, l) }
+
+-- the room that is left once a queue grew
+pub room_left : (m n d e : ℕ) (p q : Queue) → HasRoom (d + (m + n)) p → Grows m d e p q → HasRoom (e + n) q
+room_left m n d e p q r g = record { room = omega (arith, r.room, g.kept); limit = omega (arith, r.limit, g.pushed) }
+
+module _ (a : AduValue) (xs : List ℕ) (n : ℕ) (b : Begins SpellsAdu xs a n) where
+  pub adu_length : length (spelling a) ≡ n
+  adu_length = sym (ap length (own_octets a xs n b)) ∙ omega (arith, length-take n xs, b.inside)
+
+  pub adu_least : 8 ≤ n
+  adu_least = omega (arith, own_length a xs n b, b.spells.at_least)
+
+module _ (asset : Asset) (modbus : asset.protocol ≡ protocol.Modbus) (moment : ℕ) (bytes : List ℕ) where
+  -- a client's ADU is taken as a command
+  pub takes_client : (a : AduValue) (n : ℕ) (old new : State) → Begins SpellsAdu bytes a n → TakesCommand asset moment a old new →
+      TakesUnit asset moment side.Client bytes n None old new
+  takes_client a n old new b t = record {
+    unit = Adu a;
+    begins = begins_unit asset.protocol modbus bytes a n b;
+    some_bytes = omega (arith, adu_least a bytes n b);
+    fate = t.fate;
+    is_cut = t.uncut;
+    handled = t.handled;
+  }
+
+  -- a controller's ADU goes on
+  pub takes_controller : (a : AduValue) (n : ℕ) (old new : State) → old.to_client.ended ≡ false → new.lane ≡ old.lane →
+      new.to_client ≡ after_push old.to_client (spelling a) → new.to_controller ≡ old.to_controller → new.lines ≡ old.lines →
+      Begins SpellsAdu bytes a n → TakesUnit asset moment side.Controller bytes n None old new
+  takes_controller a n old new goes lane c s t b = record {
+    unit = Adu a;
+    begins = begins_unit asset.protocol modbus bytes a n b;
+    some_bytes = omega (arith, adu_least a bytes n b);
+    fate = fate.Carried;
+    is_cut = refl;
+    handled = adu_handled asset moment side.Controller a fate.Carried old new refl (ap (λ l. l.client) lane)
+        (ap (λ l. l.admitted) lane ∙ omega arith) (ap (λ l. l.refused) lane ∙ omega arith)
+        c (s ∙ sym (push-nothing old.to_controller)) (t ∙ sym (with_lines-nothing old.lines)) (λ e. cc (e, goes)) (λ e. refl);
+  }
+
+  pub breaks_by : (s : Side) (reason : Break) → ((i : ℕ) × BreaksAt SpellsAdu bytes i × (reason ≡ mbap_break i)) → Breaks asset s bytes (cut.Framing s reason)
+  breaks_by s reason b = record {
+    place = b.0;
+    breaks = breaks_unit asset.protocol modbus bytes b.0 b.1;
+    is_reason = ap (cut.Framing s) (b.2 ∙ unit_break_is asset.protocol modbus b.0);
+  }
+
+  -- the same of the side that it is
+  pub takes_of_client : (s : Side) → s ≡ side.Client → (a : AduValue) (n : ℕ) (old new : State) → Begins SpellsAdu bytes a n → TakesCommand asset moment a old new →
+      TakesUnit asset moment s bytes n None old new
+  takes_of_client s is a n old new b t = subst (λ (s : Side). TakesUnit asset moment s bytes n None old new) (sym is) (takes_client a n old new b t)
+
+  pub takes_of_controller : (s : Side) → s ≡ side.Controller → (a : AduValue) (n : ℕ) (old new : State) → IsOpen s old.to_client old.to_controller → new.lane ≡ old.lane →
+      new.to_client ≡ after_push old.to_client (spelling a) → new.to_controller ≡ old.to_controller → new.lines ≡ old.lines →
+      Begins SpellsAdu bytes a n → TakesUnit asset moment s bytes n None old new
+  takes_of_controller s is a n old new goes lane c q t b =
+      subst (λ (s : Side). TakesUnit asset moment s bytes n None old new) (sym is)
+      (takes_controller a n old new (subst (λ (s : Side). IsOpen s old.to_client old.to_controller) is goes) lane c q t b)

@@ -1,0 +1,140 @@
+use Rattle.std.proofs.Common.{length, refl, sym, ap, subst, inl, inr, arith}
+use Rattle.std.specs.Prelude.{IsErr}
+use Rattle.std.specs.declared.result.Result.{Result}
+use Rattle.cf_view.specs.declared.base.WriteFault.{WriteFault}
+use Rattle.cf_lane.specs.Handled.{letters_in}
+use Rattle.cf_lane.specs.declared.lane.Step.{Step}
+use Rattle.std.proofs.lemmas.List.{length-drop}
+use Rattle.cf_lane.proofs.Failing.{on_err, misses_rest}
+use Rattle.cf_lane.proofs.ModbusUnits.{free_unit, nothing_unit}
+use Rattle.cf_lane.proofs.Histories.{along_start, fails_within}
+use Rattle.cf_lane.proofs.Feeding.{grows_none, writes_none, writes_both, cause_after, open_stays, room_for_rest, within, along_took, some_letters, smaller, grows_took, grows_end, little_left, same_client, follows_more, follows_cut}
+use Rattle.cf_lane.proofs.lane.Lane.feed.Goals as goal
+
+pub units-init : goal.units-init
+units-init g c = record {
+  inside = omega arith;
+  along = along_start _ _ _ _ _;
+  client_grows = grows_none _ _;
+  controller_grows = grows_none _ _;
+  counts = omega arith;
+  whole = c.requires.whole;
+  log = writes_none _;
+}
+
+pub after-requires : goal.after-requires
+after-requires g c = c.units.invariant.inside
+
+pub step-requires-clause-whole : goal.step-requires-clause-whole
+step-requires-clause-whole g c = c.units.invariant.whole
+
+pub step-requires-clause-open : goal.step-requires-clause-open
+step-requires-clause-open g c = open_stays c.args.side _ _ _ _ _ _ _ _ c.requires.«open» c.units.invariant.client_grows c.units.invariant.controller_grows
+
+pub step-requires-clause-client_room : goal.step-requires-clause-client_room
+step-requires-clause-client_room g c = room_for_rest _ _ _ _ _ _ _ c.after.ensures c.units.invariant.inside c.requires.client_room c.units.invariant.client_grows
+
+pub step-requires-clause-controller_room : goal.step-requires-clause-controller_room
+step-requires-clause-controller_room g c = room_for_rest _ _ _ _ _ _ _ c.after.ensures c.units.invariant.inside c.requires.controller_room c.units.invariant.controller_grows
+
+pub step-requires-clause-counts : goal.step-requires-clause-counts
+step-requires-clause-counts g c =
+    omega (arith, c.units.invariant.counts, c.requires.counts, c.units.invariant.inside, ap length c.after.ensures, length-drop c.units.used c.args.bytes.bytes)
+
+pub returns-in_err-n-clause-log : goal.returns-in_err-n-clause-log
+returns-in_err-n-clause-log g c = writes_both _ _ _ c.units.invariant.log c.step.ensures.log
+
+pub returns-in_err-n-clause-cause : goal.returns-in_err-n-clause-cause
+returns-in_err-n-clause-cause g c =
+    let failed : IsErr c.step.result = subst (λ (r : Result Step WriteFault). IsErr r) (sym c.in_err-n.was) refl in
+    let cause = cause_after _ _ _ _ c.units.invariant.log.keeps.later c.step.ensures.cause in
+    record { later = cause.later; rose = λ e. cause.rose failed }
+
+pub units-smaller : goal.units-smaller
+units-smaller g c =
+    smaller c.args.asset.now c.args.moment c.args.side c.args.bytes.bytes c.after.result.bytes c.units.used c.after.ensures c.units.invariant.inside c.in_ok-n.field-0 c.in-Took.n c.in-Took.is
+    (some_letters c.args.asset.now c.args.moment c.args.side c.args.bytes.bytes c.after.result.bytes c.units.used c.after.ensures c.units.invariant.inside _ _ c.in_ok-n.field-0 c.in-Took.n c.in-Took.is c.in_ok-n.ensures.steps)
+    c.in_ok-n.ensures.inside
+
+pub units-preserved : goal.units-preserved
+units-preserved g c =
+    let inv = c.units.invariant in
+    record {
+      inside = omega (arith, within c.args.asset.now c.args.moment c.args.side c.args.bytes.bytes c.after.result.bytes c.units.used c.after.ensures inv.inside c.in_ok-n.field-0 c.in_ok-n.ensures.inside, ap letters_in c.in-Took.is);
+      along = along_took c.args.asset.now c.args.moment c.args.side c.args.bytes.bytes c.after.result.bytes c.units.used c.after.ensures inv.inside _ _ _ c.in_ok-n.field-0 c.in-Took.n c.in-Took.is inv.along c.in_ok-n.ensures.steps;
+      client_grows = grows_took c.args.asset.now c.args.moment c.args.side c.args.bytes.bytes c.after.result.bytes c.units.used c.after.ensures inv.inside _ _ _ _ _ _ c.in_ok-n.field-0 c.in-Took.n c.in-Took.is inv.client_grows c.in_ok-n.ensures.client_grows;
+      controller_grows = grows_took c.args.asset.now c.args.moment c.args.side c.args.bytes.bytes c.after.result.bytes c.units.used c.after.ensures inv.inside _ _ _ _ _ _ c.in_ok-n.field-0 c.in-Took.n c.in-Took.is inv.controller_grows c.in_ok-n.ensures.controller_grows;
+      counts = omega (arith, inv.counts, c.in_ok-n.ensures.counts, ap letters_in c.in-Took.is);
+      whole = c.in_ok-n.ensures.whole;
+      log = writes_both _ _ _ inv.log c.step.ensures.log;
+    }
+
+pub returns-in-More-clause-used : goal.returns-in-More-clause-used
+returns-in-More-clause-used g c = c.units.invariant.inside
+
+pub returns-in-More-clause-history : goal.returns-in-More-clause-history
+returns-in-More-clause-history g c = follows_more c.args.asset.now c.args.moment c.args.side c.args.bytes.bytes c.after.result.bytes c.units.used _ _ _ c.units.invariant.along c.after.ensures c.in_ok-n.field-0 c.in_ok-n.ensures.steps c.in-More.is
+
+pub returns-in-More-clause-client_grows : goal.returns-in-More-clause-client_grows
+returns-in-More-clause-client_grows g c =
+    grows_end c.args.asset.now c.args.moment c.args.side c.args.bytes.bytes c.after.result.bytes c.units.used c.after.ensures c.units.invariant.inside _ _ _ _ _ _ c.in_ok-n.field-0 (ap letters_in c.in-More.is)
+    c.units.invariant.client_grows c.in_ok-n.ensures.client_grows
+
+pub returns-in-More-clause-controller_grows : goal.returns-in-More-clause-controller_grows
+returns-in-More-clause-controller_grows g c =
+    grows_end c.args.asset.now c.args.moment c.args.side c.args.bytes.bytes c.after.result.bytes c.units.used c.after.ensures c.units.invariant.inside _ _ _ _ _ _ c.in_ok-n.field-0 (ap letters_in c.in-More.is)
+    c.units.invariant.controller_grows c.in_ok-n.ensures.controller_grows
+
+pub returns-in-More-clause-counts : goal.returns-in-More-clause-counts
+returns-in-More-clause-counts g c = omega (arith, c.units.invariant.counts, c.in_ok-n.ensures.counts, ap letters_in c.in-More.is)
+
+pub returns-in-More-clause-log : goal.returns-in-More-clause-log
+returns-in-More-clause-log g c = writes_both _ _ _ c.units.invariant.log c.step.ensures.log
+
+pub returns-in-More-clause-cause : goal.returns-in-More-clause-cause
+returns-in-More-clause-cause g c = record { later = omega (arith, c.units.invariant.log.keeps.later, c.step.ensures.log.keeps.later); rose = λ e. cc e }
+
+pub returns-in-Cut-clause-used : goal.returns-in-Cut-clause-used
+returns-in-Cut-clause-used g c = c.units.invariant.inside
+
+pub returns-in-Cut-clause-history : goal.returns-in-Cut-clause-history
+returns-in-Cut-clause-history g c = follows_cut c.args.asset.now c.args.moment c.args.side c.args.bytes.bytes c.after.result.bytes c.units.used _ _ _ c.units.invariant.along c.after.ensures c.in_ok-n.field-0 c.in_ok-n.ensures.steps c.requires.modbus c.in-Cut.reason c.in-Cut.is
+
+pub returns-in-Cut-clause-client_grows : goal.returns-in-Cut-clause-client_grows
+returns-in-Cut-clause-client_grows g c =
+    grows_end c.args.asset.now c.args.moment c.args.side c.args.bytes.bytes c.after.result.bytes c.units.used c.after.ensures c.units.invariant.inside _ _ _ _ _ _ c.in_ok-n.field-0 (ap letters_in c.in-Cut.is)
+    c.units.invariant.client_grows c.in_ok-n.ensures.client_grows
+
+pub returns-in-Cut-clause-controller_grows : goal.returns-in-Cut-clause-controller_grows
+returns-in-Cut-clause-controller_grows g c =
+    grows_end c.args.asset.now c.args.moment c.args.side c.args.bytes.bytes c.after.result.bytes c.units.used c.after.ensures c.units.invariant.inside _ _ _ _ _ _ c.in_ok-n.field-0 (ap letters_in c.in-Cut.is)
+    c.units.invariant.controller_grows c.in_ok-n.ensures.controller_grows
+
+pub returns-in-Cut-clause-counts : goal.returns-in-Cut-clause-counts
+returns-in-Cut-clause-counts g c = omega (arith, c.units.invariant.counts, c.in_ok-n.ensures.counts, ap letters_in c.in-Cut.is)
+
+pub returns-in-Cut-clause-log : goal.returns-in-Cut-clause-log
+returns-in-Cut-clause-log g c = writes_both _ _ _ c.units.invariant.log c.step.ensures.log
+
+pub returns-in-Cut-clause-cause : goal.returns-in-Cut-clause-cause
+returns-in-Cut-clause-cause g c = record { later = omega (arith, c.units.invariant.log.keeps.later, c.step.ensures.log.keeps.later); rose = λ e. cc e }
+
+pub returns-in-More-clause-left : goal.returns-in-More-clause-left
+returns-in-More-clause-left g c = λ e.
+    little_left c.args.asset.now c.args.moment c.args.side c.args.bytes.bytes c.after.result.bytes c.units.used _ _ _ c.units.invariant.along c.after.ensures c.in_ok-n.field-0 c.in_ok-n.ensures.steps c.requires.modbus c.in-More.is
+
+pub returns-in-Cut-clause-left : goal.returns-in-Cut-clause-left
+returns-in-Cut-clause-left g c = λ e. cc e
+
+pub returns-in-More-clause-client : goal.returns-in-More-clause-client
+returns-in-More-clause-client g c =
+    same_client c.args.asset.now c.args.moment c.args.side c.args.bytes.bytes c.after.result.bytes c.units.used _ _ _ c.units.invariant.along c.after.ensures c.in_ok-n.field-0 c.in_ok-n.ensures.steps c.requires.modbus (inl c.in-More.is)
+
+pub returns-in-Cut-clause-client : goal.returns-in-Cut-clause-client
+returns-in-Cut-clause-client g c =
+    same_client c.args.asset.now c.args.moment c.args.side c.args.bytes.bytes c.after.result.bytes c.units.used _ _ _ c.units.invariant.along c.after.ensures c.in_ok-n.field-0 c.in_ok-n.ensures.steps c.requires.modbus (inr (c.in-Cut.reason, c.in-Cut.is))
+
+pub returns-in_err-n-clause-fails : goal.returns-in_err-n-clause-fails
+returns-in_err-n-clause-fails g c =
+    on_err _ _ (fails_within c.args.asset.now (free_unit c.args.asset.now.protocol c.requires.modbus) (nothing_unit c.args.asset.now.protocol c.requires.modbus)
+    c.args.moment c.args.side c.args.bytes.bytes c.units.used _ _ _ c.units.invariant.along (misses_rest _ _ _ _ _ _ _ c.after.ensures c.in_err-n.ensures.misses))

@@ -1,0 +1,53 @@
+use Rattle.std.proofs.Common.{◌∷◌, [], ◌+◌, refl, ap, ◌∙◌, subst}
+use Rattle.cf_modbus.specs.Adu.{adu_value, spelling}
+use Rattle.cf_outside.specs.Desk.{DeskValue}
+use Rattle.cf_lane.specs.Log.{line_about, refusal_line, is_some_bytes, with_lines}
+use Rattle.cf_lane.specs.Modbus.{adu_reply, HasCommandFate}
+use Rattle.cf_lane.specs.Handled.{LaneValue}
+use Rattle.cf_lane.specs.declared.fate.Fate.TheVariants as fate
+use Rattle.cf_lane.proofs.Failing.{on_err, misses_refused}
+use Rattle.cf_lane.proofs.Taking.{takes_admitted, takes_refused}
+use Rattle.cf_lane.proofs.lane.Lane.take_command.Goals as goal
+
+pub returns-in-Admitted-clause-takes : goal.returns-in-Admitted-clause-takes
+returns-in-Admitted-clause-takes g c =
+    let P : LaneValue → Type 0 = λ l. HasCommandFate c.args.asset.now l.client.address (adu_value c.args.adu.now) fate.Admitted in
+    takes_admitted c.args.asset.now c.args.moment (adu_value c.args.adu.now) _ _ (ap (λ (l : LaneValue). l.client) c.self.view_is) c.requires.«open»
+    (subst P c.self.view_is c.in-Admitted.ensures.fate)
+    (ap (λ (l : LaneValue). l.admitted + 1) c.self.view_is) (ap (λ (l : LaneValue). l.refused) c.self.view_is) refl c.push_adu.ensures.queue refl
+
+pub returns-in_ok-log_refusal-in-Refused-clause-takes : goal.returns-in_ok-log_refusal-in-Refused-clause-takes
+returns-in_ok-log_refusal-in-Refused-clause-takes g c =
+    let a = adu_value c.args.adu.now in
+    let r = c.in-Refused.refusal in
+    let asset = c.args.asset.now in
+    let moment = c.args.moment in
+    let text = DeskValue.lines (g.D.Desk.value c.args.desk.now) in
+    let P : LaneValue → Type 0 = λ l. HasCommandFate asset l.client.address a (fate.Refused r) in
+    takes_refused asset moment a _ _ (ap (λ (l : LaneValue). l.client) c.self.view_is) r
+    (subst P c.self.view_is c.in-Refused.ensures.fate)
+    (ap (λ (l : LaneValue). l.admitted) c.self.view_is) (ap (λ (l : LaneValue). l.refused + 1) c.self.view_is)
+    c.reply-replied.ensures.queue refl
+    (c.in_ok-log_refusal-in-Refused.ensures.lines
+    ∙ ap (λ b. with_lines text (line_about asset c.self.inside.client moment (refusal_line asset r b c.args.octets.bytes) ∷ [])) c.reply-replied.ensures.replied
+    ∙ ap (λ o. with_lines text (line_about asset c.self.inside.client moment (refusal_line asset r (is_some_bytes (adu_reply c.args.to_client.now.ended (fate.Refused r) a)) o) ∷ [])) c.requires.octets
+    ∙ ap (λ (l : LaneValue). with_lines text (line_about asset l.client moment (refusal_line asset r (is_some_bytes (adu_reply c.args.to_client.now.ended (fate.Refused r) a)) (spelling a)) ∷ [])) c.self.view_is)
+
+pub returns-in_err-log_refusal-in-Refused-clause-misses : goal.returns-in_err-log_refusal-in-Refused-clause-misses
+returns-in_err-log_refusal-in-Refused-clause-misses g c =
+    let a = adu_value c.args.adu.now in
+    let r = c.in-Refused.refusal in
+    let asset = c.args.asset.now in
+    let P : LaneValue → Type 0 = λ l. HasCommandFate asset l.client.address a (fate.Refused r) in
+    let reply = adu_reply c.args.to_client.now.ended (fate.Refused r) a in
+    on_err _ _ (misses_refused asset c.args.moment a r _
+    (record { client = c.self.inside.client; admitted = c.self.inside.admitted; refused = c.self.inside.refused + 1 }) _ c.args.to_controller.now _
+    (ap (λ (l : LaneValue). l.client) c.self.view_is)
+    (subst P c.self.view_is c.in-Refused.ensures.fate)
+    (ap (λ (l : LaneValue). l.admitted) c.self.view_is) (ap (λ (l : LaneValue). l.refused + 1) c.self.view_is)
+    c.reply-replied.ensures.queue refl
+    (line_about asset c.self.inside.client c.args.moment (refusal_line asset r c.reply-replied.result c.args.octets.bytes))
+    (ap (λ b. line_about asset c.self.inside.client c.args.moment (refusal_line asset r b c.args.octets.bytes)) c.reply-replied.ensures.replied
+    ∙ ap (λ o. line_about asset c.self.inside.client c.args.moment (refusal_line asset r (is_some_bytes reply) o)) c.requires.octets
+    ∙ ap (λ (l : LaneValue). line_about asset l.client c.args.moment (refusal_line asset r (is_some_bytes reply) (spelling a))) c.self.view_is)
+    c.in_err-log_refusal-in-Refused.ensures.fails)

@@ -1,0 +1,99 @@
+-- What a lane, its two queues and the log stand for: the items of a whole history. This project's own.
+use Rattle.cf_audit.specs.declared.line.CutReason.{CutReason}
+use Rattle.cf_lane.specs.Fate.{HaveFates}
+use Rattle.cf_lane.specs.Handled.{Knows, State}
+use Rattle.cf_lane.specs.History.{Element, bytes_at, bytes_of}
+use Rattle.cf_lane.specs.Item.{AreItems, Placed}
+use Rattle.cf_lane.specs.Judged.{Judged, cut_by, cut_of, place_of}
+use Rattle.cf_lane.specs.Log.{lines, with_lines}
+use Rattle.cf_lane.specs.Output.{stream_to}
+use Rattle.cf_lane.specs.Unit.{SpellsUnit, UnitValue}
+use Rattle.cf_outq.specs.SendQueue.{IsQueueOf}
+use Rattle.cf_policy.specs.declared.Asset.{Asset}
+use Rattle.cf_policy.specs.declared.Protocol.{Protocol}
+use Rattle.cf_view.specs.Units.{IsUnitsThenRest}
+use Rattle.cf_view.specs.declared.Endpoint.{Endpoint}
+use Rattle.cf_view.specs.declared.Side.{Side}
+use Rattle.std.specs.Prelude.{Bool, List, None, Option, Some, [], false, map, take, true, ℕ, ◌++◌, ◌∷◌, ◌≡◌}
+use Rattle.cf_view.specs.declared.Side.TheVariants as side
+
+-- no item follows the first that cuts, and none is missing before it
+abbrev pub GoesOnAfter : Option CutReason → (later : List Judged) → (going : Type 0) → Type 0
+GoesOnAfter None later going = going
+GoesOnAfter (Some reason) later going = later ≡ []
+
+abbrev pub GoesOn : (judged : List Judged) → (dropped : List Placed) → Type 0
+GoesOn [] dropped = dropped ≡ []
+GoesOn (j ∷ js) dropped = GoesOnAfter (cut_by j.fate) js (GoesOn js dropped)
+
+-- the judged items of a history: its items up to the first that cuts, each with its fate after the earlier ones
+pub record AreJudged (asset : Asset) (client : ℕ) (history : List Element) (judged : List Judged) : Type 0 where
+  pub items : List Placed
+  pub are_items : AreItems asset.protocol [] history items
+  pub dropped : List Placed
+  pub are_first : items ≡ map place_of judged ++ dropped
+  pub goes_on : GoesOn judged dropped
+  pub fates : HaveFates asset client [] judged
+
+-- what is left of each side: bytes that are no whole unit
+pub record Rests : Type 0 where
+  pub client : List ℕ
+  pub controller : List ℕ
+
+abbrev pub rest_of : Side → Rests → List ℕ
+rest_of side.Client r = r.client
+rest_of side.Controller r = r.controller
+
+abbrev pub with_rest : Side → Rests → List ℕ → Rests
+with_rest side.Client r rest = record { client = rest; controller = r.controller }
+with_rest side.Controller r rest = record { client = r.client; controller = rest }
+
+abbrev pub no_rests : Rests
+no_rests = record { client = []; controller = [] }
+
+pub record IsRest (p : Protocol) (bytes rest : List ℕ) : Type 0 where
+  pub units : List UnitValue
+  pub cut : IsUnitsThenRest (SpellsUnit p) units bytes rest
+
+-- the rests of both sides, where no item cut
+abbrev pub AreRests : Protocol → List Element → Rests → Option CutReason → Type 0
+AreRests p history rests None = IsRest p (bytes_of side.Client history) rests.client × IsRest p (bytes_of side.Controller history) rests.controller
+AreRests p history rests (Some reason) = Unit {0}
+
+-- lane, queues and log stand for a history: the queues have the two streams, the log has the lines behind what it had
+-- first, and the cut is that of the history
+pub record Follows (asset : Asset) (history : List Element) (rests : Rests) (cut : Option CutReason) (first : Option (List (List ℕ))) (now : State) : Type 0 where
+  pub judged : List Judged
+  pub are_judged : AreJudged asset now.lane.client.address history judged
+  pub is_cut : cut_of judged ≡ cut
+  pub are_rests : AreRests asset.protocol history rests cut
+  pub knows : Knows asset now judged
+  pub client_stream : IsQueueOf now.to_client (stream_to asset side.Client judged)
+  pub controller_stream : IsQueueOf now.to_controller (stream_to asset side.Controller judged)
+  pub of_lines : now.lines ≡ with_lines first (lines asset now.lane.client [] judged)
+
+-- an End may stand behind bytes in one element where the bytes cut: it is then no item
+abbrev pub IsEndBehindCut : (ended : Bool) → Option CutReason → Type 0
+IsEndBehindCut false cut = Unit {0}
+IsEndBehindCut true None = ⊥
+IsEndBehindCut true (Some reason) = Unit {0}
+
+-- a log has, behind what it had first, the first lines of a history's items
+pub record Began (asset : Asset) (client : Endpoint) (history : List Element) (first log : Option (List (List ℕ))) : Type 0 where
+  pub judged : List Judged
+  pub are_judged : AreJudged asset client.address history judged
+  pub count : ℕ
+  pub of_lines : log ≡ with_lines first (take count (lines asset client [] judged))
+
+-- a piece was handled up to a unit whose line failed: the log has the first lines of the history up to there
+pub record BeganWithin (asset : Asset) (client : Endpoint) (history : List Element) (moment : ℕ) (s : Side) (piece : List ℕ) (first log : Option (List (List ℕ))) : Type 0 where
+  pub part : List ℕ
+  pub rest : List ℕ
+  pub piece_is : piece ≡ part ++ rest
+  pub began : Began asset client (history ++ bytes_at moment s part ∷ []) first log
+
+-- so it is of each history that was followed
+abbrev pub FailsWithin : Asset → ℕ → Side → List ℕ → State → (log : Option (List (List ℕ))) → Type 0
+FailsWithin asset moment s bytes old log =
+    (h : List Element) (rests : Rests) (first : Option (List (List ℕ))) (piece : List ℕ) → bytes ≡ rest_of s rests ++ piece →
+    Follows asset h rests None first old → BeganWithin asset old.lane.client h moment s piece first log

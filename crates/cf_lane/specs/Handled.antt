@@ -1,0 +1,159 @@
+-- What a lane does with the units at the front of a side's bytes. Nothing here speaks of a history: the items before are
+-- any items that lane and queues stand for.
+use Rattle.cf_audit.specs.declared.line.CutReason.{CutReason}
+use Rattle.cf_lane.specs.Fate.{HaveFates}
+use Rattle.cf_lane.specs.Item.{Item, Took}
+use Rattle.cf_lane.specs.Judged.{Judged, cut_by, has_ended, is_admitted, is_refused}
+use Rattle.cf_lane.specs.Log.{lines, with_lines}
+use Rattle.cf_lane.specs.Output.{outputs}
+use Rattle.cf_lane.specs.Unit.{Adu, SpellsUnit, UnitValue, unit_break}
+use Rattle.cf_lane.specs.declared.fate.Fate.{Fate}
+use Rattle.cf_lane.specs.declared.lane.Step.{Step}
+use Rattle.cf_modbus.specs.Adu.{AduValue}
+use Rattle.cf_outq.specs.SendQueue.{Queue, after_end, after_push}
+use Rattle.cf_outside.specs.Desk.{DeskValue, KeepsDesk}
+use Rattle.cf_policy.specs.declared.Asset.{Asset}
+use Rattle.cf_view.specs.Framing.{Begins, BreaksAt, IsPartial}
+use Rattle.cf_view.specs.declared.Endpoint.{Endpoint}
+use Rattle.cf_view.specs.declared.Side.{Side}
+use Rattle.std.specs.Prelude.{List, None, Option, Some, [], count_by, false, length, true, ℕ, ◌++◌, ◌+◌, ◌<◌, ◌^◌, ◌∷◌, ◌≡◌, ◌≤◌, ◌⊎◌}
+use Rattle.cf_audit.specs.declared.line.CutReason.TheVariants as cut
+use Rattle.cf_policy.specs.declared.Protocol.TheVariants as protocol
+use Rattle.cf_view.specs.declared.Side.TheVariants as side
+use Rattle.cf_lane.specs.declared.lane.Step.TheVariants as step
+
+-- what a contract sees of a `Lane`
+pub record LaneValue : Type 0 where
+  pub client : Endpoint
+  pub admitted : ℕ
+  pub refused : ℕ
+
+-- a lane with its two queues and the log
+pub record State : Type 0 where
+  pub lane : LaneValue
+  pub to_client : Queue
+  pub to_controller : Queue
+  pub lines : Option (List (List ℕ))
+
+abbrev pub state : LaneValue → Queue → Queue → Option (List (List ℕ)) → State
+state lane to_client to_controller lines = record { lane = lane; to_client = to_client; to_controller = to_controller; lines = lines }
+
+-- what the lane and its queues know of earlier items: the numbers are counts, and a queue has ended
+-- where the other side has. (DNP3 adds an assembly for each side, IEC 104 its numbers)
+pub record Knows (asset : Asset) (s : State) (earlier : List Judged) : Type 0 where
+  pub admitted : s.lane.admitted ≡ count_by (λ j. is_admitted j.fate) earlier
+  pub refused : s.lane.refused ≡ count_by (λ j. is_refused j.fate) earlier
+  pub client_ended : s.to_client.ended ≡ has_ended side.Controller earlier
+  pub controller_ended : s.to_controller.ended ≡ has_ended side.Client earlier
+
+-- what judged items do after the earlier ones
+pub record Does (asset : Asset) (earlier js : List Judged) (old new : State) : Type 0 where
+  pub knows : Knows asset new (earlier ++ js)
+  pub fates : HaveFates asset old.lane.client.address earlier js
+  pub of_client : new.to_client ≡ after_push old.to_client (outputs asset side.Client earlier js)
+  pub of_controller : new.to_controller ≡ after_push old.to_controller (outputs asset side.Controller earlier js)
+  pub of_lines : new.lines ≡ with_lines old.lines (lines asset old.lane.client earlier js)
+  -- nothing follows an End
+  pub client_quiet : old.to_client.ended ≡ true → outputs asset side.Client earlier js ≡ []
+  pub controller_quiet : old.to_controller.ended ≡ true → outputs asset side.Controller earlier js ≡ []
+
+-- these items were handled, whatever came before them
+pub record Handled (asset : Asset) (js : List Judged) (old new : State) : Type 0 where
+  pub client : new.lane.client ≡ old.lane.client
+  pub does : (earlier : List Judged) → Knows asset old earlier → Does asset earlier js old new
+
+abbrev pub judged : ℕ → Item → Fate → Judged
+judged moment item f = record { moment = moment; item = item; fate = f }
+
+-- one unit at the front was handled
+pub record TakesUnit (asset : Asset) (moment : ℕ) (s : Side) (bytes : List ℕ) (used : ℕ) (cut : Option CutReason) (old new : State) : Type 0 where
+  pub unit : UnitValue
+  pub begins : Begins (SpellsUnit asset.protocol) bytes unit used
+  pub some_bytes : 0 < used
+  pub fate : Fate
+  pub is_cut : cut_by fate ≡ cut
+  pub handled : Handled asset (judged moment (Took s unit) fate ∷ []) old new
+
+-- an octet at the front is one that no unit has there
+pub record Breaks (asset : Asset) (s : Side) (bytes : List ℕ) (reason : CutReason) : Type 0 where
+  pub place : ℕ
+  pub breaks : BreaksAt (SpellsUnit asset.protocol) bytes place
+  pub is_reason : reason ≡ cut.Framing s (unit_break asset.protocol place)
+
+-- what a step answers: a unit, none yet, or a cut, which comes by an octet, or by a unit of IEC 104
+abbrev pub Steps : Asset → ℕ → Side → List ℕ → State → State → Step → Type 0
+Steps asset moment s bytes old new (step.Took used) = TakesUnit asset moment s bytes used None old new
+Steps asset moment s bytes old new step.More = IsPartial (SpellsUnit asset.protocol) bytes × (new ≡ old)
+Steps asset moment s bytes old new (step.Cut reason) =
+    (Breaks asset s bytes reason × (new ≡ old)) ⊎ ((asset.protocol ≡ protocol.Iec104) × ((used : ℕ) × TakesUnit asset moment s bytes used (Some reason) old new))
+
+-- the octets that unfinished DNP3 fragments may still put out; a lane of Modbus has none
+abbrev pub debt : LaneValue → ℕ
+debt lane = 0
+
+-- what a queue keeps grew, with what is owed, by at most so much; all else of it is as it was
+pub record Grows (most debt_before debt_now : ℕ) (old new : Queue) : Type 0 where
+  pub kept : length new.kept + debt_now ≤ length old.kept + debt_before + most
+  pub pushed : new.pushed + debt_now ≤ old.pushed + debt_before + most
+  pub rest : new ≡ record old { kept = new.kept; pushed = new.pushed }
+
+abbrev pub letters_in : Step → ℕ
+letters_in (step.Took used) = used
+letters_in step.More = 0
+letters_in (step.Cut reason) = 0
+
+-- a client's command was taken by its fate
+pub record TakesCommand (asset : Asset) (moment : ℕ) (a : AduValue) (old new : State) : Type 0 where
+  pub fate : Fate
+  pub uncut : cut_by fate ≡ None
+  pub handled : Handled asset (judged moment (Took side.Client (Adu a)) fate ∷ []) old new
+
+-- the numbers rose by one command at most for so many letters
+abbrev pub CountsBy : ℕ → LaneValue → LaneValue → Type 0
+CountsBy most old new = new.admitted + new.refused ≤ old.admitted + old.refused + most
+
+-- the queue to the other side is open, so that the side's bytes may go on
+abbrev pub IsOpen : Side → (to_client to_controller : Queue) → Type 0
+IsOpen side.Client to_client to_controller = to_controller.ended ≡ false
+IsOpen side.Controller to_client to_controller = to_client.ended ≡ false
+
+-- the queue has room for so many bytes, End besides
+pub record HasRoom (most : ℕ) (q : Queue) : Type 0 where
+  pub room : length q.kept + most ≤ 131072
+  pub limit : q.pushed + most < 2 ^ 31
+
+-- the queue to the other side has its End, and the other queue is as it was
+abbrev pub EndsOther : Side → (to_client to_controller new_client new_controller : Queue) → Type 0
+EndsOther side.Client c k c' k' = (c' ≡ c) × (k' ≡ after_end k)
+EndsOther side.Controller c k c' k' = (c' ≡ after_end c) × (k' ≡ k)
+
+-- an End may still be put into the queue to the other side
+abbrev pub MayEnd : Side → (to_client to_controller : Queue) → Type 0
+MayEnd side.Client c k = k.pushed < 2 ^ 31
+MayEnd side.Controller c k = c.pushed < 2 ^ 31
+
+-- the desk's log has these lines more
+abbrev pub HasAdded : List (List ℕ) → DeskValue → DeskValue → Type 0
+HasAdded more old new = new.lines ≡ with_lines old.lines more
+
+-- it has them, or none of them
+abbrev pub MayHaveAdded : List (List ℕ) → DeskValue → DeskValue → Type 0
+MayHaveAdded more old new = (new.lines ≡ old.lines) ⊎ HasAdded more old new
+
+-- nothing but the log was written: no packet was emitted, the desk is the same one, and files of other names are as they were
+pub record WritesLog (old new : DeskValue) : Type 0 where
+  pub packets : new.packets ≡ old.packets
+  pub keeps : KeepsDesk old new
+
+-- a command was handled but for its line, which the log may have all the same
+pub record MissesCommand (asset : Asset) (moment : ℕ) (a : AduValue) (old : State) (log : Option (List (List ℕ))) : Type 0 where
+  pub new : State
+  pub takes : TakesCommand asset moment a old new
+  pub line : (log ≡ old.lines) ⊎ (log ≡ new.lines)
+
+-- a unit was handled but for its line, which the log may have all the same
+pub record Misses (asset : Asset) (moment : ℕ) (s : Side) (bytes : List ℕ) (old : State) (log : Option (List (List ℕ))) : Type 0 where
+  pub used : ℕ
+  pub new : State
+  pub takes : TakesUnit asset moment s bytes used None old new
+  pub line : (log ≡ old.lines) ⊎ (log ≡ new.lines)

@@ -1,0 +1,121 @@
+-- IEC 104 in the lane: the fate of an APDU, what it puts into the stream to each side, and what its line shows.
+-- IEC 60870-5-104; fates are this project's own.
+use Rattle.cf_apci.specs.Apdu.{Ack, ApduValue, Control, Info}
+use Rattle.cf_asdu.specs.Asdu.{AsduValue, refusal_reason, station_of}
+use Rattle.cf_asdu.specs.Mirror.{mirrored}
+use Rattle.cf_asdu.specs.declared.asdu.AsduRefusal.{AsduRefusal}
+use Rattle.cf_audit.specs.declared.line.CutReason.{CutReason}
+use Rattle.cf_lane.specs.Acts.{act_of_code, fate_of_acts}
+use Rattle.cf_lane.specs.Judged.{Judged, goes_on}
+use Rattle.cf_lane.specs.Numbers.{count_now, counted, for_client, for_controller, frames_into, frames_to_client, has_mirror, info_cut, marks, wrong_receive}
+use Rattle.cf_lane.specs.Unit.{apdu_spelling}
+use Rattle.cf_lane.specs.declared.fate.Fate.{Fate}
+use Rattle.cf_policy.specs.declared.Asset.{Asset}
+use Rattle.cf_policy.specs.declared.Decider.{Decider}
+use Rattle.cf_view.specs.declared.Reason.{Reason}
+use Rattle.cf_view.specs.declared.Side.{Side}
+use Rattle.std.specs.Prelude.{List, None, Option, Some, [], drop, false, if◌then◌else◌, length, nat_eq, nat_lt, slice_index, ℕ, ◌%◌, ◌++◌, ◌∷◌}
+use Rattle.cf_asdu.specs.Asdu as asdus
+use Rattle.cf_asdu.specs.Acts as commands
+use Rattle.cf_policy.specs.declared.Decider.TheVariants as decider
+use Rattle.cf_lane.specs.declared.fate.Fate.TheVariants as fate
+use Rattle.cf_view.specs.declared.Reason.TheVariants as reason
+use Rattle.cf_asdu.specs.declared.asdu.AsduRefusal.TheVariants as refusal
+use Rattle.cf_view.specs.declared.Side.TheVariants as side
+
+-- the ASDU whose octets these are, nine or more
+abbrev pub asdu_in : List ℕ → AsduValue
+asdu_in octets = record {
+  kind = slice_index octets 0;
+  number = slice_index octets 1;
+  cause = slice_index octets 2;
+  origin = slice_index octets 3;
+  station = station_of octets;
+  objects = drop 6 octets;
+}
+
+-- a refusal of a whole ASDU: its act is the type with a point
+abbrev pub asdu_refused : Decider → Reason → List ℕ → (point : ℕ) → Fate
+asdu_refused decided because octets point =
+    fate.Refused (record { decider = decided; reason = because; act = act_of_code (slice_index octets 0) point })
+
+-- the fate of an ASDU of the right station by the rest of its form
+abbrev pub fate_by_form : Asset → ℕ → List ℕ → Option AsduRefusal → Fate
+fate_by_form asset client octets (Some refusal) = asdu_refused decider.Form (refusal_reason refusal) octets 0
+fate_by_form asset client octets None = fate_of_acts asset client (commands.acts (asdu_in octets))
+
+-- the fate of a client's ASDU: whether it is too short is tested before the station, the rest of the form after it
+abbrev pub fate_of_asdu : Asset → ℕ → List ℕ → Fate
+fate_of_asdu asset client octets =
+    if nat_lt (length octets) 9 then asdu_refused decider.Form (refusal_reason refusal.Short) octets 0
+    else (if nat_eq (station_of octets) asset.station then fate_by_form asset client octets (asdus.first_refusal (asdu_in octets))
+    else asdu_refused decider.Station reason.Station octets (station_of octets))
+
+abbrev pub or_cut : Option CutReason → Fate → Fate
+or_cut None f = f
+or_cut (Some because) f = fate.Cuts because
+
+-- the fate of an I frame's ASDU, once its numbers are right
+abbrev pub fate_of_info : Asset → ℕ → Side → List ℕ → Fate
+fate_of_info asset client side.Client asdu = fate_of_asdu asset client asdu
+fate_of_info asset client side.Controller asdu = fate.Carried
+
+abbrev pub fate_of_apdu : Asset → ℕ → Side → List Judged → ApduValue → Fate
+fate_of_apdu asset client s earlier (Control octet) = fate.Carried
+fate_of_apdu asset client s earlier (Ack receive) = or_cut (wrong_receive s earlier receive) fate.Carried
+fate_of_apdu asset client s earlier (Info send receive asdu) = or_cut (info_cut s earlier send receive) (fate_of_info asset client s asdu)
+
+-- the count that goes to the controller with a number of the client, and the one that went last
+abbrev pub ack_now : List Judged → ℕ → ℕ
+ack_now earlier receive = for_controller (frames_to_client earlier) (count_now side.Client earlier receive)
+
+abbrev pub ack_before : List Judged → ℕ
+ack_before earlier = for_controller (frames_to_client earlier) (counted side.Client earlier)
+
+-- a refused command leaves an S unit where it acknowledges more
+abbrev pub owed_ack : List Judged → Fate → ℕ → List ℕ
+owed_ack earlier (fate.Refused refusal) receive =
+    if nat_lt (ack_before earlier) (ack_now earlier receive) then apdu_spelling (Ack (ack_now earlier receive % 32768)) else []
+owed_ack earlier fate.Carried receive = []
+owed_ack earlier fate.Admitted receive = []
+owed_ack earlier (fate.Stray because) receive = []
+owed_ack earlier fate.Lengthens receive = []
+owed_ack earlier (fate.Cuts because) receive = []
+
+abbrev pub mirror_output : List Judged → Fate → ApduValue → List ℕ
+mirror_output earlier (fate.Refused refusal) (Info send receive asdu) =
+    if has_mirror earlier (Info send receive asdu ∷ [])
+    then apdu_spelling (Info (frames_into side.Client earlier % 32768) (for_client (marks earlier ++ false ∷ []) (counted side.Controller earlier) % 32768) (mirrored asdu))
+    else []
+mirror_output earlier (fate.Refused refusal) (Ack receive) = []
+mirror_output earlier (fate.Refused refusal) (Control octet) = []
+mirror_output earlier fate.Carried a = []
+mirror_output earlier fate.Admitted a = []
+mirror_output earlier (fate.Stray because) a = []
+mirror_output earlier fate.Lengthens a = []
+mirror_output earlier (fate.Cuts because) a = []
+
+-- what goes on to the other side, with its numbers translated
+abbrev pub renumbered : Side → List Judged → ApduValue → ApduValue
+renumbered side.Controller earlier (Info send receive asdu) = Info (frames_into side.Controller earlier % 32768) (ack_now earlier receive % 32768) asdu
+renumbered side.Controller earlier (Ack receive) = Ack (ack_now earlier receive % 32768)
+renumbered side.Controller earlier (Control octet) = Control octet
+renumbered side.Client earlier (Info send receive asdu) =
+    Info (frames_into side.Client earlier % 32768) (for_client (marks earlier) (count_now side.Controller earlier receive) % 32768) asdu
+renumbered side.Client earlier (Ack receive) = Ack (for_client (marks earlier) (count_now side.Controller earlier receive) % 32768)
+renumbered side.Client earlier (Control octet) = Control octet
+
+abbrev pub info_number : ApduValue → ℕ
+info_number (Info send receive asdu) = receive
+info_number (Ack receive) = receive
+info_number (Control octet) = 0
+
+abbrev pub apdu_output : Side → List Judged → Fate → Side → ApduValue → List ℕ
+apdu_output side.Client earlier f side.Client a = mirror_output earlier f a
+apdu_output side.Client earlier f side.Controller a = if goes_on f then apdu_spelling (renumbered side.Client earlier a) else []
+apdu_output side.Controller earlier f side.Client a = if goes_on f then apdu_spelling (renumbered side.Controller earlier a) else owed_ack earlier f (info_number a)
+apdu_output side.Controller earlier f side.Controller a = []
+
+-- its line shows the APDU
+abbrev pub apdu_octets : ApduValue → List ℕ
+apdu_octets a = apdu_spelling a

@@ -1,0 +1,71 @@
+-- Items with their moments and fates, and what is counted of them. This project's own.
+use Rattle.cf_audit.specs.declared.line.CutReason.{CutReason}
+use Rattle.cf_lane.specs.History.{is_side}
+use Rattle.cf_lane.specs.Item.{Broke, Ended, Item, Placed, Took}
+use Rattle.cf_lane.specs.declared.fate.Fate.{Fate}
+use Rattle.cf_view.specs.declared.Side.{Side}
+use Rattle.std.specs.List.{list_any}
+use Rattle.std.specs.Option.{option_or}
+use Rattle.std.specs.Prelude.{Bool, List, None, Option, Some, [], false, true, ℕ, ◌++◌, ◌∷◌}
+use Rattle.cf_lane.specs.declared.fate.Fate.TheVariants as fate
+
+pub record Judged : Type 0 where
+  pub moment : ℕ
+  pub item : Item
+  pub fate : Fate
+
+abbrev pub place_of : Judged → Placed
+place_of j = record { moment = j.moment; item = j.item }
+
+-- the item is this side's End
+abbrev pub ends : Side → Item → Bool
+ends s (Took of unit) = false
+ends s (Ended of rest) = is_side s of
+ends s (Broke of reason) = false
+
+-- this side's End is among them
+abbrev pub has_ended : Side → List Judged → Bool
+has_ended s js = list_any (λ j. ends s j.item) js
+
+abbrev pub is_admitted : Fate → Bool
+is_admitted fate.Carried = false
+is_admitted fate.Admitted = true
+is_admitted (fate.Refused refusal) = false
+is_admitted (fate.Stray why) = false
+is_admitted fate.Lengthens = false
+is_admitted (fate.Cuts reason) = false
+
+abbrev pub is_refused : Fate → Bool
+is_refused fate.Carried = false
+is_refused fate.Admitted = false
+is_refused (fate.Refused refusal) = true
+is_refused (fate.Stray why) = false
+is_refused fate.Lengthens = false
+is_refused (fate.Cuts reason) = false
+
+abbrev pub cut_by : Fate → Option CutReason
+cut_by fate.Carried = None
+cut_by fate.Admitted = None
+cut_by (fate.Refused refusal) = None
+cut_by (fate.Stray why) = None
+cut_by fate.Lengthens = None
+cut_by (fate.Cuts reason) = Some reason
+
+-- the reason of the first that cuts
+abbrev pub cut_of : List Judged → Option CutReason
+cut_of [] = None
+cut_of (j ∷ js) = option_or (cut_by j.fate) (cut_of js)
+
+-- what items put out one after the other, where each may read the earlier ones
+abbrev pub in_turn : {X : Type 0} → (List Judged → Judged → List X) → List Judged → List Judged → List X
+in_turn put earlier [] = []
+in_turn put earlier (j ∷ js) = put earlier j ++ in_turn put (earlier ++ j ∷ []) js
+
+-- an item of this fate goes on to the other side
+abbrev pub goes_on : Fate → Bool
+goes_on fate.Carried = true
+goes_on fate.Admitted = true
+goes_on (fate.Refused refusal) = false
+goes_on (fate.Stray because) = false
+goes_on fate.Lengthens = false
+goes_on (fate.Cuts because) = false

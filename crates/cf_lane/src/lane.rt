@@ -1,0 +1,241 @@
+//! The filter of one session's two streams, without TCP.
+ghost use Rattle.std.specs.Prelude.{◌≡◌, ℕ, ◌+◌, ◌*◌, ◌^◌, ◌<◌, ◌≤◌, ◌++◌, [], ◌∷◌, Bool, true, None, Option, IfOk, OnOk, OnErr, IsErr, List, length, drop};
+ghost use Rattle.cf_outq.specs.SendQueue.{Queue, IsQueueOf};
+ghost use Rattle.cf_outside.specs.Faults.{HasCause};
+ghost use Rattle.cf_outside.specs.Desk.{DeskValue};
+ghost use Rattle.cf_policy.specs.Within.{IsAssetWithin};
+ghost use Rattle.cf_stream.specs.Stream.{no_letters};
+ghost use Rattle.cf_lane.specs.Follows.{Follows, Began, FailsWithin, IsEndBehindCut, Rests, rest_of, with_rest, no_rests};
+ghost use Rattle.cf_lane.specs.Handled.{LaneValue, Steps, Misses, Grows, CountsBy, HasRoom, IsOpen, MayEnd, EndsOther, WritesLog, debt, letters_in, state};
+ghost use Rattle.cf_lane.specs.History.{Element, letters_at, end_at};
+
+use crate::log::log_end;
+use cf_audit::CutReason;
+use cf_outq::Outq;
+use cf_outside::Desk;
+use cf_policy::{Asset, Protocol};
+use cf_view::{Endpoint, NoMemory, Side, View, WriteFault};
+use std::alloc::Global;
+use std::marker::Model;
+
+/// The lane of a session: it takes the bytes of both sides apart into commands, judges each, and puts what goes to
+/// each side into its queue.
+#[derive(Drop)]
+pub struct Lane {
+    pub(crate) client: Endpoint,
+    pub(crate) admitted: u64,
+    pub(crate) refused: u64,
+}
+
+impl Model for Lane {
+    ghost use Rattle.cf_lane.specs.Handled.{LaneValue};
+
+    ghost Value = { LaneValue };
+
+    ghost view = { λ l. record { client = l.client; admitted = l.admitted; refused = l.refused } };
+}
+
+/// What a lane made of bytes.
+#[derive(Clone, Copy, PartialEq, Eq, Debug)]
+pub struct Fed {
+    /// How many bytes were whole units. The rest is handed in again, before the bytes that follow.
+    pub used: usize,
+    /// Why the session is cut, if it is.
+    pub cut: Option<CutReason>,
+}
+
+/// What the unit at the front of a side's bytes led to.
+pub(crate) enum Step {
+    /// It takes so many bytes, and was handled.
+    Took(usize),
+    /// It is not whole.
+    More,
+    /// The session is cut.
+    Cut(CutReason),
+}
+
+impl Lane {
+    /// A lane of a session between this client and the asset, which speaks Modbus. Each later call is handed the same
+    /// asset.
+    pub fn new(_alloc: Global, asset: &Asset, client: Endpoint) -> Result<Lane, NoMemory>
+        requires modbus { asset.now.protocol ≡ Protocol.Modbus }
+        ensures value { IfOk result (λ lane. lane ≡ record { client = client; admitted = 0; refused = 0 }) }
+        ensures follows { IfOk result (λ lane. (to_client to_controller : Queue) (first : Option (List (List ℕ)))
+            → IsQueueOf to_client no_letters → IsQueueOf to_controller no_letters
+            → Follows asset.now [] no_rests None first (state lane to_client to_controller first)) }
+    {
+        Ok(Lane {
+            client,
+            admitted: 0,
+            refused: 0,
+        })
+    }
+
+    /// Handles every whole unit of a side's bytes, which begin where the last call left off, at a moment in
+    /// microseconds. After a cut no further call is made. Each queue has room for twice the bytes, and for what
+    /// unfinished fragments may still put out. The line of a cut is the caller's to write.
+    pub fn feed<D: Desk>(
+        &mut self,
+        asset: &Asset,
+        moment: u64,
+        side: Side,
+        bytes: View<'_>,
+        to_client: &mut Outq,
+        to_controller: &mut Outq,
+        desk: &mut D,
+    ) -> Result<Fed, WriteFault>
+        requires modbus { asset.now.protocol ≡ Protocol.Modbus }
+        requires within { IsAssetWithin asset.now }
+        requires whole { DeskValue.whole (D.value desk.old) ≡ true }
+        requires open { IsOpen side to_client.old to_controller.old }
+        requires client_room { HasRoom (debt self.old + 2 * length bytes.bytes) to_client.old }
+        requires controller_room { HasRoom (debt self.old + 2 * length bytes.bytes) to_controller.old }
+        requires counts { self.old.admitted + self.old.refused + length bytes.bytes < 2 ^ 64 }
+        ensures used { IfOk result (λ fed. fed.used ≤ length bytes.entry.bytes) }
+        ensures history { IfOk result (λ fed. (h : List Element) (rests : Rests) (first : Option (List (List ℕ))) (piece : List ℕ) (ended : Bool)
+            → IsEndBehindCut ended fed.cut
+            → bytes.entry.bytes ≡ rest_of side rests ++ piece
+            → Follows asset.now h rests None first (state self.old to_client.old to_controller.old (DeskValue.lines (D.value desk.old)))
+            → Follows asset.now (h ++ letters_at moment side piece ended ∷ []) (with_rest side rests (drop fed.used bytes.entry.bytes)) fed.cut first
+            (state self.new to_client.new to_controller.new (DeskValue.lines (D.value desk.new)))) }
+        ensures fails { OnErr result (FailsWithin asset.now moment side bytes.entry.bytes
+            (state self.old to_client.old to_controller.old (DeskValue.lines (D.value desk.old))) (DeskValue.lines (D.value desk.new))) }
+        ensures client { OnOk result (LaneValue.client self.new ≡ LaneValue.client self.old) }
+        ensures left { IfOk result (λ fed. fed.cut ≡ None → length (drop fed.used bytes.entry.bytes) < 300) }
+        ensures client_grows { IfOk result (λ fed. Grows (2 * fed.used) (debt self.old) (debt self.new) to_client.old to_client.new) }
+        ensures controller_grows { IfOk result (λ fed. Grows (2 * fed.used) (debt self.old) (debt self.new) to_controller.old to_controller.new) }
+        ensures debt { OnOk result (debt self.new ≤ 5300) }
+        ensures counts { IfOk result (λ fed. CountsBy fed.used self.old self.new) }
+        ensures whole { OnOk result (DeskValue.whole (D.value desk.new) ≡ true) }
+        ensures log { WritesLog (D.value desk.old) (D.value desk.new) }
+        ensures cause { HasCause (DeskValue.faults (D.value desk.old)) (DeskValue.faults (D.value desk.new)) (IsErr result) }
+    {
+        let mut used = 0;
+        'units: loop {
+            match self.step(
+                asset,
+                moment,
+                side,
+                &after(&bytes, used),
+                to_client,
+                to_controller,
+                desk,
+            )? {
+                Step::Took(n) => used += n,
+                Step::More => return Ok(Fed { used, cut: None }),
+                Step::Cut(reason) => {
+                    return Ok(Fed {
+                        used,
+                        cut: Some(reason),
+                    });
+                }
+            }
+        }
+    }
+
+    /// Takes the End of a side, of which so many bytes are left that are no whole unit. A line tells them, and End is
+    /// passed on.
+    pub fn ended<D: Desk>(
+        &mut self,
+        asset: &Asset,
+        moment: u64,
+        side: Side,
+        rest: u64,
+        to_client: &mut Outq,
+        to_controller: &mut Outq,
+        desk: &mut D,
+    ) -> Result<(), WriteFault>
+        requires modbus { asset.now.protocol ≡ Protocol.Modbus }
+        requires within { IsAssetWithin asset.now }
+        requires whole { DeskValue.whole (D.value desk.old) ≡ true }
+        requires open { IsOpen side to_client.old to_controller.old }
+        requires limit { MayEnd side to_client.old to_controller.old }
+        ensures history { OnOk result ((h : List Element) (rests : Rests) (first : Option (List (List ℕ))) → rest ≡ length (rest_of side rests)
+            → Follows asset.now h rests None first (state self.old to_client.old to_controller.old (DeskValue.lines (D.value desk.old)))
+            → Follows asset.now (h ++ end_at moment side ∷ []) rests None first (state self.new to_client.new to_controller.new (DeskValue.lines (D.value desk.new)))) }
+        ensures fails { OnErr result ((h : List Element) (rests : Rests) (first : Option (List (List ℕ))) → rest ≡ length (rest_of side rests)
+            → Follows asset.now h rests None first (state self.old to_client.old to_controller.old (DeskValue.lines (D.value desk.old)))
+            → Began asset.now self.old.client (h ++ end_at moment side ∷ []) first (DeskValue.lines (D.value desk.new))) }
+        ensures queues { OnOk result (EndsOther side to_client.old to_controller.old to_client.new to_controller.new) }
+        ensures lane { self.new ≡ self.old }
+        ensures whole { OnOk result (DeskValue.whole (D.value desk.new) ≡ true) }
+        ensures log { WritesLog (D.value desk.old) (D.value desk.new) }
+        ensures cause { HasCause (DeskValue.faults (D.value desk.old)) (DeskValue.faults (D.value desk.new)) (IsErr result) }
+    {
+        log_end(asset, &self.client, moment, side, rest, desk)?;
+        end_other(side, to_client, to_controller);
+        Ok(())
+    }
+
+    /// How many commands were admitted.
+    pub fn admitted(&self) -> u64
+        ensures { result ≡ self.now.admitted }
+    {
+        self.admitted
+    }
+
+    /// How many commands were refused.
+    pub fn refused(&self) -> u64
+        ensures { result ≡ self.now.refused }
+    {
+        self.refused
+    }
+
+    /// Handles the unit at the front of a side's bytes: one function for each protocol.
+    fn step<D: Desk>(
+        &mut self,
+        asset: &Asset,
+        moment: u64,
+        side: Side,
+        bytes: &View<'_>,
+        to_client: &mut Outq,
+        to_controller: &mut Outq,
+        desk: &mut D,
+    ) -> Result<Step, WriteFault>
+        requires modbus { asset.now.protocol ≡ Protocol.Modbus }
+        requires within { IsAssetWithin asset.now }
+        requires whole { DeskValue.whole (D.value desk.old) ≡ true }
+        requires open { IsOpen side to_client.old to_controller.old }
+        requires client_room { HasRoom (debt self.old + 2 * length bytes.now.bytes) to_client.old }
+        requires controller_room { HasRoom (debt self.old + 2 * length bytes.now.bytes) to_controller.old }
+        requires counts { self.old.admitted + self.old.refused + length bytes.now.bytes < 2 ^ 64 }
+        ensures steps { IfOk result (λ s. Steps asset.now moment side bytes.now.bytes (state self.old to_client.old to_controller.old (DeskValue.lines (D.value desk.old)))
+            (state self.new to_client.new to_controller.new (DeskValue.lines (D.value desk.new))) s) }
+        ensures misses { OnErr result (Misses asset.now moment side bytes.now.bytes (state self.old to_client.old to_controller.old (DeskValue.lines (D.value desk.old)))
+            (DeskValue.lines (D.value desk.new))) }
+        ensures client_grows { IfOk result (λ s. Grows (2 * letters_in s) (debt self.old) (debt self.new) to_client.old to_client.new) }
+        ensures controller_grows { IfOk result (λ s. Grows (2 * letters_in s) (debt self.old) (debt self.new) to_controller.old to_controller.new) }
+        ensures counts { IfOk result (λ s. CountsBy (letters_in s) self.old self.new) }
+        ensures inside { IfOk result (λ s. letters_in s ≤ length bytes.now.bytes) }
+        ensures whole { OnOk result (DeskValue.whole (D.value desk.new) ≡ true) }
+        ensures log { WritesLog (D.value desk.old) (D.value desk.new) }
+        ensures cause { HasCause (DeskValue.faults (D.value desk.old)) (DeskValue.faults (D.value desk.new)) (IsErr result) }
+    {
+        match asset.protocol {
+            Protocol::Modbus => {
+                self.step_modbus(asset, moment, side, bytes, to_client, to_controller, desk)
+            }
+            Protocol::Dnp3 | Protocol::Iec104 => Ok(Step::More),
+        }
+    }
+}
+
+/// The bytes from a place on.
+pub(crate) fn after<'a>(bytes: &View<'a>, from: usize) -> View<'a>
+    requires { from ≤ length bytes.now.bytes }
+    ensures { result.bytes ≡ drop from bytes.now.bytes }
+{
+    bytes.sub(from, bytes.len())
+}
+
+/// Puts End into the queue to the other side.
+fn end_other(side: Side, to_client: &mut Outq, to_controller: &mut Outq)
+    requires open { IsOpen side to_client.old to_controller.old }
+    requires limit { MayEnd side to_client.old to_controller.old }
+    ensures { EndsOther side to_client.old to_controller.old to_client.new to_controller.new }
+{
+    match side {
+        Side::Client => to_controller.end(),
+        Side::Controller => to_client.end(),
+    }
+}

@@ -1,0 +1,99 @@
+//! The lines that a session writes.
+ghost use Rattle.std.specs.Prelude.{◌≡◌, ◌∷◌, [], false, true, OnOk, OnErr, IsErr};
+ghost use Rattle.cf_audit.specs.Line.{HasShortNames, line_value};
+ghost use Rattle.cf_audit.specs.Text.{line_text};
+ghost use Rattle.cf_outside.specs.Faults.{HasCause};
+ghost use Rattle.cf_outside.specs.Desk.{DeskValue};
+ghost use Rattle.cf_policy.specs.Verdict.{IsOneOf};
+ghost use Rattle.cf_policy.specs.Within.{IsAssetWithin};
+ghost use Rattle.cf_lane.specs.Handled.{HasAdded, MayHaveAdded, WritesLog};
+ghost use Rattle.cf_lane.specs.Log.{HasPlainNames, line_about, refusal_line, end_lines};
+
+use crate::fate::Refusal;
+use arrayvec::ArrayString;
+use cf_audit::{Line, What, write_line};
+use cf_outside::{Desk, WriteAnswer};
+use cf_policy::{Asset, decider_name};
+use cf_view::{Endpoint, Side, View, WriteFault};
+
+/// Puts a line, whose names are those of a policy, on a desk. After a fault it may have been put all the same.
+pub fn put_line<D: Desk>(line: &Line<'_>, desk: &mut D) -> Result<(), WriteFault>
+    requires short { HasShortNames (line_value line.now) }
+    requires names { HasPlainNames (line_value line.now) }
+    requires whole { DeskValue.whole (D.value desk.old) ≡ true }
+    ensures lines { OnOk result (HasAdded (line_text (line_value line.now) ∷ []) (D.value desk.old) (D.value desk.new)) }
+    ensures fails { OnErr result (MayHaveAdded (line_text (line_value line.now) ∷ []) (D.value desk.old) (D.value desk.new)) }
+    ensures whole { OnOk result (DeskValue.whole (D.value desk.new) ≡ true) }
+    ensures log { WritesLog (D.value desk.old) (D.value desk.new) }
+    ensures cause { HasCause (DeskValue.faults (D.value desk.old)) (DeskValue.faults (D.value desk.new)) (IsErr result) }
+{
+    let mut text = ArrayString::<256>::new();
+    write_line(line, &mut text);
+    match desk.line(text.as_str()) {
+        WriteAnswer::Done => Ok(()),
+        WriteAnswer::Failed => Err(WriteFault),
+    }
+}
+
+/// Writes the line of a refused command.
+pub(crate) fn log_refusal<D: Desk>(
+    asset: &Asset,
+    client: &Endpoint,
+    moment: u64,
+    refusal: &Refusal,
+    replied: bool,
+    octets: View<'_>,
+    desk: &mut D,
+) -> Result<(), WriteFault>
+    requires within { IsAssetWithin asset.now }
+    requires whole { DeskValue.whole (D.value desk.old) ≡ true }
+    requires decider { IsOneOf asset.now.rules refusal.now.decider }
+    ensures lines { OnOk result (HasAdded (line_about asset.now client.now moment (refusal_line asset.now refusal.now replied octets.entry.bytes) ∷ []) (D.value desk.old) (D.value desk.new)) }
+    ensures fails { OnErr result (MayHaveAdded (line_about asset.now client.now moment (refusal_line asset.now refusal.now replied octets.entry.bytes) ∷ []) (D.value desk.old) (D.value desk.new)) }
+    ensures whole { OnOk result (DeskValue.whole (D.value desk.new) ≡ true) }
+    ensures log { WritesLog (D.value desk.old) (D.value desk.new) }
+    ensures cause { HasCause (DeskValue.faults (D.value desk.old)) (DeskValue.faults (D.value desk.new)) (IsErr result) }
+{
+    let line = Line {
+        moment,
+        client: *client,
+        asset: asset.name.as_str(),
+        what: What::Refuse {
+            rule: decider_name(asset, &refusal.decider),
+            reason: refusal.reason,
+            act: refusal.act,
+            replied,
+            unit: octets,
+        },
+    };
+    put_line(&line, desk)
+}
+
+/// Writes the line of an end at which bytes are left, where some are.
+pub(crate) fn log_end<D: Desk>(
+    asset: &Asset,
+    client: &Endpoint,
+    moment: u64,
+    side: Side,
+    rest: u64,
+    desk: &mut D,
+) -> Result<(), WriteFault>
+    requires within { IsAssetWithin asset.now }
+    requires whole { DeskValue.whole (D.value desk.old) ≡ true }
+    ensures lines { OnOk result (HasAdded (end_lines asset.now client.now moment side false rest) (D.value desk.old) (D.value desk.new)) }
+    ensures fails { OnErr result (MayHaveAdded (end_lines asset.now client.now moment side false rest) (D.value desk.old) (D.value desk.new)) }
+    ensures whole { OnOk result (DeskValue.whole (D.value desk.new) ≡ true) }
+    ensures log { WritesLog (D.value desk.old) (D.value desk.new) }
+    ensures cause { HasCause (DeskValue.faults (D.value desk.old)) (DeskValue.faults (D.value desk.new)) (IsErr result) }
+{
+    if rest == 0 {
+        return Ok(());
+    }
+    let line = Line {
+        moment,
+        client: *client,
+        asset: asset.name.as_str(),
+        what: What::Partial { side, count: rest },
+    };
+    put_line(&line, desk)
+}

@@ -1,0 +1,156 @@
+//! Modbus in the lane: what becomes of an ADU.
+ghost use Rattle.std.specs.Prelude.{◌≡◌, ◌+◌, ◌*◌, ◌^◌, ◌<◌, ◌≤◌, false, true, IfOk, OnOk, OnErr, IsErr, length};
+ghost use Rattle.cf_modbus.specs.Adu.{adu_value, spelling};
+ghost use Rattle.cf_outq.specs.SendQueue.{after_push};
+ghost use Rattle.cf_outside.specs.Faults.{HasCause};
+ghost use Rattle.cf_outside.specs.Desk.{DeskValue};
+ghost use Rattle.cf_policy.specs.Within.{IsAssetWithin};
+ghost use Rattle.cf_lane.specs.Handled.{Steps, Misses, TakesCommand, MissesCommand, Grows, CountsBy, HasRoom, IsOpen, WritesLog, debt, letters_in, state};
+ghost use Rattle.cf_lane.specs.Log.{is_some_bytes};
+ghost use Rattle.cf_lane.specs.Modbus.{adu_reply};
+
+use crate::fate::{Fate, Refusal, judge};
+use crate::lane::{Lane, Step, after};
+use crate::log::log_refusal;
+use arrayvec::ArrayVec;
+use cf_audit::CutReason;
+use cf_modbus::{Adu, exception, next_adu, write_adu};
+use cf_outq::Outq;
+use cf_outside::Desk;
+use cf_policy::{Asset, Protocol};
+use cf_view::{Framed, Side, View, WriteFault};
+
+impl Lane {
+    /// Handles the ADU at the front of a side's bytes.
+    pub(crate) fn step_modbus<D: Desk>(
+        &mut self,
+        asset: &Asset,
+        moment: u64,
+        side: Side,
+        bytes: &View<'_>,
+        to_client: &mut Outq,
+        to_controller: &mut Outq,
+        desk: &mut D,
+    ) -> Result<Step, WriteFault>
+        requires modbus { asset.now.protocol ≡ Protocol.Modbus }
+        requires within { IsAssetWithin asset.now }
+        requires whole { DeskValue.whole (D.value desk.old) ≡ true }
+        requires open { IsOpen side to_client.old to_controller.old }
+        requires client_room { HasRoom (debt self.old + 2 * length bytes.now.bytes) to_client.old }
+        requires controller_room { HasRoom (debt self.old + 2 * length bytes.now.bytes) to_controller.old }
+        requires counts { self.old.admitted + self.old.refused + length bytes.now.bytes < 2 ^ 64 }
+        ensures steps { IfOk result (λ s. Steps asset.now moment side bytes.now.bytes (state self.old to_client.old to_controller.old (DeskValue.lines (D.value desk.old)))
+            (state self.new to_client.new to_controller.new (DeskValue.lines (D.value desk.new))) s) }
+        ensures misses { OnErr result (Misses asset.now moment side bytes.now.bytes (state self.old to_client.old to_controller.old (DeskValue.lines (D.value desk.old)))
+            (DeskValue.lines (D.value desk.new))) }
+        ensures client_grows { IfOk result (λ s. Grows (2 * letters_in s) (debt self.old) (debt self.new) to_client.old to_client.new) }
+        ensures controller_grows { IfOk result (λ s. Grows (2 * letters_in s) (debt self.old) (debt self.new) to_controller.old to_controller.new) }
+        ensures counts { IfOk result (λ s. CountsBy (letters_in s) self.old self.new) }
+        ensures inside { IfOk result (λ s. letters_in s ≤ length bytes.now.bytes) }
+        ensures whole { OnOk result (DeskValue.whole (D.value desk.new) ≡ true) }
+        ensures log { WritesLog (D.value desk.old) (D.value desk.new) }
+        ensures cause { HasCause (DeskValue.faults (D.value desk.old)) (DeskValue.faults (D.value desk.new)) (IsErr result) }
+    {
+        match next_adu(after(bytes, 0)) {
+            Framed::More => Ok(Step::More),
+            Framed::Broken(reason) => Ok(Step::Cut(CutReason::Framing(side, reason))),
+            Framed::Unit { unit, used } => match side {
+                Side::Client => {
+                    let octets = bytes.sub(0, used);
+                    self.take_command(
+                        asset,
+                        moment,
+                        &unit,
+                        octets,
+                        to_client,
+                        to_controller,
+                        desk,
+                    )?;
+                    Ok(Step::Took(used))
+                }
+                Side::Controller => {
+                    push_adu(&unit, to_client);
+                    Ok(Step::Took(used))
+                }
+            },
+        }
+    }
+
+    /// Takes a client's command by its fate.
+    fn take_command<D: Desk>(
+        &mut self,
+        asset: &Asset,
+        moment: u64,
+        adu: &Adu<'_>,
+        octets: View<'_>,
+        to_client: &mut Outq,
+        to_controller: &mut Outq,
+        desk: &mut D,
+    ) -> Result<(), WriteFault>
+        requires within { IsAssetWithin asset.now }
+        requires whole { DeskValue.whole (D.value desk.old) ≡ true }
+        requires at_least { 1 ≤ length adu.now.pdu.bytes }
+        requires at_most { length adu.now.pdu.bytes ≤ 253 }
+        requires octets { octets.bytes ≡ spelling (adu_value adu.now) }
+        requires open { to_controller.old.ended ≡ false }
+        requires client_room { HasRoom (length (spelling (adu_value adu.now)) + 8) to_client.old }
+        requires controller_room { HasRoom (length (spelling (adu_value adu.now))) to_controller.old }
+        requires counts { self.old.admitted + self.old.refused + 1 < 2 ^ 64 }
+        ensures takes { OnOk result (TakesCommand asset.now moment (adu_value adu.now) (state self.old to_client.old to_controller.old (DeskValue.lines (D.value desk.old)))
+            (state self.new to_client.new to_controller.new (DeskValue.lines (D.value desk.new)))) }
+        ensures misses { OnErr result (MissesCommand asset.now moment (adu_value adu.now) (state self.old to_client.old to_controller.old (DeskValue.lines (D.value desk.old)))
+            (DeskValue.lines (D.value desk.new))) }
+        ensures client_grows { OnOk result (Grows 9 0 0 to_client.old to_client.new) }
+        ensures controller_grows { OnOk result (Grows (length (spelling (adu_value adu.now))) 0 0 to_controller.old to_controller.new) }
+        ensures counts { OnOk result (CountsBy 1 self.old self.new) }
+        ensures whole { OnOk result (DeskValue.whole (D.value desk.new) ≡ true) }
+        ensures log { WritesLog (D.value desk.old) (D.value desk.new) }
+        ensures cause { HasCause (DeskValue.faults (D.value desk.old)) (DeskValue.faults (D.value desk.new)) (IsErr result) }
+    {
+        match judge(asset, self.client.address, adu) {
+            Fate::Admitted => {
+                push_adu(adu, to_controller);
+                self.admitted += 1;
+                Ok(())
+            }
+            Fate::Refused(refusal) => {
+                let replied = reply(adu, &refusal, to_client);
+                self.refused += 1;
+                log_refusal(asset, &self.client, moment, &refusal, replied, octets, desk)?;
+                Ok(())
+            }
+            Fate::Carried | Fate::Stray(_) | Fate::Lengthens | Fate::Cuts(_) => Ok(()),
+        }
+    }
+}
+
+/// Puts the spelling of an ADU into a queue.
+fn push_adu(adu: &Adu<'_>, queue: &mut Outq)
+    requires at_least { 1 ≤ length adu.now.pdu.bytes }
+    requires at_most { length adu.now.pdu.bytes ≤ 253 }
+    requires open { queue.old.ended ≡ false }
+    requires room { HasRoom (length (spelling (adu_value adu.now))) queue.old }
+    ensures queue { queue.new ≡ after_push queue.old (spelling (adu_value adu.now)) }
+{
+    let mut octets = ArrayVec::<u8, 260>::new();
+    write_adu(adu, &mut octets);
+    queue.push(octets.as_slice());
+}
+
+/// Answers a refused command by its exception response, where the stream to the client goes on.
+fn reply(adu: &Adu<'_>, refusal: &Refusal, to_client: &mut Outq) -> bool
+    requires at_least { 1 ≤ length adu.now.pdu.bytes }
+    requires at_most { length adu.now.pdu.bytes ≤ 253 }
+    requires room { HasRoom 9 to_client.old }
+    ensures replied { result ≡ is_some_bytes (adu_reply to_client.old.ended (Fate.Refused refusal.now) (adu_value adu.now)) }
+    ensures queue { to_client.new ≡ after_push to_client.old (adu_reply to_client.old.ended (Fate.Refused refusal.now) (adu_value adu.now)) }
+    ensures grows { Grows 9 0 0 to_client.old to_client.new }
+{
+    if to_client.is_ended() {
+        return false;
+    }
+    let mut octets = ArrayVec::<u8, 260>::new();
+    exception(adu, &refusal.reason, &mut octets);
+    to_client.push(octets.as_slice());
+    true
+}
