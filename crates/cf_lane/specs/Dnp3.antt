@@ -3,26 +3,31 @@
 use Rattle.cf_audit.specs.declared.line.Why.{Why}
 use Rattle.cf_dnplink.specs.LinkFrame.{FrameValue}
 use Rattle.cf_dnplink.specs.UserOctets.{user_of}
+use Rattle.cf_dnpobj.specs.Acts.{acts}
+use Rattle.cf_dnpobj.specs.Fragment.{FragmentValue, read_octets, wants_reply}
+use Rattle.cf_dnpobj.specs.Reply.{reply}
+use Rattle.cf_dnpobj.specs.declared.fragment.FragmentRefusal.{FragmentRefusal}
 use Rattle.cf_dnptrans.specs.Passing.{completed}
 use Rattle.cf_dnptrans.specs.Segments.{count_of}
 use Rattle.cf_dnptrans.specs.declared.assembly.DropReason.{DropReason}
 use Rattle.cf_dnptrans.specs.declared.assembly.SegmentAnswer.{SegmentAnswer}
 use Rattle.cf_lane.specs.Acts.{act_of_code, fate_of_acts}
-use Rattle.cf_lane.specs.Fragment.{Confirm, Reading, Request, reading, response, wants_reply}
 use Rattle.cf_lane.specs.History.{is_side}
 use Rattle.cf_lane.specs.Item.{Broke, Ended, Item, Took}
 use Rattle.cf_lane.specs.Judged.{Judged, goes_on, has_ended, in_turn}
 use Rattle.cf_lane.specs.Unit.{Adu, Apdu, Frame, frame_spelling}
 use Rattle.cf_lane.specs.declared.fate.Fate.{Fate}
 use Rattle.cf_policy.specs.declared.Asset.{Asset}
+use Rattle.cf_view.specs.declared.Reason.{Reason}
 use Rattle.cf_view.specs.declared.Side.{Side}
 use Rattle.std.specs.List.{flat_map, sum_by}
-use Rattle.std.specs.Prelude.{Bool, List, None, Option, Some, [], false, if◌then◌else◌, is_some, length, nat_eq, nat_lt, not, reverse, slice_index, true, ℕ, ◌%◌, ◌&&◌, ◌/◌, ◌∷◌}
+use Rattle.std.specs.Prelude.{Bool, Err, List, None, Ok, Option, Result, Some, [], false, if◌then◌else◌, is_some, length, nat_eq, nat_lt, not, reverse, slice_index, true, ℕ, ◌%◌, ◌&&◌, ◌/◌, ◌∷◌}
 use Rattle.cf_dnptrans.specs.declared.assembly.SegmentAnswer.TheVariants as answers
 use Rattle.cf_policy.specs.declared.Decider.TheVariants as decider
+use Rattle.cf_dnpobj.specs.declared.fragment.FragmentRefusal.TheVariants as refusals
+use Rattle.cf_view.specs.declared.Reason.TheVariants as reason
 use Rattle.cf_dnptrans.specs.declared.assembly.DropReason.TheVariants as drops
 use Rattle.cf_lane.specs.declared.fate.Fate.TheVariants as fate
-use Rattle.cf_lane.specs.Fragment as fragment
 use Rattle.cf_dnplink.specs.LinkFrame as link
 use Rattle.cf_dnptrans.specs.Segments as pieces
 use Rattle.cf_view.specs.declared.Side.TheVariants as side
@@ -84,16 +89,23 @@ answer_now asset s earlier f = transport.answer_to (segments_of asset s earlier)
 abbrev pub whole_now : Asset → Side → List Judged → FrameValue → List (List ℕ)
 whole_now asset s earlier f = completed (answer_now asset s earlier f) (transport.last_fragment (user_of f.blocks ∷ segments_of asset s earlier))
 
--- the fate of a client's DNP3 fragment
-abbrev pub fate_of_reading : Asset → ℕ → (code : ℕ) → Reading → Fate
-fate_of_reading asset client code Confirm = fate.Carried
-fate_of_reading asset client code (Request list) = fate_of_acts asset client list
-fate_of_reading asset client code (fragment.Wrong because) =
-    fate.Refused (record { decider = decider.Form; reason = because; act = act_of_code code 0 })
+-- the reason that a refused form stands for: this project's own division
+abbrev pub form_reason : FragmentRefusal → Reason
+form_reason refusals.Short = reason.Value
+form_reason refusals.NotSingle = reason.Value
+form_reason refusals.Function = reason.Function
+form_reason refusals.Object = reason.Point
+form_reason refusals.Parameter = reason.Value
+
+-- the fate of a client's DNP3 fragment by what it says: a confirmation goes on, and every other one is a command
+abbrev pub fate_of_read : Asset → ℕ → (code : ℕ) → Result FragmentValue FragmentRefusal → Fate
+fate_of_read asset client code (Ok f) = if nat_eq f.code 0 then fate.Carried else fate_of_acts asset client (acts f)
+fate_of_read asset client code (Err refusal) =
+    fate.Refused (record { decider = decider.Form; reason = form_reason refusal; act = act_of_code code 0 })
 
 abbrev pub fate_of_fragment : Asset → ℕ → Side → List ℕ → Fate
 fate_of_fragment asset client side.Controller octets = fate.Carried
-fate_of_fragment asset client side.Client octets = fate_of_reading asset client (slice_index octets 1) (reading octets)
+fate_of_fragment asset client side.Client octets = fate_of_read asset client (slice_index octets 1) (read_octets octets)
 
 -- why a segment is dropped
 abbrev pub drop_why : DropReason → Why
@@ -122,7 +134,7 @@ fate_of_frame asset client s earlier f None =
 abbrev pub fragment_reply : (ended : Bool) → Fate → List (List ℕ) → List (List ℕ)
 fragment_reply true f octets = []
 fragment_reply false (fate.Refused refusal) octets =
-    flat_map (λ xs. if wants_reply (slice_index xs 1) then response xs refusal.reason ∷ [] else []) octets
+    flat_map (λ xs. if wants_reply (slice_index xs 1) then reply xs refusal.reason ∷ [] else []) octets
 fragment_reply false fate.Carried octets = []
 fragment_reply false fate.Admitted octets = []
 fragment_reply false (fate.Stray because) octets = []

@@ -7,11 +7,13 @@ use Rattle.cf_asdu.specs.declared.asdu.AsduRefusal.{AsduRefusal}
 use Rattle.cf_audit.specs.declared.line.CutReason.{CutReason}
 use Rattle.cf_lane.specs.Acts.{act_of_code, fate_of_acts}
 use Rattle.cf_lane.specs.Judged.{Judged, goes_on}
-use Rattle.cf_lane.specs.Numbers.{count_now, counted, for_client, for_controller, frames_into, frames_to_client, has_mirror, info_cut, marks, wrong_receive}
+use Rattle.cf_lane.specs.Numbers.{ack_cut, events_of, has_mirror, info_cut}
 use Rattle.cf_lane.specs.Unit.{apdu_spelling}
 use Rattle.cf_lane.specs.declared.fate.Fate.{Fate}
 use Rattle.cf_policy.specs.declared.Asset.{Asset}
 use Rattle.cf_policy.specs.declared.Decider.{Decider}
+use Rattle.cf_renumber.specs.Counts.{admitted_stamp, carried_stamp, client_translated, controller_translated, mirror_stamp, owed_ack}
+use Rattle.cf_renumber.specs.declared.answer.Stamp.{Stamp}
 use Rattle.cf_view.specs.declared.Reason.{Reason}
 use Rattle.cf_view.specs.declared.Side.{Side}
 use Rattle.std.specs.Prelude.{List, None, Option, Some, [], drop, false, if◌then◌else◌, length, nat_eq, nat_lt, slice_index, ℕ, ◌%◌, ◌++◌, ◌∷◌}
@@ -62,31 +64,29 @@ fate_of_info asset client side.Controller asdu = fate.Carried
 
 abbrev pub fate_of_apdu : Asset → ℕ → Side → List Judged → ApduValue → Fate
 fate_of_apdu asset client s earlier (Control octet) = fate.Carried
-fate_of_apdu asset client s earlier (Ack receive) = or_cut (wrong_receive s earlier receive) fate.Carried
+fate_of_apdu asset client s earlier (Ack receive) = or_cut (ack_cut s earlier receive) fate.Carried
 fate_of_apdu asset client s earlier (Info send receive asdu) = or_cut (info_cut s earlier send receive) (fate_of_info asset client s asdu)
 
--- the count that goes to the controller with a number of the client, and the one that went last
-abbrev pub ack_now : List Judged → ℕ → ℕ
-ack_now earlier receive = for_controller (frames_to_client earlier) (count_now side.Client earlier receive)
+-- the S unit that a refused command leaves towards the controller, where it acknowledges more
+abbrev pub ack_octets : Option ℕ → List ℕ
+ack_octets None = []
+ack_octets (Some receive) = apdu_spelling (Ack receive)
 
-abbrev pub ack_before : List Judged → ℕ
-ack_before earlier = for_controller (frames_to_client earlier) (counted side.Client earlier)
+abbrev pub ack_output : List Judged → Fate → ℕ → List ℕ
+ack_output earlier (fate.Refused refusal) receive = ack_octets (owed_ack (events_of earlier) receive)
+ack_output earlier fate.Carried receive = []
+ack_output earlier fate.Admitted receive = []
+ack_output earlier (fate.Stray because) receive = []
+ack_output earlier fate.Lengthens receive = []
+ack_output earlier (fate.Cuts because) receive = []
 
--- a refused command leaves an S unit where it acknowledges more
-abbrev pub owed_ack : List Judged → Fate → ℕ → List ℕ
-owed_ack earlier (fate.Refused refusal) receive =
-    if nat_lt (ack_before earlier) (ack_now earlier receive) then apdu_spelling (Ack (ack_now earlier receive % 32768)) else []
-owed_ack earlier fate.Carried receive = []
-owed_ack earlier fate.Admitted receive = []
-owed_ack earlier (fate.Stray because) receive = []
-owed_ack earlier fate.Lengthens receive = []
-owed_ack earlier (fate.Cuts because) receive = []
+-- an I unit with these numbers
+abbrev pub stamped : Stamp → List ℕ → ApduValue
+stamped stamp asdu = Info stamp.send stamp.receive asdu
 
 abbrev pub mirror_output : List Judged → Fate → ApduValue → List ℕ
 mirror_output earlier (fate.Refused refusal) (Info send receive asdu) =
-    if has_mirror earlier (Info send receive asdu ∷ [])
-    then apdu_spelling (Info (frames_into side.Client earlier % 32768) (for_client (marks earlier ++ false ∷ []) (counted side.Controller earlier) % 32768) (mirrored asdu))
-    else []
+    if has_mirror earlier asdu then apdu_spelling (stamped (mirror_stamp (events_of earlier)) (mirrored asdu)) else []
 mirror_output earlier (fate.Refused refusal) (Ack receive) = []
 mirror_output earlier (fate.Refused refusal) (Control octet) = []
 mirror_output earlier fate.Carried a = []
@@ -95,14 +95,13 @@ mirror_output earlier (fate.Stray because) a = []
 mirror_output earlier fate.Lengthens a = []
 mirror_output earlier (fate.Cuts because) a = []
 
--- what goes on to the other side, with its numbers translated
+-- what goes on to a side, with its numbers translated
 abbrev pub renumbered : Side → List Judged → ApduValue → ApduValue
-renumbered side.Controller earlier (Info send receive asdu) = Info (frames_into side.Controller earlier % 32768) (ack_now earlier receive % 32768) asdu
-renumbered side.Controller earlier (Ack receive) = Ack (ack_now earlier receive % 32768)
+renumbered side.Controller earlier (Info send receive asdu) = stamped (admitted_stamp (events_of earlier) receive) asdu
+renumbered side.Controller earlier (Ack receive) = Ack (client_translated (events_of earlier) receive % 32768)
 renumbered side.Controller earlier (Control octet) = Control octet
-renumbered side.Client earlier (Info send receive asdu) =
-    Info (frames_into side.Client earlier % 32768) (for_client (marks earlier) (count_now side.Controller earlier receive) % 32768) asdu
-renumbered side.Client earlier (Ack receive) = Ack (for_client (marks earlier) (count_now side.Controller earlier receive) % 32768)
+renumbered side.Client earlier (Info send receive asdu) = stamped (carried_stamp (events_of earlier) receive) asdu
+renumbered side.Client earlier (Ack receive) = Ack (controller_translated (events_of earlier) receive % 32768)
 renumbered side.Client earlier (Control octet) = Control octet
 
 abbrev pub info_number : ApduValue → ℕ
@@ -113,7 +112,7 @@ info_number (Control octet) = 0
 abbrev pub apdu_output : Side → List Judged → Fate → Side → ApduValue → List ℕ
 apdu_output side.Client earlier f side.Client a = mirror_output earlier f a
 apdu_output side.Client earlier f side.Controller a = if goes_on f then apdu_spelling (renumbered side.Client earlier a) else []
-apdu_output side.Controller earlier f side.Client a = if goes_on f then apdu_spelling (renumbered side.Controller earlier a) else owed_ack earlier f (info_number a)
+apdu_output side.Controller earlier f side.Client a = if goes_on f then apdu_spelling (renumbered side.Controller earlier a) else ack_output earlier f (info_number a)
 apdu_output side.Controller earlier f side.Controller a = []
 
 -- its line shows the APDU

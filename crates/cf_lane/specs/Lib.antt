@@ -2,7 +2,6 @@ pub mod Acts
 pub mod Dnp3
 pub mod Fate
 pub mod Follows
-pub mod Fragment
 pub mod Handled
 pub mod History
 pub mod Iec104

@@ -102,6 +102,14 @@ refused_in_a_fragment = judge_all dnp3_asset [] (third 0x45 249 ∷ third 0x06 2
 abbrev pub other_master : List Judged
 other_master = judge_all dnp3_asset [] ((side.Client, Frame (frame_with 0xc4 10 2 (0xc0 ∷ 0xc3 ∷ 1 ∷ []))) ∷ [])
 
+-- a direct operate of point 5, which no rule allows, in one frame
+abbrev pub direct_operate : List ℕ
+direct_operate =
+    0xc3 ∷ 0x05 ∷ 0x0c ∷ 0x01 ∷ 0x17 ∷ 0x01 ∷ 0x05 ∷ 0x03 ∷ 0x01 ∷ 0x64 ∷ 0x00 ∷ 0x00 ∷ 0x00 ∷ 0x64 ∷ 0x00 ∷ 0x00 ∷ 0x00 ∷ 0x00 ∷ []
+
+abbrev pub refused_direct_operate : List Judged
+refused_direct_operate = judge_all dnp3_asset [] ((side.Client, Frame (data_frame dnp3_asset side.Controller (0xc0 ∷ direct_operate))) ∷ [])
+
 abbrev pub modbus_asset : Asset
 modbus_asset = record { name = codes "pump"; endpoint = record { address = 167772169; port = 502 }; protocol = protocol.Modbus; station = 1; master = 0; rules = [] }
 
@@ -140,6 +148,11 @@ pub record RowsHold : Type 0 where
   pub refused_in_a_fragment_first : slice_index (drop 17 (outputs dnp3_asset side.Client [] refused_in_a_fragment)) 10 ≡ 0x41
   pub refused_in_a_fragment_second : slice_index (drop (17 + 292) (outputs dnp3_asset side.Client [] refused_in_a_fragment)) 10 ≡ 0x02
   pub refused_in_a_fragment_third : slice_index (drop (17 + 584) (outputs dnp3_asset side.Client [] refused_in_a_fragment)) 10 ≡ 0x83
+  pub refused_direct_operate_controller : outputs dnp3_asset side.Controller [] refused_direct_operate ≡ []
+  pub refused_direct_operate_client :
+      outputs dnp3_asset side.Client [] refused_direct_operate
+      ≡ 0x05 ∷ 0x64 ∷ 0x1a ∷ 0x44 ∷ 0x01 ∷ 0x00 ∷ 0x0a ∷ 0x00 ∷ 0xaf ∷ 0x5d ∷ 0xc0 ∷ 0xc3 ∷ 0x81 ∷ 0x00 ∷ 0x00 ∷ 0x0c ∷ 0x01 ∷ 0x17 ∷ 0x01
+      ∷ 0x05 ∷ 0x03 ∷ 0x01 ∷ 0x64 ∷ 0x00 ∷ 0x00 ∷ 0x00 ∷ 0xbc ∷ 0x51 ∷ 0x64 ∷ 0x00 ∷ 0x00 ∷ 0x00 ∷ 0x09 ∷ 0xd7 ∷ 0x92 ∷ []
   pub other_master_none : outputs dnp3_asset side.Client [] other_master ++ outputs dnp3_asset side.Controller [] other_master ≡ []
   pub a_write_refused_then_one_admitted_controller : outputs modbus_asset side.Controller [] a_write_refused_then_one_admitted ≡ 0 ∷ 1 ∷ 0 ∷ 0 ∷ 0 ∷ 6 ∷ 1 ∷ 6 ∷ 0 ∷ 40 ∷ 0 ∷ 100 ∷ []
   pub a_write_refused_then_one_admitted_client : outputs modbus_asset side.Client [] a_write_refused_then_one_admitted ≡ 0 ∷ 1 ∷ 0 ∷ 0 ∷ 0 ∷ 3 ∷ 1 ∷ 0x86 ∷ 2 ∷ []
