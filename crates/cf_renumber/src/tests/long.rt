@@ -299,11 +299,11 @@ fn next_step(seed: &mut u64, slow: &Slow) -> Step {
 
 /// How many steps of a run from a seed are told alike by the numbers and by plain counts, to its end: a refusal, a full list,
 /// or the first step that is told otherwise.
-fn alike(rt: &impl Abort, numbers: &mut Numbers, mut seed: u64) -> u32
+fn alike(rt: &impl Abort, numbers: &mut Numbers, mut seed: u64, most: u32) -> u32
     requires { numbers.old.owed ≡ None }
 {
     let mut slow = Slow::new();
-    for steps in 0..STEPS {
+    for steps in 0..most {
         let step = next_step(&mut seed, &slow);
         let wanted = slow.tell(step);
         let told = tell(numbers, step);
@@ -312,20 +312,23 @@ fn alike(rt: &impl Abort, numbers: &mut Numbers, mut seed: u64) -> u32
             return steps;
         }
     }
-    STEPS
+    most
 }
 
-/// The most steps of a run.
-const STEPS: u32 = 1_500;
+/// The most steps of each of the first runs, and of each further one: a step costs as much as there were steps before it.
+const LONG_RUN: u32 = 1_500;
+
+const SHORT_RUN: u32 = 260;
 
 #[test]
 fn tells_what_plain_counts_tell(rt: HostRuntime) -> Result<(), Fail> {
     let mut steps = 0u32;
-    for seed in 0..8u64 {
+    for seed in 0..408u64 {
         let mut numbers = Numbers::new(rt.alloc())?;
-        steps = steps.saturating_add(alike(&rt, &mut numbers, seed));
+        let most = if seed < 8 { LONG_RUN } else { SHORT_RUN };
+        steps = steps.saturating_add(alike(&rt, &mut numbers, seed, most));
     }
-    assert!(rt; steps > 4_000);
+    assert!(rt; steps > 100_000);
     Ok(())
 }
 
