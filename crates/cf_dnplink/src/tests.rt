@@ -17,7 +17,7 @@ type Told = (&'static [u8], u8, u16, u16, &'static [u8]);
 
 /// Frames as others print them.
 const FRAMES: [Told; 12] = [
-    // Requests for link status of nmap's script dnp3-info and of scanners.
+    // Requests for link status as scanners send them, written down by hand; their CRCs by a program of its own.
     (
         &[0x05, 0x64, 0x05, 0xC9, 0x00, 0x00, 0x00, 0x00, 0x36, 0x4C],
         0xC9,
@@ -67,7 +67,7 @@ const FRAMES: [Told; 12] = [
         4,
         &[],
     ),
-    // A reset of the link, a test of link states and a request for all classes, of the tests of opendnp3.
+    // A reset of the link, a test of link states and a request for all classes, written down and computed likewise.
     (
         &[0x05, 0x64, 0x05, 0xC0, 0x01, 0x00, 0x00, 0x04, 0xE9, 0x21],
         0xC0,

@@ -64,7 +64,7 @@ const CODES: [(&[u8], Reading); 21] = [
     (&[0xC3, 0x06], PARAMETER),
 ];
 
-/// Requests that masters send, after the tests of opendnp3 and section 4.4 of the standard: all classes, class 0,
+/// Requests that masters send, by section 4.4 of the standard: all classes, class 0,
 /// unsolicited responses on and off, clear the restart bit, a time, cold restart, delay measurement, freeze, assign
 /// class.
 const SENT: [(&[u8], Reading); 15] = [

@@ -101,7 +101,7 @@ const RUNS: [Run; 18] = [
     (&[(&[0x40], More)], &[], true),
     (&[(&[0x00, 0xAA], NO_FIRST)], &[], false),
     (&[(&[0x80, 0xAA], NO_FIRST)], &[], false),
-    // The segment of a request for all classes in the tests of opendnp3.
+    // The segment of a request for all classes.
     (
         &[(
             &[

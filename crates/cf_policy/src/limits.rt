@@ -22,7 +22,7 @@ pub const LOWEST_VALUE: i64 = -2_147_483_648;
 pub const HIGHEST_VALUE: i64 = 4_294_967_295;
 /// The highest unit identifier of Modbus, an octet. MODBUS Application Protocol V1.1b3, section 4.1.
 pub const HIGHEST_UNIT: u16 = 255;
-/// The highest link address of DNP3 that names one station. IEEE 1815-2012, section 9.2.4.1.3.
+/// The highest link address of DNP3 that names one station. IEEE 1815-2012, section 9.2.
 pub const HIGHEST_LINK_ADDRESS: u16 = 65_519;
 /// The highest common address that names one station; 0 names none. IEC 60870-5-101, section 7.2.4.
 pub const HIGHEST_COMMON_ADDRESS: u16 = 65_534;
