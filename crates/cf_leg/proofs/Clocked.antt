@@ -8,7 +8,7 @@ use Rattle.cf_outq.specs.SendQueue.{Queue, IsQueue, queue_length}
 use Rattle.cf_outq.specs.SendQueue.{IsQueueOf}
 use Rattle.cf_packet.specs.Packet.{PacketValue}
 use Rattle.cf_rebuild.specs.ReceiveWindow.{IsWindow, base_of}
-use Rattle.cf_stream.specs.Position.{natural, position, sequence_number}
+use Rattle.cf_stream.specs.Position.{place_or_zero, position, sequence_number}
 use Rattle.cf_stream.specs.Stream.{Stream, letter_count, no_letters}
 use Rattle.cf_leg.proofs.Pieces.{count_is}
 use Rattle.cf_leg.proofs.Speech.{told_segment, segment_letters, position_ahead, position_behind, piece_short}
@@ -213,9 +213,9 @@ module _ (leg : LegValue) (i : IsLeg leg) (w : IsWindow leg.window) (q : Queue) 
       by : (r : Role) → leg.other ≡ peer_number r es → told leg.ends.role es ≡ first_told r → told_by (peer_number r es) (told leg.ends.role es) (greeting_as leg.ends leg.own leg.other r) ≡ told leg.ends.role es
       by (role.Active own) n t = refl
       by (role.Passive other mss) n t =
-          (let zero : natural (position (sequence_number other 0) other 0) ≡ 0 = ap natural (position_ahead other 0 0 (omega arith) (omega arith)) in
-          subst (λ (u : Told). ◌≡◌ {A = Told} (record { base = natural (position (sequence_number leg.other 0) other u.base); edge = natural (position (sequence_number leg.other 0) other u.base) + 16384 }) u) (sym t)
-          (subst (λ (x : ℕ). ◌≡◌ {A = Told} (record { base = natural (position (sequence_number x 0) other 0); edge = natural (position (sequence_number x 0) other 0) + 16384 }) (record { base = 0; edge = 16384 })) (sym n)
+          (let zero : place_or_zero (position (sequence_number other 0) other 0) ≡ 0 = ap place_or_zero (position_ahead other 0 0 (omega arith) (omega arith)) in
+          subst (λ (u : Told). ◌≡◌ {A = Told} (record { base = place_or_zero (position (sequence_number leg.other 0) other u.base); edge = place_or_zero (position (sequence_number leg.other 0) other u.base) + 16384 }) u) (sym t)
+          (subst (λ (x : ℕ). ◌≡◌ {A = Told} (record { base = place_or_zero (position (sequence_number x 0) other 0); edge = place_or_zero (position (sequence_number x 0) other 0) + 16384 }) (record { base = 0; edge = 16384 })) (sym n)
           (ap (λ (b : ℕ). record { base = b; edge = b + 16384 }) zero)))
 
   pub greeting_carries : letters_sent_by (own_number leg.ends.role es) (letters_sent leg.ends.role es) (greeting_of leg) ≡ letters_sent leg.ends.role es

@@ -6,7 +6,7 @@ use Rattle.std.proofs.lemmas.Bool.{cases_lt, cases_Bool, le-ltb, true≢false, f
 use Rattle.cf_packet.specs.Packet.{PacketValue}
 use Rattle.cf_stream.proofs.Taken.{same_taken, some_taken, taken_extends}
 use Rattle.cf_stream.specs.FirstCopy.{IsTaken, Offer, first_copy, offered}
-use Rattle.cf_stream.specs.Position.{natural, position, sequence_number}
+use Rattle.cf_stream.specs.Position.{place_or_zero, position, sequence_number}
 use Rattle.cf_stream.specs.Stream.{Byte, End, Extends, Letter, Stream, letter_count, letter_from, no_letters}
 use Rattle.cf_leg.proofs.Carried.{none≢some}
 use Rattle.cf_leg.proofs.Clocked.{greeting_right}
@@ -47,8 +47,8 @@ record Up (os : List Offer) (t u : Told) : Type 0 where
 -- ---- a greeting
 syn_ack_tells : (ends : Ends) (other number base edge : ℕ) → base ≡ 0 → ◌≡◌ {A = Told} (told_by other (record { base = base; edge = edge }) (syn_ack_for ends other number)) (record { base = 0; edge = 16384 })
 syn_ack_tells ends other number base edge z =
-    let zero : natural (position (sequence_number other 0) other 0) ≡ 0 = ap natural (position_ahead other 0 0 (omega arith) (omega arith)) in
-    ap (λ (n : ℕ). let t : Told = record { base = natural (position (sequence_number other 0) other n); edge = natural (position (sequence_number other 0) other n) + 16384 } in t) z
+    let zero : place_or_zero (position (sequence_number other 0) other 0) ≡ 0 = ap place_or_zero (position_ahead other 0 0 (omega arith) (omega arith)) in
+    ap (λ (n : ℕ). let t : Told = record { base = place_or_zero (position (sequence_number other 0) other n); edge = place_or_zero (position (sequence_number other 0) other n) + 16384 } in t) z
     ∙ ap (λ (n : ℕ). let t : Told = record { base = n; edge = n + 16384 } in t) zero
 
 -- the first one, and one that goes out again, tell the same

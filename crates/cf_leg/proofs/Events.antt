@@ -4,7 +4,7 @@ use Rattle.std.proofs.lemmas.Bool.{cases_Bool, true≢false, false≢true, and_p
 use Rattle.std.specs.Option.{option_or, is_some}
 use Rattle.cf_packet.specs.Packet.{PacketValue}
 use Rattle.cf_leg.specs.Emits.{Greets, peer_mss, send_mss}
-use Rattle.cf_stream.specs.Position.{natural}
+use Rattle.cf_stream.specs.Position.{place_or_zero}
 use Rattle.cf_leg.specs.declared.ends.Ends.{Ends}
 use Rattle.cf_leg.specs.Event.{Came, Nothing, Greeting, Packet, Ending, Unspoken, Spoke, Cut, LegEvent, greeted_by, stream_after}
 use Rattle.cf_leg.specs.Heard.{opened, opens, end_state_if, answer_to, first_answer, open_answer, acked_by, counts, ack_place, is_opening, acked, shown, offers, opens_as, resets_as}
@@ -87,6 +87,6 @@ acked_grows at Nothing before = omega arith
 acked_grows at (Greeting p) before = omega arith
 acked_grows at (Packet p) before = by (counts at p)
   where
-    by : (b : Bool) → before ≤ cond b (max before (natural (ack_place at p))) before
+    by : (b : Bool) → before ≤ cond b (max before (place_or_zero (ack_place at p))) before
     by true = omega arith
     by false = omega arith

@@ -8,7 +8,7 @@ use Rattle.cf_packet.specs.Packet.{PacketValue}
 use Rattle.cf_rebuild.specs.ReceiveWindow.{Window, IsWindow, Consumes, base_of}
 use Rattle.cf_rebuild.specs.ReceiveWindow.{IsWindowOf}
 use Rattle.cf_stream.specs.FirstCopy.{Offer}
-use Rattle.cf_stream.specs.Position.{natural, position, sequence_number}
+use Rattle.cf_stream.specs.Position.{place_or_zero, position, sequence_number}
 use Rattle.cf_stream.specs.Stream.{letter_count}
 use Rattle.cf_leg.proofs.Clocked.{greeted_idle, own_idle, peer_idle, mss_idle, or_none}
 use Rattle.cf_leg.proofs.Speech.{position_ahead}
@@ -109,9 +109,9 @@ module _ (leg : LegValue) (i : IsLeg leg) (w : IsWindow leg.window) (m : Marks) 
       → told_by (peer_number r (record e { came = Greeting (greeting_as leg.ends number leg.other r); ending = Unspoken } ∷ es)) T (greeting_as leg.ends number leg.other r) ≡ first_told r
   told_then (role.Active k) n T z = z
   told_then (role.Passive other mss) n T z =
-      subst (λ (u : Told). ◌≡◌ {A = Told} (record { base = natural (position (sequence_number leg.other 0) other u.base); edge = natural (position (sequence_number leg.other 0) other u.base) + 16384 }) (record { base = 0; edge = 16384 })) (sym z)
-      (subst (λ (x : ℕ). ◌≡◌ {A = Told} (record { base = natural (position (sequence_number x 0) other 0); edge = natural (position (sequence_number x 0) other 0) + 16384 }) (record { base = 0; edge = 16384 })) (sym n)
-      (ap (λ (b : ℕ). record { base = b; edge = b + 16384 }) (ap natural (position_ahead other 0 0 (omega arith) (omega arith)))))
+      subst (λ (u : Told). ◌≡◌ {A = Told} (record { base = place_or_zero (position (sequence_number leg.other 0) other u.base); edge = place_or_zero (position (sequence_number leg.other 0) other u.base) + 16384 }) (record { base = 0; edge = 16384 })) (sym z)
+      (subst (λ (x : ℕ). ◌≡◌ {A = Told} (record { base = place_or_zero (position (sequence_number x 0) other 0); edge = place_or_zero (position (sequence_number x 0) other 0) + 16384 }) (record { base = 0; edge = 16384 })) (sym n)
+      (ap (λ (b : ℕ). record { base = b; edge = b + 16384 }) (ap place_or_zero (position_ahead other 0 0 (omega arith) (omega arith)))))
 
   told_first : told leg.ends.role (record e { came = Greeting (greeting_as leg.ends number leg.other leg.ends.role); ending = Unspoken } ∷ es) ≡ first_told leg.ends.role
   told_first = told_then leg.ends.role (h.of_other ∙ peer_idle e.tick e.ticked e.fired es leg.ends.role) (told_at leg.ends.role es e) told_zero

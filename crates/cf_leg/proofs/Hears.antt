@@ -9,7 +9,7 @@ use Rattle.cf_packet.specs.Packet.{PacketValue}
 use Rattle.cf_rebuild.specs.ReceiveWindow.{Window}
 use Rattle.cf_rebuild.specs.ReceiveWindow.{IsWindowOf}
 use Rattle.cf_stream.specs.FirstCopy.{Offer}
-use Rattle.cf_stream.specs.Position.{natural}
+use Rattle.cf_stream.specs.Position.{place_or_zero}
 use Rattle.cf_stream.specs.Stream.{Stream, letter_count}
 use Rattle.cf_leg.proofs.Clocked.{own_idle, peer_idle, mss_idle, greeted_idle, opened_idle, armed_idle, option_or_none, or_none, and_not}
 use Rattle.cf_leg.proofs.Counts.{counts_is}
@@ -189,7 +189,7 @@ module _ (leg : LegValue) (q : Queue) (now : ℕ) (e : LegEvent) (es : List LegE
           ∙ ap (λ (n : ℕ). cond (rises_by (acked leg.ends.role es) n (ack_place (end_state leg.ends.role es e) p) p.window) (now + second) leg.deadline) (m refl ∙ h.of_edge_shown)
           ∙ ap (λ (n : ℕ). cond (rises_by (acked leg.ends.role es) (shown leg.ends.role es) (ack_place (end_state leg.ends.role es e) p) p.window) (n + second) leg.deadline) at
           ∙ ap (λ (n : ℕ). cond (rises_by (acked leg.ends.role es) (shown leg.ends.role es) (ack_place (end_state leg.ends.role es e) p) p.window) (moment e + second) n) deadline_before
-          ∙ sym (ap (λ (b : Bool). cond (b && (nat_lt (acked leg.ends.role es) (cond b (max (acked leg.ends.role es) (natural (ack_place (end_state leg.ends.role es e) p))) (acked leg.ends.role es)) || nat_lt (shown leg.ends.role es) (cond b (max (shown leg.ends.role es) (natural (ack_place (end_state leg.ends.role es e) p +ℤ pos p.window))) (cond (is_opening (answer_to (end_state leg.ends.role es e) p)) (max (shown leg.ends.role es) p.window) (shown leg.ends.role es)))))
+          ∙ sym (ap (λ (b : Bool). cond (b && (nat_lt (acked leg.ends.role es) (cond b (max (acked leg.ends.role es) (place_or_zero (ack_place (end_state leg.ends.role es e) p))) (acked leg.ends.role es)) || nat_lt (shown leg.ends.role es) (cond b (max (shown leg.ends.role es) (place_or_zero (ack_place (end_state leg.ends.role es e) p +ℤ pos p.window))) (cond (is_opening (answer_to (end_state leg.ends.role es e) p)) (max (shown leg.ends.role es) p.window) (shown leg.ends.role es)))))
           (moment e + second) (cond (has_fired e) (e.tick + backoff (tries leg.ends.role es + 1)) (due leg.ends.role es))) k)
 
   module _ (b x : Bool) (kb : is_opening (answer_to (end_state leg.ends.role es e) p) ≡ b) (kx : counts (end_state leg.ends.role es e) p ≡ x) where
@@ -206,20 +206,20 @@ module _ (leg : LegValue) (q : Queue) (now : ℕ) (e : LegEvent) (es : List LegE
         by true = ap (λ (d : Bool). phase_of d (is_greeted (record e { came = Packet p; ending = Unspoken } ∷ es))) (sym (or_true (opened leg.ends.role es)))
         by false = h.of_phase
 
-    shown_heard : cond x (max (cond b (edge_by leg.ends.role leg.shown p) leg.shown) (natural (ack_place (end_state leg.ends.role es e) p +ℤ pos p.window))) (cond b (edge_by leg.ends.role leg.shown p) leg.shown)
+    shown_heard : cond x (max (cond b (edge_by leg.ends.role leg.shown p) leg.shown) (place_or_zero (ack_place (end_state leg.ends.role es e) p +ℤ pos p.window))) (cond b (edge_by leg.ends.role leg.shown p) leg.shown)
         ≡ shown leg.ends.role (record e { came = Packet p; ending = Unspoken } ∷ es)
-    shown_heard = edge_heard leg.ends.role b x leg.shown p.window (natural (ack_place (end_state leg.ends.role es e) p +ℤ pos p.window)) passive p refl
-        ∙ ap (λ (n : ℕ). cond x (max n (natural (ack_place (end_state leg.ends.role es e) p +ℤ pos p.window))) (cond b (max n p.window) n)) h.of_edge_shown
-        ∙ ap (λ (c : Bool). cond x (max (shown leg.ends.role es) (natural (ack_place (end_state leg.ends.role es e) p +ℤ pos p.window))) (cond c (max (shown leg.ends.role es) p.window) (shown leg.ends.role es))) (sym kb)
-        ∙ ap (λ (c : Bool). cond c (max (shown leg.ends.role es) (natural (ack_place (end_state leg.ends.role es e) p +ℤ pos p.window))) (cond (is_opening (answer_to (end_state leg.ends.role es e) p)) (max (shown leg.ends.role es) p.window) (shown leg.ends.role es))) (sym kx)
+    shown_heard = edge_heard leg.ends.role b x leg.shown p.window (place_or_zero (ack_place (end_state leg.ends.role es e) p +ℤ pos p.window)) passive p refl
+        ∙ ap (λ (n : ℕ). cond x (max n (place_or_zero (ack_place (end_state leg.ends.role es e) p +ℤ pos p.window))) (cond b (max n p.window) n)) h.of_edge_shown
+        ∙ ap (λ (c : Bool). cond x (max (shown leg.ends.role es) (place_or_zero (ack_place (end_state leg.ends.role es e) p +ℤ pos p.window))) (cond c (max (shown leg.ends.role es) p.window) (shown leg.ends.role es))) (sym kb)
+        ∙ ap (λ (c : Bool). cond c (max (shown leg.ends.role es) (place_or_zero (ack_place (end_state leg.ends.role es e) p +ℤ pos p.window))) (cond (is_opening (answer_to (end_state leg.ends.role es e) p)) (max (shown leg.ends.role es) p.window) (shown leg.ends.role es))) (sym kx)
 
-    queue_shown_heard : cond x (max (cond b (edge_by leg.ends.role q.shown p) q.shown) (natural (ack_place (end_state leg.ends.role es e) p +ℤ pos p.window))) (cond b (edge_by leg.ends.role q.shown p) q.shown)
+    queue_shown_heard : cond x (max (cond b (edge_by leg.ends.role q.shown p) q.shown) (place_or_zero (ack_place (end_state leg.ends.role es e) p +ℤ pos p.window))) (cond b (edge_by leg.ends.role q.shown p) q.shown)
         ≡ shown leg.ends.role (record e { came = Packet p; ending = Unspoken } ∷ es)
-    queue_shown_heard = ap (λ (n : ℕ). cond x (max (cond b (edge_by leg.ends.role n p) n) (natural (ack_place (end_state leg.ends.role es e) p +ℤ pos p.window))) (cond b (edge_by leg.ends.role n p) n)) (h.of_shown ∙ sym h.of_edge_shown) ∙ shown_heard
+    queue_shown_heard = ap (λ (n : ℕ). cond x (max (cond b (edge_by leg.ends.role n p) n) (place_or_zero (ack_place (end_state leg.ends.role es e) p +ℤ pos p.window))) (cond b (edge_by leg.ends.role n p) n)) (h.of_shown ∙ sym h.of_edge_shown) ∙ shown_heard
 
-    acked_heard : cond x (max q.acked (natural (ack_place (end_state leg.ends.role es e) p))) q.acked ≡ acked leg.ends.role (record e { came = Packet p; ending = Unspoken } ∷ es)
-    acked_heard = ap (λ (n : ℕ). cond x (max n (natural (ack_place (end_state leg.ends.role es e) p))) n) h.of_acked
-        ∙ ap (λ (c : Bool). cond c (max (acked leg.ends.role es) (natural (ack_place (end_state leg.ends.role es e) p))) (acked leg.ends.role es)) (sym kx)
+    acked_heard : cond x (max q.acked (place_or_zero (ack_place (end_state leg.ends.role es e) p))) q.acked ≡ acked leg.ends.role (record e { came = Packet p; ending = Unspoken } ∷ es)
+    acked_heard = ap (λ (n : ℕ). cond x (max n (place_or_zero (ack_place (end_state leg.ends.role es e) p))) n) h.of_acked
+        ∙ ap (λ (c : Bool). cond c (max (acked leg.ends.role es) (place_or_zero (ack_place (end_state leg.ends.role es e) p))) (acked leg.ends.role es)) (sym kx)
 
     fired_heard : cond (x || b) 0 leg.fired ≡ tries leg.ends.role (record e { came = Packet p; ending = Unspoken } ∷ es)
     fired_heard = ap (λ (n : ℕ). cond (x || b) 0 n) h.of_fired
@@ -258,15 +258,15 @@ module _ (leg : LegValue) (q : Queue) (now : ℕ) (e : LegEvent) (es : List LegE
           other = cond b (other_by leg.ends.role leg.other p) leg.other;
           mss = cond b (mss_by leg.ends.role leg.mss p) leg.mss;
           window = w;
-          shown = cond x (max (cond b (edge_by leg.ends.role leg.shown p) leg.shown) (natural (ack_place (end_state leg.ends.role es e) p +ℤ pos p.window))) (cond b (edge_by leg.ends.role leg.shown p) leg.shown);
+          shown = cond x (max (cond b (edge_by leg.ends.role leg.shown p) leg.shown) (place_or_zero (ack_place (end_state leg.ends.role es e) p +ℤ pos p.window))) (cond b (edge_by leg.ends.role leg.shown p) leg.shown);
           fired = cond (x || b) 0 leg.fired;
           deadline = cond x (cond (rises_by q.acked (cond b (edge_by leg.ends.role leg.shown p) leg.shown) (ack_place (end_state leg.ends.role es e) p) p.window) (now + second) leg.deadline) leg.deadline;
           owes = owes_for leg.ends.role p (answer_to (end_state leg.ends.role es e) p);
         })
         (record {
-          acked = cond x (max q.acked (natural (ack_place (end_state leg.ends.role es e) p))) q.acked;
+          acked = cond x (max q.acked (place_or_zero (ack_place (end_state leg.ends.role es e) p))) q.acked;
           sent = q.sent;
-          shown = cond x (max (cond b (edge_by leg.ends.role q.shown p) q.shown) (natural (ack_place (end_state leg.ends.role es e) p +ℤ pos p.window))) (cond b (edge_by leg.ends.role q.shown p) q.shown);
+          shown = cond x (max (cond b (edge_by leg.ends.role q.shown p) q.shown) (place_or_zero (ack_place (end_state leg.ends.role es e) p +ℤ pos p.window))) (cond b (edge_by leg.ends.role q.shown p) q.shown);
         })
         (record e { came = Packet p; ending = Unspoken } ∷ es)
     stands_heard w t f g = record {
@@ -296,7 +296,7 @@ leg_is : (b x : Bool) (leg : LegValue) (p : PacketValue) (w : Window) (a : ℕ) 
       other = cond b (other_by leg.ends.role leg.other p) leg.other;
       mss = cond b (mss_by leg.ends.role leg.mss p) leg.mss;
       window = w;
-      shown = cond x (max (cond b (edge_by leg.ends.role leg.shown p) leg.shown) (natural (ack +ℤ pos p.window))) (cond b (edge_by leg.ends.role leg.shown p) leg.shown);
+      shown = cond x (max (cond b (edge_by leg.ends.role leg.shown p) leg.shown) (place_or_zero (ack +ℤ pos p.window))) (cond b (edge_by leg.ends.role leg.shown p) leg.shown);
       fired = cond (x || b) 0 leg.fired;
       deadline = cond x (cond (rises_by a (cond b (edge_by leg.ends.role leg.shown p) leg.shown) ack p.window) (now + second) leg.deadline) leg.deadline;
       owes = o;
@@ -308,9 +308,9 @@ leg_is false false leg p w a ack now o f = ap (λ (v : Window). record leg { win
 
 marks_is : (b x : Bool) (r : Role) (q : Queue) (p : PacketValue) (ack : ℤ)
     → marks (queue_counted x (queue_opened b r q p) ack p.window) ≡ record {
-      acked = cond x (max q.acked (natural ack)) q.acked;
+      acked = cond x (max q.acked (place_or_zero ack)) q.acked;
       sent = q.sent;
-      shown = cond x (max (cond b (edge_by r q.shown p) q.shown) (natural (ack +ℤ pos p.window))) (cond b (edge_by r q.shown p) q.shown);
+      shown = cond x (max (cond b (edge_by r q.shown p) q.shown) (place_or_zero (ack +ℤ pos p.window))) (cond b (edge_by r q.shown p) q.shown);
     }
 marks_is true true r q p ack = refl
 marks_is true false r q p ack = refl
@@ -365,7 +365,7 @@ heard_of leg mid after new q q1 q2 now p given g o oq c n = record {
         other = cond (is_opening given) (other_by leg.ends.role leg.other p) leg.other;
         mss = cond (is_opening given) (mss_by leg.ends.role leg.mss p) leg.mss;
         window = after.window;
-        shown = cond (counts_as leg.ends.role given) (max (cond (is_opening given) (edge_by leg.ends.role leg.shown p) leg.shown) (natural (ack_place (end_state leg.ends.role es e) p +ℤ pos p.window))) (cond (is_opening given) (edge_by leg.ends.role leg.shown p) leg.shown);
+        shown = cond (counts_as leg.ends.role given) (max (cond (is_opening given) (edge_by leg.ends.role leg.shown p) leg.shown) (place_or_zero (ack_place (end_state leg.ends.role es e) p +ℤ pos p.window))) (cond (is_opening given) (edge_by leg.ends.role leg.shown p) leg.shown);
         fired = cond (counts_as leg.ends.role given || is_opening given) 0 leg.fired;
         deadline = cond (counts_as leg.ends.role given) (cond (rises_by q.acked (cond (is_opening given) (edge_by leg.ends.role leg.shown p) leg.shown) (ack_place (end_state leg.ends.role es e) p) p.window) (now + second) leg.deadline) leg.deadline;
         owes = owes_for leg.ends.role p (answer_to (end_state leg.ends.role es e) p);
@@ -406,9 +406,9 @@ pub sent_of : (b : Bool) (r : Role) (q : Queue) (p : PacketValue) → (queue_ope
 sent_of true r q p = refl
 sent_of false r q p = refl
 
-pub natural_below : (z : ℤ) (n : ℕ) → z ≤ℤ pos n → natural z ≤ n
-natural_below (pos m) n h = omega (arith, ints, h)
-natural_below (negsuc m) n h = omega arith
+pub place_or_zero_below : (z : ℤ) (n : ℕ) → z ≤ℤ pos n → place_or_zero z ≤ n
+place_or_zero_below (pos m) n h = omega (arith, ints, h)
+place_or_zero_below (negsuc m) n h = omega arith
 
 pub cond_below : (b : Bool) (x y n : ℕ) → x < n → y < n → cond b x y < n
 cond_below true x y n h k = h

@@ -8,7 +8,7 @@ use Rattle.cf_outq.specs.SendQueue.{Queue, IsPiece, IsAnswer, carried, piece_let
 use Rattle.cf_outq.specs.SendQueue.{IsQueueOf}
 use Rattle.cf_outq.specs.declared.Piece.{Piece}
 use Rattle.cf_packet.specs.Packet.{PacketValue}
-use Rattle.cf_stream.specs.Position.{natural, sequence_number}
+use Rattle.cf_stream.specs.Position.{place_or_zero, sequence_number}
 use Rattle.cf_stream.specs.Stream.{Stream, letter_count, no_letters, part}
 use Rattle.cf_leg.specs.Calls.{SaysTo, SendsPiece, SendsSome, SendsNew}
 use Rattle.cf_leg.specs.Emits.{Pieces, piece}
@@ -65,8 +65,8 @@ piece_within q mss from limit p i l = by p.end refl
 module _ (q : Queue) (whole : Stream) (h : IsQueueOf q whole) (mss from limit : ℕ) (p : Piece) (i : IsPiece q mss from limit p) where
   pub piece_count : letter_count (piece whole mss limit from) ≡ piece_letters p
   piece_count =
-      let fits : p.len ≤ length (drop (natural p.at) whole.bytes) = rw i.at (simp length-drop (omega (arith, len_is q whole h mss from limit p i))) in
-      ap (λ (u : Stream). letter_count u) (sym (piece_is q whole h mss from limit p i)) ∙ (ap (λ (n : ℕ). n + cond p.end 1 0) (length-take p.len (drop (natural p.at) whole.bytes) ∙ omega (arith, fits)))
+      let fits : p.len ≤ length (drop (place_or_zero p.at) whole.bytes) = rw i.at (simp length-drop (omega (arith, len_is q whole h mss from limit p i))) in
+      ap (λ (u : Stream). letter_count u) (sym (piece_is q whole h mss from limit p i)) ∙ (ap (λ (n : ℕ). n + cond p.end 1 0) (length-take p.len (drop (place_or_zero p.at) whole.bytes) ∙ omega (arith, fits)))
 
 module _ (way : Way) (t : Told) (mss : ℕ) (q before after : Queue) (now : ℕ) (old mid new : Option (List SentValue)) (p : Piece)
     (some : SendsSome way t mss q before.sent now old mid)
@@ -78,13 +78,13 @@ module _ (way : Way) (t : Told) (mss : ℕ) (q before after : Queue) (now : ℕ)
     (stands_before : (whole : Stream) → IsQueueOf q whole → IsQueueOf before whole)
     (stands_after : (whole : Stream) → IsQueueOf q whole → IsQueueOf after whole) where
   out_is : (whole : Stream) → IsQueueOf q whole
-      → segment way t (sequence_number way.own (natural p.at)) (record { bytes = one.text; ended = p.end }) ≡ segment way t (sequence_number way.own before.sent) (piece whole mss q.shown before.sent)
+      → segment way t (sequence_number way.own (place_or_zero p.at)) (record { bytes = one.text; ended = p.end }) ≡ segment way t (sequence_number way.own before.sent) (piece whole mss q.shown before.sent)
   out_is whole s =
       let text : ◌≡◌ {A = Stream} (record { bytes = one.text; ended = p.end }) (carried whole p) = ap (λ (b : List ℕ). record { bytes = b; ended = p.end }) (one.carries whole (stands_after whole s)) in
       let is : ◌≡◌ {A = Stream} (record { bytes = one.text; ended = p.end }) (piece whole mss q.shown before.sent) =
       text ∙ piece_is before whole (stands_before whole s) mss before.sent before.shown p answer.piece ∙ ap (λ (n : ℕ). piece whole mss n before.sent) shown in
-      ap (λ (u : Stream). segment way t (sequence_number way.own (natural p.at)) u) is
-      ∙ ap (λ (z : ℤ). segment way t (sequence_number way.own (natural z)) (piece whole mss q.shown before.sent)) answer.piece.at
+      ap (λ (u : Stream). segment way t (sequence_number way.own (place_or_zero p.at)) u) is
+      ∙ ap (λ (z : ℤ). segment way t (sequence_number way.own (place_or_zero z)) (piece whole mss q.shown before.sent)) answer.piece.at
 
   left : (whole : Stream) → IsQueueOf q whole → before.sent < min q.shown (letter_count whole)
   left whole s =
@@ -96,15 +96,15 @@ module _ (way : Way) (t : Told) (mss : ℕ) (q before after : Queue) (now : ℕ)
 
   pub sends_one_more : SendsSome way t mss q (before.sent + piece_letters p) now old new
   sends_one_more = record {
-    outs = some.outs ++ segment way t (sequence_number way.own (natural p.at)) (record { bytes = one.text; ended = p.end }) ∷ [];
-    packets = one.packets ∙ ap (λ (told : Option (List SentValue)). with_segment told now (segment way t (sequence_number way.own (natural p.at)) (record { bytes = one.text; ended = p.end }))) some.packets
-        ∙ sym (with_segments-append old now some.outs (segment way t (sequence_number way.own (natural p.at)) (record { bytes = one.text; ended = p.end })));
+    outs = some.outs ++ segment way t (sequence_number way.own (place_or_zero p.at)) (record { bytes = one.text; ended = p.end }) ∷ [];
+    packets = one.packets ∙ ap (λ (told : Option (List SentValue)). with_segment told now (segment way t (sequence_number way.own (place_or_zero p.at)) (record { bytes = one.text; ended = p.end }))) some.packets
+        ∙ sym (with_segments-append old now some.outs (segment way t (sequence_number way.own (place_or_zero p.at)) (record { bytes = one.text; ended = p.end })));
     none = λ e. absurd (omega (arith, e, low, letters));
     pieces = λ whole s more rest.
         (let count : letter_count (piece whole mss q.shown before.sent) ≡ piece_letters p = subst (λ (n : ℕ). letter_count (piece whole mss n before.sent) ≡ piece_letters p) shown (piece_count before whole (stands_before whole s) mss before.sent before.shown p answer.piece) in
         let rest' = subst (λ (n : ℕ). Pieces way t whole mss q.shown (before.sent + n) more) (sym count) rest in
-        subst (λ (ps : List PacketValue). Pieces way t whole mss q.shown q.sent ps) (sym (append_assoc some.outs (segment way t (sequence_number way.own (natural p.at)) (record { bytes = one.text; ended = p.end }) ∷ []) more))
-        (some.pieces whole s (segment way t (sequence_number way.own (natural p.at)) (record { bytes = one.text; ended = p.end }) ∷ more) (left whole s, out_is whole s, rest')));
+        subst (λ (ps : List PacketValue). Pieces way t whole mss q.shown q.sent ps) (sym (append_assoc some.outs (segment way t (sequence_number way.own (place_or_zero p.at)) (record { bytes = one.text; ended = p.end }) ∷ []) more))
+        (some.pieces whole s (segment way t (sequence_number way.own (place_or_zero p.at)) (record { bytes = one.text; ended = p.end }) ∷ more) (left whole s, out_is whole s, rest')));
   }
 
 pub sends_all : (way : Way) (t : Told) (mss : ℕ) (q : Queue) (now sent : ℕ) (old new : Option (List SentValue)) → SendsSome way t mss q sent now old new

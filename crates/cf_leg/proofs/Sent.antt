@@ -6,7 +6,7 @@ use Rattle.std.proofs.lemmas.Bool.{cases_lt, cases_Bool, true≢false, false≢t
 use Rattle.std.proofs.lemmas.Int.{ints}
 use Rattle.std.proofs.lemmas.List.{length-append}
 use Rattle.cf_packet.specs.Packet.{PacketValue}
-use Rattle.cf_stream.specs.Position.{natural, position, sequence_number}
+use Rattle.cf_stream.specs.Position.{place_or_zero, position, sequence_number}
 use Rattle.cf_stream.specs.Stream.{Stream, Letter, Carries, Extends, letter_at, letter_count, letter_from, no_letters}
 use Rattle.cf_leg.proofs.Carried.{at_inside, carries_none, carry_piece, carry_said, from_inside, none≢some, said_some, some_right}
 use Rattle.cf_leg.proofs.Clocked.{greeting_right}
@@ -39,7 +39,7 @@ pub record Repeats (whole : Stream) (own sent : ℕ) (ps : List PacketValue) : T
 
 -- ---- segments without letters
 sends_none : (own sent : ℕ) (p : PacketValue) → letters_in p ≡ no_letters → letters_sent_by own sent p ≡ sent
-sends_none own sent p h = ap (λ (s : Stream). cond (letter_count s == 0) sent (max sent (natural (position p.seq own sent +ℤ pos (letter_count s))))) h
+sends_none own sent p h = ap (λ (s : Stream). cond (letter_count s == 0) sent (max sent (place_or_zero (position p.seq own sent +ℤ pos (letter_count s))))) h
 
 carry_none : (whole : Stream) (z : ℤ) (text : Stream) → text ≡ no_letters → Carries whole z text
 carry_none whole z text h = subst (λ (s : Stream). Carries whole z s) (sym h) (carries_none whole z)

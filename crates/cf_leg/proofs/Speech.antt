@@ -4,7 +4,7 @@ use Rattle.std.specs.Prelude.{◌==◌, nat_lt}
 use Rattle.std.proofs.lemmas.Bool.{and_parts, cases_lt, cases_Bool, true≢false, eqb-true, ltb-true, lt-ltb, le-ltb, eq-eqb}
 use Rattle.std.proofs.lemmas.Int.{ints}
 use Rattle.cf_packet.specs.Packet.{PacketValue}
-use Rattle.cf_stream.specs.Position.{natural, sequence_number, position, signed32}
+use Rattle.cf_stream.specs.Position.{place_or_zero, sequence_number, position, signed32}
 use Rattle.cf_stream.specs.Stream.{Stream, letter_count, part, no_letters}
 use Rattle.cf_leg.specs.Emits.{Pieces, piece, differs}
 use Rattle.cf_leg.specs.Segment.{segment, flags_with, has_ack, has_rst, has_fin, letters_in, letters_of}
@@ -68,7 +68,7 @@ module _ (way : Way) (t : Told) (number : ℕ) (s : Stream) where
   told_segment b low high e =
       let tells : (has_ack (segment way t number s) && not (has_rst (segment way t number s))) ≡ true = rw (segment_ack, segment_rst) refl in
       let at = position_ahead way.other b.base t.base low high in
-      let base : natural (position (sequence_number way.other t.base) way.other b.base) ≡ t.base = ap natural at in
+      let base : place_or_zero (position (sequence_number way.other t.base) way.other b.base) ≡ t.base = ap place_or_zero at in
       rw (tells, base) (ap (λ (n : ℕ). record { base = t.base; edge = n }) (omega (arith, e)))
 
   -- and carries its letters from its place on

@@ -5,7 +5,7 @@ use Rattle.std.proofs.lemmas.Bool.{cases_lt, cases_Bool}
 use Rattle.std.proofs.lemmas.List.{length-append}
 use Rattle.cf_packet.specs.Packet.{PacketValue}
 use Rattle.cf_stream.proofs.Extends.{extends_both}
-use Rattle.cf_stream.specs.Position.{natural, position}
+use Rattle.cf_stream.specs.Position.{place_or_zero, position}
 use Rattle.cf_stream.specs.Stream.{Stream, Letter, Extends, letter_at, letter_count}
 use Rattle.cf_leg.proofs.Carried.{none≢some, some_left, some_right}
 use Rattle.cf_leg.proofs.Sent.{Goes, Repeats, event_goes, fired_repeats}
@@ -30,7 +30,7 @@ shown_grows at Nothing before = omega arith
 shown_grows at (Greeting p) before = omega arith
 shown_grows at (Packet p) before = by (counts at p) (opens at (Packet p))
   where
-    by : (b o : Bool) → before ≤ cond b (max before (natural (ack_place at p +ℤ pos p.window))) (cond o (max before p.window) before)
+    by : (b o : Bool) → before ≤ cond b (max before (place_or_zero (ack_place at p +ℤ pos p.window))) (cond o (max before p.window) before)
     by true o = omega arith
     by false true = omega arith
     by false false = omega arith

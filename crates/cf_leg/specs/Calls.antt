@@ -5,7 +5,7 @@ use Rattle.cf_outq.specs.SendQueue.{Queue, carried, queue_length, after_acked, a
 use Rattle.cf_outq.specs.SendQueue.{IsQueueOf}
 use Rattle.cf_outq.specs.declared.Piece.{Piece}
 use Rattle.cf_packet.specs.Packet.{PacketValue}
-use Rattle.cf_stream.specs.Position.{natural, sequence_number}
+use Rattle.cf_stream.specs.Position.{place_or_zero, sequence_number}
 use Rattle.cf_stream.specs.Stream.{Stream, Extends, no_letters}
 use Rattle.cf_leg.specs.Emits.{IsRight, Pieces, SaysIf, rst, send_mss, differs, to_tell, syn, syn_ack_for, piece}
 use Rattle.cf_leg.specs.Event.{Cut, Greeting, Nothing, Packet, Unspoken, Spoke, LegEvent, clocked, moment, stream_after, is_settled}
@@ -32,7 +32,7 @@ use Rattle.cf_leg.specs.declared.ends.Way.{Way}
 -- the letters of a piece went out in a segment
 pub record SendsPiece (way : Way) (t : Told) (queue : Queue) (piece : Piece) (now : ℕ) (old new : Option (List SentValue)) : Type 0 where
   pub text : List ℕ
-  pub packets : new ≡ with_segment old now (segment way t (sequence_number way.own (natural piece.at)) (record { bytes = text; ended = piece.end }))
+  pub packets : new ≡ with_segment old now (segment way t (sequence_number way.own (place_or_zero piece.at)) (record { bytes = text; ended = piece.end }))
   pub carries : (whole : Stream) → IsQueueOf queue whole → text ≡ (carried whole piece).bytes
 
 -- some pieces went out, and so many letters were sent then
@@ -157,13 +157,13 @@ queue_opened true r q p = record q { shown = edge_by r q.shown p }
 
 -- a packet that counts acknowledges a letter or shows a greater edge
 abbrev pub rises_by : ℕ → ℕ → ℤ → ℕ → Bool
-rises_by acked shown ack window = nat_lt acked (max acked (natural ack)) || nat_lt shown (max shown (natural (ack +ℤ pos window)))
+rises_by acked shown ack window = nat_lt acked (max acked (place_or_zero ack)) || nat_lt shown (max shown (place_or_zero (ack +ℤ pos window)))
 
 -- the leg and its queue once a packet counted, or did not
 abbrev pub leg_counted : Bool → LegValue → Window → ℕ → ℤ → ℕ → ℕ → LegValue
 leg_counted false leg window acked ack size now = leg
 leg_counted true leg window acked ack size now =
-    record leg { window = window; shown = max leg.shown (natural (ack +ℤ pos size)); fired = 0; deadline = if rises_by acked leg.shown ack size then now + second else leg.deadline }
+    record leg { window = window; shown = max leg.shown (place_or_zero (ack +ℤ pos size)); fired = 0; deadline = if rises_by acked leg.shown ack size then now + second else leg.deadline }
 
 abbrev pub queue_counted : Bool → Queue → ℤ → ℕ → Queue
 queue_counted false q ack size = q

@@ -3,7 +3,7 @@
 use Rattle.std.specs.Prelude.{ℕ, ◌+◌, ◌==◌, max, nat_lt, not, Bool, true, false, ◌&&◌, ◌||◌, if◌then◌else◌, List, [], ◌∷◌, ℤ, pos, ◌+ℤ◌, int_lt, int_le}
 use Rattle.cf_packet.specs.Packet.{PacketValue}
 use Rattle.cf_stream.specs.FirstCopy.{Offer}
-use Rattle.cf_stream.specs.Position.{sequence_number, position, natural}
+use Rattle.cf_stream.specs.Position.{sequence_number, position, place_or_zero}
 use Rattle.cf_stream.specs.Stream.{Stream}
 use Rattle.cf_leg.specs.Event.{Came, Nothing, Greeting, Packet, LegEvent}
 use Rattle.cf_leg.specs.Segment.{has_fin, has_syn, has_rst, has_ack, letters_in, letters_of}
@@ -125,12 +125,12 @@ owes_in at _ = false
 
 -- what is acknowledged and what edge is shown, and the offers, after what came
 abbrev pub acked_by : EndState → Came → ℕ → ℕ
-acked_by at (Packet p) before = if counts at p then max before (natural (ack_place at p)) else before
+acked_by at (Packet p) before = if counts at p then max before (place_or_zero (ack_place at p)) else before
 acked_by at _ before = before
 
 abbrev pub shown_by : EndState → Came → ℕ → ℕ
 shown_by at (Packet p) before =
-    if counts at p then max before (natural (ack_place at p +ℤ pos p.window))
+    if counts at p then max before (place_or_zero (ack_place at p +ℤ pos p.window))
     else if opens at (Packet p) then max before p.window
     else before
 shown_by at _ before = before

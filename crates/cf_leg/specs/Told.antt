@@ -2,7 +2,7 @@
 use Rattle.std.specs.Prelude.{ℕ, ◌+◌, ◌==◌, max, not, Bool, ◌&&◌, if◌then◌else◌, List, [], ◌∷◌, Option, Some, None, pos, ◌+ℤ◌}
 use Rattle.std.specs.Option.{option_or, is_some}
 use Rattle.cf_packet.specs.Packet.{PacketValue}
-use Rattle.cf_stream.specs.Position.{sequence_number, position, natural}
+use Rattle.cf_stream.specs.Position.{sequence_number, position, place_or_zero}
 use Rattle.cf_leg.specs.Event.{Came, Nothing, Greeting, Packet, LegEvent, sent_in}
 use Rattle.cf_leg.specs.Segment.{has_syn, has_rst, has_ack, letters_of}
 use Rattle.cf_leg.specs.declared.ends.Told.{Told}
@@ -51,7 +51,7 @@ peer_number (role.Passive other mss) es = other
 abbrev pub told_by : ℕ → Told → PacketValue → Told
 told_by other t p =
     if has_ack p && not (has_rst p) then
-    (let base = natural (position p.ack other t.base) in record { base = base; edge = base + p.window })
+    (let base = place_or_zero (position p.ack other t.base) in record { base = base; edge = base + p.window })
     else t
 
 abbrev pub told_by_all : ℕ → Told → List PacketValue → Told
@@ -67,7 +67,7 @@ told r (e ∷ es) =
 abbrev pub letters_sent_by : ℕ → ℕ → PacketValue → ℕ
 letters_sent_by own before p =
     if letters_of p == 0 then before
-    else max before (natural (position p.seq own before +ℤ pos (letters_of p)))
+    else max before (place_or_zero (position p.seq own before +ℤ pos (letters_of p)))
 
 abbrev pub letters_sent_by_all : ℕ → ℕ → List PacketValue → ℕ
 letters_sent_by_all own before [] = before

@@ -12,7 +12,7 @@ ghost use Rattle.cf_stream.specs.Stream.{Stream, letter_count};
 ghost use Rattle.cf_leg.specs.Calls.{KeepsList, Widens, window_by, Continues, IsTold, CutOff, origin_as, rst_of, Greeted, IsMade, IsOwn, greeted_as, no_marks, Addressed, Clocked, Counts, Heard, SendsAgain, SendsOldest, Spoken, greeting_of, is_due, is_greeted_phase, leg_opened, end_state_of, queue_counted, queue_opened, rearmed, rises_by};
 ghost use Rattle.cf_leg.specs.Emits.{differs, rst, send_mss, to_tell};
 ghost use Rattle.cf_leg.specs.Heard.{ack_place, text_place};
-ghost use Rattle.cf_stream.specs.Position.{natural};
+ghost use Rattle.cf_stream.specs.Position.{place_or_zero};
 ghost use Rattle.cf_leg.specs.Emitted.{with_segment};
 ghost use Rattle.cf_leg.specs.Event.{LegEvent};
 ghost use Rattle.cf_leg.specs.Timer.{backoff};
@@ -26,7 +26,7 @@ mod opening;
 mod speaking;
 
 use crate::ends::{Ends, Phase, Role, Told, Way};
-use crate::send::natural;
+use crate::send::place_or_zero;
 use cf_outq::Outq;
 use cf_rebuild::Rebuild;
 use cf_view::{Endpoint, NoMemory};
@@ -176,7 +176,7 @@ impl Leg {
     {
         Told {
             base: self.base,
-            edge: natural(self.window.edge()),
+            edge: place_or_zero(self.window.edge()),
         }
     }
 
@@ -196,8 +196,8 @@ impl Leg {
         ensures value { result ≡ to_tell (told_of self.now) (base_of self.now.window) roomy }
         ensures bounds { IsWindow self.now.window }
     {
-        let base = natural(self.window.base());
-        let edge = natural(self.window.edge());
+        let base = place_or_zero(self.window.base());
+        let edge = place_or_zero(self.window.edge());
         Told {
             base,
             edge: if roomy { base + WINDOW } else { edge },

@@ -6,7 +6,7 @@ ghost use Rattle.cf_outq.specs.SendQueue.{IsQueue, IsUnacked, carried, queue_len
 ghost use Rattle.cf_outq.specs.SendQueue.{IsQueueOf};
 ghost use Rattle.cf_packet.specs.Packet.{PacketValue, packet_value};
 ghost use Rattle.cf_packet.specs.Written.{IsWritable};
-ghost use Rattle.cf_stream.specs.Position.{natural, sequence_number};
+ghost use Rattle.cf_stream.specs.Position.{place_or_zero, sequence_number};
 ghost use Rattle.cf_stream.specs.Stream.{Stream, letter_count, no_letters};
 ghost use Rattle.cf_leg.specs.Emits.{Pieces, piece};
 ghost use Rattle.cf_leg.specs.Emitted.{spelled, with_segment, with_segments};
@@ -88,9 +88,9 @@ pub(crate) fn send_empty<D: Desk>(
 }
 
 /// A place as a number.
-pub(crate) fn natural(place: i64) -> u64
+pub(crate) fn place_or_zero(place: i64) -> u64
     requires { pos 0 ≤ℤ place }
-    ensures { result ≡ natural place }
+    ensures { result ≡ place_or_zero place }
 {
     place as u64
 }
@@ -98,9 +98,9 @@ pub(crate) fn natural(place: i64) -> u64
 /// The place of a piece.
 fn place_of(piece: Piece) -> u64
     requires { pos 0 ≤ℤ piece.at }
-    ensures { result ≡ natural piece.at }
+    ensures { result ≡ place_or_zero piece.at }
 {
-    natural(piece.at)
+    place_or_zero(piece.at)
 }
 
 /// Sends the letters of a piece.
@@ -115,7 +115,7 @@ pub(crate) fn send_piece<D: Desk>(
     requires told { (told.base ≤ told.edge) × (told.edge - told.base < 65536) × (told.base ≤ 2 ^ 31) }
     requires unacked { IsUnacked queue.now piece }
     requires small { piece.len ≤ 1460 }
-    requires place { natural piece.at ≤ 2 ^ 31 }
+    requires place { place_or_zero piece.at ≤ 2 ^ 31 }
     requires whole { DeskValue.whole (D.value desk.old) ≡ true }
     requires moment { now < 2 ^ 32 * 1000000 }
     ensures packets { OnOk result (SendsPiece way told queue.now piece now (DeskValue.packets (D.value desk.old)) (DeskValue.packets (D.value desk.new))) }
@@ -200,14 +200,14 @@ pub(crate) fn acked_of(queue: &Outq) -> u64
     ensures value { result ≡ queue.now.acked }
     ensures bounds { IsQueue queue.now }
 {
-    natural(queue.length() - queue.unacked())
+    place_or_zero(queue.length() - queue.unacked())
 }
 
 /// The sequence number of the next new letter.
 pub(crate) fn next_number(own: u32, queue: &Outq) -> u32
     ensures { result ≡ sequence_number own queue.now.sent }
 {
-    sequence_number(own, natural(queue.sent()))
+    sequence_number(own, place_or_zero(queue.sent()))
 }
 
 /// What an open end says to its peer: every new letter that it lets in, or, if there is none, an acknowledgment where one

@@ -1,7 +1,7 @@
 -- Lists of calls of a queue, with their answers. The newest call stands first, so that what was before a call is the
 -- list after it.
 use Rattle.std.specs.Prelude.{◌≡◌, ℕ, ◌+◌, ◌-◌, ◌^◌, ◌<◌, ◌≤◌, false, List, [], ◌∷◌, ◌++◌, length, take, drop, Option, Some, ℤ, pos, ◌≤ℤ◌}
-use Rattle.cf_stream.specs.Position.{natural}
+use Rattle.cf_stream.specs.Position.{place_or_zero}
 use Rattle.cf_stream.specs.Stream.{Stream, Letter, no_letters, with_bytes, with_end, letters}
 use Rattle.cf_outq.specs.declared.piece.Piece.{Piece}
 use Rattle.cf_outq.specs.SendQueue.{Queue, IsAnswer, IsUnacked, piece_letters, carried, empty, after_push, after_end, after_shown, after_acked, after_sent}
@@ -38,7 +38,7 @@ QueueStep (NextPiece mss answer) old new =
     (0 < mss) × IsAnswer old mss old.sent old.shown answer × (new ≡ after_sent old answer)
 QueueStep (FirstPiece mss answer) old new = (0 < mss) × IsAnswer old mss old.acked old.sent answer × (new ≡ old)
 QueueStep (Copy piece bytes) old new =
-    IsUnacked old piece × (bytes ≡ take piece.len (drop (natural piece.at - old.acked) old.kept)) × (new ≡ old)
+    IsUnacked old piece × (bytes ≡ take piece.len (drop (place_or_zero piece.at - old.acked) old.kept)) × (new ≡ old)
 
 -- from an empty queue on, each call was one that may be made on the queue that the earlier ones left
 abbrev pub IsQueueRun : List QueueCall → Type 0

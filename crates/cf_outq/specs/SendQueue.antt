@@ -3,7 +3,7 @@
 -- Its counts are of letters from the first one on. RFC 9293, section 3.3.1, has them as sequence numbers: acked is
 -- SND.UNA, sent is SND.NXT, and shown is the greatest SND.UNA + SND.WND that the peer has told.
 use Rattle.std.specs.Prelude.{◌≡◌, ℕ, ◌+◌, ◌-◌, ◌^◌, ◌<◌, ◌≤◌, ◌↔◌, min, max, IsTrue, IfSome, IsNone, Bool, true, false, if◌then◌else◌, List, [], ◌++◌, length, drop, Option, Some, None, ℤ, pos, ◌≤ℤ◌, ◌+ℤ◌}
-use Rattle.cf_stream.specs.Position.{natural}
+use Rattle.cf_stream.specs.Position.{place_or_zero}
 use Rattle.cf_stream.specs.Stream.{Stream, letter_count, part}
 use Rattle.cf_outq.specs.declared.piece.Piece.{Piece}
 
@@ -40,7 +40,7 @@ piece_letters p = p.len + (if p.end then 1 else 0)
 
 -- what a piece carries of a stream
 abbrev pub carried : Stream → Piece → Stream
-carried whole p = part whole (natural p.at) p.len p.end
+carried whole p = part whole (place_or_zero p.at) p.len p.end
 
 -- the queue stands for the list of all that was pushed
 pub record IsQueueOf (q : Queue) (whole : Stream) : Type 0 where
@@ -79,12 +79,12 @@ after_end q = record q { ended = true }
 
 -- the edge shown only rises
 abbrev pub after_shown : Queue → ℤ → Queue
-after_shown q edge = record q { shown = max q.shown (natural edge) }
+after_shown q edge = record q { shown = max q.shown (place_or_zero edge) }
 
 -- what is acknowledged only rises, and its bytes go
 abbrev pub after_acked : Queue → ℤ → Queue
 after_acked q position =
-    let acked = max q.acked (natural position) in
+    let acked = max q.acked (place_or_zero position) in
     record q { acked = acked; kept = drop (acked - q.acked) q.kept }
 
 -- the letters of the piece were sent

@@ -1,6 +1,6 @@
 //! The queue over a ring of bytes.
 ghost use Rattle.std.specs.Prelude.{◌≡◌, ◌+◌, ◌-◌, ◌^◌, ◌<◌, ◌≤◌, ◌↔◌, IfOk, IfSome, IsNone, false, length, min, take, drop, pos, ◌≤ℤ◌};
-ghost use Rattle.cf_stream.specs.Position.{natural};
+ghost use Rattle.cf_stream.specs.Position.{place_or_zero};
 ghost use Rattle.cf_stream.specs.Stream.{Stream, letter_count, no_letters, with_bytes, with_end, Carries};
 ghost use Rattle.cf_outq.specs.SendQueue.{IsQueue, IsQueueOf, IsAnswer, IsUnacked, queue_length, piece_letters, carried, empty, after_push, after_end, after_shown, after_acked, after_sent};
 
@@ -177,7 +177,7 @@ impl Outq {
     pub fn copy(&self, piece: Piece, out: &mut [u8])
         requires unacked { IsUnacked self.now piece }
         requires len { length out.old ≡ piece.len }
-        ensures value { out.new ≡ take piece.len (drop (natural piece.at - self.now.acked) self.now.kept) }
+        ensures value { out.new ≡ take piece.len (drop (place_or_zero piece.at - self.now.acked) self.now.kept) }
         ensures stands { (whole : Stream) → IsQueueOf self.now whole → out.new ≡ (carried whole piece).bytes }
     {
         let from = (piece.at as u64 - self.acked) as usize;

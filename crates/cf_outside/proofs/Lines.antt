@@ -5,7 +5,7 @@ use Rattle.std.specs.List.{concat}
 use Rattle.std.proofs.lemmas.List.{append-nil}
 use Rattle.cf_outside.specs.Files.{Content, untold, absent, holds, with_appended, content_after_create}
 use Rattle.cf_outside.specs.Desk.{with_item}
-use Rattle.cf_outside.specs.Lines.{is_nothing, is_line, lines_from, rest_from, file_lines, ends_with_line}
+use Rattle.cf_outside.specs.Lines.{is_nothing, is_line, lines_from, rest_from, file_lines, file_part, ends_with_line}
 
 pub lines_from-append : (part xs ys : List ℕ) → lines_from part (xs ++ ys) ≡ lines_from part xs ++ lines_from (rest_from part xs) ys
 lines_from-append part [] ys = refl
@@ -76,6 +76,18 @@ lines_from-part part (x ∷ y ∷ ys) (suc k) h =
       | false ↦ λ e. elim (lines_from-part part' (y ∷ ys) k e) [ inl none ↦ inl none | inr all ↦ inr (ap (λ l. x ∷ l) all) ]
     ] h
 
+-- the lines of a text, and what stands behind them, are the text
+pub lines_from-rest : (part xs : List ℕ) → concat (lines_from part xs) ++ rest_from part xs ≡ part ++ xs
+lines_from-rest part [] = sym (append-nil part)
+lines_from-rest part (x ∷ xs) =
+    let part' : List ℕ = part ++ x ∷ [] in
+    elim (x == 10) as (λ t. concat (if t then part' ∷ lines_from [] xs else lines_from part' xs)
+    ++ (if t then rest_from [] xs else rest_from part' xs) ≡ part ++ x ∷ xs) [
+      | true ↦ append_assoc part' (concat (lines_from [] xs)) (rest_from [] xs)
+          ∙ ap (λ l. part' ++ l) (lines_from-rest [] xs) ∙ append_assoc part (x ∷ []) xs
+      | false ↦ lines_from-rest part' xs ∙ append_assoc part (x ∷ []) xs
+    ]
+
 pub nothing : (xs : List ℕ) → is_nothing xs ≡ true → xs ≡ []
 nothing [] h = refl
 nothing (x ∷ xs) h = cc
@@ -93,15 +105,31 @@ ends_with_line-line untold text h e = refl
 ends_with_line-line absent text h e = refl
 ends_with_line-line (holds all) text h e = rw (rest_from-append [] all text, nothing _ e, rest_from-line [] text h) refl
 
+-- the part behind the last line stays nothing
+pub file_part-line : (file : Content) (text : List ℕ) → is_line text ≡ true → ends_with_line file ≡ true →
+    file_part (with_appended file text) ≡ file_part file
+file_part-line untold text h e = refl
+file_part-line absent text h e = refl
+file_part-line (holds all) text h e = rw (rest_from-append [] all text, nothing _ e, rest_from-line [] text h) refl
+
+-- what has no line stands behind the last one
+rest_from-none : (part xs : List ℕ) → lines_from part xs ≡ [] → rest_from part xs ≡ part ++ xs
+rest_from-none part xs none = ap (λ ls. concat ls ++ rest_from part xs) (sym none) ∙ lines_from-rest part xs
+
+-- some octets of a line add no line and stand behind the last one, or they are the line
 pub file_lines-part : (file : Content) (text : List ℕ) (k : ℕ) → is_line text ≡ true → ends_with_line file ≡ true →
-    (file_lines (with_appended file (take k text)) ≡ file_lines file)
-    ⊎ (file_lines (with_appended file (take k text)) ≡ with_item text (file_lines file))
-file_lines-part untold text k h e = inl refl
-file_lines-part absent text k h e = inl refl
+    ((file_lines (with_appended file (take k text)) ≡ file_lines file)
+    × ((j : ℕ) × (file_part (with_appended file (take k text)) ≡ take j text)))
+    ⊎ ((file_lines (with_appended file (take k text)) ≡ with_item text (file_lines file))
+    × (file_part (with_appended file (take k text)) ≡ []))
+file_lines-part untold text k h e = inl (refl, (0, refl))
+file_lines-part absent text k h e = inl (refl, (0, refl))
 file_lines-part (holds all) text k h e =
     elim (lines_from-part [] text k h) [
-      | inl none ↦ inl (rw (lines_from-append [] all (take k text), nothing _ e, none, append-nil (lines_from [] all)) refl)
-      | inr whole ↦ inr (rw (whole, lines_from-append [] all text, nothing _ e, lines_from-line [] text h) refl)
+      | inl none ↦ inl (rw (lines_from-append [] all (take k text), nothing _ e, none, append-nil (lines_from [] all)) refl,
+          (k, rw (rest_from-append [] all (take k text), nothing _ e) (rest_from-none [] (take k text) none)))
+      | inr whole ↦ inr (rw (whole, lines_from-append [] all text, nothing _ e, lines_from-line [] text h) refl,
+          rw (whole, rest_from-append [] all text, nothing _ e) (rest_from-line [] text h))
     ]
 
 -- a file that was created ends with a line, as nothing stands there
@@ -116,18 +144,6 @@ file_lines-create untold lines h = cc
 file_lines-create absent lines h = cc
 file_lines-create (holds all) lines h = cc
 
--- the lines of a text, and what stands behind them, are the text
-pub lines_from-rest : (part xs : List ℕ) → concat (lines_from part xs) ++ rest_from part xs ≡ part ++ xs
-lines_from-rest part [] = sym (append-nil part)
-lines_from-rest part (x ∷ xs) =
-    let part' : List ℕ = part ++ x ∷ [] in
-    elim (x == 10) as (λ t. concat (if t then part' ∷ lines_from [] xs else lines_from part' xs)
-    ++ (if t then rest_from [] xs else rest_from part' xs) ≡ part ++ x ∷ xs) [
-      | true ↦ append_assoc part' (concat (lines_from [] xs)) (rest_from [] xs)
-          ∙ ap (λ l. part' ++ l) (lines_from-rest [] xs) ∙ append_assoc part (x ∷ []) xs
-      | false ↦ lines_from-rest part' xs ∙ append_assoc part (x ∷ []) xs
-    ]
-
 -- a file that ends with a line is its lines
 pub file_lines-whole : (file : Content) (lines : List (List ℕ)) → file_lines file ≡ Some lines → ends_with_line file ≡ true →
     file ≡ holds (concat lines)
@@ -138,4 +154,4 @@ file_lines-whole (holds all) lines h e =
     sym (append-nil _) ∙ ap (λ rest. concat (lines_from [] all) ++ rest) (sym (nothing _ e)) ∙ lines_from-rest [] all in
     cc
 
-pub ruleset line_laws = (file_lines-line, ends_with_line-line, file_lines-part)
+pub ruleset line_laws = (file_lines-line, ends_with_line-line, file_lines-part, file_part-line)

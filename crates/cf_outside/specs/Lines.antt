@@ -29,7 +29,13 @@ file_lines untold = None
 file_lines absent = None
 file_lines (holds all) = Some (lines_from [] all)
 
--- nothing stands behind the last line feed of a file, as far as it is told
+-- what stands behind the last line feed of a file, as far as it is told
+abbrev pub file_part : Content → List ℕ
+file_part untold = []
+file_part absent = []
+file_part (holds all) = rest_from [] all
+
+-- nothing stands there
 abbrev pub ends_with_line : Content → Bool
 ends_with_line untold = true
 ends_with_line absent = true

@@ -36,6 +36,9 @@ abbrev pub desk_in_memory : MemoryDesk → DeskValue
 desk_in_memory desk = record {
   packets = Some (map sent_value desk.packets.items);
   lines = Some (map string_bytes desk.lines.items);
+  packet_part = [];
+  line_part = [];
+  octets = λ sent. [];
   whole = desk.faults == 0;
   faults = desk.faults;
   lender = None;

@@ -1,6 +1,6 @@
 //! Places of sequence numbers in a stream.
 ghost use Rattle.std.specs.Prelude.{◌≡◌, ◌+◌, ◌^◌, ◌≤◌, pos, ◌+ℤ◌, ◌-ℤ◌, ◌≤ℤ◌, ◌<ℤ◌};
-ghost use Rattle.cf_stream.specs.Position.{natural, position, sequence_number};
+ghost use Rattle.cf_stream.specs.Position.{place_or_zero, position, sequence_number};
 
 /// The sequence number of the letter at a place of a stream whose SYN has the number `origin`. RFC 9293, section 3.4.
 pub fn sequence_number(origin: u32, place: u64) -> u32
@@ -16,7 +16,7 @@ pub fn sequence_number(origin: u32, place: u64) -> u32
 pub fn position(seq: u32, origin: u32, base: i64) -> i64
     requires low { pos 0 ≤ℤ base }
     requires high { base ≤ℤ pos (2 ^ 31) }
-    ensures value { result ≡ position seq origin (natural base) }
+    ensures value { result ≡ position seq origin (place_or_zero base) }
     ensures from { (base -ℤ pos (2 ^ 31)) ≤ℤ result }
     ensures to { result <ℤ (base +ℤ pos (2 ^ 31)) }
 {

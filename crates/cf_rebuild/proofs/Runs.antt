@@ -2,9 +2,9 @@
 use Rattle.std.proofs.Common.{◌≡◌, ℕ, ◌+◌, Bool, if◌then◌else◌, List, [], ◌∷◌, length, drop, refl, ◌∙◌, ap, arith}
 use Rattle.std.proofs.lemmas.Int.{ints}
 use Rattle.cf_stream.proofs.Taken.{same_taken}
-use Rattle.cf_stream.proofs.Natural.{natural_from}
+use Rattle.cf_stream.proofs.PlaceOrZero.{place_or_zero_from}
 use Rattle.cf_stream.specs.FirstCopy.{first_copy, IsTaken}
-use Rattle.cf_stream.specs.Position.{natural}
+use Rattle.cf_stream.specs.Position.{place_or_zero}
 use Rattle.cf_stream.specs.Stream.{Stream, letter_count}
 use Rattle.cf_rebuild.specs.ReceiveWindow.{Window, IsWindow, IsWindowOf, base_of}
 use Rattle.cf_rebuild.specs.WindowCalls.{WindowCall, Offered, Consumed, Opened, IsWindowRun, edge_by, consumed_by, offers_by}
@@ -16,9 +16,9 @@ run_is_window (Offered at text ∷ earlier) w r = window_after r.0 w _ (run_is_w
 run_is_window (Consumed n ∷ earlier) w r = window_consumed r.0 w n r.2.0 r.2.1 (run_is_window earlier r.0 r.1)
 run_is_window (Opened edge ∷ earlier) w r =
     let h = run_is_window earlier r.0 r.1 in
-    let at = natural_from r.0.edge edge r.2.0 in
+    let at = place_or_zero_from r.0.edge edge r.2.0 in
     rw r.2.4
-    (window_opened r.0 (natural edge)
+    (window_opened r.0 (place_or_zero edge)
     (omega (arith, ints, at, r.2.0)) (omega (arith, ints, at, r.2.1)) (omega (arith, ints, at, r.2.2)) (omega (arith, ints, at, r.2.3)) h)
 
 pub edge_run : (calls : List WindowCall) (w : Window) → IsWindowRun calls w → w.edge ≡ edge_by calls
@@ -40,7 +40,7 @@ stands_run (Offered at text ∷ earlier) w r =
     let e = edge_run earlier r.0 r.1 in
     rw e at s
 stands_run (Consumed n ∷ earlier) w r = stands_consumed r.0 w n r.2.0 r.2.1 (offers_by earlier) (stands_run earlier r.0 r.1)
-stands_run (Opened edge ∷ earlier) w r = rw r.2.4 (stands_opened r.0 (natural edge) (offers_by earlier) (stands_run earlier r.0 r.1))
+stands_run (Opened edge ∷ earlier) w r = rw r.2.4 (stands_opened r.0 (place_or_zero edge) (offers_by earlier) (stands_run earlier r.0 r.1))
 
 module _ (calls : List WindowCall) (w : Window) (s : Stream) (r : IsWindowRun calls w) (t : IsTaken (first_copy (offers_by calls)) s) where
   h : IsWindowOf w (offers_by calls)

@@ -1,7 +1,7 @@
 -- Lists of calls of a window. The newest call stands first, so that what was before a call is the list after it.
 use Rattle.std.specs.Prelude.{◌≡◌, ℕ, ◌+◌, ◌^◌, ◌≤◌, List, [], ◌∷◌, length, ℤ, pos, ◌≤ℤ◌}
 use Rattle.cf_stream.specs.FirstCopy.{Offer}
-use Rattle.cf_stream.specs.Position.{natural}
+use Rattle.cf_stream.specs.Position.{place_or_zero}
 use Rattle.cf_stream.specs.Stream.{Stream}
 use Rattle.cf_rebuild.specs.ReceiveWindow.{Window, IsNew, TakesIn, Consumes, base_of}
 
@@ -16,7 +16,7 @@ WindowStep (Offered at text) old new = TakesIn old (record { at = at; text = tex
 WindowStep (Consumed n) old new = (n ≤ length old.pending) × Consumes old n new
 WindowStep (Opened edge) old new =
     (pos old.edge ≤ℤ edge) × (edge ≤ℤ pos (base_of old + 16384)) × (edge ≤ℤ pos (old.consumed + 32768)) × (edge ≤ℤ pos (2 ^ 31))
-    × (new ≡ record old { edge = natural edge })
+    × (new ≡ record old { edge = place_or_zero edge })
 
 -- from a new window on, the calls leave this one
 abbrev pub IsWindowRun : List WindowCall → Window → Type 0
@@ -26,7 +26,7 @@ IsWindowRun (call ∷ earlier) w = (before : Window) × IsWindowRun earlier befo
 -- the edge that was opened last
 abbrev pub edge_by : List WindowCall → ℕ
 edge_by [] = 0
-edge_by (Opened edge ∷ earlier) = natural edge
+edge_by (Opened edge ∷ earlier) = place_or_zero edge
 edge_by (_ ∷ earlier) = edge_by earlier
 
 -- how many bytes were consumed

@@ -1,7 +1,7 @@
 //! The window over a ring of slots.
 ghost use Rattle.std.specs.Prelude.{◌≡◌, ◌+◌, ◌-◌, ◌%◌, ◌^◌, ◌≤◌, IfOk, List, [], ◌∷◌, length, min, drop, pos, negsuc, ◌≤ℤ◌};
 ghost use Rattle.cf_stream.specs.FirstCopy.{Offer, first_copy, IsTaken};
-ghost use Rattle.cf_stream.specs.Position.{natural};
+ghost use Rattle.cf_stream.specs.Position.{place_or_zero};
 ghost use Rattle.cf_stream.specs.Stream.{Stream, letter_count, Extends};
 ghost use Rattle.cf_rebuild.specs.ReceiveWindow.{IsNew, IsWindow, TakesIn, Consumes, IsWindowOf, base_of, unread};
 
@@ -103,7 +103,7 @@ impl Rebuild {
         requires near { edge ≤ℤ pos (base_of self.old + 16384) }
         requires room { edge ≤ℤ pos (self.old.consumed + 32768) }
         requires limit { edge ≤ℤ pos (2 ^ 31) }
-        ensures new { self.new ≡ record self.old { edge = natural edge } }
+        ensures new { self.new ≡ record self.old { edge = place_or_zero edge } }
         ensures stands { (offers : List Offer) → IsWindowOf self.old offers → IsWindowOf self.new offers }
     {
         self.edge = edge as u64;

@@ -1,5 +1,5 @@
 pub mod Extends
 pub mod FirstCopy
 pub mod Letters
-pub mod Natural
+pub mod PlaceOrZero
 pub mod Taken

@@ -12,7 +12,7 @@ ghost use Rattle.cf_stream.specs.Stream.{Stream, letter_count};
 ghost use Rattle.cf_leg.specs.Calls.{KeepsList, Widens, window_by, Continues, Newly, IsTold, CutOff, origin_as, rst_of, Greeted, IsMade, IsOwn, greeted_as, no_marks, Addressed, Clocked, Counts, Heard, SendsAgain, SendsOldest, Spoken, greeting_of, is_due, is_greeted_phase, leg_opened, end_state_of, queue_counted, queue_opened, rearmed, rises_by};
 ghost use Rattle.cf_leg.specs.Emits.{differs, rst, send_mss, to_tell};
 ghost use Rattle.cf_leg.specs.Heard.{ack_place, text_place};
-ghost use Rattle.cf_stream.specs.Position.{natural};
+ghost use Rattle.cf_stream.specs.Position.{place_or_zero};
 ghost use Rattle.cf_leg.specs.Emitted.{with_segment};
 ghost use Rattle.cf_leg.specs.Event.{LegEvent};
 ghost use Rattle.cf_leg.specs.Timer.{backoff};
@@ -22,7 +22,7 @@ ghost use Rattle.cf_outside.specs.Desk.{DeskValue, KeepsDesk};
 use super::{Leg, SECOND};
 use crate::ends::{EndState, LegAnswer};
 use crate::heard::{ack_place, answer_to, counts, has_fin, is_opening, owes, text_place};
-use crate::send::{acked_of, natural};
+use crate::send::{acked_of, place_or_zero};
 use cf_outq::Outq;
 use cf_packet::Packet;
 use cf_rebuild::Rebuild;
@@ -42,7 +42,7 @@ impl Leg {
             own: self.own,
             other: self.other,
             told: self.told(),
-            sent: natural(queue.sent()),
+            sent: place_or_zero(queue.sent()),
         }
     }
 
@@ -100,10 +100,10 @@ impl Leg {
 fn greatest(shown: u64, edge: i64) -> u64
     requires shown { shown < 2 ^ 33 }
     requires edge { edge ≤ℤ pos (2 ^ 33) }
-    ensures { result ≡ max shown (natural edge) }
+    ensures { result ≡ max shown (place_or_zero edge) }
 {
     if edge > shown as i64 {
-        natural(edge)
+        place_or_zero(edge)
     } else {
         shown
     }
@@ -123,7 +123,7 @@ fn rises(at: &EndState, packet: &Packet<'_>, acked: u64, shown: u64) -> bool
 fn shown_after(at: &EndState, packet: &Packet<'_>, shown: u64) -> u64
     requires sent { at.now.sent ≤ 2 ^ 31 }
     requires shown { shown < 2 ^ 33 }
-    ensures value { result ≡ max shown (natural (ack_place at.now (packet_value packet.now) +ℤ pos packet.now.window)) }
+    ensures value { result ≡ max shown (place_or_zero (ack_place at.now (packet_value packet.now) +ℤ pos packet.now.window)) }
     ensures small { result < 2 ^ 33 }
 {
     greatest(shown, edge_shown(ack_place(at, packet), packet.window))

@@ -12,7 +12,7 @@ ghost use Rattle.cf_stream.specs.Stream.{Stream, letter_count};
 ghost use Rattle.cf_leg.specs.Calls.{KeepsList, Widens, window_by, Continues, IsTold, CutOff, origin_as, rst_of, Greeted, IsMade, IsOwn, greeted_as, no_marks, Addressed, Clocked, Counts, Heard, SendsAgain, SendsOldest, Spoken, greeting_of, is_due, is_greeted_phase, leg_opened, end_state_of, queue_counted, queue_opened, rearmed, rises_by};
 ghost use Rattle.cf_leg.specs.Emits.{differs, rst, send_mss, to_tell};
 ghost use Rattle.cf_leg.specs.Heard.{ack_place, text_place};
-ghost use Rattle.cf_stream.specs.Position.{natural};
+ghost use Rattle.cf_stream.specs.Position.{place_or_zero};
 ghost use Rattle.cf_leg.specs.Emitted.{with_segment};
 ghost use Rattle.cf_leg.specs.Event.{LegEvent};
 ghost use Rattle.cf_leg.specs.Timer.{backoff};
@@ -21,7 +21,7 @@ ghost use Rattle.cf_outside.specs.Desk.{DeskValue, KeepsDesk};
 
 use super::Leg;
 use crate::ends::{Ends, Role};
-use crate::send::{natural, next_number, send};
+use crate::send::{place_or_zero, next_number, send};
 use cf_outq::Outq;
 use cf_outside::Desk;
 use cf_packet::{ACK, Packet, RST, sequence_number};
@@ -39,7 +39,7 @@ impl Leg {
         ensures cause { HasCause (DeskValue.faults (D.value desk.old)) (DeskValue.faults (D.value desk.new)) (IsErr result) }
     {
         let sent = next_number(self.own, queue);
-        let taken = sequence_number(self.other, natural(self.window.base()));
+        let taken = sequence_number(self.other, place_or_zero(self.window.base()));
         match self.ends.role {
             Role::Active(_) => {
                 if self.is_open() {

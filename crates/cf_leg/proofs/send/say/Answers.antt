@@ -2,7 +2,7 @@ use Rattle.std.proofs.Common.{◌≡◌, ◌∙◌, ap, sym, cond, ◌&&◌, not
 use Rattle.cf_packet.specs.Packet.{PacketValue}
 use Rattle.cf_leg.specs.Emitted.{with_segments}
 use Rattle.cf_leg.specs.Segment.{segment}
-use Rattle.cf_stream.specs.Position.{natural, sequence_number}
+use Rattle.cf_stream.specs.Position.{place_or_zero, sequence_number}
 use Rattle.cf_stream.specs.Stream.{no_letters}
 use Rattle.cf_leg.proofs.Pieces.{says_of}
 use Rattle.cf_leg.proofs.send.say.Goals as goal

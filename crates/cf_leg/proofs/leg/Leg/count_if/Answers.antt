@@ -1,5 +1,5 @@
 use Rattle.std.proofs.Common.{◌∙◌, ap, subst, arith, ℕ, ◌+◌, ◌^◌, max, Bool, cond, pos, ◌+ℤ◌}
-use Rattle.cf_stream.specs.Position.{natural}
+use Rattle.cf_stream.specs.Position.{place_or_zero}
 use Rattle.cf_packet.specs.Packet.{packet_value}
 use Rattle.cf_leg.specs.Calls.{Continues, rises_by}
 use Rattle.cf_leg.specs.Heard.{ack_place}
@@ -30,7 +30,7 @@ returns-clause-counts c =
     counts_moves c.args.counts c.if-not-counts.false c.self.view_is
     (record {
       leg = ap (λ (n : ℕ). record { ends = c.self.inside.ends; phase = c.self.inside.phase; own = c.self.inside.own; other = c.self.inside.other; mss = c.self.inside.mss; window = c.offer.new.window; base = c.self.inside.base; shown = n; owes = c.self.inside.owes; running = c.self.inside.running; deadline = c.deadline_after-self-inside.result; fired = 0 }) c.shown_after-self-inside.ensures.value
-          ∙ ap (λ (n : ℕ). record { ends = c.self.inside.ends; phase = c.self.inside.phase; own = c.self.inside.own; other = c.self.inside.other; mss = c.self.inside.mss; window = c.offer.new.window; base = c.self.inside.base; shown = max c.self.inside.shown (natural (ack_place c.args.at.now (packet_value c.args.packet.now) +ℤ pos c.args.packet.now.window)); owes = c.self.inside.owes; running = c.self.inside.running; deadline = n; fired = 0 }) deadline;
+          ∙ ap (λ (n : ℕ). record { ends = c.self.inside.ends; phase = c.self.inside.phase; own = c.self.inside.own; other = c.self.inside.other; mss = c.self.inside.mss; window = c.offer.new.window; base = c.self.inside.base; shown = max c.self.inside.shown (place_or_zero (ack_place c.args.at.now (packet_value c.args.packet.now) +ℤ pos c.args.packet.now.window)); owes = c.self.inside.owes; running = c.self.inside.running; deadline = n; fired = 0 }) deadline;
       moved = c.acknowledge.ensures.new;
       window = λ k os s. c.offer.ensures.stands os s;
       edge = c.offer.ensures.edge;
