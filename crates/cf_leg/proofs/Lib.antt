@@ -4,7 +4,6 @@ mod Carried
 mod Clocked
 mod Counts
 mod CutOffs
-mod Desks
 mod Edges
 mod Events
 mod Fixed

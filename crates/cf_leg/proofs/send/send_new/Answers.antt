@@ -1,6 +1,6 @@
 use Rattle.std.proofs.Common.{◌≡◌, ◌∙◌, ap, rules, arith, sym, ℕ, ◌+◌, lt-ltb}
 use Rattle.cf_outq.specs.SendQueue.{Queue, queue_length, piece_letters}
-use Rattle.cf_leg.proofs.Desks.{keeps_both}
+use Rattle.cf_outside.proofs.Desks.{keeps_both}
 use Rattle.cf_leg.proofs.Pieces.{sends_one_more, sends_all, piece_within, left_of}
 use Rattle.cf_leg.proofs.send.send_new.Goals as goal
 
