@@ -1,50 +1,141 @@
 //! Real files.
-ghost use Rattle.std.specs.Prelude.{◌≡◌, ◌<◌, ◌≤◌, IfOk, IfSome, length};
+ghost use Rattle.std.specs.Prelude.{◌≡◌, ◌≤◌, IfOk, length};
 ghost use Rattle.cf_outside.specs.Files.{untold};
 
+mod reader;
+mod same;
+mod writer;
+
+use crate::files::reader::{Reader, read_from};
+use crate::files::same::{Place, place_of, twin_of};
+use crate::files::writer::{Writer, append_to, create_file, flush_all, flush_one};
 use cf_outside::{Files, ReadAnswer, WriteAnswer};
+pub use same::Twins;
 use std::alloc::Global;
-use std::fs::OpenOptions;
 use std::io;
-use std::io::{Read, Seek, SeekFrom, Write};
 use std::rt::Files as FileSystem;
 
-/// How many files are kept open for writing.
-const WRITERS: usize = 4;
-
-/// A file that is kept open between calls, with its name and the place at which it stands.
-#[derive(Drop)]
-struct Opened<F: Drop> {
-    name: String,
-    at: u64,
-    file: F,
+/// When appended bytes go out to the file.
+#[derive(Clone, Copy, PartialEq, Eq)]
+pub enum Gather {
+    /// Each with its call, as for a log that people follow.
+    Nothing,
+    /// In pieces of 64 KiB, before a read of the file, and at the end.
+    Pieces,
 }
 
-/// The files of the machine. They tell nothing of what they hold. Failures are counted. A file stays open between
-/// calls, so that reads and appends one after the other do not open it each time.
+/// A call that failed: the name of its file and what the system said.
+#[derive(Drop)]
+pub struct Fault {
+    pub name: String,
+    pub error: io::Error,
+}
+
+/// The files of the machine. They tell nothing of what they hold. Failures are counted. A file stays open between calls.
+/// A file that two of the command's names stand for is never made empty.
 #[derive(Drop)]
 pub struct RealFiles<'a, R: FileSystem> {
     rt: &'a R,
     alloc: Global,
-    reader: Option<Opened<R::File>>,
-    writers: Vec<Opened<R::File>>,
+    gather: Gather,
+    reader: Option<Reader<R::File>>,
+    writers: Vec<Writer<R::File>>,
+    /// Which files the command's names stand for.
+    places: Vec<Place>,
+    fault: Option<Fault>,
+    twins: Option<Twins>,
     read_faults: u64,
     write_faults: u64,
 }
 
 impl<'a, R: FileSystem> RealFiles<'a, R> {
     /// Both counts of faults are 0, and no file is open.
-    pub fn new(rt: &'a R, alloc: Global) -> Self
+    pub fn new(rt: &'a R, alloc: Global, gather: Gather) -> Self
         ensures { (result.read_faults ≡ 0) × (result.write_faults ≡ 0) }
     {
         RealFiles {
             rt,
             alloc,
+            gather,
             reader: None,
             writers: Vec::new(alloc),
+            places: Vec::new(alloc),
+            fault: None,
+            twins: None,
             read_faults: 0,
             write_faults: 0,
         }
+    }
+
+    /// Notes which file a name of the command stands for before the work begins, so that no output is made empty that
+    /// is an input or another output under another name.
+    pub fn expect(&mut self, name: &str) -> io::Result<()>
+        ensures reads { self.new.read_faults ≡ self.old.read_faults }
+        ensures writes { self.new.write_faults ≡ self.old.write_faults }
+    {
+        let place = place_of(self.rt, self.alloc, name)?;
+        self.places.push(place)?;
+        Ok(())
+    }
+
+    /// The last call that failed, if one did.
+    pub fn fault(&self) -> Option<&Fault> {
+        self.fault.as_ref()
+    }
+
+    /// The two names of one file for which a creation failed, if one did.
+    pub fn twins(&self) -> Option<&Twins> {
+        self.twins.as_ref()
+    }
+
+    /// Writes what was gathered; says whether all of it was written.
+    pub fn finish(&mut self) -> bool {
+        match flush_all(&mut self.writers, self.alloc) {
+            Ok(()) => true,
+            Err(fault) => {
+                self.fault = fault;
+                false
+            }
+        }
+    }
+
+    /// Reads at a place, once what was gathered for the file is written.
+    fn read(&mut self, name: &str, at: u64, buf: &mut [u8]) -> io::Result<usize>
+        ensures inside { IfOk result (λ n. n ≤ length buf.new) }
+        ensures reads { self.new.read_faults ≡ self.old.read_faults }
+        ensures writes { self.new.write_faults ≡ self.old.write_faults }
+    {
+        flush_one(&mut self.writers, name)?;
+        read_from(self.rt, self.alloc, &mut self.reader, name, at, buf)
+    }
+
+    /// Makes a file empty that no other name of the command stands for.
+    fn create_new(&mut self, name: &str) -> io::Result<()>
+        ensures reads { self.new.read_faults ≡ self.old.read_faults }
+        ensures writes { self.new.write_faults ≡ self.old.write_faults }
+    {
+        if let Some(twins) = twin_of(self.rt, self.alloc, &self.places, name)? {
+            self.twins = Some(twins);
+            return Err(io::Error::from(io::ErrorKind::AlreadyExists));
+        }
+        create_file(self.rt, self.alloc, &mut self.writers, name)?;
+        self.expect(name)
+    }
+
+    /// Keeps what the system said of a call that failed; nothing where memory ran out.
+    fn keep_fault(&mut self, name: &str, error: io::Error)
+        ensures reads { self.new.read_faults ≡ self.old.read_faults }
+        ensures writes { self.new.write_faults ≡ self.old.write_faults }
+    {
+        self.fault = fault_of(self.alloc, name, error);
+    }
+}
+
+/// A fault with its name; nothing where memory ran out.
+pub(crate) fn fault_of(alloc: Global, name: &str, error: io::Error) -> Option<Fault> {
+    match String::from_str(alloc, name) {
+        Ok(name) => Some(Fault { name, error }),
+        Err(_) => None,
     }
 }
 
@@ -56,10 +147,11 @@ impl<R: FileSystem> Files for RealFiles<'_, R> {
     ghost write_faults = { λ f. f.write_faults };
 
     fn read_at(&mut self, name: &str, at: u64, buf: &mut [u8]) -> ReadAnswer {
-        match read_from(self.rt, self.alloc, &mut self.reader, name, at, buf) {
+        match self.read(name, at, buf) {
             Ok(0) => ReadAnswer::End,
             Ok(count) => ReadAnswer::Got(count),
-            Err(_) => {
+            Err(error) => {
+                self.keep_fault(name, error);
                 self.read_faults = self.read_faults.saturating_add(1);
                 ReadAnswer::Failed
             }
@@ -67,9 +159,10 @@ impl<R: FileSystem> Files for RealFiles<'_, R> {
     }
 
     fn create(&mut self, name: &str) -> WriteAnswer {
-        match create_file(self.rt, self.alloc, &mut self.writers, name) {
+        match self.create_new(name) {
             Ok(()) => WriteAnswer::Done,
-            Err(_) => {
+            Err(error) => {
+                self.keep_fault(name, error);
                 self.write_faults = self.write_faults.saturating_add(1);
                 WriteAnswer::Failed
             }
@@ -77,103 +170,20 @@ impl<R: FileSystem> Files for RealFiles<'_, R> {
     }
 
     fn append(&mut self, name: &str, bytes: &[u8]) -> WriteAnswer {
-        match append_to(self.rt, self.alloc, &mut self.writers, name, bytes) {
+        match append_to(
+            self.rt,
+            self.alloc,
+            self.gather,
+            &mut self.writers,
+            name,
+            bytes,
+        ) {
             Ok(()) => WriteAnswer::Done,
-            Err(_) => {
+            Err(error) => {
+                self.keep_fault(name, error);
                 self.write_faults = self.write_faults.saturating_add(1);
                 WriteAnswer::Failed
             }
         }
     }
-}
-
-/// Reads at a place, by the file that is open if it is this one and stands there.
-fn read_from<R: FileSystem>(
-    rt: &R,
-    alloc: Global,
-    reader: &mut Option<Opened<R::File>>,
-    name: &str,
-    at: u64,
-    buf: &mut [u8],
-) -> io::Result<usize>
-    ensures { IfOk result (λ n. n ≤ length buf.new) }
-{
-    let mut opened = match reader.take() {
-        Some(opened) if opened.name.as_str() == name => opened,
-        _ => Opened {
-            name: String::from_str(alloc, name)?,
-            at: 0,
-            file: OpenOptions::new().read(true).open(rt, name)?,
-        },
-    };
-    if opened.at != at {
-        opened.at = opened.file.seek(SeekFrom::Start(at))?;
-    }
-    let count = opened.file.read(buf)?;
-    opened.at = opened.at.saturating_add(count as u64);
-    *reader = Some(opened);
-    Ok(count)
-}
-
-/// Makes a file empty, and keeps it open.
-fn create_file<R: FileSystem>(
-    rt: &R,
-    alloc: Global,
-    writers: &mut Vec<Opened<R::File>>,
-    name: &str,
-) -> io::Result<()> {
-    if let Some(place) = place_of(writers, name) {
-        writers.remove(place);
-    }
-    let file = OpenOptions::new()
-        .write(true)
-        .create(true)
-        .truncate(true)
-        .open(rt, name)?;
-    keep_open(alloc, writers, name, file)
-}
-
-/// Puts bytes at the end of a file that is there.
-fn append_to<R: FileSystem>(
-    rt: &R,
-    alloc: Global,
-    writers: &mut Vec<Opened<R::File>>,
-    name: &str,
-    bytes: &[u8],
-) -> io::Result<()> {
-    if place_of(writers, name).is_none() {
-        let file = OpenOptions::new().append(true).open(rt, name)?;
-        keep_open(alloc, writers, name, file)?;
-    }
-    match writers
-        .iter_mut()
-        .find(|writer| writer.name.as_str() == name)
-    {
-        Some(writer) => writer.file.write_all(bytes),
-        None => Err(io::Error::from(io::ErrorKind::NotFound)),
-    }
-}
-
-/// The place of a file among those that are open.
-fn place_of<F: Drop>(writers: &[Opened<F>], name: &str) -> Option<usize>
-    ensures { IfSome result (λ place. place < length writers.now) }
-{
-    writers
-        .iter()
-        .position(|writer| writer.name.as_str() == name)
-}
-
-/// Keeps a file open, in the place of the oldest where there are many.
-fn keep_open<F: Drop>(
-    alloc: Global,
-    writers: &mut Vec<Opened<F>>,
-    name: &str,
-    file: F,
-) -> io::Result<()> {
-    if writers.len() >= WRITERS {
-        writers.remove(0);
-    }
-    let name = String::from_str(alloc, name)?;
-    writers.push(Opened { name, at: 0, file })?;
-    Ok(())
 }

@@ -5,18 +5,23 @@ mod files;
 mod help;
 mod pair;
 mod sink;
+mod why;
 
-use crate::files::RealFiles;
+use crate::files::{Gather, RealFiles};
 use crate::help::{Asked, print_help, print_version, question_of};
 use crate::pair::NoPair;
 use crate::sink::RealSink;
-use cf_box::box_main;
+use crate::why::{expect_files, explain};
+use cf_box::{box_main, read_words};
 use std::env::Env;
 use std::process::ExitCode;
 use std::{env, io};
 
 /// The status where memory ran out.
 const NO_MEMORY: u8 = 13;
+
+/// The status where something could not be written.
+const WRITE_FAULT: u8 = 4;
 
 fn main(rt: HostRuntime) -> ExitCode {
     let words = match words_of(&rt) {
@@ -32,10 +37,19 @@ fn main(rt: HostRuntime) -> ExitCode {
         Asked::Version => return printed(print_version(&rt)),
         Asked::Work => {}
     }
-    let mut files = RealFiles::new(&rt, rt.alloc());
+    let mut files = RealFiles::new(&rt, rt.alloc(), Gather::Pieces);
+    if let Some(command) = read_words(&words) {
+        if expect_files(&command, &mut files).is_err() {
+            return ExitCode::from(NO_MEMORY);
+        }
+    }
     let mut out = RealSink::new(io::writer(&rt));
     let mut pair = NoPair::new();
-    ExitCode::from(box_main(rt.alloc(), &words, &mut files, &mut out, &mut pair))
+    let done = box_main(rt.alloc(), &words, &mut files, &mut out, &mut pair);
+    // What was gathered is part of the work: where it cannot be written, the work is not done.
+    let status = if files.finish() { done } else { WRITE_FAULT };
+    explain(&rt, status, &files);
+    ExitCode::from(status)
 }
 
 /// The words behind the program's name.

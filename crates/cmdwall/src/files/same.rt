@@ -1,0 +1,111 @@
+//! Whether two names stand for one file.
+
+use std::alloc::{AllocError, Global};
+use std::os::unix::fs::MetadataExt;
+use std::rt::Files as FileSystem;
+use std::{fs, io};
+
+/// A file or folder of the machine, whatever its names are.
+#[derive(Clone, Copy, PartialEq, Eq)]
+struct Node {
+    device: u64,
+    number: u64,
+}
+
+/// Where a name leads: to a file that is there, or to a name in a folder that is there.
+#[derive(Clone, Copy, PartialEq, Eq)]
+enum Leads {
+    File(Node),
+    Folder(Node),
+    Nowhere,
+}
+
+/// A name of the command, and where it led before the work began.
+#[derive(Drop)]
+pub(crate) struct Place {
+    name: String,
+    leads: Leads,
+}
+
+/// Two names of one file.
+#[derive(Drop)]
+pub struct Twins {
+    pub name: String,
+    pub other: String,
+}
+
+/// Where a name leads.
+pub(crate) fn place_of<R: FileSystem>(rt: &R, alloc: Global, name: &str) -> io::Result<Place> {
+    Ok(Place {
+        name: String::from_str(alloc, name)?,
+        leads: leads_of(rt, name),
+    })
+}
+
+/// The names of a file and of another place that leads to the same one. What is no file or folder, as a terminal or a pipe, is
+/// never the same.
+pub(crate) fn twin_of<R: FileSystem>(
+    rt: &R,
+    alloc: Global,
+    places: &[Place],
+    name: &str,
+) -> Result<Option<Twins>, AllocError> {
+    let leads = leads_of(rt, name);
+    for place in places.iter() {
+        if place.name.as_str() != name && is_same(place, leads, name) {
+            return Ok(Some(Twins {
+                name: String::from_str(alloc, name)?,
+                other: place.name.clone()?,
+            }));
+        }
+    }
+    Ok(None)
+}
+
+/// Whether a place leads to where a name leads.
+fn is_same(place: &Place, leads: Leads, name: &str) -> bool {
+    match leads {
+        Leads::File(_) => place.leads == leads,
+        Leads::Folder(_) => place.leads == leads
+            && last_part(place.name.as_str()) == last_part(name),
+        Leads::Nowhere => false,
+    }
+}
+
+fn leads_of<R: FileSystem>(rt: &R, name: &str) -> Leads {
+    match fs::metadata(rt, name) {
+        Ok(known) if known.is_file() => Leads::File(Node {
+            device: known.dev(),
+            number: known.ino(),
+        }),
+        Ok(_) => Leads::Nowhere,
+        Err(_) => folder_of(rt, folder_part(name)),
+    }
+}
+
+fn folder_of<R: FileSystem>(rt: &R, folder: &str) -> Leads {
+    match fs::metadata(rt, folder) {
+        Ok(known) => Leads::Folder(Node {
+            device: known.dev(),
+            number: known.ino(),
+        }),
+        Err(_) => Leads::Nowhere,
+    }
+}
+
+/// The folder of a name.
+fn folder_part(name: &str) -> &str {
+    match name.rsplit_once('/') {
+        Some(("", _)) => "/",
+        Some((folder, _)) => folder,
+        None => ".",
+    }
+}
+
+/// The name in its folder.
+fn last_part(name: &str) -> &str {
+    match name.rsplit_once('/') {
+        Some((_, last)) => last,
+        None => name,
+    }
+}

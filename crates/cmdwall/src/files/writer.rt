@@ -1,0 +1,135 @@
+//! Files that are written.
+ghost use Rattle.std.specs.Prelude.{◌<◌, IfSome, length};
+
+use crate::files::{Fault, Gather, fault_of};
+use std::alloc::Global;
+use std::fs::OpenOptions;
+use std::io;
+use std::io::Write;
+use std::rt::Files as FileSystem;
+
+/// How many files are kept open for writing.
+const WRITERS: usize = 4;
+
+/// How many bytes of a file are gathered at most.
+const PIECE: usize = 65_536;
+
+/// A file that is kept open between calls, and what was appended to it and is not written yet.
+#[derive(Drop)]
+pub(crate) struct Writer<F: Drop> {
+    name: String,
+    file: F,
+    held: Vec<u8>,
+}
+
+impl<F: Write + Drop> Writer<F> {
+    /// Writes what is held. After a fault nothing is held, so that it is not written twice.
+    fn flush(&mut self) -> io::Result<()> {
+        let written = self.file.write_all(&self.held);
+        self.held.clear();
+        written
+    }
+
+    /// Holds bytes, or writes what is held and then them.
+    fn append(&mut self, gather: Gather, bytes: &[u8]) -> io::Result<()> {
+        if gather == Gather::Nothing {
+            return self.file.write_all(bytes);
+        }
+        if bytes.len() > PIECE - self.held.len().min(PIECE) {
+            self.flush()?;
+        }
+        if bytes.len() >= PIECE {
+            return self.file.write_all(bytes);
+        }
+        self.held.extend_from_slice(bytes)?;
+        Ok(())
+    }
+}
+
+/// Makes a file empty, and keeps it open.
+pub(crate) fn create_file<R: FileSystem>(
+    rt: &R,
+    alloc: Global,
+    writers: &mut Vec<Writer<R::File>>,
+    name: &str,
+) -> io::Result<()> {
+    if let Some(place) = find_writer(writers, name) {
+        writers.remove(place);
+    }
+    let file = OpenOptions::new()
+        .write(true)
+        .create(true)
+        .truncate(true)
+        .open(rt, name)?;
+    keep_open(alloc, writers, name, file)
+}
+
+/// Puts bytes at the end of a file that is there.
+pub(crate) fn append_to<R: FileSystem>(
+    rt: &R,
+    alloc: Global,
+    gather: Gather,
+    writers: &mut Vec<Writer<R::File>>,
+    name: &str,
+    bytes: &[u8],
+) -> io::Result<()> {
+    if find_writer(writers, name).is_none() {
+        let file = OpenOptions::new().append(true).open(rt, name)?;
+        keep_open(alloc, writers, name, file)?;
+    }
+    match find_writer(writers, name) {
+        Some(place) => writers[place].append(gather, bytes),
+        None => Err(io::Error::from(io::ErrorKind::NotFound)),
+    }
+}
+
+/// Writes what is held of one file, if it is open.
+pub(crate) fn flush_one<F: Write + Drop>(writers: &mut [Writer<F>], name: &str) -> io::Result<()> {
+    match writers
+        .iter_mut()
+        .find(|writer| writer.name.as_str() == name)
+    {
+        Some(writer) => writer.flush(),
+        None => Ok(()),
+    }
+}
+
+/// Writes what is held of every file, each though another failed; the last fault is told.
+pub(crate) fn flush_all<F: Write + Drop>(
+    writers: &mut [Writer<F>],
+    alloc: Global,
+) -> Result<(), Option<Fault>> {
+    let mut done = Ok(());
+    for writer in writers.iter_mut() {
+        if let Err(error) = writer.flush() {
+            done = Err(fault_of(alloc, writer.name.as_str(), error));
+        }
+    }
+    done
+}
+
+/// The place of a file among those that are open.
+pub(crate) fn find_writer<F: Drop>(writers: &[Writer<F>], name: &str) -> Option<usize>
+    ensures { IfSome result (λ place. place < length writers.now) }
+{
+    writers
+        .iter()
+        .position(|writer| writer.name.as_str() == name)
+}
+
+/// Keeps a file open, in the place of the oldest where there are many.
+fn keep_open<F: Write + Drop>(
+    alloc: Global,
+    writers: &mut Vec<Writer<F>>,
+    name: &str,
+    file: F,
+) -> io::Result<()> {
+    if writers.len() >= WRITERS {
+        writers[0].flush()?;
+        writers.remove(0);
+    }
+    let name = String::from_str(alloc, name)?;
+    let held = Vec::with_capacity(alloc, PIECE)?;
+    writers.push(Writer { name, file, held })?;
+    Ok(())
+}
