@@ -126,10 +126,14 @@ file_lines-part untold text k h e = inl (refl, (0, refl))
 file_lines-part absent text k h e = inl (refl, (0, refl))
 file_lines-part (holds all) text k h e =
     elim (lines_from-part [] text k h) [
-      | inl none ↦ inl (rw (lines_from-append [] all (take k text), nothing _ e, none, append-nil (lines_from [] all)) refl,
-          (k, rw (rest_from-append [] all (take k text), nothing _ e) (rest_from-none [] (take k text) none)))
-      | inr whole ↦ inr (rw (whole, lines_from-append [] all text, nothing _ e, lines_from-line [] text h) refl,
-          rw (whole, rest_from-append [] all text, nothing _ e) (rest_from-line [] text h))
+      | inl none ↦ inl (
+        rw (lines_from-append [] all (take k text), nothing _ e, none, append-nil (lines_from [] all)) refl,
+        (k, rw (rest_from-append [] all (take k text), nothing _ e) (rest_from-none [] (take k text) none)),
+      )
+      | inr whole ↦ inr (
+        rw (whole, lines_from-append [] all text, nothing _ e, lines_from-line [] text h) refl,
+        rw (whole, rest_from-append [] all text, nothing _ e) (rest_from-line [] text h),
+      )
     ]
 
 -- a file that was created ends with a line, as nothing stands there

@@ -21,7 +21,7 @@ ghost use Rattle.cf_outside.specs.Desk.{DeskValue, KeepsDesk};
 
 use super::Leg;
 use crate::ends::{Ends, Role};
-use crate::send::{place_or_zero, next_number, send};
+use crate::send::{next_number, place_or_zero, send};
 use cf_outq::Outq;
 use cf_outside::Desk;
 use cf_packet::{ACK, Packet, RST, sequence_number};
