@@ -50,7 +50,7 @@ spelled xs o h =
     }
 
 -- the fields are those that the octets tell
-fields : (a : AsduValue) (xs : List ℕ) → SpellsAsdu a xs → a ≡ value_of xs
+pub fields : (a : AsduValue) (xs : List ℕ) → SpellsAsdu a xs → a ≡ value_of xs
 fields a xs s =
     let e : a.station % 256 + a.station / 256 * 256 ≡ a.station = omega arith in
     rw (s.spelled, e) refl

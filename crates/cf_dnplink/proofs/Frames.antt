@@ -57,7 +57,7 @@ spelled_answer framed.More xs h = partial_too SpellsByPlaces SpellsFrame to_spel
 spelled_answer (framed.Broken b) xs h = (h.0, breaks_too SpellsByPlaces SpellsFrame to_spelled to_places xs h.0 h.1, h.2)
 
 -- the user octets of a frame are those that were spelled
-user_is : (f : FrameValue) (h : IsFrame f) → user_of f.blocks ≡ h.1.user
+pub user_is : (f : FrameValue) (h : IsFrame f) → user_of f.blocks ≡ h.1.user
 user_is f h = ap user_of h.1.blocks ∙ user_again h.1.user
 
 pub user_sizes : (f : FrameValue) → IsFrame f → (length f.blocks ≡ length (user_of f.blocks) + 2 * ((length (user_of f.blocks) + 15) / 16)) × (length (user_of f.blocks) ≤ 250)

@@ -1,6 +1,6 @@
 mod Blocks
 mod FramePlaces
-mod Frames
-mod Reading
+pub mod Frames
+pub mod Reading
 mod Table
-mod Writing
+pub mod Writing

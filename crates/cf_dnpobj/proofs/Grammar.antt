@@ -75,7 +75,7 @@ after_header n code o xs (Ok size) hs is more e =
       subst (AllByRecursion (IsHeader code)) (sym w.2) (first, l.1),
     )
 
-are_headers : (n code : ℕ) (xs : List ℕ) (hs : List (List ℕ)) → headers_by n code xs ≡ Ok hs → Are code xs hs
+pub are_headers : (n code : ℕ) (xs : List ℕ) (hs : List (List ℕ)) → headers_by n code xs ≡ Ok hs → Are code xs hs
 are_headers n code [] [] e = (refl, tt)
 are_headers n code [] (h ∷ hs) e = cc
 are_headers zero code (o ∷ xs) hs e = cc

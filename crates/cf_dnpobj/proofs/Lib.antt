@@ -1,5 +1,5 @@
-mod Grammar
+pub mod Grammar
 mod Headers
 mod InOrder
-mod Replies
+pub mod Replies
 mod Sums

@@ -1,3 +1,3 @@
-mod History
+pub mod History
 mod Passing
 mod Segments

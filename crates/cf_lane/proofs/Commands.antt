@@ -1,6 +1,6 @@
 -- Laws of the fate of a command.
 use Rattle.cf_lane.specs.Acts.{by_refusal, fate_of_acts, first_refusal, refusal_or}
-use Rattle.cf_lane.specs.Laws.{IsAllowedCommand}
+use Rattle.cf_lane.specs.Passes.{IsAllowedCommand}
 use Rattle.cf_lane.specs.Modbus.{HasCommandFate, of_its_acts, of_no_form, of_other_station}
 use Rattle.cf_lane.specs.Output.{other}
 use Rattle.cf_lane.specs.declared.fate.Fate.{Fate}
@@ -16,7 +16,8 @@ use Rattle.cf_policy.specs.declared.Decider.{Decider}
 use Rattle.cf_policy.specs.declared.Verdict.{Verdict}
 use Rattle.cf_view.specs.declared.Act.{Act}
 use Rattle.cf_view.specs.declared.Reason.{Reason}
-use Rattle.std.proofs.Common.{Err, List, None, Ok, Option, Some, [], add-one, ap, drop, refl, slice_get, subst, suc, sym, zero, ℕ, ◌+◌, ◌↔◌, ◌∙◌, ◌∷◌, ◌≡◌}
+use Rattle.std.proofs.Common.{Err, List, None, Ok, Option, Some, [], add-one, ap, arith, drop, length, refl, slice_get, subst, suc, sym, zero, ℕ, ◌+◌, ◌↔◌, ◌∙◌, ◌∷◌, ◌≡◌, ◌≤◌}
+use Rattle.std.proofs.lemmas.List.{drop_all}
 use Rattle.std.specs.List.{AllByRecursion}
 use Rattle.cf_lane.specs.declared.fate.Fate.TheVariants as fate
 use Rattle.cf_policy.specs.declared.Verdict.TheVariants as verdict
@@ -43,8 +44,13 @@ module _ (asset : Asset) (client : ℕ) (list : List Act) (i : ℕ) (act : Act) 
       ap (λ v. by_refusal (refusal_or act v (first_refusal asset client (drop (i + 1) list)))) refuses
       ∙ ap by_refusal (sym (ap (first_refusal asset client) (drop_at list i act here)) ∙ before)
 
+-- where no act refused up to the end, all are admitted
+pub admitted_at_end : (asset : Asset) (client : ℕ) (list : List Act) (i : ℕ) → length list ≤ i → first_refusal asset client (drop i list) ≡ first_refusal asset client list →
+    fate.Admitted ≡ fate_of_acts asset client list
+admitted_at_end asset client list i past before = ap by_refusal (ap (first_refusal asset client) (sym (drop_all i list past)) ∙ before)
+
 -- acts of which none is refused are allowed
-to_allowed : (asset : Asset) (client : ℕ) (list : List Act) → fate_of_acts asset client list ≡ fate.Admitted →
+pub to_allowed : (asset : Asset) (client : ℕ) (list : List Act) → fate_of_acts asset client list ≡ fate.Admitted →
     AllByRecursion (λ act. IsAllowed (verdict_of asset client act)) list
 to_allowed asset client [] e = tt
 to_allowed asset client (act ∷ list) e =
@@ -58,7 +64,7 @@ to_allowed asset client (act ∷ list) e =
     step (verdict_of asset client act) e
 
 -- and the other way round
-from_allowed : (asset : Asset) (client : ℕ) (list : List Act) → AllByRecursion (λ act. IsAllowed (verdict_of asset client act)) list →
+pub from_allowed : (asset : Asset) (client : ℕ) (list : List Act) → AllByRecursion (λ act. IsAllowed (verdict_of asset client act)) list →
     fate_of_acts asset client list ≡ fate.Admitted
 from_allowed asset client [] all = refl
 from_allowed asset client (act ∷ list) all =
@@ -82,7 +88,7 @@ admits_what_is_allowed asset client a f (of_its_acts station r reads is) = (
 )
 
 -- a command is never carried
-no_carried : (x : Option Refusal) → fate.Carried ≡ by_refusal x → ⊥
+pub no_carried : (x : Option Refusal) → fate.Carried ≡ by_refusal x → ⊥
 no_carried None e = cc
 no_carried (Some r) e = cc
 

@@ -1,26 +1,29 @@
 -- The law of an End.
-use Rattle.cf_lane.proofs.Handling.{count-more, fates-append, in_turn-append, with_lines-both}
-use Rattle.cf_lane.proofs.Histories.{bytes_of-append, cut_of-append, goes_more, items_more, no_bytes, nothing_dropped, rest_by, same_stream, stands_end}
+use Rattle.cf_lane.proofs.Earlier.{cut_of-append, in_turn-append, wire_stays}
+use Rattle.cf_lane.proofs.Handling.{count-more, fates-append, with_lines-both, with_lines-nothing}
+use Rattle.cf_lane.proofs.Histories.{bytes_of-append, goes_more, items_more, no_bytes, nothing_dropped, rest_by, same_stream, stands_end}
 use Rattle.cf_lane.specs.Fate.{HaveFates}
-use Rattle.cf_lane.specs.Follows.{AreJudged, AreRests, Began, Follows, IsRest, Rests, rest_of}
-use Rattle.cf_lane.specs.Handled.{EndsOther, IsOpen, Knows, LaneValue, State, judged, state}
+use Rattle.cf_lane.specs.Follows.{AddsTo, AreJudged, AreRests, Began, BeganApart, Follows, IsRest, Rests, over, rest_of}
+use Rattle.cf_lane.specs.Handled.{EndsOther, IsOpen, Knows, LaneValue, MayHaveMore, State, judged, state}
 use Rattle.cf_lane.specs.History.{Element, bytes_of, end_at}
 use Rattle.cf_lane.specs.Item.{Completes, Ended, Placed, placed}
 use Rattle.cf_lane.specs.Judged.{Judged, ends, has_ended, in_turn, is_admitted, is_refused, place_of}
+use Rattle.cf_lane.specs.Kept.{KnowsWire}
 use Rattle.cf_lane.specs.Log.{end_lines, has_unfinished, item_lines, lines, with_lines}
+use Rattle.cf_lane.specs.Numbers.{item_event}
 use Rattle.cf_lane.specs.Output.{other, output, outputs, stream_to}
 use Rattle.cf_lane.specs.Unit.{AreUnits, Left}
 use Rattle.cf_outq.specs.SendQueue.{Queue, IsQueueOf, after_end}
 use Rattle.cf_policy.specs.declared.Asset.{Asset}
 use Rattle.cf_stream.specs.Stream.{with_end}
 use Rattle.cf_view.specs.declared.Side.{Side}
-use Rattle.std.proofs.Common.{Bool, List, None, Option, [], ap, arith, false, inl, inr, length, map, refl, subst, sym, take, true, ℕ, ◌++◌, ◌∙◌, ◌∷◌, ◌≡◌, ◌⊎◌}
-use Rattle.std.proofs.Math.Seq.{take-append_seam, take-length}
+use Rattle.std.proofs.Common.{Bool, List, None, Option, [], ap, arith, drop, false, inl, inr, length, map, refl, subst, sym, take, true, ℕ, ◌++◌, ◌∙◌, ◌∷◌, ◌≡◌, ◌⊎◌}
+use Rattle.std.proofs.Math.Seq.{drop-append_seam, take-append_seam, take-length}
 use Rattle.std.proofs.lemmas.List.{append-nil, map-append}
 use Rattle.std.proofs.lemmas.List.Folds.{list_any-append}
+use Rattle.std.specs.List.{concat}
 use Rattle.std.specs.Prelude.{◌||◌}
 use Rattle.cf_lane.specs.declared.fate.Fate.TheVariants as fate
-use Rattle.cf_policy.specs.declared.Protocol.TheVariants as protocol
 use Rattle.cf_view.specs.declared.Side.TheVariants as side
 
 or-true : (b : Bool) → (b || (true || false)) ≡ true
@@ -40,10 +43,15 @@ ends_other : (s : Side) (m n : ℕ) (js : List Judged) → has_ended (other s) (
 ends_other side.Client m n js = list_any-append (λ i. ends side.Controller i.item) js (judged m (Ended side.Client n) fate.Carried ∷ []) ∙ or-none (has_ended side.Controller js)
 ends_other side.Controller m n js = list_any-append (λ i. ends side.Client i.item) js (judged m (Ended side.Controller n) fate.Carried ∷ []) ∙ or-none (has_ended side.Client js)
 
-module _ (asset : Asset) (modbus : asset.protocol ≡ protocol.Modbus) (h : List Element) (rests : Rests) (first : Option (List (List ℕ))) (moment : ℕ) (s : Side) (rest : ℕ) (old new : State)
+end_event : (s : Side) (n : ℕ) (earlier : List Judged) → item_event earlier fate.Carried (Ended s n) ≡ []
+end_event side.Client n earlier = refl
+end_event side.Controller n earlier = refl
+
+module _ (asset : Asset) (unfinished : Bool) (h : List Element) (rests : Rests) (first : Option (List (List ℕ))) (moment : ℕ) (s : Side) (rest : ℕ) (old new : State)
     (is : rest ≡ length (rest_of s rests)) (f : Follows asset h rests None first old) (goes : IsOpen s old.to_client old.to_controller)
-    (lane : new.lane ≡ old.lane) (queues : EndsOther s old.to_client old.to_controller new.to_client new.to_controller)
-    (text : new.lines ≡ with_lines old.lines (end_lines asset old.lane.client moment s false rest)) where
+    (lane : new.lane ≡ old.lane)
+    (text : new.lines ≡ with_lines old.lines (end_lines asset old.lane.client moment s unfinished rest))
+    (left : unfinished ≡ has_unfinished asset asset.protocol s f.judged) where
   abbrev e : Element
   e = end_at moment s
 
@@ -94,11 +102,10 @@ module _ (asset : Asset) (modbus : asset.protocol ≡ protocol.Modbus) (h : List
   open_stream : stream_to asset s (f.judged ++ j ∷ []) ≡ stream_to asset s f.judged
   open_stream = same_stream (stream_to asset s (f.judged ++ j ∷ [])) (stream_to asset s f.judged) (bytes_now s) (ends_other s moment (length (rest_of s rests)) f.judged)
 
-  line_now : with_lines old.lines (end_lines asset old.lane.client moment s false rest) ≡ with_lines first (lines asset old.lane.client [] (f.judged ++ j ∷ []))
+  line_now : with_lines old.lines (end_lines asset old.lane.client moment s unfinished rest) ≡ with_lines first (lines asset old.lane.client [] (f.judged ++ j ∷ []))
   line_now =
-      let unfinished = ap (λ p. has_unfinished asset p s f.judged) modbus in
-      ap (λ n. with_lines old.lines (end_lines asset old.lane.client moment s false n)) is
-      ∙ ap (λ b. with_lines old.lines (end_lines asset old.lane.client moment s b (length (rest_of s rests)))) (sym unfinished)
+      ap (λ n. with_lines old.lines (end_lines asset old.lane.client moment s unfinished n)) is
+      ∙ ap (λ b. with_lines old.lines (end_lines asset old.lane.client moment s b (length (rest_of s rests)))) left
       ∙ ap (λ t. with_lines t (item_lines asset old.lane.client f.judged j j.item)) f.of_lines
       ∙ with_lines-both first (lines asset old.lane.client [] f.judged) (item_lines asset old.lane.client f.judged j j.item)
       ∙ ap (with_lines first) (sym (in_turn-append (λ b i. item_lines asset old.lane.client b i i.item) [] f.judged (j ∷ [])
@@ -111,6 +118,8 @@ module _ (asset : Asset) (modbus : asset.protocol ≡ protocol.Modbus) (h : List
     refused = ap (λ l. l.refused) lane ∙ f.knows.refused ∙ sym (count-more (λ i. is_refused i.fate) f.judged j ∙ omega arith);
     client_ended = c;
     controller_ended = k;
+    wire = λ e. subst (λ w. KnowsWire asset w (f.judged ++ j ∷ [])) (sym (ap (λ l. l.wire) lane))
+        (wire_stays asset f.judged j (λ t. refl) (λ t. refl) (end_event s (length (rest_of s rests)) f.judged) old.lane.wire (f.knows.wire f.is_cut));
   }
 
   rests_now : AreRests asset.protocol (h ++ e ∷ []) rests None
@@ -133,73 +142,107 @@ module _ (asset : Asset) (modbus : asset.protocol ≡ protocol.Modbus) (h : List
   }
 
   -- where the line failed, the log has the first lines
-  end_began_by : (log : Option (List (List ℕ))) → ((log ≡ old.lines) ⊎ (log ≡ new.lines)) → Began asset old.lane.client (h ++ e ∷ []) first log
-  end_began_by log (inl none) =
+  end_began_by : (log : Option (List (List ℕ))) (part : List ℕ) → MayHaveMore (end_lines asset old.lane.client moment s unfinished rest) old.lines log part →
+      Began asset old.lane.client (h ++ e ∷ []) first log part
+  end_began_by log part (inl none) =
       let some = lines asset old.lane.client [] f.judged in
       let put : List Judged → Judged → List (List ℕ) = λ b i. item_lines asset old.lane.client b i i.item in
+      let more = in_turn put f.judged (j ∷ []) in
+      let all : some ++ more ≡ lines asset old.lane.client [] (f.judged ++ j ∷ []) = sym (in_turn-append put [] f.judged (j ∷ [])) in
+      let last : end_lines asset old.lane.client moment s unfinished rest ≡ more =
+      ap (λ n. end_lines asset old.lane.client moment s unfinished n) is
+      ∙ ap (λ b. end_lines asset old.lane.client moment s b (length (rest_of s rests))) left ∙ sym (append-nil (item_lines asset old.lane.client f.judged j j.item)) in
       record {
         judged = f.judged ++ j ∷ [];
         are_judged = subst (λ (l : LaneValue). AreJudged asset l.client.address (h ++ e ∷ []) (f.judged ++ j ∷ [])) lane are_judged_now;
         count = length some;
-        of_lines = none ∙ f.of_lines ∙ ap (with_lines first) (sym (take-append_seam some (in_turn put f.judged (j ∷ [])))
-            ∙ ap (take (length some)) (sym (in_turn-append put [] f.judged (j ∷ []))));
+        of_lines = none.0 ∙ f.of_lines ∙ ap (with_lines first) (sym (take-append_seam some more) ∙ ap (take (length some)) all);
+        some = none.1.0;
+        of_part = none.1.1 ∙ ap (λ xs. take none.1.0 (concat xs)) (last ∙ sym (drop-append_seam some more) ∙ ap (drop (length some)) all);
       }
-  end_began_by log (inr all) =
+  end_began_by log part (inr all) =
       let every = lines asset old.lane.client [] (f.judged ++ j ∷ []) in
       record {
         judged = f.judged ++ j ∷ [];
         are_judged = subst (λ (l : LaneValue). AreJudged asset l.client.address (h ++ e ∷ []) (f.judged ++ j ∷ [])) lane are_judged_now;
         count = length every;
-        of_lines = all ∙ text ∙ line_now ∙ ap (with_lines first) (sym (take-length every));
+        of_lines = all.0 ∙ line_now ∙ ap (with_lines first) (sym (take-length every));
+        some = 0;
+        of_part = all.1;
       }
 
-pub end_began : (asset : Asset) → asset.protocol ≡ protocol.Modbus → (h : List Element) (rests : Rests) (first : Option (List (List ℕ))) (moment : ℕ) (s : Side) (rest : ℕ) (old : State)
-    (log : Option (List (List ℕ))) → rest ≡ length (rest_of s rests) → Follows asset h rests None first old → IsOpen s old.to_client old.to_controller →
-    ((log ≡ old.lines) ⊎ (log ≡ with_lines old.lines (end_lines asset old.lane.client moment s false rest))) → Began asset old.lane.client (h ++ end_at moment s ∷ []) first log
-end_began asset modbus h rests first moment side.Client rest old log is f goes either =
-    end_began_by asset modbus h rests first moment side.Client rest old
-    (state old.lane old.to_client (after_end old.to_controller) (with_lines old.lines (end_lines asset old.lane.client moment side.Client false rest)))
-    is f goes refl (refl, refl) refl log either
-end_began asset modbus h rests first moment side.Controller rest old log is f goes either =
-    end_began_by asset modbus h rests first moment side.Controller rest old
-    (state old.lane (after_end old.to_client) old.to_controller (with_lines old.lines (end_lines asset old.lane.client moment side.Controller false rest)))
-    is f goes refl (refl, refl) refl log either
+module _ (asset : Asset) (unfinished : Bool) (moment : ℕ) (s : Side) (rest : ℕ) (old : State)
+    (left : (earlier : List Judged) → KnowsWire asset old.lane.wire earlier → unfinished ≡ has_unfinished asset asset.protocol s earlier) where
+  -- so it is of each history
+  pub end_fails : (log : Option (List (List ℕ))) (part : List ℕ) → IsOpen s old.to_client old.to_controller →
+      MayHaveMore (end_lines asset old.lane.client moment s unfinished rest) old.lines log part →
+      (h : List Element) (rests : Rests) (first : Option (List (List ℕ))) → rest ≡ length (rest_of s rests) → Follows asset h rests None first old →
+      Began asset old.lane.client (h ++ end_at moment s ∷ []) first log part
+  end_fails log part goes either h rests first is f =
+      end_began_by asset unfinished h rests first moment s rest old
+      (state old.lane old.to_client old.to_controller (with_lines old.lines (end_lines asset old.lane.client moment s unfinished rest)))
+      is f goes refl refl (left f.judged (f.knows.wire f.is_cut)) log part either
 
--- so it is of each history
-pub end_fails : (asset : Asset) → asset.protocol ≡ protocol.Modbus → (moment : ℕ) (s : Side) (rest : ℕ) (old : State) (log : Option (List (List ℕ))) → IsOpen s old.to_client old.to_controller →
-    ((log ≡ old.lines) ⊎ (log ≡ with_lines old.lines (end_lines asset old.lane.client moment s false rest))) →
-    (h : List Element) (rests : Rests) (first : Option (List (List ℕ))) → rest ≡ length (rest_of s rests) → Follows asset h rests None first old →
-    Began asset old.lane.client (h ++ end_at moment s ∷ []) first log
-end_fails asset modbus moment s rest old log goes either h rests first is f = end_began asset modbus h rests first moment s rest old log is f goes either
-
-pub follows_end : (asset : Asset) → asset.protocol ≡ protocol.Modbus → (h : List Element) (rests : Rests) (first : Option (List (List ℕ))) (moment : ℕ) (s : Side) (rest : ℕ) (old new : State) →
+pub follows_end : (asset : Asset) (unfinished : Bool) (h : List Element) (rests : Rests) (first : Option (List (List ℕ))) (moment : ℕ) (s : Side) (rest : ℕ) (old new : State) →
+    ((earlier : List Judged) → KnowsWire asset old.lane.wire earlier → unfinished ≡ has_unfinished asset asset.protocol s earlier) →
     rest ≡ length (rest_of s rests) → Follows asset h rests None first old → IsOpen s old.to_client old.to_controller →
     new.lane ≡ old.lane → EndsOther s old.to_client old.to_controller new.to_client new.to_controller →
-    new.lines ≡ with_lines old.lines (end_lines asset old.lane.client moment s false rest) →
+    new.lines ≡ with_lines old.lines (end_lines asset old.lane.client moment s unfinished rest) →
     Follows asset (h ++ end_at moment s ∷ []) rests None first new
-follows_end asset modbus h rests first moment side.Client rest old new is f goes lane queues text =
+follows_end asset unfinished h rests first moment side.Client rest old new left is f goes lane queues text =
+    let l = left f.judged (f.knows.wire f.is_cut) in
     let n = length (rest_of side.Client rests) in
     let js = f.judged ++ judged moment (Ended side.Client n) fate.Carried ∷ [] in
-    let same = open_stream asset modbus h rests first moment side.Client rest old new is f goes lane queues text in
+    let same = open_stream asset unfinished h rests first moment side.Client rest old new is f goes lane text l in
     let ended : stream_to asset side.Controller js ≡ with_end (stream_to asset side.Controller f.judged) =
     same_stream (stream_to asset side.Controller js) (with_end (stream_to asset side.Controller f.judged))
-    (bytes_now asset modbus h rests first moment side.Client rest old new is f goes lane queues text side.Controller) (ends_now side.Client moment n f.judged) in
-    by_parts asset modbus h rests first moment side.Client rest old new is f goes lane queues text
-    (knows_now asset modbus h rests first moment side.Client rest old new is f goes lane queues text
+    (bytes_now asset unfinished h rests first moment side.Client rest old new is f goes lane text l side.Controller) (ends_now side.Client moment n f.judged) in
+    by_parts asset unfinished h rests first moment side.Client rest old new is f goes lane text l
+    (knows_now asset unfinished h rests first moment side.Client rest old new is f goes lane text l
     (ap (λ (q : Queue). q.ended) queues.0 ∙ f.knows.client_ended ∙ sym (ends_other side.Client moment n f.judged))
     (ap (λ (q : Queue). q.ended) queues.1 ∙ sym (ends_now side.Client moment n f.judged)))
     (rw (queues.0, same) f.client_stream)
     (rw (queues.1, ended) (stands_end old.to_controller (stream_to asset side.Controller f.judged) goes f.controller_stream))
-follows_end asset modbus h rests first moment side.Controller rest old new is f goes lane queues text =
+follows_end asset unfinished h rests first moment side.Controller rest old new left is f goes lane queues text =
+    let l = left f.judged (f.knows.wire f.is_cut) in
     let n = length (rest_of side.Controller rests) in
     let js = f.judged ++ judged moment (Ended side.Controller n) fate.Carried ∷ [] in
-    let same = open_stream asset modbus h rests first moment side.Controller rest old new is f goes lane queues text in
+    let same = open_stream asset unfinished h rests first moment side.Controller rest old new is f goes lane text l in
     let ended : stream_to asset side.Client js ≡ with_end (stream_to asset side.Client f.judged) =
     same_stream (stream_to asset side.Client js) (with_end (stream_to asset side.Client f.judged))
-    (bytes_now asset modbus h rests first moment side.Controller rest old new is f goes lane queues text side.Client) (ends_now side.Controller moment n f.judged) in
-    by_parts asset modbus h rests first moment side.Controller rest old new is f goes lane queues text
-    (knows_now asset modbus h rests first moment side.Controller rest old new is f goes lane queues text
+    (bytes_now asset unfinished h rests first moment side.Controller rest old new is f goes lane text l side.Client) (ends_now side.Controller moment n f.judged) in
+    by_parts asset unfinished h rests first moment side.Controller rest old new is f goes lane text l
+    (knows_now asset unfinished h rests first moment side.Controller rest old new is f goes lane text l
     (ap (λ (q : Queue). q.ended) queues.0 ∙ sym (ends_now side.Controller moment n f.judged))
     (ap (λ (q : Queue). q.ended) queues.1 ∙ f.knows.controller_ended ∙ sym (ends_other side.Controller moment n f.judged)))
     (rw (queues.0, ended) (stands_end old.to_client (stream_to asset side.Client f.judged) goes f.client_stream))
     (rw (queues.1, same) f.controller_stream)
+
+-- over lines of its own
+module _ (asset : Asset) (unfinished : Bool) (moment : ℕ) (s : Side) (rest : ℕ) (old : State)
+    (left : (earlier : List Judged) → KnowsWire asset old.lane.wire earlier → unfinished ≡ has_unfinished asset asset.protocol s earlier) (goes : IsOpen s old.to_client old.to_controller) where
+  pub end_apart : (new : State) → new.lane ≡ old.lane → EndsOther s old.to_client old.to_controller new.to_client new.to_controller →
+      new.lines ≡ with_lines old.lines (end_lines asset old.lane.client moment s unfinished rest) →
+      (h : List Element) (rests : Rests) (first own : Option (List (List ℕ))) → rest ≡ length (rest_of s rests) → Follows asset h rests None first (over own old) →
+      AddsTo asset (h ++ end_at moment s ∷ []) rests None first own old.lines new
+  end_apart new lane queues text h rests first own is f =
+      let more = end_lines asset old.lane.client moment s unfinished rest in record {
+        more = more;
+        added = text;
+        follows = follows_end asset unfinished h rests first moment s rest (over own old) (over (with_lines own more) new) left is f goes lane queues refl;
+      }
+
+  pub end_fails_apart : (log : Option (List (List ℕ))) (part : List ℕ) → MayHaveMore (end_lines asset old.lane.client moment s unfinished rest) old.lines log part →
+      (h : List Element) (rests : Rests) (first own : Option (List (List ℕ))) → rest ≡ length (rest_of s rests) → Follows asset h rests None first (over own old) →
+      BeganApart asset old.lane.client (h ++ end_at moment s ∷ []) first own old.lines log part
+  end_fails_apart log part (inl none) h rests first own is f = record {
+    more = [];
+    added = none.0 ∙ sym (with_lines-nothing old.lines);
+    began = end_fails asset unfinished moment s rest (over own old) left (with_lines own []) part goes (inl (with_lines-nothing own, none.1)) h rests first is f;
+  }
+  end_fails_apart log part (inr all) h rests first own is f =
+      let more = end_lines asset old.lane.client moment s unfinished rest in record {
+        more = more;
+        added = all.0;
+        began = end_fails asset unfinished moment s rest (over own old) left (with_lines own more) part goes (inr (refl, all.1)) h rests first is f;
+      }

@@ -1,22 +1,24 @@
 -- Laws of the loop of `feed`.
 use Rattle.cf_audit.specs.declared.line.CutReason.{CutReason}
-use Rattle.cf_lane.proofs.Histories.{Along, along_more, fed_broken, fed_whole}
-use Rattle.cf_lane.proofs.ModbusUnits.{short_unit}
+use Rattle.cf_lane.proofs.Histories.{Along, along_more, fed_broken, fed_cut, fed_whole, of_whole_log}
 use Rattle.cf_lane.proofs.Taking.{grows_both, grows_more, room_left, room_less}
-use Rattle.cf_lane.specs.Follows.{Follows, IsEndBehindCut, Rests, rest_of, with_rest}
+use Rattle.cf_lane.proofs.Units.{short_unit, units_of_octets}
+use Rattle.cf_lane.specs.Follows.{AddsTo, Follows, IsEndBehindCut, Rests, over, rest_of, with_rest}
 use Rattle.cf_lane.specs.Handled.{Breaks, Grows, HasRoom, IsOpen, State, Steps, TakesUnit, WritesLog, letters_in}
 use Rattle.cf_lane.specs.History.{Element, bytes_at, letters_at}
 use Rattle.cf_lane.specs.Unit.{SpellsUnit}
 use Rattle.cf_lane.specs.declared.lane.Step.{Step}
+use Rattle.cf_outside.proofs.Desks.{keeps_both, keeps_none}
 use Rattle.cf_outq.specs.SendQueue.{Queue}
 use Rattle.cf_outside.specs.Faults.{HasCause}
-use Rattle.cf_outside.specs.Desk.{DeskValue, IsNoneOf}
+use Rattle.cf_outside.specs.Desk.{DeskValue}
 use Rattle.cf_policy.specs.declared.Asset.{Asset}
+use Rattle.cf_view.proofs.OctetLists.{IsOctets-drop}
 use Rattle.cf_view.specs.Framing.{IsPartial}
+use Rattle.cf_view.specs.Octets.{IsOctets}
 use Rattle.cf_view.specs.declared.Side.{Side}
 use Rattle.std.proofs.Common.{Bool, List, None, Option, Some, [], ap, arith, drop, false, inl, inr, length, refl, subst, sym, true, ℕ, ◌*◌, ◌++◌, ◌+◌, ◌-◌, ◌<◌, ◌∙◌, ◌∷◌, ◌≡◌, ◌≤◌, ◌⊎◌}
 use Rattle.std.proofs.lemmas.List.{length-drop}
-use Rattle.cf_policy.specs.declared.Protocol.TheVariants as protocol
 use Rattle.cf_view.specs.declared.Side.TheVariants as side
 use Rattle.cf_lane.specs.declared.lane.Step.TheVariants as step
 
@@ -24,18 +26,15 @@ pub grows_none : (d : ℕ) (q : Queue) → Grows 0 d d q q
 grows_none d q = record { kept = omega arith; pushed = omega arith; rest = refl }
 
 pub writes_none : (d : DeskValue) → WritesLog d d
-writes_none d = record { packets = refl; keeps = record { later = omega arith; lender = refl; reads = refl; names = refl; others = λ other h. refl } }
+writes_none d = record { packets = refl; packet_part = refl; stays = λ e. e; line_part = λ e. refl; keeps = keeps_none d }
 
 pub writes_both : (c d e : DeskValue) → WritesLog c d → WritesLog d e → WritesLog c e
 writes_both c d e a b = record {
   packets = b.packets ∙ a.packets;
-  keeps = record {
-    later = omega (arith, a.keeps.later, b.keeps.later);
-    lender = b.keeps.lender ∙ a.keeps.lender;
-    reads = b.keeps.reads ∙ a.keeps.reads;
-    names = b.keeps.names ∙ a.keeps.names;
-    others = λ other h. b.keeps.others other (subst (λ names. IsNoneOf names other) (sym a.keeps.names) h) ∙ a.keeps.others other h;
-  };
+  packet_part = b.packet_part ∙ a.packet_part;
+  stays = λ w. a.stays (b.stays w);
+  line_part = λ w. b.line_part w ∙ a.line_part (b.stays w);
+  keeps = keeps_both c d e a.keeps b.keeps;
 }
 
 -- a cause that came later came
@@ -59,22 +58,24 @@ room_for_rest bytes rest used d e p q is inside r g =
     let size : length rest + used ≡ length bytes = omega (arith, ap length is, length-drop used bytes, inside) in
     room_left (2 * used) (2 * length rest) d e p q (room_less (d + 2 * length bytes) (d + (2 * used + 2 * length rest)) p (omega (arith, size)) r) g
 
-module _ (asset : Asset) (h : List Element) (rests : Rests) (first : Option (List (List ℕ))) (moment : ℕ) (s : Side) (piece bytes rest : List ℕ) (used : ℕ) (old mid new : State)
-    (is : bytes ≡ rest_of s rests ++ piece) (f : Follows asset h rests None first old) (a : Along asset moment s bytes used old mid)
+module _ (asset : Asset) (h : List Element) (rests : Rests) (first own : Option (List (List ℕ))) (moment : ℕ) (s : Side) (piece bytes rest : List ℕ) (used : ℕ) (old mid new : State)
+    (is : bytes ≡ rest_of s rests ++ piece) (f : Follows asset h rests None first (over own old)) (a : Along asset moment s bytes used old mid)
     (left : rest ≡ drop used bytes) where
   pub ends_more : Steps asset moment s rest mid new step.More →
-      Follows asset (h ++ bytes_at moment s piece ∷ []) (with_rest s rests (drop used bytes)) None first new
+      AddsTo asset (h ++ bytes_at moment s piece ∷ []) (with_rest s rests (drop used bytes)) None first own old.lines new
   ends_more steps =
-      subst (λ n. Follows asset (h ++ bytes_at moment s piece ∷ []) (with_rest s rests (drop used bytes)) None first n) (sym steps.1)
-      (fed_whole asset h rests first moment s piece bytes used old mid is f a (subst (IsPartial (SpellsUnit asset.protocol)) left steps.0))
+      subst (λ (n : State). AddsTo asset (h ++ bytes_at moment s piece ∷ []) (with_rest s rests (drop used bytes)) None first own old.lines n) (sym steps.1)
+      (fed_whole asset h rests first own moment s piece bytes used old mid is f a (subst (IsPartial (SpellsUnit asset.protocol)) left steps.0))
 
-  -- (where IEC 104 comes, its cut by a unit is the second case)
-  pub ends_cut : asset.protocol ≡ protocol.Modbus → (ended : Bool) (reason : CutReason) → Steps asset moment s rest mid new (step.Cut reason) →
-      Follows asset (h ++ letters_at moment s piece ended ∷ []) (with_rest s rests (drop used bytes)) (Some reason) first new
-  ends_cut modbus ended reason (inl here) =
-      subst (λ n. Follows asset (h ++ letters_at moment s piece ended ∷ []) (with_rest s rests (drop used bytes)) (Some reason) first n) (sym here.1)
-      (fed_broken asset h rests first moment s piece bytes used old mid is f a ended reason (subst (λ xs. Breaks asset s xs reason) left here.0))
-  ends_cut modbus ended reason (inr never) = cc (sym modbus ∙ never.0)
+  pub ends_cut : IsOctets bytes → (ended : Bool) (reason : CutReason) → Steps asset moment s rest mid new (step.Cut reason) →
+      AddsTo asset (h ++ letters_at moment s piece ended ∷ []) (with_rest s rests (drop used bytes)) (Some reason) first own old.lines new
+  ends_cut octets ended reason (inl here) =
+      subst (λ (n : State). AddsTo asset (h ++ letters_at moment s piece ended ∷ []) (with_rest s rests (drop used bytes)) (Some reason) first own old.lines n) (sym here.1)
+      (fed_broken asset h rests first own moment s piece bytes used old mid is f a ended reason (subst (λ xs. Breaks asset s xs reason) left here.0))
+  ends_cut octets ended reason (inr unit) =
+      let n = unit.1.0 in
+      fed_cut asset h rests first own moment s piece bytes used n old mid new is f a ended reason (subst (λ xs. TakesUnit asset moment s xs n (Some reason) mid new) left unit.1.1)
+      (units_of_octets asset.protocol (drop n (drop used bytes)) (IsOctets-drop (drop used bytes) n (IsOctets-drop bytes used octets))) (with_rest s rests (drop used bytes))
 
 module _ (asset : Asset) (moment : ℕ) (s : Side) (bytes rest : List ℕ) (used : ℕ) (left : rest ≡ drop used bytes) (inside : used ≤ length bytes) where
   rest_length : length rest + used ≡ length bytes
@@ -107,36 +108,50 @@ module _ (asset : Asset) (moment : ℕ) (s : Side) (bytes rest : List ℕ) (used
 module _ (asset : Asset) (moment : ℕ) (s : Side) (bytes rest : List ℕ) (used : ℕ) (old mid new : State)
     (a : Along asset moment s bytes used old mid) (left : rest ≡ drop used bytes) (st : Step) (steps : Steps asset moment s rest mid new st) where
   -- where no whole unit is left, the history goes on by the piece
-  pub follows_more : st ≡ step.More → (h : List Element) (rests : Rests) (first : Option (List (List ℕ))) (piece : List ℕ) (ended : Bool) → IsEndBehindCut ended None →
-      bytes ≡ rest_of s rests ++ piece →
-      Follows asset h rests None first old → Follows asset (h ++ letters_at moment s piece ended ∷ []) (with_rest s rests (drop used bytes)) None first new
-  follows_more e h rests first piece false behind is f =
+  pub apart_more : st ≡ step.More → (h : List Element) (rests : Rests) (first own : Option (List (List ℕ))) (piece : List ℕ) (ended : Bool) → IsEndBehindCut ended None →
+      bytes ≡ rest_of s rests ++ piece → Follows asset h rests None first (over own old) →
+      AddsTo asset (h ++ letters_at moment s piece ended ∷ []) (with_rest s rests (drop used bytes)) None first own old.lines new
+  apart_more e h rests first own piece false behind is f =
       let P : Step → Type 0 = λ st. Steps asset moment s rest mid new st in
-      ends_more asset h rests first moment s piece bytes rest used old mid new is f a left (subst P e steps)
-  follows_more e h rests first piece true behind is f = absurd behind
+      ends_more asset h rests first own moment s piece bytes rest used old mid new is f a left (subst P e steps)
+  apart_more e h rests first own piece true behind is f = absurd behind
 
-  pub follows_cut : asset.protocol ≡ protocol.Modbus → (reason : CutReason) → st ≡ step.Cut reason → (h : List Element) (rests : Rests) (first : Option (List (List ℕ))) (piece : List ℕ) (ended : Bool) →
+  pub follows_more : st ≡ step.More → (h : List Element) (rests : Rests) (first : Option (List (List ℕ))) (piece : List ℕ) (ended : Bool) → IsEndBehindCut ended None →
+      bytes ≡ rest_of s rests ++ piece → Follows asset h rests None first old →
+      Follows asset (h ++ letters_at moment s piece ended ∷ []) (with_rest s rests (drop used bytes)) None first new
+  follows_more e h rests first piece ended behind is f =
+      of_whole_log asset (h ++ letters_at moment s piece ended ∷ []) (with_rest s rests (drop used bytes)) None first old new
+      (apart_more e h rests first old.lines piece ended behind is f)
+
+  pub apart_cut : IsOctets bytes → (reason : CutReason) → st ≡ step.Cut reason → (h : List Element) (rests : Rests) (first own : Option (List (List ℕ))) (piece : List ℕ) (ended : Bool) →
+      IsEndBehindCut ended (Some reason) → bytes ≡ rest_of s rests ++ piece → Follows asset h rests None first (over own old) →
+      AddsTo asset (h ++ letters_at moment s piece ended ∷ []) (with_rest s rests (drop used bytes)) (Some reason) first own old.lines new
+  apart_cut octets reason e h rests first own piece ended behind is f =
+      let P : Step → Type 0 = λ st. Steps asset moment s rest mid new st in
+      ends_cut asset h rests first own moment s piece bytes rest used old mid new is f a left octets ended reason (subst P e steps)
+
+  pub follows_cut : IsOctets bytes → (reason : CutReason) → st ≡ step.Cut reason → (h : List Element) (rests : Rests) (first : Option (List (List ℕ))) (piece : List ℕ) (ended : Bool) →
       IsEndBehindCut ended (Some reason) → bytes ≡ rest_of s rests ++ piece → Follows asset h rests None first old →
       Follows asset (h ++ letters_at moment s piece ended ∷ []) (with_rest s rests (drop used bytes)) (Some reason) first new
-  follows_cut modbus reason e h rests first piece ended behind is f =
-      let P : Step → Type 0 = λ st. Steps asset moment s rest mid new st in
-      ends_cut asset h rests first moment s piece bytes rest used old mid new is f a left modbus ended reason (subst P e steps)
+  follows_cut octets reason e h rests first piece ended behind is f =
+      of_whole_log asset (h ++ letters_at moment s piece ended ∷ []) (with_rest s rests (drop used bytes)) (Some reason) first old new
+      (apart_cut octets reason e h rests first old.lines piece ended behind is f)
 
   -- what is left is shorter than a unit
-  pub little_left : asset.protocol ≡ protocol.Modbus → st ≡ step.More → length (drop used bytes) < 300
-  little_left modbus e =
+  pub little_left : st ≡ step.More → length (drop used bytes) < 300
+  little_left e =
       let P : Step → Type 0 = λ st. Steps asset moment s rest mid new st in
       let partial = (subst P e steps).0 in
-      short_unit asset.protocol modbus (drop used bytes) (subst (IsPartial (SpellsUnit asset.protocol)) left partial)
+      short_unit asset.protocol (drop used bytes) (subst (IsPartial (SpellsUnit asset.protocol)) left partial)
 
   -- the lane stays that of its client
-  pub same_client : asset.protocol ≡ protocol.Modbus → ((st ≡ step.More) ⊎ ((reason : CutReason) × (st ≡ step.Cut reason))) → new.lane.client ≡ old.lane.client
-  same_client modbus (inl e) =
+  pub same_client : ((st ≡ step.More) ⊎ ((reason : CutReason) × (st ≡ step.Cut reason))) → new.lane.client ≡ old.lane.client
+  same_client (inl e) =
       let P : Step → Type 0 = λ st. Steps asset moment s rest mid new st in
       ap (λ (x : State). x.lane.client) (subst P e steps).1 ∙ a.handled.client
-  same_client modbus (inr e) =
+  same_client (inr e) =
       let P : Step → Type 0 = λ st. Steps asset moment s rest mid new st in
       by_case (subst P e.1 steps) where
         by_case : Steps asset moment s rest mid new (step.Cut e.0) → new.lane.client ≡ old.lane.client
         by_case (inl here) = ap (λ (x : State). x.lane.client) here.1 ∙ a.handled.client
-        by_case (inr never) = cc (sym modbus ∙ never.0)
+        by_case (inr unit) = unit.1.1.handled.client ∙ a.handled.client

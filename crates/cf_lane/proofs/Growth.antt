@@ -1,17 +1,17 @@
--- The law of growth.
+-- The weights of items, and where a history goes on.
 use Rattle.cf_audit.specs.declared.line.CutReason.{CutReason}
-use Rattle.cf_lane.proofs.Handling.{in_turn-append}
+use Rattle.cf_dnplink.proofs.Frames.{user_is}
+use Rattle.cf_lane.proofs.Earlier.{in_turn-append}
 use Rattle.cf_lane.proofs.Histories.{bytes_of-append}
 use Rattle.cf_lane.proofs.Judgements.{after_break, one_item_fate, one_items, one_units, same_judged}
-use Rattle.cf_lane.proofs.ModbusUnits.{free_unit, short_unit}
+use Rattle.cf_lane.proofs.Units.{free_unit, short_unit}
 use Rattle.cf_lane.specs.Fate.{HasItemFate, HaveFates}
 use Rattle.cf_lane.specs.Follows.{AreJudged, GoesOn, GoesOnAfter}
 use Rattle.cf_lane.specs.History.{Element, bytes_in, bytes_of, is_side}
 use Rattle.cf_lane.specs.Item.{AreItems, Broke, Completes, Ended, Item, Placed, Took, last_after, placed}
 use Rattle.cf_lane.specs.Judged.{Judged, cut_by, goes_on, has_ended, in_turn, place_of}
-use Rattle.cf_lane.specs.Laws.{GrowsLittle, StreamsGoOn, letters_of}
+use Rattle.cf_lane.specs.Laws.{StreamsGoOn, letters_of}
 use Rattle.cf_lane.specs.Log.{item_lines, lines}
-use Rattle.cf_lane.specs.Modbus.{adu_output, adu_reply}
 use Rattle.cf_lane.specs.Output.{item_output, output, outputs}
 use Rattle.cf_lane.specs.Unit.{Adu, Apdu, AreUnits, Frame, Left, SpellsUnit, Tail, UnitValue, Wrong, unit_spelling}
 use Rattle.cf_lane.specs.declared.fate.Fate.{Fate}
@@ -24,6 +24,7 @@ use Rattle.std.proofs.Common.{Bool, List, None, Option, Some, [], ap, append_ass
 use Rattle.std.proofs.lemmas.List.{append-nil, length-append, length-drop, length-take}
 use Rattle.std.specs.Prelude.{if◌then◌else◌}
 use Rattle.cf_lane.specs.declared.fate.Fate.TheVariants as fate
+use Rattle.cf_dnplink.specs.LinkFrame as link
 use Rattle.cf_policy.specs.declared.Protocol.TheVariants as protocol
 use Rattle.cf_view.specs.declared.Side.TheVariants as side
 
@@ -32,49 +33,54 @@ abbrev weigh : List UnitValue → ℕ
 weigh [] = 0
 weigh (u ∷ us) = length (unit_spelling u) + weigh us
 
-abbrev weight : Item → ℕ
+abbrev pub weight : Item → ℕ
 weight (Took s u) = length (unit_spelling u)
 weight (Ended s n) = 0
 weight (Broke s b) = 0
 
-abbrev weights : List Placed → ℕ
+abbrev pub weights : List Placed → ℕ
 weights [] = 0
 weights (p ∷ ps) = weight p.item + weights ps
 
-abbrev pub IsAduItem : Item → Type 0
-IsAduItem (Took s (Adu a)) = Unit {0}
-IsAduItem (Took s (Frame x)) = ⊥
-IsAduItem (Took s (Apdu x)) = ⊥
-IsAduItem (Ended s n) = Unit {0}
-IsAduItem (Broke s b) = Unit {0}
+-- an item is of a protocol: a unit is one of its
+abbrev pub IsItemOf : Protocol → Item → Type 0
+IsItemOf p (Took s u) = (octets : List ℕ) × SpellsUnit p u octets
+IsItemOf p (Ended s n) = Unit {0}
+IsItemOf p (Broke s b) = Unit {0}
 
-abbrev pub AreAdus : List Placed → Type 0
-AreAdus [] = Unit {0}
-AreAdus (p ∷ ps) = IsAduItem p.item × AreAdus ps
+abbrev pub AreItemsOf : Protocol → List Placed → Type 0
+AreItemsOf p [] = Unit {0}
+AreItemsOf p (i ∷ items) = IsItemOf p i.item × AreItemsOf p items
 
-weights-append : (ps qs : List Placed) → weights (ps ++ qs) ≡ weights ps + weights qs
+pub weights-append : (ps qs : List Placed) → weights (ps ++ qs) ≡ weights ps + weights qs
 weights-append [] qs = omega arith
 weights-append (p ∷ ps) qs = omega (arith, weights-append ps qs)
 
-adus-append : (ps qs : List Placed) → AreAdus ps → AreAdus qs → AreAdus (ps ++ qs)
-adus-append [] qs a b = b
-adus-append (p ∷ ps) qs a b = (a.0, adus-append ps qs a.1 b)
+of-append : (p : Protocol) (ps qs : List Placed) → AreItemsOf p ps → AreItemsOf p qs → AreItemsOf p (ps ++ qs)
+of-append p [] qs a b = b
+of-append p (i ∷ ps) qs a b = (a.0, of-append p ps qs a.1 b)
 
-pub adus_front : (ps qs : List Placed) → AreAdus (ps ++ qs) → AreAdus ps
-adus_front [] qs a = tt
-adus_front (p ∷ ps) qs a = (a.0, adus_front ps qs a.1)
+pub of_front : (p : Protocol) (ps qs : List Placed) → AreItemsOf p (ps ++ qs) → AreItemsOf p ps
+of_front p [] qs a = tt
+of_front p (i ∷ ps) qs a = (a.0, of_front p ps qs a.1)
 
-spelled_length : (u : UnitValue) (xs : List ℕ) → SpellsUnit protocol.Modbus u xs → (length xs ≡ length (unit_spelling u)) × ((m : ℕ) (s : Side) → IsAduItem (Took s u))
-spelled_length (Adu a) xs s = (ap length s.spelled, λ m s. tt)
-spelled_length (Frame x) xs s = absurd s
-spelled_length (Apdu x) xs s = absurd s
+pub spelled_length : (p : Protocol) (u : UnitValue) (xs : List ℕ) → SpellsUnit p u xs → length xs ≡ length (unit_spelling u)
+spelled_length protocol.Modbus (Adu a) xs s = ap length s.spelled
+spelled_length protocol.Modbus (Frame x) xs s = absurd s
+spelled_length protocol.Modbus (Apdu x) xs s = absurd s
+spelled_length protocol.Dnp3 (Adu a) xs s = absurd s
+spelled_length protocol.Dnp3 (Frame x) xs s =
+    ap length s.spelled ∙ ap (λ user. length (link.spelling x.control x.dest x.source user)) (sym (user_is x (xs, s)))
+spelled_length protocol.Dnp3 (Apdu x) xs s = absurd s
+spelled_length protocol.Iec104 (Adu a) xs s = absurd s
+spelled_length protocol.Iec104 (Frame x) xs s = absurd s
+spelled_length protocol.Iec104 (Apdu x) xs s = ap length s.spelled
 
 -- units and what follows them are all octets
-started : (us : List UnitValue) (xs left : List ℕ) → BeginsWithUnits (SpellsUnit protocol.Modbus) us xs left → weigh us + length left ≡ length xs
-started [] xs left s = omega (arith, ap length s)
-started (u ∷ us) xs left s =
-    let size = (spelled_length u (take s.0 xs) s.1.spells).0 in
-    omega (arith, started us (drop s.0 xs) left s.2, length-drop s.0 xs, length-take s.0 xs, s.1.inside, size)
+started : (p : Protocol) (us : List UnitValue) (xs left : List ℕ) → BeginsWithUnits (SpellsUnit p) us xs left → weigh us + length left ≡ length xs
+started p [] xs left s = omega (arith, ap length s)
+started p (u ∷ us) xs left s =
+    omega (arith, started p us (drop s.0 xs) left s.2, length-drop s.0 xs, length-take s.0 xs, s.1.inside, spelled_length p u (take s.0 xs) s.1.spells)
 
 weigh-append : (us vs : List UnitValue) → weigh (us ++ vs) ≡ weigh us + weigh vs
 weigh-append [] vs = omega arith
@@ -95,12 +101,12 @@ abbrev left_of : Tail → ℕ
 left_of (Left r) = length r
 left_of (Wrong b) = 0
 
-units_weigh : (xs : List ℕ) (us : List UnitValue) (t : Tail) → AreUnits protocol.Modbus xs us t → weigh us + left_of t ≤ length xs
-units_weigh xs us (Left r) a = omega (arith, started us xs r a.starts)
-units_weigh xs us (Wrong b) a = omega (arith, started us xs a.1.rest a.1.starts)
+units_weigh : (p : Protocol) (xs : List ℕ) (us : List UnitValue) (t : Tail) → AreUnits p xs us t → weigh us + left_of t ≤ length xs
+units_weigh p xs us (Left r) a = omega (arith, started p us xs r a.starts)
+units_weigh p xs us (Wrong b) a = omega (arith, started p us xs a.1.rest a.1.starts)
 
-abbrev HasCaps : List Element → (Side → ℕ) → Type 0
-HasCaps h cap = (s : Side) (us : List UnitValue) (r : List ℕ) → AreUnits protocol.Modbus (bytes_of s h) us (Left r) → length r ≤ cap s
+abbrev pub HasCaps : Protocol → List Element → (Side → ℕ) → Type 0
+HasCaps p h cap = (s : Side) (us : List UnitValue) (r : List ℕ) → AreUnits p (bytes_of s h) us (Left r) → length r ≤ cap s
 
 abbrev cap_with : Side → ℕ → (Side → ℕ) → Side → ℕ
 cap_with t n cap s = if is_side s t then n else cap s
@@ -119,29 +125,28 @@ own_in e = by_side e.side e.letters.bytes where
 same_left : (t u : Tail) (r : List ℕ) → t ≡ u → u ≡ Left r → left_of t ≡ length r
 same_left t u r e f = ap left_of (e ∙ f)
 
-adus_of : (m : ℕ) (s : Side) (us : List UnitValue) (xs left : List ℕ) (last : List Item) → BeginsWithUnits (SpellsUnit protocol.Modbus) us xs left →
-    AreAdus (map (placed m) last) → AreAdus (map (placed m) (map (Took s) us ++ last))
-adus_of m s [] xs left last a b = b
-adus_of m s (u ∷ us) xs left last a b =
-    ((spelled_length u (take a.0 xs) a.1.spells).1 m s, adus_of m s us (drop a.0 xs) left last a.2 b)
+items_of : (p : Protocol) (m : ℕ) (s : Side) (us : List UnitValue) (xs left : List ℕ) (last : List Item) → BeginsWithUnits (SpellsUnit p) us xs left →
+    AreItemsOf p (map (placed m) last) → AreItemsOf p (map (placed m) (map (Took s) us ++ last))
+items_of p m s [] xs left last a b = b
+items_of p m s (u ∷ us) xs left last a b = ((take a.0 xs, a.1.spells), items_of p m s us (drop a.0 xs) left last a.2 b)
 
-last_adus : (m : ℕ) (s : Side) (ended : Bool) (w t : Tail) → AreAdus (map (placed m) (last_after w s ended t))
-last_adus m s true (Left a) (Left r) = (tt, tt)
-last_adus m s false (Left a) (Left r) = tt
-last_adus m s true (Left a) (Wrong b) = (tt, tt)
-last_adus m s false (Left a) (Wrong b) = (tt, tt)
-last_adus m s ended (Wrong a) t = tt
+last_of : (p : Protocol) (m : ℕ) (s : Side) (ended : Bool) (w t : Tail) → AreItemsOf p (map (placed m) (last_after w s ended t))
+last_of p m s true (Left a) (Left r) = (tt, tt)
+last_of p m s false (Left a) (Left r) = tt
+last_of p m s true (Left a) (Wrong b) = (tt, tt)
+last_of p m s false (Left a) (Wrong b) = (tt, tt)
+last_of p m s ended (Wrong a) t = tt
 
 -- the last of units that follow each other follow each other
-starts_behind : (us vs : List UnitValue) (xs left : List ℕ) → BeginsWithUnits (SpellsUnit protocol.Modbus) (us ++ vs) xs left → (m : List ℕ) × BeginsWithUnits (SpellsUnit protocol.Modbus) vs m left
-starts_behind [] vs xs left a = (xs, a)
-starts_behind (u ∷ us) vs xs left a = starts_behind us vs (drop a.0 xs) left a.2
+starts_behind : (p : Protocol) (us vs : List UnitValue) (xs left : List ℕ) → BeginsWithUnits (SpellsUnit p) (us ++ vs) xs left → (m : List ℕ) × BeginsWithUnits (SpellsUnit p) vs m left
+starts_behind p [] vs xs left a = (xs, a)
+starts_behind p (u ∷ us) vs xs left a = starts_behind p us vs (drop a.0 xs) left a.2
 
-units_start : (xs : List ℕ) (us : List UnitValue) (t : Tail) → AreUnits protocol.Modbus xs us t → (left : List ℕ) × BeginsWithUnits (SpellsUnit protocol.Modbus) us xs left
-units_start xs us (Left r) a = (r, a.starts)
-units_start xs us (Wrong b) a = (a.1.rest, a.1.starts)
+units_start : (p : Protocol) (xs : List ℕ) (us : List UnitValue) (t : Tail) → AreUnits p xs us t → (left : List ℕ) × BeginsWithUnits (SpellsUnit p) us xs left
+units_start p xs us (Left r) a = (r, a.starts)
+units_start p xs us (Wrong b) a = (a.1.rest, a.1.starts)
 
-module _ (earlier : List Element) (e : Element) (now : List Placed) (c : Completes protocol.Modbus earlier e now) where
+module _ (p : Protocol) (earlier : List Element) (e : Element) (now : List Placed) (c : Completes p earlier e now) where
   own_weight : weights now ≡ weigh c.more
   own_weight = ap weights c.is_items ∙ weights_of e.moment e.side c.more (last_after c.was e.side e.letters.ended c.tail) (no_weight e.moment e.side e.letters.ended c.was c.tail)
 
@@ -149,60 +154,60 @@ module _ (earlier : List Element) (e : Element) (now : List Placed) (c : Complet
   weight_by : (w : Tail) → c.was ≡ w → weights now + left_of c.tail ≤ left_of w + length e.letters.bytes
   weight_by (Left r) is =
       let size = bytes_of-append e.side earlier e ∙ ap (λ xs. bytes_of e.side earlier ++ xs) (own_in e) in
-      let all = units_weigh (bytes_of e.side (earlier ++ e ∷ [])) (c.before ++ c.more) c.tail c.are in
-      let were : IsUnitsThenRest (SpellsUnit protocol.Modbus) c.before (bytes_of e.side earlier) r = subst (λ t. AreUnits protocol.Modbus (bytes_of e.side earlier) c.before t) is c.were in
-      let old = started c.before (bytes_of e.side earlier) r were.starts in
+      let all = units_weigh p (bytes_of e.side (earlier ++ e ∷ [])) (c.before ++ c.more) c.tail c.are in
+      let were : IsUnitsThenRest (SpellsUnit p) c.before (bytes_of e.side earlier) r = subst (λ t. AreUnits p (bytes_of e.side earlier) c.before t) is c.were in
+      let old = started p c.before (bytes_of e.side earlier) r were.starts in
       omega (arith, all, old, own_weight, weigh-append c.before c.more, ap length size ∙ length-append (bytes_of e.side earlier) e.letters.bytes)
   weight_by (Wrong b) is =
-      let none = after_break protocol.Modbus (free_unit protocol.Modbus refl) earlier e now c b is in
+      let none = after_break p (free_unit p) earlier e now c b is in
       omega (arith, own_weight, ap weigh none.0, ap left_of none.1)
 
-  one_weight : (weights now + left_of c.tail ≤ left_of c.was + length e.letters.bytes) × AreAdus now
+  one_weight : (weights now + left_of c.tail ≤ left_of c.was + length e.letters.bytes) × AreItemsOf p now
   one_weight =
-      let start = units_start (bytes_of e.side (earlier ++ e ∷ [])) (c.before ++ c.more) c.tail c.are in
-      let behind = starts_behind c.before c.more (bytes_of e.side (earlier ++ e ∷ [])) start.0 start.1 in (
+      let start = units_start p (bytes_of e.side (earlier ++ e ∷ [])) (c.before ++ c.more) c.tail c.are in
+      let behind = starts_behind p c.before c.more (bytes_of e.side (earlier ++ e ∷ [])) start.0 start.1 in (
         weight_by c.was refl,
-        subst AreAdus (sym c.is_items) (adus_of e.moment e.side c.more behind.0 start.0 (last_after c.was e.side e.letters.ended c.tail) behind.1 (last_adus e.moment e.side e.letters.ended c.was c.tail)),
+        subst (AreItemsOf p) (sym c.is_items) (items_of p e.moment e.side c.more behind.0 start.0 (last_after c.was e.side e.letters.ended c.tail) behind.1 (last_of p e.moment e.side e.letters.ended c.was c.tail)),
       )
 
-left_capped : (h : List Element) (s : Side) (cap : Side → ℕ) → HasCaps h cap → (us : List UnitValue) (w : Tail) → AreUnits protocol.Modbus (bytes_of s h) us w → left_of w ≤ cap s
-left_capped h s cap caps us (Left r) a = caps s us r a
-left_capped h s cap caps us (Wrong b) a = omega arith
+left_capped : (p : Protocol) (h : List Element) (s : Side) (cap : Side → ℕ) → HasCaps p h cap → (us : List UnitValue) (w : Tail) → AreUnits p (bytes_of s h) us w → left_of w ≤ cap s
+left_capped p h s cap caps us (Left r) a = caps s us r a
+left_capped p h s cap caps us (Wrong b) a = omega arith
 
-module _ (h : List Element) (e : Element) (now : List Placed) (c : Completes protocol.Modbus h e now) (cap : Side → ℕ) (caps : HasCaps h cap) where
-  by_which : (s t : Side) → (e.side ≡ t) → (us : List UnitValue) (r : List ℕ) → AreUnits protocol.Modbus (bytes_of s (h ++ e ∷ [])) us (Left r) → length r ≤ cap_with t (left_of c.tail) cap s
+module _ (p : Protocol) (h : List Element) (e : Element) (now : List Placed) (c : Completes p h e now) (cap : Side → ℕ) (caps : HasCaps p h cap) where
+  by_which : (s t : Side) → (e.side ≡ t) → (us : List UnitValue) (r : List ℕ) → AreUnits p (bytes_of s (h ++ e ∷ [])) us (Left r) → length r ≤ cap_with t (left_of c.tail) cap s
   by_which side.Client side.Client is us r a =
-      let P : Side → Type 0 = λ s. AreUnits protocol.Modbus (bytes_of s (h ++ e ∷ [])) us (Left r) in
-      let same = one_units protocol.Modbus (free_unit protocol.Modbus refl) (c.before ++ c.more) us (bytes_of e.side (h ++ e ∷ [])) c.tail (Left r) c.are (subst P (sym is) a) in
+      let P : Side → Type 0 = λ s. AreUnits p (bytes_of s (h ++ e ∷ [])) us (Left r) in
+      let same = one_units p (free_unit p) (c.before ++ c.more) us (bytes_of e.side (h ++ e ∷ [])) c.tail (Left r) c.are (subst P (sym is) a) in
       omega (arith, ap left_of same.1)
   by_which side.Controller side.Controller is us r a =
-      let P : Side → Type 0 = λ s. AreUnits protocol.Modbus (bytes_of s (h ++ e ∷ [])) us (Left r) in
-      let same = one_units protocol.Modbus (free_unit protocol.Modbus refl) (c.before ++ c.more) us (bytes_of e.side (h ++ e ∷ [])) c.tail (Left r) c.are (subst P (sym is) a) in
+      let P : Side → Type 0 = λ s. AreUnits p (bytes_of s (h ++ e ∷ [])) us (Left r) in
+      let same = one_units p (free_unit p) (c.before ++ c.more) us (bytes_of e.side (h ++ e ∷ [])) c.tail (Left r) c.are (subst P (sym is) a) in
       omega (arith, ap left_of same.1)
   by_which side.Client side.Controller is us r a =
       let none : bytes_in side.Client e ≡ [] = ap (λ t. if is_side side.Client t then e.letters.bytes else []) is in
       let same = bytes_of-append side.Client h e ∙ ap (λ xs. bytes_of side.Client h ++ xs) none ∙ append-nil (bytes_of side.Client h) in
-      caps side.Client us r (subst (λ xs. AreUnits protocol.Modbus xs us (Left r)) same a)
+      caps side.Client us r (subst (λ xs. AreUnits p xs us (Left r)) same a)
   by_which side.Controller side.Client is us r a =
       let none : bytes_in side.Controller e ≡ [] = ap (λ t. if is_side side.Controller t then e.letters.bytes else []) is in
       let same = bytes_of-append side.Controller h e ∙ ap (λ xs. bytes_of side.Controller h ++ xs) none ∙ append-nil (bytes_of side.Controller h) in
-      caps side.Controller us r (subst (λ xs. AreUnits protocol.Modbus xs us (Left r)) same a)
+      caps side.Controller us r (subst (λ xs. AreUnits p xs us (Left r)) same a)
 
-  caps_next : HasCaps (h ++ e ∷ []) (cap_with e.side (left_of c.tail) cap)
+  caps_next : HasCaps p (h ++ e ∷ []) (cap_with e.side (left_of c.tail) cap)
   caps_next s us r a = by_which s e.side refl us r a
 
-all_weight : (h later : List Element) (items : List Placed) (cap : Side → ℕ) → HasCaps h cap → AreItems protocol.Modbus h later items →
-    (weights items ≤ cap side.Client + cap side.Controller + letters_of later) × AreAdus items
-all_weight h [] items cap caps a = (omega (arith, ap weights a), subst AreAdus (sym a) tt)
-all_weight h (e ∷ later) items cap caps a =
+pub all_weight : (p : Protocol) (h later : List Element) (items : List Placed) (cap : Side → ℕ) → HasCaps p h cap → AreItems p h later items →
+    (weights items ≤ cap side.Client + cap side.Controller + letters_of later) × AreItemsOf p items
+all_weight p h [] items cap caps a = (omega (arith, ap weights a), subst (AreItemsOf p) (sym a) tt)
+all_weight p h (e ∷ later) items cap caps a =
     let c = a.2 in
-    let one = one_weight h e a.0 c in
+    let one = one_weight p h e a.0 c in
     let cap' = cap_with e.side (left_of c.tail) cap in
-    let rest = all_weight (h ++ e ∷ []) later a.1 cap' (caps_next h e a.0 c cap caps) a.3 in
+    let rest = all_weight p (h ++ e ∷ []) later a.1 cap' (caps_next p h e a.0 c cap caps) a.3 in
     let sum = caps_sum e.side (left_of c.tail) cap in
-    let here = left_capped h e.side cap caps c.before c.was c.were in (
+    let here = left_capped p h e.side cap caps c.before c.was c.were in (
       omega (arith, ap weights a.4, weights-append a.0 a.1, one.0, rest.0, sum, here),
-      subst AreAdus (sym a.4) (adus-append a.0 a.1 one.1 rest.1),
+      subst (AreItemsOf p) (sym a.4) (of-append p a.0 a.1 one.1 rest.1),
     )
 
 pub items_split : (p : Protocol) (earlier h more : List Element) (items : List Placed) → AreItems p earlier (h ++ more) items →
@@ -217,8 +222,12 @@ items_split p earlier (e ∷ h) more items a =
       a.4 ∙ ap (λ xs. a.0 ++ xs) r.4 ∙ sym (append_assoc a.0 r.0 r.1),
     )
 
+-- what is left of each side is short
+pub short_caps : (p : Protocol) (h : List Element) → HasCaps p h (λ s. 300)
+short_caps p h s us r u = let short = short_unit p r u.partial in omega (arith, short)
+
 -- later judged items are the earlier ones and then some of the later items
-abbrev Further : List Judged → List Judged → List Placed → Type 0
+abbrev pub Further : List Judged → List Judged → List Placed → Type 0
 Further js ks more = (ms : List Judged) × (rest : List Placed) × (ks ≡ js ++ ms) × (map place_of ms ++ rest ≡ more)
 
 further_by : (c : Option CutReason) (j : Judged) (js ks : List Judged) (more : List Placed) (P Q : Type 0) → (P → Q → Further js ks more) →
@@ -226,7 +235,7 @@ further_by : (c : Option CutReason) (j : Judged) (js ks : List Judged) (more : L
 further_by None j js ks more P Q both a b = both a b
 further_by (Some r) j js ks more P Q both a b = ([], more, b ∙ sym (append-nil js ∙ a), refl)
 
-further : (asset : Asset) (client : ℕ) (earlier js ks : List Judged) (ds es more : List Placed) → (map place_of js ++ ds) ++ more ≡ map place_of ks ++ es →
+pub further : (asset : Asset) (client : ℕ) (earlier js ks : List Judged) (ds es more : List Placed) → (map place_of js ++ ds) ++ more ≡ map place_of ks ++ es →
     HaveFates asset client earlier js → HaveFates asset client earlier ks → GoesOn js ds → GoesOn ks es → Further js ks more
 further asset client earlier [] ks ds es more same x y a b =
     (ks, es, refl, sym same ∙ ap (λ xs. xs ++ more) a)
@@ -243,71 +252,9 @@ further asset client earlier (j ∷ js) (k ∷ ks) ds es more same x y a b =
     (λ p q. further asset client (earlier ++ k ∷ []) js ks ds es more places fates y.1 p q) goes b in
     (r.0, r.1, cc (same_one, r.2), r.3)
 
--- a unit of Modbus puts out at most twice its octets
-reply_size : (ended : Bool) (f : Fate) (a : AduValue) → length (adu_reply ended f a) ≤ 2 * length (spelling a)
-reply_size true f a = omega arith
-reply_size false fate.Carried a = omega arith
-reply_size false fate.Admitted a = omega arith
-reply_size false (fate.Refused r) a = omega arith
-reply_size false (fate.Stray w) a = omega arith
-reply_size false fate.Lengthens a = omega arith
-reply_size false (fate.Cuts r) a = omega arith
-
-goes_size : (b : Bool) (a : AduValue) → length (if b then spelling a else []) ≤ 2 * length (spelling a)
-goes_size true a = omega arith
-goes_size false a = omega arith
-
-adu_size : (to s : Side) (ended : Bool) (f : Fate) (a : AduValue) → length (adu_output to ended s f a) ≤ 2 * length (spelling a)
-adu_size side.Client side.Client ended f a = reply_size ended f a
-adu_size side.Client side.Controller ended f a = goes_size (goes_on f) a
-adu_size side.Controller side.Client ended f a = goes_size (goes_on f) a
-adu_size side.Controller side.Controller ended f a = omega arith
-
-item_size : (asset : Asset) (to : Side) (earlier : List Judged) (j : Judged) (i : Item) → j.item ≡ i → IsAduItem i → length (output asset to earlier j) ≤ 2 * weight i
-item_size asset to earlier j (Took s (Adu a)) is adu =
-    omega (arith, ap (λ i. length (item_output asset to earlier j i)) is, adu_size to s (has_ended side.Controller earlier) j.fate a)
-item_size asset to earlier j (Took s (Frame x)) is adu = absurd adu
-item_size asset to earlier j (Took s (Apdu x)) is adu = absurd adu
-item_size asset to earlier j (Ended s n) is adu = omega (arith, ap (λ i. length (item_output asset to earlier j i)) is)
-item_size asset to earlier j (Broke s b) is adu = omega (arith, ap (λ i. length (item_output asset to earlier j i)) is)
-
-items_size : (asset : Asset) (to : Side) (earlier js : List Judged) → AreAdus (map place_of js) → length (in_turn (output asset to) earlier js) ≤ 2 * weights (map place_of js)
-items_size asset to earlier [] a = omega arith
-items_size asset to earlier (j ∷ js) a =
-    omega (
-      arith,
-      item_size asset to earlier j j.item refl a.0,
-      items_size asset to (earlier ++ j ∷ []) js a.1,
-      length-append (output asset to earlier j) (in_turn (output asset to) (earlier ++ j ∷ []) js),
-    )
-
-grows_modbus : (asset : Asset) (client : ℕ) (h more : List Element) (js ks : List Judged) (to : Side) → asset.protocol ≡ protocol.Modbus →
-    AreJudged asset client h js → AreJudged asset client (h ++ more) ks →
-    length (outputs asset to [] ks) ≤ length (outputs asset to [] js) + (2 * letters_of more + 8192)
-grows_modbus asset client h more js ks to modbus a b =
-    let free = free_unit protocol.Modbus refl in
-    let P : List Element → List Placed → Protocol → Type 0 = λ h items p. AreItems p [] h items in
-    let ours = subst (P h a.items) modbus a.are_items in
-    let theirs = subst (P (h ++ more) b.items) modbus b.are_items in
-    let split = items_split protocol.Modbus [] h more b.items theirs in
-    let same = one_items protocol.Modbus free [] h a.items split.0 ours split.2 in
-    let f = further asset client [] js ks a.dropped b.dropped split.1
-    (ap (λ xs. xs ++ split.1) (sym a.are_first ∙ same) ∙ sym split.4 ∙ b.are_first) a.fates b.fates a.goes_on b.goes_on in
-    let caps : HasCaps h (λ s. 300) = λ s us r u. (let short = short_unit protocol.Modbus refl r u.partial in omega (arith, short)) in
-    let heavy = all_weight h more split.1 (λ s. 300) caps split.3 in
-    let adus = adus_front (map place_of f.0) f.1 (subst AreAdus (sym f.3) heavy.1) in
-    let size = items_size asset to js f.0 adus in
-    let part = ap weights (sym f.3) ∙ weights-append (map place_of f.0) f.1 in
-    let whole = ap (λ xs. length (outputs asset to [] xs)) f.2 ∙ ap length (in_turn-append (output asset to) [] js f.0)
-    ∙ length-append (outputs asset to [] js) (in_turn (output asset to) js f.0) in
-    omega (arith, whole, size, part, heavy.0)
-
-pub grows_little : GrowsLittle
-grows_little = grows_modbus
-
 pub streams_go_on : StreamsGoOn
-streams_go_on asset client h more js ks modbus a b =
-    let free = free_unit asset.protocol modbus in
+streams_go_on asset client h more js ks a b =
+    let free = free_unit asset.protocol in
     let split = items_split asset.protocol [] h more b.items b.are_items in
     let same = one_items asset.protocol free [] h a.items split.0 a.are_items split.2 in
     let f = further asset client.address [] js ks a.dropped b.dropped split.1
@@ -320,6 +267,6 @@ streams_go_on asset client h more js ks modbus a b =
       in_log = ap (lines asset client []) f.2 ∙ in_turn-append (λ b j. item_lines asset client b j j.item) [] js f.0;
     }
 
--- the items of a history of Modbus are ADUs, ends and breaks
-pub all_adus : (h : List Element) (items : List Placed) → AreItems protocol.Modbus [] h items → AreAdus items
-all_adus h items a = (all_weight [] h items (λ s. 300) (λ s us r u. (let short = short_unit protocol.Modbus refl r u.partial in omega (arith, short))) a).1
+-- the items of a history are those of its protocol
+pub all_of : (p : Protocol) (h : List Element) (items : List Placed) → AreItems p [] h items → AreItemsOf p items
+all_of p h items a = (all_weight p [] h items (λ s. 300) (short_caps p []) a).1

@@ -1,9 +1,12 @@
 -- Laws of lanes over items.
+use Rattle.cf_lane.proofs.Earlier.{cut_of-append, in_turn-append, wire_stays}
 use Rattle.cf_lane.specs.Fate.{HaveFates}
 use Rattle.cf_lane.specs.Handled.{Does, Handled, Knows, State, judged}
 use Rattle.cf_lane.specs.Item.{Took}
-use Rattle.cf_lane.specs.Judged.{Judged, ends, has_ended, in_turn, is_admitted, is_refused}
+use Rattle.cf_lane.specs.Judged.{Judged, cut_of, ends, has_ended, is_admitted, is_refused, one_if}
+use Rattle.cf_lane.specs.Kept.{KnowsWire}
 use Rattle.cf_lane.specs.Log.{is_some_bytes, item_lines, lines, unit_lines, with_lines}
+use Rattle.cf_lane.specs.Numbers.{item_event}
 use Rattle.cf_lane.specs.Modbus.{HasAduFate, adu_output}
 use Rattle.cf_lane.specs.Output.{output, outputs}
 use Rattle.cf_lane.specs.Unit.{Adu}
@@ -20,15 +23,6 @@ use Rattle.std.proofs.lemmas.List.Sums.{sum_by-append}
 use Rattle.std.specs.List.{list_any}
 use Rattle.std.specs.Prelude.{count_by, ◌||◌}
 use Rattle.cf_view.specs.declared.Side.TheVariants as side
-
--- what items put out, and then what more items do
-pub in_turn-append : {X : Type 0} (put : List Judged → Judged → List X) (earlier js ks : List Judged) →
-    in_turn put earlier (js ++ ks) ≡ in_turn put earlier js ++ in_turn put (earlier ++ js) ks
-in_turn-append put earlier [] ks = ap (λ before. in_turn put before ks) (sym (append-nil earlier))
-in_turn-append put earlier (j ∷ js) ks =
-    ap (λ rest. put earlier j ++ rest) (in_turn-append put (earlier ++ j ∷ []) js ks)
-    ∙ sym (append_assoc (put earlier j) (in_turn put (earlier ++ j ∷ []) js) (in_turn put ((earlier ++ j ∷ []) ++ js) ks))
-    ∙ ap (λ before. (put earlier j ++ in_turn put (earlier ++ j ∷ []) js) ++ in_turn put before ks) (append_assoc earlier (j ∷ []) js)
 
 pub fates-append : (asset : Asset) (client : ℕ) (earlier js ks : List Judged) → HaveFates asset client earlier js → HaveFates asset client (earlier ++ js) ks →
     HaveFates asset client earlier (js ++ ks)
@@ -58,7 +52,7 @@ with_lines-both (Some all) xs ys = ap Some (append_assoc all xs ys)
 pub handled_none : (asset : Asset) (s : State) → Handled asset [] s s
 handled_none asset s = record {
   client = refl;
-  does = λ earlier knows. record {
+  does = λ earlier uncut knows. record {
     knows = subst (Knows asset s) (sym (append-nil earlier)) knows;
     fates = tt;
     of_client = sym (push-nothing s.to_client);
@@ -73,11 +67,11 @@ handled_none asset s = record {
 none-append : (xs ys zs : List ℕ) → xs ≡ ys ++ zs → ys ≡ [] → zs ≡ [] → xs ≡ []
 none-append xs ys zs e a b = rw (e, a, b) refl
 
-module _ (asset : Asset) (js ks : List Judged) (a b c : State) (first : Handled asset js a b) (then_ : Handled asset ks b c) where
-  more_does : (earlier : List Judged) → Knows asset a earlier → Does asset earlier (js ++ ks) a c
-  more_does earlier knows =
-      let one = first.does earlier knows in
-      let two = then_.does (earlier ++ js) one.knows in
+module _ (asset : Asset) (js ks : List Judged) (a b c : State) (uncut : cut_of js ≡ None) (first : Handled asset js a b) (then_ : Handled asset ks b c) where
+  more_does : (earlier : List Judged) → cut_of earlier ≡ None → Knows asset a earlier → Does asset earlier (js ++ ks) a c
+  more_does earlier before knows =
+      let one = first.does earlier before knows in
+      let two = then_.does (earlier ++ js) (cut_of-append earlier js before ∙ uncut) one.knows in
       let address : b.lane.client ≡ a.lane.client = first.client in
       record {
         knows = subst (Knows asset c) (append_assoc earlier js ks) two.knows;
@@ -105,10 +99,6 @@ module _ (asset : Asset) (js ks : List Judged) (a b c : State) (first : Handled 
   pub handled_more : Handled asset (js ++ ks) a c
   handled_more = record { client = then_.client ∙ first.client; does = more_does }
 
-abbrev pub one_if : Bool → ℕ
-one_if true = 1
-one_if false = 0
-
 single : (b : Bool) → 0 + cond b 1 0 ≡ one_if b
 single true = refl
 single false = refl
@@ -125,16 +115,29 @@ pub ended-more : (t : Side) (js : List Judged) (j : Judged) → ends t j.item �
 ended-more t js j here =
     list_any-append (λ i. ends t i.item) js (j ∷ []) ∙ ap (λ b. list_any (λ i. ends t i.item) js || (b || false)) here ∙ or-false (list_any (λ i. ends t i.item) js)
 
+adu_event : (s : Side) (a : AduValue) (f : Fate) (earlier : List Judged) → item_event earlier f (Took s (Adu a)) ≡ []
+adu_event side.Client a f earlier = refl
+adu_event side.Controller a f earlier = refl
+
+true-or : (b c : Bool) → b ≡ true → (b || c) ≡ true
+true-or true c e = refl
+true-or false c e = cc
+
+-- a side that has ended stays so
+pub ended_stays : (t : Side) (js : List Judged) (j : Judged) → has_ended t js ≡ true → has_ended t (js ++ j ∷ []) ≡ true
+ended_stays t js j e =
+    list_any-append (λ i. ends t i.item) js (j ∷ []) ∙ true-or (has_ended t js) (list_any (λ i. ends t i.item) (j ∷ [])) e
+
 module _ (asset : Asset) (moment : ℕ) (s : Side) (a : AduValue) (f : Fate) (old new : State) (has : HasAduFate asset old.lane.client.address s a f)
-    (client : new.lane.client ≡ old.lane.client)
+    (client : new.lane.client ≡ old.lane.client) (wire : new.lane.wire ≡ old.lane.wire)
     (admitted : new.lane.admitted ≡ old.lane.admitted + one_if (is_admitted f)) (refused : new.lane.refused ≡ old.lane.refused + one_if (is_refused f))
     (of_client : new.to_client ≡ after_push old.to_client (adu_output side.Client old.to_client.ended s f a))
     (of_controller : new.to_controller ≡ after_push old.to_controller (adu_output side.Controller old.to_client.ended s f a))
     (of_lines : new.lines ≡ with_lines old.lines (unit_lines asset old.lane.client moment (is_some_bytes (adu_output side.Client old.to_client.ended s f a)) s (spelling a) f))
     (client_quiet : old.to_client.ended ≡ true → adu_output side.Client old.to_client.ended s f a ≡ [])
     (controller_quiet : old.to_controller.ended ≡ true → adu_output side.Controller old.to_client.ended s f a ≡ []) where
-  adu_does : (earlier : List Judged) → Knows asset old earlier → Does asset earlier (judged moment (Took s (Adu a)) f ∷ []) old new
-  adu_does earlier knows =
+  adu_does : (earlier : List Judged) → cut_of earlier ≡ None → Knows asset old earlier → Does asset earlier (judged moment (Took s (Adu a)) f ∷ []) old new
+  adu_does earlier before knows =
       let j : Judged = judged moment (Took s (Adu a)) f in
       let e = knows.client_ended in
       let nil = λ (to : Side). sym (append-nil (adu_output to (has_ended side.Controller earlier) s f a)) in
@@ -144,6 +147,8 @@ module _ (asset : Asset) (moment : ℕ) (s : Side) (a : AduValue) (f : Fate) (ol
           refused = refused ∙ ap (λ n. n + one_if (is_refused f)) knows.refused ∙ sym (count-more (λ i. is_refused i.fate) earlier j);
           client_ended = ap (λ (q : Queue). q.ended) of_client ∙ e ∙ sym (ended-more side.Controller earlier j refl);
           controller_ended = ap (λ (q : Queue). q.ended) of_controller ∙ knows.controller_ended ∙ sym (ended-more side.Client earlier j refl);
+          wire = λ c. subst (λ w. KnowsWire asset w (earlier ++ j ∷ [])) (sym wire)
+              (wire_stays asset earlier j (λ t. refl) (λ t. refl) (adu_event s a f earlier) old.lane.wire (knows.wire before));
         };
         fates = (has, tt);
         of_client = of_client ∙ ap (λ b. after_push old.to_client (adu_output side.Client b s f a)) e ∙ ap (after_push old.to_client) (nil side.Client);

@@ -1,13 +1,15 @@
 -- Laws of lanes over histories.
 use Rattle.cf_audit.specs.declared.line.CutReason.{CutReason}
-use Rattle.cf_lane.proofs.Handling.{count-more, ended-more, fates-append, handled_more, handled_none, in_turn-append, push-nothing, with_lines-both, with_lines-nothing}
-use Rattle.cf_lane.proofs.Pieces.{covers_rest, starts_within, units_pieces}
+use Rattle.cf_lane.proofs.Earlier.{cut_of-append, first_none, in_turn-append}
+use Rattle.cf_lane.proofs.Handling.{count-more, ended-more, fates-append, handled_more, handled_none, push-nothing, with_lines-both, with_lines-nothing}
+use Rattle.cf_lane.proofs.Pieces.{covers_rest, starts_join, starts_within, units_pieces}
 use Rattle.cf_lane.specs.Fate.{HaveFates}
-use Rattle.cf_lane.specs.Follows.{AreJudged, AreRests, Began, FailsWithin, Follows, GoesOn, GoesOnAfter, IsRest, Rests, no_rests, rest_of, with_rest}
-use Rattle.cf_lane.specs.Handled.{Breaks, Does, Handled, Misses, State, TakesUnit, judged, state}
+use Rattle.cf_lane.specs.Follows.{AddsTo, AreJudged, AreRests, Began, BeganWithin, FailsApart, FailsWithin, Follows, GoesOn, GoesOnAfter, IsRest, Rests, no_rests, over, rest_of, with_rest}
+use Rattle.cf_lane.specs.Handled.{Breaks, Does, Handled, Knows, LaneValue, Misses, State, TakesUnit, judged, state}
 use Rattle.cf_lane.specs.History.{Element, bytes_at, bytes_in, bytes_of, end_at, letters_at}
 use Rattle.cf_lane.specs.Item.{AreItems, Broke, Completes, Placed, Took, last_items, placed}
 use Rattle.cf_lane.specs.Judged.{Judged, cut_by, cut_of, has_ended, in_turn, is_admitted, is_refused, place_of}
+use Rattle.cf_lane.specs.Kept.{KnowsWire}
 use Rattle.cf_lane.specs.Log.{item_lines, lines, with_lines}
 use Rattle.cf_lane.specs.Output.{other, output, outputs, stream_to}
 use Rattle.cf_lane.specs.Unit.{AreUnits, Left, SpellsUnit, Tail, UnitValue, Wrong, unit_break}
@@ -16,7 +18,7 @@ use Rattle.cf_policy.specs.declared.Asset.{Asset}
 use Rattle.cf_policy.specs.declared.Protocol.{Protocol}
 use Rattle.cf_stream.specs.Stream.{Stream, no_letters, with_bytes, with_end}
 use Rattle.cf_view.proofs.Units.{begins_with_more}
-use Rattle.cf_view.specs.Framing.{IsPartial, IsPrefixFree}
+use Rattle.cf_view.specs.Framing.{Begins, IsPartial, IsPrefixFree}
 use Rattle.cf_view.specs.Units.{BeginsWithUnits}
 use Rattle.cf_view.specs.declared.Break.{Break}
 use Rattle.cf_view.specs.declared.Endpoint.{Endpoint}
@@ -25,6 +27,7 @@ use Rattle.std.proofs.Common.{Bool, List, None, Option, Some, [], ap, append_ass
 use Rattle.std.proofs.Math.Seq.{drop-append_seam, take-add, take-append_seam}
 use Rattle.std.proofs.lemmas.Grind.{common_steps}
 use Rattle.std.proofs.lemmas.List.{append-nil, drop-drop, map-append}
+use Rattle.std.specs.List.{concat}
 use Rattle.std.specs.Option.{option_or}
 use Rattle.cf_audit.specs.declared.line.CutReason.TheVariants as cut
 use Rattle.cf_lane.specs.declared.fate.Fate.TheVariants as fate
@@ -59,10 +62,6 @@ goes_by : (c : Option CutReason) (later : List Judged) (going : Type 0) → c �
 goes_by None later going e g = g
 goes_by (Some r) later going e g = cc
 
-first_none : (c d : Option CutReason) → option_or c d ≡ None → (c ≡ None) × (d ≡ None)
-first_none None d e = (refl, e)
-first_none (Some r) d e = cc
-
 pub nothing_dropped : (js : List Judged) (dropped : List Placed) → cut_of js ≡ None → GoesOn js dropped → dropped ≡ []
 nothing_dropped [] dropped e g = g
 nothing_dropped (j ∷ js) dropped e g =
@@ -78,12 +77,6 @@ goes_more [] ks dropped e g = g
 goes_more (j ∷ js) ks dropped e g =
     let both = first_none (cut_by j.fate) (cut_of js) e in
     to_going (cut_by j.fate) (js ++ ks) (GoesOn (js ++ ks) dropped) both.0 (goes_more js ks dropped both.1 g)
-
-pub cut_of-append : (js ks : List Judged) → cut_of js ≡ None → cut_of (js ++ ks) ≡ cut_of ks
-cut_of-append [] ks e = refl
-cut_of-append (j ∷ js) ks e =
-    let both = first_none (cut_by j.fate) (cut_of js) e in
-    ap (λ c. option_or c (cut_of (js ++ ks))) both.0 ∙ cut_of-append js ks both.1
 
 bool_is : (b : Bool) → (b ≡ true) ⊎ (b ≡ false)
 bool_is true = inl refl
@@ -128,7 +121,7 @@ module _ (asset : Asset) (h : List Element) (rests : Rests) (first : Option (Lis
     (units : List UnitValue) (tail : Tail) (are : AreUnits asset.protocol bytes units tail)
     (js : List Judged) (dropped : List Placed)
     (are_js : map (placed moment) (map (Took s) units ++ last_items s ended tail) ≡ map place_of js ++ dropped)
-    (goes : GoesOn js dropped) (handled : Handled asset js old new) where
+    (goes : GoesOn js dropped) (client : new.lane.client ≡ old.lane.client) (does : Does asset f.judged js old new) where
   abbrev e : Element
   e = letters_at moment s piece ended
 
@@ -151,9 +144,6 @@ module _ (asset : Asset) (h : List Element) (rests : Rests) (first : Option (Lis
   completes : Completes asset.protocol h e now
   completes = record { before = rest_before.units; was = Left (rest_of s rests); more = units; tail = tail; were = rest_before.cut; are = units_now; is_items = refl }
 
-  does : Does asset before js old new
-  does = handled.does before f.knows
-
   items_before : f.are_judged.items ≡ map place_of before
   items_before =
       f.are_judged.are_first ∙ ap (λ xs. map place_of before ++ xs) (nothing_dropped before f.are_judged.dropped f.is_cut f.are_judged.goes_on)
@@ -167,7 +157,7 @@ module _ (asset : Asset) (h : List Element) (rests : Rests) (first : Option (Lis
     are_first = ap (λ xs. xs ++ now) items_before ∙ ap (λ xs. map place_of before ++ xs) are_js
         ∙ sym (append_assoc (map place_of before) (map place_of js) dropped) ∙ ap (λ xs. xs ++ dropped) (sym (map-append place_of before js));
     goes_on = goes_more before js dropped f.is_cut goes;
-    fates = subst (λ (c : Endpoint). HaveFates asset c.address [] (before ++ js)) (sym handled.client)
+    fates = subst (λ (c : Endpoint). HaveFates asset c.address [] (before ++ js)) (sym client)
         (fates-append asset old.lane.client.address [] before js f.are_judged.fates does.fates);
   }
 
@@ -201,26 +191,51 @@ module _ (asset : Asset) (h : List Element) (rests : Rests) (first : Option (Lis
     of_lines = does.of_lines ∙ ap (λ t. with_lines t (lines asset old.lane.client before js)) f.of_lines
         ∙ with_lines-both first (lines asset old.lane.client [] before) (lines asset old.lane.client before js)
         ∙ ap (with_lines first) (sym (in_turn-append (λ b j. item_lines asset old.lane.client b j j.item) [] before js))
-        ∙ ap (λ c. with_lines first (lines asset c [] (before ++ js))) (sym handled.client);
+        ∙ ap (λ c. with_lines first (lines asset c [] (before ++ js))) (sym client);
   }
 
-  -- a log that has the lines of the first of these items has the first lines of the history
-  pub fed_began : (fore later : List Judged) (log : Option (List (List ℕ))) → js ≡ fore ++ later → log ≡ with_lines old.lines (lines asset old.lane.client before fore) →
-      Began asset old.lane.client (h ++ e ∷ []) first log
-  fed_began fore later log parts is =
+  -- a log that has the lines of the first of these items, and a beginning of those of the others, has the first lines of the
+  -- history
+  pub fed_began : (fore later : List Judged) (log : Option (List (List ℕ))) (part : List ℕ) (k : ℕ) → js ≡ fore ++ later →
+      log ≡ with_lines old.lines (lines asset old.lane.client before fore) → part ≡ take k (concat (lines asset old.lane.client (before ++ fore) later)) →
+      Began asset old.lane.client (h ++ e ∷ []) first log part
+  fed_began fore later log part k parts is begins =
       let put : List Judged → Judged → List (List ℕ) = λ b j. item_lines asset old.lane.client b j j.item in
       let some = lines asset old.lane.client [] (before ++ fore) in
+      let more = in_turn put (before ++ fore) later in
+      let all : some ++ more ≡ lines asset old.lane.client [] (before ++ js) =
+      sym (in_turn-append put [] (before ++ fore) later)
+      ∙ ap (lines asset old.lane.client []) (append_assoc before fore later ∙ ap (λ xs. before ++ xs) (sym parts)) in
       record {
         judged = before ++ js;
-        are_judged = subst (λ (c : Endpoint). AreJudged asset c.address (h ++ e ∷ []) (before ++ js)) handled.client are_judged_now;
+        are_judged = subst (λ (c : Endpoint). AreJudged asset c.address (h ++ e ∷ []) (before ++ js)) client are_judged_now;
         count = length some;
         of_lines = is ∙ ap (λ t. with_lines t (lines asset old.lane.client before fore)) f.of_lines
             ∙ with_lines-both first (lines asset old.lane.client [] before) (lines asset old.lane.client before fore)
-            ∙ ap (with_lines first) (sym (in_turn-append put [] before fore)
-            ∙ sym (take-append_seam some (in_turn put (before ++ fore) later))
-            ∙ ap (take (length some)) (sym (in_turn-append put [] (before ++ fore) later))
-            ∙ ap (λ xs. take (length some) (lines asset old.lane.client [] xs)) (append_assoc before fore later ∙ ap (λ xs. before ++ xs) (sym parts)));
+            ∙ ap (with_lines first) (sym (in_turn-append put [] before fore) ∙ sym (take-append_seam some more) ∙ ap (take (length some)) all);
+        some = k;
+        of_part = begins ∙ ap (λ xs. take k (concat xs)) (sym (drop-append_seam some more) ∙ ap (drop (length some)) all);
       }
+
+-- what is known of earlier items does not read the log
+pub knows_over : (asset : Asset) (own : Option (List (List ℕ))) (s : State) (earlier : List Judged) → Knows asset (over own s) earlier → Knows asset s earlier
+knows_over asset own s earlier k = record { admitted = k.admitted; refused = k.refused; client_ended = k.client_ended; controller_ended = k.controller_ended; wire = k.wire }
+
+over_knows : (asset : Asset) (own : Option (List (List ℕ))) (s : State) (earlier : List Judged) → Knows asset s earlier → Knows asset (over own s) earlier
+over_knows asset own s earlier k = record { admitted = k.admitted; refused = k.refused; client_ended = k.client_ended; controller_ended = k.controller_ended; wire = k.wire }
+
+-- and items do the same over another log
+does_over : (asset : Asset) (own : Option (List (List ℕ))) (earlier js : List Judged) (old new : State) → Does asset earlier js old new →
+    Does asset earlier js (over own old) (over (with_lines own (lines asset old.lane.client earlier js)) new)
+does_over asset own earlier js old new d = record {
+  knows = over_knows asset (with_lines own (lines asset old.lane.client earlier js)) new (earlier ++ js) d.knows;
+  fates = d.fates;
+  of_client = d.of_client;
+  of_controller = d.of_controller;
+  of_lines = refl;
+  client_quiet = d.client_quiet;
+  controller_quiet = d.controller_quiet;
+}
 
 -- units handled so far at the front of bytes, each of them one item that does not cut
 pub record Along (asset : Asset) (moment : ℕ) (s : Side) (bytes : List ℕ) (used : ℕ) (old now : State) : Type 0 where
@@ -247,7 +262,7 @@ along_more asset moment s bytes at used old now new a t =
           ∙ sym (map-append (placed moment) (map (Took s) a.units) (Took s t.unit ∷ []))
           ∙ ap (map (placed moment)) (sym (map-append (Took s) a.units (t.unit ∷ [])));
       uncut = cut_of-append a.js (j ∷ []) a.uncut ∙ ap (λ c. option_or c None) t.is_cut;
-      handled = handled_more asset a.js (j ∷ []) old now new a.handled t.handled;
+      handled = handled_more asset a.js (j ∷ []) old now new a.uncut a.handled t.handled;
     }
 
 goes_none : (js : List Judged) → cut_of js ≡ None → GoesOn js []
@@ -259,12 +274,13 @@ handled_break : (asset : Asset) (moment : ℕ) (s : Side) (b : Break) (now : Sta
     Handled asset (judged moment (Broke s b) (fate.Cuts (cut.Framing s b)) ∷ []) now now
 handled_break asset moment s b now = record {
   client = refl;
-  does = λ earlier knows. record {
+  does = λ earlier before knows. record {
     knows = record {
       admitted = knows.admitted ∙ sym (count-more (λ i. is_admitted i.fate) earlier (judged moment (Broke s b) (fate.Cuts (cut.Framing s b))) ∙ omega arith);
       refused = knows.refused ∙ sym (count-more (λ i. is_refused i.fate) earlier (judged moment (Broke s b) (fate.Cuts (cut.Framing s b))) ∙ omega arith);
       client_ended = knows.client_ended ∙ sym (ended-more side.Controller earlier (judged moment (Broke s b) (fate.Cuts (cut.Framing s b))) refl);
       controller_ended = knows.controller_ended ∙ sym (ended-more side.Client earlier (judged moment (Broke s b) (fate.Cuts (cut.Framing s b))) refl);
+      wire = λ e. cc (e, cut_of-append earlier (judged moment (Broke s b) (fate.Cuts (cut.Framing s b)) ∷ []) before);
     };
     fates = (refl, tt);
     of_client = sym (push-nothing now.to_client);
@@ -275,51 +291,68 @@ handled_break asset moment s b now = record {
   };
 }
 
-module _ (asset : Asset) (h : List Element) (rests : Rests) (first : Option (List (List ℕ))) (moment : ℕ) (s : Side) (piece bytes : List ℕ) (used : ℕ) (old now : State)
-    (is : bytes ≡ rest_of s rests ++ piece) (f : Follows asset h rests None first old) (a : Along asset moment s bytes used old now) where
+module _ (asset : Asset) (h : List Element) (rests : Rests) (first own : Option (List (List ℕ))) (moment : ℕ) (s : Side) (piece bytes : List ℕ) (used : ℕ) (old now : State)
+    (is : bytes ≡ rest_of s rests ++ piece) (f : Follows asset h rests None first (over own old)) (a : Along asset moment s bytes used old now) where
+  does_now : Does asset f.judged a.js old now
+  does_now = a.handled.does f.judged f.is_cut (knows_over asset own old f.judged f.knows)
+
   -- the bytes are used up to a proper prefix of a unit
   pub fed_whole : IsPartial (SpellsUnit asset.protocol) (drop used bytes) →
-      Follows asset (h ++ bytes_at moment s piece ∷ []) (with_rest s rests (drop used bytes)) None first now
+      AddsTo asset (h ++ bytes_at moment s piece ∷ []) (with_rest s rests (drop used bytes)) None first own old.lines now
   fed_whole partial =
       let left = drop used bytes in
+      let more = lines asset old.lane.client f.judged a.js in
+      let old' = over own old in
+      let now' = over (with_lines own more) now in
+      let does = does_over asset own f.judged a.js old now does_now in
       let are : AreUnits asset.protocol bytes a.units (Left left) = record { starts = a.starts; partial = partial } in
       let are_js : map (placed moment) (map (Took s) a.units ++ []) ≡ map place_of a.js ++ [] =
       ap (map (placed moment)) (append-nil (map (Took s) a.units)) ∙ sym a.are_js ∙ sym (append-nil (map place_of a.js)) in
       let goes = goes_none a.js a.uncut in
       let r : IsRest asset.protocol (bytes_of s (h ++ bytes_at moment s piece ∷ [])) left = record {
-        units = (rest_before asset h rests first moment s piece bytes false old now is f a.units (Left left) are a.js [] are_js goes a.handled).units ++ a.units;
-        cut = units_now asset h rests first moment s piece bytes false old now is f a.units (Left left) are a.js [] are_js goes a.handled;
+        units = (rest_before asset h rests first moment s piece bytes false old' now' is f a.units (Left left) are a.js [] are_js goes a.handled.client does).units ++ a.units;
+        cut = units_now asset h rests first moment s piece bytes false old' now' is f a.units (Left left) are a.js [] are_js goes a.handled.client does;
       } in
-      fed asset h rests first moment s piece bytes false old now is f a.units (Left left) are a.js [] are_js goes a.handled
-      (with_rest s rests left) None a.uncut (rests_more asset.protocol h rests s moment piece left false f.are_rests r)
+      record {
+        more = more;
+        added = does_now.of_lines;
+        follows = fed asset h rests first moment s piece bytes false old' now' is f a.units (Left left) are a.js [] are_js goes a.handled.client does
+            (with_rest s rests left) None a.uncut (rests_more asset.protocol h rests s moment piece left false f.are_rests r);
+      }
 
   -- or up to an octet that no unit has there
   pub fed_broken : (ended : Bool) (reason : CutReason) → Breaks asset s (drop used bytes) reason →
-      Follows asset (h ++ letters_at moment s piece ended ∷ []) (with_rest s rests (drop used bytes)) (Some reason) first now
+      AddsTo asset (h ++ letters_at moment s piece ended ∷ []) (with_rest s rests (drop used bytes)) (Some reason) first own old.lines now
   fed_broken ended reason b =
       let broken = unit_break asset.protocol b.place in
       let j : Judged = judged moment (Broke s broken) (fate.Cuts (cut.Framing s broken)) in
+      let all : Handled asset (a.js ++ j ∷ []) old now = handled_more asset a.js (j ∷ []) old now now a.uncut a.handled (handled_break asset moment s broken now) in
+      let does = all.does f.judged f.is_cut (knows_over asset own old f.judged f.knows) in
+      let more = lines asset old.lane.client f.judged (a.js ++ j ∷ []) in
       let are : AreUnits asset.protocol bytes a.units (Wrong broken) =
       (b.place, record { rest = drop used bytes; starts = a.starts; breaks = b.breaks }, refl) in
       let are_js : map (placed moment) (map (Took s) a.units ++ Broke s broken ∷ []) ≡ map place_of (a.js ++ j ∷ []) ++ [] =
       map-append (placed moment) (map (Took s) a.units) (Broke s broken ∷ []) ∙ ap (λ xs. xs ++ placed moment (Broke s broken) ∷ []) (sym a.are_js)
       ∙ sym (map-append place_of a.js (j ∷ [])) ∙ sym (append-nil (map place_of (a.js ++ j ∷ []))) in
-      fed asset h rests first moment s piece bytes ended old now is f a.units (Wrong broken) are (a.js ++ j ∷ []) [] are_js
-      (goes_more a.js (j ∷ []) [] a.uncut refl)
-      (handled_more asset a.js (j ∷ []) old now now a.handled (handled_break asset moment s broken now))
-      (with_rest s rests (drop used bytes)) (Some reason) (cut_of-append a.js (j ∷ []) a.uncut ∙ ap Some (sym b.is_reason)) tt
+      record {
+        more = more;
+        added = does.of_lines;
+        follows = fed asset h rests first moment s piece bytes ended (over own old) (over (with_lines own more) now) is f a.units (Wrong broken) are (a.js ++ j ∷ []) [] are_js
+            (goes_more a.js (j ∷ []) [] a.uncut refl) all.client (does_over asset own f.judged (a.js ++ j ∷ []) old now does)
+            (with_rest s rests (drop used bytes)) (Some reason) (cut_of-append a.js (j ∷ []) a.uncut ∙ ap Some (sym b.is_reason)) tt;
+      }
 
 -- the line of a unit failed
 module _ (asset : Asset) (free : IsPrefixFree (SpellsUnit asset.protocol)) (nothing : IsPartial (SpellsUnit asset.protocol) []) (moment : ℕ) (s : Side) (bytes : List ℕ) (used : ℕ)
-    (old mid : State) (log : Option (List (List ℕ))) (a : Along asset moment s bytes used old mid) (m : Misses asset moment s (drop used bytes) mid log) where
+    (old mid : State) (log : Option (List (List ℕ))) (part : List ℕ) (a : Along asset moment s bytes used old mid) (m : Misses asset moment s (drop used bytes) mid log part) where
   abbrev reached : Along asset moment s bytes (used + m.used) old m.new
   reached = along_more asset moment s bytes used m.used old mid m.new a m.takes
 
   abbrev one : Judged
   one = judged moment (Took s m.takes.unit) m.takes.fate
 
-  pub fails_within : FailsWithin asset moment s bytes old log
-  fails_within h rests first piece is f =
+  pub fails_apart : FailsApart asset moment s bytes old log part
+  fails_apart h rests first own piece is f =
       let rest = rest_of s rests in
       let n = used + m.used in
       let units = a.units ++ m.takes.unit ∷ [] in
@@ -327,8 +360,8 @@ module _ (asset : Asset) (free : IsPrefixFree (SpellsUnit asset.protocol)) (noth
       let before = rest_by asset.protocol h rests s f.are_rests in
       let covers = covers_rest (SpellsUnit asset.protocol) free a.units m.takes.unit rest piece n before.cut.partial (subst P is reached.starts) in
       let k = n - length rest in
-      let part = take k piece in
-      let whole : take n bytes ≡ rest ++ part =
+      let front = take k piece in
+      let whole : take n bytes ≡ rest ++ front =
       ap (take n) is ∙ ap (λ i. take i (rest ++ piece)) (omega (arith, covers)) ∙ take-add (length rest) k (rest ++ piece)
       ∙ ap (λ xs. xs ++ take k (drop (length rest) (rest ++ piece))) (take-append_seam rest piece)
       ∙ ap (λ xs. rest ++ take k xs) (drop-append_seam rest piece) in
@@ -340,30 +373,117 @@ module _ (asset : Asset) (free : IsPrefixFree (SpellsUnit asset.protocol)) (noth
       let are_js : map (placed moment) (map (Took s) units ++ []) ≡ map place_of (a.js ++ one ∷ []) ++ [] =
       ap (map (placed moment)) (append-nil (map (Took s) units)) ∙ sym reached.are_js ∙ sym (append-nil (map place_of (a.js ++ one ∷ []))) in
       let goes = goes_none (a.js ++ one ∷ []) reached.uncut in
+      let knows = knows_over asset own old f.judged f.knows in
+      let does = a.handled.does f.judged f.is_cut knows in
+      let both = reached.handled.does f.judged f.is_cut knows in
+      let uncut = cut_of-append f.judged a.js f.is_cut ∙ a.uncut in
+      let some = lines asset old.lane.client f.judged a.js in
+      let every = lines asset old.lane.client f.judged (a.js ++ one ∷ []) in
+      let more : lines asset old.lane.client (f.judged ++ a.js) (one ∷ []) ≡ m.more =
+      ap (λ c. lines asset c (f.judged ++ a.js) (one ∷ [])) (sym a.handled.client) ∙ m.are_more (f.judged ++ a.js) uncut does.knows in
+      let last : some ++ m.more ≡ every =
+      ap (λ xs. some ++ xs) (sym more) ∙ sym (in_turn-append (λ b j. item_lines asset old.lane.client b j j.item) f.judged a.js (one ∷ [])) in
+      let new = over (with_lines own every) m.new in
+      let does' = does_over asset own f.judged (a.js ++ one ∷ []) old m.new both in
+      elim m.line [
+        | inl none ↦ record {
+          more = some;
+          added = none.0 ∙ does.of_lines;
+          began = record {
+            handled = front;
+            rest = drop k piece;
+            piece_is = sym (take-append-drop k piece);
+            began = fed_began asset h rests first moment s front (take n bytes) false (over own old) new whole f units (Left []) are (a.js ++ one ∷ []) [] are_js goes reached.handled.client does'
+                a.js (one ∷ []) (with_lines own some) part none.1.0 refl refl (none.1.1 ∙ ap (λ xs. take none.1.0 (concat xs)) (sym more));
+          };
+        }
+        | inr all ↦ record {
+          more = every;
+          added = all.0 ∙ ap (λ t. with_lines t m.more) does.of_lines ∙ with_lines-both old.lines some m.more ∙ ap (with_lines old.lines) last;
+          began = record {
+            handled = front;
+            rest = drop k piece;
+            piece_is = sym (take-append-drop k piece);
+            began = fed_began asset h rests first moment s front (take n bytes) false (over own old) new whole f units (Left []) are (a.js ++ one ∷ []) [] are_js goes reached.handled.client does'
+                (a.js ++ one ∷ []) [] (with_lines own every) part 0 (sym (append-nil (a.js ++ one ∷ []))) refl all.1;
+          };
+        }
+      ]
+
+-- what holds of lines of its own holds of the whole log
+pub of_whole_log : (asset : Asset) (h : List Element) (rests : Rests) (cut : Option CutReason) (first : Option (List (List ℕ))) (old now : State) →
+    AddsTo asset h rests cut first old.lines old.lines now → Follows asset h rests cut first now
+of_whole_log asset h rests cut first old now a =
+    subst (λ (log : Option (List (List ℕ))). Follows asset h rests cut first (over log now)) (sym a.added) a.follows
+
+pub fails_of_whole : (asset : Asset) (moment : ℕ) (s : Side) (bytes : List ℕ) (old : State) (log : Option (List (List ℕ))) (part : List ℕ) →
+    FailsApart asset moment s bytes old log part → FailsWithin asset moment s bytes old log part
+fails_of_whole asset moment s bytes old log part fails h rests first piece is f =
+    let a = fails h rests first old.lines piece is f in
+    subst (λ l. BeganWithin asset old.lane.client h moment s piece first l part) (sym a.added) a.began
+
+-- one more unit in front
+unit_before : (p : Protocol) (u : UnitValue) (n : ℕ) (xs : List ℕ) (us : List UnitValue) (t : Tail) → Begins (SpellsUnit p) xs u n → AreUnits p (drop n xs) us t →
+    AreUnits p xs (u ∷ us) t
+unit_before p u n xs us (Left r) b a = record { starts = (n, b, a.starts); partial = a.partial }
+unit_before p u n xs us (Wrong w) b a = (a.0, record { rest = a.1.rest; starts = (n, b, a.1.starts); breaks = a.1.breaks }, a.2)
+
+units_behind : (p : Protocol) (us vs : List UnitValue) (xs rest : List ℕ) (t : Tail) → BeginsWithUnits (SpellsUnit p) us xs rest → AreUnits p rest vs t →
+    AreUnits p xs (us ++ vs) t
+units_behind p us vs xs rest (Left r) s a = record { starts = starts_join (SpellsUnit p) us vs xs rest r s a.starts; partial = a.partial }
+units_behind p us vs xs rest (Wrong w) s a =
+    (a.0, record { rest = a.1.rest; starts = starts_join (SpellsUnit p) us vs xs rest a.1.rest s a.1.starts; breaks = a.1.breaks }, a.2)
+
+goes_cut : (c : Option CutReason) (r : CutReason) (P : Type 0) → c ≡ Some r → GoesOnAfter c [] P
+goes_cut None r P e = cc
+goes_cut (Some x) r P e = refl
+
+module _ (asset : Asset) (h : List Element) (rests : Rests) (first own : Option (List (List ℕ))) (moment : ℕ) (s : Side) (piece bytes : List ℕ) (used n : ℕ) (old mid new : State)
+    (is : bytes ≡ rest_of s rests ++ piece) (f : Follows asset h rests None first (over own old)) (a : Along asset moment s bytes used old mid) where
+  -- units up to one that cuts: the bytes behind it have units, which are dropped, and so is an End behind them
+  pub fed_cut : (ended : Bool) (reason : CutReason) → TakesUnit asset moment s (drop used bytes) n (Some reason) mid new →
+      ((us : List UnitValue) × (t : Tail) × AreUnits asset.protocol (drop n (drop used bytes)) us t) → (rests' : Rests) →
+      AddsTo asset (h ++ letters_at moment s piece ended ∷ []) rests' (Some reason) first own old.lines new
+  fed_cut ended reason t exists rests' =
+      let us = exists.0 in
+      let tail = exists.1 in
+      let j : Judged = judged moment (Took s t.unit) t.fate in
+      let behind = map (Took s) us ++ last_items s ended tail in
+      let are : AreUnits asset.protocol bytes (a.units ++ t.unit ∷ us) tail =
+      units_behind asset.protocol a.units (t.unit ∷ us) bytes (drop used bytes) tail a.starts (unit_before asset.protocol t.unit n (drop used bytes) us tail t.begins exists.2) in
+      let items : map (Took s) (a.units ++ t.unit ∷ us) ++ last_items s ended tail ≡ map (Took s) a.units ++ Took s t.unit ∷ behind =
+      ap (λ xs. xs ++ last_items s ended tail) (map-append (Took s) a.units (t.unit ∷ us))
+      ∙ append_assoc (map (Took s) a.units) (Took s t.unit ∷ map (Took s) us) (last_items s ended tail) in
+      let are_js : map (placed moment) (map (Took s) (a.units ++ t.unit ∷ us) ++ last_items s ended tail) ≡ map place_of (a.js ++ j ∷ []) ++ map (placed moment) behind =
+      ap (map (placed moment)) items ∙ map-append (placed moment) (map (Took s) a.units) (Took s t.unit ∷ behind)
+      ∙ ap (λ xs. xs ++ placed moment (Took s t.unit) ∷ map (placed moment) behind) (sym a.are_js)
+      ∙ sym (append_assoc (map place_of a.js) (placed moment (Took s t.unit) ∷ []) (map (placed moment) behind))
+      ∙ ap (λ xs. xs ++ map (placed moment) behind) (sym (map-append place_of a.js (j ∷ []))) in
+      let all : Handled asset (a.js ++ j ∷ []) old new = handled_more asset a.js (j ∷ []) old mid new a.uncut a.handled t.handled in
+      let does = all.does f.judged f.is_cut (knows_over asset own old f.judged f.knows) in
+      let more = lines asset old.lane.client f.judged (a.js ++ j ∷ []) in
       record {
-        part = part;
-        rest = drop k piece;
-        piece_is = sym (take-append-drop k piece);
-        began = elim m.line [
-          | inl none ↦ fed_began asset h rests first moment s part (take n bytes) false old m.new whole f units (Left []) are (a.js ++ one ∷ []) [] are_js goes reached.handled
-              a.js (one ∷ []) log refl (none ∙ (a.handled.does f.judged f.knows).of_lines)
-          | inr all ↦ fed_began asset h rests first moment s part (take n bytes) false old m.new whole f units (Left []) are (a.js ++ one ∷ []) [] are_js goes reached.handled
-              (a.js ++ one ∷ []) [] log (sym (append-nil (a.js ++ one ∷ []))) (all ∙ (reached.handled.does f.judged f.knows).of_lines)
-        ];
+        more = more;
+        added = does.of_lines;
+        follows = fed asset h rests first moment s piece bytes ended (over own old) (over (with_lines own more) new) is f (a.units ++ t.unit ∷ us) tail are
+            (a.js ++ j ∷ []) (map (placed moment) behind) are_js
+            (goes_more a.js (j ∷ []) (map (placed moment) behind) a.uncut (goes_cut (cut_by t.fate) reason (GoesOn [] (map (placed moment) behind)) t.is_cut))
+            all.client (does_over asset own f.judged (a.js ++ j ∷ []) old new does)
+            rests' (Some reason) (cut_of-append a.js (j ∷ []) a.uncut ∙ ap (λ c. option_or c None) t.is_cut) tt;
       }
 
 -- at first nothing was taken
-pub follows_new : (asset : Asset) → IsPartial (SpellsUnit asset.protocol) [] → (client : Endpoint) (to_client to_controller : Queue) (first : Option (List (List ℕ))) →
-    IsQueueOf to_client no_letters → IsQueueOf to_controller no_letters →
-    Follows asset [] no_rests None first (state (record { client = client; admitted = 0; refused = 0 }) to_client to_controller first)
-follows_new asset nothing client to_client to_controller first c s =
+pub follows_new : (asset : Asset) → IsPartial (SpellsUnit asset.protocol) [] → (lane : LaneValue) → lane.admitted ≡ 0 → lane.refused ≡ 0 → KnowsWire asset lane.wire [] →
+    (to_client to_controller : Queue) (first : Option (List (List ℕ))) → IsQueueOf to_client no_letters → IsQueueOf to_controller no_letters →
+    Follows asset [] no_rests None first (state lane to_client to_controller first)
+follows_new asset nothing lane admitted refused wire to_client to_controller first c s =
     let r : IsRest asset.protocol [] [] = record { units = []; cut = record { starts = refl; partial = nothing } } in
     record {
       judged = [];
       are_judged = record { items = []; are_items = refl; dropped = []; are_first = refl; goes_on = refl; fates = tt };
       is_cut = refl;
       are_rests = (r, r);
-      knows = record { admitted = refl; refused = refl; client_ended = c.ended; controller_ended = s.ended };
+      knows = record { admitted = admitted; refused = refused; client_ended = c.ended; controller_ended = s.ended; wire = λ e. wire };
       client_stream = c;
       controller_stream = s;
       of_lines = sym (with_lines-nothing first);

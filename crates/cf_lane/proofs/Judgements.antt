@@ -2,8 +2,8 @@
 use Rattle.cf_audit.specs.declared.line.CutReason.{CutReason}
 use Rattle.cf_lane.proofs.Commands.{has_one_fate}
 use Rattle.cf_lane.proofs.Histories.{bytes_of-append}
-use Rattle.cf_lane.proofs.ModbusUnits.{free_unit}
 use Rattle.cf_lane.proofs.Pieces.{units_stay}
+use Rattle.cf_lane.proofs.Units.{free_unit}
 use Rattle.cf_lane.specs.Fate.{HasItemFate, HasUnitFate, HaveFates}
 use Rattle.cf_lane.specs.Follows.{GoesOn, GoesOnAfter}
 use Rattle.cf_lane.specs.History.{Element, bytes_at, bytes_in, bytes_of, letters_at}
@@ -153,7 +153,8 @@ module _ (p : Protocol) (free : IsPrefixFree (SpellsUnit p)) (earlier : List Ele
       }
 
 pub pieces_join : PiecesJoin
-pieces_join p earlier later m s xs ys ended items free a =
+pieces_join p earlier later m s xs ys ended items a =
+    let free = free_unit p in
     let rest = a.3 in
     let both = join p free earlier m s xs ys ended a.0 rest.0 a.2 rest.2 in (
       a.0 ++ rest.0,
@@ -207,6 +208,6 @@ one_judged asset client earlier (j ∷ js) (k ∷ ks) ds es same x y a b =
     cc (same_one, rest)
 
 pub has_one_judgement : HasOneJudgement
-has_one_judgement asset client h js ks modbus a b =
-    let items = one_items asset.protocol (free_unit asset.protocol modbus) [] h a.items b.items a.are_items b.are_items in
+has_one_judgement asset client h js ks a b =
+    let items = one_items asset.protocol (free_unit asset.protocol) [] h a.items b.items a.are_items b.are_items in
     one_judged asset client [] js ks a.dropped b.dropped (sym a.are_first ∙ items ∙ b.are_first) a.fates b.fates a.goes_on b.goes_on

@@ -4,6 +4,7 @@ use Rattle.cf_audit.specs.declared.line.CutReason.{CutReason}
 use Rattle.cf_lane.proofs.Growth.{items_split}
 use Rattle.cf_lane.proofs.Histories.{bytes_of-append}
 use Rattle.cf_lane.proofs.Judgements.{one_units, pieces_join, same_bytes, same_earlier}
+use Rattle.cf_lane.proofs.Units.{free_unit}
 use Rattle.cf_lane.specs.Follows.{AreJudged, AreRests, IsRest, Rests}
 use Rattle.cf_lane.specs.History.{Element, bytes_at, bytes_in, bytes_of, end_at, letters_at}
 use Rattle.cf_lane.specs.Item.{AreItems, Completes, Placed, Took, last_after, placed}
@@ -24,10 +25,10 @@ items_both p earlier (e ∷ h) more is ks a b =
     (a.0, a.1 ++ ks, a.2, next, ap (λ zs. zs ++ ks) a.4 ∙ append_assoc a.0 a.1 ks)
 
 pub judged_join : JudgedJoin
-judged_join asset client earlier later m s xs ys ended js free a =
+judged_join asset client earlier later m s xs ys ended js a =
     let p = asset.protocol in
     let split = items_split p [] earlier (bytes_at m s xs ∷ letters_at m s ys ended ∷ later) a.items a.are_items in
-    let joined = pieces_join p earlier later m s xs ys ended split.1 free split.3 in
+    let joined = pieces_join p earlier later m s xs ys ended split.1 split.3 in
     let whole = items_both p [] earlier (letters_at m s (xs ++ ys) ended ∷ later) split.0 split.1 split.2 joined in
     record {
       items = a.items;
@@ -58,7 +59,8 @@ nothing_completes p free earlier m s now c =
     ∙ ap (λ t. map (placed m) (last_after c.was s false t)) (sym both.1) ∙ ap (map (placed m)) (nothing_last c.was s)
 
 pub nothing_taken : NothingTaken
-nothing_taken asset client earlier later m s js free a =
+nothing_taken asset client earlier later m s js a =
+    let free = free_unit asset.protocol in
     let p = asset.protocol in
     let split = items_split p [] earlier (bytes_at m s [] ∷ later) a.items a.are_items in
     let rest = split.3 in
@@ -82,10 +84,11 @@ rests_same p h k rests None same a =
 rests_same p h k rests (Some r) same a = tt
 
 pub end_joins : EndJoins
-end_joins asset h rests cut first now m s piece free f =
+end_joins asset h rests cut first now m s piece f =
+    let free = free_unit asset.protocol in
     let whole : List ℕ → List Element = λ xs. h ++ letters_at m s xs true ∷ [] in
     let parts = subst (λ (x : List Element). AreJudged asset now.lane.client.address x f.judged) (append_assoc h (bytes_at m s piece ∷ []) (end_at m s ∷ [])) f.are_judged in
-    let joined = judged_join asset now.lane.client.address h [] m s piece [] true f.judged free parts in
+    let joined = judged_join asset now.lane.client.address h [] m s piece [] true f.judged parts in
     let bytes = λ (t : Side). same_bytes asset.protocol free h m s piece [] true t in
     record {
       judged = f.judged;

@@ -1,7 +1,8 @@
 -- Laws of one unit, and of what a queue grows by.
+use Rattle.cf_lane.proofs.Earlier.{no_debt}
 use Rattle.cf_lane.proofs.Handling.{adu_handled, push-nothing, with_lines-nothing}
-use Rattle.cf_lane.proofs.ModbusUnits.{begins_unit, breaks_unit, unit_break_is}
-use Rattle.cf_lane.specs.Handled.{Breaks, Grows, HasRoom, IsOpen, State, TakesCommand, TakesUnit}
+use Rattle.cf_lane.proofs.Units.{adu_break_is, begins_adu, breaks_adu}
+use Rattle.cf_lane.specs.Handled.{Breaks, Grows, HasRoom, IsLaneOf, IsOpen, LaneValue, State, TakesCommand, TakesUnit, debt}
 use Rattle.cf_lane.specs.Log.{is_some_bytes, line_about, refusal_line, with_lines}
 use Rattle.cf_lane.specs.Modbus.{HasCommandFate, adu_reply}
 use Rattle.cf_lane.specs.Unit.{Adu}
@@ -25,7 +26,7 @@ admitted_reply : (b : Bool) (a : AduValue) → adu_reply b fate.Admitted a ≡ [
 admitted_reply true a = refl
 admitted_reply false a = refl
 
-module _ (asset : Asset) (moment : ℕ) (a : AduValue) (old new : State) (client : new.lane.client ≡ old.lane.client) where
+module _ (asset : Asset) (moment : ℕ) (a : AduValue) (old new : State) (client : new.lane.client ≡ old.lane.client) (wire : new.lane.wire ≡ old.lane.wire) where
   -- an admitted command goes on, and nothing else does
   pub takes_admitted : old.to_controller.ended ≡ false → HasCommandFate asset old.lane.client.address a fate.Admitted →
       new.lane.admitted ≡ old.lane.admitted + 1 → new.lane.refused ≡ old.lane.refused →
@@ -34,13 +35,13 @@ module _ (asset : Asset) (moment : ℕ) (a : AduValue) (old new : State) (client
   takes_admitted goes has admitted refused c s t = record {
     fate = fate.Admitted;
     uncut = refl;
-    handled = adu_handled asset moment side.Client a fate.Admitted old new has client admitted (refused ∙ omega arith)
+    handled = adu_handled asset moment side.Client a fate.Admitted old new has client wire admitted (refused ∙ omega arith)
         (c ∙ sym (push-nothing old.to_client) ∙ ap (after_push old.to_client) (sym (admitted_reply old.to_client.ended a)))
         s (t ∙ sym (with_lines-nothing old.lines)) (λ e. admitted_reply old.to_client.ended a) (λ e. cc (e, goes));
   }
 
   -- a refused command has its reply, where one may still go out, and its line
-  pub takes_refused : (r : Refusal) → HasCommandFate asset old.lane.client.address a (fate.Refused r) →
+  abbrev pub takes_refused : (r : Refusal) → HasCommandFate asset old.lane.client.address a (fate.Refused r) →
       new.lane.admitted ≡ old.lane.admitted → new.lane.refused ≡ old.lane.refused + 1 →
       new.to_client ≡ after_push old.to_client (adu_reply old.to_client.ended (fate.Refused r) a) → new.to_controller ≡ old.to_controller →
       new.lines ≡ with_lines old.lines (line_about asset old.lane.client moment
@@ -49,7 +50,7 @@ module _ (asset : Asset) (moment : ℕ) (a : AduValue) (old new : State) (client
   takes_refused r has admitted refused c s t = record {
     fate = fate.Refused r;
     uncut = refl;
-    handled = adu_handled asset moment side.Client a (fate.Refused r) old new has client (admitted ∙ omega arith) refused
+    handled = adu_handled asset moment side.Client a (fate.Refused r) old new has client wire (admitted ∙ omega arith) refused
         c (s ∙ sym (push-nothing old.to_controller)) t (λ e. ap (λ b. adu_reply b (fate.Refused r) a) e) (λ e. refl);
   }
 
@@ -70,6 +71,11 @@ grows_both m n c d e p q r a b = record {
 pub room_less : (m n : ℕ) (q : Queue) → n ≤ m → HasRoom m q → HasRoom n q
 room_less m n q l r = record { room = omega (arith, r.room, l); limit = omega (arith, r.limit, l) }
 
+-- a lane of Modbus has no debt, before a unit and after it
+pub grows_modbus : (asset : Asset) → asset.protocol ≡ protocol.Modbus → (old new : LaneValue) → IsLaneOf asset old → IsLaneOf asset new → (m : ℕ) (p q : Queue) →
+    Grows m 0 0 p q → Grows m (debt old) (debt new) p q
+grows_modbus asset modbus old new a b m p q g = rw (no_debt asset old modbus a, no_debt asset new modbus b) g
+
 -- the room that is left once a queue grew
 pub room_left : (m n d e : ℕ) (p q : Queue) → HasRoom (d + (m + n)) p → Grows m d e p q → HasRoom (e + n) q
 room_left m n d e p q r g = record { room = omega (arith, r.room, g.kept); limit = omega (arith, r.limit, g.pushed) }
@@ -83,11 +89,11 @@ module _ (a : AduValue) (xs : List ℕ) (n : ℕ) (b : Begins SpellsAdu xs a n) 
 
 module _ (asset : Asset) (modbus : asset.protocol ≡ protocol.Modbus) (moment : ℕ) (bytes : List ℕ) where
   -- a client's ADU is taken as a command
-  pub takes_client : (a : AduValue) (n : ℕ) (old new : State) → Begins SpellsAdu bytes a n → TakesCommand asset moment a old new →
+  abbrev pub takes_client : (a : AduValue) (n : ℕ) (old new : State) → Begins SpellsAdu bytes a n → TakesCommand asset moment a old new →
       TakesUnit asset moment side.Client bytes n None old new
   takes_client a n old new b t = record {
     unit = Adu a;
-    begins = begins_unit asset.protocol modbus bytes a n b;
+    begins = begins_adu asset.protocol modbus bytes a n b;
     some_bytes = omega (arith, adu_least a bytes n b);
     fate = t.fate;
     is_cut = t.uncut;
@@ -100,11 +106,11 @@ module _ (asset : Asset) (modbus : asset.protocol ≡ protocol.Modbus) (moment :
       Begins SpellsAdu bytes a n → TakesUnit asset moment side.Controller bytes n None old new
   takes_controller a n old new goes lane c s t b = record {
     unit = Adu a;
-    begins = begins_unit asset.protocol modbus bytes a n b;
+    begins = begins_adu asset.protocol modbus bytes a n b;
     some_bytes = omega (arith, adu_least a bytes n b);
     fate = fate.Carried;
     is_cut = refl;
-    handled = adu_handled asset moment side.Controller a fate.Carried old new refl (ap (λ l. l.client) lane)
+    handled = adu_handled asset moment side.Controller a fate.Carried old new refl (ap (λ l. l.client) lane) (ap (λ l. l.wire) lane)
         (ap (λ l. l.admitted) lane ∙ omega arith) (ap (λ l. l.refused) lane ∙ omega arith)
         c (s ∙ sym (push-nothing old.to_controller)) (t ∙ sym (with_lines-nothing old.lines)) (λ e. cc (e, goes)) (λ e. refl);
   }
@@ -112,8 +118,8 @@ module _ (asset : Asset) (modbus : asset.protocol ≡ protocol.Modbus) (moment :
   pub breaks_by : (s : Side) (reason : Break) → ((i : ℕ) × BreaksAt SpellsAdu bytes i × (reason ≡ mbap_break i)) → Breaks asset s bytes (cut.Framing s reason)
   breaks_by s reason b = record {
     place = b.0;
-    breaks = breaks_unit asset.protocol modbus bytes b.0 b.1;
-    is_reason = ap (cut.Framing s) (b.2 ∙ unit_break_is asset.protocol modbus b.0);
+    breaks = breaks_adu asset.protocol modbus bytes b.0 b.1;
+    is_reason = ap (cut.Framing s) (b.2 ∙ adu_break_is asset.protocol modbus b.0);
   }
 
   -- the same of the side that it is

@@ -21,7 +21,7 @@ use Rattle.cf_policy.specs.declared.Asset.{Asset}
 use Rattle.cf_view.specs.declared.Reason.{Reason}
 use Rattle.cf_view.specs.declared.Side.{Side}
 use Rattle.std.specs.List.{flat_map, sum_by}
-use Rattle.std.specs.Prelude.{Bool, Err, List, None, Ok, Option, Result, Some, [], false, if◌then◌else◌, is_some, length, nat_eq, nat_lt, not, reverse, slice_index, true, ℕ, ◌%◌, ◌&&◌, ◌/◌, ◌∷◌}
+use Rattle.std.specs.Prelude.{Bool, Err, List, None, Ok, Option, Result, Some, [], false, if◌then◌else◌, is_some, length, nat_eq, nat_lt, not, reverse, slice_index, true, ℕ, ◌%◌, ◌&&◌, ◌/◌, ◌∷◌, ◌≢◌}
 use Rattle.cf_dnptrans.specs.declared.assembly.SegmentAnswer.TheVariants as answers
 use Rattle.cf_policy.specs.declared.Decider.TheVariants as decider
 use Rattle.cf_dnpobj.specs.declared.fragment.FragmentRefusal.TheVariants as refusals
@@ -107,6 +107,15 @@ abbrev pub fate_of_fragment : Asset → ℕ → Side → List ℕ → Fate
 fate_of_fragment asset client side.Controller octets = fate.Carried
 fate_of_fragment asset client side.Client octets = fate_of_read asset client (slice_index octets 1) (read_octets octets)
 
+-- the fates of a client's fragment of two octets or more: it goes on, or is refused for a reason that has a reply
+abbrev pub IsOfFragment : Fate → Type 0
+IsOfFragment fate.Carried = Unit {0}
+IsOfFragment fate.Admitted = Unit {0}
+IsOfFragment (fate.Refused refusal) = refusal.reason ≢ reason.Station
+IsOfFragment (fate.Stray because) = ⊥
+IsOfFragment fate.Lengthens = ⊥
+IsOfFragment (fate.Cuts because) = ⊥
+
 -- why a segment is dropped
 abbrev pub drop_why : DropReason → Why
 drop_why drops.Empty = why.Empty
@@ -164,9 +173,13 @@ abbrev pub data_octets : Asset → Side → List ℕ → List ℕ
 data_octets asset side.Controller user = link.spelling 0xc4 asset.station asset.master user
 data_octets asset side.Client user = link.spelling 0x44 asset.master asset.station user
 
--- a fragment cut anew: its frames, the first with the transport sequence that follows those before it
+-- a fragment cut anew: its frames, the first with this transport sequence
+abbrev pub frames_at : Asset → Side → ℕ → List ℕ → List ℕ
+frames_at asset to start octets = flat_map (data_octets asset to) (reverse (pieces.segments_of octets start))
+
+-- the same with the sequence that follows those before it
 abbrev pub fragment_frames : Asset → Side → List Judged → List ℕ → List ℕ
-fragment_frames asset to earlier octets = flat_map (data_octets asset to) (reverse (pieces.segments_of octets (segments_into asset to earlier)))
+fragment_frames asset to earlier octets = frames_at asset to (segments_into asset to earlier) octets
 
 -- a link status frame goes on as it is
 abbrev pub frame_output : Asset → Side → List Judged → Judged → Side → FrameValue → List ℕ

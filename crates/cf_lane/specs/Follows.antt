@@ -14,7 +14,8 @@ use Rattle.cf_policy.specs.declared.Protocol.{Protocol}
 use Rattle.cf_view.specs.Units.{IsUnitsThenRest}
 use Rattle.cf_view.specs.declared.Endpoint.{Endpoint}
 use Rattle.cf_view.specs.declared.Side.{Side}
-use Rattle.std.specs.Prelude.{Bool, List, None, Option, Some, [], false, map, take, true, ℕ, ◌++◌, ◌∷◌, ◌≡◌}
+use Rattle.std.specs.List.{concat}
+use Rattle.std.specs.Prelude.{Bool, List, None, Option, Some, [], drop, false, map, take, true, ℕ, ◌++◌, ◌∷◌, ◌≡◌}
 use Rattle.cf_view.specs.declared.Side.TheVariants as side
 
 -- no item follows the first that cuts, and none is missing before it
@@ -72,28 +73,60 @@ pub record Follows (asset : Asset) (history : List Element) (rests : Rests) (cut
   pub controller_stream : IsQueueOf now.to_controller (stream_to asset side.Controller judged)
   pub of_lines : now.lines ≡ with_lines first (lines asset now.lane.client [] judged)
 
+-- the same over another log
+abbrev pub over : Option (List (List ℕ)) → State → State
+over log s = record s { lines = log }
+
+-- a log got lines by which a history goes on, which stands over lines of its own: the log may have lines of others besides
+pub record AddsTo (asset : Asset) (history : List Element) (rests : Rests) (cut : Option CutReason) (first own old : Option (List (List ℕ)))
+    (now : State) : Type 0 where
+  pub more : List (List ℕ)
+  pub added : now.lines ≡ with_lines old more
+  pub follows : Follows asset history rests cut first (over (with_lines own more) now)
+
 -- an End may stand behind bytes in one element where the bytes cut: it is then no item
 abbrev pub IsEndBehindCut : (ended : Bool) → Option CutReason → Type 0
 IsEndBehindCut false cut = Unit {0}
 IsEndBehindCut true None = ⊥
 IsEndBehindCut true (Some reason) = Unit {0}
 
--- a log has, behind what it had first, the first lines of a history's items
-pub record Began (asset : Asset) (client : Endpoint) (history : List Element) (first log : Option (List (List ℕ))) : Type 0 where
+-- a log has, behind what it had first, the first lines of a history's items, and the octets behind its last line are a beginning
+-- of the lines that follow
+pub record Began (asset : Asset) (client : Endpoint) (history : List Element) (first log : Option (List (List ℕ))) (part : List ℕ) : Type 0 where
   pub judged : List Judged
   pub are_judged : AreJudged asset client.address history judged
   pub count : ℕ
   pub of_lines : log ≡ with_lines first (take count (lines asset client [] judged))
+  pub some : ℕ
+  pub of_part : part ≡ take some (concat (drop count (lines asset client [] judged)))
 
 -- a piece was handled up to a unit whose line failed: the log has the first lines of the history up to there
-pub record BeganWithin (asset : Asset) (client : Endpoint) (history : List Element) (moment : ℕ) (s : Side) (piece : List ℕ) (first log : Option (List (List ℕ))) : Type 0 where
-  pub part : List ℕ
+pub record BeganWithin (asset : Asset) (client : Endpoint) (history : List Element) (moment : ℕ) (s : Side) (piece : List ℕ) (first log : Option (List (List ℕ))) (part : List ℕ) : Type 0 where
+  pub handled : List ℕ
   pub rest : List ℕ
-  pub piece_is : piece ≡ part ++ rest
-  pub began : Began asset client (history ++ bytes_at moment s part ∷ []) first log
+  pub piece_is : piece ≡ handled ++ rest
+  pub began : Began asset client (history ++ bytes_at moment s handled ∷ []) first log part
 
 -- so it is of each history that was followed
-abbrev pub FailsWithin : Asset → ℕ → Side → List ℕ → State → (log : Option (List (List ℕ))) → Type 0
-FailsWithin asset moment s bytes old log =
+abbrev pub FailsWithin : Asset → ℕ → Side → List ℕ → State → (log : Option (List (List ℕ))) → (part : List ℕ) → Type 0
+FailsWithin asset moment s bytes old log part =
     (h : List Element) (rests : Rests) (first : Option (List (List ℕ))) (piece : List ℕ) → bytes ≡ rest_of s rests ++ piece →
-    Follows asset h rests None first old → BeganWithin asset old.lane.client h moment s piece first log
+    Follows asset h rests None first old → BeganWithin asset old.lane.client h moment s piece first log part
+
+-- a log has the lines by which such a history goes on up to a line that failed, and a part of what follows
+pub record BeganApart (asset : Asset) (client : Endpoint) (history : List Element) (first own old log : Option (List (List ℕ))) (part : List ℕ) : Type 0 where
+  pub more : List (List ℕ)
+  pub added : log ≡ with_lines old more
+  pub began : Began asset client history first (with_lines own more) part
+
+pub record BeganApartWithin (asset : Asset) (client : Endpoint) (history : List Element) (moment : ℕ) (s : Side) (piece : List ℕ) (first own old log : Option (List (List ℕ)))
+    (part : List ℕ) : Type 0 where
+  pub more : List (List ℕ)
+  pub added : log ≡ with_lines old more
+  pub began : BeganWithin asset client history moment s piece first (with_lines own more) part
+
+-- so it is of each history that was followed over lines of its own
+abbrev pub FailsApart : Asset → ℕ → Side → List ℕ → State → (log : Option (List (List ℕ))) → (part : List ℕ) → Type 0
+FailsApart asset moment s bytes old log part =
+    (h : List Element) (rests : Rests) (first own : Option (List (List ℕ))) (piece : List ℕ) → bytes ≡ rest_of s rests ++ piece →
+    Follows asset h rests None first (over own old) → BeganApartWithin asset old.lane.client h moment s piece first own old.lines log part

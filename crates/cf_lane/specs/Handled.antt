@@ -3,20 +3,25 @@
 use Rattle.cf_audit.specs.declared.line.CutReason.{CutReason}
 use Rattle.cf_lane.specs.Fate.{HaveFates}
 use Rattle.cf_lane.specs.Item.{Item, Took}
-use Rattle.cf_lane.specs.Judged.{Judged, cut_by, has_ended, is_admitted, is_refused}
+use Rattle.cf_lane.specs.Judged.{Judged, cut_by, cut_of, has_ended, is_admitted, is_refused, one_if}
+use Rattle.cf_lane.specs.Kept.{IsWireOf, KnowsWire, wire_debt}
 use Rattle.cf_lane.specs.Log.{lines, with_lines}
 use Rattle.cf_lane.specs.Output.{outputs}
 use Rattle.cf_lane.specs.Unit.{Adu, SpellsUnit, UnitValue, unit_break}
 use Rattle.cf_lane.specs.declared.fate.Fate.{Fate}
 use Rattle.cf_lane.specs.declared.lane.Step.{Step}
+use Rattle.cf_lane.specs.declared.wire.Wire.{Wire}
 use Rattle.cf_modbus.specs.Adu.{AduValue}
 use Rattle.cf_outq.specs.SendQueue.{Queue, after_end, after_push}
 use Rattle.cf_outside.specs.Desk.{DeskValue, KeepsDesk}
+use Rattle.cf_policy.specs.Index.{IsIndexOf}
 use Rattle.cf_policy.specs.declared.Asset.{Asset}
+use Rattle.cf_policy.specs.declared.CodePair.{CodePair}
 use Rattle.cf_view.specs.Framing.{Begins, BreaksAt, IsPartial}
 use Rattle.cf_view.specs.declared.Endpoint.{Endpoint}
 use Rattle.cf_view.specs.declared.Side.{Side}
-use Rattle.std.specs.Prelude.{List, None, Option, Some, [], count_by, false, length, true, ℕ, ◌++◌, ◌+◌, ◌<◌, ◌^◌, ◌∷◌, ◌≡◌, ◌≤◌, ◌⊎◌}
+use Rattle.std.specs.List.{concat}
+use Rattle.std.specs.Prelude.{List, None, Option, Some, [], count_by, false, length, take, true, ℕ, ◌++◌, ◌+◌, ◌<◌, ◌^◌, ◌∷◌, ◌≡◌, ◌≤◌, ◌⊎◌}
 use Rattle.cf_audit.specs.declared.line.CutReason.TheVariants as cut
 use Rattle.cf_policy.specs.declared.Protocol.TheVariants as protocol
 use Rattle.cf_view.specs.declared.Side.TheVariants as side
@@ -27,6 +32,9 @@ pub record LaneValue : Type 0 where
   pub client : Endpoint
   pub admitted : ℕ
   pub refused : ℕ
+  -- the rules of the asset by code, for the client
+  pub index : List CodePair
+  pub wire : Wire
 
 -- a lane with its two queues and the log
 pub record State : Type 0 where
@@ -38,13 +46,19 @@ pub record State : Type 0 where
 abbrev pub state : LaneValue → Queue → Queue → Option (List (List ℕ)) → State
 state lane to_client to_controller lines = record { lane = lane; to_client = to_client; to_controller = to_controller; lines = lines }
 
--- what the lane and its queues know of earlier items: the numbers are counts, and a queue has ended
--- where the other side has. (DNP3 adds an assembly for each side, IEC 104 its numbers)
+-- the lane is one of the asset: its index and what it keeps for the protocol are the asset's
+pub record IsLaneOf (asset : Asset) (lane : LaneValue) : Type 0 where
+  pub index : IsIndexOf asset lane.client.address lane.index
+  pub wire : IsWireOf asset.protocol lane.wire
+
+-- what the lane and its queues know of earlier items: the numbers are counts, a queue has ended where the other side has, and
+-- what the lane keeps for its protocol stands for them until one cuts
 pub record Knows (asset : Asset) (s : State) (earlier : List Judged) : Type 0 where
   pub admitted : s.lane.admitted ≡ count_by (λ j. is_admitted j.fate) earlier
   pub refused : s.lane.refused ≡ count_by (λ j. is_refused j.fate) earlier
   pub client_ended : s.to_client.ended ≡ has_ended side.Controller earlier
   pub controller_ended : s.to_controller.ended ≡ has_ended side.Client earlier
+  pub wire : cut_of earlier ≡ None → KnowsWire asset s.lane.wire earlier
 
 -- what judged items do after the earlier ones
 pub record Does (asset : Asset) (earlier js : List Judged) (old new : State) : Type 0 where
@@ -57,10 +71,10 @@ pub record Does (asset : Asset) (earlier js : List Judged) (old new : State) : T
   pub client_quiet : old.to_client.ended ≡ true → outputs asset side.Client earlier js ≡ []
   pub controller_quiet : old.to_controller.ended ≡ true → outputs asset side.Controller earlier js ≡ []
 
--- these items were handled, whatever came before them
+-- these items were handled, whatever came before them that does not cut
 pub record Handled (asset : Asset) (js : List Judged) (old new : State) : Type 0 where
   pub client : new.lane.client ≡ old.lane.client
-  pub does : (earlier : List Judged) → Knows asset old earlier → Does asset earlier js old new
+  pub does : (earlier : List Judged) → cut_of earlier ≡ None → Knows asset old earlier → Does asset earlier js old new
 
 abbrev pub judged : ℕ → Item → Fate → Judged
 judged moment item f = record { moment = moment; item = item; fate = f }
@@ -87,9 +101,9 @@ Steps asset moment s bytes old new step.More = IsPartial (SpellsUnit asset.proto
 Steps asset moment s bytes old new (step.Cut reason) =
     (Breaks asset s bytes reason × (new ≡ old)) ⊎ ((asset.protocol ≡ protocol.Iec104) × ((used : ℕ) × TakesUnit asset moment s bytes used (Some reason) old new))
 
--- the octets that unfinished DNP3 fragments may still put out; a lane of Modbus has none
+-- the octets that unfinished DNP3 fragments may still put out; a lane of another protocol has none
 abbrev pub debt : LaneValue → ℕ
-debt lane = 0
+debt lane = wire_debt lane.wire
 
 -- what a queue keeps grew, with what is owed, by at most so much; all else of it is as it was
 pub record Grows (most debt_before debt_now : ℕ) (old new : Queue) : Type 0 where
@@ -111,6 +125,10 @@ pub record TakesCommand (asset : Asset) (moment : ℕ) (a : AduValue) (old new :
 -- the numbers rose by one command at most for so many letters
 abbrev pub CountsBy : ℕ → LaneValue → LaneValue → Type 0
 CountsBy most old new = new.admitted + new.refused ≤ old.admitted + old.refused + most
+
+-- the numbers of a lane after an item of this fate
+abbrev pub counted_by : Fate → LaneValue → LaneValue
+counted_by f lane = record lane { admitted = lane.admitted + one_if (is_admitted f); refused = lane.refused + one_if (is_refused f) }
 
 -- the queue to the other side is open, so that the side's bytes may go on
 abbrev pub IsOpen : Side → (to_client to_controller : Queue) → Type 0
@@ -136,24 +154,39 @@ MayEnd side.Controller c k = c.pushed < 2 ^ 31
 abbrev pub HasAdded : List (List ℕ) → DeskValue → DeskValue → Type 0
 HasAdded more old new = new.lines ≡ with_lines old.lines more
 
--- it has them, or none of them
-abbrev pub MayHaveAdded : List (List ℕ) → DeskValue → DeskValue → Type 0
-MayHaveAdded more old new = (new.lines ≡ old.lines) ⊎ HasAdded more old new
+-- a log has these lines; or it has none of them, and the octets behind its last line are a beginning of theirs
+abbrev pub MayHaveMore : List (List ℕ) → (old log : Option (List (List ℕ))) → (part : List ℕ) → Type 0
+MayHaveMore more old log part = ((log ≡ old) × ((k : ℕ) × (part ≡ take k (concat more)))) ⊎ ((log ≡ with_lines old more) × (part ≡ []))
 
--- nothing but the log was written: no packet was emitted, the desk is the same one, and files of other names are as they were
+abbrev pub MayHaveAdded : List (List ℕ) → DeskValue → DeskValue → Type 0
+MayHaveAdded more old new = MayHaveMore more old.lines new.lines new.line_part
+
+-- nothing but the log was written: no packet was emitted, the desk is the same one, and files of other names are as they were.
+-- A desk that is whole was so, and nothing but lines was added
 pub record WritesLog (old new : DeskValue) : Type 0 where
   pub packets : new.packets ≡ old.packets
+  pub packet_part : new.packet_part ≡ old.packet_part
+  pub stays : new.whole ≡ true → old.whole ≡ true
+  pub line_part : new.whole ≡ true → new.line_part ≡ old.line_part
   pub keeps : KeepsDesk old new
 
--- a command was handled but for its line, which the log may have all the same
-pub record MissesCommand (asset : Asset) (moment : ℕ) (a : AduValue) (old : State) (log : Option (List (List ℕ))) : Type 0 where
+-- an item has these lines, whatever came before it that does not cut
+abbrev pub HasLines : Asset → State → Judged → List (List ℕ) → Type 0
+HasLines asset old j more = (earlier : List Judged) → cut_of earlier ≡ None → Knows asset old earlier → lines asset old.lane.client earlier (j ∷ []) ≡ more
+
+-- a command was handled but for its line, of which the log may have a part or all
+pub record MissesCommand (asset : Asset) (moment : ℕ) (a : AduValue) (old : State) (log : Option (List (List ℕ))) (part : List ℕ) : Type 0 where
   pub new : State
   pub takes : TakesCommand asset moment a old new
-  pub line : (log ≡ old.lines) ⊎ (log ≡ new.lines)
+  pub more : List (List ℕ)
+  pub are_more : HasLines asset old (judged moment (Took side.Client (Adu a)) takes.fate) more
+  pub line : MayHaveMore more old.lines log part
 
--- a unit was handled but for its line, which the log may have all the same
-pub record Misses (asset : Asset) (moment : ℕ) (s : Side) (bytes : List ℕ) (old : State) (log : Option (List (List ℕ))) : Type 0 where
+-- a unit was handled but for its line, of which the log may have a part or all
+pub record Misses (asset : Asset) (moment : ℕ) (s : Side) (bytes : List ℕ) (old : State) (log : Option (List (List ℕ))) (part : List ℕ) : Type 0 where
   pub used : ℕ
   pub new : State
   pub takes : TakesUnit asset moment s bytes used None old new
-  pub line : (log ≡ old.lines) ⊎ (log ≡ new.lines)
+  pub more : List (List ℕ)
+  pub are_more : HasLines asset old (judged moment (Took s takes.unit) takes.fate) more
+  pub line : MayHaveMore more old.lines log part

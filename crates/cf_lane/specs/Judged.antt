@@ -43,6 +43,11 @@ is_refused (fate.Stray why) = false
 is_refused fate.Lengthens = false
 is_refused (fate.Cuts reason) = false
 
+-- how many more there are by one that is so or not
+abbrev pub one_if : Bool → ℕ
+one_if true = 1
+one_if false = 0
+
 abbrev pub cut_by : Fate → Option CutReason
 cut_by fate.Carried = None
 cut_by fate.Admitted = None

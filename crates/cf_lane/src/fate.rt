@@ -1,15 +1,16 @@
 //! The fate of a command.
-ghost use Rattle.std.specs.Prelude.{◌≡◌, ◌≢◌, ◌≤◌, length};
+ghost use Rattle.std.specs.Prelude.{◌≡◌, ◌≢◌, ◌≤◌, ℕ, length};
 ghost use Rattle.cf_modbus.specs.Acts.{acts};
 ghost use Rattle.cf_modbus.specs.Adu.{adu_value};
 ghost use Rattle.cf_modbus.specs.Request.{IsRead, request_value};
+ghost use Rattle.cf_policy.specs.Index.{IsIndexOf};
 ghost use Rattle.cf_lane.specs.Acts.{fate_of_acts};
 ghost use Rattle.cf_lane.specs.Fate.{HasOwnDecider, IsOfCommand};
 ghost use Rattle.cf_lane.specs.Modbus.{HasCommandFate};
 
 use cf_audit::{CutReason, Why};
 use cf_modbus::{Adu, Request, act_at, act_count, read_request};
-use cf_policy::{Asset, Decider, Verdict, verdict};
+use cf_policy::{Asset, CodeIndex, Decider, Verdict};
 use cf_view::{Act, Reason};
 
 /// Why a command is refused.
@@ -39,12 +40,12 @@ pub enum Fate {
     Cuts(CutReason),
 }
 
-/// The fate of a client's ADU. The station is compared first, then the form is read, then each act is judged in its
+/// The fate of an ADU of the client of the index. The station is compared first, then the form is read, then each act is judged in its
 /// order; the first that is not allowed decides. This project's own order.
-pub fn judge(asset: &Asset, client: u32, adu: &Adu<'_>) -> Fate
+pub fn judge(asset: &Asset, index: &CodeIndex, adu: &Adu<'_>) -> Fate
     requires at_least { 1 ≤ length adu.now.pdu.bytes }
     requires at_most { length adu.now.pdu.bytes ≤ 253 }
-    ensures fate { HasCommandFate asset.now client (adu_value adu.now) result }
+    ensures fate { (client : ℕ) → IsIndexOf asset.now client index.now → HasCommandFate asset.now client (adu_value adu.now) result }
     ensures decider { HasOwnDecider asset.now.rules result }
     ensures command { IsOfCommand result }
 {
@@ -54,12 +55,12 @@ pub fn judge(asset: &Asset, client: u32, adu: &Adu<'_>) -> Fate
     }
     match read_request(adu) {
         Err(refusal) => refused(Decider::Form, refusal.reason(), code, 0),
-        Ok(request) => judge_acts(asset, client, &request),
+        Ok(request) => judge_acts(asset, index, &request),
     }
 }
 
 /// A refusal of a whole command: its act is the function code with this point.
-fn refused(decider: Decider, reason: Reason, code: u16, point: u32) -> Fate
+pub(crate) fn refused(decider: Decider, reason: Reason, code: u16, point: u32) -> Fate
     ensures { result ≡ Fate.Refused (record { decider = decider; reason = reason; act = record { code = code; group = 0; point = point; value = None } }) }
 {
     Fate::Refused(Refusal {
@@ -75,15 +76,15 @@ fn refused(decider: Decider, reason: Reason, code: u16, point: u32) -> Fate
 }
 
 /// The fate of a request with the right station and form.
-fn judge_acts(asset: &Asset, client: u32, request: &Request<'_>) -> Fate
+fn judge_acts(asset: &Asset, index: &CodeIndex, request: &Request<'_>) -> Fate
     requires { IsRead (request_value request.now) }
-    ensures fate { result ≡ fate_of_acts asset.now client (acts (request_value request.now)) }
+    ensures fate { (client : ℕ) → IsIndexOf asset.now client index.now → result ≡ fate_of_acts asset.now client (acts (request_value request.now)) }
     ensures decider { HasOwnDecider asset.now.rules result }
     ensures command { IsOfCommand result }
 {
     for i in 0..act_count(request) {
         let act = act_at(request, i);
-        match verdict(asset, client, &act) {
+        match index.verdict(asset, &act) {
             Verdict::Allow(_) => {}
             Verdict::Refuse(decider, reason) => {
                 return Fate::Refused(Refusal {

@@ -5,15 +5,21 @@ ghost use Rattle.cf_outside.specs.Faults.{HasCause};
 ghost use Rattle.cf_outside.specs.Desk.{DeskValue};
 ghost use Rattle.cf_policy.specs.Within.{IsAssetWithin};
 ghost use Rattle.cf_stream.specs.Stream.{no_letters};
-ghost use Rattle.cf_lane.specs.Follows.{Follows, Began, FailsWithin, IsEndBehindCut, Rests, rest_of, with_rest, no_rests};
-ghost use Rattle.cf_lane.specs.Handled.{LaneValue, Steps, Misses, Grows, CountsBy, HasRoom, IsOpen, MayEnd, EndsOther, WritesLog, debt, letters_in, state};
+ghost use Rattle.cf_view.specs.Octets.{IsOctets};
+ghost use Rattle.cf_lane.specs.Follows.{AddsTo, Began, BeganApart, FailsApart, Follows, FailsWithin, IsEndBehindCut, Rests, rest_of, with_rest, no_rests};
+ghost use Rattle.cf_lane.specs.Handled.{IsLaneOf, LaneValue, Steps, Misses, Grows, CountsBy, HasRoom, IsOpen, MayEnd, EndsOther, WritesLog, counted_by, debt, letters_in, state};
 ghost use Rattle.cf_lane.specs.History.{Element, letters_at, end_at};
+ghost use Rattle.cf_lane.specs.Judged.{Judged};
+ghost use Rattle.cf_lane.specs.Kept.{KnowsWire};
+ghost use Rattle.cf_lane.specs.Log.{has_unfinished};
 
+use crate::fate::Fate;
 use crate::log::log_end;
+use crate::wire::Wire;
 use cf_audit::CutReason;
 use cf_outq::Outq;
 use cf_outside::Desk;
-use cf_policy::{Asset, Protocol};
+use cf_policy::{Asset, CodeIndex, Protocol};
 use cf_view::{Endpoint, NoMemory, Side, View, WriteFault};
 use std::alloc::Global;
 use std::marker::Model;
@@ -25,6 +31,8 @@ pub struct Lane {
     pub(crate) client: Endpoint,
     pub(crate) admitted: u64,
     pub(crate) refused: u64,
+    pub(crate) index: CodeIndex,
+    pub(crate) wire: Wire,
 }
 
 impl Model for Lane {
@@ -32,7 +40,7 @@ impl Model for Lane {
 
     ghost Value = { LaneValue };
 
-    ghost view = { λ l. record { client = l.client; admitted = l.admitted; refused = l.refused } };
+    ghost view = { λ l. record { client = l.client; admitted = l.admitted; refused = l.refused; index = l.index; wire = l.wire } };
 }
 
 /// What a lane made of bytes.
@@ -55,19 +63,27 @@ pub(crate) enum Step {
 }
 
 impl Lane {
-    /// A lane of a session between this client and the asset, which speaks Modbus. Each later call is handed the same
-    /// asset.
-    pub fn new(_alloc: Global, asset: &Asset, client: Endpoint) -> Result<Lane, NoMemory>
-        requires modbus { asset.now.protocol ≡ Protocol.Modbus }
-        ensures value { IfOk result (λ lane. lane ≡ record { client = client; admitted = 0; refused = 0 }) }
+    /// A lane of a session between this client and the asset. Each later call is handed the same asset. All its memory is
+    /// taken here, and none afterwards.
+    ///
+    /// `NoMemory`: it could not be had.
+    pub fn new(alloc: Global, asset: &Asset, client: Endpoint) -> Result<Lane, NoMemory>
+        requires within { IsAssetWithin asset.now }
+        ensures client { IfOk result (λ lane. LaneValue.client lane ≡ client) }
+        ensures counts { IfOk result (λ lane. (LaneValue.admitted lane ≡ 0) × (LaneValue.refused lane ≡ 0) × (debt lane ≡ 0)) }
+        ensures of_asset { IfOk result (λ lane. IsLaneOf asset.now lane) }
         ensures follows { IfOk result (λ lane. (to_client to_controller : Queue) (first : Option (List (List ℕ)))
             → IsQueueOf to_client no_letters → IsQueueOf to_controller no_letters
             → Follows asset.now [] no_rests None first (state lane to_client to_controller first)) }
     {
+        let index = CodeIndex::new(alloc, asset, client.address)?;
+        let wire = Wire::new(alloc, &asset.protocol)?;
         Ok(Lane {
             client,
             admitted: 0,
             refused: 0,
+            index,
+            wire,
         })
     }
 
@@ -84,7 +100,7 @@ impl Lane {
         to_controller: &mut Outq,
         desk: &mut D,
     ) -> Result<Fed, WriteFault>
-        requires modbus { asset.now.protocol ≡ Protocol.Modbus }
+        requires of_asset { IsLaneOf asset.now self.old }
         requires within { IsAssetWithin asset.now }
         requires whole { DeskValue.whole (D.value desk.old) ≡ true }
         requires open { IsOpen side to_client.old to_controller.old }
@@ -98,8 +114,19 @@ impl Lane {
             → Follows asset.now h rests None first (state self.old to_client.old to_controller.old (DeskValue.lines (D.value desk.old)))
             → Follows asset.now (h ++ letters_at moment side piece ended ∷ []) (with_rest side rests (drop fed.used bytes.entry.bytes)) fed.cut first
             (state self.new to_client.new to_controller.new (DeskValue.lines (D.value desk.new)))) }
+        ensures apart { IfOk result (λ fed. (h : List Element) (rests : Rests) (first own : Option (List (List ℕ))) (piece : List ℕ) (ended : Bool)
+            → IsEndBehindCut ended fed.cut
+            → bytes.entry.bytes ≡ rest_of side rests ++ piece
+            → Follows asset.now h rests None first (state self.old to_client.old to_controller.old own)
+            → AddsTo asset.now (h ++ letters_at moment side piece ended ∷ []) (with_rest side rests (drop fed.used bytes.entry.bytes)) fed.cut first own
+            (DeskValue.lines (D.value desk.old)) (state self.new to_client.new to_controller.new (DeskValue.lines (D.value desk.new)))) }
         ensures fails { OnErr result (FailsWithin asset.now moment side bytes.entry.bytes
-            (state self.old to_client.old to_controller.old (DeskValue.lines (D.value desk.old))) (DeskValue.lines (D.value desk.new))) }
+            (state self.old to_client.old to_controller.old (DeskValue.lines (D.value desk.old)))
+            (DeskValue.lines (D.value desk.new)) (DeskValue.line_part (D.value desk.new))) }
+        ensures fails_apart { OnErr result (FailsApart asset.now moment side bytes.entry.bytes
+            (state self.old to_client.old to_controller.old (DeskValue.lines (D.value desk.old)))
+            (DeskValue.lines (D.value desk.new)) (DeskValue.line_part (D.value desk.new))) }
+        ensures of_asset { OnOk result (IsLaneOf asset.now self.new) }
         ensures client { OnOk result (LaneValue.client self.new ≡ LaneValue.client self.old) }
         ensures left { IfOk result (λ fed. fed.cut ≡ None → length (drop fed.used bytes.entry.bytes) < 300) }
         ensures client_grows { IfOk result (λ fed. Grows (2 * fed.used) (debt self.old) (debt self.new) to_client.old to_client.new) }
@@ -133,8 +160,8 @@ impl Lane {
         }
     }
 
-    /// Takes the End of a side, of which so many bytes are left that are no whole unit. A line tells them, and End is
-    /// passed on.
+    /// Takes the End of a side, of which so many bytes are left that are no whole unit. A line tells them, or that a
+    /// fragment is unfinished, and End is passed on.
     pub fn ended<D: Desk>(
         &mut self,
         asset: &Asset,
@@ -145,7 +172,7 @@ impl Lane {
         to_controller: &mut Outq,
         desk: &mut D,
     ) -> Result<(), WriteFault>
-        requires modbus { asset.now.protocol ≡ Protocol.Modbus }
+        requires of_asset { IsLaneOf asset.now self.old }
         requires within { IsAssetWithin asset.now }
         requires whole { DeskValue.whole (D.value desk.old) ≡ true }
         requires open { IsOpen side to_client.old to_controller.old }
@@ -153,16 +180,25 @@ impl Lane {
         ensures history { OnOk result ((h : List Element) (rests : Rests) (first : Option (List (List ℕ))) → rest ≡ length (rest_of side rests)
             → Follows asset.now h rests None first (state self.old to_client.old to_controller.old (DeskValue.lines (D.value desk.old)))
             → Follows asset.now (h ++ end_at moment side ∷ []) rests None first (state self.new to_client.new to_controller.new (DeskValue.lines (D.value desk.new)))) }
+        ensures apart { OnOk result ((h : List Element) (rests : Rests) (first own : Option (List (List ℕ))) → rest ≡ length (rest_of side rests)
+            → Follows asset.now h rests None first (state self.old to_client.old to_controller.old own)
+            → AddsTo asset.now (h ++ end_at moment side ∷ []) rests None first own
+            (DeskValue.lines (D.value desk.old)) (state self.new to_client.new to_controller.new (DeskValue.lines (D.value desk.new)))) }
         ensures fails { OnErr result ((h : List Element) (rests : Rests) (first : Option (List (List ℕ))) → rest ≡ length (rest_of side rests)
             → Follows asset.now h rests None first (state self.old to_client.old to_controller.old (DeskValue.lines (D.value desk.old)))
-            → Began asset.now self.old.client (h ++ end_at moment side ∷ []) first (DeskValue.lines (D.value desk.new))) }
+            → Began asset.now self.old.client (h ++ end_at moment side ∷ []) first (DeskValue.lines (D.value desk.new)) (DeskValue.line_part (D.value desk.new))) }
+        ensures fails_apart { OnErr result ((h : List Element) (rests : Rests) (first own : Option (List (List ℕ))) → rest ≡ length (rest_of side rests)
+            → Follows asset.now h rests None first (state self.old to_client.old to_controller.old own)
+            → BeganApart asset.now self.old.client (h ++ end_at moment side ∷ []) first own (DeskValue.lines (D.value desk.old))
+            (DeskValue.lines (D.value desk.new)) (DeskValue.line_part (D.value desk.new))) }
         ensures queues { OnOk result (EndsOther side to_client.old to_controller.old to_client.new to_controller.new) }
         ensures lane { self.new ≡ self.old }
         ensures whole { OnOk result (DeskValue.whole (D.value desk.new) ≡ true) }
         ensures log { WritesLog (D.value desk.old) (D.value desk.new) }
         ensures cause { HasCause (DeskValue.faults (D.value desk.old)) (DeskValue.faults (D.value desk.new)) (IsErr result) }
     {
-        log_end(asset, &self.client, moment, side, rest, desk)?;
+        let unfinished = self.has_unfinished(side);
+        log_end(asset, &self.client, moment, side, unfinished, rest, desk)?;
         end_other(side, to_client, to_controller);
         Ok(())
     }
@@ -192,7 +228,7 @@ impl Lane {
         to_controller: &mut Outq,
         desk: &mut D,
     ) -> Result<Step, WriteFault>
-        requires modbus { asset.now.protocol ≡ Protocol.Modbus }
+        requires of_asset { IsLaneOf asset.now self.old }
         requires within { IsAssetWithin asset.now }
         requires whole { DeskValue.whole (D.value desk.old) ≡ true }
         requires open { IsOpen side to_client.old to_controller.old }
@@ -202,7 +238,8 @@ impl Lane {
         ensures steps { IfOk result (λ s. Steps asset.now moment side bytes.now.bytes (state self.old to_client.old to_controller.old (DeskValue.lines (D.value desk.old)))
             (state self.new to_client.new to_controller.new (DeskValue.lines (D.value desk.new))) s) }
         ensures misses { OnErr result (Misses asset.now moment side bytes.now.bytes (state self.old to_client.old to_controller.old (DeskValue.lines (D.value desk.old)))
-            (DeskValue.lines (D.value desk.new))) }
+            (DeskValue.lines (D.value desk.new)) (DeskValue.line_part (D.value desk.new))) }
+        ensures of_asset { OnOk result (IsLaneOf asset.now self.new) }
         ensures client_grows { IfOk result (λ s. Grows (2 * letters_in s) (debt self.old) (debt self.new) to_client.old to_client.new) }
         ensures controller_grows { IfOk result (λ s. Grows (2 * letters_in s) (debt self.old) (debt self.new) to_controller.old to_controller.new) }
         ensures counts { IfOk result (λ s. CountsBy (letters_in s) self.old self.new) }
@@ -215,7 +252,35 @@ impl Lane {
             Protocol::Modbus => {
                 self.step_modbus(asset, moment, side, bytes, to_client, to_controller, desk)
             }
-            Protocol::Dnp3 | Protocol::Iec104 => Ok(Step::More),
+            Protocol::Dnp3 => {
+                self.step_dnp3(asset, moment, side, bytes, to_client, to_controller, desk)
+            }
+            Protocol::Iec104 => {
+                self.step_iec104(asset, moment, side, bytes, to_client, to_controller, desk)
+            }
+        }
+    }
+
+    /// Counts a command by its fate.
+    pub(crate) fn count(&mut self, fate: &Fate)
+        requires { self.old.admitted + self.old.refused + 1 < 2 ^ 64 }
+        ensures { self.new ≡ counted_by fate.now self.old }
+    {
+        match fate {
+            Fate::Admitted => self.admitted += 1,
+            Fate::Refused(_) => self.refused += 1,
+            Fate::Carried | Fate::Stray(_) | Fate::Lengthens | Fate::Cuts(_) => {}
+        }
+    }
+
+    /// Whether a fragment of a side is unfinished.
+    fn has_unfinished(&self, side: Side) -> bool
+        ensures { (asset : Asset) (earlier : List Judged) → IsLaneOf asset self.now → KnowsWire asset self.now.wire earlier
+            → result ≡ has_unfinished asset asset.protocol side earlier }
+    {
+        match &self.wire {
+            Wire::Modbus | Wire::Iec104(_) => false,
+            Wire::Dnp3(fragments) => fragments.of(side).unfinished(),
         }
     }
 }
@@ -223,7 +288,8 @@ impl Lane {
 /// The bytes from a place on.
 pub(crate) fn after<'a>(bytes: &View<'a>, from: usize) -> View<'a>
     requires { from ≤ length bytes.now.bytes }
-    ensures { result.bytes ≡ drop from bytes.now.bytes }
+    ensures bytes { result.bytes ≡ drop from bytes.now.bytes }
+    ensures octets { IsOctets bytes.now.bytes }
 {
     bytes.sub(from, bytes.len())
 }

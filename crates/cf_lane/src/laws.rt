@@ -1,7 +1,7 @@
 //! Laws of the items of histories: each is the contract of a function that does nothing.
-ghost use Rattle.cf_lane.specs.Laws.{EndJoins, GrowsLittle, HasOneJudgement, JudgedJoin, LanePassesAllowed, ModbusIsPrefixFree, NothingTaken, PiecesJoin, StreamsGoOn};
+ghost use Rattle.cf_lane.specs.Laws.{EndJoins, GrowsLittle, HasOneJudgement, JudgedJoin, LanePassesAllowed, NothingTaken, PiecesJoin, QuietBehindEnd, StreamsGoOn, UnitsArePrefixFree};
 
-/// A history of Modbus has one list of judged items.
+/// A history has one list of judged items.
 pub fn has_one_judgement()
     ensures { HasOneJudgement }
 {}
@@ -13,7 +13,7 @@ pub fn pieces_join()
     ensures judged { JudgedJoin }
     ensures nothing { NothingTaken }
     ensures ends { EndJoins }
-    ensures modbus { ModbusIsPrefixFree }
+    ensures free { UnitsArePrefixFree }
 {}
 
 /// Between two places of a history each stream grows by at most twice the letters taken, and 8,192.
@@ -21,13 +21,16 @@ pub fn grows_little()
     ensures { GrowsLittle }
 {}
 
-/// Where a history goes on, the two streams and the log go on.
+/// Where a history goes on, the two streams and the log go on; behind the End of a side nothing comes into the stream to the
+/// other.
 pub fn streams_go_on()
-    ensures { StreamsGoOn }
+    ensures go_on { StreamsGoOn }
+    ensures quiet { QuietBehindEnd }
 {}
 
 /// Of the commands of a history exactly those whose station is the asset's, whose form is read and each of whose acts is
-/// allowed go to the controller, in their spelling and at their place.
+/// allowed go to the controller, in their spelling and at their place; beside them go the confirmations and link status
+/// frames of DNP3, and the S and U frames of IEC 60870-5-104.
 pub fn lane_passes_allowed()
     ensures { LanePassesAllowed }
 {}

@@ -1,12 +1,15 @@
 //! The lane: the filter of one session's two streams.
 #![tactic(auto)]
 
+mod dnp3;
 mod fate;
+mod iec104;
 mod lane;
 mod laws;
 mod log;
 mod modbus;
 mod rows;
+mod wire;
 
 pub use fate::{Fate, Refusal, judge};
 pub use lane::{Fed, Lane};
@@ -14,5 +17,7 @@ pub use laws::{grows_little, has_one_judgement, lane_passes_allowed, pieces_join
 pub use log::put_line;
 pub use rows::rows_hold;
 
+#[cfg(test)]
+mod dnp3_tests;
 #[cfg(test)]
 mod tests;

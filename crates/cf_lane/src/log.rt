@@ -1,6 +1,6 @@
 //! The lines that a session writes.
-ghost use Rattle.std.specs.Prelude.{◌≡◌, ◌∷◌, [], false, true, OnOk, OnErr, IsErr};
-ghost use Rattle.cf_audit.specs.Line.{HasShortNames, line_value};
+ghost use Rattle.std.specs.Prelude.{◌≡◌, ◌∷◌, [], true, OnOk, OnErr, IsErr};
+ghost use Rattle.cf_audit.specs.Line.{HasShortNames, Stray, line_value};
 ghost use Rattle.cf_audit.specs.Text.{line_text};
 ghost use Rattle.cf_outside.specs.Faults.{HasCause};
 ghost use Rattle.cf_outside.specs.Desk.{DeskValue};
@@ -11,7 +11,7 @@ ghost use Rattle.cf_lane.specs.Log.{HasPlainNames, line_about, refusal_line, end
 
 use crate::fate::Refusal;
 use arrayvec::ArrayString;
-use cf_audit::{Line, What, write_line};
+use cf_audit::{Line, What, Why, write_line};
 use cf_outside::{Desk, WriteAnswer};
 use cf_policy::{Asset, decider_name};
 use cf_view::{Endpoint, Side, View, WriteFault};
@@ -69,24 +69,51 @@ pub(crate) fn log_refusal<D: Desk>(
     put_line(&line, desk)
 }
 
-/// Writes the line of an end at which bytes are left, where some are.
+/// Writes the line of a DNP3 frame, segment or fragment that goes nowhere.
+pub(crate) fn log_stray<D: Desk>(
+    asset: &Asset,
+    client: &Endpoint,
+    moment: u64,
+    side: Side,
+    why: Why,
+    desk: &mut D,
+) -> Result<(), WriteFault>
+    requires within { IsAssetWithin asset.now }
+    requires whole { DeskValue.whole (D.value desk.old) ≡ true }
+    ensures lines { OnOk result (HasAdded (line_about asset.now client.now moment (Stray side why) ∷ []) (D.value desk.old) (D.value desk.new)) }
+    ensures fails { OnErr result (MayHaveAdded (line_about asset.now client.now moment (Stray side why) ∷ []) (D.value desk.old) (D.value desk.new)) }
+    ensures whole { OnOk result (DeskValue.whole (D.value desk.new) ≡ true) }
+    ensures log { WritesLog (D.value desk.old) (D.value desk.new) }
+    ensures cause { HasCause (DeskValue.faults (D.value desk.old)) (DeskValue.faults (D.value desk.new)) (IsErr result) }
+{
+    let line = Line {
+        moment,
+        client: *client,
+        asset: asset.name.as_str(),
+        what: What::Stray { side, why },
+    };
+    put_line(&line, desk)
+}
+
+/// Writes the line of an end at which bytes or a fragment are left, where it is so.
 pub(crate) fn log_end<D: Desk>(
     asset: &Asset,
     client: &Endpoint,
     moment: u64,
     side: Side,
+    unfinished: bool,
     rest: u64,
     desk: &mut D,
 ) -> Result<(), WriteFault>
     requires within { IsAssetWithin asset.now }
     requires whole { DeskValue.whole (D.value desk.old) ≡ true }
-    ensures lines { OnOk result (HasAdded (end_lines asset.now client.now moment side false rest) (D.value desk.old) (D.value desk.new)) }
-    ensures fails { OnErr result (MayHaveAdded (end_lines asset.now client.now moment side false rest) (D.value desk.old) (D.value desk.new)) }
+    ensures lines { OnOk result (HasAdded (end_lines asset.now client.now moment side unfinished rest) (D.value desk.old) (D.value desk.new)) }
+    ensures fails { OnErr result (MayHaveAdded (end_lines asset.now client.now moment side unfinished rest) (D.value desk.old) (D.value desk.new)) }
     ensures whole { OnOk result (DeskValue.whole (D.value desk.new) ≡ true) }
     ensures log { WritesLog (D.value desk.old) (D.value desk.new) }
     ensures cause { HasCause (DeskValue.faults (D.value desk.old)) (DeskValue.faults (D.value desk.new)) (IsErr result) }
 {
-    if rest == 0 {
+    if rest == 0 && !unfinished {
         return Ok(());
     }
     let line = Line {

@@ -5,7 +5,7 @@ ghost use Rattle.cf_outq.specs.SendQueue.{after_push};
 ghost use Rattle.cf_outside.specs.Faults.{HasCause};
 ghost use Rattle.cf_outside.specs.Desk.{DeskValue};
 ghost use Rattle.cf_policy.specs.Within.{IsAssetWithin};
-ghost use Rattle.cf_lane.specs.Handled.{Steps, Misses, TakesCommand, MissesCommand, Grows, CountsBy, HasRoom, IsOpen, WritesLog, debt, letters_in, state};
+ghost use Rattle.cf_lane.specs.Handled.{IsLaneOf, Steps, Misses, TakesCommand, MissesCommand, Grows, CountsBy, HasRoom, IsOpen, WritesLog, debt, letters_in, state};
 ghost use Rattle.cf_lane.specs.Log.{is_some_bytes};
 ghost use Rattle.cf_lane.specs.Modbus.{adu_reply};
 
@@ -33,6 +33,7 @@ impl Lane {
         desk: &mut D,
     ) -> Result<Step, WriteFault>
         requires modbus { asset.now.protocol ≡ Protocol.Modbus }
+        requires of_asset { IsLaneOf asset.now self.old }
         requires within { IsAssetWithin asset.now }
         requires whole { DeskValue.whole (D.value desk.old) ≡ true }
         requires open { IsOpen side to_client.old to_controller.old }
@@ -42,7 +43,8 @@ impl Lane {
         ensures steps { IfOk result (λ s. Steps asset.now moment side bytes.now.bytes (state self.old to_client.old to_controller.old (DeskValue.lines (D.value desk.old)))
             (state self.new to_client.new to_controller.new (DeskValue.lines (D.value desk.new))) s) }
         ensures misses { OnErr result (Misses asset.now moment side bytes.now.bytes (state self.old to_client.old to_controller.old (DeskValue.lines (D.value desk.old)))
-            (DeskValue.lines (D.value desk.new))) }
+            (DeskValue.lines (D.value desk.new)) (DeskValue.line_part (D.value desk.new))) }
+        ensures of_asset { OnOk result (IsLaneOf asset.now self.new) }
         ensures client_grows { IfOk result (λ s. Grows (2 * letters_in s) (debt self.old) (debt self.new) to_client.old to_client.new) }
         ensures controller_grows { IfOk result (λ s. Grows (2 * letters_in s) (debt self.old) (debt self.new) to_controller.old to_controller.new) }
         ensures counts { IfOk result (λ s. CountsBy (letters_in s) self.old self.new) }
@@ -87,6 +89,7 @@ impl Lane {
         to_controller: &mut Outq,
         desk: &mut D,
     ) -> Result<(), WriteFault>
+        requires of_asset { IsLaneOf asset.now self.old }
         requires within { IsAssetWithin asset.now }
         requires whole { DeskValue.whole (D.value desk.old) ≡ true }
         requires at_least { 1 ≤ length adu.now.pdu.bytes }
@@ -99,7 +102,8 @@ impl Lane {
         ensures takes { OnOk result (TakesCommand asset.now moment (adu_value adu.now) (state self.old to_client.old to_controller.old (DeskValue.lines (D.value desk.old)))
             (state self.new to_client.new to_controller.new (DeskValue.lines (D.value desk.new)))) }
         ensures misses { OnErr result (MissesCommand asset.now moment (adu_value adu.now) (state self.old to_client.old to_controller.old (DeskValue.lines (D.value desk.old)))
-            (DeskValue.lines (D.value desk.new))) }
+            (DeskValue.lines (D.value desk.new)) (DeskValue.line_part (D.value desk.new))) }
+        ensures of_asset { OnOk result (IsLaneOf asset.now self.new) }
         ensures client_grows { OnOk result (Grows 9 0 0 to_client.old to_client.new) }
         ensures controller_grows { OnOk result (Grows (length (spelling (adu_value adu.now))) 0 0 to_controller.old to_controller.new) }
         ensures counts { OnOk result (CountsBy 1 self.old self.new) }
@@ -107,7 +111,7 @@ impl Lane {
         ensures log { WritesLog (D.value desk.old) (D.value desk.new) }
         ensures cause { HasCause (DeskValue.faults (D.value desk.old)) (DeskValue.faults (D.value desk.new)) (IsErr result) }
     {
-        match judge(asset, self.client.address, adu) {
+        match judge(asset, &self.index, adu) {
             Fate::Admitted => {
                 push_adu(adu, to_controller);
                 self.admitted += 1;

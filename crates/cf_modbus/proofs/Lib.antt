@@ -1,5 +1,5 @@
 pub mod ActLists
 pub mod Framing
-mod Fronts
+pub mod Fronts
 mod Layouts
 pub mod Reading

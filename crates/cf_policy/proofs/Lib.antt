@@ -1,2 +1,5 @@
 pub mod FirstPlace
+pub mod ByCode
+pub mod CodePart
+pub mod Pairs
 pub mod FirstRule

@@ -1,3 +1,4 @@
+pub mod Index
 pub mod Laws
 pub mod Names
 pub mod Verdict

@@ -38,7 +38,7 @@ fn first_number(rules: &[Rule], client: u32, act: &Act) -> Option<usize>
     rules.iter().position(|rule| has_act(rule, client, act))
 }
 
-fn rule_reason(rule: &Rule) -> Reason
+pub(crate) fn rule_reason(rule: &Rule) -> Reason
     ensures { result ≡ rule_reason rule.now }
 {
     if !rule.values.is_empty() {
@@ -94,7 +94,7 @@ fn has_function(rule: &Rule, client: u32, act: &Act) -> bool
         && takes(&rule.groups, i64::from(act.group))
 }
 
-fn takes_value(spans: &Items<Span>, value: Option<i64>) -> bool
+pub(crate) fn takes_value(spans: &Items<Span>, value: Option<i64>) -> bool
     ensures { result ≡ takes_value spans.now value }
 {
     match value {
@@ -103,7 +103,7 @@ fn takes_value(spans: &Items<Span>, value: Option<i64>) -> bool
     }
 }
 
-fn takes(spans: &Items<Span>, number: i64) -> bool
+pub(crate) fn takes(spans: &Items<Span>, number: i64) -> bool
     ensures { result ≡ takes spans.now number }
 {
     spans.is_empty() || some_covers(spans.as_slice(), number)

@@ -1,6 +1,7 @@
 //! Policies as values, and the verdict of a policy about an act of a client.
 #![tactic(auto)]
 
+mod index;
 mod judge;
 mod laws;
 mod limits;
@@ -8,6 +9,7 @@ mod lists;
 mod names;
 mod policy;
 
+pub use index::{CodeIndex, CodePair};
 pub use judge::verdict;
 pub use laws::{allows_by_first_rule, keeps_decided_acts};
 pub use limits::{

@@ -28,6 +28,10 @@ abbrev pub waiting : Option ℕ → ℕ
 waiting None = 0
 waiting (Some moved) = 1
 
+-- both numbers of a stamp have fifteen bits
+abbrev pub IsSmall : Stamp → Type 0
+IsSmall stamp = (stamp.send < 32768) × (stamp.receive < 32768)
+
 -- what is left of the client's frames past the greatest front with at most m admitted ones
 abbrev pub uncovered : ℕ → List Fate → List Fate
 uncovered m frames = drop (covered_by m frames) frames

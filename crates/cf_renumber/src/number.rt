@@ -20,6 +20,7 @@ pub fn before(number: u16, less: u16) -> u16
     requires number { number < 32768 }
     requires less { less ≤ 32768 }
     ensures value { result ≡ (number + 32768 - less) % 32768 }
+    ensures small { result < 32768 }
     ensures count { (count : ℕ) → number ≡ count % 32768 → less ≤ count → result ≡ (count - less) % 32768 }
 {
     (number + (MODULUS - less)) % MODULUS

@@ -1,7 +1,7 @@
 //! The numbers of one session.
-ghost use Rattle.std.specs.Prelude.{◌≡◌, ℕ, ◌+◌, ◌%◌, ◌<◌, ◌≤◌, ◌↔◌, length, false, List, [], ◌∷◌, IfOk, MatchResult, IsSome, Some, None, count_by};
+ghost use Rattle.std.specs.Prelude.{◌≡◌, ℕ, ◌+◌, ◌%◌, ◌<◌, ◌≤◌, ◌↔◌, length, false, List, [], ◌∷◌, IfOk, IfSome, OnErr, MatchResult, IsSome, IsTrue, Some, None, count_by};
 ghost use Rattle.cf_renumber.specs.Counts.{Event, Started, Stopped, Admitted, Refused, ClientAck, Carried, ControllerAck, client_refusal, client_ack_refusal, controller_refusal, controller_ack_refusal, receive_refusal, admitted_stamp, refused_stamp, carried_stamp, client_translated, controller_translated, acked_by_controller, controllers_among, count_from, is_admitted, is_controllers, to_client};
-ghost use Rattle.cf_renumber.specs.Numbers.{HasCountsOf, IsNumbersOf, IsNumbersAwaiting, IsNumbersValue, empty, after_admitted, after_refused, after_mirror, after_carried, after_controller_ack, after_dropped, ack_owed, after_start, after_stop, after_client_ack};
+ghost use Rattle.cf_renumber.specs.Numbers.{HasCountsOf, IsNumbersOf, IsNumbersAwaiting, IsNumbersValue, empty, after_admitted, after_refused, after_mirror, after_carried, after_controller_ack, after_dropped, ack_owed, after_start, after_stop, after_client_ack, IsSmall};
 ghost use Rattle.cf_renumber.specs.Counts as counts;
 ghost use Rattle.cf_renumber.specs.NumbersCalls.{NumbersStep, Start, Stop, MaySend, Admit, Refuse, FromClient, AckOfClient, FromController, AckOfController, error_of};
 ghost use Rattle.cf_renumber.specs.Numbers as kept;
@@ -122,6 +122,7 @@ impl Numbers {
             MatchResult result (λ _. client_refusal events ns nr ≡ None) (λ e. client_refusal events ns nr ≡ Some e) }
         ensures stands { IfOk result (λ _. (events : List Event) → IsNumbersOf self.old events → IsNumbersAwaiting self.new events nr) }
         ensures owed { IfOk result (λ _. IsSome self.new.owed) }
+        ensures idle { OnErr result (self.new.owed ≡ None) }
         ensures did { NumbersStep (FromClient ns nr (error_of result)) self.old self.new }
     {
         self.take_from_client(ns, nr)
@@ -133,6 +134,7 @@ impl Numbers {
             MatchResult result (λ _. client_refusal events ns nr ≡ None) (λ e. client_refusal events ns nr ≡ Some e) }
         ensures stands { IfOk result (λ _. (events : List Event) → IsNumbersOf self.old events → IsNumbersAwaiting self.new events nr) }
         ensures owed { IfOk result (λ _. IsSome self.new.owed) }
+        ensures idle { OnErr result (self.new.owed ≡ None) }
     {
         check_send(self.received, ns)?;
         let anew = self.check_client(nr)?;
@@ -150,6 +152,7 @@ impl Numbers {
         ensures stamp { (events : List Event) (nr : ℕ) → IsNumbersAwaiting self.old events nr → result ≡ admitted_stamp events nr }
         ensures stands { (events : List Event) (nr : ℕ) → IsNumbersAwaiting self.old events nr → IsNumbersOf self.new (Admitted nr ∷ events) }
         ensures did { NumbersStep (Admit result) self.old self.new }
+        ensures small { IsSmall result }
         ensures idle { self.new.owed ≡ None }
     {
         let stamp = self.stamp_for_controller();
@@ -164,6 +167,9 @@ impl Numbers {
         ensures stamp { (events : List Event) (nr : ℕ) → IsNumbersAwaiting self.old events nr → result ≡ refused_stamp events nr reply }
         ensures stands { (events : List Event) (nr : ℕ) → IsNumbersAwaiting self.old events nr → IsNumbersOf self.new (Refused nr reply ∷ events) }
         ensures did { NumbersStep (Refuse reply result) self.old self.new }
+        ensures small { IfSome result.reply IsSmall }
+        ensures small_ack { IfSome result.ack (λ n. n < 32768) }
+        ensures reply { IsSome result.reply ↔ IsTrue reply }
         ensures idle { self.new.owed ≡ None }
     {
         let ack = self.owed_ack();
@@ -188,6 +194,7 @@ impl Numbers {
         ensures stands { IfOk result (λ _. (events : List Event) → IsNumbersOf self.old events → IsNumbersOf self.new (ClientAck nr ∷ events)) }
         ensures owed { self.new.owed ≡ None }
         ensures did { NumbersStep (AckOfClient nr result) self.old self.new }
+        ensures small { IfOk result (λ n. n < 32768) }
     {
         self.translate_client(nr)
     }
@@ -198,6 +205,7 @@ impl Numbers {
             MatchResult result (λ n. (client_ack_refusal events nr ≡ None)
             × (n ≡ client_translated events nr % 32768)) (λ e. client_ack_refusal events nr ≡ Some e) }
         ensures stands { IfOk result (λ _. (events : List Event) → IsNumbersOf self.old events → IsNumbersOf self.new (ClientAck nr ∷ events)) }
+        ensures small { IfOk result (λ n. n < 32768) }
         ensures owed { self.new.owed ≡ None }
     {
         let anew = self.check_client(nr)?;
@@ -214,6 +222,7 @@ impl Numbers {
         ensures stands { IfOk result (λ _. (events : List Event) → IsNumbersOf self.old events → IsNumbersOf self.new (Carried nr ∷ events)) }
         ensures owed { self.new.owed ≡ None }
         ensures did { NumbersStep (FromController ns nr result) self.old self.new }
+        ensures small { IfOk result IsSmall }
     {
         self.take_from_controller(ns, nr)
     }
@@ -224,6 +233,7 @@ impl Numbers {
             MatchResult result (λ s. (controller_refusal events ns nr ≡ None)
             × (s ≡ carried_stamp events nr)) (λ e. controller_refusal events ns nr ≡ Some e) }
         ensures stands { IfOk result (λ _. (events : List Event) → IsNumbersOf self.old events → IsNumbersOf self.new (Carried nr ∷ events)) }
+        ensures small { IfOk result IsSmall }
         ensures owed { self.new.owed ≡ None }
     {
         check_send(self.carried, ns)?;
@@ -246,6 +256,7 @@ impl Numbers {
         ensures stands { IfOk result (λ _. (events : List Event) → IsNumbersOf self.old events → IsNumbersOf self.new (ControllerAck nr ∷ events)) }
         ensures owed { self.new.owed ≡ None }
         ensures did { NumbersStep (AckOfController nr result) self.old self.new }
+        ensures small { IfOk result (λ n. n < 32768) }
     {
         self.translate_controller(nr)
     }
@@ -256,6 +267,7 @@ impl Numbers {
             MatchResult result (λ n. (controller_ack_refusal events nr ≡ None)
             × (n ≡ controller_translated events nr % 32768)) (λ e. controller_ack_refusal events nr ≡ Some e) }
         ensures stands { IfOk result (λ _. (events : List Event) → IsNumbersOf self.old events → IsNumbersOf self.new (ControllerAck nr ∷ events)) }
+        ensures small { IfOk result (λ n. n < 32768) }
         ensures owed { self.new.owed ≡ None }
     {
         let anew = self.check_controller(nr)?;
@@ -304,6 +316,7 @@ impl Numbers {
     /// The numbers of the next frame to the controller.
     fn stamp_for_controller(&self) -> Stamp
         ensures value { result ≡ kept.stamp_for_controller self.now }
+        ensures small { IsSmall result }
         ensures few { count_by is_controllers self.now.origins ≤ 4096 }
     {
         Stamp {
@@ -315,6 +328,7 @@ impl Numbers {
     /// The numbers of the next frame to the client.
     fn stamp_for_client(&self) -> Stamp
         ensures value { result ≡ kept.stamp_for_client self.now }
+        ensures small { IsSmall result }
         ensures few { length self.now.fates ≤ 4096 }
     {
         Stamp {
@@ -326,6 +340,7 @@ impl Numbers {
     /// The N(R) of the S frame that is owed to the controller once the client's frame is refused.
     fn owed_ack(&self) -> Option<u16>
         ensures value { result ≡ ack_owed self.now self.now.owed }
+        ensures small { IfSome result (λ n. n < 32768) }
         ensures few { count_by is_controllers self.now.origins ≤ 4096 }
     {
         let ack = self.stamp_for_controller().receive;

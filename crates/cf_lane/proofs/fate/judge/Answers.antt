@@ -4,11 +4,11 @@ use Rattle.cf_lane.specs.Modbus.{of_no_form, of_its_acts}
 use Rattle.cf_lane.proofs.fate.judge.Goals as goal
 
 pub returns-in-Err-clause-fate : goal.returns-in-Err-clause-fate
-returns-in-Err-clause-fate c =
-    let station : c.args.adu.now.unit ≡ c.args.asset.now.station = cc in
-    of_no_form station c.in-Err.refusal c.in-Err.ensures.true_answer (cc (c.refused-in-Err.ensures, c.reason.ensures))
+returns-in-Err-clause-fate c = λ client is.
+    (let station : c.args.adu.now.unit ≡ c.args.asset.now.station = cc in
+    of_no_form station c.in-Err.refusal c.in-Err.ensures.true_answer (cc (c.refused-in-Err.ensures, c.reason.ensures)))
 
 pub returns-in-Ok-clause-fate : goal.returns-in-Ok-clause-fate
-returns-in-Ok-clause-fate c =
-    let station : c.args.adu.now.unit ≡ c.args.asset.now.station = cc in
-    of_its_acts station (request_value c.in-Ok.request) c.in-Ok.ensures.true_answer c.judge_acts.ensures.fate
+returns-in-Ok-clause-fate c = λ client is.
+    (let station : c.args.adu.now.unit ≡ c.args.asset.now.station = cc in
+    of_its_acts station (request_value c.in-Ok.request) c.in-Ok.ensures.true_answer (c.judge_acts.ensures.fate client is))

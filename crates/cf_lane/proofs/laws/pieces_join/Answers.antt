@@ -1,5 +1,5 @@
 use Rattle.cf_lane.proofs.Judgements.{pieces_join}
-use Rattle.cf_lane.proofs.ModbusUnits.{free_unit}
+use Rattle.cf_lane.proofs.Units.{free_unit}
 use Rattle.cf_lane.proofs.Recuts.{end_joins, judged_join, nothing_taken}
 use Rattle.cf_lane.proofs.laws.pieces_join.Goals as goal
 
@@ -15,5 +15,5 @@ returns-clause-nothing c = nothing_taken
 pub returns-clause-ends : goal.returns-clause-ends
 returns-clause-ends c = end_joins
 
-pub returns-clause-modbus : goal.returns-clause-modbus
-returns-clause-modbus c = free_unit
+pub returns-clause-free : goal.returns-clause-free
+returns-clause-free c = free_unit

@@ -1,25 +1,44 @@
-use Rattle.std.proofs.Common.{◌⊎◌, Option, List, subst, ◌≡◌, ℕ, false, refl, ap, ◌∙◌}
+use Rattle.std.proofs.Common.{subst, refl, ap, ◌∙◌}
 use Rattle.cf_outside.specs.Desk.{DeskValue}
-use Rattle.cf_lane.specs.Handled.{LaneValue, state}
+use Rattle.cf_lane.specs.Handled.{LaneValue, MayHaveAdded, state}
 use Rattle.cf_lane.specs.Log.{end_lines, with_lines}
 use Rattle.cf_lane.proofs.Failing.{on_err}
-use Rattle.cf_lane.proofs.Ends.{end_fails}
-use Rattle.cf_lane.proofs.Ends.{follows_end}
+use Rattle.cf_lane.proofs.Ends.{end_apart, end_fails, end_fails_apart, follows_end}
 use Rattle.cf_lane.proofs.lane.Lane.ended.Goals as goal
-
-abbrev may_have : DeskValue → Option (List (List ℕ)) → List (List ℕ) → Type 0
-may_have now text more = (now.lines ≡ text) ⊎ (now.lines ≡ with_lines text more)
 
 pub returns-clause-history : goal.returns-clause-history
 returns-clause-history g c = λ h rests first is f.
     (let text = DeskValue.lines (g.D.Desk.value c.args.desk.now) in
-    follows_end c.args.asset.now c.requires.modbus h rests first c.args.moment c.args.side c.args.rest _ _ is f c.requires.«open» refl c.end_other.ensures
-    (c.in_ok-log_end.ensures.lines ∙ ap (λ (l : LaneValue). with_lines text (end_lines c.args.asset.now l.client c.args.moment c.args.side false c.args.rest)) c.self.view_is))
+    let unfinished = c.has_unfinished-unfinished.result in
+    follows_end c.args.asset.now unfinished h rests first c.args.moment c.args.side c.args.rest _ _ (λ earlier knows. c.has_unfinished-unfinished.ensures c.args.asset.now earlier c.requires.of_asset knows)
+    is f c.requires.«open» refl c.end_other.ensures
+    (c.in_ok-log_end.ensures.lines ∙ ap (λ (l : LaneValue). with_lines text (end_lines c.args.asset.now l.client c.args.moment c.args.side unfinished c.args.rest)) c.self.view_is))
 
 pub returns-in_err-log_end-clause-fails : goal.returns-in_err-log_end-clause-fails
 returns-in_err-log_end-clause-fails g c =
-    let text = DeskValue.lines (g.D.Desk.value c.args.desk.now) in
-    let Q : LaneValue → Type 0 = λ l. may_have (g.D.Desk.value c.log_end.new.desk) text (end_lines c.args.asset.now l.client c.args.moment c.args.side false c.args.rest) in
-    on_err _ _ (end_fails c.args.asset.now c.requires.modbus c.args.moment c.args.side c.args.rest
-    (state c.args.self.now c.args.to_client.now c.args.to_controller.now text) (DeskValue.lines (g.D.Desk.value c.log_end.new.desk)) c.requires.«open»
+    let unfinished = c.has_unfinished-unfinished.result in
+    let old = g.D.Desk.value c.args.desk.now in
+    let new = g.D.Desk.value c.log_end.new.desk in
+    let Q : LaneValue → Type 0 = λ l. MayHaveAdded (end_lines c.args.asset.now l.client c.args.moment c.args.side unfinished c.args.rest) old new in
+    on_err _ _ (end_fails c.args.asset.now unfinished c.args.moment c.args.side c.args.rest
+    (state c.args.self.now c.args.to_client.now c.args.to_controller.now (DeskValue.lines old)) (λ earlier knows. c.has_unfinished-unfinished.ensures c.args.asset.now earlier c.requires.of_asset knows)
+    (DeskValue.lines new) (DeskValue.line_part new) c.requires.«open»
     (subst Q c.self.view_is c.in_err-log_end.ensures.fails))
+
+pub returns-clause-apart : goal.returns-clause-apart
+returns-clause-apart g c =
+    let text = DeskValue.lines (g.D.Desk.value c.args.desk.now) in
+    let unfinished = c.has_unfinished-unfinished.result in
+    end_apart c.args.asset.now unfinished c.args.moment c.args.side c.args.rest (state c.args.self.now c.args.to_client.now c.args.to_controller.now text)
+    (λ earlier knows. c.has_unfinished-unfinished.ensures c.args.asset.now earlier c.requires.of_asset knows) c.requires.«open» _ refl c.end_other.ensures
+    (c.in_ok-log_end.ensures.lines ∙ ap (λ (l : LaneValue). with_lines text (end_lines c.args.asset.now l.client c.args.moment c.args.side unfinished c.args.rest)) c.self.view_is)
+
+pub returns-in_err-log_end-clause-fails_apart : goal.returns-in_err-log_end-clause-fails_apart
+returns-in_err-log_end-clause-fails_apart g c =
+    let unfinished = c.has_unfinished-unfinished.result in
+    let old = g.D.Desk.value c.args.desk.now in
+    let new = g.D.Desk.value c.log_end.new.desk in
+    let Q : LaneValue → Type 0 = λ l. MayHaveAdded (end_lines c.args.asset.now l.client c.args.moment c.args.side unfinished c.args.rest) old new in
+    on_err _ _ (end_fails_apart c.args.asset.now unfinished c.args.moment c.args.side c.args.rest
+    (state c.args.self.now c.args.to_client.now c.args.to_controller.now (DeskValue.lines old)) (λ earlier knows. c.has_unfinished-unfinished.ensures c.args.asset.now earlier c.requires.of_asset knows)
+    c.requires.«open» (DeskValue.lines new) (DeskValue.line_part new) (subst Q c.self.view_is c.in_err-log_end.ensures.fails))

@@ -6,9 +6,10 @@ use Rattle.cf_lane.specs.Handled.{letters_in}
 use Rattle.cf_lane.specs.declared.lane.Step.{Step}
 use Rattle.std.proofs.lemmas.List.{length-drop}
 use Rattle.cf_lane.proofs.Failing.{on_err, misses_rest}
-use Rattle.cf_lane.proofs.ModbusUnits.{free_unit, nothing_unit}
-use Rattle.cf_lane.proofs.Histories.{along_start, fails_within}
-use Rattle.cf_lane.proofs.Feeding.{grows_none, writes_none, writes_both, cause_after, open_stays, room_for_rest, within, along_took, some_letters, smaller, grows_took, grows_end, little_left, same_client, follows_more, follows_cut}
+use Rattle.cf_lane.proofs.Earlier.{debt_most}
+use Rattle.cf_lane.proofs.Units.{free_unit, nothing_unit}
+use Rattle.cf_lane.proofs.Histories.{along_start, fails_apart, fails_of_whole}
+use Rattle.cf_lane.proofs.Feeding.{grows_none, writes_none, writes_both, cause_after, open_stays, room_for_rest, within, along_took, some_letters, smaller, grows_took, grows_end, little_left, same_client, apart_more, apart_cut, follows_more, follows_cut}
 use Rattle.cf_lane.proofs.lane.Lane.feed.Goals as goal
 
 pub units-init : goal.units-init
@@ -18,6 +19,7 @@ units-init g c = record {
   client_grows = grows_none _ _;
   controller_grows = grows_none _ _;
   counts = omega arith;
+  of_asset = c.requires.of_asset;
   whole = c.requires.whole;
   log = writes_none _;
 }
@@ -32,14 +34,14 @@ pub step-requires-clause-open : goal.step-requires-clause-open
 step-requires-clause-open g c = open_stays c.args.side _ _ _ _ _ _ _ _ c.requires.«open» c.units.invariant.client_grows c.units.invariant.controller_grows
 
 pub step-requires-clause-client_room : goal.step-requires-clause-client_room
-step-requires-clause-client_room g c = room_for_rest _ _ _ _ _ _ _ c.after.ensures c.units.invariant.inside c.requires.client_room c.units.invariant.client_grows
+step-requires-clause-client_room g c = room_for_rest _ _ _ _ _ _ _ c.after.ensures.bytes c.units.invariant.inside c.requires.client_room c.units.invariant.client_grows
 
 pub step-requires-clause-controller_room : goal.step-requires-clause-controller_room
-step-requires-clause-controller_room g c = room_for_rest _ _ _ _ _ _ _ c.after.ensures c.units.invariant.inside c.requires.controller_room c.units.invariant.controller_grows
+step-requires-clause-controller_room g c = room_for_rest _ _ _ _ _ _ _ c.after.ensures.bytes c.units.invariant.inside c.requires.controller_room c.units.invariant.controller_grows
 
 pub step-requires-clause-counts : goal.step-requires-clause-counts
 step-requires-clause-counts g c =
-    omega (arith, c.units.invariant.counts, c.requires.counts, c.units.invariant.inside, ap length c.after.ensures, length-drop c.units.used c.args.bytes.bytes)
+    omega (arith, c.units.invariant.counts, c.requires.counts, c.units.invariant.inside, ap length c.after.ensures.bytes, length-drop c.units.used c.args.bytes.bytes)
 
 pub returns-in_err-n-clause-log : goal.returns-in_err-n-clause-log
 returns-in_err-n-clause-log g c = writes_both _ _ _ c.units.invariant.log c.step.ensures.log
@@ -52,19 +54,20 @@ returns-in_err-n-clause-cause g c =
 
 pub units-smaller : goal.units-smaller
 units-smaller g c =
-    smaller c.args.asset.now c.args.moment c.args.side c.args.bytes.bytes c.after.result.bytes c.units.used c.after.ensures c.units.invariant.inside c.in_ok-n.field-0 c.in-Took.n c.in-Took.is
-    (some_letters c.args.asset.now c.args.moment c.args.side c.args.bytes.bytes c.after.result.bytes c.units.used c.after.ensures c.units.invariant.inside _ _ c.in_ok-n.field-0 c.in-Took.n c.in-Took.is c.in_ok-n.ensures.steps)
+    smaller c.args.asset.now c.args.moment c.args.side c.args.bytes.bytes c.after.result.bytes c.units.used c.after.ensures.bytes c.units.invariant.inside c.in_ok-n.field-0 c.in-Took.n c.in-Took.is
+    (some_letters c.args.asset.now c.args.moment c.args.side c.args.bytes.bytes c.after.result.bytes c.units.used c.after.ensures.bytes c.units.invariant.inside _ _ c.in_ok-n.field-0 c.in-Took.n c.in-Took.is c.in_ok-n.ensures.steps)
     c.in_ok-n.ensures.inside
 
 pub units-preserved : goal.units-preserved
 units-preserved g c =
     let inv = c.units.invariant in
     record {
-      inside = omega (arith, within c.args.asset.now c.args.moment c.args.side c.args.bytes.bytes c.after.result.bytes c.units.used c.after.ensures inv.inside c.in_ok-n.field-0 c.in_ok-n.ensures.inside, ap letters_in c.in-Took.is);
-      along = along_took c.args.asset.now c.args.moment c.args.side c.args.bytes.bytes c.after.result.bytes c.units.used c.after.ensures inv.inside _ _ _ c.in_ok-n.field-0 c.in-Took.n c.in-Took.is inv.along c.in_ok-n.ensures.steps;
-      client_grows = grows_took c.args.asset.now c.args.moment c.args.side c.args.bytes.bytes c.after.result.bytes c.units.used c.after.ensures inv.inside _ _ _ _ _ _ c.in_ok-n.field-0 c.in-Took.n c.in-Took.is inv.client_grows c.in_ok-n.ensures.client_grows;
-      controller_grows = grows_took c.args.asset.now c.args.moment c.args.side c.args.bytes.bytes c.after.result.bytes c.units.used c.after.ensures inv.inside _ _ _ _ _ _ c.in_ok-n.field-0 c.in-Took.n c.in-Took.is inv.controller_grows c.in_ok-n.ensures.controller_grows;
+      inside = omega (arith, within c.args.asset.now c.args.moment c.args.side c.args.bytes.bytes c.after.result.bytes c.units.used c.after.ensures.bytes inv.inside c.in_ok-n.field-0 c.in_ok-n.ensures.inside, ap letters_in c.in-Took.is);
+      along = along_took c.args.asset.now c.args.moment c.args.side c.args.bytes.bytes c.after.result.bytes c.units.used c.after.ensures.bytes inv.inside _ _ _ c.in_ok-n.field-0 c.in-Took.n c.in-Took.is inv.along c.in_ok-n.ensures.steps;
+      client_grows = grows_took c.args.asset.now c.args.moment c.args.side c.args.bytes.bytes c.after.result.bytes c.units.used c.after.ensures.bytes inv.inside _ _ _ _ _ _ c.in_ok-n.field-0 c.in-Took.n c.in-Took.is inv.client_grows c.in_ok-n.ensures.client_grows;
+      controller_grows = grows_took c.args.asset.now c.args.moment c.args.side c.args.bytes.bytes c.after.result.bytes c.units.used c.after.ensures.bytes inv.inside _ _ _ _ _ _ c.in_ok-n.field-0 c.in-Took.n c.in-Took.is inv.controller_grows c.in_ok-n.ensures.controller_grows;
       counts = omega (arith, inv.counts, c.in_ok-n.ensures.counts, ap letters_in c.in-Took.is);
+      of_asset = c.in_ok-n.ensures.of_asset;
       whole = c.in_ok-n.ensures.whole;
       log = writes_both _ _ _ inv.log c.step.ensures.log;
     }
@@ -73,16 +76,19 @@ pub returns-in-More-clause-used : goal.returns-in-More-clause-used
 returns-in-More-clause-used g c = c.units.invariant.inside
 
 pub returns-in-More-clause-history : goal.returns-in-More-clause-history
-returns-in-More-clause-history g c = follows_more c.args.asset.now c.args.moment c.args.side c.args.bytes.bytes c.after.result.bytes c.units.used _ _ _ c.units.invariant.along c.after.ensures c.in_ok-n.field-0 c.in_ok-n.ensures.steps c.in-More.is
+returns-in-More-clause-history g c = follows_more c.args.asset.now c.args.moment c.args.side c.args.bytes.bytes c.after.result.bytes c.units.used _ _ _ c.units.invariant.along c.after.ensures.bytes c.in_ok-n.field-0 c.in_ok-n.ensures.steps c.in-More.is
+
+pub returns-in-More-clause-apart : goal.returns-in-More-clause-apart
+returns-in-More-clause-apart g c = apart_more c.args.asset.now c.args.moment c.args.side c.args.bytes.bytes c.after.result.bytes c.units.used _ _ _ c.units.invariant.along c.after.ensures.bytes c.in_ok-n.field-0 c.in_ok-n.ensures.steps c.in-More.is
 
 pub returns-in-More-clause-client_grows : goal.returns-in-More-clause-client_grows
 returns-in-More-clause-client_grows g c =
-    grows_end c.args.asset.now c.args.moment c.args.side c.args.bytes.bytes c.after.result.bytes c.units.used c.after.ensures c.units.invariant.inside _ _ _ _ _ _ c.in_ok-n.field-0 (ap letters_in c.in-More.is)
+    grows_end c.args.asset.now c.args.moment c.args.side c.args.bytes.bytes c.after.result.bytes c.units.used c.after.ensures.bytes c.units.invariant.inside _ _ _ _ _ _ c.in_ok-n.field-0 (ap letters_in c.in-More.is)
     c.units.invariant.client_grows c.in_ok-n.ensures.client_grows
 
 pub returns-in-More-clause-controller_grows : goal.returns-in-More-clause-controller_grows
 returns-in-More-clause-controller_grows g c =
-    grows_end c.args.asset.now c.args.moment c.args.side c.args.bytes.bytes c.after.result.bytes c.units.used c.after.ensures c.units.invariant.inside _ _ _ _ _ _ c.in_ok-n.field-0 (ap letters_in c.in-More.is)
+    grows_end c.args.asset.now c.args.moment c.args.side c.args.bytes.bytes c.after.result.bytes c.units.used c.after.ensures.bytes c.units.invariant.inside _ _ _ _ _ _ c.in_ok-n.field-0 (ap letters_in c.in-More.is)
     c.units.invariant.controller_grows c.in_ok-n.ensures.controller_grows
 
 pub returns-in-More-clause-counts : goal.returns-in-More-clause-counts
@@ -98,16 +104,19 @@ pub returns-in-Cut-clause-used : goal.returns-in-Cut-clause-used
 returns-in-Cut-clause-used g c = c.units.invariant.inside
 
 pub returns-in-Cut-clause-history : goal.returns-in-Cut-clause-history
-returns-in-Cut-clause-history g c = follows_cut c.args.asset.now c.args.moment c.args.side c.args.bytes.bytes c.after.result.bytes c.units.used _ _ _ c.units.invariant.along c.after.ensures c.in_ok-n.field-0 c.in_ok-n.ensures.steps c.requires.modbus c.in-Cut.reason c.in-Cut.is
+returns-in-Cut-clause-history g c = follows_cut c.args.asset.now c.args.moment c.args.side c.args.bytes.bytes c.after.result.bytes c.units.used _ _ _ c.units.invariant.along c.after.ensures.bytes c.in_ok-n.field-0 c.in_ok-n.ensures.steps c.after.ensures.octets c.in-Cut.reason c.in-Cut.is
+
+pub returns-in-Cut-clause-apart : goal.returns-in-Cut-clause-apart
+returns-in-Cut-clause-apart g c = apart_cut c.args.asset.now c.args.moment c.args.side c.args.bytes.bytes c.after.result.bytes c.units.used _ _ _ c.units.invariant.along c.after.ensures.bytes c.in_ok-n.field-0 c.in_ok-n.ensures.steps c.after.ensures.octets c.in-Cut.reason c.in-Cut.is
 
 pub returns-in-Cut-clause-client_grows : goal.returns-in-Cut-clause-client_grows
 returns-in-Cut-clause-client_grows g c =
-    grows_end c.args.asset.now c.args.moment c.args.side c.args.bytes.bytes c.after.result.bytes c.units.used c.after.ensures c.units.invariant.inside _ _ _ _ _ _ c.in_ok-n.field-0 (ap letters_in c.in-Cut.is)
+    grows_end c.args.asset.now c.args.moment c.args.side c.args.bytes.bytes c.after.result.bytes c.units.used c.after.ensures.bytes c.units.invariant.inside _ _ _ _ _ _ c.in_ok-n.field-0 (ap letters_in c.in-Cut.is)
     c.units.invariant.client_grows c.in_ok-n.ensures.client_grows
 
 pub returns-in-Cut-clause-controller_grows : goal.returns-in-Cut-clause-controller_grows
 returns-in-Cut-clause-controller_grows g c =
-    grows_end c.args.asset.now c.args.moment c.args.side c.args.bytes.bytes c.after.result.bytes c.units.used c.after.ensures c.units.invariant.inside _ _ _ _ _ _ c.in_ok-n.field-0 (ap letters_in c.in-Cut.is)
+    grows_end c.args.asset.now c.args.moment c.args.side c.args.bytes.bytes c.after.result.bytes c.units.used c.after.ensures.bytes c.units.invariant.inside _ _ _ _ _ _ c.in_ok-n.field-0 (ap letters_in c.in-Cut.is)
     c.units.invariant.controller_grows c.in_ok-n.ensures.controller_grows
 
 pub returns-in-Cut-clause-counts : goal.returns-in-Cut-clause-counts
@@ -121,20 +130,34 @@ returns-in-Cut-clause-cause g c = record { later = omega (arith, c.units.invaria
 
 pub returns-in-More-clause-left : goal.returns-in-More-clause-left
 returns-in-More-clause-left g c = λ e.
-    little_left c.args.asset.now c.args.moment c.args.side c.args.bytes.bytes c.after.result.bytes c.units.used _ _ _ c.units.invariant.along c.after.ensures c.in_ok-n.field-0 c.in_ok-n.ensures.steps c.requires.modbus c.in-More.is
+    little_left c.args.asset.now c.args.moment c.args.side c.args.bytes.bytes c.after.result.bytes c.units.used _ _ _ c.units.invariant.along c.after.ensures.bytes c.in_ok-n.field-0 c.in_ok-n.ensures.steps c.in-More.is
 
 pub returns-in-Cut-clause-left : goal.returns-in-Cut-clause-left
 returns-in-Cut-clause-left g c = λ e. cc e
 
 pub returns-in-More-clause-client : goal.returns-in-More-clause-client
 returns-in-More-clause-client g c =
-    same_client c.args.asset.now c.args.moment c.args.side c.args.bytes.bytes c.after.result.bytes c.units.used _ _ _ c.units.invariant.along c.after.ensures c.in_ok-n.field-0 c.in_ok-n.ensures.steps c.requires.modbus (inl c.in-More.is)
+    same_client c.args.asset.now c.args.moment c.args.side c.args.bytes.bytes c.after.result.bytes c.units.used _ _ _ c.units.invariant.along c.after.ensures.bytes c.in_ok-n.field-0 c.in_ok-n.ensures.steps (inl c.in-More.is)
 
 pub returns-in-Cut-clause-client : goal.returns-in-Cut-clause-client
 returns-in-Cut-clause-client g c =
-    same_client c.args.asset.now c.args.moment c.args.side c.args.bytes.bytes c.after.result.bytes c.units.used _ _ _ c.units.invariant.along c.after.ensures c.in_ok-n.field-0 c.in_ok-n.ensures.steps c.requires.modbus (inr (c.in-Cut.reason, c.in-Cut.is))
+    same_client c.args.asset.now c.args.moment c.args.side c.args.bytes.bytes c.after.result.bytes c.units.used _ _ _ c.units.invariant.along c.after.ensures.bytes c.in_ok-n.field-0 c.in_ok-n.ensures.steps (inr (c.in-Cut.reason, c.in-Cut.is))
 
 pub returns-in_err-n-clause-fails : goal.returns-in_err-n-clause-fails
 returns-in_err-n-clause-fails g c =
-    on_err _ _ (fails_within c.args.asset.now (free_unit c.args.asset.now.protocol c.requires.modbus) (nothing_unit c.args.asset.now.protocol c.requires.modbus)
-    c.args.moment c.args.side c.args.bytes.bytes c.units.used _ _ _ c.units.invariant.along (misses_rest _ _ _ _ _ _ _ c.after.ensures c.in_err-n.ensures.misses))
+    on_err _ _ (fails_of_whole _ _ _ _ _ _ _ (fails_apart c.args.asset.now (free_unit c.args.asset.now.protocol) (nothing_unit c.args.asset.now.protocol)
+    c.args.moment c.args.side c.args.bytes.bytes c.units.used _ _ _ _ c.units.invariant.along (misses_rest _ _ _ _ _ _ _ _ c.after.ensures.bytes c.in_err-n.ensures.misses)))
+
+pub returns-in_err-n-clause-fails_apart : goal.returns-in_err-n-clause-fails_apart
+returns-in_err-n-clause-fails_apart g c =
+    on_err _ _ (fails_apart c.args.asset.now (free_unit c.args.asset.now.protocol) (nothing_unit c.args.asset.now.protocol)
+    c.args.moment c.args.side c.args.bytes.bytes c.units.used _ _ _ _ c.units.invariant.along (misses_rest _ _ _ _ _ _ _ _ c.after.ensures.bytes c.in_err-n.ensures.misses))
+
+pub step-requires-clause-of_asset : goal.step-requires-clause-of_asset
+step-requires-clause-of_asset g c = c.units.invariant.of_asset
+
+pub returns-in-More-clause-debt : goal.returns-in-More-clause-debt
+returns-in-More-clause-debt g c = debt_most _ _ c.in_ok-n.ensures.of_asset
+
+pub returns-in-Cut-clause-debt : goal.returns-in-Cut-clause-debt
+returns-in-Cut-clause-debt g c = debt_most _ _ c.in_ok-n.ensures.of_asset

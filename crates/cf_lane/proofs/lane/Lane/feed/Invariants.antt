@@ -1,7 +1,7 @@
 use Rattle.std.proofs.Common.{◌≡◌, ◌-◌, ◌*◌, ◌≤◌, length, true}
 use Rattle.cf_outside.specs.Desk.{DeskValue}
 use Rattle.cf_lane.proofs.Histories.{Along}
-use Rattle.cf_lane.specs.Handled.{state, Grows, CountsBy, WritesLog, debt}
+use Rattle.cf_lane.specs.Handled.{IsLaneOf, state, Grows, CountsBy, WritesLog, debt}
 use Rattle.cf_lane.proofs.lane.Lane.feed.Given as goal
 
 abbrev pub invariant-units : goal.invariant-units
@@ -14,6 +14,7 @@ invariant-units g l =
       client_grows : Grows (2 * l.used) (debt l.fn.self) (debt l.self) l.fn.to_client l.to_client;
       controller_grows : Grows (2 * l.used) (debt l.fn.self) (debt l.self) l.fn.to_controller l.to_controller;
       counts : CountsBy l.used l.fn.self l.self;
+      of_asset : IsLaneOf l.asset l.self;
       whole : DeskValue.whole (value l.desk) ≡ true;
       log : WritesLog (value l.fn.desk) (value l.desk);
     }

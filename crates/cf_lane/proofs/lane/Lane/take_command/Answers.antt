@@ -1,19 +1,25 @@
-use Rattle.std.proofs.Common.{◌∷◌, [], ◌+◌, refl, ap, ◌∙◌, subst}
+use Rattle.std.proofs.Common.{◌≡◌, ◌∷◌, [], ◌+◌, refl, sym, ap, ◌∙◌, subst}
 use Rattle.cf_modbus.specs.Adu.{adu_value, spelling}
 use Rattle.cf_outside.specs.Desk.{DeskValue}
 use Rattle.cf_lane.specs.Log.{line_about, refusal_line, is_some_bytes, with_lines}
 use Rattle.cf_lane.specs.Modbus.{adu_reply, HasCommandFate}
-use Rattle.cf_lane.specs.Handled.{LaneValue}
+use Rattle.cf_policy.specs.Index.{IsIndexOf}
+use Rattle.cf_policy.specs.declared.Asset.{Asset}
+use Rattle.cf_lane.specs.Handled.{IsLaneOf, LaneValue}
 use Rattle.cf_lane.specs.declared.fate.Fate.TheVariants as fate
 use Rattle.cf_lane.proofs.Failing.{on_err, misses_refused}
 use Rattle.cf_lane.proofs.Taking.{takes_admitted, takes_refused}
 use Rattle.cf_lane.proofs.lane.Lane.take_command.Goals as goal
 
+-- the index is that of the client
+of_inside : (asset : Asset) (lane same : LaneValue) → lane ≡ same → IsLaneOf asset lane → IsIndexOf asset same.client.address same.index
+of_inside asset lane same is of = subst (λ (l : LaneValue). IsIndexOf asset l.client.address l.index) is of.index
+
 pub returns-in-Admitted-clause-takes : goal.returns-in-Admitted-clause-takes
 returns-in-Admitted-clause-takes g c =
     let P : LaneValue → Type 0 = λ l. HasCommandFate c.args.asset.now l.client.address (adu_value c.args.adu.now) fate.Admitted in
-    takes_admitted c.args.asset.now c.args.moment (adu_value c.args.adu.now) _ _ (ap (λ (l : LaneValue). l.client) c.self.view_is) c.requires.«open»
-    (subst P c.self.view_is c.in-Admitted.ensures.fate)
+    takes_admitted c.args.asset.now c.args.moment (adu_value c.args.adu.now) _ _ (ap (λ (l : LaneValue). l.client) c.self.view_is) (ap (λ (l : LaneValue). l.wire) c.self.view_is) c.requires.«open»
+    (subst P c.self.view_is (c.in-Admitted.ensures.fate c.self.inside.client.address (of_inside c.args.asset.now _ _ (sym c.self.view_is) c.requires.of_asset)))
     (ap (λ (l : LaneValue). l.admitted + 1) c.self.view_is) (ap (λ (l : LaneValue). l.refused) c.self.view_is) refl c.push_adu.ensures.queue refl
 
 pub returns-in_ok-log_refusal-in-Refused-clause-takes : goal.returns-in_ok-log_refusal-in-Refused-clause-takes
@@ -24,8 +30,8 @@ returns-in_ok-log_refusal-in-Refused-clause-takes g c =
     let moment = c.args.moment in
     let text = DeskValue.lines (g.D.Desk.value c.args.desk.now) in
     let P : LaneValue → Type 0 = λ l. HasCommandFate asset l.client.address a (fate.Refused r) in
-    takes_refused asset moment a _ _ (ap (λ (l : LaneValue). l.client) c.self.view_is) r
-    (subst P c.self.view_is c.in-Refused.ensures.fate)
+    takes_refused asset moment a _ _ (ap (λ (l : LaneValue). l.client) c.self.view_is) (ap (λ (l : LaneValue). l.wire) c.self.view_is) r
+    (subst P c.self.view_is (c.in-Refused.ensures.fate c.self.inside.client.address (of_inside asset _ _ (sym c.self.view_is) c.requires.of_asset)))
     (ap (λ (l : LaneValue). l.admitted) c.self.view_is) (ap (λ (l : LaneValue). l.refused + 1) c.self.view_is)
     c.reply-replied.ensures.queue refl
     (c.in_ok-log_refusal-in-Refused.ensures.lines
@@ -41,9 +47,9 @@ returns-in_err-log_refusal-in-Refused-clause-misses g c =
     let P : LaneValue → Type 0 = λ l. HasCommandFate asset l.client.address a (fate.Refused r) in
     let reply = adu_reply c.args.to_client.now.ended (fate.Refused r) a in
     on_err _ _ (misses_refused asset c.args.moment a r _
-    (record { client = c.self.inside.client; admitted = c.self.inside.admitted; refused = c.self.inside.refused + 1 }) _ c.args.to_controller.now _
-    (ap (λ (l : LaneValue). l.client) c.self.view_is)
-    (subst P c.self.view_is c.in-Refused.ensures.fate)
+    (record { client = c.self.inside.client; admitted = c.self.inside.admitted; refused = c.self.inside.refused + 1; index = c.self.inside.index; wire = c.self.inside.wire }) _ c.args.to_controller.now _ _
+    (ap (λ (l : LaneValue). l.client) c.self.view_is) (ap (λ (l : LaneValue). l.wire) c.self.view_is)
+    (subst P c.self.view_is (c.in-Refused.ensures.fate c.self.inside.client.address (of_inside asset _ _ (sym c.self.view_is) c.requires.of_asset)))
     (ap (λ (l : LaneValue). l.admitted) c.self.view_is) (ap (λ (l : LaneValue). l.refused + 1) c.self.view_is)
     c.reply-replied.ensures.queue refl
     (line_about asset c.self.inside.client c.args.moment (refusal_line asset r c.reply-replied.result c.args.octets.bytes))

@@ -1,0 +1,170 @@
+-- One APDU among the items: `apdu_handled`.
+use Rattle.cf_apci.specs.Apdu.{Ack, ApduValue, Control, Info, SpellsApdu, apdu_break, spelling}
+use Rattle.cf_audit.specs.declared.line.CutReason.{CutReason}
+use Rattle.cf_lane.proofs.Earlier.{cut_of-append, events_of-more, first_none}
+use Rattle.cf_lane.proofs.Handling.{count-more, ended-more}
+use Rattle.cf_lane.proofs.Taking.{grows_more}
+use Rattle.cf_lane.proofs.Units.{apdu_break_is, begins_apdu, breaks_apdu}
+use Rattle.cf_lane.specs.Handled.{Breaks, CountsBy, Does, Grows, Handled, Knows, LaneValue, Misses, State, Steps, TakesUnit, judged, letters_in, state}
+use Rattle.cf_lane.specs.Iec104.{apdu_output}
+use Rattle.cf_lane.specs.Item.{Took}
+use Rattle.cf_lane.specs.Judged.{Judged, cut_by, cut_of, has_ended, is_admitted, is_refused, one_if}
+use Rattle.cf_lane.specs.Kept.{IsWireOf, KnowsWire, wire_debt}
+use Rattle.cf_lane.specs.Log.{lines, unit_lines, is_some_bytes, with_lines}
+use Rattle.cf_lane.specs.Numbers.{events_of, item_event}
+use Rattle.cf_lane.specs.Renumbered.{DoesApdu, MissesApdu, Numbered, TakesApdu, numbered, step_by, unless_cut, unless_cut_by}
+use Rattle.cf_lane.specs.Unit.{Apdu}
+use Rattle.cf_lane.specs.declared.fate.Fate.{Fate}
+use Rattle.cf_lane.specs.declared.lane.Step.{Step}
+use Rattle.cf_lane.specs.declared.wire.Wire.{Wire}
+use Rattle.cf_outq.specs.SendQueue.{Queue, after_push}
+use Rattle.cf_policy.specs.declared.Asset.{Asset}
+use Rattle.cf_policy.specs.declared.Protocol.{Protocol}
+use Rattle.cf_renumber.specs.Counts.{Event}
+use Rattle.cf_renumber.specs.Numbers.{IsNumbersOf, NumbersValue}
+use Rattle.cf_view.specs.Framing.{Begins, BreaksAt}
+use Rattle.cf_view.specs.declared.Break.{Break}
+use Rattle.cf_view.specs.declared.Endpoint.{Endpoint}
+use Rattle.cf_view.specs.declared.Side.{Side}
+use Rattle.std.proofs.Common.{Bool, List, None, Option, Some, [], ap, arith, false, inl, inr, length, refl, subst, sym, take, true, ℕ, ◌*◌, ◌++◌, ◌+◌, ◌<◌, ◌∙◌, ◌∷◌, ◌≡◌, ◌≤◌, ◌⊎◌}
+use Rattle.std.proofs.lemmas.List.{append-nil, length-take}
+use Rattle.std.specs.Prelude.{reverse}
+use Rattle.cf_audit.specs.declared.line.CutReason.TheVariants as cut
+use Rattle.cf_lane.specs.declared.fate.Fate.TheVariants as fates
+use Rattle.cf_lane.specs.declared.lane.Step.TheVariants as step
+use Rattle.cf_lane.specs.declared.wire.Wire.TheVariants as wire
+use Rattle.cf_policy.specs.declared.Protocol.TheVariants as protocol
+use Rattle.cf_view.specs.declared.Side.TheVariants as side
+
+-- what a lane of IEC 104 has of its numbers
+abbrev pub numbers_of : NumbersValue → State → Numbered
+numbers_of numbers s = numbered numbers s.to_client s.to_controller s.lines
+
+module _ (asset : Asset) (moment : ℕ) (s : Side) (a : ApduValue) (f : Fate) (old new : State) (before after : NumbersValue)
+    (was : old.lane.wire ≡ wire.Iec104 before) (is : new.lane.wire ≡ wire.Iec104 after) (client : new.lane.client ≡ old.lane.client)
+    (admitted : new.lane.admitted ≡ old.lane.admitted + one_if (is_admitted f)) (refused : new.lane.refused ≡ old.lane.refused + one_if (is_refused f))
+    (takes : TakesApdu asset old.lane.client moment s a f (numbers_of before old) (numbers_of after new)) where
+  apdu_does : (earlier : List Judged) → cut_of earlier ≡ None → Knows asset old earlier → Does asset earlier (judged moment (Took s (Apdu a)) f ∷ []) old new
+  apdu_does earlier uncut knows =
+      let j : Judged = judged moment (Took s (Apdu a)) f in
+      let known : IsNumbersOf before (events_of earlier) = subst (λ w. KnowsWire asset w earlier) was (knows.wire uncut) in
+      let does = takes earlier known knows.client_ended in
+      let nil = λ (to : Side). sym (append-nil (apdu_output to earlier f s a)) in
+      let text = unit_lines asset old.lane.client moment (is_some_bytes (apdu_output side.Client earlier f s a)) s (spelling a) f in
+      record {
+        knows = record {
+          admitted = admitted ∙ ap (λ n. n + one_if (is_admitted f)) knows.admitted ∙ sym (count-more (λ i. is_admitted i.fate) earlier j);
+          refused = refused ∙ ap (λ n. n + one_if (is_refused f)) knows.refused ∙ sym (count-more (λ i. is_refused i.fate) earlier j);
+          client_ended = ap (λ (q : Queue). q.ended) does.of_client ∙ knows.client_ended ∙ sym (ended-more side.Controller earlier j refl);
+          controller_ended = ap (λ (q : Queue). q.ended) does.of_controller ∙ knows.controller_ended ∙ sym (ended-more side.Client earlier j refl);
+          wire = λ goes. subst (λ w. KnowsWire asset w (earlier ++ j ∷ [])) (sym is)
+              (subst (IsNumbersOf after) (sym (events_of-more earlier j)) (does.numbers ((first_none (cut_by f) None (sym (cut_of-append earlier (j ∷ []) uncut) ∙ goes)).0)));
+        };
+        fates = (does.fate, tt);
+        of_client = does.of_client ∙ ap (after_push old.to_client) (nil side.Client);
+        of_controller = does.of_controller ∙ ap (after_push old.to_controller) (nil side.Controller);
+        of_lines = does.of_lines ∙ ap (with_lines old.lines) (sym (append-nil text));
+        client_quiet = λ e. sym (nil side.Client) ∙ does.client_quiet e;
+        controller_quiet = λ e. sym (nil side.Controller) ∙ does.controller_quiet e;
+      }
+
+  -- one APDU was handled
+  pub apdu_handled : Handled asset (judged moment (Took s (Apdu a)) f ∷ []) old new
+  apdu_handled = record { client = client; does = apdu_does }
+
+module _ (asset : Asset) (iec104 : asset.protocol ≡ protocol.Iec104) (moment : ℕ) (s : Side) (bytes : List ℕ) (a : ApduValue) (n : ℕ) (begins : Begins SpellsApdu bytes a n) where
+  apdu_octets_is : spelling a ≡ take n bytes
+  apdu_octets_is = sym begins.spells.spelled
+
+  pub apdu_length : length (spelling a) ≡ n
+  apdu_length = ap length apdu_octets_is ∙ omega (arith, length-take n bytes, begins.inside)
+
+  pub apdu_some : 0 < n
+  apdu_some = omega (arith, apdu_length)
+
+  abbrev pub takes_apdu : (f : Fate) (cut : Option CutReason) → cut_by f ≡ cut → (old new : State) → Handled asset (judged moment (Took s (Apdu a)) f ∷ []) old new →
+      TakesUnit asset moment s bytes n cut old new
+  takes_apdu f cut is old new handled = record {
+    unit = Apdu a;
+    begins = begins_apdu asset.protocol iec104 bytes a n begins;
+    some_bytes = apdu_some;
+    fate = f;
+    is_cut = is;
+    handled = handled;
+  }
+
+  -- an APDU is a step by its fate
+  pub steps_apdu : (f : Fate) (cut : Option CutReason) → cut_by f ≡ cut → (old new : State) → Handled asset (judged moment (Took s (Apdu a)) f ∷ []) old new →
+      Steps asset moment s bytes old new (step_by cut n)
+  steps_apdu f None is old new handled = takes_apdu f None is old new handled
+  steps_apdu f (Some reason) is old new handled = inr (iec104, (n, takes_apdu f (Some reason) is old new handled))
+
+  -- one whose line failed
+  pub misses_apdu : (before : NumbersValue) (lane : LaneValue) (client controller : Queue) (lines : Option (List (List ℕ))) → lane.wire ≡ wire.Iec104 before →
+      (log : Option (List (List ℕ))) (part : List ℕ) →
+      MissesApdu asset lane.client moment s a (numbered before client controller lines) log part → Misses asset moment s bytes (state lane client controller lines) log part
+  misses_apdu before lane client controller lines was log part m =
+      let old : State = state lane client controller lines in
+      let new : State = state (record lane { admitted = lane.admitted + one_if (is_admitted m.fate); refused = lane.refused + one_if (is_refused m.fate); wire = wire.Iec104 m.new.numbers })
+      m.new.to_client m.new.to_controller m.new.lines in
+      record {
+        used = n;
+        new = new;
+        takes = takes_apdu m.fate None m.uncut old new (apdu_handled asset moment s a m.fate old new before m.new.numbers was refl refl refl refl m.takes);
+        more = m.more;
+        are_more = λ earlier uncut knows.
+            append-nil (unit_lines asset lane.client moment (is_some_bytes (apdu_output side.Client earlier m.fate s a)) s (spelling a) m.fate)
+            ∙ m.are_more earlier (subst (λ w. KnowsWire asset w earlier) was (knows.wire uncut)) knows.client_ended;
+        line = m.line;
+      }
+
+-- a wrong octet is a step
+pub breaks_by : (asset : Asset) → asset.protocol ≡ protocol.Iec104 → (moment : ℕ) (bytes : List ℕ) (s : Side) (reason : Break) →
+    ((i : ℕ) × BreaksAt SpellsApdu bytes i × (reason ≡ apdu_break i)) → Breaks asset s bytes (cut.Framing s reason)
+breaks_by asset iec104 moment bytes s reason b = record {
+  place = b.0;
+  breaks = breaks_apdu asset.protocol iec104 bytes b.0 b.1;
+  is_reason = ap (cut.Framing s) (b.2 ∙ apdu_break_is asset.protocol iec104 b.0);
+}
+
+-- a lane of IEC 104 has no debt
+pub no_debt : (w : Wire) → IsWireOf protocol.Iec104 w → wire_debt w ≡ 0
+no_debt wire.Modbus w = absurd w
+no_debt (wire.Dnp3 f) w = absurd w
+no_debt (wire.Iec104 numbers) w = refl
+
+-- what a step takes no more of than twice its octets
+pub letters_by : (cut : Option CutReason) (n : ℕ) → unless_cut_by cut n ≤ 2 * letters_in (step_by cut n)
+letters_by None n = omega arith
+letters_by (Some reason) n = omega arith
+
+pub letters_most : (cut : Option CutReason) (n : ℕ) → letters_in (step_by cut n) ≤ n
+letters_most None n = omega arith
+letters_most (Some reason) n = omega arith
+
+-- a command is counted once, and a cut counts none
+pub counts_by : (f : Fate) (n : ℕ) → 0 < n → one_if (is_admitted f) + one_if (is_refused f) ≤ letters_in (step_by (cut_by f) n)
+counts_by fates.Carried n some = omega arith
+counts_by fates.Admitted n some = omega (arith, some)
+counts_by (fates.Refused r) n some = omega (arith, some)
+counts_by (fates.Stray why) n some = omega arith
+counts_by fates.Lengthens n some = omega arith
+counts_by (fates.Cuts reason) n some = omega arith
+
+-- the same of the side and the APDU that it is
+pub takes_same : (asset : Asset) (client : Endpoint) (moment : ℕ) (s t : Side) (a b : ApduValue) (f : Fate) (old new : Numbered) → t ≡ s → b ≡ a →
+    TakesApdu asset client moment s a f old new → TakesApdu asset client moment t b f old new
+takes_same asset client moment s t a b f old new side value takes =
+    subst (λ (u : Side). TakesApdu asset client moment u b f old new) (sym side) (subst (λ (x : ApduValue). TakesApdu asset client moment s x f old new) (sym value) takes)
+
+-- a queue grows by no more than twice the octets of an APDU that does not cut
+pub grows_apdu : (f : Fate) (st : Step) (len n : ℕ) → len ≡ n → st ≡ step_by (cut_by f) n → (v w : Wire) (before after : NumbersValue) → v ≡ wire.Iec104 before → w ≡ wire.Iec104 after →
+    (p q : Queue) → Grows (unless_cut f len) 0 0 p q → Grows (2 * letters_in st) (wire_debt v) (wire_debt w) p q
+grows_apdu f st len n size is v w before after was now p q g =
+    rw (was, now) (grows_more (unless_cut f len) (2 * letters_in st) 0 0 p q
+    (omega (arith, letters_by (cut_by f) n, ap letters_in is, ap (unless_cut_by (cut_by f)) size)) g)
+
+-- the numbers of commands rise by one at most
+pub counts_apdu : (f : Fate) (st : Step) (n : ℕ) → 0 < n → st ≡ step_by (cut_by f) n → (old new : LaneValue) →
+    new.admitted ≡ old.admitted + one_if (is_admitted f) → new.refused ≡ old.refused + one_if (is_refused f) → CountsBy (letters_in st) old new
+counts_apdu f st n some is old new admitted refused = omega (arith, counts_by f n some, ap letters_in is, admitted, refused)

@@ -1,0 +1,50 @@
+-- Laws of the fates of DNP3 fragments.
+use Rattle.cf_audit.specs.declared.line.CutReason.{CutReason}
+use Rattle.cf_audit.specs.declared.line.Why.{Why}
+use Rattle.cf_lane.specs.Dnp3.{IsOfFragment}
+use Rattle.cf_lane.specs.declared.fate.Fate.{Fate}
+use Rattle.cf_policy.specs.Verdict.{by_rule, decided, default_reason, first_rule, has_function, has_point, is_allow, is_empty, rule_reason, verdict_of}
+use Rattle.cf_policy.specs.declared.Action.{Action}
+use Rattle.cf_policy.specs.declared.Asset.{Asset}
+use Rattle.cf_policy.specs.declared.Decider.{Decider}
+use Rattle.cf_policy.specs.declared.Rule.{Rule}
+use Rattle.cf_view.specs.declared.Act.{Act}
+use Rattle.cf_view.specs.declared.Reason.{Reason}
+use Rattle.std.proofs.Common.{Bool, None, Option, Some, false, inl, inr, not, subst, true, ℕ, ◌&&◌, ◌≡◌, ◌⊎◌}
+use Rattle.std.specs.List.{list_any}
+use Rattle.std.specs.Prelude.{if◌then◌else◌, ◌≢◌}
+use Rattle.cf_lane.specs.declared.fate.Fate.TheVariants as fate
+use Rattle.cf_policy.specs.declared.Action.TheVariants as action
+use Rattle.cf_view.specs.declared.Reason.TheVariants as reason
+use Rattle.cf_policy.specs.declared.Verdict.TheVariants as verdict
+
+not_station : (a b : Bool) (x y z : Reason) → x ≢ reason.Station → y ≢ reason.Station → z ≢ reason.Station → (if a then x else (if b then y else z)) ≢ reason.Station
+not_station true b x y z p q r = p
+not_station false true x y z p q r = q
+not_station false false x y z p q r = r
+
+of_rule : (n : ℕ) (r : Rule) (a : Action) (d : Decider) (why : Reason) → rule_reason r ≢ reason.Station → verdict.Refuse d why ≡ by_rule n r a → why ≢ reason.Station
+of_rule n r action.Allow d why other e = cc
+of_rule n r action.Refuse d why other e = λ s. other (cc (s, e))
+
+of_decided : (o : Option (ℕ × Rule)) (otherwise : Reason) (d : Decider) (why : Reason) → ((r : Rule) → rule_reason r ≢ reason.Station) → otherwise ≢ reason.Station →
+    verdict.Refuse d why ≡ decided o otherwise → why ≢ reason.Station
+of_decided (Some p) otherwise d why rules other e = of_rule p.0 p.1 p.1.action d why (rules p.1) e
+of_decided None otherwise d why rules other e = λ s. other (cc (s, e))
+
+-- no rule refuses by the station
+pub never_station : (asset : Asset) (client : ℕ) (act : Act) (d : Decider) (why : Reason) → verdict.Refuse d why ≡ verdict_of asset client act → why ≢ reason.Station
+never_station asset client act d why e =
+    let not_value : reason.Value ≢ reason.Station = λ e. cc in
+    let not_point : reason.Point ≢ reason.Station = λ e. cc in
+    let not_function : reason.Function ≢ reason.Station = λ e. cc in
+    of_decided (first_rule asset.rules client act) (default_reason asset.rules client act) d why
+    (λ r. not_station (not (is_empty r.values)) (not (is_empty r.points)) reason.Value reason.Point reason.Function not_value not_point not_function)
+    (not_station (not (list_any (λ r. is_allow r.action && has_function r client act) asset.rules)) (not (list_any (λ r. is_allow r.action && has_point r client act) asset.rules))
+    reason.Function reason.Point reason.Value not_function not_point not_value) e
+
+-- a client's fragment of two octets or more is no other
+pub no_other : (f : Fate) → IsOfFragment f → ((x : Why) × (f ≡ fate.Stray x)) ⊎ ((f ≡ fate.Lengthens) ⊎ ((x : CutReason) × (f ≡ fate.Cuts x))) → ⊥
+no_other f of (inl stray) = subst IsOfFragment stray.1 of
+no_other f of (inr (inl lengthens)) = subst IsOfFragment lengthens of
+no_other f of (inr (inr cuts)) = subst IsOfFragment cuts.1 of

@@ -1,0 +1,376 @@
+-- What a frame of DNP3 does after the earlier items.
+use Rattle.cf_dnplink.specs.LinkFrame.{FrameValue}
+use Rattle.cf_dnplink.specs.UserOctets.{user_of}
+use Rattle.cf_dnptrans.specs.AssemblyValue.{AssemblyValue, IsAssemblyOf}
+use Rattle.cf_dnptrans.specs.Passing.{completed}
+use Rattle.cf_dnptrans.specs.Segments.{count_of}
+use Rattle.cf_dnptrans.specs.Transport.{last_fragment}
+use Rattle.cf_dnptrans.specs.declared.assembly.SegmentAnswer.{SegmentAnswer}
+use Rattle.cf_audit.specs.declared.line.Why.{Why}
+use Rattle.cf_lane.proofs.Earlier.{segments_into-more, segments_of-more}
+use Rattle.cf_lane.proofs.Dnp3Segments.{stray_fragment}
+use Rattle.cf_lane.proofs.Handling.{push-nothing, with_lines-nothing}
+use Rattle.cf_dnpobj.specs.Acts.{acts}
+use Rattle.cf_dnpobj.specs.Fragment.{FragmentValue, read_octets}
+use Rattle.cf_dnpobj.specs.declared.fragment.FragmentRefusal.{FragmentRefusal}
+use Rattle.cf_lane.specs.Acts.{by_refusal, fate_of_acts, first_refusal}
+use Rattle.cf_lane.specs.declared.fate.Refusal.{Refusal}
+use Rattle.cf_lane.specs.Dnp3.{answer_now, data_octets, fate_of_fragment, fate_of_frame, fate_of_read, fate_of_segment, fragment_frames, fragment_in, frame_fragment, frame_octets, frame_output, frames_at, is_data, segment_in, segments_into, segments_of, stray_of, whole_now}
+use Rattle.cf_lane.specs.Fragments.{AddsSegment, DoesFrame, MissesFrame, MissesSegment, Parts, TakesFrame, TakesSegment, completed_by, counted, data_lines, frames_exist, parts}
+use Rattle.cf_lane.specs.Handled.{IsOpen, MayHaveMore, judged}
+use Rattle.cf_lane.specs.History.{is_side}
+use Rattle.cf_lane.specs.Item.{Took}
+use Rattle.cf_lane.specs.Judged.{Judged, cut_by, goes_on, has_ended}
+use Rattle.cf_lane.specs.Kept.{KnowsFragments, of_side}
+use Rattle.cf_lane.specs.Log.{is_some_bytes, line_about, unit_lines, with_lines}
+use Rattle.cf_lane.specs.Unit.{Frame, frame_spelling}
+use Rattle.cf_lane.specs.declared.fate.Fate.{Fate}
+use Rattle.cf_lane.specs.declared.wire.Fragments.{Fragments}
+use Rattle.cf_outq.specs.SendQueue.{after_push}
+use Rattle.cf_policy.specs.declared.Asset.{Asset}
+use Rattle.cf_view.specs.declared.Endpoint.{Endpoint}
+use Rattle.cf_view.specs.declared.Side.{Side}
+use Rattle.std.proofs.Common.{Bool, Err, List, None, Ok, Option, Some, [], ap, arith, drop, false, length, nat_eq, nat_lt, refl, reverse, slice_index, subst, suc, sym, take, true, zero, ℕ, ◌%◌, ◌&&◌, ◌*◌, ◌++◌, ◌+◌, ◌∙◌, ◌∷◌, ◌≡◌}
+use Rattle.std.specs.List.{flat_map}
+use Rattle.std.specs.Prelude.{Result, if◌then◌else◌}
+use Rattle.cf_audit.specs.Line.{Stray}
+use Rattle.cf_dnptrans.specs.declared.assembly.SegmentAnswer.TheVariants as answers
+use Rattle.cf_lane.specs.declared.fate.Fate.TheVariants as fate
+use Rattle.cf_dnptrans.specs.Segments as pieces
+use Rattle.cf_audit.specs.declared.line.Why.TheVariants as why
+use Rattle.cf_view.specs.declared.Side.TheVariants as side
+
+module _ (asset : Asset) (earlier : List Judged) (j : Judged) where
+  -- an item without segment and fragment leaves what is known
+  module _ (f : Fragments) (knows : KnowsFragments asset f earlier)
+      (no_segment : (t : Side) → segment_in asset t j.item ≡ []) (none : (t : Side) → fragment_in asset t earlier j j.item ≡ []) where
+    same_segments : (t : Side) → segments_of asset t (earlier ++ j ∷ []) ≡ segments_of asset t earlier
+    same_segments t = segments_of-more asset t earlier j ∙ ap (λ xs. xs ++ segments_of asset t earlier) (no_segment t)
+
+    same_into : (t : Side) → segments_into asset t earlier % 64 ≡ segments_into asset t (earlier ++ j ∷ []) % 64
+    same_into t = ap (λ n. n % 64) (sym (segments_into-more asset t earlier j ∙ ap (λ xs. segments_into asset t earlier + counted xs) (none t) ∙ omega arith))
+
+    pub still_known : KnowsFragments asset f (earlier ++ j ∷ [])
+    still_known = record {
+      client = subst (IsAssemblyOf f.client) (sym (same_segments side.Client)) knows.client;
+      controller = subst (IsAssemblyOf f.controller) (sym (same_segments side.Controller)) knows.controller;
+      to_client = knows.to_client ∙ same_into side.Client;
+      to_controller = knows.to_controller ∙ same_into side.Controller;
+    }
+
+if_true : {A : Type 0} (b : Bool) (x y : A) → b ≡ true → (if b then x else y) ≡ x
+if_true true x y e = refl
+if_true false x y e = cc
+
+if_false : {A : Type 0} (b : Bool) (x y : A) → b ≡ false → (if b then x else y) ≡ y
+if_false true x y e = cc
+if_false false x y e = refl
+
+-- the fate of a data frame that is served
+fate_of_data : (asset : Asset) (client : ℕ) (s : Side) (earlier : List Judged) (x : FrameValue) → stray_of asset s x ≡ None → is_data x ≡ true →
+    fate_of_frame asset client s earlier x (stray_of asset s x) ≡ fate_of_segment asset client s (answer_now asset s earlier x) (whole_now asset s earlier x)
+fate_of_data asset client s earlier x served data_ =
+    ap (fate_of_frame asset client s earlier x) served
+    ∙ if_true (is_data x) (fate_of_segment asset client s (answer_now asset s earlier x) (whole_now asset s earlier x)) fate.Carried data_
+
+pub none_by : {A : Type 0} (o : Option A) → ((x : A) → o ≡ Some x → ⊥) → o ≡ None
+none_by None never = refl
+none_by (Some x) never = absurd (never x refl)
+
+if_nothing : {A : Type 0} (b : Bool) (xs : List A) → xs ≡ [] → (if b then xs else []) ≡ []
+if_nothing true xs e = e
+if_nothing false xs e = refl
+
+if_never : {A : Type 0} (b : Bool) (xs : List A) → (if b && false then xs else []) ≡ []
+if_never true xs = refl
+if_never false xs = refl
+
+stray_nothing : (b : Bool) (c : Bool) (xs ys : List ℕ) → xs ≡ [] → (if b then xs else (if c then [] else (if false then ys else []))) ≡ []
+stray_nothing true c xs ys e = e
+stray_nothing false true xs ys e = refl
+stray_nothing false false xs ys e = refl
+
+module _ (asset : Asset) (client : Endpoint) (moment : ℕ) (s : Side) (x : FrameValue) (because : Why) (stray : stray_of asset s x ≡ Some because) (old new : Parts)
+    (fragments : new.fragments ≡ old.fragments) (c : new.to_client ≡ old.to_client) (k : new.to_controller ≡ old.to_controller)
+    (text : new.lines ≡ with_lines old.lines (line_about asset client moment (Stray s because) ∷ [])) where
+  abbrev stray_item : Judged
+  stray_item = judged moment (Took s (Frame x)) (fate.Stray because)
+
+  module _ (earlier : List Judged) where
+    nothing_in : (to : Side) → fragment_in asset to earlier stray_item (Took s (Frame x)) ≡ []
+    nothing_in to = if_nothing (is_data x) _ (stray_fragment to s (has_ended side.Controller earlier) because (whole_now asset s earlier x))
+
+    nothing_out : (to : Side) → frame_output asset to earlier stray_item s x ≡ []
+    nothing_out to = stray_nothing (is_data x) (is_side to s) _ (frame_spelling x) (ap (flat_map (fragment_frames asset to earlier)) (nothing_in to))
+
+    no_segment : (t : Side) → segment_in asset t (Took s (Frame x)) ≡ []
+    no_segment t = rw stray (if_never (is_side t s) (user_of x.blocks ∷ []))
+
+  -- a frame that is not served goes nowhere
+  pub takes_stray : TakesFrame asset client moment s x (fate.Stray because) old new
+  takes_stray = record {
+    uncut = refl;
+    more = line_about asset client moment (Stray s because) ∷ [];
+    lines = text;
+    does = λ earlier knows ended. record {
+      fragments = subst (λ f. KnowsFragments asset f (earlier ++ stray_item ∷ [])) (sym fragments)
+          (still_known asset earlier stray_item old.fragments knows (no_segment earlier) (nothing_in earlier));
+      fate = rw stray refl;
+      of_client = c ∙ sym (push-nothing old.to_client) ∙ ap (after_push old.to_client) (sym (nothing_out earlier side.Client));
+      of_controller = k ∙ sym (push-nothing old.to_controller) ∙ ap (after_push old.to_controller) (sym (nothing_out earlier side.Controller));
+      client_quiet = λ e. nothing_out earlier side.Client;
+      controller_quiet = λ e. nothing_out earlier side.Controller;
+    };
+    are_more = λ earlier knows ended. refl;
+  }
+
+-- the same but for its line
+pub misses_stray : (asset : Asset) (client : Endpoint) (moment : ℕ) (s : Side) (x : FrameValue) (because : Why) → stray_of asset s x ≡ Some because → (old : Parts)
+    (log : Option (List (List ℕ))) (part : List ℕ) → MayHaveMore (line_about asset client moment (Stray s because) ∷ []) old.lines log part → MissesFrame asset client moment s x old log part
+unfolding takes_stray
+misses_stray asset client moment s x because stray old log part line = record {
+  fate = fate.Stray because;
+  new = parts old.fragments old.to_client old.to_controller (with_lines old.lines (line_about asset client moment (Stray s because) ∷ []));
+  takes = takes_stray asset client moment s x because stray old
+      (parts old.fragments old.to_client old.to_controller (with_lines old.lines (line_about asset client moment (Stray s because) ∷ []))) refl refl refl refl;
+  line = line;
+}
+
+-- sequences count modulo 64
+first_segments_mod : (octets : List ℕ) (n i : ℕ) → pieces.first_segments octets (n % 64) i ≡ pieces.first_segments octets n i
+first_segments_mod octets n zero = refl
+first_segments_mod octets n (suc i) =
+    let e : (n % 64 + i) % 64 ≡ (n + i) % 64 = omega arith in
+    ap (λ k. (pieces.octet_of (length octets) i k ∷ take 249 (drop (249 * i) octets)) ∷ pieces.first_segments octets (n % 64) i) e
+    ∙ ap (λ xs. pieces.segment_of octets n i ∷ xs) (first_segments_mod octets n i)
+
+frames_mod : (asset : Asset) (to : Side) (n : ℕ) (octets : List ℕ) → frames_at asset to (n % 64) octets ≡ frames_at asset to n octets
+frames_mod asset to n octets = ap (λ xs. flat_map (data_octets asset to) (reverse xs)) (first_segments_mod octets n (count_of (length octets)))
+
+all_frames_mod : (asset : Asset) (to : Side) (n : ℕ) (fragments : List (List ℕ)) → flat_map (frames_at asset to (n % 64)) fragments ≡ flat_map (frames_at asset to n) fragments
+all_frames_mod asset to n [] = refl
+all_frames_mod asset to n (octets ∷ fragments) = rw (frames_mod asset to n octets, all_frames_mod asset to n fragments) refl
+
+-- no fragment cuts
+no_cut_refusal : (o : Option Refusal) → cut_by (by_refusal o) ≡ None
+no_cut_refusal None = refl
+no_cut_refusal (Some r) = refl
+
+cut_if : (b : Bool) (f g : Fate) → cut_by f ≡ None → cut_by g ≡ None → cut_by (if b then f else g) ≡ None
+cut_if true f g a b = a
+cut_if false f g a b = b
+
+no_cut_read : (asset : Asset) (client code : ℕ) (r : Result FragmentValue FragmentRefusal) → cut_by (fate_of_read asset client code r) ≡ None
+no_cut_read asset client code (Ok f) = cut_if (nat_eq f.code 0) fate.Carried (fate_of_acts asset client (acts f)) refl (no_cut_refusal (first_refusal asset client (acts f)))
+no_cut_read asset client code (Err e) = refl
+
+no_cut_fragment : (asset : Asset) (client : ℕ) (s : Side) (octets : List ℕ) → cut_by (fate_of_fragment asset client s octets) ≡ None
+no_cut_fragment asset client side.Client octets = no_cut_read asset client (slice_index octets 1) (read_octets octets)
+no_cut_fragment asset client side.Controller octets = refl
+
+no_cut : (asset : Asset) (client : ℕ) (s : Side) (answer : SegmentAnswer) (whole : List (List ℕ)) → cut_by (fate_of_segment asset client s answer whole) ≡ None
+no_cut asset client s answers.More whole = refl
+no_cut asset client s (answers.Dropped because) whole = refl
+no_cut asset client s answers.Whole [] = refl
+no_cut asset client s answers.Whole (octets ∷ none) = cut_if (nat_lt (length octets) 2) (fate.Stray why.Short) (fate_of_fragment asset client s octets) refl (no_cut_fragment asset client s octets)
+
+-- the fragment that is whole
+completed_is : (answer : SegmentAnswer) (v : AssemblyValue) (o : Option (List ℕ)) → (answer ≡ answers.Whole → o ≡ Some v.octets) → completed_by answer v ≡ completed answer o
+completed_is answers.More v o e = refl
+completed_is (answers.Dropped because) v o e = refl
+completed_is answers.Whole v o e = ap (completed answers.Whole) (sym (e refl))
+
+own_part : (asset : Asset) (s : Side) (f : Fragments) (earlier : List Judged) → KnowsFragments asset f earlier → IsAssemblyOf (of_side s f) (segments_of asset s earlier)
+own_part asset side.Client f earlier knows = knows.client
+own_part asset side.Controller f earlier knows = knows.controller
+
+own_segment : (asset : Asset) (s : Side) (x : FrameValue) → stray_of asset s x ≡ None → is_data x ≡ true → segment_in asset s (Took s (Frame x)) ≡ user_of x.blocks ∷ []
+own_segment asset side.Client x served data_ = rw (served, data_) refl
+own_segment asset side.Controller x served data_ = rw (served, data_) refl
+
+module _ (asset : Asset) (client : Endpoint) (moment : ℕ) (s : Side) (x : FrameValue) (served : stray_of asset s x ≡ None) (data_ : is_data x ≡ true)
+    (answer : SegmentAnswer) (f : Fate) (was : Fragments) (old new : Parts) (adds : AddsSegment s (user_of x.blocks) answer was old.fragments)
+    (takes : TakesSegment asset client moment s answer (completed_by answer (of_side s old.fragments)) f old new) where
+  abbrev user : List ℕ
+  user = user_of x.blocks
+
+  abbrev j : Judged
+  j = judged moment (Took s (Frame x)) f
+
+  abbrev whole : List (List ℕ)
+  whole = completed_by answer (of_side s old.fragments)
+
+  module _ (earlier : List Judged) (knows : KnowsFragments asset was earlier) (ended : old.to_client.ended ≡ has_ended side.Controller earlier) where
+    own : IsAssemblyOf (of_side s was) (segments_of asset s earlier)
+    own = own_part asset s was earlier knows
+
+    stands : IsAssemblyOf (of_side s old.fragments) (user ∷ segments_of asset s earlier)
+    stands = adds.stands (segments_of asset s earlier) own
+
+    answer_is : answer ≡ answer_now asset s earlier x
+    answer_is = adds.answered (segments_of asset s earlier) own
+
+    whole_is : whole ≡ whole_now asset s earlier x
+    whole_is =
+        completed_is answer (of_side s old.fragments) (last_fragment (user ∷ segments_of asset s earlier)) (λ e. stands.whole_is (adds.completes e))
+        ∙ ap (λ a. completed a (last_fragment (user ∷ segments_of asset s earlier))) answer_is
+
+    -- what it puts into the stream to a side
+    put_is : (to : Side) → frame_fragment to old.to_client.ended s f whole ≡ fragment_in asset to earlier j (Took s (Frame x))
+    put_is to =
+        ap (λ b. frame_fragment to b s f whole) ended ∙ ap (frame_fragment to (has_ended side.Controller earlier) s f) whole_is
+        ∙ sym (if_true (is_data x) (frame_fragment to (has_ended side.Controller earlier) s f (whole_now asset s earlier x)) [] data_)
+
+    output_is : (to : Side) (sequence : ℕ) → sequence ≡ segments_into asset to earlier % 64 →
+        flat_map (frames_at asset to sequence) (frame_fragment to old.to_client.ended s f whole) ≡ frame_output asset to earlier j s x
+    output_is to sequence e =
+        ap (λ n. flat_map (frames_at asset to n) (frame_fragment to old.to_client.ended s f whole)) e
+        ∙ all_frames_mod asset to (segments_into asset to earlier) (frame_fragment to old.to_client.ended s f whole)
+        ∙ ap (flat_map (fragment_frames asset to earlier)) (put_is to)
+        ∙ sym (if_true (is_data x) (flat_map (fragment_frames asset to earlier) (fragment_in asset to earlier j (Took s (Frame x))))
+        (if is_side to s then [] else (if goes_on f then frame_spelling x else [])) data_)
+
+    next_is : (to : Side) (sequence next : ℕ) → sequence ≡ segments_into asset to earlier % 64 → next ≡ (sequence + counted (frame_fragment to old.to_client.ended s f whole)) % 64 →
+        next ≡ segments_into asset to (earlier ++ j ∷ []) % 64
+    next_is to sequence next e n =
+        let more = segments_into-more asset to earlier j in
+        let same = ap counted (put_is to) in
+        let step : (segments_into asset to earlier % 64 + counted (frame_fragment to old.to_client.ended s f whole)) % 64 ≡
+        (segments_into asset to earlier + counted (frame_fragment to old.to_client.ended s f whole)) % 64 = omega arith in
+        n ∙ ap (λ k. (k + counted (frame_fragment to old.to_client.ended s f whole)) % 64) e ∙ step
+        ∙ ap (λ k. (segments_into asset to earlier + k) % 64) same ∙ ap (λ k. k % 64) (sym more)
+
+    own_segments : segments_of asset s (earlier ++ j ∷ []) ≡ user ∷ segments_of asset s earlier
+    own_segments = segments_of-more asset s earlier j ∙ ap (λ xs. xs ++ segments_of asset s earlier) (own_segment asset s x served data_)
+
+    client_sequence : old.fragments.to_client ≡ segments_into asset side.Client earlier % 64
+    client_sequence = adds.to_client ∙ knows.to_client
+
+    controller_sequence : old.fragments.to_controller ≡ segments_into asset side.Controller earlier % 64
+    controller_sequence = adds.to_controller ∙ knows.to_controller
+
+    known_by : (client_now : IsAssemblyOf new.fragments.client (segments_of asset side.Client (earlier ++ j ∷ []))) →
+        (controller_now : IsAssemblyOf new.fragments.controller (segments_of asset side.Controller (earlier ++ j ∷ []))) → KnowsFragments asset new.fragments (earlier ++ j ∷ [])
+    known_by client_now controller_now = record {
+      client = client_now;
+      controller = controller_now;
+      to_client = next_is side.Client old.fragments.to_client new.fragments.to_client client_sequence takes.to_client.next_is;
+      to_controller = next_is side.Controller old.fragments.to_controller new.fragments.to_controller controller_sequence takes.to_controller.next_is;
+    }
+
+    does_data : KnowsFragments asset new.fragments (earlier ++ j ∷ []) → DoesFrame asset client earlier j s x (parts was old.to_client old.to_controller old.lines) new
+    does_data known = record {
+      fragments = known;
+      fate = takes.fate ∙ ap (λ a. fate_of_segment asset client.address s a whole) answer_is ∙ ap (fate_of_segment asset client.address s (answer_now asset s earlier x)) whole_is
+          ∙ sym (fate_of_data asset client.address s earlier x served data_);
+      of_client = takes.to_client.put ∙ ap (after_push old.to_client) (output_is side.Client old.fragments.to_client client_sequence);
+      of_controller = takes.to_controller.put ∙ ap (after_push old.to_controller) (output_is side.Controller old.fragments.to_controller controller_sequence);
+      client_quiet = λ e. sym (output_is side.Client old.fragments.to_client client_sequence)
+          ∙ ap (flat_map (frames_at asset side.Client old.fragments.to_client)) (takes.to_client.quiet e);
+      controller_quiet = λ e. sym (output_is side.Controller old.fragments.to_controller controller_sequence)
+          ∙ ap (flat_map (frames_at asset side.Controller old.fragments.to_controller)) (takes.to_controller.quiet e);
+    }
+
+    lines_are : unit_lines asset client moment (is_some_bytes (frame_output asset side.Client earlier j s x)) s (frame_octets asset earlier s x) f ≡
+        data_lines asset client moment s f whole old.fragments.to_client old.to_client
+    lines_are =
+        ap (λ o. unit_lines asset client moment (is_some_bytes o) s (frame_octets asset earlier s x) f) (sym (output_is side.Client old.fragments.to_client client_sequence))
+        ∙ ap (λ w. unit_lines asset client moment (frames_exist asset side.Client old.fragments.to_client (frame_fragment side.Client old.to_client.ended s f whole)) s (flat_map (λ octets. octets) w) f) (sym whole_is)
+
+-- a data frame that is served
+pub takes_data : (asset : Asset) (client : Endpoint) (moment : ℕ) (s : Side) (x : FrameValue) → stray_of asset s x ≡ None → is_data x ≡ true →
+    (answer : SegmentAnswer) (f : Fate) (was : Fragments) (old new : Parts) → AddsSegment s (user_of x.blocks) answer was old.fragments →
+    TakesSegment asset client moment s answer (completed_by answer (of_side s old.fragments)) f old new →
+    TakesFrame asset client moment s x f (parts was old.to_client old.to_controller old.lines) new
+takes_data asset client moment side.Client x served data_ answer f was old new adds takes = record {
+  uncut = ap cut_by takes.fate ∙ no_cut asset client.address side.Client answer (completed_by answer old.fragments.client);
+  more = data_lines asset client moment side.Client f (completed_by answer old.fragments.client) old.fragments.to_client old.to_client;
+  lines = takes.lines;
+  does = λ earlier knows ended.
+      (let own_now = subst (IsAssemblyOf old.fragments.client) (sym (own_segments asset client moment side.Client x served data_ answer f was old new adds takes earlier knows ended))
+      (stands asset client moment side.Client x served data_ answer f was old new adds takes earlier knows ended) in
+      let other_same = segments_of-more asset side.Controller earlier (judged moment (Took side.Client (Frame x)) f) in
+      let other_now = subst (IsAssemblyOf was.controller) (sym other_same) knows.controller in
+      does_data asset client moment side.Client x served data_ answer f was old new adds takes earlier knows ended
+      (known_by asset client moment side.Client x served data_ answer f was old new adds takes earlier knows ended
+      (subst (λ v. IsAssemblyOf v (segments_of asset side.Client (earlier ++ judged moment (Took side.Client (Frame x)) f ∷ []))) (sym takes.client_part) own_now)
+      (subst (λ v. IsAssemblyOf v (segments_of asset side.Controller (earlier ++ judged moment (Took side.Client (Frame x)) f ∷ []))) (sym (takes.controller_part ∙ adds.other)) other_now)));
+  are_more = λ earlier knows ended. lines_are asset client moment side.Client x served data_ answer f was old new adds takes earlier knows ended;
+}
+takes_data asset client moment side.Controller x served data_ answer f was old new adds takes = record {
+  uncut = ap cut_by takes.fate ∙ no_cut asset client.address side.Controller answer (completed_by answer old.fragments.controller);
+  more = data_lines asset client moment side.Controller f (completed_by answer old.fragments.controller) old.fragments.to_client old.to_client;
+  lines = takes.lines;
+  does = λ earlier knows ended.
+      (let own_now = subst (IsAssemblyOf old.fragments.controller) (sym (own_segments asset client moment side.Controller x served data_ answer f was old new adds takes earlier knows ended))
+      (stands asset client moment side.Controller x served data_ answer f was old new adds takes earlier knows ended) in
+      let other_same = segments_of-more asset side.Client earlier (judged moment (Took side.Controller (Frame x)) f) in
+      let other_now = subst (IsAssemblyOf was.client) (sym other_same) knows.client in
+      does_data asset client moment side.Controller x served data_ answer f was old new adds takes earlier knows ended
+      (known_by asset client moment side.Controller x served data_ answer f was old new adds takes earlier knows ended
+      (subst (λ v. IsAssemblyOf v (segments_of asset side.Client (earlier ++ judged moment (Took side.Controller (Frame x)) f ∷ []))) (sym (takes.client_part ∙ adds.other)) other_now)
+      (subst (λ v. IsAssemblyOf v (segments_of asset side.Controller (earlier ++ judged moment (Took side.Controller (Frame x)) f ∷ []))) (sym takes.controller_part) own_now)));
+  are_more = λ earlier knows ended. lines_are asset client moment side.Controller x served data_ answer f was old new adds takes earlier knows ended;
+}
+
+pub misses_data : (asset : Asset) (client : Endpoint) (moment : ℕ) (s : Side) (x : FrameValue) → stray_of asset s x ≡ None → is_data x ≡ true →
+    (answer : SegmentAnswer) (was : Fragments) (old : Parts) (log : Option (List (List ℕ))) (part : List ℕ) → AddsSegment s (user_of x.blocks) answer was old.fragments →
+    MissesSegment asset client moment s answer (completed_by answer (of_side s old.fragments)) old log part →
+    MissesFrame asset client moment s x (parts was old.to_client old.to_controller old.lines) log part
+unfolding takes_data
+misses_data asset client moment side.Client x served data_ answer was old log part adds m = record {
+  fate = m.fate;
+  new = m.new;
+  takes = takes_data asset client moment side.Client x served data_ answer m.fate was old m.new adds m.takes;
+  line = m.line;
+}
+misses_data asset client moment side.Controller x served data_ answer was old log part adds m = record {
+  fate = m.fate;
+  new = m.new;
+  takes = takes_data asset client moment side.Controller x served data_ answer m.fate was old m.new adds m.takes;
+  line = m.line;
+}
+
+-- a link status frame goes on as it is
+module _ (asset : Asset) (client : Endpoint) (moment : ℕ) (s : Side) (x : FrameValue) (served : stray_of asset s x ≡ None) (other_ : is_data x ≡ false) (old new : Parts)
+    (goes : IsOpen s old.to_client old.to_controller) (fragments : new.fragments ≡ old.fragments)
+    (c : new.to_client ≡ after_push old.to_client (if is_side side.Client s then [] else frame_spelling x))
+    (k : new.to_controller ≡ after_push old.to_controller (if is_side side.Controller s then [] else frame_spelling x))
+    (text : new.lines ≡ old.lines) where
+  abbrev status_item : Judged
+  status_item = judged moment (Took s (Frame x)) fate.Carried
+
+  status_out : (to : Side) (earlier : List Judged) → frame_output asset to earlier status_item s x ≡ (if is_side to s then [] else frame_spelling x)
+  status_out to earlier =
+      if_false (is_data x) (flat_map (fragment_frames asset to earlier) (fragment_in asset to earlier status_item (Took s (Frame x)))) (if is_side to s then [] else frame_spelling x) other_
+
+  status_in : (to : Side) (earlier : List Judged) → fragment_in asset to earlier status_item (Took s (Frame x)) ≡ []
+  status_in to earlier = if_false (is_data x) (frame_fragment to (has_ended side.Controller earlier) s fate.Carried (whole_now asset s earlier x)) [] other_
+
+  status_segment : (t : Side) → segment_in asset t (Took s (Frame x)) ≡ []
+  status_segment t = rw (served, other_) (if_never (is_side t s) (user_of x.blocks ∷ []))
+
+  client_closed : (s : Side) → IsOpen s old.to_client old.to_controller → old.to_client.ended ≡ true → (if is_side side.Client s then [] else frame_spelling x) ≡ []
+  client_closed side.Client o e = refl
+  client_closed side.Controller o e = cc (o, e)
+
+  controller_closed : (s : Side) → IsOpen s old.to_client old.to_controller → old.to_controller.ended ≡ true → (if is_side side.Controller s then [] else frame_spelling x) ≡ []
+  controller_closed side.Client o e = cc (o, e)
+  controller_closed side.Controller o e = refl
+
+  pub takes_status : TakesFrame asset client moment s x fate.Carried old new
+  takes_status = record {
+    uncut = refl;
+    more = [];
+    lines = text ∙ sym (with_lines-nothing old.lines);
+    does = λ earlier knows ended. record {
+      fragments = subst (λ f. KnowsFragments asset f (earlier ++ status_item ∷ [])) (sym fragments)
+          (still_known asset earlier status_item old.fragments knows status_segment (λ to. status_in to earlier));
+      fate = rw (served, other_) refl;
+      of_client = c ∙ ap (after_push old.to_client) (sym (status_out side.Client earlier));
+      of_controller = k ∙ ap (after_push old.to_controller) (sym (status_out side.Controller earlier));
+      client_quiet = λ e. status_out side.Client earlier ∙ client_closed s goes e;
+      controller_quiet = λ e. status_out side.Controller earlier ∙ controller_closed s goes e;
+    };
+    are_more = λ earlier knows ended. refl;
+  }

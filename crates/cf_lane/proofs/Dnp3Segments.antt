@@ -1,0 +1,158 @@
+-- What becomes of a segment, and of the fragment that it completes.
+use Rattle.cf_audit.specs.Line.{Stray}
+use Rattle.cf_audit.specs.declared.line.Why.{Why}
+use Rattle.cf_dnptrans.specs.AssemblyValue.{AssemblyValue}
+use Rattle.cf_dnptrans.specs.declared.assembly.DropReason.{DropReason}
+use Rattle.cf_lane.specs.Kept.{of_side}
+use Rattle.cf_dnpobj.specs.Fragment.{wants_reply}
+use Rattle.cf_dnpobj.specs.Reply.{reply}
+use Rattle.cf_dnptrans.specs.declared.assembly.SegmentAnswer.{SegmentAnswer}
+use Rattle.cf_lane.proofs.Handling.{push-nothing}
+use Rattle.cf_lane.proofs.Recutting.{frames_most, frames_some}
+use Rattle.cf_lane.proofs.ReplySizes.{reply_sizes}
+use Rattle.cf_lane.proofs.Taking.{grows_push, room_less}
+use Rattle.cf_lane.specs.Dnp3.{drop_why, fate_of_fragment, fate_of_segment, fragment_reply, frame_fragment, frames_at}
+use Rattle.cf_lane.specs.Fragments.{MissesSegment, Parts, Sends, TakesSegment, counted, data_lines, frames_exist, completed_by, parts, recut_most}
+use Rattle.cf_lane.specs.Handled.{Grows, HasRoom, MayHaveMore}
+use Rattle.cf_lane.specs.Log.{is_some_bytes, line_about, refusal_line, with_lines}
+use Rattle.cf_lane.specs.declared.fate.Fate.{Fate}
+use Rattle.cf_lane.specs.declared.fate.Refusal.{Refusal}
+use Rattle.cf_lane.specs.declared.wire.Fragments.{Fragments}
+use Rattle.cf_outq.specs.SendQueue.{Queue, after_push}
+use Rattle.cf_policy.specs.declared.Asset.{Asset}
+use Rattle.cf_view.specs.declared.Endpoint.{Endpoint}
+use Rattle.cf_view.specs.declared.Reason.{Reason}
+use Rattle.cf_view.specs.declared.Side.{Side}
+use Rattle.std.proofs.Common.{Bool, List, Option, [], ap, arith, false, inl, inr, length, refl, slice_index, subst, sym, true, ℕ, ◌%◌, ◌+◌, ◌<◌, ◌∙◌, ◌∷◌, ◌≡◌, ◌≤◌}
+use Rattle.std.proofs.lemmas.Bool.{cases_Bool}
+use Rattle.std.proofs.lemmas.List.{append-nil}
+use Rattle.std.specs.List.{flat_map}
+use Rattle.std.specs.Prelude.{nat_lt}
+use Rattle.cf_dnptrans.specs.declared.assembly.SegmentAnswer.TheVariants as answers
+use Rattle.cf_lane.specs.declared.fate.Fate.TheVariants as fate
+use Rattle.cf_view.specs.declared.Side.TheVariants as side
+use Rattle.cf_audit.specs.declared.line.Why.TheVariants as why
+use Rattle.std.proofs.lemmas.Bool.Decides.{nat_tests}
+
+-- nothing goes into a stream
+pub sends_nothing : (asset : Asset) (to : Side) (fragments : List (List ℕ)) (sequence : ℕ) (q : Queue) → sequence < 64 → fragments ≡ [] → Sends asset to fragments sequence q sequence q
+sends_nothing asset to fragments sequence q h e = record {
+  put = sym (push-nothing q) ∙ ap (λ xs. after_push q (flat_map (frames_at asset to sequence) xs)) (sym e);
+  next_is = (let n : sequence ≡ (sequence + 0) % 64 = omega (arith, h) in n) ∙ ap (λ xs. (sequence + counted xs) % 64) (sym e);
+  quiet = λ _. e;
+}
+
+-- a fragment goes into a stream
+pub sends_one : (asset : Asset) (to : Side) (octets : List ℕ) (sequence : ℕ) (q : Queue) (fragments : List (List ℕ)) → q.ended ≡ false → fragments ≡ octets ∷ [] → (next : ℕ) (new : Queue) →
+    next ≡ (sequence + counted (octets ∷ [])) % 64 → new ≡ after_push q (frames_at asset to sequence octets) → Sends asset to fragments sequence q next new
+sends_one asset to octets sequence q fragments goes e next new n is = record {
+  put = is ∙ ap (after_push q) (sym (append-nil (frames_at asset to sequence octets))) ∙ ap (λ xs. after_push q (flat_map (frames_at asset to sequence) xs)) (sym e);
+  next_is = n ∙ ap (λ xs. (sequence + counted xs) % 64) (sym e);
+  quiet = λ ended. cc (ended, goes);
+}
+
+-- a stray segment or fragment, and a segment that lengthens, put out nothing
+pub stray_fragment : (to s : Side) (b : Bool) (because : Why) (octets : List (List ℕ)) → frame_fragment to b s (fate.Stray because) octets ≡ []
+stray_fragment side.Client side.Client true because octets = refl
+stray_fragment side.Client side.Client false because octets = refl
+stray_fragment side.Client side.Controller b because octets = refl
+stray_fragment side.Controller side.Client b because octets = refl
+stray_fragment side.Controller side.Controller b because octets = refl
+
+pub more_fragment : (to s : Side) (b : Bool) (octets : List (List ℕ)) → frame_fragment to b s fate.Lengthens octets ≡ []
+more_fragment side.Client side.Client true octets = refl
+more_fragment side.Client side.Client false octets = refl
+more_fragment side.Client side.Controller b octets = refl
+more_fragment side.Controller side.Client b octets = refl
+more_fragment side.Controller side.Controller b octets = refl
+
+module _ (asset : Asset) (client : Endpoint) (moment : ℕ) (s : Side) (answer : SegmentAnswer) (whole : List (List ℕ)) (f : Fate) (old : Parts)
+    (is : f ≡ fate_of_segment asset client.address s answer whole) (none : (to : Side) → frame_fragment to old.to_client.ended s f whole ≡ [])
+    (to_client : old.fragments.to_client < 64) (to_controller : old.fragments.to_controller < 64) where
+  pub takes_quietly : (new : Option (List (List ℕ))) → new ≡ with_lines old.lines (data_lines asset client moment s f whole old.fragments.to_client old.to_client) →
+      TakesSegment asset client moment s answer whole f old (parts old.fragments old.to_client old.to_controller new)
+  takes_quietly new text = record {
+    fate = is;
+    client_part = refl;
+    controller_part = refl;
+    to_client = sends_nothing asset side.Client _ old.fragments.to_client old.to_client to_client (none side.Client);
+    to_controller = sends_nothing asset side.Controller _ old.fragments.to_controller old.to_controller to_controller (none side.Controller);
+    lines = text;
+  }
+
+  pub misses_quietly : (log : Option (List (List ℕ))) (part : List ℕ) → MayHaveMore (data_lines asset client moment s f whole old.fragments.to_client old.to_client) old.lines log part →
+      MissesSegment asset client moment s answer whole old log part
+  misses_quietly log part line = record { fate = f; new = _; takes = takes_quietly _ refl; line = line }
+
+-- the fate of a fragment by its length
+pub fate_short : (asset : Asset) (client : ℕ) (s : Side) (octets : List ℕ) → length octets < 2 → fate.Stray why.Short ≡ fate_of_segment asset client s answers.Whole (octets ∷ [])
+fate_short asset client s octets h = elim (cases_Bool (nat_lt (length octets) 2)) [ inl v ↦ rw v refl | inr v ↦ absurd (lt_true (length octets) h v) ] where
+  lt_true : (n : ℕ) → n < 2 → nat_lt n 2 ≡ false → ⊥
+  lt_true n h e = grind (arith, nat_tests)
+
+pub fate_long : (asset : Asset) (client : ℕ) (s : Side) (octets : List ℕ) → 2 ≤ length octets → fate_of_fragment asset client s octets ≡ fate_of_segment asset client s answers.Whole (octets ∷ [])
+fate_long asset client s octets h = elim (cases_Bool (nat_lt (length octets) 2)) [ inl v ↦ absurd (lt_false (length octets) h v) | inr v ↦ rw v refl ] where
+  lt_false : (n : ℕ) → 2 ≤ n → nat_lt n 2 ≡ true → ⊥
+  lt_false n h e = grind (arith, nat_tests)
+
+-- a reply goes out where one is wanted
+pub reply_put : (ended : Bool) (octets : List ℕ) (r : Refusal) → ended ≡ false → wants_reply (slice_index octets 1) ≡ true → fragment_reply ended (fate.Refused r) (octets ∷ []) ≡ reply octets r.reason ∷ []
+reply_put ended octets r goes wants = rw (goes, wants) refl
+
+-- a fragment of so many octets has room in its frames
+pub recut_room : (asset : Asset) (to : Side) (sequence n : ℕ) (octets : List ℕ) (q : Queue) → length octets ≤ n → HasRoom (recut_most n) q → HasRoom (length (frames_at asset to sequence octets)) q
+recut_room asset to sequence n octets q h r = room_less (recut_most n) _ q (omega (arith, h, frames_most asset to octets sequence)) r
+
+pub recut_grows : (asset : Asset) (to : Side) (sequence n : ℕ) (octets : List ℕ) (q new : Queue) → length octets ≤ n → new ≡ after_push q (frames_at asset to sequence octets) → Grows (recut_most n) 0 0 q new
+recut_grows asset to sequence n octets q new h is =
+    subst (λ x. Grows (recut_most n) 0 0 q x) (sym is) (grows_push (recut_most n) q (frames_at asset to sequence octets) (omega (arith, h, frames_most asset to octets sequence)))
+
+pub reply_exists : (asset : Asset) (sequence : ℕ) (octets : List ℕ) (reason : Reason) → 2 ≤ length octets → frames_exist asset side.Client sequence (reply octets reason ∷ []) ≡ true
+reply_exists asset sequence octets reason h =
+    ap is_some_bytes (append-nil (frames_at asset side.Client sequence (reply octets reason)))
+    ∙ frames_some asset side.Client (reply octets reason) sequence (omega (arith, (reply_sizes octets reason h).0))
+
+module _ (asset : Asset) (client : Endpoint) (moment : ℕ) (octets : List ℕ) (r : Refusal) (old : Parts) (sequence : ℕ) (queue : Queue)
+    (is : fate.Refused r ≡ fate_of_segment asset client.address side.Client answers.Whole (octets ∷ []))
+    (sends : Sends asset side.Client (fragment_reply old.to_client.ended (fate.Refused r) (octets ∷ [])) old.fragments.to_client old.to_client sequence queue)
+    (to_controller : old.fragments.to_controller < 64) where
+  abbrev after_reply : Fragments
+  after_reply = record { client = old.fragments.client; controller = old.fragments.controller; to_client = sequence; to_controller = old.fragments.to_controller }
+
+  pub misses_reply : (replied : Bool) (log : Option (List (List ℕ))) (part : List ℕ) →
+      replied ≡ frames_exist asset side.Client old.fragments.to_client (fragment_reply old.to_client.ended (fate.Refused r) (octets ∷ [])) →
+      MayHaveMore (line_about asset client moment (refusal_line asset r replied octets) ∷ []) old.lines log part →
+      MissesSegment asset client moment side.Client answers.Whole (octets ∷ []) old log part
+  misses_reply replied log part says line = record {
+    fate = fate.Refused r;
+    new = parts after_reply queue old.to_controller
+        (with_lines old.lines (data_lines asset client moment side.Client (fate.Refused r) (octets ∷ []) old.fragments.to_client old.to_client));
+    takes = record {
+      fate = is;
+      client_part = refl;
+      controller_part = refl;
+      to_client = sends;
+      to_controller = sends_nothing asset side.Controller _ old.fragments.to_controller old.to_controller to_controller refl;
+      lines = refl;
+    };
+    line = subst (λ m. MayHaveMore m old.lines log part)
+        (ap (λ b. line_about asset client moment (refusal_line asset r b octets) ∷ []) says
+        ∙ ap (λ xs. line_about asset client moment (refusal_line asset r (frames_exist asset side.Client old.fragments.to_client (fragment_reply old.to_client.ended (fate.Refused r) (octets ∷ []))) xs) ∷ []) (sym (append-nil octets)))
+        line;
+  }
+
+-- a segment that is dropped, but for its line
+pub misses_dropped : (asset : Asset) (client : Endpoint) (moment : ℕ) (s : Side) (answer : SegmentAnswer) (because : DropReason) (v : AssemblyValue) (old : Parts) →
+    old.fragments.to_client < 64 → old.fragments.to_controller < 64 → answer ≡ answers.Dropped because → (log : Option (List (List ℕ))) (part : List ℕ) (says : Why) → says ≡ drop_why because →
+    MayHaveMore (line_about asset client moment (Stray s says) ∷ []) old.lines log part → MissesSegment asset client moment s answer (completed_by answer v) old log part
+misses_dropped asset client moment s answer because v old m n is log part says why_is line =
+    subst (λ a. MissesSegment asset client moment s a (completed_by a v) old log part) (sym is)
+    (misses_quietly asset client moment s (answers.Dropped because) [] (fate.Stray (drop_why because)) old refl (λ to. stray_fragment to s old.to_client.ended (drop_why because) []) m n log part
+    (subst (λ w. MayHaveMore (line_about asset client moment (Stray s w) ∷ []) old.lines log part) why_is line))
+
+-- what was said of the controller's fragment, of the side that it is
+pub takes_of_controller : (asset : Asset) (client : Endpoint) (moment : ℕ) (s : Side) (answer : SegmentAnswer) (f : Fate) (was : Fragments) (old new : Parts) → s ≡ side.Controller → answer ≡ answers.Whole →
+    TakesSegment asset client moment side.Controller answers.Whole (was.controller.octets ∷ []) f old new → TakesSegment asset client moment s answer (completed_by answer (of_side s was)) f old new
+takes_of_controller asset client moment s answer f was old new is whole t =
+    subst (λ s. TakesSegment asset client moment s answer (completed_by answer (of_side s was)) f old new) (sym is)
+    (subst (λ a. TakesSegment asset client moment side.Controller a (completed_by a was.controller) f old new) (sym whole) t)

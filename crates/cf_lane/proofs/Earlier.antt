@@ -1,0 +1,165 @@
+-- What one more item adds to what is read of the earlier ones.
+use Rattle.cf_dnptrans.specs.AssemblyValue.{AssemblyValue, IsAssemblyOf, open_of}
+use Rattle.cf_dnptrans.specs.Segments.{count_of}
+use Rattle.cf_dnptrans.specs.Transport.{fitting, is_final, is_linked, left_of, made_of, octets_of, since_first, unfinished}
+use Rattle.cf_lane.specs.Dnp3.{fragment_in, segment_in, segments_into, segments_of}
+use Rattle.cf_lane.specs.Handled.{IsLaneOf, LaneValue, debt}
+use Rattle.cf_lane.specs.Judged.{Judged, cut_by, cut_of, in_turn}
+use Rattle.cf_lane.specs.Kept.{IsWireOf, KnowsFragments, KnowsWire, of_side, owed_octets, wire_debt}
+use Rattle.cf_lane.specs.Log.{has_unfinished}
+use Rattle.cf_lane.specs.Numbers.{events_of, item_event}
+use Rattle.cf_lane.specs.declared.wire.Fragments.{Fragments}
+use Rattle.cf_lane.specs.declared.wire.Wire.{Wire}
+use Rattle.cf_audit.specs.declared.line.CutReason.{CutReason}
+use Rattle.cf_policy.specs.declared.Asset.{Asset}
+use Rattle.cf_policy.specs.declared.Protocol.{Protocol}
+use Rattle.cf_renumber.specs.Counts.{Event}
+use Rattle.cf_renumber.specs.Numbers.{IsNumbersOf}
+use Rattle.cf_view.specs.declared.Side.{Side}
+use Rattle.std.proofs.Common.{Bool, List, None, Option, Some, [], ap, append_assoc, arith, cond, false, length, refl, subst, sym, true, ℕ, ◌%◌, ◌*◌, ◌++◌, ◌+◌, ◌/◌, ◌∙◌, ◌∷◌, ◌≡◌, ◌≤◌}
+use Rattle.std.proofs.lemmas.Bool.{leb-true}
+use Rattle.std.proofs.lemmas.List.{append-nil, reverse-append}
+use Rattle.std.proofs.lemmas.List.Concat.{flat_map-append}
+use Rattle.std.proofs.lemmas.List.Sums.{sum_by-append}
+use Rattle.std.specs.List.{flat_map, sum_by}
+use Rattle.std.specs.Option.{option_or}
+use Rattle.std.specs.Prelude.{IsSome, IsTrue, if◌then◌else◌, is_some, nat_le, reverse, ◌↔◌}
+use Rattle.cf_policy.specs.declared.Protocol.TheVariants as protocol
+use Rattle.cf_view.specs.declared.Side.TheVariants as side
+use Rattle.cf_lane.specs.declared.wire.Wire.TheVariants as wire
+
+-- what items put out, and then what more items do
+pub in_turn-append : {X : Type 0} (put : List Judged → Judged → List X) (earlier js ks : List Judged) →
+    in_turn put earlier (js ++ ks) ≡ in_turn put earlier js ++ in_turn put (earlier ++ js) ks
+in_turn-append put earlier [] ks = ap (λ before. in_turn put before ks) (sym (append-nil earlier))
+in_turn-append put earlier (j ∷ js) ks =
+    ap (λ rest. put earlier j ++ rest) (in_turn-append put (earlier ++ j ∷ []) js ks)
+    ∙ sym (append_assoc (put earlier j) (in_turn put (earlier ++ j ∷ []) js) (in_turn put ((earlier ++ j ∷ []) ++ js) ks))
+    ∙ ap (λ before. (put earlier j ++ in_turn put (earlier ++ j ∷ []) js) ++ in_turn put before ks) (append_assoc earlier (j ∷ []) js)
+
+pub in_turn-more : {X : Type 0} (put : List Judged → Judged → List X) (earlier : List Judged) (j : Judged) →
+    in_turn put [] (earlier ++ j ∷ []) ≡ in_turn put [] earlier ++ put earlier j
+in_turn-more put earlier j = in_turn-append put [] earlier (j ∷ []) ∙ ap (λ xs. in_turn put [] earlier ++ xs) (append-nil (put earlier j))
+
+pub first_none : (c d : Option CutReason) → option_or c d ≡ None → (c ≡ None) × (d ≡ None)
+first_none None d e = (refl, e)
+first_none (Some r) d e = cc
+
+pub cut_of-append : (js ks : List Judged) → cut_of js ≡ None → cut_of (js ++ ks) ≡ cut_of ks
+cut_of-append [] ks e = refl
+cut_of-append (j ∷ js) ks e =
+    let both = first_none (cut_by j.fate) (cut_of js) e in
+    ap (λ c. option_or c (cut_of (js ++ ks))) both.0 ∙ cut_of-append js ks both.1
+
+-- the events, the newest first
+pub events_of-more : (earlier : List Judged) (j : Judged) → events_of (earlier ++ j ∷ []) ≡ reverse (item_event earlier j.fate j.item) ++ events_of earlier
+events_of-more earlier j =
+    ap reverse (in_turn-more (λ before i. item_event before i.fate i.item) earlier j)
+    ∙ reverse-append (in_turn (λ before i. item_event before i.fate i.item) [] earlier) (item_event earlier j.fate j.item)
+
+-- the segments of a side, the newest first
+pub segments_of-more : (asset : Asset) (s : Side) (earlier : List Judged) (j : Judged) → segments_of asset s (earlier ++ j ∷ []) ≡ segment_in asset s j.item ++ segments_of asset s earlier
+segments_of-more asset s earlier j = ap (flat_map (λ i. segment_in asset s i.item)) (reverse-append earlier (j ∷ []))
+
+-- how many segments went to a side
+pub segments_into-more : (asset : Asset) (to : Side) (earlier : List Judged) (j : Judged) →
+    segments_into asset to (earlier ++ j ∷ []) ≡ segments_into asset to earlier + sum_by (λ octets. count_of (length octets)) (fragment_in asset to earlier j j.item)
+segments_into-more asset to earlier j =
+    ap (sum_by (λ octets. count_of (length octets))) (in_turn-more (λ before i. fragment_in asset to before i i.item) earlier j)
+    ∙ sum_by-append (λ octets. count_of (length octets)) (in_turn (λ before i. fragment_in asset to before i i.item) [] earlier) (fragment_in asset to earlier j j.item)
+
+module _ (asset : Asset) (earlier : List Judged) (j : Judged) (no_segment : (s : Side) → segment_in asset s j.item ≡ [])
+    (no_fragment : (to : Side) → fragment_in asset to earlier j j.item ≡ []) (no_event : item_event earlier j.fate j.item ≡ []) where
+  same_segments : (s : Side) → segments_of asset s earlier ≡ segments_of asset s (earlier ++ j ∷ [])
+  same_segments s = sym (segments_of-more asset s earlier j ∙ ap (λ xs. xs ++ segments_of asset s earlier) (no_segment s))
+
+  same_count : (to : Side) → segments_into asset to earlier ≡ segments_into asset to (earlier ++ j ∷ [])
+  same_count to =
+      sym (segments_into-more asset to earlier j ∙ ap (λ xs. segments_into asset to earlier + sum_by (λ (octets : List ℕ). count_of (length octets)) xs) (no_fragment to) ∙ omega arith)
+
+  same_events : events_of earlier ≡ events_of (earlier ++ j ∷ [])
+  same_events = sym (events_of-more earlier j ∙ ap (λ xs. reverse xs ++ events_of earlier) no_event)
+
+  -- an item that is no segment, no fragment and no event changes nothing of what is kept
+  pub wire_stays : (w : Wire) → KnowsWire asset w earlier → KnowsWire asset w (earlier ++ j ∷ [])
+  wire_stays wire.Modbus k = tt
+  wire_stays (wire.Dnp3 f) k = record {
+    client = subst (IsAssemblyOf f.client) (same_segments side.Client) k.client;
+    controller = subst (IsAssemblyOf f.controller) (same_segments side.Controller) k.controller;
+    to_client = k.to_client ∙ ap (λ n. n % 64) (same_count side.Client);
+    to_controller = k.to_controller ∙ ap (λ n. n % 64) (same_count side.Controller);
+  }
+  wire_stays (wire.Iec104 numbers) k = subst (IsNumbersOf numbers) same_events k
+
+-- a fragment that is put together has at most 2,048 octets
+if_some : (b : Bool) (o : Option (List ℕ)) (x : List ℕ) → (if b then o else None) ≡ Some x → (b ≡ true) × (o ≡ Some x)
+if_some true o x e = (refl, e)
+if_some false o x e = cc
+
+else_some : (b : Bool) (o : Option (List ℕ)) (x : List ℕ) → (if b then None else o) ≡ Some x → o ≡ Some x
+else_some true o x e = cc
+else_some false o x e = e
+
+some_is : (x y : List ℕ) → Some x ≡ Some y → x ≡ y
+some_is x y e = cc
+
+pub left_most : (run : List (List ℕ)) (xs : List ℕ) → left_of run ≡ Some xs → length xs ≤ 2048
+left_most [] xs e = cc
+left_most (s ∷ run) xs e =
+    let made = else_some (is_final s) (made_of (s ∷ run)) xs e in
+    let linked = if_some (is_linked (s ∷ run)) (fitting (octets_of (s ∷ run))) xs made in
+    let fits = if_some (nat_le (length (octets_of (s ∷ run))) 2048) (Some (octets_of (s ∷ run))) xs linked.1 in
+    omega (arith, leb-true (length (octets_of (s ∷ run))) 2048 fits.0, ap length (some_is (octets_of (s ∷ run)) xs fits.1))
+
+owed_by : (b : Bool) (octets : List ℕ) (o : Option (List ℕ)) → (if b then Some octets else None) ≡ o → ((xs : List ℕ) → o ≡ Some xs → length xs ≤ 2048) →
+    (if b then 5 * length octets / 4 else 0) ≤ 2560
+owed_by true octets o e most = let l = most octets (sym e) in omega (arith, l)
+owed_by false octets o e most = omega arith
+
+owed_most : (a : AssemblyValue) (segments : List (List ℕ)) → IsAssemblyOf a segments → owed_octets a ≤ 2560
+owed_most a segments is = owed_by a.begun a.octets (unfinished segments) is.opened (left_most (since_first segments))
+
+wire_most : (p : Protocol) (w : Wire) → IsWireOf p w → wire_debt w ≤ 5120
+wire_most p wire.Modbus is = omega arith
+wire_most p (wire.Iec104 numbers) is = omega arith
+wire_most protocol.Modbus (wire.Dnp3 f) is = absurd is
+wire_most protocol.Iec104 (wire.Dnp3 f) is = absurd is
+wire_most protocol.Dnp3 (wire.Dnp3 f) is = omega (arith, owed_most f.client is.client.0 is.client.1, owed_most f.controller is.controller.0 is.controller.1)
+
+-- what unfinished fragments may still put out
+pub debt_most : (asset : Asset) (lane : LaneValue) → IsLaneOf asset lane → debt lane ≤ 5300
+debt_most asset lane is = omega (arith, wire_most asset.protocol lane.wire is.wire)
+
+wire_no_debt : (w : Wire) → IsWireOf protocol.Modbus w → wire_debt w ≡ 0
+wire_no_debt wire.Modbus is = refl
+wire_no_debt (wire.Dnp3 f) is = absurd is
+wire_no_debt (wire.Iec104 numbers) is = absurd is
+
+-- a lane of Modbus has no debt
+pub no_debt : (asset : Asset) (lane : LaneValue) → asset.protocol ≡ protocol.Modbus → IsLaneOf asset lane → debt lane ≡ 0
+no_debt asset lane modbus is = wire_no_debt lane.wire (subst (λ p. IsWireOf p lane.wire) modbus is.wire)
+
+true_or_none : (b : Bool) (o : Option (List ℕ)) → IsTrue b ↔ IsSome o → b ≡ is_some o
+true_or_none true (Some x) e = refl
+true_or_none true None e = cc (e.0 refl)
+true_or_none false (Some x) e = cc (e.1 refl)
+true_or_none false None e = refl
+
+side_known : (asset : Asset) (f : Fragments) (s : Side) (earlier : List Judged) → KnowsFragments asset f earlier → IsAssemblyOf (of_side s f) (segments_of asset s earlier)
+side_known asset f side.Client earlier k = k.client
+side_known asset f side.Controller earlier k = k.controller
+
+unfinished_by : (p : Protocol) (asset : Asset) (f : Fragments) (s : Side) (b : Bool) → ((segments : List (List ℕ)) → IsAssemblyOf (of_side s f) segments → IsTrue b ↔ IsSome (unfinished segments)) →
+    (earlier : List Judged) → IsWireOf p (wire.Dnp3 f) → KnowsFragments asset f earlier → b ≡ has_unfinished asset p s earlier
+unfinished_by protocol.Modbus asset f s b told earlier is knows = absurd is
+unfinished_by protocol.Iec104 asset f s b told earlier is knows = absurd is
+unfinished_by protocol.Dnp3 asset f s b told earlier is knows =
+    true_or_none b (unfinished (segments_of asset s earlier)) (told (segments_of asset s earlier) (side_known asset f s earlier knows))
+
+-- what the assembly of a side tells is what the earlier items leave unfinished
+pub unfinished_told : (w : Wire) (f : Fragments) (s : Side) (a : AssemblyValue) (b : Bool) → w ≡ wire.Dnp3 f → a ≡ of_side s f →
+    ((segments : List (List ℕ)) → IsAssemblyOf a segments → IsTrue b ↔ IsSome (unfinished segments)) →
+    (asset : Asset) (earlier : List Judged) → IsWireOf asset.protocol w → KnowsWire asset w earlier → b ≡ has_unfinished asset asset.protocol s earlier
+unfinished_told w f s a b is of told asset earlier wire knows =
+    unfinished_by asset.protocol asset f s b (subst (λ v. (segments : List (List ℕ)) → IsAssemblyOf v segments → IsTrue b ↔ IsSome (unfinished segments)) of told) earlier
+    (subst (IsWireOf asset.protocol) is wire) (subst (λ v. KnowsWire asset v earlier) is knows)

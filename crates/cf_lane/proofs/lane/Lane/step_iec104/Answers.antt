@@ -1,0 +1,87 @@
+use Rattle.std.proofs.Common.{◌≡◌, ◌+◌, List, arith, ap, inl, refl, subst, sym, ◌∙◌, ℕ}
+use Rattle.cf_apci.specs.Apdu.{SpellsApdu, apdu_break, apdu_value}
+use Rattle.cf_lane.proofs.Apdus.{apdu_handled, apdu_length, apdu_some, breaks_by, counts_apdu, grows_apdu, misses_apdu, steps_apdu}
+use Rattle.cf_lane.proofs.Failing.{on_err}
+use Rattle.cf_lane.proofs.Taking.{room_less}
+use Rattle.cf_lane.proofs.Units.{partial_apdu}
+use Rattle.cf_lane.specs.Handled.{LaneValue, Steps, state}
+use Rattle.cf_lane.specs.Judged.{cut_by, is_admitted, is_refused, one_if}
+use Rattle.cf_lane.specs.Renumbered.{MissesApdu, TakesApdu, numbered}
+use Rattle.cf_lane.specs.declared.lane.Step.{Step}
+use Rattle.cf_outside.specs.Desk.{DeskValue}
+use Rattle.cf_view.specs.Framing.{Begins, BreaksAt, IsPartial}
+use Rattle.cf_view.specs.declared.Endpoint.{Endpoint}
+use Rattle.cf_lane.proofs.lane.Lane.step_iec104.Goals as goal
+
+pub take_apdu-requires-clause-client_room : goal.take_apdu-requires-clause-client_room
+take_apdu-requires-clause-client_room g c =
+    let b = subst (λ (xs : List ℕ). Begins SpellsApdu xs (apdu_value c.in-Unit.unit) c.in-Unit.used) c.after.ensures.bytes c.in-Unit.ensures.true_answer in
+    room_less _ _ _ (omega (arith, apdu_length c.args.asset.now c.requires.iec104 c.args.moment c.args.side _ _ _ b, b.inside)) c.requires.client_room
+
+pub take_apdu-requires-clause-controller_room : goal.take_apdu-requires-clause-controller_room
+take_apdu-requires-clause-controller_room g c =
+    let b = subst (λ (xs : List ℕ). Begins SpellsApdu xs (apdu_value c.in-Unit.unit) c.in-Unit.used) c.after.ensures.bytes c.in-Unit.ensures.true_answer in
+    room_less _ _ _ (omega (arith, apdu_length c.args.asset.now c.requires.iec104 c.args.moment c.args.side _ _ _ b, b.inside)) c.requires.controller_room
+
+pub returns-in_err-fate-in-Unit-clause-misses : goal.returns-in_err-fate-in-Unit-clause-misses
+returns-in_err-fate-in-Unit-clause-misses g c =
+    let b = subst (λ (xs : List ℕ). Begins SpellsApdu xs (apdu_value c.in-Unit.unit) c.in-Unit.used) c.after.ensures.bytes c.in-Unit.ensures.true_answer in
+    let value = g.D.Desk.value in
+    let was = ap (λ (l : LaneValue). l.wire) (sym c.self.view_is) ∙ c.in-Iec104.is in
+    let missed = subst (λ (e : Endpoint). MissesApdu c.args.asset.now e c.args.moment c.args.side (apdu_value c.in-Unit.unit)
+    (numbered c.in-Iec104.numbers c.args.to_client.now c.args.to_controller.now (DeskValue.lines (value c.args.desk.now)))
+    (DeskValue.lines (value c.take_apdu.new.desk)) (DeskValue.line_part (value c.take_apdu.new.desk)))
+    (ap (λ (l : LaneValue). l.client) c.self.view_is) c.in_err-fate-in-Unit.ensures.misses in
+    on_err _ _ (misses_apdu c.args.asset.now c.requires.iec104 c.args.moment c.args.side c.args.bytes.now.bytes (apdu_value c.in-Unit.unit) c.in-Unit.used b
+    c.in-Iec104.numbers c.args.self.now c.args.to_client.now c.args.to_controller.now (DeskValue.lines (value c.args.desk.now)) was _ _ missed)
+
+pub returns-in-More-clause-steps : goal.returns-in-More-clause-steps
+returns-in-More-clause-steps g c =
+    (partial_apdu c.args.asset.now.protocol c.requires.iec104 _ (subst (λ (xs : List ℕ). IsPartial SpellsApdu xs) c.after.ensures.bytes c.in-More.ensures.true_answer), refl)
+
+pub returns-in-Broken-clause-steps : goal.returns-in-Broken-clause-steps
+returns-in-Broken-clause-steps g c =
+    inl (
+      breaks_by c.args.asset.now c.requires.iec104 c.args.moment _ c.args.side c.in-Broken.reason
+          (subst (λ (xs : List ℕ). (i : ℕ) × BreaksAt SpellsApdu xs i × (c.in-Broken.reason ≡ apdu_break i)) c.after.ensures.bytes c.in-Broken.ensures.true_answer),
+      refl,
+    )
+
+pub returns-in_ok-fate-in-Unit-clause-steps : goal.returns-in_ok-fate-in-Unit-clause-steps
+returns-in_ok-fate-in-Unit-clause-steps g c =
+    let b = subst (λ (xs : List ℕ). Begins SpellsApdu xs (apdu_value c.in-Unit.unit) c.in-Unit.used) c.after.ensures.bytes c.in-Unit.ensures.true_answer in
+    let value = g.D.Desk.value in
+    let f = c.in_ok-fate-in-Unit.fate in
+    let old = state c.args.self.now c.args.to_client.now c.args.to_controller.now (DeskValue.lines (value c.args.desk.now)) in
+    let new = state c.count.new.self c.take_apdu.new.to_client c.take_apdu.new.to_controller (DeskValue.lines (value c.take_apdu.new.desk)) in
+    let was = ap (λ (l : LaneValue). l.wire) (sym c.self.view_is) ∙ c.in-Iec104.is in
+    let takes = subst (λ (e : Endpoint). TakesApdu c.args.asset.now e c.args.moment c.args.side (apdu_value c.in-Unit.unit) f
+    (numbered c.in-Iec104.numbers c.args.to_client.now c.args.to_controller.now (DeskValue.lines (value c.args.desk.now)))
+    (numbered c.take_apdu.new.numbers c.take_apdu.new.to_client c.take_apdu.new.to_controller (DeskValue.lines (value c.take_apdu.new.desk))))
+    (ap (λ (l : LaneValue). l.client) c.self.view_is) c.in_ok-fate-in-Unit.ensures.takes in
+    let handled = apdu_handled c.args.asset.now c.args.moment c.args.side (apdu_value c.in-Unit.unit) f old new c.in-Iec104.numbers c.take_apdu.new.numbers
+    was (ap (λ (l : LaneValue). l.wire) c.count.ensures) (ap (λ (l : LaneValue). l.client) c.count.ensures ∙ ap (λ (l : LaneValue). l.client) c.self.view_is)
+    (ap (λ (l : LaneValue). l.admitted) c.count.ensures ∙ ap (λ (l : LaneValue). l.admitted + one_if (is_admitted f)) c.self.view_is)
+    (ap (λ (l : LaneValue). l.refused) c.count.ensures ∙ ap (λ (l : LaneValue). l.refused + one_if (is_refused f)) c.self.view_is) takes in
+    subst (λ (st : Step). Steps c.args.asset.now c.args.moment c.args.side c.args.bytes.now.bytes old new st) (sym c.step_of.ensures)
+    (steps_apdu c.args.asset.now c.requires.iec104 c.args.moment c.args.side c.args.bytes.now.bytes (apdu_value c.in-Unit.unit) c.in-Unit.used b f (cut_by f) refl old new handled)
+
+pub returns-in_ok-fate-in-Unit-clause-client_grows : goal.returns-in_ok-fate-in-Unit-clause-client_grows
+returns-in_ok-fate-in-Unit-clause-client_grows g c =
+    let b = subst (λ (xs : List ℕ). Begins SpellsApdu xs (apdu_value c.in-Unit.unit) c.in-Unit.used) c.after.ensures.bytes c.in-Unit.ensures.true_answer in
+    grows_apdu c.in_ok-fate-in-Unit.fate c.step_of.result _ c.in-Unit.used (apdu_length c.args.asset.now c.requires.iec104 c.args.moment c.args.side _ _ _ b) c.step_of.ensures _ _ _ _
+    (ap (λ (l : LaneValue). l.wire) (sym c.self.view_is) ∙ c.in-Iec104.is) (ap (λ (l : LaneValue). l.wire) c.count.ensures) _ _ c.in_ok-fate-in-Unit.ensures.client_grows
+
+pub returns-in_ok-fate-in-Unit-clause-controller_grows : goal.returns-in_ok-fate-in-Unit-clause-controller_grows
+returns-in_ok-fate-in-Unit-clause-controller_grows g c =
+    let b = subst (λ (xs : List ℕ). Begins SpellsApdu xs (apdu_value c.in-Unit.unit) c.in-Unit.used) c.after.ensures.bytes c.in-Unit.ensures.true_answer in
+    grows_apdu c.in_ok-fate-in-Unit.fate c.step_of.result _ c.in-Unit.used (apdu_length c.args.asset.now c.requires.iec104 c.args.moment c.args.side _ _ _ b) c.step_of.ensures _ _ _ _
+    (ap (λ (l : LaneValue). l.wire) (sym c.self.view_is) ∙ c.in-Iec104.is) (ap (λ (l : LaneValue). l.wire) c.count.ensures) _ _ c.in_ok-fate-in-Unit.ensures.controller_grows
+
+pub returns-in_ok-fate-in-Unit-clause-counts : goal.returns-in_ok-fate-in-Unit-clause-counts
+returns-in_ok-fate-in-Unit-clause-counts g c =
+    let b = subst (λ (xs : List ℕ). Begins SpellsApdu xs (apdu_value c.in-Unit.unit) c.in-Unit.used) c.after.ensures.bytes c.in-Unit.ensures.true_answer in
+    let f = c.in_ok-fate-in-Unit.fate in
+    counts_apdu f c.step_of.result c.in-Unit.used (apdu_some c.args.asset.now c.requires.iec104 c.args.moment c.args.side _ _ _ b) c.step_of.ensures c.args.self.now c.count.new.self
+    (ap (λ (l : LaneValue). l.admitted) c.count.ensures ∙ ap (λ (l : LaneValue). l.admitted + one_if (is_admitted f)) c.self.view_is)
+    (ap (λ (l : LaneValue). l.refused) c.count.ensures ∙ ap (λ (l : LaneValue). l.refused + one_if (is_refused f)) c.self.view_is)

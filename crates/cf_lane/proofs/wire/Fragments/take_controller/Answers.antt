@@ -1,0 +1,35 @@
+use Rattle.std.proofs.Common.{[], ap, arith, length, ◌+◌, ◌<◌, ◌∷◌}
+use Rattle.cf_audit.specs.declared.line.Why.TheVariants as why
+use Rattle.cf_dnptrans.specs.declared.assembly.SegmentAnswer.TheVariants as answers
+use Rattle.cf_lane.proofs.Dnp3Segments.{fate_short, misses_quietly, recut_grows, recut_room, stray_fragment}
+use Rattle.cf_lane.proofs.Failing.{on_err}
+use Rattle.cf_lane.specs.Fragments.{MissesSegment, Parts, parts}
+use Rattle.cf_lane.specs.declared.fate.Fate.TheVariants as fate
+use Rattle.cf_outq.specs.SendQueue.{Queue}
+use Rattle.cf_outside.specs.Desk.{DeskValue}
+use Rattle.cf_view.specs.declared.Side.TheVariants as side
+use Rattle.cf_lane.proofs.wire.Fragments.take_controller.Goals as goal
+
+pub returns-in_err-log_stray-clause-misses : goal.returns-in_err-log_stray-clause-misses
+returns-in_err-log_stray-clause-misses g c =
+    let f = c.args.self.now in
+    let short : length f.controller.octets < 2 = omega (arith, c.if-len-lt2.true, c.len.ensures.length, ap length c.fragment-octets.ensures.octets) in
+    let old : Queue → Parts = λ to_controller. parts f c.args.to_client.now to_controller (DeskValue.lines (g.D.Desk.value c.args.desk.now)) in
+    let all : (to_controller : Queue) → MissesSegment c.args.asset.now c.args.client.now c.args.moment side.Controller answers.Whole (f.controller.octets ∷ []) (old to_controller)
+    (DeskValue.lines (g.D.Desk.value c.log_stray.new.desk)) (DeskValue.line_part (g.D.Desk.value c.log_stray.new.desk)) =
+    λ to_controller. misses_quietly c.args.asset.now c.args.client.now c.args.moment side.Controller answers.Whole (f.controller.octets ∷ []) (fate.Stray why.Short)
+    (old to_controller)
+    (fate_short c.args.asset.now c.args.client.now.address side.Controller f.controller.octets short)
+    (λ to. stray_fragment to side.Controller c.args.to_client.now.ended why.Short (f.controller.octets ∷ []))
+    c.requires.to_client c.requires.to_controller _ _ c.in_err-log_stray.ensures.fails in
+    on_err _ _ all
+
+pub push_fragment-self-requires-clause-room : goal.push_fragment-self-requires-clause-room
+push_fragment-self-requires-clause-room g c =
+    recut_room c.args.asset.now side.Client c.args.self.now.to_client (length c.args.self.now.controller.octets + 2) c.fragment-octets.result.bytes c.args.to_client.now
+    (omega (arith, ap length c.fragment-octets.ensures.octets)) c.requires.client_room
+
+pub returns-clause-client_grows : goal.returns-clause-client_grows
+returns-clause-client_grows g c =
+    recut_grows c.args.asset.now side.Client c.args.self.now.to_client (length c.args.self.now.controller.octets + 2) c.fragment-octets.result.bytes c.args.to_client.now _
+    (omega (arith, ap length c.fragment-octets.ensures.octets)) c.push_fragment-self.ensures.queue

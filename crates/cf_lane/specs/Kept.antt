@@ -1,0 +1,61 @@
+-- What a lane keeps for its protocol, and how it stands for the earlier items. This project's own.
+use Rattle.cf_dnptrans.specs.AssemblyValue.{AssemblyValue, IsAssemblyOf}
+use Rattle.cf_lane.specs.Dnp3.{segments_into, segments_of}
+use Rattle.cf_lane.specs.Judged.{Judged}
+use Rattle.cf_lane.specs.Numbers.{events_of}
+use Rattle.cf_lane.specs.declared.wire.Fragments.{Fragments}
+use Rattle.cf_lane.specs.declared.wire.Wire.{Wire}
+use Rattle.cf_policy.specs.declared.Asset.{Asset}
+use Rattle.cf_policy.specs.declared.Protocol.{Protocol}
+use Rattle.cf_renumber.specs.Numbers.{IsNumbersOf}
+use Rattle.cf_view.specs.declared.Side.{Side}
+use Rattle.std.specs.Prelude.{List, None, if◌then◌else◌, length, ℕ, ◌%◌, ◌*◌, ◌+◌, ◌/◌, ◌<◌, ◌≡◌}
+use Rattle.cf_policy.specs.declared.Protocol.TheVariants as protocol
+use Rattle.cf_view.specs.declared.Side.TheVariants as side
+use Rattle.cf_lane.specs.declared.wire.Wire.TheVariants as wire
+
+-- the fragments are put together from the segments of their sides, and the sequences go on behind the segments that were sent
+pub record KnowsFragments (asset : Asset) (f : Fragments) (earlier : List Judged) : Type 0 where
+  pub client : IsAssemblyOf f.client (segments_of asset side.Client earlier)
+  pub controller : IsAssemblyOf f.controller (segments_of asset side.Controller earlier)
+  pub to_client : f.to_client ≡ segments_into asset side.Client earlier % 64
+  pub to_controller : f.to_controller ≡ segments_into asset side.Controller earlier % 64
+
+-- what is kept stands for the earlier items: one case a protocol
+abbrev pub KnowsWire : Asset → Wire → List Judged → Type 0
+KnowsWire asset wire.Modbus earlier = Unit {0}
+KnowsWire asset (wire.Dnp3 f) earlier = KnowsFragments asset f earlier
+KnowsWire asset (wire.Iec104 numbers) earlier = IsNumbersOf numbers (events_of earlier)
+
+-- the fragment of a side
+abbrev pub of_side : Side → Fragments → AssemblyValue
+of_side side.Client f = f.client
+of_side side.Controller f = f.controller
+
+-- each assembly is one of segments, and each sequence is one
+pub record AreFragments (f : Fragments) : Type 0 where
+  pub client : (segments : List (List ℕ)) × IsAssemblyOf f.client segments
+  pub controller : (segments : List (List ℕ)) × IsAssemblyOf f.controller segments
+  pub to_client : f.to_client < 64
+  pub to_controller : f.to_controller < 64
+
+-- what is kept is what the protocol needs, and no frame of a client waits to be judged
+abbrev pub IsWireOf : Protocol → Wire → Type 0
+IsWireOf protocol.Modbus wire.Modbus = Unit {0}
+IsWireOf protocol.Modbus (wire.Dnp3 f) = ⊥
+IsWireOf protocol.Modbus (wire.Iec104 numbers) = ⊥
+IsWireOf protocol.Dnp3 wire.Modbus = ⊥
+IsWireOf protocol.Dnp3 (wire.Dnp3 f) = AreFragments f
+IsWireOf protocol.Dnp3 (wire.Iec104 numbers) = ⊥
+IsWireOf protocol.Iec104 wire.Modbus = ⊥
+IsWireOf protocol.Iec104 (wire.Dnp3 f) = ⊥
+IsWireOf protocol.Iec104 (wire.Iec104 numbers) = numbers.owed ≡ None
+
+-- the most octets that a fragment that is begun adds to the frames that it goes on in: 292 octets carry 249
+abbrev pub owed_octets : AssemblyValue → ℕ
+owed_octets a = if a.begun then 5 * length a.octets / 4 else 0
+
+abbrev pub wire_debt : Wire → ℕ
+wire_debt wire.Modbus = 0
+wire_debt (wire.Dnp3 f) = owed_octets f.client + owed_octets f.controller
+wire_debt (wire.Iec104 numbers) = 0

@@ -1,0 +1,246 @@
+//! What becomes of a segment, and of the fragment that it completes.
+ghost use Rattle.std.specs.Prelude.{◌≡◌, ◌≢◌, ◌+◌, ◌<◌, ◌≤◌, ◌∷◌, [], true, false, IfOk, OnOk, OnErr, IsErr, List, ℕ, length, slice_index};
+ghost use Rattle.cf_dnplink.specs.LinkFrame.{IsFrame, frame_value};
+ghost use Rattle.cf_dnplink.specs.UserOctets.{user_of};
+ghost use Rattle.cf_outq.specs.SendQueue.{Queue};
+ghost use Rattle.cf_outside.specs.Faults.{HasCause};
+ghost use Rattle.cf_outside.specs.Desk.{DeskValue};
+ghost use Rattle.cf_policy.specs.Index.{IsIndexOf};
+ghost use Rattle.cf_policy.specs.Within.{IsAssetWithin};
+ghost use Rattle.cf_lane.specs.Dnp3.{drop_why, fragment_reply};
+ghost use Rattle.cf_lane.specs.Fragments.{AddsSegment, MissesSegment, Sends, TakesSegment, completed_by, frames_exist, parts, recut_most, sent_most};
+ghost use Rattle.cf_lane.specs.Handled.{Grows, HasRoom, IsOpen, WritesLog};
+ghost use Rattle.cf_lane.specs.Kept.{AreFragments, of_side};
+
+use crate::dnp3::judge::judge_fragment;
+use crate::dnp3::recut::push_fragment;
+use crate::fate::{Fate, Refusal};
+use crate::log::{log_refusal, log_stray};
+use crate::wire::Fragments;
+use arrayvec::ArrayVec;
+use cf_audit::Why;
+use cf_dnplink::{Frame, copy_user, user_len};
+use cf_dnpobj::{reply_for, wants_reply};
+use cf_dnptrans::{DropReason, SegmentAnswer};
+use cf_outq::Outq;
+use cf_outside::Desk;
+use cf_policy::{Asset, CodeIndex};
+use cf_view::{Endpoint, Reason, Side, View, WriteFault};
+
+impl Fragments {
+    /// Puts the user octets of a data frame to the fragment of its side.
+    pub(crate) fn take_segment(&mut self, side: Side, frame: &Frame<'_>) -> SegmentAnswer
+        requires { IsFrame (frame_value frame.now) }
+        ensures { AddsSegment side (user_of frame.now.blocks.bytes) result self.old self.new }
+    {
+        let mut user = [0u8; 250];
+        let len = user_len(frame);
+        copy_user(frame, &mut user[..len]);
+        let segment = View::one(&user[..len]);
+        match side {
+            Side::Client => self.client.segment(segment),
+            Side::Controller => self.controller.segment(segment),
+        }
+    }
+
+    /// Takes a segment of a side that was put to its fragment, by the answer to it: it lengthens the fragment, is dropped, or
+    /// completes it.
+    pub(crate) fn take_answer<D: Desk>(
+        &mut self,
+        asset: &Asset,
+        index: &CodeIndex,
+        client: &Endpoint,
+        moment: u64,
+        side: Side,
+        answer: &SegmentAnswer,
+        to_client: &mut Outq,
+        to_controller: &mut Outq,
+        desk: &mut D,
+    ) -> Result<Fate, WriteFault>
+        requires index { IsIndexOf asset.now client.now.address index.now }
+        requires within { IsAssetWithin asset.now }
+        requires desk { DeskValue.whole (D.value desk.old) ≡ true }
+        requires completed { answer.now ≡ SegmentAnswer.Whole → (of_side side self.old).whole ≡ true }
+        requires to_client { self.old.to_client < 64 }
+        requires to_controller { self.old.to_controller < 64 }
+        requires open { IsOpen side to_client.old to_controller.old }
+        requires client_room { HasRoom (sent_most answer.now (of_side side self.old)) to_client.old }
+        requires controller_room { HasRoom (sent_most answer.now (of_side side self.old)) to_controller.old }
+        ensures takes { IfOk result (λ f. TakesSegment asset.now client.now moment side answer.now (completed_by answer.now (of_side side self.old)) f
+            (parts self.old to_client.old to_controller.old (DeskValue.lines (D.value desk.old)))
+            (parts self.new to_client.new to_controller.new (DeskValue.lines (D.value desk.new)))) }
+        ensures misses { OnErr result (MissesSegment asset.now client.now moment side answer.now (completed_by answer.now (of_side side self.old))
+            (parts self.old to_client.old to_controller.old (DeskValue.lines (D.value desk.old)))
+            (DeskValue.lines (D.value desk.new)) (DeskValue.line_part (D.value desk.new))) }
+        ensures client_grows { OnOk result (Grows (sent_most answer.now (of_side side self.old)) 0 0 to_client.old to_client.new) }
+        ensures controller_grows { OnOk result (Grows (sent_most answer.now (of_side side self.old)) 0 0 to_controller.old to_controller.new) }
+        ensures whole { OnOk result (DeskValue.whole (D.value desk.new) ≡ true) }
+        ensures log { WritesLog (D.value desk.old) (D.value desk.new) }
+        ensures cause { HasCause (DeskValue.faults (D.value desk.old)) (DeskValue.faults (D.value desk.new)) (IsErr result) }
+    {
+        match *answer {
+            SegmentAnswer::More => Ok(Fate::Lengthens),
+            SegmentAnswer::Dropped(reason) => {
+                let why = drop_why(&reason);
+                log_stray(asset, client, moment, side, why, desk)?;
+                Ok(Fate::Stray(why))
+            }
+            SegmentAnswer::Whole => match side {
+                Side::Client => {
+                    let fate = self.take_client(
+                        asset,
+                        index,
+                        client,
+                        moment,
+                        to_client,
+                        to_controller,
+                        desk,
+                    )?;
+                    Ok(fate)
+                }
+                Side::Controller => {
+                    let fate = self.take_controller(asset, client, moment, to_client, desk)?;
+                    Ok(fate)
+                }
+            },
+        }
+    }
+
+    /// Takes a client's fragment that is whole by its fate.
+    fn take_client<D: Desk>(
+        &mut self,
+        asset: &Asset,
+        index: &CodeIndex,
+        client: &Endpoint,
+        moment: u64,
+        to_client: &mut Outq,
+        to_controller: &mut Outq,
+        desk: &mut D,
+    ) -> Result<Fate, WriteFault>
+        requires index { IsIndexOf asset.now client.now.address index.now }
+        requires within { IsAssetWithin asset.now }
+        requires desk { DeskValue.whole (D.value desk.old) ≡ true }
+        requires completed { self.old.client.whole ≡ true }
+        requires to_client { self.old.to_client < 64 }
+        requires to_controller { self.old.to_controller < 64 }
+        requires open { to_controller.old.ended ≡ false }
+        requires client_room { HasRoom (recut_most (length self.old.client.octets + 2)) to_client.old }
+        requires controller_room { HasRoom (recut_most (length self.old.client.octets + 2)) to_controller.old }
+        ensures takes { IfOk result (λ f. TakesSegment asset.now client.now moment Side.Client SegmentAnswer.Whole (self.old.client.octets ∷ []) f
+            (parts self.old to_client.old to_controller.old (DeskValue.lines (D.value desk.old)))
+            (parts self.new to_client.new to_controller.new (DeskValue.lines (D.value desk.new)))) }
+        ensures misses { OnErr result (MissesSegment asset.now client.now moment Side.Client SegmentAnswer.Whole (self.old.client.octets ∷ [])
+            (parts self.old to_client.old to_controller.old (DeskValue.lines (D.value desk.old)))
+            (DeskValue.lines (D.value desk.new)) (DeskValue.line_part (D.value desk.new))) }
+        ensures client_grows { OnOk result (Grows (recut_most (length self.old.client.octets + 2)) 0 0 to_client.old to_client.new) }
+        ensures controller_grows { OnOk result (Grows (recut_most (length self.old.client.octets + 2)) 0 0 to_controller.old to_controller.new) }
+        ensures whole { OnOk result (DeskValue.whole (D.value desk.new) ≡ true) }
+        ensures log { WritesLog (D.value desk.old) (D.value desk.new) }
+        ensures cause { HasCause (DeskValue.faults (D.value desk.old)) (DeskValue.faults (D.value desk.new)) (IsErr result) }
+    {
+        let octets = self.client.fragment();
+        if octets.len() < 2 {
+            log_stray(asset, client, moment, Side::Client, Why::Short, desk)?;
+            return Ok(Fate::Stray(Why::Short));
+        }
+        let fate = judge_fragment(asset, index, &octets);
+        match fate {
+            Fate::Refused(refusal) => {
+                let replied = reply(asset, &octets, &refusal, &mut self.to_client, to_client);
+                log_refusal(asset, client, moment, &refusal, replied, octets, desk)?;
+                Ok(fate)
+            }
+            Fate::Carried | Fate::Admitted => {
+                self.to_controller = push_fragment(
+                    asset,
+                    Side::Controller,
+                    &octets,
+                    self.to_controller,
+                    to_controller,
+                );
+                Ok(fate)
+            }
+            Fate::Stray(_) | Fate::Lengthens | Fate::Cuts(_) => Ok(fate),
+        }
+    }
+
+    /// Takes a controller's fragment that is whole: it goes on.
+    fn take_controller<D: Desk>(
+        &mut self,
+        asset: &Asset,
+        client: &Endpoint,
+        moment: u64,
+        to_client: &mut Outq,
+        desk: &mut D,
+    ) -> Result<Fate, WriteFault>
+        requires within { IsAssetWithin asset.now }
+        requires desk { DeskValue.whole (D.value desk.old) ≡ true }
+        requires completed { self.old.controller.whole ≡ true }
+        requires to_client { self.old.to_client < 64 }
+        requires to_controller { self.old.to_controller < 64 }
+        requires open { to_client.old.ended ≡ false }
+        requires client_room { HasRoom (recut_most (length self.old.controller.octets + 2)) to_client.old }
+        ensures takes { IfOk result (λ f. (to_controller : Queue) → TakesSegment asset.now client.now moment Side.Controller SegmentAnswer.Whole (self.old.controller.octets ∷ []) f
+            (parts self.old to_client.old to_controller (DeskValue.lines (D.value desk.old)))
+            (parts self.new to_client.new to_controller (DeskValue.lines (D.value desk.new)))) }
+        ensures misses { OnErr result ((to_controller : Queue) → MissesSegment asset.now client.now moment Side.Controller SegmentAnswer.Whole (self.old.controller.octets ∷ [])
+            (parts self.old to_client.old to_controller (DeskValue.lines (D.value desk.old)))
+            (DeskValue.lines (D.value desk.new)) (DeskValue.line_part (D.value desk.new))) }
+        ensures client_grows { OnOk result (Grows (recut_most (length self.old.controller.octets + 2)) 0 0 to_client.old to_client.new) }
+        ensures whole { OnOk result (DeskValue.whole (D.value desk.new) ≡ true) }
+        ensures log { WritesLog (D.value desk.old) (D.value desk.new) }
+        ensures cause { HasCause (DeskValue.faults (D.value desk.old)) (DeskValue.faults (D.value desk.new)) (IsErr result) }
+    {
+        let octets = self.controller.fragment();
+        if octets.len() < 2 {
+            log_stray(asset, client, moment, Side::Controller, Why::Short, desk)?;
+            return Ok(Fate::Stray(Why::Short));
+        }
+        self.to_client = push_fragment(asset, Side::Client, &octets, self.to_client, to_client);
+        Ok(Fate::Carried)
+    }
+}
+
+/// Why a segment is dropped, in the words of the log.
+fn drop_why(reason: &DropReason) -> Why
+    ensures { result ≡ drop_why reason.now }
+{
+    match reason {
+        DropReason::Empty => Why::Empty,
+        DropReason::NoFirst => Why::NoFirst,
+        DropReason::Order => Why::Order,
+        DropReason::TooLong => Why::TooLong,
+    }
+}
+
+/// Answers a refused fragment, where its function code wants a reply and the stream to the client goes on; whether it did.
+fn reply(
+    asset: &Asset,
+    octets: &View<'_>,
+    refusal: &Refusal,
+    sequence: &mut u8,
+    to_client: &mut Outq,
+) -> bool
+    requires at_least { 2 ≤ length octets.now.bytes }
+    requires at_most { length octets.now.bytes ≤ 2048 }
+    requires reason { refusal.now.reason ≢ Reason.Station }
+    requires sequence { sequence.old < 64 }
+    requires room { HasRoom (recut_most (length octets.now.bytes + 2)) to_client.old }
+    ensures sends { Sends asset.now Side.Client (fragment_reply to_client.old.ended (Fate.Refused refusal.now) (octets.now.bytes ∷ [])) sequence.old to_client.old sequence.new to_client.new }
+    ensures replied { result ≡ frames_exist asset.now Side.Client sequence.old (fragment_reply to_client.old.ended (Fate.Refused refusal.now) (octets.now.bytes ∷ [])) }
+    ensures grows { Grows (recut_most (length octets.now.bytes + 2)) 0 0 to_client.old to_client.new }
+{
+    if to_client.is_ended() || !wants_reply(octets.at(1)) {
+        return false;
+    }
+    let mut response = ArrayVec::<u8, 2056>::new();
+    reply_for(octets.sub(0, octets.len()), &refusal.reason, &mut response);
+    *sequence = push_fragment(
+        asset,
+        Side::Client,
+        &View::one(response.as_slice()),
+        *sequence,
+        to_client,
+    );
+    true
+}

@@ -1,0 +1,161 @@
+//! What becomes of a frame.
+ghost use Rattle.std.specs.Prelude.{◌≡◌, ◌+◌, ◌*◌, ◌≤◌, ◌<◌, [], None, true, false, if◌then◌else◌, IfOk, OnOk, OnErr, IsErr, length};
+ghost use Rattle.cf_dnplink.specs.LinkFrame.{IsFrame, frame_value};
+ghost use Rattle.cf_outq.specs.SendQueue.{after_push};
+ghost use Rattle.cf_outside.specs.Faults.{HasCause};
+ghost use Rattle.cf_outside.specs.Desk.{DeskValue};
+ghost use Rattle.cf_policy.specs.Index.{IsIndexOf};
+ghost use Rattle.cf_policy.specs.Within.{IsAssetWithin};
+ghost use Rattle.cf_lane.specs.Dnp3.{is_data, stray_of};
+ghost use Rattle.cf_lane.specs.Fragments.{MissesFrame, TakesFrame, owed_by, parts};
+ghost use Rattle.cf_lane.specs.Handled.{Grows, HasRoom, IsOpen, WritesLog};
+ghost use Rattle.cf_lane.specs.History.{is_side};
+ghost use Rattle.cf_lane.specs.Kept.{AreFragments};
+ghost use Rattle.cf_lane.specs.Unit.{frame_spelling};
+
+use crate::dnp3::served::{is_data, stray_of};
+use crate::fate::Fate;
+use crate::log::log_stray;
+use crate::wire::Fragments;
+use cf_dnplink::Frame;
+use cf_outq::Outq;
+use cf_outside::Desk;
+use cf_policy::{Asset, CodeIndex};
+use cf_view::{Endpoint, Side, View, WriteFault};
+
+impl Fragments {
+    /// Takes a frame of a side, which has these octets, by its fate: one that is not served goes nowhere, a link status frame goes
+    /// on as it is, and a data frame is put to the fragment of its side.
+    pub(crate) fn take_frame<D: Desk>(
+        &mut self,
+        asset: &Asset,
+        index: &CodeIndex,
+        client: &Endpoint,
+        moment: u64,
+        side: Side,
+        frame: &Frame<'_>,
+        octets: &View<'_>,
+        to_client: &mut Outq,
+        to_controller: &mut Outq,
+        desk: &mut D,
+    ) -> Result<Fate, WriteFault>
+        requires index { IsIndexOf asset.now client.now.address index.now }
+        requires within { IsAssetWithin asset.now }
+        requires desk { DeskValue.whole (D.value desk.old) ≡ true }
+        requires are { AreFragments self.old }
+        requires frame { IsFrame (frame_value frame.now) }
+        requires octets { octets.now.bytes ≡ frame_spelling (frame_value frame.now) }
+        requires open { IsOpen side to_client.old to_controller.old }
+        requires client_room { HasRoom (owed_by self.old + 2 * length octets.now.bytes) to_client.old }
+        requires controller_room { HasRoom (owed_by self.old + 2 * length octets.now.bytes) to_controller.old }
+        ensures takes { IfOk result (λ f. TakesFrame asset.now client.now moment side (frame_value frame.now) f
+            (parts self.old to_client.old to_controller.old (DeskValue.lines (D.value desk.old)))
+            (parts self.new to_client.new to_controller.new (DeskValue.lines (D.value desk.new)))) }
+        ensures misses { OnErr result (MissesFrame asset.now client.now moment side (frame_value frame.now)
+            (parts self.old to_client.old to_controller.old (DeskValue.lines (D.value desk.old)))
+            (DeskValue.lines (D.value desk.new)) (DeskValue.line_part (D.value desk.new))) }
+        ensures are { OnOk result (AreFragments self.new) }
+        ensures client_grows { OnOk result (Grows (2 * length octets.now.bytes) (owed_by self.old) (owed_by self.new) to_client.old to_client.new) }
+        ensures controller_grows { OnOk result (Grows (2 * length octets.now.bytes) (owed_by self.old) (owed_by self.new) to_controller.old to_controller.new) }
+        ensures whole { OnOk result (DeskValue.whole (D.value desk.new) ≡ true) }
+        ensures log { WritesLog (D.value desk.old) (D.value desk.new) }
+        ensures cause { HasCause (DeskValue.faults (D.value desk.old)) (DeskValue.faults (D.value desk.new)) (IsErr result) }
+    {
+        if let Some(why) = stray_of(asset, side, frame) {
+            log_stray(asset, client, moment, side, why, desk)?;
+            return Ok(Fate::Stray(why));
+        }
+        if !is_data(frame) {
+            pass_on(side, octets, to_client, to_controller);
+            return Ok(Fate::Carried);
+        }
+        let fate = self.take_data(
+            asset,
+            index,
+            client,
+            moment,
+            side,
+            frame,
+            to_client,
+            to_controller,
+            desk,
+        )?;
+        Ok(fate)
+    }
+
+    /// Takes a data frame that is served by what its segment does.
+    fn take_data<D: Desk>(
+        &mut self,
+        asset: &Asset,
+        index: &CodeIndex,
+        client: &Endpoint,
+        moment: u64,
+        side: Side,
+        frame: &Frame<'_>,
+        to_client: &mut Outq,
+        to_controller: &mut Outq,
+        desk: &mut D,
+    ) -> Result<Fate, WriteFault>
+        requires index { IsIndexOf asset.now client.now.address index.now }
+        requires within { IsAssetWithin asset.now }
+        requires desk { DeskValue.whole (D.value desk.old) ≡ true }
+        requires are { AreFragments self.old }
+        requires frame { IsFrame (frame_value frame.now) }
+        requires served { stray_of asset.now side (frame_value frame.now) ≡ None }
+        requires is_data { is_data (frame_value frame.now) ≡ true }
+        requires open { IsOpen side to_client.old to_controller.old }
+        requires client_room { HasRoom (owed_by self.old + 2 * length (frame_spelling (frame_value frame.now))) to_client.old }
+        requires controller_room { HasRoom (owed_by self.old + 2 * length (frame_spelling (frame_value frame.now))) to_controller.old }
+        ensures takes { IfOk result (λ f. TakesFrame asset.now client.now moment side (frame_value frame.now) f
+            (parts self.old to_client.old to_controller.old (DeskValue.lines (D.value desk.old)))
+            (parts self.new to_client.new to_controller.new (DeskValue.lines (D.value desk.new)))) }
+        ensures misses { OnErr result (MissesFrame asset.now client.now moment side (frame_value frame.now)
+            (parts self.old to_client.old to_controller.old (DeskValue.lines (D.value desk.old)))
+            (DeskValue.lines (D.value desk.new)) (DeskValue.line_part (D.value desk.new))) }
+        ensures are { OnOk result (AreFragments self.new) }
+        ensures client_grows { OnOk result (Grows (2 * length (frame_spelling (frame_value frame.now))) (owed_by self.old) (owed_by self.new) to_client.old to_client.new) }
+        ensures controller_grows { OnOk result (Grows (2 * length (frame_spelling (frame_value frame.now))) (owed_by self.old) (owed_by self.new) to_controller.old to_controller.new) }
+        ensures whole { OnOk result (DeskValue.whole (D.value desk.new) ≡ true) }
+        ensures log { WritesLog (D.value desk.old) (D.value desk.new) }
+        ensures cause { HasCause (DeskValue.faults (D.value desk.old)) (DeskValue.faults (D.value desk.new)) (IsErr result) }
+    {
+        let answer = self.take_segment(side, frame);
+        let fate = self.take_answer(
+            asset,
+            index,
+            client,
+            moment,
+            side,
+            &answer,
+            to_client,
+            to_controller,
+            desk,
+        )?;
+        Ok(fate)
+    }
+}
+
+/// Puts the octets of a frame into the queue to the other side.
+fn pass_on(side: Side, octets: &View<'_>, to_client: &mut Outq, to_controller: &mut Outq)
+    requires open { IsOpen side to_client.old to_controller.old }
+    requires client_room { HasRoom (length octets.now.bytes) to_client.old }
+    requires controller_room { HasRoom (length octets.now.bytes) to_controller.old }
+    ensures client { to_client.new ≡ after_push to_client.old (if is_side Side.Client side then [] else octets.now.bytes) }
+    ensures controller { to_controller.new ≡ after_push to_controller.old (if is_side Side.Controller side then [] else octets.now.bytes) }
+{
+    match side {
+        Side::Client => push_view(octets, to_controller),
+        Side::Controller => push_view(octets, to_client),
+    }
+}
+
+/// Puts octets into a queue.
+fn push_view(octets: &View<'_>, queue: &mut Outq)
+    requires open { queue.old.ended ≡ false }
+    requires room { HasRoom (length octets.now.bytes) queue.old }
+    ensures { queue.new ≡ after_push queue.old octets.now.bytes }
+{
+    let (first, second) = octets.pieces();
+    queue.push(first);
+    queue.push(second);
+}

@@ -1,0 +1,83 @@
+//! The fate of a client's fragment.
+ghost use Rattle.std.specs.Prelude.{◌≡◌, ◌≢◌, ◌≤◌, ℕ, if◌then◌else◌, length, nat_eq};
+ghost use Rattle.cf_dnpobj.specs.Acts.{acts};
+ghost use Rattle.cf_dnpobj.specs.Fragment.{fragment_value};
+ghost use Rattle.cf_policy.specs.Index.{IsIndexOf};
+ghost use Rattle.cf_lane.specs.Acts.{fate_of_acts};
+ghost use Rattle.cf_lane.specs.Dnp3.{IsOfFragment, fate_of_fragment, form_reason};
+ghost use Rattle.cf_lane.specs.Fate.{HasOwnDecider};
+
+use crate::fate::{Fate, Refusal, refused};
+use cf_dnpobj::{Fragment, FragmentRefusal, act_at, act_count, read_fragment};
+use cf_policy::{Asset, CodeIndex, Decider, Verdict};
+use cf_view::{Reason, Side, View};
+
+/// The fate of a fragment of 2 to 2,048 octets of the client of the index: a confirmation goes on, and every other one is a command. Its form is
+/// read, then each act is judged in its order; the first that is not allowed decides. This project's own order.
+pub(crate) fn judge_fragment(asset: &Asset, index: &CodeIndex, octets: &View<'_>) -> Fate
+    requires at_least { 2 ≤ length octets.now.bytes }
+    requires at_most { length octets.now.bytes ≤ 2048 }
+    ensures fate { (client : ℕ) → IsIndexOf asset.now client index.now → result ≡ fate_of_fragment asset.now client Side.Client octets.now.bytes }
+    ensures decider { HasOwnDecider asset.now.rules result }
+    ensures fragment { (client : ℕ) → IsIndexOf asset.now client index.now → IsOfFragment result }
+{
+    match read_fragment(octets.sub(0, octets.len())) {
+        Err(refusal) => refused(
+            Decider::Form,
+            form_reason(&refusal),
+            u16::from(octets.at(1)),
+            0,
+        ),
+        Ok(fragment) => judge_request(asset, index, &fragment),
+    }
+}
+
+/// The reason that a refused form stands for. This project's own division.
+fn form_reason(refusal: &FragmentRefusal) -> Reason
+    ensures value { result ≡ form_reason refusal.now }
+    ensures other { result ≢ Reason.Station }
+{
+    match refusal {
+        FragmentRefusal::Short | FragmentRefusal::NotSingle | FragmentRefusal::Parameter =>
+            Reason::Value,
+        FragmentRefusal::Function => Reason::Function,
+        FragmentRefusal::Object => Reason::Point,
+    }
+}
+
+/// The fate of a request whose form was read.
+fn judge_request(asset: &Asset, index: &CodeIndex, fragment: &Fragment<'_>) -> Fate
+    requires { length fragment.now.objects.bytes ≤ 2046 }
+    ensures fate { (client : ℕ) → IsIndexOf asset.now client index.now → result ≡ (if nat_eq fragment.now.code 0 then Fate.Carried else fate_of_acts asset.now client (acts (fragment_value fragment.now))) }
+    ensures decider { HasOwnDecider asset.now.rules result }
+    ensures fragment { (client : ℕ) → IsIndexOf asset.now client index.now → IsOfFragment result }
+{
+    if fragment.code == 0 {
+        return Fate::Carried;
+    }
+    judge_acts(asset, index, fragment)
+}
+
+/// The fate of a command whose form was read.
+fn judge_acts(asset: &Asset, index: &CodeIndex, fragment: &Fragment<'_>) -> Fate
+    requires size { length fragment.now.objects.bytes ≤ 2046 }
+    requires code { fragment.now.code ≢ 0 }
+    ensures fate { (client : ℕ) → IsIndexOf asset.now client index.now → result ≡ fate_of_acts asset.now client (acts (fragment_value fragment.now)) }
+    ensures decider { HasOwnDecider asset.now.rules result }
+    ensures fragment { (client : ℕ) → IsIndexOf asset.now client index.now → IsOfFragment result }
+{
+    for i in 0..act_count(fragment) {
+        let act = act_at(fragment, i);
+        match index.verdict(asset, &act) {
+            Verdict::Allow(_) => {}
+            Verdict::Refuse(decider, reason) => {
+                return Fate::Refused(Refusal {
+                    decider,
+                    reason,
+                    act,
+                });
+            }
+        }
+    }
+    Fate::Admitted
+}

@@ -1,0 +1,202 @@
+//! The rules of an asset by code: for each code the rules that have it and one client, found without looking at the
+//! others.
+ghost use Rattle.std.specs.Prelude.{◌≡◌, ℕ, ◌<◌, ◌≤◌, ◌&&◌, pos, Bool, List, length, All, AllPairs, option_map, position, IfOk, IfSome, OnOk};
+ghost use Rattle.std.specs.List.{list_any};
+ghost use Rattle.cf_policy.specs.Index.{IsIndexOf, AddsCodes, HasPairsBelow, IsPairBefore, IsPartOfCode, rule_at, has_group, has_group_and_point, has_group_to_value, first_of_pairs, reason_of_pairs, verdict_by};
+ghost use Rattle.cf_policy.specs.Verdict.{verdict_of, is_allow, IsInside};
+ghost use Rattle.cf_policy.specs.Within.{IsAssetWithin, IsRuleWithin};
+
+use crate::judge::{rule_reason, takes, takes_value};
+use crate::policy::{Action, Asset, Decider, Rule, Verdict};
+use cf_view::{Act, NoMemory, Reason};
+use std::alloc::Global;
+use std::marker::Model;
+
+/// A code and a rule that has it.
+#[derive(Clone, Copy, PartialEq, Eq, PartialOrd, Ord, Debug)]
+pub struct CodePair {
+    /// A function code of Modbus or DNP3, or a type identification of IEC 60870-5-104.
+    pub code: u16,
+    /// The place of the rule among those of its asset, counted from 0.
+    pub rule: usize,
+}
+
+/// The pairs of the rules of an asset that have one client. Contracts see the list of pairs.
+#[derive(Debug, Drop)]
+pub struct CodeIndex {
+    pairs: Vec<CodePair>,
+}
+
+impl Model for CodeIndex {
+    ghost use Rattle.std.specs.Prelude.{List};
+    ghost use Rattle.cf_policy.specs.declared.index.CodePair.{CodePair};
+
+    ghost Value = { List CodePair };
+
+    ghost view = { λ i. i.pairs.items };
+}
+
+impl CodeIndex {
+    /// The index of an asset's rules for the client with this address, a number of 32 bits whose first octet is the
+    /// highest.
+    pub fn new(alloc: Global, asset: &Asset, client: u32) -> Result<CodeIndex, NoMemory>
+        requires within { IsAssetWithin asset.now }
+        ensures index { IfOk result (λ index. IsIndexOf asset.now client index) }
+    {
+        let mut pairs = client_pairs(alloc, asset.rules.as_slice(), client)?;
+        pairs.sort_unstable();
+        pairs.dedup();
+        Ok(CodeIndex { pairs })
+    }
+
+    /// The pairs, ascending by code and then by place.
+    pub fn pairs(&self) -> &[CodePair]
+        ensures { result.now ≡ self.now }
+    {
+        self.pairs.as_slice()
+    }
+
+    /// What the asset's rules say about an act of the client: what `verdict` says. The index is that of the asset.
+    pub fn verdict(&self, asset: &Asset, act: &Act) -> Verdict
+        ensures decides { (client : ℕ) → IsIndexOf asset.now client self.now → result ≡ verdict_of asset.now client act.now }
+        ensures inside { IsInside asset.now.rules result }
+    {
+        let pairs = pairs_of(self.pairs.as_slice(), act.code);
+        verdict_by(pairs, asset.rules.as_slice(), act)
+    }
+}
+
+/// What these rules say about an act of their client and code.
+fn verdict_by(pairs: &[CodePair], rules: &[Rule], act: &Act) -> Verdict
+    ensures decides { result ≡ verdict_by pairs.now rules.now act.now }
+    ensures inside { IsInside rules.now result }
+{
+    match first_rule(pairs, rules, act) {
+        Some((number, rule)) => match rule.action {
+            Action::Allow => Verdict::Allow(number),
+            Action::Refuse => Verdict::Refuse(Decider::Rule(number), rule_reason(rule)),
+        },
+        None => Verdict::Refuse(Decider::Default, default_reason(pairs, rules, act)),
+    }
+}
+
+/// The pairs of a code, of pairs that ascend by code.
+fn pairs_of(pairs: &[CodePair], code: u16) -> &[CodePair]
+    ensures { AllPairs IsPairBefore pairs.now → IsPartOfCode code pairs.now result.now }
+{
+    let (_, rest) = pairs.split_at(pairs.partition_point(|pair| pair.code < code));
+    let (part, _) = rest.split_at(rest.partition_point(|pair| pair.code <= code));
+    part
+}
+
+fn first_rule<'a>(pairs: &[CodePair], rules: &'a [Rule], act: &Act) -> Option<(usize, &'a Rule)>
+    ensures first { option_map (λ p. (p.0, p.1.now)) result ≡ first_of_pairs pairs.now rules.now act.now }
+    ensures inside { IfSome result (λ p. p.0 < length rules.now) }
+{
+    let place = first_place(pairs, rules, act)?;
+    let number = pairs[place].rule;
+    Some((number, rules.get(number)?))
+}
+
+fn first_place(pairs: &[CodePair], rules: &[Rule], act: &Act) -> Option<usize>
+    ensures { result ≡ position (λ p. rule_at rules.now p.rule (λ r. has_group_to_value r act.now)) pairs.now }
+{
+    pairs
+        .iter()
+        .position(|pair| rule_has(rules, pair.rule, act))
+}
+
+fn default_reason(pairs: &[CodePair], rules: &[Rule], act: &Act) -> Reason
+    ensures { result ≡ reason_of_pairs pairs.now rules.now act.now }
+{
+    if !some_allows_group(pairs, rules, act) {
+        Reason::Function
+    } else if !some_allows_point(pairs, rules, act) {
+        Reason::Point
+    } else {
+        Reason::Value
+    }
+}
+
+fn some_allows_group(pairs: &[CodePair], rules: &[Rule], act: &Act) -> bool
+    ensures { result ≡ list_any (λ p. rule_at rules.now p.rule (λ r. is_allow r.action && has_group r act.now)) pairs.now }
+{
+    pairs.iter().any(|pair| allows_group(rules, pair.rule, act))
+}
+
+fn some_allows_point(pairs: &[CodePair], rules: &[Rule], act: &Act) -> bool
+    ensures { result ≡ list_any (λ p. rule_at rules.now p.rule (λ r. is_allow r.action && has_group_and_point r act.now)) pairs.now }
+{
+    pairs.iter().any(|pair| allows_point(rules, pair.rule, act))
+}
+
+fn allows_group(rules: &[Rule], place: usize, act: &Act) -> bool
+    ensures { result ≡ rule_at rules.now place (λ r. is_allow r.action && has_group r act.now) }
+{
+    match rules.get(place) {
+        Some(rule) => rule.action == Action::Allow && has_group(rule, act),
+        None => false,
+    }
+}
+
+fn allows_point(rules: &[Rule], place: usize, act: &Act) -> bool
+    ensures { result ≡ rule_at rules.now place (λ r. is_allow r.action && has_group_and_point r act.now) }
+{
+    match rules.get(place) {
+        Some(rule) => rule.action == Action::Allow && has_group_and_point(rule, act),
+        None => false,
+    }
+}
+
+/// Whether the rule of this place has the act, where it has its client and code.
+fn rule_has(rules: &[Rule], place: usize, act: &Act) -> bool
+    ensures { result ≡ rule_at rules.now place (λ r. has_group_to_value r act.now) }
+{
+    match rules.get(place) {
+        Some(rule) => has_group_and_point(rule, act) && takes_value(&rule.values, act.value),
+        None => false,
+    }
+}
+
+fn has_group_and_point(rule: &Rule, act: &Act) -> bool
+    ensures { result ≡ has_group_and_point rule.now act.now }
+{
+    has_group(rule, act) && takes(&rule.points, i64::from(act.point))
+}
+
+fn has_group(rule: &Rule, act: &Act) -> bool
+    ensures { result ≡ has_group rule.now act.now }
+{
+    takes(&rule.groups, i64::from(act.group))
+}
+
+/// The pairs in the order in which the rules state them.
+fn client_pairs(alloc: Global, rules: &[Rule], client: u32) -> Result<Vec<CodePair>, NoMemory>
+    requires within { All IsRuleWithin rules.now }
+    ensures { IfOk result (λ pairs. HasPairsBelow (length rules.now) rules.now client pairs.items) }
+{
+    let mut pairs = Vec::new(alloc);
+    for (place, rule) in rules.iter().enumerate() {
+        if takes(&rule.clients, i64::from(client)) {
+            push_codes(&mut pairs, place, rule)?;
+        }
+    }
+    Ok(pairs)
+}
+
+/// Adds a pair for each code that the rule of this place states.
+fn push_codes(pairs: &mut Vec<CodePair>, place: usize, rule: &Rule) -> Result<(), NoMemory>
+    requires within { IsRuleWithin rule.now }
+    ensures { OnOk result (AddsCodes place rule.now pairs.old.items pairs.new.items) }
+{
+    for span in rule.codes.as_slice() {
+        let pair = CodePair {
+            code: span.low as u16,
+            rule: place,
+        };
+        if pairs.push(pair).is_err() {
+            return Err(NoMemory);
+        }
+    }
+    Ok(())
+}
