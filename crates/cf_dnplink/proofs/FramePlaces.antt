@@ -1,5 +1,5 @@
 -- The places of a frame.
-use Rattle.std.proofs.Common.{◌≡◌, ℕ, zero, suc, ◌+◌, ◌-◌, ◌<◌, ◌≤◌, ◌==◌, nat_lt, nat_le, ◌⊎◌, if◌then◌else◌, true, List, [], ◌∷◌, ◌++◌, length, get_or, take, drop, inl, inr, refl, sym, ◌∙◌, ap, arith, length-append, slice_range}
+use Rattle.std.proofs.Common.{◌≡◌, ℕ, zero, suc, ◌+◌, ◌-◌, ◌/◌, ◌<◌, ◌≤◌, ◌==◌, nat_lt, nat_le, ◌⊎◌, if◌then◌else◌, true, List, [], ◌∷◌, ◌++◌, length, get_or, take, drop, inl, inr, refl, sym, ◌∙◌, ap, arith, length-append, slice_range}
 use Rattle.std.proofs.Math.Seq.{get_or-append_seam}
 use Rattle.std.proofs.lemmas.Bool.{cases_lt, le-ltb, lt-ltb}
 use Rattle.std.proofs.lemmas.Bool.Decides.{nat_tests}
@@ -7,7 +7,7 @@ use Rattle.std.proofs.lemmas.List.{take-take, drop-take, get_or_append_left, get
 use Rattle.cf_view.specs.Octets.{IsOctets, u16_le_at}
 use Rattle.cf_view.specs.Framing.{IsPrefixFree, HasFront}
 use Rattle.cf_dnplink.specs.Crc.{crc_of}
-use Rattle.cf_dnplink.specs.FramePlaces.{frame_size, size_of, block_start, block_end, crc_octet, checks, follows, fields_of, SpellsByPlaces}
+use Rattle.cf_dnplink.specs.FramePlaces.{frame_size, size_of, block_start, block_end, block_sum, crc_octet, checks, follows, fields_of, SpellsByPlaces}
 use Rattle.cf_view.proofs.Places.{IsTold, GoesOn, prefix_free, has_front}
 
 size_short : (xs : List ℕ) → length xs < 3 → size_of xs ≡ 10
@@ -186,3 +186,32 @@ fields_front xs n h =
 
 pub frame_front : (xs : List ℕ) → IsOctets xs → HasFront SpellsByPlaces xs
 frame_front xs o = has_front follows size_of told next goes_on fields_of (λ ys. omega (arith, size_least ys)) xs o
+
+-- the CRC of a block is that of its second octet too
+same_block : (len place : ℕ) → block_end len (place + 1) < place + 1
+    → (block_start (place + 1) ≡ block_start place) × ((block_end len (place + 1) ≡ block_end len place) × (block_end len place ≤ place))
+same_block len place h = elim (cases_lt (place + 1) 10) [ inl v ↦ header v | inr v ↦ later v ]
+  where
+    header : place + 1 < 10 → (block_start (place + 1) ≡ block_start place) × ((block_end len (place + 1) ≡ block_end len place) × (block_end len place ≤ place))
+    header v =
+        let k = rw (lt-ltb (place + 1) 10 v) at h in
+        rw (lt-ltb (place + 1) 10 v, lt-ltb place 10 (omega (arith, v))) (refl, (refl, omega (arith, k)))
+
+    quotient : 10 ≤ place + 1 → (10 ≤ place) × ((place + 1 - 10) / 18 ≡ (place - 10) / 18)
+    quotient v =
+        let k = rw (le-ltb (place + 1) 10 v) at h in
+        (omega (arith, k, v), omega (arith, k, v))
+
+    later : 10 ≤ place + 1 → (block_start (place + 1) ≡ block_start place) × ((block_end len (place + 1) ≡ block_end len place) × (block_end len place ≤ place))
+    later v =
+        let k = rw (le-ltb (place + 1) 10 v) at h in
+        let q = quotient v in
+        rw (le-ltb (place + 1) 10 v, le-ltb place 10 q.0, q.1) (refl, (refl, omega (arith, k, q.1)))
+
+pub sum_kept : (octets : List ℕ) (place sum : ℕ) → (block_end (get_or octets 2 0) place ≤ place → sum ≡ block_sum octets place)
+    → block_end (get_or octets 2 0) (place + 1) < place + 1 → sum ≡ block_sum octets (place + 1)
+sum_kept octets place sum h k =
+    let same = same_block (get_or octets 2 0) place k in
+    h same.1.1
+    ∙ ap (λ (n : ℕ). crc_of (slice_range octets n (block_end (get_or octets 2 0) place))) (sym same.0)
+    ∙ ap (λ (n : ℕ). crc_of (slice_range octets (block_start (place + 1)) n)) (sym same.1.0)

@@ -23,6 +23,10 @@ abbrev pub block_end : ℕ → ℕ → ℕ
 block_end len place =
     if nat_lt place 10 then 8 else block_start place + min 16 (len - 5 - (place - 10) / 18 * 16)
 
+-- the CRC of the block
+abbrev pub block_sum : List ℕ → ℕ → ℕ
+block_sum octets place = crc_of (slice_range octets (block_start place) (block_end (slice_index octets 2) place))
+
 -- an octet of a CRC, the low one first
 abbrev pub crc_octet : ℕ → ℕ → ℕ
 crc_octet crc i = if i == 0 then crc % 256 else crc / 256

@@ -1,11 +1,12 @@
 //! Data link frames in a stream.
-ghost use Rattle.std.specs.Prelude.{◌≡◌, ℕ, ◌<◌, ◌≤◌, MatchOption, false, List, length, take, slice_index};
+ghost use Rattle.std.specs.Prelude.{◌≡◌, ℕ, ◌<◌, ◌≤◌, MatchOption, false, List, length, take, slice_index, slice_range};
 ghost use Rattle.cf_view.specs.Framing.{Begins, IsPartial, BreaksAt, Frames, HasFront, framed_value, IsPrefixFree};
 ghost use Rattle.cf_view.specs.Octets.{IsOctets};
 ghost use Rattle.cf_view.specs.Units.{HasUnits, IsUnitsThenBreak, IsUnitsThenRest};
 ghost use Rattle.cf_view.specs.Places.{IsRight};
 ghost use Rattle.cf_dnplink.specs.LinkFrame.{FrameValue, frame_value, SpellsFrame, frame_break};
-ghost use Rattle.cf_dnplink.specs.FramePlaces.{SpellsByPlaces, follows, size_of, block_start, block_end, checks, crc_octet};
+ghost use Rattle.cf_dnplink.specs.FramePlaces.{SpellsByPlaces, follows, size_of, block_start, block_end, block_sum, checks, crc_octet};
+ghost use Rattle.cf_dnplink.specs.Crc.{crc_of};
 
 use crate::check::crc;
 use cf_view::{Break, Framed, View};
@@ -109,19 +110,23 @@ fn first_wrong(bytes: &View<'_>, end: usize) -> Option<usize>
     ensures { MatchOption result (IsRight follows bytes.now.bytes end)
         (λ p. (p < end) × IsRight follows bytes.now.bytes p × (follows (take p bytes.now.bytes) (slice_index bytes.now.bytes p) ≡ false)) }
 {
+    let mut sum = 0;
     for place in 0..end {
-        if !may_follow(bytes, place) {
+        if !may_follow(bytes, place, &mut sum) {
             return Some(place);
         }
     }
     None
 }
 
-/// Whether the octet at a place may follow those before it.
-fn may_follow(bytes: &View<'_>, place: usize) -> bool
+/// Whether the octet at a place may follow those before it. The CRC of a block is computed at its first octet, and kept for its
+/// second one.
+fn may_follow(bytes: &View<'_>, place: usize, sum: &mut u16) -> bool
     requires inside { place < length bytes.now.bytes }
     requires size { place < 300 }
-    ensures { result ≡ follows (take place bytes.now.bytes) (slice_index bytes.now.bytes place) }
+    requires sum { block_end (slice_index bytes.now.bytes 2) place < place → sum.old ≡ block_sum bytes.now.bytes place }
+    ensures value { result ≡ follows (take place bytes.now.bytes) (slice_index bytes.now.bytes place) }
+    ensures sum { block_end (slice_index bytes.now.bytes 2) place ≤ place → sum.new ≡ block_sum bytes.now.bytes place }
 {
     let octet = bytes.at(place);
     if place == 0 {
@@ -133,22 +138,39 @@ fn may_follow(bytes: &View<'_>, place: usize) -> bool
     if place == 2 {
         return octet >= LEAST_LENGTH;
     }
-    is_checked(bytes, place, octet)
+    is_checked(bytes, place, octet, sum)
 }
 
 /// Whether the octet is the one of the CRC, where one stands there.
-fn is_checked(bytes: &View<'_>, place: usize, octet: u8) -> bool
+fn is_checked(bytes: &View<'_>, place: usize, octet: u8, sum: &mut u16) -> bool
     requires inside { place < length bytes.now.bytes }
     requires size { place < 300 }
     requires past { 2 < place }
-    ensures { result ≡ checks (slice_index bytes.now.bytes 2) bytes.now.bytes place octet }
+    requires sum { block_end (slice_index bytes.now.bytes 2) place < place → sum.old ≡ block_sum bytes.now.bytes place }
+    ensures value { result ≡ checks (slice_index bytes.now.bytes 2) bytes.now.bytes place octet }
+    ensures sum { block_end (slice_index bytes.now.bytes 2) place ≤ place → sum.new ≡ block_sum bytes.now.bytes place }
 {
     let start = start_of(place);
     let end = end_of(bytes.at(2), place);
     if place < end {
         return true;
     }
-    octet == octet_of(crc(bytes.sub(start, end)), place - end)
+    *sum = sum_at(bytes, start, end, place, *sum);
+    octet == octet_of(*sum, place - end)
+}
+
+/// The CRC of the octets of a block: at its first octet, and at the second, where it is known.
+fn sum_at(bytes: &View<'_>, start: usize, end: usize, place: usize, sum: u16) -> u16
+    requires inside { place < length bytes.now.bytes }
+    requires ordered { (start ≤ end) × (end ≤ place) }
+    requires sum { end < place → sum ≡ crc_of (slice_range bytes.now.bytes start end) }
+    ensures { result ≡ crc_of (slice_range bytes.now.bytes start end) }
+{
+    if end < place {
+        sum
+    } else {
+        crc(bytes.sub(start, end))
+    }
 }
 
 /// Where the block begins that a place lies in, or whose CRC does.

@@ -67,7 +67,7 @@ const CODES: [(&[u8], Reading); 21] = [
 /// Requests that masters send, by section 4.4 of the standard: all classes, class 0,
 /// unsolicited responses on and off, clear the restart bit, a time, cold restart, delay measurement, freeze, assign
 /// class.
-const SENT: [(&[u8], Reading); 15] = [
+const SENT: [(&[u8], Reading); 20] = [
     (
         &[
             0xC3, 0x01, 0x3C, 0x02, 0x06, 0x3C, 0x03, 0x06, 0x3C, 0x04, 0x06, 0x3C, 0x01, 0x06,
@@ -138,6 +138,23 @@ const SENT: [(&[u8], Reading); 15] = [
         ],
         Acts(1, 41, 2, 1, Some(12345)),
     ),
+    // What the frames of the unit tests of Suricata 7.0.10 carry (src/app-layer-dnp3.c): DNP3ParserTestCheckCRC,
+    // DNP3ParserTestParsePDU01, DNP3ParserTestUnsolicitedResponseConfirm, DNP3ParserDecodeG70V3Test (its beginning) and
+    // DNP3ParserIncorrectUserData.
+    (
+        &[
+            0xC9, 0x05, 0x0C, 0x01, 0x28, 0x01, 0x00, 0x00, 0x00, 0x01, 0x01, 0x01, 0x00, 0x00,
+            0x00, 0x00, 0x00, 0x00, 0x00, 0x00,
+        ],
+        Acts(1, 12, 1, 0, Some(1)),
+    ),
+    (&[0xC8, 0x01, 0x01, 0x00, 0x06], Acts(1, 1, 0, 0, None)),
+    (&[0xDA, 0x00], Confirm),
+    (
+        &[0xC9, 0x1B, 0x46, 0x03, 0x5B, 0x01, 0x55, 0x00, 0x1A, 0x00],
+        Refused(FragmentRefusal::Function),
+    ),
+    (&[0xC1, 0x82], Refused(FragmentRefusal::Function)),
 ];
 
 /// Each qualifier of a request that names objects, at its limits and past them.

@@ -1,5 +1,5 @@
 -- Two lists of right events in which the same is asked are one.
-use Rattle.std.proofs.Common.{◌≡◌, ℕ, Bool, true, false, cond, ◌&&◌, List, [], ◌∷◌, refl, sym, ◌∙◌, ap, subst}
+use Rattle.std.proofs.Common.{◌≡◌, ℕ, Bool, cond, ◌&&◌, List, [], ◌∷◌, refl, sym, ◌∙◌, ap, subst}
 use Rattle.std.specs.Prelude.{nat_lt, nat_le}
 use Rattle.cf_packet.specs.Packet.{PacketValue}
 use Rattle.cf_stream.proofs.Taken.{same_taken}
@@ -9,11 +9,11 @@ use Rattle.cf_stream.specs.Stream.{Stream, letter_count}
 use Rattle.cf_leg.proofs.Events.{own_same, peer_same}
 use Rattle.cf_leg.proofs.Fixed.{same_speech}
 use Rattle.cf_leg.specs.Asked.{AllAsked, SameAsked, SameCame, SameEnding}
-use Rattle.cf_leg.specs.Emits.{AllRight, Cuts, Greets, IsGreeting, IsRight, cut_by, fired_at, repeats, rst, syn_ack_for}
+use Rattle.cf_leg.specs.Emits.{AllRight, Cuts, Greets, IsGreeting, IsRight, cut_by, repeats, rst, syn_ack_for}
 use Rattle.cf_leg.specs.Event.{Came, Nothing, Greeting, Packet, Ending, Unspoken, Spoke, Cut, LegEvent}
 use Rattle.cf_leg.specs.Heard.{offers, opened}
 use Rattle.cf_leg.specs.Timer.{armed, due, tries}
-use Rattle.cf_leg.specs.Told.{is_greeted, letters_sent_at, own_number, peer_number}
+use Rattle.cf_leg.specs.Told.{is_greeted, letters_sent_at}
 use Rattle.cf_leg.specs.declared.ends.Ends.{Ends}
 use Rattle.cf_leg.specs.declared.ends.Role.{Role}
 use Rattle.cf_leg.specs.declared.ends.Role.TheVariants as role

@@ -1,6 +1,5 @@
 -- A leg whose event begins without a clock call.
 use Rattle.std.proofs.Common.{◌≡◌, ℕ, ◌+◌, Bool, true, false, cond, not, ◌&&◌, ◌||◌, List, [], ◌∷◌, length, refl, sym, ◌∙◌, ap}
-use Rattle.std.specs.Prelude.{nat_lt}
 use Rattle.cf_rebuild.specs.ReceiveWindow.{base_of}
 use Rattle.cf_stream.proofs.Taken.{same_taken}
 use Rattle.cf_stream.specs.FirstCopy.{first_copy, IsTaken}

@@ -1,18 +1,16 @@
 -- What segments carry of the list that their letters were cut from.
-use Rattle.std.proofs.Common.{◌≡◌, ℕ, suc, ◌+◌, ◌-◌, ◌%◌, ◌^◌, ◌<◌, ◌≤◌, min, max, Bool, true, false, cond, not, ◌&&◌, ◌||◌, List, [], ◌∷◌, ◌++◌, length, take, drop, get_or, refl, sym, ◌∙◌, ap, subst, arith, rules, ℤ, pos, negsuc, inl, inr, Option, Some, None, length-take, length-drop}
+use Rattle.std.proofs.Common.{◌≡◌, ℕ, suc, ◌+◌, ◌-◌, ◌<◌, ◌≤◌, min, Bool, true, false, cond, ◌&&◌, List, [], ◌∷◌, length, take, drop, get_or, refl, sym, ◌∙◌, ap, subst, arith, ℤ, pos, negsuc, inl, inr, Option, Some, None, length-take, length-drop}
 use Rattle.std.specs.Prelude.{MatchBool, ◌==◌, nat_lt}
-use Rattle.std.proofs.lemmas.Bool.{and_parts, cases_lt, cases_Bool, true≢false, false≢true, eqb-true, ltb-true, ltb-false, lt-ltb, le-ltb, eq-eqb}
-use Rattle.std.proofs.lemmas.Bool.Decides.{nat_tests}
-use Rattle.std.proofs.lemmas.Grind.{common_steps}
+use Rattle.std.proofs.lemmas.Bool.{and_parts, cases_lt, cases_Bool, false≢true, eqb-true, lt-ltb, le-ltb, eq-eqb}
 use Rattle.std.proofs.lemmas.List.{get_or-drop, get_or-take, get_or_append_left, length-append}
 use Rattle.std.specs.Option.{is_some, option_or}
 use Rattle.cf_packet.specs.Packet.{PacketValue}
 use Rattle.cf_stream.specs.Position.{sequence_number, position}
 use Rattle.cf_stream.specs.Stream.{Stream, Letter, Byte, End, Carries, Extends, IsPart, letter_at, letter_count, letter_from, no_letters, part}
-use Rattle.cf_leg.proofs.Speech.{carried_segment, piece_short, position_ahead, segment_stream}
+use Rattle.cf_leg.proofs.Speech.{carried_segment, position_ahead, segment_stream}
 use Rattle.cf_leg.specs.Emits.{Pieces, SaysIf, piece}
 use Rattle.cf_leg.specs.OneStream.{CarryAll, first_in, letter_in}
-use Rattle.cf_leg.specs.Segment.{letters_in, letters_of, segment}
+use Rattle.cf_leg.specs.Segment.{letters_in, segment}
 use Rattle.cf_leg.specs.Told.{letters_sent_by, letters_sent_by_all}
 use Rattle.cf_leg.specs.declared.ends.Told.{Told}
 use Rattle.cf_leg.specs.declared.ends.Way.{Way}

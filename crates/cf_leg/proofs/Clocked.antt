@@ -1,31 +1,29 @@
 -- A leg whose clock was called stands for the events with one that has just begun.
-use Rattle.std.proofs.Common.{◌≡◌, ◌≢◌, ℕ, ◌+◌, ◌-◌, ◌%◌, ◌^◌, ◌<◌, ◌≤◌, min, max, Bool, true, false, cond, not, ◌&&◌, ◌||◌, List, [], ◌∷◌, ◌++◌, length, Option, Some, None, refl, sym, ◌∙◌, ap, subst, arith, inl, inr, pos, ◌+ℤ◌}
-use Rattle.std.specs.Prelude.{MatchBool, nat_lt, nat_le, ◌==◌}
+use Rattle.std.proofs.Common.{◌≡◌, ℕ, ◌+◌, ◌%◌, ◌^◌, Bool, true, false, cond, not, ◌&&◌, ◌||◌, List, [], ◌∷◌, length, Option, Some, None, refl, sym, ◌∙◌, ap, subst, arith, inl, inr}
+use Rattle.std.specs.Prelude.{nat_lt, nat_le, ◌==◌}
 use Rattle.std.specs.Option.{option_or, is_some}
-use Rattle.std.proofs.lemmas.Bool.{cases_Bool, true≢false, false≢true, eqb-true, eqb-false, ltb-true, ltb-false, and_parts}
-use Rattle.std.proofs.lemmas.Int.{ints}
-use Rattle.cf_outq.specs.SendQueue.{Queue, IsQueue, queue_length}
+use Rattle.std.proofs.lemmas.Bool.{cases_Bool, true≢false, false≢true, ltb-true, and_parts}
+use Rattle.cf_outq.specs.SendQueue.{Queue, IsQueue}
 use Rattle.cf_outq.specs.SendQueue.{IsQueueOf}
 use Rattle.cf_packet.specs.Packet.{PacketValue}
-use Rattle.cf_rebuild.specs.ReceiveWindow.{IsWindow, base_of}
+use Rattle.cf_rebuild.specs.ReceiveWindow.{IsWindow}
 use Rattle.cf_stream.specs.Position.{place_or_zero, position, sequence_number}
 use Rattle.cf_stream.specs.Stream.{Stream, letter_count, no_letters}
-use Rattle.cf_leg.proofs.Pieces.{count_is}
 use Rattle.cf_leg.proofs.Speech.{told_segment, segment_letters, position_ahead, position_behind, piece_short}
 use Rattle.cf_leg.proofs.Spoken.{parts_told}
-use Rattle.cf_outside.specs.Desk.{SentValue}
-use Rattle.cf_leg.specs.Calls.{Clocked, SendsAgain, greeting_as, greeting_of, oldest, is_due}
+use Rattle.cf_outside.specs.Desk.{DeskValue, SentValue}
+use Rattle.cf_leg.specs.Calls.{AgainBreaks, ClockBreaks, Clocked, SendsAgain, greeting_as, greeting_of, oldest, is_due}
 use Rattle.cf_leg.specs.Emits.{AllRight, Greets, IsGreeting, fired_at, again, repeats, repeat_open, piece, way_of, send_mss, peer_mss, mss_in, syn, syn_ack_for}
+use Rattle.cf_leg.specs.Emitted.{with_segment}
 use Rattle.cf_leg.specs.Event.{Came, Nothing, Greeting, Packet, Ending, Unspoken, Spoke, Cut, LegEvent, clocked, stream_after, is_settled}
 use Rattle.cf_leg.specs.Heard.{opened, acked}
-use Rattle.cf_leg.specs.Segment.{segment, letters_of}
+use Rattle.cf_leg.specs.Segment.{segment}
 use Rattle.cf_leg.specs.LegValue.{LegValue, IsLeg, IsLegOf, armed_before, first_told, is_open, marks, owed_now, phase_of, told_of, way_at}
 use Rattle.cf_leg.specs.Timer.{armed, clock_answer, due, tries, fires, backoff, second}
 use Rattle.cf_leg.specs.Told.{told, told_by, told_by_all, letters_sent, letters_sent_by, letters_sent_by_all, greeting, greeting_in, is_greeted, own_number, peer_number, syn_ack, seq_of}
 use Rattle.cf_leg.specs.declared.ends.ClockAnswer.{ClockAnswer}
 use Rattle.cf_leg.specs.declared.ends.ClockAnswer.TheVariants as answers
 use Rattle.cf_leg.specs.declared.ends.Ends.{Ends}
-use Rattle.cf_leg.specs.declared.ends.Phase.{Phase}
 use Rattle.cf_leg.specs.declared.ends.Role.{Role}
 use Rattle.cf_leg.specs.declared.ends.Role.TheVariants as role
 use Rattle.cf_leg.specs.declared.ends.Told.{Told}
@@ -332,6 +330,28 @@ again_of leg new q now given before after i w iq k m a is = record {
   stands = λ es st h s. subst (λ (l : LegValue). IsLegOf l (marks q) (clocked now (a.out ∷ []) ∷ es)) (sym is) (again_stands leg i w q iq now given before after k m a es st h s);
   answer = λ es st h s. again_answer leg i w q iq now given before after k m a es st h s;
 }
+
+-- the repeat of an end whose desk broke it off is right all the same
+pub clock_breaks : (leg : LegValue) (q : Queue) (now : ℕ) (before after : DeskValue) → IsLeg leg → IsWindow leg.window → IsQueue q
+    → is_due leg now ≡ true → nat_lt leg.fired 6 ≡ true → AgainBreaks leg q now before after → ClockBreaks now leg q before after
+clock_breaks leg q now before after i w iq k m a = record {
+  out = a.out;
+  breaks = a.breaks;
+  right = λ es st h s. (again_stands leg i w q iq now given before.packets (with_segment before.packets now a.out) k m sends es st h s).of_right.0;
+}
+  where
+    given : ClockAnswer
+    given = cond (is_open leg.phase) (cond (nat_lt q.acked q.sent) answers.Repeated answers.Probed) answers.Repeated
+
+    sends : SendsAgain leg q now given before.packets (with_segment before.packets now a.out)
+    sends = record {
+      out = a.out;
+      packets = refl;
+      open_is = a.open_is;
+      open_answer = λ o. ap (λ (b : Bool). cond b (cond (nat_lt q.acked q.sent) answers.Repeated answers.Probed) answers.Repeated) o;
+      first_is = a.first_is;
+      first_answer = λ o. ap (λ (b : Bool). cond b (cond (nat_lt q.acked q.sent) answers.Repeated answers.Probed) answers.Repeated) o;
+    }
 
 pub not_true : (b : Bool) → not b ≡ true → b ≡ false
 not_true true h = absurd (false≢true h)

@@ -1,7 +1,6 @@
 -- The packets that count are those that are answered as such.
-use Rattle.std.proofs.Common.{◌≡◌, ℕ, Bool, true, false, cond, not, ◌&&◌, ◌||◌, refl, sym, ◌∙◌, ap, arith, ℤ, pos}
+use Rattle.std.proofs.Common.{◌≡◌, ℕ, Bool, true, false, cond, not, ◌&&◌, ◌||◌, refl, ◌∙◌, ap, arith, ℤ, pos}
 use Rattle.std.proofs.lemmas.Int.{ints}
-use Rattle.std.proofs.lemmas.Bool.{cases_Bool}
 use Rattle.std.specs.Prelude.{int_lt, int_le}
 use Rattle.cf_packet.specs.Packet.{PacketValue}
 use Rattle.cf_leg.specs.Heard.{counts, counts_as, counts_open, counts_first, answer_to, open_answer, first_answer, reset_answer, is_opening, is_at, is_in_reach, ack_place, text_place, opens_as, resets_as}

@@ -1,5 +1,5 @@
 -- What is told never moves back.
-use Rattle.std.proofs.Common.{◌≡◌, ℕ, suc, ◌+◌, ◌-◌, ◌^◌, ◌%◌, ◌⊎◌, ◌<◌, ◌≤◌, min, max, Bool, true, false, cond, not, ◌&&◌, ◌||◌, List, [], ◌∷◌, ◌++◌, length, refl, sym, ◌∙◌, ap, subst, arith, ℤ, pos, inl, inr, Option, Some, None}
+use Rattle.std.proofs.Common.{◌≡◌, ℕ, ◌+◌, ◌-◌, ◌^◌, ◌%◌, ◌⊎◌, ◌<◌, ◌≤◌, Bool, true, false, cond, ◌&&◌, ◌||◌, List, [], ◌∷◌, ◌++◌, length, refl, sym, ◌∙◌, ap, subst, arith, inl, inr, Option, Some, None}
 use Rattle.std.specs.Prelude.{MatchBool, nat_lt}
 use Rattle.std.specs.Option.{option_or, is_some}
 use Rattle.std.proofs.lemmas.Bool.{cases_lt, cases_Bool, le-ltb, true≢false, false≢true}
@@ -7,21 +7,20 @@ use Rattle.cf_packet.specs.Packet.{PacketValue}
 use Rattle.cf_stream.proofs.Taken.{same_taken, some_taken, taken_extends}
 use Rattle.cf_stream.specs.FirstCopy.{IsTaken, Offer, first_copy, offered}
 use Rattle.cf_stream.specs.Position.{place_or_zero, position, sequence_number}
-use Rattle.cf_stream.specs.Stream.{Byte, End, Extends, Letter, Stream, letter_count, letter_from, no_letters}
+use Rattle.cf_stream.specs.Stream.{End, Letter, Stream, letter_count, no_letters}
 use Rattle.cf_leg.proofs.Carried.{none≢some}
 use Rattle.cf_leg.proofs.Clocked.{greeting_right}
-use Rattle.cf_leg.proofs.Events.{no_greeting, open_is_greeted, or_cases}
+use Rattle.cf_leg.proofs.Events.{open_is_greeted}
 use Rattle.cf_leg.proofs.Speech.{position_ahead, told_segment}
 use Rattle.cf_leg.proofs.Spoken.{told_said}
 use Rattle.cf_leg.proofs.Streams.{count_grows}
-use Rattle.cf_leg.specs.Emits.{AllRight, Cuts, EndsBy, Greets, IsGreeting, IsRight, SpeaksOpen, again, cut_by, fired_at, peer_mss, piece, repeat_open, repeats, rst, send_mss, syn, syn_ack_for, to_tell, way_of}
+use Rattle.cf_leg.specs.Emits.{AllRight, EndsBy, Greets, IsGreeting, IsRight, SpeaksOpen, again, cut_by, fired_at, peer_mss, piece, repeat_open, repeats, rst, send_mss, syn_ack_for, to_tell, way_of}
 use Rattle.cf_leg.specs.Event.{Came, Nothing, Greeting, Packet, Ending, Unspoken, Spoke, Cut, LegEvent, greeted_by, said_by, stream_after}
 use Rattle.cf_leg.specs.Heard.{acked, counts, end_state, offers, offers_by, opened, opens, owed, shown, text_place}
 use Rattle.cf_leg.specs.LegValue.{first_told}
 use Rattle.cf_leg.specs.Segment.{letters_in, segment}
 use Rattle.cf_leg.specs.Timer.{fires, tries}
 use Rattle.cf_leg.specs.Told.{greeting, greeting_in, is_greeted, letters_sent, letters_sent_at, own_number, peer_number, told, told_at, told_by, told_by_all}
-use Rattle.cf_leg.specs.declared.ends.EndState.{EndState}
 use Rattle.cf_leg.specs.declared.ends.Ends.{Ends}
 use Rattle.cf_leg.specs.declared.ends.Role.{Role}
 use Rattle.cf_leg.specs.declared.ends.Role.TheVariants as role

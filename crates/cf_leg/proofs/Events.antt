@@ -1,19 +1,17 @@
 -- What of a list of events does not depend on how the last one ends, and what an event in which nothing came leaves.
-use Rattle.std.proofs.Common.{◌≡◌, ◌≢◌, ℕ, ◌+◌, ◌-◌, ◌<◌, ◌≤◌, min, max, Bool, true, false, cond, not, ◌&&◌, ◌||◌, List, [], ◌∷◌, ◌++◌, refl, sym, ◌∙◌, ap, subst, arith, Option, Some, None, inl, inr}
-use Rattle.std.proofs.lemmas.Bool.{cases_Bool, true≢false, false≢true, and_parts}
+use Rattle.std.proofs.Common.{◌≡◌, ◌≢◌, ℕ, ◌≤◌, max, Bool, true, false, cond, ◌&&◌, ◌||◌, List, [], ◌∷◌, refl, sym, ◌∙◌, ap, subst, arith, Option, Some, None, inl, inr}
+use Rattle.std.proofs.lemmas.Bool.{cases_Bool, true≢false, false≢true}
 use Rattle.std.specs.Option.{option_or, is_some}
 use Rattle.cf_packet.specs.Packet.{PacketValue}
-use Rattle.cf_leg.specs.Emits.{Greets, peer_mss, send_mss}
+use Rattle.cf_leg.specs.Emits.{Greets, peer_mss}
 use Rattle.cf_stream.specs.Position.{place_or_zero}
 use Rattle.cf_leg.specs.declared.ends.Ends.{Ends}
-use Rattle.cf_leg.specs.Event.{Came, Nothing, Greeting, Packet, Ending, Unspoken, Spoke, Cut, LegEvent, greeted_by, stream_after}
-use Rattle.cf_leg.specs.Heard.{opened, opens, end_state_if, answer_to, first_answer, open_answer, acked_by, counts, ack_place, is_opening, acked, shown, offers, opens_as, resets_as}
+use Rattle.cf_leg.specs.Event.{Came, Nothing, Greeting, Packet, Ending, LegEvent, greeted_by}
+use Rattle.cf_leg.specs.Heard.{opened, opens, end_state_if, first_answer, open_answer, acked_by, counts, ack_place, is_opening, opens_as, resets_as}
 use Rattle.cf_leg.specs.Segment.{has_rst}
 use Rattle.cf_leg.specs.LegValue.{phase_of, is_open}
-use Rattle.cf_leg.specs.Told.{greeting, is_greeted, own_number, peer_number, syn_ack}
-use Rattle.cf_leg.specs.declared.ends.LegAnswer.{LegAnswer}
+use Rattle.cf_leg.specs.Told.{greeting, is_greeted, own_number, peer_number}
 use Rattle.cf_leg.specs.declared.ends.LegAnswer.TheVariants as answer
-use Rattle.cf_leg.specs.declared.ends.Phase.{Phase}
 use Rattle.cf_leg.specs.declared.ends.Phase.TheVariants as phase
 use Rattle.cf_leg.specs.declared.ends.EndState.{EndState}
 use Rattle.cf_leg.specs.declared.ends.Role.{Role}

@@ -1,13 +1,13 @@
 -- What a leg sends is fixed by the events before, what came, the list of its queue and whether there is room.
-use Rattle.std.proofs.Common.{◌≡◌, ℕ, ◌+◌, ◌<◌, ◌≤◌, min, Bool, true, false, cond, ◌||◌, List, [], ◌∷◌, refl, sym, ◌∙◌, ap, subst, arith}
+use Rattle.std.proofs.Common.{◌≡◌, ℕ, ◌+◌, min, Bool, true, false, cond, ◌||◌, List, [], ◌∷◌, refl, sym, ◌∙◌, ap, subst, arith}
 use Rattle.std.specs.Prelude.{MatchBool, nat_lt}
 use Rattle.cf_packet.specs.Packet.{PacketValue}
 use Rattle.cf_stream.proofs.Taken.{same_taken}
-use Rattle.cf_stream.specs.FirstCopy.{first_copy, IsTaken}
+use Rattle.cf_stream.specs.FirstCopy.{first_copy}
 use Rattle.cf_stream.specs.Position.{sequence_number}
 use Rattle.cf_stream.specs.Stream.{Stream, letter_count, no_letters}
 use Rattle.cf_leg.proofs.Events.{own_same, peer_same, mss_same}
-use Rattle.cf_leg.specs.Emits.{IsRight, Pieces, Says, SaysIf, Speaks, SpeaksOpen, differs, fired_at, piece, peer_mss, send_mss, to_tell, way_of}
+use Rattle.cf_leg.specs.Emits.{IsRight, Pieces, Says, SpeaksOpen, differs, piece, peer_mss, send_mss, to_tell, way_of}
 use Rattle.cf_leg.specs.Event.{Ending, Spoke, LegEvent}
 use Rattle.cf_leg.specs.Heard.{opened, owed, shown, offers}
 use Rattle.cf_leg.specs.Segment.{segment}

@@ -1,28 +1,27 @@
 -- A new leg, and one that greeted.
-use Rattle.std.proofs.Common.{◌≡◌, ℕ, ◌+◌, ◌<◌, ◌≤◌, Bool, true, false, cond, not, ◌&&◌, ◌||◌, List, [], ◌∷◌, ◌++◌, Option, Some, None, refl, sym, ◌∙◌, ap, subst, arith, inl, inr}
-use Rattle.std.specs.Prelude.{nat_lt, ◌==◌}
+use Rattle.std.proofs.Common.{◌≡◌, ℕ, ◌+◌, Bool, true, false, cond, not, ◌&&◌, ◌||◌, List, [], ◌∷◌, Option, Some, None, refl, sym, ◌∙◌, ap, subst, arith}
+use Rattle.std.specs.Prelude.{nat_lt}
 use Rattle.std.specs.Option.{option_or, is_some}
-use Rattle.std.proofs.lemmas.Bool.{cases_Bool, true≢false, false≢true}
-use Rattle.cf_outside.specs.Desk.{SentValue}
+use Rattle.std.proofs.lemmas.Bool.{true≢false, false≢true}
+use Rattle.cf_outside.specs.Desk.{DeskValue, SentValue}
 use Rattle.cf_packet.specs.Packet.{PacketValue}
-use Rattle.cf_rebuild.specs.ReceiveWindow.{Window, IsWindow, Consumes, base_of}
+use Rattle.cf_rebuild.specs.ReceiveWindow.{IsWindow}
 use Rattle.cf_rebuild.specs.ReceiveWindow.{IsWindowOf}
 use Rattle.cf_stream.specs.FirstCopy.{Offer}
 use Rattle.cf_stream.specs.Position.{place_or_zero, position, sequence_number}
 use Rattle.cf_stream.specs.Stream.{letter_count}
-use Rattle.cf_leg.proofs.Clocked.{greeted_idle, own_idle, peer_idle, mss_idle, or_none}
+use Rattle.cf_leg.proofs.Clocked.{greeted_idle, peer_idle, or_none}
 use Rattle.cf_leg.proofs.Speech.{position_ahead}
 use Rattle.cf_leg.proofs.Spoken.{parts_told}
-use Rattle.cf_leg.specs.Calls.{Greeted, IsMade, IsOwn, greeted_as, greeting_as, greeting_of, is_greeted_phase, no_marks, window_by}
+use Rattle.cf_leg.specs.Calls.{GreetingBreaks, Greeted, IsMade, IsOwn, greeted_as, greeting_as, greeting_of, is_greeted_phase, no_marks, window_by}
 use Rattle.cf_leg.specs.Emits.{IsGreeting, peer_mss, send_mss, syn, syn_ack_for}
-use Rattle.cf_leg.specs.Emitted.{with_segment}
+use Rattle.cf_leg.specs.Emitted.{BreaksOff, with_segment}
 use Rattle.cf_leg.specs.Event.{Greeting, Nothing, Unspoken, LegEvent, moment, stream_after}
 use Rattle.cf_leg.specs.Heard.{opened, acked, offers}
-use Rattle.cf_leg.specs.LegValue.{Marks, LegValue, IsLeg, IsLegOf, first_told, phase_of, told_of}
+use Rattle.cf_leg.specs.LegValue.{Marks, LegValue, IsLeg, IsLegOf, first_told, phase_of}
 use Rattle.cf_leg.specs.Timer.{armed, due, tries, backoff, has_fired, second}
-use Rattle.cf_leg.specs.Told.{told, told_at, told_by, told_by_all, letters_sent, letters_sent_at, letters_sent_by_all, greeting, is_greeted, own_number, peer_number, seq_of}
+use Rattle.cf_leg.specs.Told.{told, told_at, told_by, letters_sent_at, letters_sent_by_all, greeting, is_greeted, own_number, peer_number, seq_of}
 use Rattle.cf_leg.specs.declared.ends.Ends.{Ends}
-use Rattle.cf_leg.specs.declared.ends.Phase.{Phase}
 use Rattle.cf_leg.specs.declared.ends.Phase.TheVariants as phase
 use Rattle.cf_leg.specs.declared.ends.Role.{Role}
 use Rattle.cf_leg.specs.declared.ends.Role.TheVariants as role
@@ -167,6 +166,13 @@ greeted_of leg mid now number before after i w made own is sent = record {
   out = greeting_as leg.ends number leg.other leg.ends.role;
   packets = sent ∙ ap (λ (l : LegValue). with_segment before now (greeting_of l)) is;
   stands = λ m e es at h. subst (λ (l : LegValue). IsLegOf l m (record e { came = Greeting (greeting_as leg.ends number leg.other leg.ends.role); ending = Unspoken } ∷ es)) (sym is) (greeted_stands leg i w m now number e es made own at h);
+}
+
+pub greeting_breaks : (leg mid : LegValue) (now number : ℕ) (before after : DeskValue) → IsLeg leg → IsWindow leg.window → leg.phase ≡ phase.Made → IsOwn leg.ends.role number
+    → mid ≡ greeted_as leg number now → BreaksOff now (greeting_of mid ∷ []) before after → GreetingBreaks now number leg before after
+greeting_breaks leg mid now number before after i w made own is b = record {
+  breaks = subst (λ (l : LegValue). BreaksOff now (greeting_of l ∷ []) before after) is b;
+  right = λ m e es at h. (greeted_stands leg i w m now number e es made own at h).of_right.0;
 }
 
 -- ---- a leg whose bytes were consumed

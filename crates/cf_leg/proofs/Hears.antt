@@ -1,17 +1,17 @@
 -- A leg that heard a packet stands for the events with the packet.
-use Rattle.std.proofs.Common.{◌≡◌, ℕ, ◌+◌, ◌<◌, ◌≤◌, min, max, Bool, true, false, cond, not, ◌&&◌, ◌||◌, List, [], ◌∷◌, ◌++◌, length, Option, Some, None, refl, sym, ◌∙◌, ap, subst, arith, inl, inr, ℤ, pos, negsuc, ◌+ℤ◌}
-use Rattle.std.specs.Prelude.{nat_lt, int_le, int_lt, ◌≤ℤ◌}
+use Rattle.std.proofs.Common.{◌≡◌, ℕ, ◌+◌, ◌<◌, ◌≤◌, max, Bool, true, false, cond, not, ◌&&◌, ◌||◌, List, ◌∷◌, Option, Some, None, refl, sym, ◌∙◌, ap, subst, arith, ℤ, pos, negsuc, ◌+ℤ◌}
+use Rattle.std.specs.Prelude.{nat_lt, int_le, ◌≤ℤ◌}
 use Rattle.std.proofs.lemmas.Int.{ints}
 use Rattle.std.specs.Option.{option_or, is_some}
-use Rattle.std.proofs.lemmas.Bool.{cases_Bool, true≢false, false≢true, ltb-true, ltb-false, and_parts}
-use Rattle.cf_outq.specs.SendQueue.{Queue, after_acked, after_shown}
+use Rattle.std.proofs.lemmas.Bool.{true≢false, false≢true, ltb-true, ltb-false, and_parts}
+use Rattle.cf_outq.specs.SendQueue.{Queue}
 use Rattle.cf_packet.specs.Packet.{PacketValue}
 use Rattle.cf_rebuild.specs.ReceiveWindow.{Window}
 use Rattle.cf_rebuild.specs.ReceiveWindow.{IsWindowOf}
 use Rattle.cf_stream.specs.FirstCopy.{Offer}
 use Rattle.cf_stream.specs.Position.{place_or_zero}
-use Rattle.cf_stream.specs.Stream.{Stream, letter_count}
-use Rattle.cf_leg.proofs.Clocked.{own_idle, peer_idle, mss_idle, greeted_idle, opened_idle, armed_idle, option_or_none, or_none, and_not}
+use Rattle.cf_stream.specs.Stream.{letter_count}
+use Rattle.cf_leg.proofs.Clocked.{own_idle, peer_idle, mss_idle, greeted_idle, armed_idle, option_or_none, or_none, and_not}
 use Rattle.cf_leg.proofs.Counts.{counts_is}
 use Rattle.cf_leg.proofs.Events.{open_is_greeted, acked_grows, or_cases, opens_greeted}
 use Rattle.cf_leg.proofs.Phases.{active_opened, open_opens_not, first_active}
@@ -19,14 +19,13 @@ use Rattle.cf_leg.proofs.Spoken.{parts_told}
 use Rattle.cf_leg.specs.Calls.{Counts, Heard, end_state_of, is_greeted_phase, leg_opened, queue_opened, leg_counted, queue_counted, other_by, mss_by, edge_by, rises_by}
 use Rattle.cf_leg.specs.Emits.{peer_mss, send_mss, mss_in}
 use Rattle.cf_leg.specs.Event.{Nothing, Packet, Unspoken, LegEvent, moment, stream_after}
-use Rattle.cf_leg.specs.Heard.{opens_as, resets_as, counts_open, is_in_reach, is_at, opened, opens, end_state, end_state_if, answer_to, open_answer, first_answer, is_opening, counts, counts_as, counts_first, counted, opening, owes_for, owed, acked, shown, offers, acked_by, shown_by, offers_by, ack_place, text_place}
+use Rattle.cf_leg.specs.Heard.{opens_as, resets_as, counts_open, is_in_reach, is_at, opened, opens, end_state, answer_to, open_answer, first_answer, is_opening, counts, counts_as, counts_first, owes_for, acked, shown, offers, ack_place, text_place}
 use Rattle.cf_leg.specs.Segment.{has_ack, has_rst, has_syn, letters_in}
 use Rattle.cf_leg.specs.LegValue.{LegValue, Marks, IsLegOf, is_open, marks, phase_of, told_of}
 use Rattle.cf_leg.specs.Timer.{armed, due, tries, rises, has_fired, backoff, second}
-use Rattle.cf_leg.specs.Told.{told, told_at, letters_sent, letters_sent_at, is_greeted, greeting, own_number, peer_number, syn_ack, syn_ack_in, seq_of, answers_syn}
+use Rattle.cf_leg.specs.Told.{told, told_at, is_greeted, greeting, own_number, peer_number, syn_ack, syn_ack_in, seq_of}
 use Rattle.cf_leg.specs.declared.ends.LegAnswer.{LegAnswer}
 use Rattle.cf_leg.specs.declared.ends.LegAnswer.TheVariants as answer
-use Rattle.cf_leg.specs.declared.ends.Phase.{Phase}
 use Rattle.cf_leg.specs.declared.ends.Phase.TheVariants as phase
 use Rattle.cf_leg.specs.declared.ends.EndState.{EndState}
 use Rattle.cf_leg.specs.declared.ends.Role.{Role}

@@ -1,5 +1,6 @@
 mod Asked
 mod Begun
+mod Broken
 mod Carried
 mod Clocked
 mod Counts

@@ -1,5 +1,5 @@
 -- Which letters are taken by a packet.
-use Rattle.std.proofs.Common.{◌≡◌, ℕ, ◌+◌, ◌≤◌, Bool, true, false, cond, ◌||◌, List, [], ◌∷◌, ◌++◌, length, drop, refl, sym, ap, ◌∙◌, subst, arith, ℤ}
+use Rattle.std.proofs.Common.{◌≡◌, ℕ, ◌≤◌, Bool, true, false, cond, ◌||◌, List, [], ◌∷◌, ◌++◌, length, drop, refl, sym, ap, ◌∙◌, subst, arith, ℤ}
 use Rattle.std.proofs.lemmas.List.{append-nil, append_cancel_left, drop-append-le}
 use Rattle.cf_packet.specs.Packet.{PacketValue}
 use Rattle.cf_outq.specs.SendQueue.{Queue}

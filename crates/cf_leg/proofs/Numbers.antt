@@ -1,16 +1,15 @@
 -- What the calls leave of the queue and the window, whatever came before.
-use Rattle.std.proofs.Common.{◌≡◌, ℕ, ◌+◌, ◌-◌, ◌≤◌, Bool, true, false, List, length, drop, max, cond, Option, ◌⊎◌, inl, inr, refl, sym, ap, ◌∙◌, subst, arith, ℤ}
+use Rattle.std.proofs.Common.{◌≡◌, ℕ, ◌≤◌, Bool, true, false, List, length, drop, Option, inl, inr, refl, sym, ap, ◌∙◌, subst, arith, ℤ}
 use Rattle.std.proofs.lemmas.List.{length-drop}
-use Rattle.std.proofs.lemmas.Bool.{cases_Bool, true≢false, false≢true}
+use Rattle.std.proofs.lemmas.Bool.{cases_Bool, true≢false}
 use Rattle.cf_outside.specs.Desk.{SentValue}
 use Rattle.cf_outq.specs.SendQueue.{Queue}
 use Rattle.cf_packet.specs.Packet.{PacketValue}
 use Rattle.cf_rebuild.specs.ReceiveWindow.{Window, IsWindow, base_of}
 use Rattle.cf_leg.specs.Calls.{Addressed, KeepsList, Widens, queue_counted, queue_opened, rearmed}
 use Rattle.cf_leg.specs.Emits.{to_tell}
-use Rattle.cf_leg.specs.LegValue.{LegValue, is_open, told_of}
+use Rattle.cf_leg.specs.LegValue.{LegValue, is_open}
 use Rattle.cf_leg.specs.declared.ends.Role.{Role}
-use Rattle.cf_leg.specs.declared.ends.Role.TheVariants as role
 
 opened_list : (b : Bool) (r : Role) (q : Queue) (p : PacketValue) → KeepsList q (queue_opened b r q p)
 opened_list true r q p = record { pushed = refl; ended = refl; kept = omega (arith) }

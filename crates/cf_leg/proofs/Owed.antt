@@ -1,5 +1,5 @@
 -- One segment without letters goes out where one is owed and no letter goes out.
-use Rattle.std.proofs.Common.{◌≡◌, ℕ, ◌+◌, ◌-◌, ◌<◌, ◌≤◌, min, max, Bool, true, false, cond, ◌&&◌, ◌||◌, List, [], ◌∷◌, length, drop, take, refl, sym, ◌∙◌, ap, subst, arith, inl, inr, Option, Some, None, length-take, length-drop}
+use Rattle.std.proofs.Common.{◌≡◌, ℕ, ◌+◌, ◌-◌, ◌<◌, min, Bool, true, false, cond, ◌&&◌, ◌||◌, List, [], ◌∷◌, length, drop, take, refl, sym, ◌∙◌, ap, subst, arith, inl, inr, Option, Some, None, length-take, length-drop}
 use Rattle.std.specs.Prelude.{MatchBool, ◌==◌, nat_lt}
 use Rattle.std.proofs.lemmas.Bool.{cases_lt, eqb-false, ltb-false, ltb-true, ne_eqb}
 use Rattle.cf_packet.specs.Packet.{PacketValue}
@@ -22,7 +22,7 @@ send_mss_some None = omega arith
 send_mss_some (Some m) = omega arith
 
 -- a piece has a letter
-piece_some : (s : Stream) (mss edge from : ℕ) → 0 < mss → from < min edge (letter_count s) → 0 < letter_count (piece s mss edge from)
+pub piece_some : (s : Stream) (mss edge from : ℕ) → 0 < mss → from < min edge (letter_count s) → 0 < letter_count (piece s mss edge from)
 piece_some s mss edge from m l = by s.ended refl l
   where
     n : ℕ

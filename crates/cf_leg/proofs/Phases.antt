@@ -1,12 +1,11 @@
 -- How an active leg opens.
-use Rattle.std.proofs.Common.{◌≡◌, ℕ, Bool, true, false, cond, not, ◌&&◌, ◌||◌, List, [], ◌∷◌, Option, Some, None, refl, sym, ◌∙◌, ap, subst, inl, inr}
-use Rattle.std.specs.Prelude.{nat_lt, ◌==◌}
+use Rattle.std.proofs.Common.{◌≡◌, ℕ, Bool, true, false, cond, not, ◌&&◌, ◌||◌, List, [], ◌∷◌, Option, Some, None, refl, sym, ◌∙◌, ap}
+use Rattle.std.specs.Prelude.{◌==◌}
 use Rattle.std.specs.Option.{option_or, is_some}
-use Rattle.std.proofs.lemmas.Bool.{cases_Bool, true≢false, false≢true, and_parts}
 use Rattle.cf_packet.specs.Packet.{PacketValue}
 use Rattle.cf_stream.specs.Position.{sequence_number}
 use Rattle.cf_leg.specs.Event.{Came, Nothing, Greeting, Packet, LegEvent}
-use Rattle.cf_leg.specs.Heard.{opened, opens, end_state_if, answer_to, open_answer, first_answer, is_opening, opens_as, resets_as, reset_answer, is_in_reach, ack_place, text_place, is_at}
+use Rattle.cf_leg.specs.Heard.{opened, opens, end_state_if, open_answer, first_answer, is_opening, opens_as, resets_as, reset_answer, is_in_reach, ack_place, text_place, is_at}
 use Rattle.cf_leg.specs.Segment.{has_ack, has_rst, has_syn}
 use Rattle.cf_leg.specs.Told.{answers_syn, is_greeted, syn_ack, syn_ack_in}
 use Rattle.cf_leg.specs.declared.ends.LegAnswer.{LegAnswer}
@@ -14,8 +13,7 @@ use Rattle.cf_leg.specs.declared.ends.LegAnswer.TheVariants as answer
 use Rattle.cf_leg.specs.declared.ends.EndState.{EndState}
 use Rattle.cf_leg.specs.declared.ends.Role.{Role}
 use Rattle.cf_leg.specs.declared.ends.Role.TheVariants as role
-use Rattle.cf_leg.specs.declared.ends.Told.{Told}
-use Rattle.std.specs.Prelude.{int_lt, int_le, ℤ, pos}
+use Rattle.std.specs.Prelude.{int_lt, pos}
 
 -- a packet on an open leg does not open it
 not_opening_reset : (b c : Bool) → is_opening (cond b answer.Reset (cond c answer.Challenged answer.Ignored)) ≡ false

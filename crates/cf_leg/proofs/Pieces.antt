@@ -1,6 +1,6 @@
 -- Pieces of a queue, and the segments that carry them.
-use Rattle.std.proofs.Common.{◌≡◌, ℕ, ◌+◌, ◌-◌, ◌<◌, ◌≤◌, min, max, Bool, true, false, cond, not, ◌&&◌, List, [], ◌∷◌, ◌++◌, length, refl, sym, ◌∙◌, ap, arith, pos, Option, Some, None, append_assoc, eq-eqb, lt-ltb, subst, drop, inl, inr, ℤ}
-use Rattle.std.specs.Prelude.{MatchBool, ◌==◌, nat_lt, ◌↔◌, IsTrue, IfSome, IsNone}
+use Rattle.std.proofs.Common.{◌≡◌, ℕ, ◌+◌, ◌-◌, ◌<◌, ◌≤◌, min, max, Bool, true, false, cond, not, ◌&&◌, List, [], ◌∷◌, ◌++◌, length, refl, sym, ◌∙◌, ap, arith, Option, Some, append_assoc, eq-eqb, lt-ltb, subst, drop, inl, inr, ℤ}
+use Rattle.std.specs.Prelude.{MatchBool, ◌==◌, nat_lt, ◌↔◌, IsTrue}
 use Rattle.std.proofs.lemmas.List.{append-nil, length-take, length-drop}
 use Rattle.std.proofs.lemmas.Bool.{cases_lt, true≢false, eqb-true, ltb-true, ltb-false}
 use Rattle.cf_outside.specs.Desk.{SentValue}
@@ -9,7 +9,7 @@ use Rattle.cf_outq.specs.SendQueue.{IsQueueOf}
 use Rattle.cf_outq.specs.declared.Piece.{Piece}
 use Rattle.cf_packet.specs.Packet.{PacketValue}
 use Rattle.cf_stream.specs.Position.{place_or_zero, sequence_number}
-use Rattle.cf_stream.specs.Stream.{Stream, letter_count, no_letters, part}
+use Rattle.cf_stream.specs.Stream.{Stream, letter_count, no_letters}
 use Rattle.cf_leg.specs.Calls.{SaysTo, SendsPiece, SendsSome, SendsNew}
 use Rattle.cf_leg.specs.Emits.{Pieces, piece}
 use Rattle.cf_leg.specs.Emitted.{with_segment, with_segments}
@@ -94,17 +94,22 @@ module _ (way : Way) (t : Told) (mss : ℕ) (q before after : Queue) (now : ℕ)
         | inr g ↦ absurd (true≢false (answer.none.1 (rw (shown, b.pushed, b.ended) g)))
       ]
 
+  -- with it and what may follow it they are the pieces
+  pub goes_on : (whole : Stream) → IsQueueOf q whole → (more : List PacketValue) → Pieces way t whole mss q.shown (before.sent + piece_letters p) more
+      → Pieces way t whole mss q.shown q.sent ((some.outs ++ segment way t (sequence_number way.own (place_or_zero p.at)) (record { bytes = one.text; ended = p.end }) ∷ []) ++ more)
+  goes_on whole s more rest =
+      let count : letter_count (piece whole mss q.shown before.sent) ≡ piece_letters p = subst (λ (n : ℕ). letter_count (piece whole mss n before.sent) ≡ piece_letters p) shown (piece_count before whole (stands_before whole s) mss before.sent before.shown p answer.piece) in
+      let rest' = subst (λ (n : ℕ). Pieces way t whole mss q.shown (before.sent + n) more) (sym count) rest in
+      subst (λ (ps : List PacketValue). Pieces way t whole mss q.shown q.sent ps) (sym (append_assoc some.outs (segment way t (sequence_number way.own (place_or_zero p.at)) (record { bytes = one.text; ended = p.end }) ∷ []) more))
+      (some.pieces whole s (segment way t (sequence_number way.own (place_or_zero p.at)) (record { bytes = one.text; ended = p.end }) ∷ more) (left whole s, out_is whole s, rest'))
+
   pub sends_one_more : SendsSome way t mss q (before.sent + piece_letters p) now old new
   sends_one_more = record {
     outs = some.outs ++ segment way t (sequence_number way.own (place_or_zero p.at)) (record { bytes = one.text; ended = p.end }) ∷ [];
     packets = one.packets ∙ ap (λ (told : Option (List SentValue)). with_segment told now (segment way t (sequence_number way.own (place_or_zero p.at)) (record { bytes = one.text; ended = p.end }))) some.packets
         ∙ sym (with_segments-append old now some.outs (segment way t (sequence_number way.own (place_or_zero p.at)) (record { bytes = one.text; ended = p.end })));
     none = λ e. absurd (omega (arith, e, low, letters));
-    pieces = λ whole s more rest.
-        (let count : letter_count (piece whole mss q.shown before.sent) ≡ piece_letters p = subst (λ (n : ℕ). letter_count (piece whole mss n before.sent) ≡ piece_letters p) shown (piece_count before whole (stands_before whole s) mss before.sent before.shown p answer.piece) in
-        let rest' = subst (λ (n : ℕ). Pieces way t whole mss q.shown (before.sent + n) more) (sym count) rest in
-        subst (λ (ps : List PacketValue). Pieces way t whole mss q.shown q.sent ps) (sym (append_assoc some.outs (segment way t (sequence_number way.own (place_or_zero p.at)) (record { bytes = one.text; ended = p.end }) ∷ []) more))
-        (some.pieces whole s (segment way t (sequence_number way.own (place_or_zero p.at)) (record { bytes = one.text; ended = p.end }) ∷ more) (left whole s, out_is whole s, rest')));
+    pieces = goes_on;
   }
 
 pub sends_all : (way : Way) (t : Told) (mss : ℕ) (q : Queue) (now sent : ℕ) (old new : Option (List SentValue)) → SendsSome way t mss q sent now old new

@@ -1,7 +1,7 @@
 -- After a speech every letter that the peer lets in was sent.
-use Rattle.std.proofs.Common.{◌≡◌, ℕ, ◌+◌, ◌<◌, ◌≤◌, min, max, Bool, true, false, cond, ◌||◌, List, [], ◌∷◌, ◌++◌, refl, sym, ◌∙◌, ap, subst, arith}
+use Rattle.std.proofs.Common.{◌≡◌, ℕ, ◌+◌, min, max, Bool, true, false, cond, List, [], ◌∷◌, ◌++◌, refl, ◌∙◌, ap, subst, arith}
 use Rattle.std.specs.Prelude.{MatchBool, nat_lt}
-use Rattle.std.proofs.lemmas.Bool.{ltb-true, ltb-false}
+use Rattle.std.proofs.lemmas.Bool.{ltb-false}
 use Rattle.cf_outq.specs.SendQueue.{Queue}
 use Rattle.cf_outq.specs.SendQueue.{IsQueueOf}
 use Rattle.cf_packet.specs.Packet.{PacketValue}
@@ -10,7 +10,7 @@ use Rattle.cf_stream.specs.Stream.{Stream, letter_count, no_letters}
 use Rattle.cf_leg.proofs.Events.{no_greeting, open_is_greeted}
 use Rattle.cf_leg.proofs.Speech.{carried_segment, piece_short}
 use Rattle.cf_leg.specs.Emits.{Pieces, SaysIf, SpeaksOpen, piece}
-use Rattle.cf_leg.specs.Event.{Spoke, LegEvent, greeted_by}
+use Rattle.cf_leg.specs.Event.{Spoke, LegEvent}
 use Rattle.cf_leg.specs.Heard.{opened, end_state, shown}
 use Rattle.cf_leg.specs.Segment.{segment}
 use Rattle.cf_leg.specs.LegValue.{LegValue, IsLegOf, marks}

@@ -1,18 +1,16 @@
 -- What the segments of one event carry, and how many letters have gone out after it.
-use Rattle.std.proofs.Common.{◌≡◌, ℕ, suc, ◌+◌, ◌-◌, ◌%◌, ◌^◌, ◌<◌, ◌≤◌, min, max, Bool, true, false, cond, not, ◌&&◌, ◌||◌, List, [], ◌∷◌, ◌++◌, length, refl, sym, ◌∙◌, ap, subst, arith, ℤ, pos, negsuc, inl, inr, Option, Some, None, ◌+ℤ◌}
+use Rattle.std.proofs.Common.{◌≡◌, ℕ, suc, ◌+◌, ◌%◌, ◌^◌, ◌<◌, ◌≤◌, min, max, Bool, true, false, cond, ◌&&◌, List, [], ◌∷◌, ◌++◌, refl, sym, ◌∙◌, ap, subst, arith, ℤ, pos, negsuc, inl, inr, Option, Some, None, ◌+ℤ◌}
 use Rattle.std.specs.Prelude.{MatchBool, ◌==◌, nat_lt}
-use Rattle.std.specs.Option.{option_or, is_some}
-use Rattle.std.proofs.lemmas.Bool.{cases_lt, cases_Bool, true≢false, false≢true, ltb-true, ltb-false}
-use Rattle.std.proofs.lemmas.Int.{ints}
-use Rattle.std.proofs.lemmas.List.{length-append}
+use Rattle.std.specs.Option.{option_or}
+use Rattle.std.proofs.lemmas.Bool.{cases_Bool, ltb-true}
 use Rattle.cf_packet.specs.Packet.{PacketValue}
 use Rattle.cf_stream.specs.Position.{place_or_zero, position, sequence_number}
-use Rattle.cf_stream.specs.Stream.{Stream, Letter, Carries, Extends, letter_at, letter_count, letter_from, no_letters}
+use Rattle.cf_stream.specs.Stream.{Stream, Letter, Carries, Extends, letter_count, letter_from, no_letters}
 use Rattle.cf_leg.proofs.Carried.{at_inside, carries_none, carry_piece, carry_said, from_inside, none≢some, said_some, some_right}
 use Rattle.cf_leg.proofs.Clocked.{greeting_right}
 use Rattle.cf_leg.proofs.Reach.{carried_after}
 use Rattle.cf_leg.proofs.Speech.{piece_short, position_behind, segment_letters, segment_stream}
-use Rattle.cf_leg.specs.Emits.{AllRight, Cuts, EndsBy, Greets, IsGreeting, IsRight, SpeaksOpen, again, cut_by, fired_at, peer_mss, piece, repeat_open, repeats, rst, send_mss, syn, syn_ack_for, way_of}
+use Rattle.cf_leg.specs.Emits.{AllRight, EndsBy, Greets, IsGreeting, IsRight, SpeaksOpen, again, cut_by, fired_at, peer_mss, piece, repeat_open, repeats, rst, send_mss, way_of}
 use Rattle.cf_leg.specs.Event.{Came, Nothing, Greeting, Packet, Ending, Unspoken, Spoke, Cut, LegEvent, greeted_by, said_by, sent_in, stream_after, stream_at}
 use Rattle.cf_leg.specs.Heard.{acked, opened, shown}
 use Rattle.cf_leg.specs.OneStream.{CarryAll, first_in, letter_in}

@@ -1,13 +1,13 @@
 -- What segments tell and carry, read again.
-use Rattle.std.proofs.Common.{◌≡◌, ℕ, ◌+◌, ◌-◌, ◌*◌, ◌/◌, ◌%◌, ◌^◌, ◌<◌, ◌≤◌, min, max, Bool, true, false, cond, not, ◌&&◌, ◌||◌, List, [], ◌∷◌, length, drop, take, refl, sym, ◌∙◌, ap, subst, arith, ℤ, pos, ◌+ℤ◌, ◌-ℤ◌, inl, inr, length-take, length-drop}
+use Rattle.std.proofs.Common.{◌≡◌, ℕ, ◌+◌, ◌-◌, ◌/◌, ◌%◌, ◌^◌, ◌<◌, ◌≤◌, min, max, Bool, true, false, cond, not, ◌&&◌, List, [], ◌∷◌, length, refl, ◌∙◌, ap, arith, pos, ◌+ℤ◌, ◌-ℤ◌, inl, inr, length-take, length-drop}
 use Rattle.std.specs.Prelude.{◌==◌, nat_lt}
-use Rattle.std.proofs.lemmas.Bool.{and_parts, cases_lt, cases_Bool, true≢false, eqb-true, ltb-true, lt-ltb, le-ltb, eq-eqb}
+use Rattle.std.proofs.lemmas.Bool.{and_parts, cases_Bool, eqb-true, ltb-true, lt-ltb, le-ltb}
 use Rattle.std.proofs.lemmas.Int.{ints}
 use Rattle.cf_packet.specs.Packet.{PacketValue}
 use Rattle.cf_stream.specs.Position.{place_or_zero, sequence_number, position, signed32}
-use Rattle.cf_stream.specs.Stream.{Stream, letter_count, part, no_letters}
-use Rattle.cf_leg.specs.Emits.{Pieces, piece, differs}
-use Rattle.cf_leg.specs.Segment.{segment, flags_with, has_ack, has_rst, has_fin, letters_in, letters_of}
+use Rattle.cf_stream.specs.Stream.{Stream, letter_count}
+use Rattle.cf_leg.specs.Emits.{Pieces, piece}
+use Rattle.cf_leg.specs.Segment.{segment, has_ack, has_rst, letters_in, letters_of}
 use Rattle.cf_leg.specs.Told.{told_by, told_by_all, letters_sent_by, letters_sent_by_all}
 use Rattle.cf_leg.specs.declared.ends.Told.{Told}
 use Rattle.cf_leg.specs.declared.ends.Way.{Way}

@@ -1,29 +1,28 @@
 -- A leg that spoke stands for the events with the speech.
-use Rattle.std.proofs.Common.{◌≡◌, ◌≢◌, ℕ, ◌+◌, ◌-◌, ◌^◌, ◌<◌, ◌≤◌, min, max, Bool, true, false, cond, not, ◌&&◌, ◌||◌, List, [], ◌∷◌, ◌++◌, length, Option, refl, sym, ◌∙◌, ap, subst, arith, inl, inr}
+use Rattle.std.proofs.Common.{◌≡◌, ℕ, ◌+◌, ◌^◌, ◌<◌, ◌≤◌, min, max, Bool, true, false, cond, not, ◌&&◌, ◌||◌, List, [], ◌∷◌, ◌++◌, length, Option, refl, sym, ◌∙◌, ap, subst, arith, inl, inr}
 use Rattle.std.specs.Prelude.{MatchBool, nat_lt, ◌==◌}
-use Rattle.std.proofs.lemmas.Bool.{cases_Bool, true≢false, false≢true, eqb-true, ltb-true, ltb-false, and_parts}
+use Rattle.std.proofs.lemmas.Bool.{cases_Bool, true≢false, false≢true, eqb-true, ltb-true, ltb-false}
 use Rattle.cf_outq.specs.SendQueue.{Queue, queue_length}
 use Rattle.cf_outq.specs.SendQueue.{IsQueueOf}
 use Rattle.cf_packet.specs.Packet.{PacketValue}
 use Rattle.cf_rebuild.specs.ReceiveWindow.{Window, IsWindow, base_of}
 use Rattle.cf_rebuild.specs.ReceiveWindow.{IsWindowOf}
-use Rattle.cf_outside.specs.Desk.{SentValue}
+use Rattle.cf_outside.specs.Desk.{DeskValue, SentValue}
 use Rattle.cf_stream.specs.FirstCopy.{Offer}
-use Rattle.cf_leg.specs.Calls.{Addressed, Spoken, rearmed}
+use Rattle.cf_leg.specs.Calls.{AddressBreaks, Addressed, SpeakingBreaks, Spoken, rearmed}
 use Rattle.cf_stream.specs.Position.{sequence_number}
 use Rattle.cf_stream.specs.Stream.{Stream, letter_count, no_letters}
-use Rattle.cf_leg.proofs.Events.{opens_greeted, or_cases, own_same, peer_same, mss_same, open_is_greeted, phase_open, phase_closed, no_greeting, acked_grows}
+use Rattle.cf_leg.proofs.Events.{opens_greeted, or_cases, own_same, peer_same, mss_same, open_is_greeted, no_greeting, acked_grows}
 use Rattle.cf_leg.proofs.Pieces.{count_is}
 use Rattle.cf_leg.proofs.Speech.{told_pieces, carried_pieces, told_segment, carried_segment}
-use Rattle.cf_leg.specs.Emits.{Pieces, SaysIf, Says, SpeaksOpen, differs, to_tell, Greets, way_of, send_mss, peer_mss}
+use Rattle.cf_leg.specs.Emits.{Pieces, SaysIf, Says, SpeaksOpen, differs, to_tell, way_of, send_mss, peer_mss}
 use Rattle.cf_leg.specs.Event.{Unspoken, Spoke, LegEvent, moment, greeted_by, stream_after}
 use Rattle.cf_leg.specs.Heard.{opened, opens, end_state, counted, acked, shown, offers, owed}
 use Rattle.cf_leg.specs.Timer.{armed, due, tries, rises, has_fired, second, backoff}
 use Rattle.cf_leg.specs.Segment.{segment}
 use Rattle.cf_leg.specs.LegValue.{LegValue, IsLeg, IsLegOf, arms, is_open, marks, phase_of, told_of, way_at}
-use Rattle.cf_leg.specs.Told.{told, told_at, letters_sent, letters_sent_at, told_by, told_by_all, letters_sent_by_all, is_greeted, own_number, peer_number}
+use Rattle.cf_leg.specs.Told.{told, told_at, letters_sent, letters_sent_at, told_by_all, letters_sent_by_all, is_greeted, own_number, peer_number}
 use Rattle.cf_leg.specs.declared.ends.Phase.{Phase}
-use Rattle.cf_leg.specs.declared.ends.Phase.TheVariants as phase
 use Rattle.cf_leg.specs.declared.ends.Told.{Told}
 use Rattle.cf_leg.specs.declared.ends.Way.{Way}
 
@@ -289,6 +288,18 @@ module _ (leg : LegValue) (i : IsLeg leg) (w : IsWindow leg.window) (q : Queue) 
     }
 
 -- ---- the call
+window_opened : (v : Window) (edge : ℕ) (os : List Offer) → IsWindowOf v os → IsWindowOf (record v { edge = edge }) os
+window_opened v edge os x = record { taken = x.taken; is_taken = x.is_taken; ended = x.ended; count = x.count; pending = x.pending; ahead = x.ahead }
+
+phase_true : (o g : Bool) → is_open (phase_of o g) ≡ true → o ≡ true
+phase_true true g k = refl
+phase_true false true k = absurd (false≢true k)
+phase_true false false k = absurd (false≢true k)
+
+phase_false : (o g : Bool) → is_open (phase_of o g) ≡ false → o ≡ false
+phase_false true g k = absurd (true≢false k)
+phase_false false g k = refl
+
 pub spoken_of : (leg mid new : LegValue) (q q' : Queue) (roomy : Bool) (now : ℕ) (before after : Option (List SentValue))
     → IsLeg leg → IsWindow leg.window → Addressed roomy now leg mid q q' before after → new ≡ rearmed mid q' now → Spoken roomy now leg new q q' before after
 spoken_of leg mid new q q' roomy now before after i w a is = record {
@@ -309,15 +320,15 @@ spoken_of leg mid new q q' roomy now before after i w a is = record {
             (spoke_closed leg i w q roomy now e es whole a.outs at h s closed_now (a.silent o))))
       ];
 }
-  where
-    window_opened : (v : Window) (edge : ℕ) (os : List Offer) → IsWindowOf v os → IsWindowOf (record v { edge = edge }) os
-    window_opened v edge os x = record { taken = x.taken; is_taken = x.is_taken; ended = x.ended; count = x.count; pending = x.pending; ahead = x.ahead }
 
-    phase_true : (o g : Bool) → is_open (phase_of o g) ≡ true → o ≡ true
-    phase_true true g k = refl
-    phase_true false true k = absurd (false≢true k)
-    phase_true false false k = absurd (false≢true k)
-
-    phase_false : (o g : Bool) → is_open (phase_of o g) ≡ false → o ≡ false
-    phase_false true g k = absurd (true≢false k)
-    phase_false false g k = refl
+-- and where the desk broke it off
+pub speaking_breaks : (leg : LegValue) (q : Queue) (roomy : Bool) (now : ℕ) (before after : DeskValue) → IsLeg leg → IsWindow leg.window
+    → AddressBreaks roomy now leg q before after → SpeakingBreaks roomy now leg q before after
+speaking_breaks leg q roomy now before after i w a e es whole at h s =
+    let open_now = phase_true (opened leg.ends.role (record e { ending = Unspoken } ∷ es)) (is_greeted (record e { ending = Unspoken } ∷ es)) (sym (ap is_open h.of_phase) ∙ a.is_open) in
+    let b = a.breaks whole s in
+    record {
+      outs = b.0;
+      right = (spoke_open leg i w q roomy now e es whole b.0 at h s open_now b.1.0 (window_opened leg.window (to_tell (told_of leg) (base_of leg.window) roomy).edge (offers leg.ends.role (record e { ending = Unspoken } ∷ es)) h.of_window)).of_right.0;
+      breaks = b.1.1;
+    }

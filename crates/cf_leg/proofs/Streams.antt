@@ -1,14 +1,14 @@
 -- All segments of an end carry one stream.
-use Rattle.std.proofs.Common.{◌≡◌, ℕ, ◌+◌, ◌^◌, ◌<◌, ◌≤◌, min, max, Bool, true, false, cond, List, [], ◌∷◌, ◌++◌, length, refl, sym, ◌∙◌, ap, arith, ℤ, pos, inl, inr, Option, Some, None, ◌+ℤ◌}
+use Rattle.std.proofs.Common.{◌≡◌, ℕ, ◌+◌, ◌^◌, ◌<◌, ◌≤◌, max, Bool, true, false, cond, List, [], ◌∷◌, length, refl, sym, ◌∙◌, ap, arith, pos, inl, inr, Option, Some, None, ◌+ℤ◌}
 use Rattle.std.specs.Option.{option_or}
 use Rattle.std.proofs.lemmas.Bool.{cases_lt, cases_Bool}
 use Rattle.std.proofs.lemmas.List.{length-append}
 use Rattle.cf_packet.specs.Packet.{PacketValue}
 use Rattle.cf_stream.proofs.Extends.{extends_both}
-use Rattle.cf_stream.specs.Position.{place_or_zero, position}
+use Rattle.cf_stream.specs.Position.{place_or_zero}
 use Rattle.cf_stream.specs.Stream.{Stream, Letter, Extends, letter_at, letter_count}
 use Rattle.cf_leg.proofs.Carried.{none≢some, some_left, some_right}
-use Rattle.cf_leg.proofs.Sent.{Goes, Repeats, event_goes, fired_repeats}
+use Rattle.cf_leg.proofs.Sent.{event_goes, fired_repeats}
 use Rattle.cf_leg.specs.Emits.{AllRight}
 use Rattle.cf_leg.specs.Event.{Came, Nothing, Greeting, Packet, LegEvent, sent_in, stream_after}
 use Rattle.cf_leg.specs.Heard.{ack_place, counts, end_state, opens, shown, shown_by}

@@ -1,6 +1,6 @@
 -- What the calls of a leg do.
-use Rattle.std.specs.Prelude.{◌≡◌, ℕ, ◌+◌, ◌%◌, ◌^◌, nat_lt, nat_le, ◌<◌, ◌≤◌, ◌≢◌, min, max, not, ◌&&◌, ◌||◌, if◌then◌else◌, Bool, true, false, List, [], ◌∷◌, ◌++◌, length, Option, Some, None, ℤ, pos, ◌+ℤ◌}
-use Rattle.cf_outside.specs.Desk.{SentValue}
+use Rattle.std.specs.Prelude.{◌≡◌, ℕ, ◌+◌, ◌%◌, ◌^◌, nat_lt, nat_le, ◌≤◌, min, max, not, ◌&&◌, ◌||◌, if◌then◌else◌, Bool, true, false, List, [], ◌∷◌, ◌++◌, length, Option, Some, None, ℤ, pos, ◌+ℤ◌}
+use Rattle.cf_outside.specs.Desk.{DeskValue, SentValue}
 use Rattle.cf_outq.specs.SendQueue.{Queue, carried, queue_length, after_acked, after_shown}
 use Rattle.cf_outq.specs.SendQueue.{IsQueueOf}
 use Rattle.cf_outq.specs.declared.Piece.{Piece}
@@ -19,7 +19,7 @@ use Rattle.cf_leg.specs.declared.ends.LegAnswer.{LegAnswer}
 use Rattle.cf_leg.specs.declared.ends.Phase.{Phase}
 use Rattle.cf_leg.specs.declared.ends.Phase.TheVariants as phase
 use Rattle.cf_leg.specs.declared.ends.EndState.{EndState}
-use Rattle.cf_leg.specs.Emitted.{with_segment, with_segments}
+use Rattle.cf_leg.specs.Emitted.{BreaksOff, with_segment, with_segments}
 use Rattle.cf_leg.specs.Segment.{letters_in, segment}
 use Rattle.cf_leg.specs.declared.ends.ClockAnswer.{ClockAnswer}
 use Rattle.cf_leg.specs.declared.ends.ClockAnswer.TheVariants as answers
@@ -272,3 +272,70 @@ pub record Widens (roomy : Bool) (old new : Window) : Type 0 where
   pub same : new ≡ record old { edge = new.edge }
   pub shut : roomy ≡ false → new.edge ≡ old.edge
   pub near : new.edge ≤ base_of old + 16384
+
+-- ---- calls that the desk broke off: each sent the first segments of a list that it may send, of which a beginning of the
+-- next one stands behind them
+
+-- the segment with the letters of a piece
+pub record PieceBreaks (way : Way) (t : Told) (queue : Queue) (piece : Piece) (now : ℕ) (before after : DeskValue) : Type 0 where
+  pub text : List ℕ
+  pub breaks : BreaksOff now (segment way t (sequence_number way.own (place_or_zero piece.at)) (record { bytes = text; ended = piece.end }) ∷ []) before after
+  pub carries : (whole : Stream) → IsQueueOf queue whole → text ≡ (carried whole piece).bytes
+
+-- the pieces of what was not sent and is let in
+pub record NewBreaks (way : Way) (t : Told) (mss : ℕ) (queue : Queue) (now : ℕ) (before after : DeskValue) : Type 0 where
+  pub some : nat_lt queue.sent (min queue.shown (queue_length queue)) ≡ true
+  pub breaks : (whole : Stream) → IsQueueOf queue whole
+      → (outs : List PacketValue) × (Pieces way t whole mss queue.shown queue.sent outs × BreaksOff now outs before after)
+
+-- what an open leg says
+abbrev pub SayingBreaks : Way → Told → ℕ → Bool → Queue → ℕ → DeskValue → DeskValue → Type 0
+SayingBreaks way t mss due queue now before after = (whole : Stream) → IsQueueOf queue whole
+    → (outs : List PacketValue) × (SaysIf way t due whole mss queue.shown queue.sent outs × BreaksOff now outs before after)
+
+pub record AddressBreaks (roomy : Bool) (now : ℕ) (old : LegValue) (queue : Queue) (before after : DeskValue) : Type 0 where
+  pub is_open : is_open old.phase ≡ true
+  pub breaks : SayingBreaks (way_at old) (to_tell (told_of old) (base_of old.window) roomy) old.mss
+      (old.owes || differs (told_of old) (to_tell (told_of old) (base_of old.window) roomy)) queue now before after
+
+-- the speech of an event
+pub record SpeechBreaks (roomy : Bool) (now : ℕ) (ends : Ends) (e : LegEvent) (es : List LegEvent) (whole : Stream) (before after : DeskValue) : Type 0 where
+  pub outs : List PacketValue
+  pub right : IsRight ends es (record e { ending = Spoke whole roomy outs })
+  pub breaks : BreaksOff now outs before after
+
+-- the speech of each event and each list that the leg and its queue stand for
+abbrev pub SpeakingBreaks : Bool → ℕ → LegValue → Queue → DeskValue → DeskValue → Type 0
+SpeakingBreaks roomy now old queue before after = (e : LegEvent) (es : List LegEvent) (whole : Stream) → now ≡ moment e
+    → IsLegOf old (marks queue) (record e { ending = Unspoken } ∷ es) → IsQueueOf queue whole → SpeechBreaks roomy now old.ends e es whole before after
+
+-- the oldest letters or a probe; what was sent last
+pub record OldestBreaks (leg : LegValue) (queue : Queue) (now : ℕ) (before after : DeskValue) : Type 0 where
+  pub out : PacketValue
+  pub breaks : BreaksOff now (out ∷ []) before after
+  pub is : (whole : Stream) → IsQueueOf queue whole → out ≡ oldest leg queue whole
+
+pub record AgainBreaks (leg : LegValue) (queue : Queue) (now : ℕ) (before after : DeskValue) : Type 0 where
+  pub out : PacketValue
+  pub breaks : BreaksOff now (out ∷ []) before after
+  pub open_is : is_open leg.phase ≡ true → (whole : Stream) → IsQueueOf queue whole → out ≡ oldest leg queue whole
+  pub first_is : is_open leg.phase ≡ false → out ≡ greeting_of leg
+
+-- the repeat or the probe of a clock call
+pub record ClockBreaks (now : ℕ) (leg : LegValue) (queue : Queue) (before after : DeskValue) : Type 0 where
+  pub out : PacketValue
+  pub breaks : BreaksOff now (out ∷ []) before after
+  pub right : (es : List LegEvent) → is_settled es ≡ true → IsLegOf leg (marks queue) es → IsQueueOf queue (stream_after es)
+      → IsRight leg.ends es (clocked now (out ∷ []))
+
+-- the greeting with a number
+pub record GreetingBreaks (now number : ℕ) (leg : LegValue) (before after : DeskValue) : Type 0 where
+  pub breaks : BreaksOff now (greeting_as leg.ends number leg.other leg.ends.role ∷ []) before after
+  pub right : (m : Marks) (e : LegEvent) (es : List LegEvent) → now ≡ moment e → IsLegOf leg m (record e { came = Nothing; ending = Unspoken } ∷ es)
+      → IsRight leg.ends es (record e { came = Greeting (greeting_as leg.ends number leg.other leg.ends.role); ending = Unspoken })
+
+-- the RST of a cut
+pub record CutBreaks (now : ℕ) (leg : LegValue) (queue : Queue) (before after : DeskValue) : Type 0 where
+  pub out : PacketValue
+  pub breaks : BreaksOff now (out ∷ []) before after
+  pub right : (e : LegEvent) (es : List LegEvent) → IsLegOf leg (marks queue) (record e { ending = Unspoken } ∷ es) → IsRight leg.ends es (record e { ending = Cut out })

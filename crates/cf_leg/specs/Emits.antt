@@ -1,10 +1,10 @@
 -- What a TCP end sends: the segments of each event, given the events before it.
-use Rattle.std.specs.Prelude.{MatchBool, ◌≡◌, ◌≢◌, ℕ, ◌+◌, ◌-◌, ◌%◌, ◌^◌, ◌<◌, ◌≤◌, ◌==◌, min, max, nat_lt, not, Bool, true, false, ◌&&◌, ◌||◌, if◌then◌else◌, List, [], ◌∷◌, length, drop, Option, Some, None}
+use Rattle.std.specs.Prelude.{MatchBool, ◌≡◌, ℕ, ◌+◌, ◌-◌, ◌%◌, ◌^◌, ◌<◌, ◌≤◌, ◌==◌, min, max, nat_lt, not, Bool, true, false, ◌&&◌, ◌||◌, if◌then◌else◌, List, [], ◌∷◌, length, Option, Some, None}
 use Rattle.cf_packet.specs.Packet.{PacketValue}
 use Rattle.cf_stream.specs.FirstCopy.{first_copy, IsTaken}
 use Rattle.cf_stream.specs.Position.{sequence_number}
 use Rattle.cf_stream.specs.Stream.{Stream, no_letters, letter_count, part}
-use Rattle.cf_leg.specs.Event.{Came, Nothing, Greeting, Packet, Ending, Unspoken, Spoke, Cut, LegEvent, is_settled, stream_after}
+use Rattle.cf_leg.specs.Event.{Came, Greeting, Ending, Unspoken, Spoke, Cut, LegEvent, is_settled, stream_after}
 use Rattle.cf_leg.specs.Heard.{opened, owed, acked, shown, offers}
 use Rattle.cf_leg.specs.Segment.{letters_of, segment}
 use Rattle.cf_leg.specs.Timer.{fires, tries}

@@ -1,6 +1,6 @@
 -- The packets that a desk got.
-use Rattle.std.specs.Prelude.{◌≡◌, ℕ, List, [], ◌∷◌, Option}
-use Rattle.cf_outside.specs.Desk.{SentValue, with_item}
+use Rattle.std.specs.Prelude.{◌≡◌, ℕ, List, [], ◌∷◌, ◌++◌, take, Option}
+use Rattle.cf_outside.specs.Desk.{DeskValue, SentValue, with_item}
 use Rattle.cf_packet.specs.Packet.{PacketValue}
 use Rattle.cf_packet.specs.Written.{packet_octets}
 
@@ -15,3 +15,16 @@ with_segment told moment p = with_item (record { moment = moment; bytes = spelle
 abbrev pub with_segments : Option (List SentValue) → ℕ → List PacketValue → Option (List SentValue)
 with_segments told moment [] = told
 with_segments told moment (p ∷ ps) = with_segments (with_segment told moment p) moment ps
+
+-- a beginning of the octets of the next of some segments, if there is one
+abbrev pub BeginsNext : (SentValue → List ℕ) → ℕ → List PacketValue → List ℕ → Type 0
+BeginsNext octets moment [] part = part ≡ []
+BeginsNext octets moment (p ∷ ps) part = (k : ℕ) × (part ≡ take k (octets (record { moment = moment; bytes = spelled p })))
+
+-- of these segments the first ones went out before the desk failed, and behind them stands a beginning of the next one
+pub record BreaksOff (moment : ℕ) (outs : List PacketValue) (old new : DeskValue) : Type 0 where
+  pub gone : List PacketValue
+  pub left : List PacketValue
+  pub all : outs ≡ gone ++ left
+  pub packets : new.packets ≡ with_segments old.packets moment gone
+  pub part : BeginsNext old.octets moment left new.packet_part

@@ -1,12 +1,11 @@
 -- What a packet is to a TCP end. RFC 9293, section 3.10.7, and RFC 5961, sections 3 to 5, whose challenge ACKs also answer
 -- segments that RFC 9293 would drop; where the two leave a choice, the rule is this project's own.
-use Rattle.std.specs.Prelude.{ℕ, ◌+◌, ◌==◌, max, nat_lt, not, Bool, true, false, ◌&&◌, ◌||◌, if◌then◌else◌, List, [], ◌∷◌, ℤ, pos, ◌+ℤ◌, int_lt, int_le}
+use Rattle.std.specs.Prelude.{ℕ, ◌==◌, max, nat_lt, not, Bool, true, false, ◌&&◌, ◌||◌, if◌then◌else◌, List, [], ◌∷◌, ℤ, pos, ◌+ℤ◌, int_lt, int_le}
 use Rattle.cf_packet.specs.Packet.{PacketValue}
 use Rattle.cf_stream.specs.FirstCopy.{Offer}
 use Rattle.cf_stream.specs.Position.{sequence_number, position, place_or_zero}
-use Rattle.cf_stream.specs.Stream.{Stream}
-use Rattle.cf_leg.specs.Event.{Came, Nothing, Greeting, Packet, LegEvent}
-use Rattle.cf_leg.specs.Segment.{has_fin, has_syn, has_rst, has_ack, letters_in, letters_of}
+use Rattle.cf_leg.specs.Event.{Came, Packet, LegEvent}
+use Rattle.cf_leg.specs.Segment.{has_syn, has_rst, has_ack, letters_in, letters_of}
 use Rattle.cf_leg.specs.Told.{is_greeted, own_number, peer_number, answers_syn, told_at, letters_sent_at}
 use Rattle.cf_leg.specs.declared.ends.EndState.{EndState}
 use Rattle.cf_leg.specs.declared.ends.Told.{Told}

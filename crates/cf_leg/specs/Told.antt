@@ -3,7 +3,7 @@ use Rattle.std.specs.Prelude.{ℕ, ◌+◌, ◌==◌, max, not, Bool, ◌&&◌, 
 use Rattle.std.specs.Option.{option_or, is_some}
 use Rattle.cf_packet.specs.Packet.{PacketValue}
 use Rattle.cf_stream.specs.Position.{sequence_number, position, place_or_zero}
-use Rattle.cf_leg.specs.Event.{Came, Nothing, Greeting, Packet, LegEvent, sent_in}
+use Rattle.cf_leg.specs.Event.{Came, Greeting, Packet, LegEvent, sent_in}
 use Rattle.cf_leg.specs.Segment.{has_syn, has_rst, has_ack, letters_of}
 use Rattle.cf_leg.specs.declared.ends.Told.{Told}
 use Rattle.cf_leg.specs.declared.ends.Role.{Role}

@@ -1,5 +1,5 @@
 //! Segments that go out.
-ghost use Rattle.std.specs.Prelude.{◌≡◌, ℕ, ◌+◌, ◌-◌, ◌*◌, ◌%◌, ◌^◌, ◌<◌, ◌≤◌, ◌==◌, ◌↔◌, min, max, not, nat_lt, ◌&&◌, ◌||◌, if◌then◌else◌, true, false, List, [], ◌∷◌, length, None, Some, Ok, Err, IsErr, IfOk, OnOk, IsTrue, pos, ◌≤ℤ◌};
+ghost use Rattle.std.specs.Prelude.{◌≡◌, ℕ, ◌+◌, ◌-◌, ◌*◌, ◌%◌, ◌^◌, ◌<◌, ◌≤◌, ◌==◌, ◌↔◌, min, max, not, nat_lt, ◌&&◌, ◌||◌, if◌then◌else◌, true, false, List, [], ◌∷◌, length, None, Some, Ok, Err, IsErr, IfOk, OnErr, OnOk, IsTrue, pos, ◌≤ℤ◌};
 ghost use Rattle.cf_outside.specs.Desk.{DeskValue, KeepsDesk};
 ghost use Rattle.cf_outside.specs.Faults.{HasCause};
 ghost use Rattle.cf_outq.specs.SendQueue.{IsQueue, IsUnacked, carried, queue_length};
@@ -9,9 +9,9 @@ ghost use Rattle.cf_packet.specs.Written.{IsWritable};
 ghost use Rattle.cf_stream.specs.Position.{place_or_zero, sequence_number};
 ghost use Rattle.cf_stream.specs.Stream.{Stream, letter_count, no_letters};
 ghost use Rattle.cf_leg.specs.Emits.{Pieces, piece};
-ghost use Rattle.cf_leg.specs.Emitted.{spelled, with_segment, with_segments};
+ghost use Rattle.cf_leg.specs.Emitted.{BreaksOff, spelled, with_segment, with_segments};
 ghost use Rattle.cf_leg.specs.Segment.{flags_with, segment};
-ghost use Rattle.cf_leg.specs.Calls.{SaysTo, SendsNew, SendsPiece};
+ghost use Rattle.cf_leg.specs.Calls.{NewBreaks, PieceBreaks, SayingBreaks, SaysTo, SendsNew, SendsPiece};
 
 use crate::ends::{Told, Way};
 use arrayvec::ArrayVec;
@@ -27,7 +27,10 @@ pub(crate) fn send<D: Desk>(desk: &mut D, now: u64, packet: &Packet<'_>) -> Resu
     requires moment { now < 2 ^ 32 * 1000000 }
     requires writable { IsWritable (packet_value packet.now) }
     ensures packets { OnOk result (DeskValue.packets (D.value desk.new) ≡ with_segment (DeskValue.packets (D.value desk.old)) now (packet_value packet.now)) }
+    ensures broken { OnErr result (BreaksOff now (packet_value packet.now ∷ []) (D.value desk.old) (D.value desk.new)) }
     ensures lines { DeskValue.lines (D.value desk.new) ≡ DeskValue.lines (D.value desk.old) }
+    ensures packet_part { OnOk result (DeskValue.packet_part (D.value desk.new) ≡ DeskValue.packet_part (D.value desk.old)) }
+    ensures line_part { DeskValue.line_part (D.value desk.new) ≡ DeskValue.line_part (D.value desk.old) }
     ensures keeps { KeepsDesk (D.value desk.old) (D.value desk.new) }
     ensures whole { OnOk result (DeskValue.whole (D.value desk.new) ≡ true) }
     ensures cause { HasCause (DeskValue.faults (D.value desk.old)) (DeskValue.faults (D.value desk.new)) (IsErr result) }
@@ -79,7 +82,10 @@ pub(crate) fn send_empty<D: Desk>(
     requires whole { DeskValue.whole (D.value desk.old) ≡ true }
     requires moment { now < 2 ^ 32 * 1000000 }
     ensures packets { OnOk result (DeskValue.packets (D.value desk.new) ≡ with_segment (DeskValue.packets (D.value desk.old)) now (segment way told number no_letters)) }
+    ensures broken { OnErr result (BreaksOff now (segment way told number no_letters ∷ []) (D.value desk.old) (D.value desk.new)) }
     ensures lines { DeskValue.lines (D.value desk.new) ≡ DeskValue.lines (D.value desk.old) }
+    ensures packet_part { OnOk result (DeskValue.packet_part (D.value desk.new) ≡ DeskValue.packet_part (D.value desk.old)) }
+    ensures line_part { DeskValue.line_part (D.value desk.new) ≡ DeskValue.line_part (D.value desk.old) }
     ensures keeps { KeepsDesk (D.value desk.old) (D.value desk.new) }
     ensures whole { OnOk result (DeskValue.whole (D.value desk.new) ≡ true) }
     ensures cause { HasCause (DeskValue.faults (D.value desk.old)) (DeskValue.faults (D.value desk.new)) (IsErr result) }
@@ -119,7 +125,10 @@ pub(crate) fn send_piece<D: Desk>(
     requires whole { DeskValue.whole (D.value desk.old) ≡ true }
     requires moment { now < 2 ^ 32 * 1000000 }
     ensures packets { OnOk result (SendsPiece way told queue.now piece now (DeskValue.packets (D.value desk.old)) (DeskValue.packets (D.value desk.new))) }
+    ensures broken { OnErr result (PieceBreaks way told queue.now piece now (D.value desk.old) (D.value desk.new)) }
     ensures lines { DeskValue.lines (D.value desk.new) ≡ DeskValue.lines (D.value desk.old) }
+    ensures packet_part { OnOk result (DeskValue.packet_part (D.value desk.new) ≡ DeskValue.packet_part (D.value desk.old)) }
+    ensures line_part { DeskValue.line_part (D.value desk.new) ≡ DeskValue.line_part (D.value desk.old) }
     ensures keeps { KeepsDesk (D.value desk.old) (D.value desk.new) }
     ensures whole { OnOk result (DeskValue.whole (D.value desk.new) ≡ true) }
     ensures cause { HasCause (DeskValue.faults (D.value desk.old)) (DeskValue.faults (D.value desk.new)) (IsErr result) }
@@ -148,7 +157,10 @@ pub(crate) fn send_new<D: Desk>(
     ensures pieces { OnOk result (SendsNew way told mss queue.old now (DeskValue.packets (D.value desk.old)) (DeskValue.packets (D.value desk.new))) }
     ensures new { OnOk result (queue.new ≡ record queue.old { sent = max queue.old.sent (min queue.old.shown (queue_length queue.old)) }) }
     ensures stands { (whole : Stream) → IsQueueOf queue.old whole → IsQueueOf queue.new whole }
+    ensures broken { OnErr result (NewBreaks way told mss queue.old now (D.value desk.old) (D.value desk.new)) }
     ensures lines { DeskValue.lines (D.value desk.new) ≡ DeskValue.lines (D.value desk.old) }
+    ensures packet_part { OnOk result (DeskValue.packet_part (D.value desk.new) ≡ DeskValue.packet_part (D.value desk.old)) }
+    ensures line_part { DeskValue.line_part (D.value desk.new) ≡ DeskValue.line_part (D.value desk.old) }
     ensures keeps { KeepsDesk (D.value desk.old) (D.value desk.new) }
     ensures whole { OnOk result (DeskValue.whole (D.value desk.new) ≡ true) }
     ensures cause { HasCause (DeskValue.faults (D.value desk.old)) (DeskValue.faults (D.value desk.new)) (IsErr result) }
@@ -176,7 +188,10 @@ fn acknowledge<D: Desk>(
     requires whole { DeskValue.whole (D.value desk.old) ≡ true }
     requires moment { now < 2 ^ 32 * 1000000 }
     ensures packets { OnOk result (DeskValue.packets (D.value desk.new) ≡ with_segments (DeskValue.packets (D.value desk.old)) now (if is_due then segment way told number no_letters ∷ [] else [])) }
+    ensures broken { OnErr result ((is_due ≡ true) × BreaksOff now (segment way told number no_letters ∷ []) (D.value desk.old) (D.value desk.new)) }
     ensures lines { DeskValue.lines (D.value desk.new) ≡ DeskValue.lines (D.value desk.old) }
+    ensures packet_part { OnOk result (DeskValue.packet_part (D.value desk.new) ≡ DeskValue.packet_part (D.value desk.old)) }
+    ensures line_part { DeskValue.line_part (D.value desk.new) ≡ DeskValue.line_part (D.value desk.old) }
     ensures keeps { KeepsDesk (D.value desk.old) (D.value desk.new) }
     ensures whole { OnOk result (DeskValue.whole (D.value desk.new) ≡ true) }
     ensures cause { HasCause (DeskValue.faults (D.value desk.old)) (DeskValue.faults (D.value desk.new)) (IsErr result) }
@@ -228,7 +243,10 @@ pub(crate) fn say<D: Desk>(
     ensures says { OnOk result (SaysTo way told mss is_due queue.old now (DeskValue.packets (D.value desk.old)) (DeskValue.packets (D.value desk.new))) }
     ensures new { OnOk result (queue.new ≡ record queue.old { sent = max queue.old.sent (min queue.old.shown (queue_length queue.old)) }) }
     ensures stands { (whole : Stream) → IsQueueOf queue.old whole → IsQueueOf queue.new whole }
+    ensures broken { OnErr result (SayingBreaks way told mss is_due queue.old now (D.value desk.old) (D.value desk.new)) }
     ensures lines { DeskValue.lines (D.value desk.new) ≡ DeskValue.lines (D.value desk.old) }
+    ensures packet_part { OnOk result (DeskValue.packet_part (D.value desk.new) ≡ DeskValue.packet_part (D.value desk.old)) }
+    ensures line_part { DeskValue.line_part (D.value desk.new) ≡ DeskValue.line_part (D.value desk.old) }
     ensures keeps { KeepsDesk (D.value desk.old) (D.value desk.new) }
     ensures whole { OnOk result (DeskValue.whole (D.value desk.new) ≡ true) }
     ensures cause { HasCause (DeskValue.faults (D.value desk.old)) (DeskValue.faults (D.value desk.new)) (IsErr result) }

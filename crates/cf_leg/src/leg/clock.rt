@@ -1,5 +1,5 @@
 //! The retransmission timer of an end.
-ghost use Rattle.std.specs.Prelude.{◌≡◌, ℕ, ◌+◌, ◌-◌, ◌*◌, ◌%◌, ◌^◌, ◌<◌, ◌≤◌, ◌==◌, min, max, not, nat_lt, nat_le, ◌&&◌, ◌||◌, if◌then◌else◌, true, false, List, [], ◌∷◌, length, None, Some, Ok, Err, IsErr, IfOk, OnOk, pos, negsuc, ◌≤ℤ◌, ◌+ℤ◌};
+ghost use Rattle.std.specs.Prelude.{◌≡◌, ℕ, ◌+◌, ◌-◌, ◌*◌, ◌%◌, ◌^◌, ◌<◌, ◌≤◌, ◌==◌, min, max, not, nat_lt, nat_le, ◌&&◌, ◌||◌, if◌then◌else◌, true, false, List, [], ◌∷◌, length, None, Some, Ok, Err, IsErr, IfOk, OnErr, OnOk, pos, negsuc, ◌≤ℤ◌, ◌+ℤ◌};
 ghost use Rattle.cf_outside.specs.Faults.{HasCause};
 ghost use Rattle.cf_outq.specs.SendQueue.{IsQueue, Queue, queue_length};
 ghost use Rattle.cf_outq.specs.SendQueue.{IsQueueOf};
@@ -9,11 +9,11 @@ ghost use Rattle.cf_rebuild.specs.ReceiveWindow.{IsWindowOf};
 ghost use Rattle.cf_stream.specs.FirstCopy.{Offer};
 ghost use Rattle.cf_leg.specs.Segment.{letters_in};
 ghost use Rattle.cf_stream.specs.Stream.{Stream, letter_count};
-ghost use Rattle.cf_leg.specs.Calls.{KeepsList, Widens, window_by, Continues, IsTold, CutOff, origin_as, rst_of, Greeted, IsMade, IsOwn, greeted_as, no_marks, Addressed, Clocked, Counts, Heard, SendsAgain, SendsOldest, Spoken, greeting_of, is_due, is_greeted_phase, leg_opened, end_state_of, queue_counted, queue_opened, rearmed, rises_by};
+ghost use Rattle.cf_leg.specs.Calls.{AgainBreaks, ClockBreaks, OldestBreaks, KeepsList, Widens, window_by, Continues, IsTold, CutOff, origin_as, rst_of, Greeted, IsMade, IsOwn, greeted_as, no_marks, Addressed, Clocked, Counts, Heard, SendsAgain, SendsOldest, Spoken, greeting_of, is_due, is_greeted_phase, leg_opened, end_state_of, queue_counted, queue_opened, rearmed, rises_by};
 ghost use Rattle.cf_leg.specs.Emits.{differs, rst, send_mss, to_tell};
 ghost use Rattle.cf_leg.specs.Heard.{ack_place, text_place};
 ghost use Rattle.cf_stream.specs.Position.{place_or_zero};
-ghost use Rattle.cf_leg.specs.Emitted.{with_segment};
+ghost use Rattle.cf_leg.specs.Emitted.{BreaksOff, with_segment};
 ghost use Rattle.cf_leg.specs.Event.{LegEvent};
 ghost use Rattle.cf_leg.specs.Timer.{backoff};
 ghost use Rattle.cf_leg.specs.LegValue.{IsLeg, IsLegOf, Marks, LegValue, arms, is_open, marks, told_of, way_at};
@@ -41,7 +41,10 @@ impl Leg {
         requires whole { DeskValue.whole (D.value desk.old) ≡ true }
         requires moment { now < 2 ^ 32 * 1000000 }
         ensures sends { IfOk result (λ answer. SendsOldest self.now queue.now now answer (DeskValue.packets (D.value desk.old)) (DeskValue.packets (D.value desk.new))) }
+        ensures broken { OnErr result (OldestBreaks self.now queue.now now (D.value desk.old) (D.value desk.new)) }
         ensures lines { DeskValue.lines (D.value desk.new) ≡ DeskValue.lines (D.value desk.old) }
+        ensures packet_part { OnOk result (DeskValue.packet_part (D.value desk.new) ≡ DeskValue.packet_part (D.value desk.old)) }
+        ensures line_part { DeskValue.line_part (D.value desk.new) ≡ DeskValue.line_part (D.value desk.old) }
         ensures keeps { KeepsDesk (D.value desk.old) (D.value desk.new) }
         ensures whole { OnOk result (DeskValue.whole (D.value desk.new) ≡ true) }
         ensures cause { HasCause (DeskValue.faults (D.value desk.old)) (DeskValue.faults (D.value desk.new)) (IsErr result) }
@@ -74,7 +77,10 @@ impl Leg {
         ensures bounds { IsLeg self.now }
         ensures window { IsWindow self.now.window }
         ensures sends { IfOk result (λ answer. SendsAgain self.now queue.now now answer (DeskValue.packets (D.value desk.old)) (DeskValue.packets (D.value desk.new))) }
+        ensures broken { OnErr result (AgainBreaks self.now queue.now now (D.value desk.old) (D.value desk.new)) }
         ensures lines { DeskValue.lines (D.value desk.new) ≡ DeskValue.lines (D.value desk.old) }
+        ensures packet_part { OnOk result (DeskValue.packet_part (D.value desk.new) ≡ DeskValue.packet_part (D.value desk.old)) }
+        ensures line_part { DeskValue.line_part (D.value desk.new) ≡ DeskValue.line_part (D.value desk.old) }
         ensures keeps { KeepsDesk (D.value desk.old) (D.value desk.new) }
         ensures whole { OnOk result (DeskValue.whole (D.value desk.new) ≡ true) }
         ensures cause { HasCause (DeskValue.faults (D.value desk.old)) (DeskValue.faults (D.value desk.new)) (IsErr result) }
@@ -127,7 +133,10 @@ impl Leg {
         ensures kept { self.new.window ≡ self.old.window }
         ensures clocked { IfOk result (λ answer. Clocked now self.old self.new queue.old answer (DeskValue.packets (D.value desk.old)) (DeskValue.packets (D.value desk.new))) }
         ensures queue { queue.new ≡ queue.old }
+        ensures broken { OnErr result (ClockBreaks now self.old queue.old (D.value desk.old) (D.value desk.new)) }
         ensures lines { DeskValue.lines (D.value desk.new) ≡ DeskValue.lines (D.value desk.old) }
+        ensures packet_part { OnOk result (DeskValue.packet_part (D.value desk.new) ≡ DeskValue.packet_part (D.value desk.old)) }
+        ensures line_part { DeskValue.line_part (D.value desk.new) ≡ DeskValue.line_part (D.value desk.old) }
         ensures keeps { KeepsDesk (D.value desk.old) (D.value desk.new) }
         ensures whole { OnOk result (DeskValue.whole (D.value desk.new) ≡ true) }
         ensures cause { HasCause (DeskValue.faults (D.value desk.old)) (DeskValue.faults (D.value desk.new)) (IsErr result) }

@@ -1,5 +1,5 @@
 //! How an end opens: its SYN or SYN ACK, and the packet that opens it.
-ghost use Rattle.std.specs.Prelude.{◌≡◌, ℕ, ◌+◌, ◌-◌, ◌*◌, ◌%◌, ◌^◌, ◌<◌, ◌≤◌, ◌==◌, min, max, not, nat_lt, nat_le, ◌&&◌, ◌||◌, if◌then◌else◌, true, false, List, [], ◌∷◌, length, None, Some, Ok, Err, IsErr, IfOk, OnOk, pos, negsuc, ◌≤ℤ◌, ◌+ℤ◌};
+ghost use Rattle.std.specs.Prelude.{◌≡◌, ℕ, ◌+◌, ◌-◌, ◌*◌, ◌%◌, ◌^◌, ◌<◌, ◌≤◌, ◌==◌, min, max, not, nat_lt, nat_le, ◌&&◌, ◌||◌, if◌then◌else◌, true, false, List, [], ◌∷◌, length, None, Some, Ok, Err, IsErr, IfOk, OnErr, OnOk, pos, negsuc, ◌≤ℤ◌, ◌+ℤ◌};
 ghost use Rattle.cf_outside.specs.Faults.{HasCause};
 ghost use Rattle.cf_outq.specs.SendQueue.{IsQueue, Queue, queue_length};
 ghost use Rattle.cf_outq.specs.SendQueue.{IsQueueOf};
@@ -9,11 +9,11 @@ ghost use Rattle.cf_rebuild.specs.ReceiveWindow.{IsWindowOf};
 ghost use Rattle.cf_stream.specs.FirstCopy.{Offer};
 ghost use Rattle.cf_leg.specs.Segment.{letters_in};
 ghost use Rattle.cf_stream.specs.Stream.{Stream, letter_count};
-ghost use Rattle.cf_leg.specs.Calls.{KeepsList, Widens, window_by, Continues, IsTold, CutOff, origin_as, rst_of, Greeted, IsMade, IsOwn, greeted_as, no_marks, Addressed, Clocked, Counts, Heard, SendsAgain, SendsOldest, Spoken, greeting_of, is_due, is_greeted_phase, leg_opened, end_state_of, queue_counted, queue_opened, rearmed, rises_by};
+ghost use Rattle.cf_leg.specs.Calls.{GreetingBreaks, KeepsList, Widens, window_by, Continues, IsTold, CutOff, origin_as, rst_of, Greeted, IsMade, IsOwn, greeted_as, no_marks, Addressed, Clocked, Counts, Heard, SendsAgain, SendsOldest, Spoken, greeting_of, is_due, is_greeted_phase, leg_opened, end_state_of, queue_counted, queue_opened, rearmed, rises_by};
 ghost use Rattle.cf_leg.specs.Emits.{differs, rst, send_mss, to_tell};
 ghost use Rattle.cf_leg.specs.Heard.{ack_place, text_place};
 ghost use Rattle.cf_stream.specs.Position.{place_or_zero};
-ghost use Rattle.cf_leg.specs.Emitted.{with_segment};
+ghost use Rattle.cf_leg.specs.Emitted.{BreaksOff, with_segment};
 ghost use Rattle.cf_leg.specs.Event.{LegEvent};
 ghost use Rattle.cf_leg.specs.Timer.{backoff};
 ghost use Rattle.cf_leg.specs.LegValue.{IsLeg, IsLegOf, Marks, LegValue, arms, is_open, marks, told_of, way_at};
@@ -56,7 +56,10 @@ impl Leg {
         ensures number { OnOk result (self.new.own ≡ own_seq) }
         ensures window { OnOk result (self.new.window ≡ window_by self.old.ends.role self.old.window) }
         ensures greeted { OnOk result (Greeted now self.old self.new (DeskValue.packets (D.value desk.old)) (DeskValue.packets (D.value desk.new))) }
+        ensures broken { OnErr result (GreetingBreaks now own_seq self.old (D.value desk.old) (D.value desk.new)) }
         ensures lines { DeskValue.lines (D.value desk.new) ≡ DeskValue.lines (D.value desk.old) }
+        ensures packet_part { OnOk result (DeskValue.packet_part (D.value desk.new) ≡ DeskValue.packet_part (D.value desk.old)) }
+        ensures line_part { DeskValue.line_part (D.value desk.new) ≡ DeskValue.line_part (D.value desk.old) }
         ensures keeps { KeepsDesk (D.value desk.old) (D.value desk.new) }
         ensures whole { OnOk result (DeskValue.whole (D.value desk.new) ≡ true) }
         ensures cause { HasCause (DeskValue.faults (D.value desk.old)) (DeskValue.faults (D.value desk.new)) (IsErr result) }
@@ -71,7 +74,10 @@ impl Leg {
         requires whole { DeskValue.whole (D.value desk.old) ≡ true }
         requires moment { now < 2 ^ 32 * 1000000 }
         ensures packets { OnOk result (DeskValue.packets (D.value desk.new) ≡ with_segment (DeskValue.packets (D.value desk.old)) now (greeting_of self.now)) }
+        ensures broken { OnErr result (BreaksOff now (greeting_of self.now ∷ []) (D.value desk.old) (D.value desk.new)) }
         ensures lines { DeskValue.lines (D.value desk.new) ≡ DeskValue.lines (D.value desk.old) }
+        ensures packet_part { OnOk result (DeskValue.packet_part (D.value desk.new) ≡ DeskValue.packet_part (D.value desk.old)) }
+        ensures line_part { DeskValue.line_part (D.value desk.new) ≡ DeskValue.line_part (D.value desk.old) }
         ensures keeps { KeepsDesk (D.value desk.old) (D.value desk.new) }
         ensures whole { OnOk result (DeskValue.whole (D.value desk.new) ≡ true) }
         ensures cause { HasCause (DeskValue.faults (D.value desk.old)) (DeskValue.faults (D.value desk.new)) (IsErr result) }

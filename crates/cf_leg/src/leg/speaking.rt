@@ -1,5 +1,5 @@
 //! What an end says at the end of an event.
-ghost use Rattle.std.specs.Prelude.{◌≡◌, ℕ, ◌+◌, ◌-◌, ◌*◌, ◌%◌, ◌^◌, ◌<◌, ◌≤◌, ◌==◌, min, max, not, nat_lt, nat_le, ◌&&◌, ◌||◌, if◌then◌else◌, true, false, List, [], ◌∷◌, length, None, Some, Ok, Err, IsErr, IfOk, OnOk, pos, negsuc, ◌≤ℤ◌, ◌+ℤ◌};
+ghost use Rattle.std.specs.Prelude.{◌≡◌, ℕ, ◌+◌, ◌-◌, ◌*◌, ◌%◌, ◌^◌, ◌<◌, ◌≤◌, ◌==◌, min, max, not, nat_lt, nat_le, ◌&&◌, ◌||◌, if◌then◌else◌, true, false, List, [], ◌∷◌, length, None, Some, Ok, Err, IsErr, IfOk, OnErr, OnOk, pos, negsuc, ◌≤ℤ◌, ◌+ℤ◌};
 ghost use Rattle.cf_outside.specs.Faults.{HasCause};
 ghost use Rattle.cf_outq.specs.SendQueue.{IsQueue, Queue, queue_length};
 ghost use Rattle.cf_outq.specs.SendQueue.{IsQueueOf};
@@ -9,11 +9,11 @@ ghost use Rattle.cf_rebuild.specs.ReceiveWindow.{IsWindowOf};
 ghost use Rattle.cf_stream.specs.FirstCopy.{Offer};
 ghost use Rattle.cf_leg.specs.Segment.{letters_in};
 ghost use Rattle.cf_stream.specs.Stream.{Stream, letter_count};
-ghost use Rattle.cf_leg.specs.Calls.{KeepsList, Widens, window_by, Continues, IsTold, CutOff, origin_as, rst_of, Greeted, IsMade, IsOwn, greeted_as, no_marks, Addressed, Clocked, Counts, Heard, SendsAgain, SendsOldest, Spoken, greeting_of, is_due, is_greeted_phase, leg_opened, end_state_of, queue_counted, queue_opened, rearmed, rises_by};
+ghost use Rattle.cf_leg.specs.Calls.{AddressBreaks, SpeakingBreaks, KeepsList, Widens, window_by, Continues, IsTold, CutOff, origin_as, rst_of, Greeted, IsMade, IsOwn, greeted_as, no_marks, Addressed, Clocked, Counts, Heard, SendsAgain, SendsOldest, Spoken, greeting_of, is_due, is_greeted_phase, leg_opened, end_state_of, queue_counted, queue_opened, rearmed, rises_by};
 ghost use Rattle.cf_leg.specs.Emits.{differs, rst, send_mss, to_tell};
 ghost use Rattle.cf_leg.specs.Heard.{ack_place, text_place};
 ghost use Rattle.cf_stream.specs.Position.{place_or_zero};
-ghost use Rattle.cf_leg.specs.Emitted.{with_segment};
+ghost use Rattle.cf_leg.specs.Emitted.{BreaksOff, with_segment};
 ghost use Rattle.cf_leg.specs.Event.{LegEvent};
 ghost use Rattle.cf_leg.specs.Timer.{backoff};
 ghost use Rattle.cf_leg.specs.LegValue.{IsLeg, IsLegOf, Marks, LegValue, arms, is_open, marks, told_of, way_at};
@@ -58,7 +58,10 @@ impl Leg {
         ensures window { IsWindow self.old.window }
         ensures addressed { OnOk result (Addressed roomy now self.old self.new queue.old queue.new (DeskValue.packets (D.value desk.old)) (DeskValue.packets (D.value desk.new))) }
         ensures stands { (whole : Stream) → IsQueueOf queue.old whole → IsQueueOf queue.new whole }
+        ensures broken { OnErr result (AddressBreaks roomy now self.old queue.old (D.value desk.old) (D.value desk.new)) }
         ensures lines { DeskValue.lines (D.value desk.new) ≡ DeskValue.lines (D.value desk.old) }
+        ensures packet_part { OnOk result (DeskValue.packet_part (D.value desk.new) ≡ DeskValue.packet_part (D.value desk.old)) }
+        ensures line_part { DeskValue.line_part (D.value desk.new) ≡ DeskValue.line_part (D.value desk.old) }
         ensures keeps { KeepsDesk (D.value desk.old) (D.value desk.new) }
         ensures whole { OnOk result (DeskValue.whole (D.value desk.new) ≡ true) }
         ensures cause { HasCause (DeskValue.faults (D.value desk.old)) (DeskValue.faults (D.value desk.new)) (IsErr result) }
@@ -108,7 +111,10 @@ impl Leg {
         ensures told { OnOk result (is_open self.old.phase ≡ true → IsTold roomy self.old.window self.new) }
         ensures spoken { OnOk result (Spoken roomy now self.old self.new queue.old queue.new (DeskValue.packets (D.value desk.old)) (DeskValue.packets (D.value desk.new))) }
         ensures stands { (whole : Stream) → IsQueueOf queue.old whole → IsQueueOf queue.new whole }
+        ensures broken { OnErr result (SpeakingBreaks roomy now self.old queue.old (D.value desk.old) (D.value desk.new)) }
         ensures lines { DeskValue.lines (D.value desk.new) ≡ DeskValue.lines (D.value desk.old) }
+        ensures packet_part { OnOk result (DeskValue.packet_part (D.value desk.new) ≡ DeskValue.packet_part (D.value desk.old)) }
+        ensures line_part { DeskValue.line_part (D.value desk.new) ≡ DeskValue.line_part (D.value desk.old) }
         ensures keeps { KeepsDesk (D.value desk.old) (D.value desk.new) }
         ensures whole { OnOk result (DeskValue.whole (D.value desk.new) ≡ true) }
         ensures cause { HasCause (DeskValue.faults (D.value desk.old)) (DeskValue.faults (D.value desk.new)) (IsErr result) }

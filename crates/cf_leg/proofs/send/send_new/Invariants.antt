@@ -1,6 +1,6 @@
-use Rattle.std.proofs.Common.{◌≡◌, ℕ, ◌+◌, ◌-◌, ◌≤◌, ◌^◌, min, max, true}
+use Rattle.std.proofs.Common.{◌≡◌, ◌-◌, ◌≤◌, min, max, true}
 use Rattle.std.specs.Prelude.{nat_lt}
-use Rattle.cf_outq.specs.SendQueue.{queue_length, IsQueue}
+use Rattle.cf_outq.specs.SendQueue.{queue_length}
 use Rattle.cf_outq.specs.SendQueue.{IsQueueOf}
 use Rattle.cf_stream.specs.Stream.{Stream}
 use Rattle.cf_leg.specs.Calls.{SendsSome}
@@ -16,6 +16,8 @@ invariant-loop-piece g l = record {
   high : l.queue.sent ≤ max l.initial.queue.sent (min l.initial.queue.shown (queue_length l.initial.queue));
   some : l.some ≡ nat_lt l.initial.queue.sent l.queue.sent;
   lines : (g.D.Desk.value l.desk).lines ≡ (g.D.Desk.value l.initial.desk).lines;
+  packet_part : (g.D.Desk.value l.desk).packet_part ≡ (g.D.Desk.value l.initial.desk).packet_part;
+  line_part : (g.D.Desk.value l.desk).line_part ≡ (g.D.Desk.value l.initial.desk).line_part;
   whole : (g.D.Desk.value l.desk).whole ≡ true;
   keeps : KeepsDesk (g.D.Desk.value l.initial.desk) (g.D.Desk.value l.desk);
 }
