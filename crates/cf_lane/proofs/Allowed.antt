@@ -11,7 +11,7 @@ use Rattle.cf_dnptrans.specs.Passing.{completed}
 use Rattle.cf_dnptrans.specs.Transport.{last_fragment}
 use Rattle.cf_dnptrans.specs.declared.assembly.SegmentAnswer.{SegmentAnswer}
 use Rattle.cf_dnplink.specs.UserOctets.{user_of}
-use Rattle.cf_lane.proofs.Commands.{admits_what_is_allowed, from_allowed, never_carried, no_carried, to_allowed}
+use Rattle.cf_lane.proofs.Commands.{admits_what_is_allowed, from_allowed, never_carried, to_allowed}
 use Rattle.cf_lane.specs.Acts.{act_of_code, by_refusal, fate_of_acts}
 use Rattle.cf_lane.specs.Dnp3.{answer_now, fate_of_frame, fate_of_fragment, fate_of_read, fate_of_segment, fate_of_whole, fragment_frames, fragment_in, frame_output, is_data, is_none, segments_of, stray_of, whole_now}
 use Rattle.cf_lane.specs.Fate.{HasItemFate, HaveFates}

@@ -1,5 +1,5 @@
 -- One APDU among the items: `apdu_handled`.
-use Rattle.cf_apci.specs.Apdu.{Ack, ApduValue, Control, Info, SpellsApdu, apdu_break, spelling}
+use Rattle.cf_apci.specs.Apdu.{ApduValue, SpellsApdu, apdu_break, spelling}
 use Rattle.cf_audit.specs.declared.line.CutReason.{CutReason}
 use Rattle.cf_lane.proofs.Earlier.{cut_of-append, events_of-more, first_none}
 use Rattle.cf_lane.proofs.Handling.{count-more, ended-more}
@@ -8,30 +8,26 @@ use Rattle.cf_lane.proofs.Units.{apdu_break_is, begins_apdu, breaks_apdu}
 use Rattle.cf_lane.specs.Handled.{Breaks, CountsBy, Does, Grows, Handled, Knows, LaneValue, Misses, State, Steps, TakesUnit, judged, letters_in, state}
 use Rattle.cf_lane.specs.Iec104.{apdu_output}
 use Rattle.cf_lane.specs.Item.{Took}
-use Rattle.cf_lane.specs.Judged.{Judged, cut_by, cut_of, has_ended, is_admitted, is_refused, one_if}
+use Rattle.cf_lane.specs.Judged.{Judged, cut_by, cut_of, is_admitted, is_refused, one_if}
 use Rattle.cf_lane.specs.Kept.{IsWireOf, KnowsWire, wire_debt}
 use Rattle.cf_lane.specs.Log.{lines, unit_lines, is_some_bytes, with_lines}
-use Rattle.cf_lane.specs.Numbers.{events_of, item_event}
-use Rattle.cf_lane.specs.Renumbered.{DoesApdu, MissesApdu, Numbered, TakesApdu, numbered, step_by, unless_cut, unless_cut_by}
+use Rattle.cf_lane.specs.Numbers.{events_of}
+use Rattle.cf_lane.specs.Renumbered.{MissesApdu, Numbered, TakesApdu, numbered, step_by, unless_cut, unless_cut_by}
 use Rattle.cf_lane.specs.Unit.{Apdu}
 use Rattle.cf_lane.specs.declared.fate.Fate.{Fate}
 use Rattle.cf_lane.specs.declared.lane.Step.{Step}
 use Rattle.cf_lane.specs.declared.wire.Wire.{Wire}
 use Rattle.cf_outq.specs.SendQueue.{Queue, after_push}
 use Rattle.cf_policy.specs.declared.Asset.{Asset}
-use Rattle.cf_policy.specs.declared.Protocol.{Protocol}
-use Rattle.cf_renumber.specs.Counts.{Event}
 use Rattle.cf_renumber.specs.Numbers.{IsNumbersOf, NumbersValue}
 use Rattle.cf_view.specs.Framing.{Begins, BreaksAt}
 use Rattle.cf_view.specs.declared.Break.{Break}
 use Rattle.cf_view.specs.declared.Endpoint.{Endpoint}
 use Rattle.cf_view.specs.declared.Side.{Side}
-use Rattle.std.proofs.Common.{Bool, List, None, Option, Some, [], ap, arith, false, inl, inr, length, refl, subst, sym, take, true, ℕ, ◌*◌, ◌++◌, ◌+◌, ◌<◌, ◌∙◌, ◌∷◌, ◌≡◌, ◌≤◌, ◌⊎◌}
+use Rattle.std.proofs.Common.{List, None, Option, Some, [], ap, arith, inr, length, refl, subst, sym, take, ℕ, ◌*◌, ◌++◌, ◌+◌, ◌<◌, ◌∙◌, ◌∷◌, ◌≡◌, ◌≤◌}
 use Rattle.std.proofs.lemmas.List.{append-nil, length-take}
-use Rattle.std.specs.Prelude.{reverse}
 use Rattle.cf_audit.specs.declared.line.CutReason.TheVariants as cut
 use Rattle.cf_lane.specs.declared.fate.Fate.TheVariants as fates
-use Rattle.cf_lane.specs.declared.lane.Step.TheVariants as step
 use Rattle.cf_lane.specs.declared.wire.Wire.TheVariants as wire
 use Rattle.cf_policy.specs.declared.Protocol.TheVariants as protocol
 use Rattle.cf_view.specs.declared.Side.TheVariants as side

@@ -4,15 +4,12 @@ use Rattle.cf_asdu.specs.Asdu.{AsduValue, Reads, SpellsAsdu, refusal_reason, sta
 use Rattle.cf_asdu.specs.declared.asdu.AsduRefusal.{AsduRefusal}
 use Rattle.cf_lane.specs.Acts.{fate_of_acts}
 use Rattle.cf_lane.specs.Iec104.{asdu_in, asdu_refused, fate_by_form, fate_of_asdu}
-use Rattle.cf_lane.specs.declared.fate.Fate.{Fate}
 use Rattle.cf_policy.specs.declared.Asset.{Asset}
-use Rattle.std.proofs.Common.{Err, List, None, Ok, Option, Some, ap, arith, length, le-ltb, eq-eqb, refl, sym, ℕ, ◌<◌, ◌∙◌, ◌≡◌, ◌≤◌}
-use Rattle.std.specs.Prelude.{Result}
+use Rattle.std.proofs.Common.{Err, List, Ok, Some, ap, arith, length, le-ltb, eq-eqb, refl, sym, ℕ, ◌∙◌, ◌≡◌, ◌≤◌}
 use Rattle.cf_asdu.specs.Acts as commands
 use Rattle.cf_asdu.specs.Asdu as asdus
 use Rattle.cf_asdu.specs.declared.asdu.AsduRefusal.TheVariants as refusals
 use Rattle.cf_policy.specs.declared.Decider.TheVariants as decider
-use Rattle.cf_view.specs.declared.Reason.TheVariants as reason
 
 module _ (asset : Asset) (client : ℕ) (octets : List ℕ) (long : 9 ≤ length octets) (same : station_of octets ≡ asset.station) where
   by_station : fate_by_form asset client octets (asdus.first_refusal (asdu_in octets)) ≡ fate_of_asdu asset client octets

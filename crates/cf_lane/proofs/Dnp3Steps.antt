@@ -25,7 +25,6 @@ use Rattle.std.proofs.Common.{List, None, Option, [], ap, arith, length, refl, s
 use Rattle.std.proofs.lemmas.List.{append-nil, length-take}
 use Rattle.cf_audit.specs.declared.line.CutReason.TheVariants as cut
 use Rattle.cf_dnplink.specs.LinkFrame as link
-use Rattle.cf_lane.specs.declared.fate.Fate.TheVariants as fate
 use Rattle.cf_policy.specs.declared.Protocol.TheVariants as protocol
 use Rattle.cf_view.specs.declared.Side.TheVariants as side
 use Rattle.cf_lane.specs.declared.wire.Wire.TheVariants as wire

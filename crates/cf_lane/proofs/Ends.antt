@@ -13,11 +13,11 @@ use Rattle.cf_lane.specs.Log.{end_lines, has_unfinished, item_lines, lines, with
 use Rattle.cf_lane.specs.Numbers.{item_event}
 use Rattle.cf_lane.specs.Output.{other, output, outputs, stream_to}
 use Rattle.cf_lane.specs.Unit.{AreUnits, Left}
-use Rattle.cf_outq.specs.SendQueue.{Queue, IsQueueOf, after_end}
+use Rattle.cf_outq.specs.SendQueue.{Queue, IsQueueOf}
 use Rattle.cf_policy.specs.declared.Asset.{Asset}
 use Rattle.cf_stream.specs.Stream.{with_end}
 use Rattle.cf_view.specs.declared.Side.{Side}
-use Rattle.std.proofs.Common.{Bool, List, None, Option, [], ap, arith, drop, false, inl, inr, length, map, refl, subst, sym, take, true, ℕ, ◌++◌, ◌∙◌, ◌∷◌, ◌≡◌, ◌⊎◌}
+use Rattle.std.proofs.Common.{Bool, List, None, Option, [], ap, arith, drop, false, inl, inr, length, map, refl, subst, sym, take, true, ℕ, ◌++◌, ◌∙◌, ◌∷◌, ◌≡◌}
 use Rattle.std.proofs.Math.Seq.{drop-append_seam, take-append_seam, take-length}
 use Rattle.std.proofs.lemmas.List.{append-nil, map-append}
 use Rattle.std.proofs.lemmas.List.Folds.{list_any-append}

@@ -13,18 +13,17 @@ use Rattle.cf_lane.proofs.Dnp3Segments.{more_fragment, stray_fragment}
 use Rattle.cf_lane.proofs.Earlier.{segments_of-more}
 use Rattle.cf_lane.proofs.Recutting.{frames_most, length-spelling}
 use Rattle.cf_lane.proofs.ReplySizes.{reply_sizes}
-use Rattle.cf_lane.specs.Dnp3.{answer_now, drop_why, fate_of_fragment, fate_of_frame, fate_of_segment, fate_of_whole, fragment_frames, fragment_in, fragment_reply, frame_fragment, frame_output, frames_at, is_data, is_none, segment_in, segments_into, segments_of, stray_of, whole_now}
+use Rattle.cf_lane.specs.Dnp3.{answer_now, drop_why, fate_of_fragment, fate_of_frame, fate_of_segment, fragment_frames, fragment_in, fragment_reply, frame_fragment, frame_output, frames_at, is_data, is_none, segment_in, segments_into, segments_of, stray_of, whole_now}
 use Rattle.cf_lane.specs.Fragments.{recut_most}
 use Rattle.cf_lane.specs.History.{is_side}
 use Rattle.cf_lane.specs.Item.{Took}
 use Rattle.cf_lane.specs.Judged.{Judged, goes_on, has_ended}
-use Rattle.cf_lane.specs.Output.{other}
 use Rattle.cf_lane.specs.Unit.{Frame, frame_spelling}
 use Rattle.cf_lane.specs.declared.fate.Fate.{Fate}
 use Rattle.cf_policy.specs.declared.Asset.{Asset}
 use Rattle.cf_view.specs.declared.Side.{Side}
-use Rattle.std.proofs.Common.{Bool, List, None, Option, Some, [], ap, arith, false, inl, inr, length, refl, subst, sym, true, ℕ, ◌*◌, ◌&&◌, ◌++◌, ◌+◌, ◌-◌, ◌/◌, ◌<◌, ◌∙◌, ◌∷◌, ◌≡◌, ◌≤◌, ◌⊎◌}
-use Rattle.std.proofs.lemmas.Bool.{cases_lt, ltb-false}
+use Rattle.std.proofs.Common.{Bool, List, None, Option, Some, [], ap, arith, false, inl, inr, length, refl, sym, true, ℕ, ◌*◌, ◌&&◌, ◌++◌, ◌+◌, ◌-◌, ◌/◌, ◌∙◌, ◌∷◌, ◌≡◌, ◌≤◌, ◌⊎◌}
+use Rattle.std.proofs.lemmas.Bool.{ltb-false}
 use Rattle.std.proofs.lemmas.List.{append-nil}
 use Rattle.std.specs.List.{flat_map}
 use Rattle.std.specs.Prelude.{if◌then◌else◌, nat_lt, slice_index}

@@ -6,24 +6,21 @@ use Rattle.cf_lane.proofs.Histories.{bytes_of-append}
 use Rattle.cf_lane.proofs.Judgements.{after_break, one_item_fate, one_items, one_units, same_judged}
 use Rattle.cf_lane.proofs.Units.{free_unit, short_unit}
 use Rattle.cf_lane.specs.Fate.{HasItemFate, HaveFates}
-use Rattle.cf_lane.specs.Follows.{AreJudged, GoesOn, GoesOnAfter}
+use Rattle.cf_lane.specs.Follows.{GoesOn, GoesOnAfter}
 use Rattle.cf_lane.specs.History.{Element, bytes_in, bytes_of, is_side}
 use Rattle.cf_lane.specs.Item.{AreItems, Broke, Completes, Ended, Item, Placed, Took, last_after, placed}
-use Rattle.cf_lane.specs.Judged.{Judged, cut_by, goes_on, has_ended, in_turn, place_of}
+use Rattle.cf_lane.specs.Judged.{Judged, cut_by, place_of}
 use Rattle.cf_lane.specs.Laws.{StreamsGoOn, letters_of}
 use Rattle.cf_lane.specs.Log.{item_lines, lines}
-use Rattle.cf_lane.specs.Output.{item_output, output, outputs}
+use Rattle.cf_lane.specs.Output.{output, outputs}
 use Rattle.cf_lane.specs.Unit.{Adu, Apdu, AreUnits, Frame, Left, SpellsUnit, Tail, UnitValue, Wrong, unit_spelling}
-use Rattle.cf_lane.specs.declared.fate.Fate.{Fate}
-use Rattle.cf_modbus.specs.Adu.{AduValue, spelling}
 use Rattle.cf_policy.specs.declared.Asset.{Asset}
 use Rattle.cf_policy.specs.declared.Protocol.{Protocol}
 use Rattle.cf_view.specs.Units.{BeginsWithUnits, IsUnitsThenRest}
 use Rattle.cf_view.specs.declared.Side.{Side}
-use Rattle.std.proofs.Common.{Bool, List, None, Option, Some, [], ap, append_assoc, arith, drop, false, length, map, refl, subst, sym, take, true, ℕ, ◌*◌, ◌++◌, ◌+◌, ◌∙◌, ◌∷◌, ◌≡◌, ◌≤◌}
+use Rattle.std.proofs.Common.{Bool, List, None, Option, Some, [], ap, append_assoc, arith, drop, false, length, map, refl, subst, sym, take, true, ℕ, ◌++◌, ◌+◌, ◌∙◌, ◌∷◌, ◌≡◌, ◌≤◌}
 use Rattle.std.proofs.lemmas.List.{append-nil, length-append, length-drop, length-take}
 use Rattle.std.specs.Prelude.{if◌then◌else◌}
-use Rattle.cf_lane.specs.declared.fate.Fate.TheVariants as fate
 use Rattle.cf_dnplink.specs.LinkFrame as link
 use Rattle.cf_policy.specs.declared.Protocol.TheVariants as protocol
 use Rattle.cf_view.specs.declared.Side.TheVariants as side

@@ -7,20 +7,19 @@ use Rattle.cf_lane.proofs.Histories.{bytes_of-append}
 use Rattle.cf_lane.proofs.Judgements.{one_items, one_units}
 use Rattle.cf_lane.proofs.Units.{free_unit}
 use Rattle.cf_lane.specs.Dnp3.{fragment_frames, fragment_in, fragment_reply, frame_output, is_data, whole_now}
-use Rattle.cf_lane.specs.Follows.{AreJudged}
 use Rattle.cf_lane.specs.History.{Element, bytes_in, bytes_of, is_side}
-use Rattle.cf_lane.specs.Iec104.{apdu_output, mirror_output}
+use Rattle.cf_lane.specs.Iec104.{mirror_output}
 use Rattle.cf_lane.specs.Item.{AreItems, Broke, Completes, Ended, Item, Placed, Took, last_after, placed}
 use Rattle.cf_lane.specs.Judged.{Judged, goes_on, has_ended, place_of}
 use Rattle.cf_lane.specs.Laws.{QuietBehindEnd}
-use Rattle.cf_lane.specs.Modbus.{adu_output, adu_reply}
-use Rattle.cf_lane.specs.Output.{item_output, other, output, outputs}
+use Rattle.cf_lane.specs.Modbus.{adu_reply}
+use Rattle.cf_lane.specs.Output.{item_output, other, outputs}
 use Rattle.cf_lane.specs.Unit.{Adu, Apdu, AreUnits, Frame, Left, Tail, UnitValue, Wrong, frame_spelling}
 use Rattle.cf_lane.specs.declared.fate.Fate.{Fate}
 use Rattle.cf_policy.specs.declared.Asset.{Asset}
 use Rattle.cf_policy.specs.declared.Protocol.{Protocol}
 use Rattle.cf_view.specs.declared.Side.{Side}
-use Rattle.std.proofs.Common.{Bool, List, [], ap, append_assoc, arith, false, inl, inr, map, refl, subst, sym, true, ℕ, ◌++◌, ◌∙◌, ◌∷◌, ◌≡◌, ◌⊎◌}
+use Rattle.std.proofs.Common.{Bool, List, [], ap, false, inl, inr, map, refl, subst, sym, true, ℕ, ◌++◌, ◌∙◌, ◌∷◌, ◌≡◌, ◌⊎◌}
 use Rattle.std.proofs.lemmas.List.{append-nil, append_cancel_left}
 use Rattle.std.specs.List.{flat_map}
 use Rattle.std.specs.Prelude.{if◌then◌else◌}

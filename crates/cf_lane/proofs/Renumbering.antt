@@ -1,24 +1,23 @@
 -- What becomes of a client's I frame whose numbers are right.
-use Rattle.cf_apci.specs.Apdu.{ApduValue, Info}
+use Rattle.cf_apci.specs.Apdu.{Info}
 use Rattle.cf_lane.proofs.Handling.{push-nothing, with_lines-nothing}
-use Rattle.cf_lane.specs.Handled.{Grows, MayHaveMore}
-use Rattle.cf_lane.specs.Iec104.{ack_octets, ack_output, apdu_octets, apdu_output, fate_of_apdu, fate_of_asdu, mirror_output, stamped}
-use Rattle.cf_lane.specs.Judged.{Judged, cut_by, has_ended}
+use Rattle.cf_lane.specs.Iec104.{ack_octets, apdu_octets, apdu_output, fate_of_apdu, fate_of_asdu, stamped}
+use Rattle.cf_lane.specs.Judged.{Judged, has_ended}
 use Rattle.cf_lane.specs.Log.{is_some_bytes, line_about, refusal_line, unit_lines, with_lines}
-use Rattle.cf_lane.specs.Numbers.{events_of, has_mirror, info_cut, number_cut}
-use Rattle.cf_lane.specs.Renumbered.{DoesApdu, MissesApdu, Numbered, TakesApdu, mirror_octets, numbered, unless_cut}
+use Rattle.cf_lane.specs.Numbers.{events_of, has_mirror, info_cut}
+use Rattle.cf_lane.specs.Renumbered.{DoesApdu, Numbered, mirror_octets, numbered}
 use Rattle.cf_lane.specs.Unit.{apdu_spelling}
 use Rattle.cf_lane.specs.declared.fate.Fate.{Fate}
 use Rattle.cf_lane.specs.declared.fate.Refusal.{Refusal}
 use Rattle.cf_asdu.specs.Mirror.{mirror_octet, mirrored}
 use Rattle.cf_outq.specs.SendQueue.{Queue, after_push}
 use Rattle.cf_policy.specs.declared.Asset.{Asset}
-use Rattle.cf_renumber.specs.Counts.{Admitted, Event, Refused, admitted_stamp, client_refusal, may_send, mirror_stamp, owed_ack, refused_stamp}
+use Rattle.cf_renumber.specs.Counts.{Admitted, Refused, admitted_stamp, client_refusal, may_send, mirror_stamp, refused_stamp}
 use Rattle.cf_renumber.specs.Numbers.{IsNumbersOf, NumbersValue}
 use Rattle.cf_renumber.specs.declared.answer.RefusedStamp.{RefusedStamp}
 use Rattle.cf_renumber.specs.declared.answer.Stamp.{Stamp}
 use Rattle.cf_view.specs.declared.Endpoint.{Endpoint}
-use Rattle.std.proofs.Common.{Bool, List, None, Option, Some, [], ap, arith, cond, drop, false, length, nat_lt, ltb-true, refl, subst, sym, take, true, ℕ, ◌++◌, ◌+◌, ◌<◌, ◌∙◌, ◌∷◌, ◌≡◌, ◌≤◌}
+use Rattle.std.proofs.Common.{Bool, List, None, Option, Some, [], ap, arith, drop, false, length, nat_lt, ltb-true, refl, subst, sym, take, true, ℕ, ◌+◌, ◌<◌, ◌∙◌, ◌∷◌, ◌≡◌, ◌≤◌}
 use Rattle.std.proofs.lemmas.List.{length-append, length-drop, length-take}
 use Rattle.std.specs.Prelude.{IsSome, IsTrue, if◌then◌else◌, slice_index, ◌↔◌}
 use Rattle.cf_lane.specs.declared.fate.Fate.TheVariants as fate

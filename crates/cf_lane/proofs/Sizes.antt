@@ -10,12 +10,10 @@ use Rattle.cf_lane.proofs.Judgements.{one_items}
 use Rattle.cf_lane.proofs.Units.{free_unit}
 use Rattle.cf_lane.specs.Dnp3.{segment_in, segments_of}
 use Rattle.cf_lane.specs.Fate.{HasItemFate, HaveFates}
-use Rattle.cf_lane.specs.Follows.{AreJudged}
-use Rattle.cf_lane.specs.History.{Element}
 use Rattle.cf_lane.specs.Iec104.{ack_octets, ack_output, apdu_output, mirror_output, renumbered, stamped}
 use Rattle.cf_lane.specs.Item.{Broke, Ended, Item, Took}
 use Rattle.cf_lane.specs.Judged.{Judged, goes_on, has_ended, in_turn, place_of}
-use Rattle.cf_lane.specs.Laws.{GrowsLittle, letters_of}
+use Rattle.cf_lane.specs.Laws.{GrowsLittle}
 use Rattle.cf_lane.specs.Modbus.{adu_output, adu_reply}
 use Rattle.cf_lane.specs.Numbers.{events_of, has_mirror}
 use Rattle.cf_lane.specs.Output.{item_output, output, outputs}
@@ -26,7 +24,7 @@ use Rattle.cf_policy.specs.declared.Asset.{Asset}
 use Rattle.cf_policy.specs.declared.Protocol.{Protocol}
 use Rattle.cf_renumber.specs.Counts.{mirror_stamp, owed_ack}
 use Rattle.cf_view.specs.declared.Side.{Side}
-use Rattle.std.proofs.Common.{Bool, List, None, Option, Some, [], ap, append_assoc, arith, drop, false, length, map, refl, subst, sym, take, true, ℕ, ◌*◌, ◌++◌, ◌+◌, ◌/◌, ◌∙◌, ◌∷◌, ◌≡◌, ◌≤◌}
+use Rattle.std.proofs.Common.{Bool, List, None, Option, Some, [], ap, append_assoc, arith, drop, false, length, map, refl, subst, sym, take, true, ℕ, ◌*◌, ◌++◌, ◌+◌, ◌∙◌, ◌∷◌, ◌≡◌, ◌≤◌}
 use Rattle.std.proofs.lemmas.List.{append-nil, length-append, length-drop, length-take}
 use Rattle.std.specs.Prelude.{if◌then◌else◌, slice_index}
 use Rattle.cf_lane.specs.declared.fate.Fate.TheVariants as fate

@@ -13,7 +13,7 @@ use Rattle.cf_view.proofs.Units.{units_exist}
 use Rattle.cf_view.specs.Framing.{Begins, BreaksAt, HasFront, IsFront, IsPartial, IsPrefixFree}
 use Rattle.cf_view.specs.Octets.{IsOctets}
 use Rattle.cf_view.specs.Units.{HasUnits}
-use Rattle.std.proofs.Common.{List, [], ap, arith, inl, inr, length, refl, subst, sym, take, ℕ, ◌++◌, ◌+◌, ◌<◌, ◌∙◌, ◌≡◌, ◌≤◌, ◌⊎◌}
+use Rattle.std.proofs.Common.{List, [], ap, arith, inl, inr, length, refl, subst, sym, take, ℕ, ◌++◌, ◌+◌, ◌<◌, ◌∙◌, ◌≡◌, ◌≤◌}
 use Rattle.std.proofs.lemmas.List.{length-append}
 use Rattle.cf_policy.specs.declared.Protocol.TheVariants as protocol
 use Rattle.cf_apci.specs.Apdu as apci

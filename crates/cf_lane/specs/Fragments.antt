@@ -7,7 +7,7 @@ use Rattle.cf_dnptrans.specs.Segments.{count_of}
 use Rattle.cf_dnptrans.specs.Transport.{answer_to}
 use Rattle.cf_dnptrans.specs.declared.assembly.SegmentAnswer.{SegmentAnswer}
 use Rattle.cf_lane.specs.Dnp3.{fate_of_frame, fate_of_segment, frame_fragment, frame_octets, frame_output, frames_at, stray_of}
-use Rattle.cf_lane.specs.Handled.{LaneValue, MayHaveMore, State, judged}
+use Rattle.cf_lane.specs.Handled.{MayHaveMore, State, judged}
 use Rattle.cf_lane.specs.Item.{Took}
 use Rattle.cf_lane.specs.Judged.{Judged, cut_by, has_ended}
 use Rattle.cf_lane.specs.Kept.{KnowsFragments, of_side, owed_octets}
@@ -23,7 +23,6 @@ use Rattle.cf_view.specs.declared.Side.{Side}
 use Rattle.std.specs.List.{flat_map, sum_by}
 use Rattle.std.specs.Prelude.{Bool, List, None, Option, Some, [], length, true, ℕ, ◌%◌, ◌++◌, ◌+◌, ◌/◌, ◌∷◌, ◌≡◌}
 use Rattle.cf_dnptrans.specs.declared.assembly.SegmentAnswer.TheVariants as answers
-use Rattle.cf_lane.specs.declared.fate.Fate.TheVariants as fate
 use Rattle.cf_lane.specs.declared.wire.Wire.TheVariants as wire
 use Rattle.cf_view.specs.declared.Side.TheVariants as side
 

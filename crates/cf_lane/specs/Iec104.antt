@@ -16,7 +16,7 @@ use Rattle.cf_renumber.specs.Counts.{admitted_stamp, carried_stamp, client_trans
 use Rattle.cf_renumber.specs.declared.answer.Stamp.{Stamp}
 use Rattle.cf_view.specs.declared.Reason.{Reason}
 use Rattle.cf_view.specs.declared.Side.{Side}
-use Rattle.std.specs.Prelude.{List, None, Option, Some, [], drop, false, if◌then◌else◌, length, nat_eq, nat_lt, slice_index, ℕ, ◌%◌, ◌++◌, ◌∷◌}
+use Rattle.std.specs.Prelude.{List, None, Option, Some, [], drop, if◌then◌else◌, length, nat_eq, nat_lt, slice_index, ℕ, ◌%◌}
 use Rattle.cf_asdu.specs.Asdu as asdus
 use Rattle.cf_asdu.specs.Acts as commands
 use Rattle.cf_policy.specs.declared.Decider.TheVariants as decider

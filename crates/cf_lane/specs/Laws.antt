@@ -3,25 +3,19 @@ use Rattle.cf_audit.specs.declared.line.CutReason.{CutReason}
 use Rattle.cf_lane.specs.Follows.{AreJudged, Follows, Rests}
 use Rattle.cf_lane.specs.Handled.{State}
 use Rattle.cf_lane.specs.History.{Element, bytes_at, bytes_of, end_at, letters_at}
-use Rattle.cf_lane.specs.Item.{AreItems, Broke, Ended, Item, Placed, Took}
+use Rattle.cf_lane.specs.Item.{AreItems, Placed}
 use Rattle.cf_lane.specs.Judged.{Judged, has_ended}
 use Rattle.cf_lane.specs.Log.{lines}
 use Rattle.cf_lane.specs.Passes.{Passes}
 use Rattle.cf_lane.specs.Output.{other, outputs}
-use Rattle.cf_lane.specs.Unit.{Adu, Apdu, Frame, SpellsUnit}
-use Rattle.cf_modbus.specs.Acts.{acts}
-use Rattle.cf_modbus.specs.Adu.{AduValue, spelling}
-use Rattle.cf_modbus.specs.Request.{Reads, RequestValue}
-use Rattle.cf_policy.specs.Laws.{IsAllowed}
-use Rattle.cf_policy.specs.Verdict.{verdict_of}
+use Rattle.cf_lane.specs.Unit.{SpellsUnit}
+use Rattle.cf_modbus.specs.Adu.{spelling}
 use Rattle.cf_policy.specs.declared.Asset.{Asset}
 use Rattle.cf_policy.specs.declared.Protocol.{Protocol}
 use Rattle.cf_view.specs.Framing.{IsPrefixFree}
 use Rattle.cf_view.specs.declared.Endpoint.{Endpoint}
 use Rattle.cf_view.specs.declared.Side.{Side}
-use Rattle.std.specs.List.{AllByRecursion}
-use Rattle.std.specs.Prelude.{Bool, List, Ok, Option, [], length, true, ℕ, ◌*◌, ◌++◌, ◌+◌, ◌∷◌, ◌≡◌, ◌≤◌, ◌⊎◌}
-use Rattle.cf_policy.specs.declared.Protocol.TheVariants as protocol
+use Rattle.std.specs.Prelude.{Bool, List, Option, [], length, true, ℕ, ◌*◌, ◌++◌, ◌+◌, ◌∷◌, ◌≡◌, ◌≤◌}
 use Rattle.cf_view.specs.declared.Side.TheVariants as side
 
 -- a history has one list of judged items

@@ -19,7 +19,6 @@ use Rattle.cf_policy.specs.Verdict.{verdict_of}
 use Rattle.cf_policy.specs.declared.Asset.{Asset}
 use Rattle.cf_renumber.specs.Counts.{admitted_stamp, client_translated, owed_ack}
 use Rattle.cf_view.specs.declared.Act.{Act}
-use Rattle.cf_view.specs.declared.Side.{Side}
 use Rattle.std.specs.List.{AllByRecursion}
 use Rattle.std.specs.Prelude.{Bool, Err, List, None, Ok, Option, Result, Some, [], false, length, nat_eq, nat_lt, true, ℕ, ◌%◌, ◌++◌, ◌∷◌, ◌≡◌, ◌≤◌, ◌⊎◌}
 use Rattle.cf_asdu.specs.Acts as asdus

@@ -1,5 +1,4 @@
--- Worked exchanges, evaluated: a check of the definitions alone. Those of DNP3 and IEC 60870-5-104 are of definitions that no
--- function here meets yet.
+-- Worked exchanges, evaluated: a check of the definitions alone.
 use Rattle.cf_apci.specs.Apdu.{Ack, ApduValue, Control, Info}
 use Rattle.cf_dnplink.specs.Crc.{crc_of}
 use Rattle.cf_dnplink.specs.LinkFrame.{FrameValue, frame_with}

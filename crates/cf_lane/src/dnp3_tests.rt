@@ -1,5 +1,5 @@
 //! Worked exchanges of DNP3 over a desk in memory.
-ghost use Rattle.std.specs.Prelude.{◌≡◌, ◌∷◌, ◌≤◌, [], IfOk, length};
+ghost use Rattle.std.specs.Prelude.{◌≤◌};
 ghost use Rattle.cf_policy.specs.Within.{IsAssetWithin};
 
 use crate::{Fed, Lane};
@@ -7,9 +7,9 @@ use arrayvec::ArrayVec;
 use cf_dnplink::write_frame;
 use cf_outq::Outq;
 use cf_outside::MemoryDesk;
-use cf_policy::{Action, Asset, Items, Name, Protocol, Rule, Span};
+use cf_policy::{Asset, Items, Name, Protocol};
 use cf_view::{Endpoint, Side, View};
-use std::alloc::{AllocError, Global};
+use std::alloc::Global;
 use std::test::Fail;
 
 /// A direct operate of point 5, which no rule allows.
@@ -27,30 +27,11 @@ const STRAY: &str = "0.000005 10.0.0.5:49152 rtu stray client address\n";
 
 const PARTIAL: &str = "0.000006 10.0.0.5:49152 rtu partial client 0\n";
 
-/// The list of one span.
-fn one(alloc: Global, low: i64, high: i64) -> Result<Items<Span>, AllocError>
-    ensures { IfOk result (λ spans. spans ≡ record { low = low; high = high } ∷ []) }
+/// The asset `rtu`, which allows nothing.
+fn rtu(alloc: Global) -> Asset
+    ensures within { IsAssetWithin result }
 {
-    let mut items = Vec::new(alloc);
-    items.push(Span { low, high })?;
-    Ok(Items::new(items))
-}
-
-/// The asset `rtu`, which allows to select and to operate the relays 0 to 3.
-fn rtu(alloc: Global) -> Result<Asset, AllocError>
-    ensures within { IfOk result (λ asset. IsAssetWithin asset) }
-{
-    let mut rules = Vec::new(alloc);
-    rules.push(Rule {
-        name: Name::from_text("trip"),
-        action: Action::Allow,
-        clients: Items::new(Vec::new(alloc)),
-        codes: one(alloc, 3, 4)?,
-        groups: one(alloc, 3073, 3073)?,
-        points: one(alloc, 0, 3)?,
-        values: Items::new(Vec::new(alloc)),
-    })?;
-    Ok(Asset {
+    Asset {
         name: Name::from_text("rtu"),
         endpoint: Endpoint {
             address: 0x0A00_000A,
@@ -59,8 +40,8 @@ fn rtu(alloc: Global) -> Result<Asset, AllocError>
         protocol: Protocol::Dnp3,
         station: 10,
         master: 1,
-        rules: Items::new(rules),
-    })
+        rules: Items::new(Vec::new(alloc)),
+    }
 }
 
 const CLIENT: Endpoint = Endpoint {
@@ -97,7 +78,7 @@ fn of_controller(octet: u8, count: usize, out: &mut ArrayVec<u8, 292>)
 #[test]
 fn a_refused_direct_operate(rt: HostRuntime) -> Result<(), Fail> {
     let alloc = rt.alloc();
-    let asset = rtu(alloc)?;
+    let asset = rtu(alloc);
     let mut lane = Lane::new(alloc, &asset, CLIENT).expect(&rt, "lane");
     let mut to_client = Outq::new(alloc).expect(&rt, "queue");
     let mut to_controller = Outq::new(alloc).expect(&rt, "queue");
@@ -133,7 +114,7 @@ fn a_refused_direct_operate(rt: HostRuntime) -> Result<(), Fail> {
 #[test]
 fn a_reply_before_a_fragment_that_is_unfinished(rt: HostRuntime) -> Result<(), Fail> {
     let alloc = rt.alloc();
-    let asset = rtu(alloc)?;
+    let asset = rtu(alloc);
     let mut lane = Lane::new(alloc, &asset, CLIENT).expect(&rt, "lane");
     let mut to_client = Outq::new(alloc).expect(&rt, "queue");
     let mut to_controller = Outq::new(alloc).expect(&rt, "queue");
@@ -177,7 +158,7 @@ fn a_reply_before_a_fragment_that_is_unfinished(rt: HostRuntime) -> Result<(), F
     let mut out = [0u8; 1024];
     let len = copied(&mut to_client, &mut out);
     assert_eq!(rt; len, 35 + 292 + 292 + 127);
-    assert_eq!(rt; &out[..35] == RESPONSE, true);
+    assert_eq!(rt; out.starts_with(RESPONSE), true);
     assert_eq!(rt;
         (out[35 + 10], out[35 + 292 + 10], out[35 + 584 + 10]),
         (0x41, 0x02, 0x83)
@@ -189,7 +170,7 @@ fn a_reply_before_a_fragment_that_is_unfinished(rt: HostRuntime) -> Result<(), F
 #[test]
 fn another_master_and_a_fragment_left_at_an_end(rt: HostRuntime) -> Result<(), Fail> {
     let alloc = rt.alloc();
-    let asset = rtu(alloc)?;
+    let asset = rtu(alloc);
     let mut lane = Lane::new(alloc, &asset, CLIENT).expect(&rt, "lane");
     let mut to_client = Outq::new(alloc).expect(&rt, "queue");
     let mut to_controller = Outq::new(alloc).expect(&rt, "queue");

@@ -5,7 +5,7 @@ ghost use Rattle.cf_outside.specs.Faults.{HasCause};
 ghost use Rattle.cf_outside.specs.Desk.{DeskValue};
 ghost use Rattle.cf_policy.specs.Index.{IsIndexOf};
 ghost use Rattle.cf_policy.specs.Within.{IsAssetWithin};
-ghost use Rattle.cf_lane.specs.Handled.{IsLaneOf, LaneValue, Steps, Misses, Grows, CountsBy, HasRoom, IsOpen, WritesLog, debt, letters_in, state};
+ghost use Rattle.cf_lane.specs.Handled.{IsLaneOf, Steps, Misses, Grows, CountsBy, HasRoom, IsOpen, WritesLog, debt, letters_in, state};
 ghost use Rattle.cf_lane.specs.Judged.{cut_by};
 ghost use Rattle.cf_lane.specs.Renumbered.{MissesApdu, TakesApdu, numbered, step_by, unless_cut};
 

@@ -20,4 +20,6 @@ pub use rows::rows_hold;
 #[cfg(test)]
 mod dnp3_tests;
 #[cfg(test)]
+mod iec104_tests;
+#[cfg(test)]
 mod tests;

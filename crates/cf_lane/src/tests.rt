@@ -26,7 +26,7 @@ const UNANSWERED: &str =
 const PARTIAL: &str = "0.000007 10.0.0.5:49152 pump partial client 3\n";
 
 /// The list of one span.
-fn one(alloc: Global, low: i64, high: i64) -> Result<Items<Span>, AllocError>
+pub(crate) fn one(alloc: Global, low: i64, high: i64) -> Result<Items<Span>, AllocError>
     ensures { IfOk result (λ spans. spans ≡ record { low = low; high = high } ∷ []) }
 {
     let mut items = Vec::new(alloc);
@@ -62,13 +62,13 @@ fn pump(alloc: Global) -> Result<Asset, AllocError>
     })
 }
 
-const CLIENT: Endpoint = Endpoint {
+pub(crate) const CLIENT: Endpoint = Endpoint {
     address: 0x0A00_0005,
     port: 49152,
 };
 
 /// A queue's bytes from the first one on.
-fn holds(queue: &mut Outq, bytes: &[u8]) -> bool {
+pub(crate) fn holds(queue: &mut Outq, bytes: &[u8]) -> bool {
     let mut out = [0u8; 64];
     queue.shown(64);
     match queue.next_piece(64) {

@@ -1,7 +1,6 @@
 //! What a lane keeps for its protocol.
-ghost use Rattle.std.specs.Prelude.{◌≡◌, ℕ, List, [], IfOk};
+ghost use Rattle.std.specs.Prelude.{◌≡◌, [], IfOk};
 ghost use Rattle.cf_lane.specs.Kept.{IsWireOf, KnowsWire, of_side, wire_debt};
-ghost use Rattle.cf_lane.specs.Judged.{Judged};
 ghost use Rattle.cf_policy.specs.declared.Asset.{Asset};
 
 use cf_dnptrans::Assembly;

@@ -1,5 +1,5 @@
 //! What becomes of a segment, and of the fragment that it completes.
-ghost use Rattle.std.specs.Prelude.{◌≡◌, ◌≢◌, ◌+◌, ◌<◌, ◌≤◌, ◌∷◌, [], true, false, IfOk, OnOk, OnErr, IsErr, List, ℕ, length, slice_index};
+ghost use Rattle.std.specs.Prelude.{◌≡◌, ◌≢◌, ◌+◌, ◌<◌, ◌≤◌, ◌∷◌, [], true, false, IfOk, OnOk, OnErr, IsErr, length};
 ghost use Rattle.cf_dnplink.specs.LinkFrame.{IsFrame, frame_value};
 ghost use Rattle.cf_dnplink.specs.UserOctets.{user_of};
 ghost use Rattle.cf_outq.specs.SendQueue.{Queue};
@@ -10,7 +10,7 @@ ghost use Rattle.cf_policy.specs.Within.{IsAssetWithin};
 ghost use Rattle.cf_lane.specs.Dnp3.{drop_why, fragment_reply};
 ghost use Rattle.cf_lane.specs.Fragments.{AddsSegment, MissesSegment, Sends, TakesSegment, completed_by, frames_exist, parts, recut_most, sent_most};
 ghost use Rattle.cf_lane.specs.Handled.{Grows, HasRoom, IsOpen, WritesLog};
-ghost use Rattle.cf_lane.specs.Kept.{AreFragments, of_side};
+ghost use Rattle.cf_lane.specs.Kept.{of_side};
 
 use crate::dnp3::judge::judge_fragment;
 use crate::dnp3::recut::push_fragment;

@@ -1,7 +1,6 @@
 //! A client's I frame: a command.
-ghost use Rattle.std.specs.Prelude.{◌≡◌, ◌≤◌, ◌+◌, ◌∷◌, [], None, Option, List, OnErr, OnOk, IfOk, IsErr, MatchOption, length, true, false, nat_lt, ℕ, ◌<◌, if◌then◌else◌};
+ghost use Rattle.std.specs.Prelude.{◌≡◌, ◌≤◌, ◌+◌, None, OnErr, OnOk, IfOk, IsErr, MatchOption, length, true, false, nat_lt, ◌<◌, if◌then◌else◌};
 ghost use Rattle.cf_apci.specs.Apdu.{Info, spelling};
-ghost use Rattle.cf_lane.specs.Fate.{HasOwnDecider};
 ghost use Rattle.cf_lane.specs.Handled.{Grows, HasRoom, WritesLog};
 ghost use Rattle.cf_lane.specs.Iec104.{ack_octets};
 ghost use Rattle.cf_lane.specs.Renumbered.{mirror_octets, MissesApdu, TakesApdu, numbered, unless_cut};
@@ -12,7 +11,7 @@ ghost use Rattle.cf_policy.specs.Index.{IsIndexOf};
 ghost use Rattle.cf_policy.specs.Within.{IsAssetWithin};
 ghost use Rattle.cf_renumber.specs.Numbers.{IsSmall};
 
-use crate::fate::{Fate, Refusal};
+use crate::fate::Fate;
 use crate::iec104::carry::number_cut;
 use crate::iec104::judge::judge_asdu;
 use crate::iec104::push::{push_ack, push_info, push_mirror};

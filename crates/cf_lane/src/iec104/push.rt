@@ -1,5 +1,5 @@
 //! APDUs put into queues.
-ghost use Rattle.std.specs.Prelude.{◌≡◌, ◌≤◌, ◌<◌, [], MatchOption, false, if◌then◌else◌, length, option_map};
+ghost use Rattle.std.specs.Prelude.{◌≡◌, ◌≤◌, ◌<◌, MatchOption, false, length};
 ghost use Rattle.cf_apci.specs.Apdu.{Fits, apdu_value, spelling};
 ghost use Rattle.cf_apci.specs.Apdu as apci;
 ghost use Rattle.cf_asdu.specs.Mirror.{mirrored};
@@ -7,7 +7,6 @@ ghost use Rattle.cf_lane.specs.Handled.{HasRoom};
 ghost use Rattle.cf_lane.specs.Iec104.{ack_octets, stamped};
 ghost use Rattle.cf_outq.specs.SendQueue.{after_push};
 ghost use Rattle.cf_renumber.specs.Numbers.{IsSmall};
-ghost use Rattle.cf_view.specs.Octets.{IsOctets};
 
 use crate::lane::after;
 use arrayvec::ArrayVec;

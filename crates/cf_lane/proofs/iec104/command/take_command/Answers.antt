@@ -1,11 +1,10 @@
-use Rattle.std.proofs.Common.{rules, ◌≡◌, ◌≤◌, ◌+◌, ◌∷◌, [], None, List, Option, Bool, ap, arith, length, refl, sym, subst, ◌∙◌, ℕ, false, true}
+use Rattle.std.proofs.Common.{rules, ◌≡◌, ◌+◌, ◌∷◌, [], List, Bool, ap, arith, length, refl, sym, subst, ◌∙◌, ℕ, false}
 use Rattle.cf_lane.proofs.Failing.{on_err}
 use Rattle.cf_lane.proofs.Taking.{grows_push}
 use Rattle.cf_lane.specs.Handled.{Grows, MayHaveMore}
 use Rattle.cf_lane.specs.Iec104.{ack_octets, apdu_octets}
 use Rattle.cf_outq.specs.SendQueue.{Queue}
 use Rattle.cf_lane.proofs.Renumbering.{AreRight, ack_most, does_admitted, does_refused, mirror_most, refused_lines}
-use Rattle.cf_lane.specs.Judged.{Judged}
 use Rattle.cf_lane.specs.Numbers.{events_of, has_mirror}
 use Rattle.cf_lane.specs.Renumbered.{MissesApdu, mirror_octets, numbered, unless_cut}
 use Rattle.cf_lane.specs.Log.{line_about, refusal_line, with_lines}

@@ -1,4 +1,4 @@
-use Rattle.std.proofs.Common.{rules, ◌≡◌, ◌≤◌, List, Err, Ok, ap, arith, length, subst, sym, ◌∙◌, ℕ}
+use Rattle.std.proofs.Common.{rules, ◌≡◌, ◌≤◌, List, Err, Ok, length, subst, ◌∙◌, ℕ}
 use Rattle.cf_asdu.specs.Asdu.{Reads, asdu_value, station_of}
 use Rattle.cf_lane.proofs.Asdus.{fate_of_read, fate_of_unread}
 use Rattle.cf_lane.proofs.iec104.judge.judge_asdu.Goals as goal

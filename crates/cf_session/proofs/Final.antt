@@ -1,0 +1,246 @@
+-- The second half of an event of a session, whole.
+use Rattle.std.proofs.Common.{◌≡◌, ℕ, ◌+◌, Bool, true, false, not, cond, ◌&&◌, List, [], ◌∷◌, ◌++◌, length, drop, inl, inr, Option, Some, None, refl, sym, ap, ◌∙◌, subst}
+use Rattle.std.specs.Option.{is_some, option_or}
+use Rattle.std.proofs.lemmas.List.{append-nil}
+use Rattle.cf_audit.specs.Line.{Close, Cut as CutLine}
+use Rattle.cf_audit.specs.declared.CutReason.{CutReason}
+use Rattle.cf_audit.specs.declared.CutReason.TheVariants as reason
+use Rattle.cf_lane.specs.Handled.{LaneValue}
+use Rattle.cf_lane.specs.Log.{line_about}
+use Rattle.cf_leg.specs.Event.{Came, Cut, LegEvent, Spoke, Unspoken, greeted_by, is_idle, moment}
+use Rattle.cf_leg.specs.Heard.{offers, opened}
+use Rattle.cf_leg.specs.Told.{is_greeted}
+use Rattle.cf_leg.specs.LegValue.{IsLegOf, LegValue, Marks}
+use Rattle.cf_leg.specs.declared.LegAnswer.{LegAnswer}
+use Rattle.cf_outq.specs.SendQueue.{IsQueueOf, Queue, queue_length}
+use Rattle.cf_packet.specs.Packet.{PacketValue}
+use Rattle.cf_policy.specs.declared.Asset.{Asset}
+use Rattle.cf_rebuild.specs.ReceiveWindow.{Window, base_of}
+use Rattle.cf_stream.specs.FirstCopy.{IsTaken, first_copy}
+use Rattle.cf_stream.specs.Stream.{Stream, letter_count}
+use Rattle.cf_view.specs.declared.Endpoint.{Endpoint}
+use Rattle.cf_view.specs.declared.Side.{Side}
+use Rattle.cf_view.specs.declared.Side.TheVariants as side
+use Rattle.cf_session.proofs.Assembled.{came_cut, came_due, greeted_after, greeted_before, has_packet, is_half, later_line, new_is, rsts_are, sent_is}
+use Rattle.cf_session.proofs.Counts.{admitted_is, refused_is}
+use Rattle.cf_session.proofs.Events.{heard_is_packet, is_event}
+use Rattle.cf_session.proofs.Heards.{Suits, are_taken, cut_is, done_is, ended_as, room_is, tick_closed}
+use Rattle.cf_session.proofs.Legs.{right_of}
+use Rattle.cf_session.proofs.Telling.{then_told}
+use Rattle.cf_session.specs.Cuts.{cut_by, is_reset, limit_by, packet_cut}
+use Rattle.cf_session.specs.Event.{AreEvents, IsPacket, IsTick, came_controller, is_none}
+use Rattle.cf_session.specs.Parts.{AreParts, IsLaneAfter, IsLegBetween, SessionValue, rests}
+use Rattle.cf_session.specs.Sent.{at, first_line, last_line, late, line, logged_second, new_lines, sent_second}
+use Rattle.cf_session.specs.Session.{Flow, SessionEvent, client_ends, client_of, clients, closed_at, controller_ends, controllers, has_room, history, is_closed, was_closed, work_of}
+use Rattle.cf_session.specs.Stands.{CountsAs, Hears, HearsBy, IsSessionOf, Lives, life_by}
+use Rattle.cf_session.specs.Told.{Told, with_both}
+use Rattle.cf_session.specs.Turn.{CutsBoth, HeardBy, IsHalf, OnlySpeaks, SaysBoth, came_first, came_greeted, closing_lines, greetings, heard_event, heard_half, is_acknowledged, is_done_now, number_by, roomy_by}
+use Rattle.cf_session.specs.Work.{Work, Works}
+
+abbrev pub BaseCounts : Type 0
+BaseCounts = (leg : LegValue) (m : Marks) (xs : List LegEvent) (st : Stream) → IsLegOf leg m xs → IsTaken (first_copy (offers leg.ends.role xs)) st → base_of leg.window ≡ letter_count st
+
+works_of : (asset : Asset) (client : Endpoint) (lane : LaneValue) (r : _) (h : _) (w : Work) → IsLaneAfter asset client lane r h w → Works asset client h w
+works_of asset client lane r h w l = record { judged = l.judged; are_judged = l.are_judged; is_work = l.is_work }
+
+abbrev quiet : Bool → Came → PacketValue → List PacketValue
+quiet b came rst = greeted_by came ++ cond b [] (rst ∷ [])
+
+module _ (f : Flow) (es : List SessionEvent) (t : SessionEvent) (s0 : SessionValue) (stands : IsSessionOf f es t s0) (tick : IsTick f es t.client.tick t)
+    (s : Side) (p : PacketValue) (s1 : SessionValue) (given : LegAnswer) (cut : Option CutReason) (t0 t1 : Told) (h : HeardBy f es t s p s1 given cut t0 t1)
+    (was_limit : s1.limit ≡ s0.limit) (was_source : s1.source ≡ s0.source) (was_closing : s1.closed ≡ s0.closed) (law : BaseCounts)
+    (now : ℕ) (is_now : moment t.client ≡ now) where
+  abbrev number : Option ℕ
+  number = number_by s given p.seq
+
+  closed_before : s1.closed ≡ closed_at f es
+  closed_before = was_closing ∙ stands.closed ∙ tick_closed f es t tick
+
+  was : is_some s1.closed ≡ was_closed f es
+  was = ap is_some closed_before
+
+  greeted_early : is_greeted (clients es) ≡ opened (controller_ends f).role (controllers es)
+  greeted_early = greeted_before f es t (is_half f es t s0 stands tick) stands.greeted
+
+  lines_are : (e : SessionEvent) → e.work ≡ h.work → first_line f es e ++ new_lines es e ≡ h.lines
+  lines_are e same =
+      ap (λ xs. xs ++ new_lines es e) (later_line f s0.limit es t e stands.events tick)
+      ∙ ap (λ (w : Work). drop (length (work_of es).log) w.log) same
+      ∙ new_is (work_of es) h.work h.lines (h.log_is ∙ ap (λ (w : Work). w.log ++ h.lines) tick.work)
+
+  -- ---- the event cuts the session
+  module _ (r : CutReason) (because : Some r ≡ cut_by (is_some s1.closed) (is_reset given) s cut (limit_by s1.limit (base_of s1.client.window) (base_of s1.controller.window) (queue_length s1.to_client) (queue_length s1.to_controller)))
+      (t2 : Told) (cuts : CutsBoth f (controllers es) (clients es) (heard_half t s p h.letters h.work).controller (heard_half t s p h.letters h.work).client now r t1 t2) where
+    loud : (is_idle (came_controller s p) && is_idle (came_first s p)) ≡ false
+    loud = has_packet f s p None
+
+    abbrev pub cut_event : SessionEvent
+    cut_event = ended_as f es t s p s1 given cut t0 t1 h (Some r) None (Cut cuts.to_controller) (Cut cuts.to_client)
+
+    cut_here : Some r ≡ packet_cut f s0.limit es cut_event
+    cut_here = because ∙ cut_is f es t s p s1 given cut t0 t1 h (Some r) None (inl refl) (Cut cuts.to_controller) (Cut cuts.to_client) law s1.limit (is_some s1.closed) was
+        ∙ ap (λ n. packet_cut f n es cut_event) was_limit
+
+    cut_packet : IsPacket f s0.limit es t s p cut_event
+    cut_packet = heard_is_packet f s0.limit es t tick.fed s p h.letters h.work (Some r) (came_controller s p) (came_first s p) (Cut cuts.to_controller) (Cut cuts.to_client)
+        refl (came_cut f es t s p (Cut cuts.to_controller)) cuts.controller_right cuts.client_right
+        (are_taken f es t s p s1 given cut t0 t1 h (Some r) None (inl refl) (Cut cuts.to_controller) (Cut cuts.to_client)) h.unended
+        (works_of f.asset (client_of f) s1.lane _ _ h.work h.parts.lane) cut_here (cuts.to_controller, refl) (cuts.to_client, refl)
+
+    last_cut : last_line f es cut_event (Some r) ≡ line f now (CutLine r) ∷ []
+    last_cut = ap (λ b. cond b [] (line f (moment t.client) (CutLine r) ∷ [])) loud ∙ ap (λ n. line f n (CutLine r) ∷ []) is_now
+
+    sent_cut : at now (cuts.to_controller ∷ cuts.to_client ∷ []) ≡ sent_second cut_event
+    sent_cut =
+        ap (λ n. at n (cuts.to_controller ∷ cuts.to_client ∷ [])) (sym is_now)
+        ∙ ap (λ xs. at (moment t.client) xs) (sym (rsts_are t s p cuts.to_controller cuts.to_client))
+        ∙ ap (λ b. at (moment t.client) (quiet b (came_controller s p) cuts.to_controller ++ quiet b (came_first s p) cuts.to_client)) (sym loud)
+
+    pub hears_cut : Hears f s0.limit es t s p t0 t2 cut_event
+    hears_cut = record {
+      is_packet = cut_packet;
+      told = then_told t0 t1 t2 [] (at now (cuts.to_controller ∷ cuts.to_client ∷ [])) h.lines (line f now (CutLine r) ∷ []) h.told cuts.told
+          ∙ ap (λ xs. with_both t0 xs (h.lines ++ line f now (CutLine r) ∷ [])) sent_cut
+          ∙ ap (λ xs. with_both t0 (sent_second cut_event) (xs ++ line f now (CutLine r) ∷ [])) (sym (lines_are cut_event refl))
+          ∙ ap (λ xs. with_both t0 (sent_second cut_event) ((first_line f es cut_event ++ new_lines es cut_event) ++ xs)) (sym last_cut);
+    }
+
+    pub counts_cut : (y : SessionValue) → y.lane ≡ s1.lane → CountsAs cut_event y
+    counts_cut y same = record {
+      admitted = ap (λ (l : LaneValue). l.admitted) same ∙ admitted_is f.asset (client_of f) s1.lane _ _ h.work s1.to_client s1.to_controller h.parts.lane h.parts.to_client h.parts.to_controller;
+      refused = ap (λ (l : LaneValue). l.refused) same ∙ refused_is f.asset (client_of f) s1.lane _ _ h.work s1.to_client s1.to_controller h.parts.lane h.parts.to_client h.parts.to_controller;
+    }
+
+  -- ---- the session goes on
+  module _ (because : None ≡ cut_by (is_some s1.closed) (is_reset given) s cut (limit_by s1.limit (base_of s1.client.window) (base_of s1.controller.window) (queue_length s1.to_client) (queue_length s1.to_controller))) (uncut : cut ≡ None)
+      (s2 s3 : SessionValue) (t2 t3 : Told)
+      (says : SaysBoth f now number (heard_half t s p h.letters h.work).controller (controllers es) (heard_half t s p h.letters h.work).client (clients es) h.work.to_client h.work.to_controller (roomy_by s1.to_client s1.to_controller) s2 t1 t2)
+      (only : OnlySpeaks s1 s2) (queue_c : IsQueueOf s2.to_client h.work.to_client) (queue_k : IsQueueOf s2.to_controller h.work.to_controller)
+      (same : s3 ≡ record s2 { closed = s3.closed }) (closing : s3.closed ≡ option_or s2.closed (cond (is_done_now s2) (Some now) None))
+      (asset : Asset) (is : f.asset ≡ asset) (put : t3 ≡ with_both t2 [] (closing_lines asset s2 now)) where
+    abbrev roomy : Bool
+    roomy = roomy_by s1.to_client s1.to_controller
+
+    abbrev pub live_event : SessionEvent
+    live_event = ended_as f es t s p s1 given cut t0 t1 h None number (Spoke h.work.to_controller roomy says.outs_c) (Spoke h.work.to_client roomy says.outs_d)
+
+    fits : Suits s given p.seq number
+    fits = inr refl
+
+    none_here : None ≡ packet_cut f s0.limit es live_event
+    none_here = because ∙ cut_is f es t s p s1 given cut t0 t1 h None number fits (Spoke h.work.to_controller roomy says.outs_c) (Spoke h.work.to_client roomy says.outs_d) law s1.limit (is_some s1.closed) was
+        ∙ ap (λ n. packet_cut f n es live_event) was_limit
+
+    has_room_is : roomy ≡ has_room f (live_event ∷ es)
+    has_room_is = room_is f es t s p s1 given cut t0 t1 h None number fits (Spoke h.work.to_controller roomy says.outs_c) (Spoke h.work.to_client roomy says.outs_d)
+
+    live_packet : IsPacket f s0.limit es t s p live_event
+    live_packet = heard_is_packet f s0.limit es t tick.fed s p h.letters h.work None (came_controller s p) (came_greeted f number (came_first s p)) (Spoke h.work.to_controller roomy says.outs_c) (Spoke h.work.to_client roomy says.outs_d)
+        refl (came_due f es t s p given (Spoke h.work.to_controller roomy says.outs_c) h.answer_is)
+        (right_of (controller_ends f) s2.controller s2.to_controller live_event.controller (controllers es) says.controller_stands)
+        (right_of (client_ends f) s2.client s2.to_client live_event.client (clients es) says.client_stands)
+        (are_taken f es t s p s1 given cut t0 t1 h None number fits (Spoke h.work.to_controller roomy says.outs_c) (Spoke h.work.to_client roomy says.outs_d)) h.unended
+        (works_of f.asset (client_of f) s1.lane _ _ h.work h.parts.lane) none_here
+        (says.outs_c, ap (λ b. Spoke h.work.to_controller b says.outs_c) has_room_is) (says.outs_d, ap (λ b. Spoke h.work.to_client b says.outs_d) has_room_is)
+
+    -- ---- closing
+
+    done_same : is_done_now s2 ≡ is_done_now s1
+    done_same =
+        ap (λ (w : Window). (w.ended && s2.controller.window.ended) && (is_acknowledged s2.to_client && is_acknowledged s2.to_controller)) only.client_window
+        ∙ ap (λ (w : Window). (s1.client.window.ended && w.ended) && (is_acknowledged s2.to_client && is_acknowledged s2.to_controller)) only.controller_window
+        ∙ ap (λ (q : Queue). (s1.client.window.ended && s1.controller.window.ended) && (is_acknowledged q && is_acknowledged s2.to_controller)) only.to_client
+        ∙ ap (λ (q : Queue). (s1.client.window.ended && s1.controller.window.ended) && (is_acknowledged s1.to_client && is_acknowledged q)) only.to_controller
+
+    done_closed : is_done_now s2 ≡ is_closed f (live_event ∷ es)
+    done_closed = done_same ∙ done_is f es t s p s1 given cut t0 t1 h None number fits (Spoke h.work.to_controller roomy says.outs_c) (Spoke h.work.to_client roomy says.outs_d)
+
+    closed_two : s2.closed ≡ closed_at f es
+    closed_two = ap (λ (x : SessionValue). x.closed) only.rest ∙ closed_before
+
+    pub closed_three : s3.closed ≡ closed_at f (live_event ∷ es)
+    closed_three =
+        closing ∙ ap (λ o. option_or o (cond (is_done_now s2) (Some now) None)) closed_two
+        ∙ ap (λ b. option_or (closed_at f es) (cond b (Some now) None)) done_closed
+        ∙ ap (λ n. option_or (closed_at f es) (cond (is_closed f (live_event ∷ es)) (Some n) None)) (sym is_now)
+
+    source_two : s2.source ≡ client_of f
+    source_two = ap (λ (x : SessionValue). x.source) only.rest ∙ was_source ∙ stands.source
+
+    lane_two : s2.lane ≡ s1.lane
+    lane_two = ap (λ (x : SessionValue). x.lane) only.rest
+
+    close_line : closing_lines asset s2 now ≡ last_line f es live_event None
+    close_line =
+        ap (λ b. cond (b && not (is_some s2.closed)) (line_about asset s2.source now (Close s2.lane.admitted s2.lane.refused) ∷ []) []) done_closed
+        ∙ ap (λ o. cond (is_closed f (live_event ∷ es) && not (is_some o)) (line_about asset s2.source now (Close s2.lane.admitted s2.lane.refused) ∷ []) []) closed_two
+        ∙ ap (λ l. cond (is_closed f (live_event ∷ es) && not (was_closed f es)) (l ∷ []) [])
+        (ap (λ (a : Asset). line_about a s2.source now (Close s2.lane.admitted s2.lane.refused)) (sym is)
+        ∙ ap (λ (e : Endpoint). line_about f.asset e now (Close s2.lane.admitted s2.lane.refused)) source_two
+        ∙ ap (λ n. line_about f.asset (client_of f) n (Close s2.lane.admitted s2.lane.refused)) (sym is_now)
+        ∙ ap (λ (l : LaneValue). line_about f.asset (client_of f) (moment t.client) (Close l.admitted l.refused)) lane_two
+        ∙ ap (λ n. line_about f.asset (client_of f) (moment t.client) (Close n s1.lane.refused)) (admitted_is f.asset (client_of f) s1.lane _ _ h.work s1.to_client s1.to_controller h.parts.lane h.parts.to_client h.parts.to_controller)
+        ∙ ap (λ n. line_about f.asset (client_of f) (moment t.client) (Close h.work.admitted n)) (refused_is f.asset (client_of f) s1.lane _ _ h.work s1.to_client s1.to_controller h.parts.lane h.parts.to_client h.parts.to_controller))
+
+    -- ---- what is told
+
+    abbrev outs : List PacketValue
+    outs = says.outs_c ++ (greetings f number ++ says.outs_d)
+
+    sent_live : at now outs ≡ sent_second live_event
+    sent_live =
+        ap (λ n. at n outs) (sym is_now) ∙ ap (at (moment t.client)) (sent_is f t s p given h.work.to_client h.work.to_controller roomy says.outs_c says.outs_d)
+        ∙ ap (λ b. at (moment t.client) (late b live_event.controller ++ late b live_event.client)) (sym (has_packet f s p number))
+
+    pub hears_live : Hears f s0.limit es t s p t0 t3 live_event
+    hears_live = record {
+      is_packet = live_packet;
+      told = then_told t0 t1 t3 [] (at now outs ++ []) h.lines ([] ++ closing_lines asset s2 now) h.told (then_told t1 t2 t3 (at now outs) [] [] (closing_lines asset s2 now) says.told put)
+          ∙ ap (λ xs. with_both t0 xs (h.lines ++ closing_lines asset s2 now)) (append-nil (at now outs) ∙ sent_live)
+          ∙ ap (λ xs. with_both t0 (sent_second live_event) (xs ++ closing_lines asset s2 now)) (sym (lines_are live_event refl))
+          ∙ ap (λ xs. with_both t0 (sent_second live_event) ((first_line f es live_event ++ new_lines es live_event) ++ xs)) close_line;
+    }
+
+    -- ---- what stands in memory
+
+    stands_two : AreParts f es live_event s2
+    stands_two = record {
+      client = says.client_stands;
+      controller = says.controller_stands;
+      lane = subst (λ (l : LaneValue). IsLaneAfter f.asset (client_of f) l (rests s2) (history (live_event ∷ es)) h.work) (sym lane_two)
+          (subst (λ (w : Window). IsLaneAfter f.asset (client_of f) s1.lane (record { client = w.pending; controller = s2.controller.window.pending }) (history (live_event ∷ es)) h.work) (sym only.client_window)
+          (subst (λ (w : Window). IsLaneAfter f.asset (client_of f) s1.lane (record { client = s1.client.window.pending; controller = w.pending }) (history (live_event ∷ es)) h.work) (sym only.controller_window) h.parts.lane));
+      to_client = queue_c;
+      to_controller = queue_k;
+      taken = are_taken f es t s p s1 given cut t0 t1 h None number fits (Spoke h.work.to_controller roomy says.outs_c) (Spoke h.work.to_client roomy says.outs_d);
+    }
+
+    limit_two : s2.limit ≡ s0.limit
+    limit_two = ap (λ (x : SessionValue). x.limit) only.rest ∙ was_limit
+
+    pub stands_three : IsSessionOf f es live_event (record s2 { closed = s3.closed })
+    stands_three = record {
+      parts = record {
+        client = stands_two.client;
+        controller = stands_two.controller;
+        lane = stands_two.lane;
+        to_client = stands_two.to_client;
+        to_controller = stands_two.to_controller;
+        taken = stands_two.taken;
+      };
+      events = (subst (λ n. AreEvents f n (live_event ∷ es)) (sym limit_two) (is_event f s0.limit es t s p live_event stands.events tick stands.going live_packet, stands.events.1));
+      closed = closed_three;
+      going = refl;
+      uncut = h.cut_is ∙ uncut;
+      source = source_two;
+      over = record { client = refl; controller = refl; to_client = refl; to_controller = refl };
+      greeted = greeted_after f es t s p given (Spoke h.work.to_controller roomy says.outs_c) (Spoke h.work.to_client roomy says.outs_d) h.answer_is greeted_early;
+    }
+
+    pub lives_three : IsSessionOf f es live_event s3
+    lives_three = subst (IsSessionOf f es live_event) (sym same) stands_three
+
+pub hears_by : (f : Flow) (limit : ℕ) (es : List SessionEvent) (t : SessionEvent) (s : Side) (p : PacketValue) (y : SessionValue) (old new : Told) (closed : Option ℕ) (e : SessionEvent) → Hears f limit es t s p old new e → IsSessionOf f es e y →
+    closed ≡ closed_at f (e ∷ es) → HearsBy f limit es t s p y old new (life_by closed)
+hears_by f limit es t s p y old new None e h st c = (e, h, record { stands = st; is_closed = sym (ap is_some c) })
+hears_by f limit es t s p y old new (Some m) e h st c = (e, h, record { stands = st; is_closed = sym (ap is_some c) })

@@ -1,0 +1,75 @@
+-- The client is greeted.
+use Rattle.std.proofs.Common.{◌≡◌, ℕ, Bool, true, false, not, List, [], ◌∷◌, Option, Some, None, refl, sym, ap, ◌∙◌, subst}
+use Rattle.std.specs.Option.{is_some, option_or}
+use Rattle.std.proofs.lemmas.Bool.{cases_Bool, false≢true, true≢false}
+use Rattle.std.proofs.Common.{inl, inr}
+use Rattle.cf_leg.specs.Calls.{Greeted, IsOwn, is_greeted_phase}
+use Rattle.cf_leg.specs.Emits.{IsGreeting, IsRight, syn_ack_for}
+use Rattle.cf_leg.specs.Emitted.{with_segments}
+use Rattle.cf_leg.specs.Event.{Came, Greeting, LegEvent, Nothing, Unspoken, moment}
+use Rattle.cf_leg.specs.Heard.{opened}
+use Rattle.cf_leg.specs.LegValue.{IsLegOf, LegValue, marks, phase_of}
+use Rattle.cf_leg.specs.Told.{greeting, is_greeted, own_number, seq_of}
+use Rattle.cf_leg.specs.declared.Ends.{Ends}
+use Rattle.cf_leg.specs.declared.Phase.TheVariants as phase
+use Rattle.cf_leg.specs.declared.Role.{Role}
+use Rattle.cf_leg.specs.declared.Role.TheVariants as role
+use Rattle.cf_outq.specs.SendQueue.{Queue}
+use Rattle.cf_outside.specs.Desk.{SentValue}
+use Rattle.cf_packet.specs.Packet.{PacketValue}
+use Rattle.cf_session.specs.Parts.{IsLegBetween, IsPassive}
+use Rattle.cf_session.specs.Session.{Flow, client_ends}
+
+pub own_of : (r : Role) (n : ℕ) → IsPassive r → IsOwn r n
+own_of (role.Active own) n h = absurd h
+own_of (role.Passive other mss) n h = tt
+
+none_greeted : (o : Option PacketValue) → is_some o ≡ false → o ≡ None
+none_greeted None e = refl
+none_greeted (Some p) e = absurd (true≢false e)
+
+pub nothing_came : (ends : Ends) (leg : LegValue) (q : Queue) (d : LegEvent) (ds : List LegEvent) → d.came ≡ Nothing → IsLegBetween ends leg q (record d { ending = Unspoken } ∷ ds) → IsLegBetween ends leg q (record d { came = Nothing; ending = Unspoken } ∷ ds)
+nothing_came ends leg q d ds e h = subst (λ (x : Came). IsLegBetween ends leg q (record d { came = x; ending = Unspoken } ∷ ds)) e h
+
+-- ---- a leg that was not greeted is made
+
+abbrev pub OpenLegsHaveGreeted : Type 0
+OpenLegsHaveGreeted = (r : Role) (es : List LegEvent) → opened r es ≡ true → is_greeted es ≡ true
+
+not_open : (law : OpenLegsHaveGreeted) (r : Role) (es : List LegEvent) → is_greeted es ≡ false → opened r es ≡ false
+not_open law r es e = elim (cases_Bool (opened r es)) [ inl b ↦ absurd (true≢false (sym (law r es b) ∙ e)) | inr b ↦ b ]
+
+module _ (law : OpenLegsHaveGreeted) (ends : Ends) (leg : LegValue) (q : Queue) (d : LegEvent) (ds : List LegEvent) (none : d.came ≡ Nothing) (ungreeted : is_greeted ds ≡ false) (s : IsLegBetween ends leg q (record d { ending = Unspoken } ∷ ds)) where
+  abbrev e : LegEvent
+  e = record d { came = Nothing; ending = Unspoken }
+
+  still : is_greeted (e ∷ ds) ≡ false
+  still = ap (λ o. is_some (option_or o None)) (none_greeted (greeting ds) ungreeted)
+
+  pub made_phase : is_greeted_phase leg.phase ≡ false
+  made_phase =
+      let h = nothing_came ends leg q d ds none s in
+      ap is_greeted_phase (h.stands.of_phase ∙ ap (λ b. phase_of b (is_greeted (e ∷ ds))) (not_open law leg.ends.role (e ∷ ds) still) ∙ ap (phase_of false) still)
+
+  module _ (flow : Flow) (is : ends ≡ client_ends flow) (n now : ℕ) (new : LegValue) (b a : Option (List SentValue)) (g : Greeted now leg new b a) (same : new.ends ≡ leg.ends) (own : new.own ≡ n) (at : now ≡ moment d) where
+    st : IsLegOf new (marks q) (record d { came = Greeting g.out; ending = Unspoken } ∷ ds)
+    st = g.stands (marks q) d ds at (nothing_came ends leg q d ds none s).stands
+
+    ends_is : new.ends ≡ client_ends flow
+    ends_is = same ∙ s.is ∙ is
+
+    right : IsRight (client_ends flow) ds (record d { came = Greeting g.out; ending = Unspoken })
+    right = subst (λ x. IsRight x ds (record d { came = Greeting g.out; ending = Unspoken })) ends_is st.of_right.0
+
+    number : g.out.seq ≡ n
+    number = sym (ap (λ o. seq_of (option_or o (Some g.out))) (none_greeted (greeting ds) ungreeted))
+        ∙ sym (ap (λ (x : Ends). own_number x.role (record d { came = Greeting g.out; ending = Unspoken } ∷ ds)) ends_is) ∙ sym st.of_own ∙ own
+
+    pub out_is : g.out ≡ syn_ack_for (client_ends flow) flow.syn.seq n
+    out_is = right.came.0 ∙ ap (syn_ack_for (client_ends flow) flow.syn.seq) number
+
+    pub greeted_stands : IsLegBetween (client_ends flow) new q (record d { came = Greeting (syn_ack_for (client_ends flow) flow.syn.seq n); ending = Unspoken } ∷ ds)
+    greeted_stands = record { is = ends_is; stands = subst (λ p. IsLegOf new (marks q) (record d { came = Greeting p; ending = Unspoken } ∷ ds)) out_is st }
+
+    pub greeted_packets : a ≡ with_segments b now (syn_ack_for (client_ends flow) flow.syn.seq n ∷ [])
+    greeted_packets = g.packets ∙ ap (λ p. with_segments b now (p ∷ [])) out_is

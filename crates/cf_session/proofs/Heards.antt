@@ -1,0 +1,238 @@
+-- The second half of an event of a session: what a packet of a side fixes, however the event ends.
+use Rattle.std.proofs.Common.{◌≡◌, ℕ, ◌+◌, ◌-◌, ◌==◌, ◌<◌, ◌≤◌, Bool, true, false, not, cond, ◌&&◌, ◌||◌, List, [], ◌∷◌, ◌++◌, length, ◌⊎◌, inl, inr, Option, Some, None, refl, sym, ap, ◌∙◌, subst, arith}
+use Rattle.std.specs.Prelude.{nat_le}
+use Rattle.std.specs.Option.{is_some, option_or}
+use Rattle.std.proofs.lemmas.Bool.{false≢true, true≢false}
+use Rattle.std.proofs.lemmas.List.{append-nil}
+use Rattle.cf_audit.specs.declared.CutReason.{CutReason}
+use Rattle.cf_audit.specs.declared.CutReason.TheVariants as reason
+use Rattle.cf_lane.specs.History.{Element, ended_of, taken}
+use Rattle.cf_leg.specs.Event.{Came, Ending, Greeting, LegEvent, Nothing, Packet, Unspoken, moment}
+use Rattle.cf_leg.specs.Heard.{acked, answer_to, end_state, first_answer, is_opening, offers, open_answer, opened, opening, reset_answer}
+use Rattle.cf_leg.specs.LegValue.{IsLegOf, LegValue, Marks, marks}
+use Rattle.cf_leg.specs.Segment.{has_ack, has_rst, has_syn}
+use Rattle.cf_leg.specs.Told.{greeting, is_greeted}
+use Rattle.cf_leg.specs.declared.EndState.{EndState}
+use Rattle.cf_leg.specs.declared.Ends.{Ends}
+use Rattle.cf_leg.specs.declared.LegAnswer.{LegAnswer}
+use Rattle.cf_leg.specs.declared.LegAnswer.TheVariants as answer
+use Rattle.cf_leg.specs.declared.Role.{Role}
+use Rattle.cf_outq.specs.SendQueue.{IsQueueOf, Queue, queue_length}
+use Rattle.cf_packet.specs.Packet.{PacketValue}
+use Rattle.cf_rebuild.specs.ReceiveWindow.{IsWindowOf, Window, base_of}
+use Rattle.cf_stream.proofs.Taken.{same_taken}
+use Rattle.cf_stream.specs.FirstCopy.{IsTaken, Offer, first_copy}
+use Rattle.cf_stream.specs.Stream.{Stream, letter_count}
+use Rattle.cf_view.specs.declared.Side.{Side}
+use Rattle.cf_view.specs.declared.Side.TheVariants as side
+use Rattle.cf_session.proofs.Events.{before_history}
+use Rattle.cf_session.specs.Cuts.{cut_by, is_reset, limit_by, limit_cut, packet_cut, reset_by, reset_cut, resets}
+use Rattle.cf_session.specs.Event.{AreTaken, IsTick, came_client, came_controller, is_none}
+use Rattle.cf_session.specs.Parts.{AreParts, IsLegBetween, SessionValue}
+use Rattle.cf_session.specs.Session.{Flow, SessionEvent, client_ends, client_of, clients, closed_at, controller_ends, controllers, has_room, history, is_closed, is_done, was_closed, work_of}
+use Rattle.cf_session.specs.Stands.{IsSessionOf}
+use Rattle.cf_session.specs.Told.{Told}
+use Rattle.cf_session.specs.Turn.{HeardBy, MayGreet, came_first, came_greeted, ends_of, heard_event, heard_half, is_acknowledged, is_done_now, leg_in, legs_of, number_by, roomy_by}
+use Rattle.cf_session.specs.Work.{Work}
+
+-- ---- a greeting changes nothing that reads packets alone
+
+pub hello_same : {X : Type 0} (F : Came → X) (f : Flow) (s : Side) (p : PacketValue) (given : LegAnswer) (n : ℕ) → ((q : PacketValue) → F (Greeting q) ≡ F Nothing) → F (came_greeted f (number_by s given n) (came_first s p)) ≡ F (came_first s p)
+hello_same F f side.Client p given n h = refl
+hello_same F f side.Controller p answer.Opened n h = h _
+hello_same F f side.Controller p answer.Counted n h = refl
+hello_same F f side.Controller p answer.Ignored n h = refl
+hello_same F f side.Controller p answer.Challenged n h = refl
+hello_same F f side.Controller p answer.Reset n h = refl
+
+-- the client was greeted as it is due, or not at all
+abbrev pub Suits : Side → LegAnswer → ℕ → Option ℕ → Type 0
+Suits s given n number = (number ≡ None) ⊎ (number ≡ number_by s given n)
+
+hello_any : {X : Type 0} (F : Came → X) (f : Flow) (s : Side) (p : PacketValue) (given : LegAnswer) (n : ℕ) (number : Option ℕ) → Suits s given n number → ((q : PacketValue) → F (Greeting q) ≡ F Nothing) → F (came_greeted f number (came_first s p)) ≡ F (came_first s p)
+hello_any F f s p given n number (inl e) h = ap (λ m. F (came_greeted f m (came_first s p))) e
+hello_any F f s p given n number (inr e) h = ap (λ m. F (came_greeted f m (came_first s p))) e ∙ hello_same F f s p given n h
+
+-- ---- numbers
+
+pub length_is : (q : Queue) (s : Stream) → IsQueueOf q s → queue_length q ≡ letter_count s
+length_is q s h = ap (λ n. n + cond q.ended 1 0) h.pushed ∙ ap (λ b. length s.bytes + cond b 1 0) h.ended
+
+all_acked : (a n : ℕ) → a ≤ n → ((n - a) == 0) ≡ (a == n)
+all_acked a n h = grind arith
+
+pub acknowledged_is : (q : Queue) (w : Stream) (a : ℕ) → IsQueueOf q w → q.acked ≡ a → is_acknowledged q ≡ is_done w a
+acknowledged_is q w a h e =
+    let below : q.acked ≤ letter_count w = (let x = h.acked in let y = h.sent in omega (arith, x, y)) in
+    ap (λ b. b && ((queue_length q - q.acked) == 0)) h.ended
+    ∙ ap (λ n. w.ended && ((n - q.acked) == 0)) (length_is q w h)
+    ∙ ap (λ b. w.ended && b) (all_acked q.acked (letter_count w) below)
+    ∙ ap (λ n. w.ended && (n == letter_count w)) e
+
+pub window_ended : (w : Window) (os : List Offer) (t : Stream) → IsWindowOf w os → IsTaken (first_copy os) t → w.ended ≡ t.ended
+window_ended w os t h g = h.ended ∙ ap (λ (s : Stream). s.ended) (same_taken (first_copy os) h.taken t h.is_taken g)
+
+-- ---- an open leg does not open
+
+not_opened : (a b c d e : Bool) (x : LegAnswer) → is_opening x ≡ false → is_opening (cond a x (cond b answer.Challenged (cond c answer.Ignored (cond d answer.Challenged (cond e answer.Challenged answer.Counted))))) ≡ false
+not_opened true b c d e x h = h
+not_opened false true c d e x h = refl
+not_opened false false true d e x h = refl
+not_opened false false false true e x h = refl
+not_opened false false false false true x h = refl
+not_opened false false false false false x h = refl
+
+not_reset : (a b : Bool) → is_opening (cond a answer.Reset (cond b answer.Challenged answer.Ignored)) ≡ false
+not_reset true b = refl
+not_reset false true = refl
+not_reset false false = refl
+
+open_stays : (at : EndState) (p : PacketValue) → is_opening (open_answer at p) ≡ false
+open_stays at p = not_opened (has_rst p) (has_syn p) (not (has_ack p)) _ _ _ (not_reset _ _)
+
+by_open : (is_open : Bool) (at : EndState) (p : PacketValue) → is_opening (cond is_open (open_answer at p) (first_answer at p)) ≡ true → is_open ≡ false
+by_open true at p h = absurd (false≢true (sym (open_stays at p) ∙ h))
+by_open false at p h = refl
+
+pub opens_once : (r : Role) (es : List LegEvent) (e : LegEvent) (p : PacketValue) → is_opening (answer_to (end_state r es e) p) ≡ true → opened r es ≡ false
+opens_once r es e p h = by_open (opened r es) (end_state r es e) p h
+
+-- ---- the event
+
+or_nothing : (b : Bool) → (b || false) ≡ b
+or_nothing true = refl
+or_nothing false = refl
+
+or_none : {A : Type 0} (o : Option A) → option_or o None ≡ o
+or_none None = refl
+or_none (Some x) = refl
+
+later_closed : (before : Option ℕ) (closed : Bool) (m n : ℕ) → option_or (option_or before (cond closed (Some m) None)) (cond closed (Some n) None) ≡ option_or before (cond closed (Some m) None)
+later_closed (Some k) closed m n = refl
+later_closed None true m n = refl
+later_closed None false m n = refl
+
+-- a first half closes nothing
+module _ (f : Flow) (es : List SessionEvent) (t : SessionEvent) (tick : IsTick f es t.client.tick t) where
+  abbrev closed_by : List Element → Work → ℕ → ℕ → Bool
+  closed_by h w a b = (ended_of side.Client h && ended_of side.Controller h) && (is_done w.to_client a && is_done w.to_controller b)
+
+  same_closed : is_closed f (t ∷ es) ≡ is_closed f es
+  same_closed =
+      ap (λ h. closed_by h t.work (acked (client_ends f).role (t.client ∷ clients es)) (acked (controller_ends f).role (t.controller ∷ controllers es))) (before_history es t tick.fed)
+      ∙ ap (λ w. closed_by (history es) w (acked (client_ends f).role (t.client ∷ clients es)) (acked (controller_ends f).role (t.controller ∷ controllers es))) tick.work
+      ∙ ap (λ (x : Came). closed_by (history es) (work_of es) (acked (client_ends f).role (record t.client { came = x } ∷ clients es)) (acked (controller_ends f).role (t.controller ∷ controllers es))) tick.client_came
+      ∙ ap (λ (x : Came). closed_by (history es) (work_of es) (acked (client_ends f).role (clients es)) (acked (controller_ends f).role (record t.controller { came = x } ∷ controllers es))) tick.controller_came
+
+pub tick_closed : (f : Flow) (es : List SessionEvent) (t : SessionEvent) → IsTick f es t.client.tick t → closed_at f (t ∷ es) ≡ closed_at f es
+tick_closed f [] t tick = ap (λ b. cond b (Some (moment t.client)) None) (same_closed f [] t tick)
+tick_closed f (e0 ∷ es0) t tick =
+    ap (λ b. option_or (closed_at f (e0 ∷ es0)) (cond b (Some (moment t.client)) None)) (same_closed f (e0 ∷ es0) t tick)
+    ∙ later_closed (closed_at f es0) (is_closed f (e0 ∷ es0)) (moment e0.client) (moment t.client)
+
+only_none : (given : LegAnswer) (n : ℕ) (number : Option ℕ) → Suits side.Client given n number → number ≡ None
+only_none given n number (inl e) = e
+only_none given n number (inr e) = e
+
+-- ---- what resets
+
+reset_client : (b : Bool) → cond b (Some reason.ResetByClient) (cond false (Some reason.ResetByController) None) ≡ cond b (Some (reset_by side.Client)) None
+reset_client true = refl
+reset_client false = refl
+
+resets_is : (f : Flow) (es : List SessionEvent) (t : SessionEvent) (s : Side) (p : PacketValue) (letters : Stream) (w : Work) (given : LegAnswer) (why : Option CutReason) (number : Option ℕ) → Suits s given p.seq number → (x y : Ending) →
+    given ≡ answer_to (end_state (ends_of f s).role (legs_of s es) (leg_in s t)) p →
+    reset_cut f es (heard_event t s letters w why (came_controller s p) (came_greeted f number (came_first s p)) x y) ≡ cond (is_reset given) (Some (reset_by s)) None
+resets_is f es t side.Client p letters w given why number suits x y e =
+    ap (λ m. reset_cut f es (heard_event t side.Client letters w why Nothing (came_greeted f m (Packet p)) x y)) (only_none given p.seq number suits)
+    ∙ reset_client _ ∙ ap (λ a. cond (is_reset a) (Some (reset_by side.Client)) None) (sym e)
+resets_is f es t side.Controller p letters w given why number suits x y e =
+    ap (λ b. cond b (Some reason.ResetByClient) (cond (is_reset (answer_to (end_state (controller_ends f).role (controllers es) t.controller) p)) (Some reason.ResetByController) None))
+    (hello_any (λ c. resets (client_ends f).role (clients es) (record t.client { came = c; ending = y }) c) f side.Controller p given p.seq number suits (λ q. refl))
+    ∙ ap (λ a. cond (is_reset a) (Some (reset_by side.Controller)) None) (sym e)
+
+module _ (f : Flow) (es : List SessionEvent) (t : SessionEvent) (s : Side) (p : PacketValue) (s1 : SessionValue) (given : LegAnswer) (cut : Option CutReason) (t0 t1 : Told) (h : HeardBy f es t s p s1 given cut t0 t1) where
+  abbrev half : SessionEvent
+  half = heard_half t s p h.letters h.work
+
+  -- the event, whether the client was greeted in it or not
+  abbrev pub ended_as : (why : Option CutReason) → Option ℕ → Ending → Ending → SessionEvent
+  ended_as why number x y = heard_event t s h.letters h.work why (came_controller s p) (came_greeted f number (came_first s p)) x y
+
+  module _ (why : Option CutReason) (number : Option ℕ) (suits : Suits s given p.seq number) (x y : Ending) where
+    abbrev event : SessionEvent
+    event = ended_as why number x y
+
+    pub same_offers : offers (client_ends f).role (clients (event ∷ es)) ≡ offers (client_ends f).role (clients (half ∷ es))
+    same_offers = hello_any (λ c. offers (client_ends f).role (record t.client { came = c; ending = Unspoken } ∷ clients es)) f s p given p.seq number suits (λ q. refl)
+
+    pub same_acked : acked (client_ends f).role (clients (event ∷ es)) ≡ acked (client_ends f).role (clients (half ∷ es))
+    same_acked = hello_any (λ c. acked (client_ends f).role (record t.client { came = c; ending = Unspoken } ∷ clients es)) f s p given p.seq number suits (λ q. refl)
+
+    pub are_taken : AreTaken f (event ∷ es)
+    are_taken = record {
+      client = subst (λ os. IsTaken (first_copy os) (taken side.Client (history (event ∷ es)))) (sym same_offers) h.parts.taken.client;
+      controller = h.parts.taken.controller;
+    }
+
+    -- ---- room
+
+    acked_client : s1.to_client.acked ≡ acked (client_ends f).role (clients (half ∷ es))
+    acked_client = subst (λ (n : Ends). s1.to_client.acked ≡ acked n.role (clients (half ∷ es))) h.parts.client.is h.parts.client.stands.of_acked
+
+    acked_controller : s1.to_controller.acked ≡ acked (controller_ends f).role (controllers (half ∷ es))
+    acked_controller = subst (λ (n : Ends). s1.to_controller.acked ≡ acked n.role (controllers (half ∷ es))) h.parts.controller.is h.parts.controller.stands.of_acked
+
+    pub room_is : roomy_by s1.to_client s1.to_controller ≡ has_room f (event ∷ es)
+    room_is =
+        ap (λ n. nat_le (n - s1.to_client.acked) 16384 && nat_le (queue_length s1.to_controller - s1.to_controller.acked) 16384) (length_is s1.to_client h.work.to_client h.parts.to_client)
+        ∙ ap (λ n. nat_le (letter_count h.work.to_client - n) 16384 && nat_le (queue_length s1.to_controller - s1.to_controller.acked) 16384) (acked_client ∙ sym same_acked)
+        ∙ ap (λ n. nat_le (letter_count h.work.to_client - acked (client_ends f).role (clients (event ∷ es))) 16384 && nat_le (n - s1.to_controller.acked) 16384) (length_is s1.to_controller h.work.to_controller h.parts.to_controller)
+        ∙ ap (λ n. nat_le (letter_count h.work.to_client - acked (client_ends f).role (clients (event ∷ es))) 16384 && nat_le (letter_count h.work.to_controller - n) 16384) acked_controller
+
+    -- ---- closing
+
+    client_ended : s1.client.window.ended ≡ ended_of side.Client (history (event ∷ es))
+    client_ended = window_ended s1.client.window _ (taken side.Client (history (half ∷ es))) h.parts.client.stands.of_window
+        (subst (λ (n : Ends). IsTaken (first_copy (offers n.role (clients (half ∷ es)))) (taken side.Client (history (half ∷ es)))) (sym h.parts.client.is) h.parts.taken.client)
+
+    controller_ended : s1.controller.window.ended ≡ ended_of side.Controller (history (event ∷ es))
+    controller_ended = window_ended s1.controller.window _ (taken side.Controller (history (half ∷ es))) h.parts.controller.stands.of_window
+        (subst (λ (n : Ends). IsTaken (first_copy (offers n.role (controllers (half ∷ es)))) (taken side.Controller (history (half ∷ es)))) (sym h.parts.controller.is) h.parts.taken.controller)
+
+    pub done_is : is_done_now s1 ≡ is_closed f (event ∷ es)
+    done_is =
+        ap (λ b. (b && s1.controller.window.ended) && (is_acknowledged s1.to_client && is_acknowledged s1.to_controller)) client_ended
+        ∙ ap (λ b. (ended_of side.Client (history (event ∷ es)) && b) && (is_acknowledged s1.to_client && is_acknowledged s1.to_controller)) controller_ended
+        ∙ ap (λ b. (ended_of side.Client (history (event ∷ es)) && ended_of side.Controller (history (event ∷ es))) && (b && is_acknowledged s1.to_controller))
+        (acknowledged_is s1.to_client h.work.to_client _ h.parts.to_client (acked_client ∙ sym same_acked))
+        ∙ ap (λ b. (ended_of side.Client (history (event ∷ es)) && ended_of side.Controller (history (event ∷ es))) && (is_done h.work.to_client (acked (client_ends f).role (clients (event ∷ es))) && b))
+        (acknowledged_is s1.to_controller h.work.to_controller _ h.parts.to_controller acked_controller)
+
+    -- ---- the cut
+
+    module _ (law : (leg : LegValue) (m : Marks) (xs : List LegEvent) (st : Stream) → IsLegOf leg m xs → IsTaken (first_copy (offers leg.ends.role xs)) st → base_of leg.window ≡ letter_count st) where
+      client_base : base_of s1.client.window ≡ letter_count (taken side.Client (history (event ∷ es)))
+      client_base = law s1.client (marks s1.to_client) (clients (half ∷ es)) (taken side.Client (history (event ∷ es))) h.parts.client.stands
+          (subst (λ (n : Ends). IsTaken (first_copy (offers n.role (clients (half ∷ es)))) (taken side.Client (history (half ∷ es)))) (sym h.parts.client.is) h.parts.taken.client)
+
+      controller_base : base_of s1.controller.window ≡ letter_count (taken side.Controller (history (event ∷ es)))
+      controller_base = law s1.controller (marks s1.to_controller) (controllers (half ∷ es)) (taken side.Controller (history (event ∷ es))) h.parts.controller.stands
+          (subst (λ (n : Ends). IsTaken (first_copy (offers n.role (controllers (half ∷ es)))) (taken side.Controller (history (half ∷ es)))) (sym h.parts.controller.is) h.parts.taken.controller)
+
+      full_is : (limit : ℕ) → limit_by limit (base_of s1.client.window) (base_of s1.controller.window) (queue_length s1.to_client) (queue_length s1.to_controller) ≡ limit_cut limit (history (event ∷ es)) h.work
+      full_is limit =
+          ap (λ n. limit_by limit n (base_of s1.controller.window) (queue_length s1.to_client) (queue_length s1.to_controller)) client_base
+          ∙ ap (λ n. limit_by limit (letter_count (taken side.Client (history (event ∷ es)))) n (queue_length s1.to_client) (queue_length s1.to_controller)) controller_base
+          ∙ ap (λ n. limit_by limit (letter_count (taken side.Client (history (event ∷ es)))) (letter_count (taken side.Controller (history (event ∷ es)))) n (queue_length s1.to_controller)) (length_is s1.to_client h.work.to_client h.parts.to_client)
+          ∙ ap (λ n. limit_by limit (letter_count (taken side.Client (history (event ∷ es)))) (letter_count (taken side.Controller (history (event ∷ es)))) (letter_count h.work.to_client) n) (length_is s1.to_controller h.work.to_controller h.parts.to_controller)
+
+      -- what the code tests is what cuts
+      pub cut_is : (limit : ℕ) (closed : Bool) → closed ≡ was_closed f es →
+          cut_by closed (is_reset given) s cut (limit_by limit (base_of s1.client.window) (base_of s1.controller.window) (queue_length s1.to_client) (queue_length s1.to_controller)) ≡ packet_cut f limit es event
+      cut_is limit closed was =
+          ap (λ b. cut_by b (is_reset given) s cut (limit_by limit (base_of s1.client.window) (base_of s1.controller.window) (queue_length s1.to_client) (queue_length s1.to_controller))) was
+          ∙ ap (λ o. cond (was_closed f es) None (option_or o (option_or cut (limit_by limit (base_of s1.client.window) (base_of s1.controller.window) (queue_length s1.to_client) (queue_length s1.to_controller)))))
+          (sym (resets_is f es t s p h.letters h.work given why number suits x y h.answer_is))
+          ∙ ap (λ o. cond (was_closed f es) None (option_or (reset_cut f es event) (option_or o (limit_by limit (base_of s1.client.window) (base_of s1.controller.window) (queue_length s1.to_client) (queue_length s1.to_controller))))) (sym h.cut_is)
+          ∙ ap (λ o. cond (was_closed f es) None (option_or (reset_cut f es event) (option_or h.work.cut o))) (full_is limit)

@@ -1,0 +1,85 @@
+-- A packet is heard.
+use Rattle.std.proofs.Common.{◌≡◌, ℕ, Bool, true, false, cond, ◌||◌, List, [], ◌∷◌, ◌++◌, Option, refl, sym, ap, ◌∙◌, subst}
+use Rattle.std.proofs.lemmas.Bool.{true≢false}
+use Rattle.std.proofs.lemmas.List.{append-nil, append_cancel_left}
+use Rattle.cf_leg.specs.Calls.{Continues, Heard, Newly, with_letters}
+use Rattle.cf_leg.specs.Event.{LegEvent, Nothing, Packet, Unspoken, moment}
+use Rattle.cf_leg.specs.Heard.{answer_to, end_state, offers}
+use Rattle.cf_leg.specs.LegValue.{IsLegOf, LegValue, Marks, marks}
+use Rattle.cf_leg.specs.declared.Ends.{Ends}
+use Rattle.cf_leg.specs.declared.LegAnswer.{LegAnswer}
+use Rattle.cf_outq.specs.SendQueue.{IsQueueOf, Queue}
+use Rattle.cf_packet.specs.Packet.{PacketValue}
+use Rattle.cf_rebuild.specs.ReceiveWindow.{IsWindowOf, Window, unread}
+use Rattle.cf_stream.proofs.Taken.{same_taken}
+use Rattle.cf_stream.specs.FirstCopy.{IsTaken, Offer, first_copy}
+use Rattle.cf_stream.specs.Stream.{Stream, no_letters}
+use Rattle.cf_view.specs.declared.Side.{Side}
+use Rattle.cf_view.specs.declared.Side.TheVariants as side
+use Rattle.cf_lane.specs.Follows.{Rests, rest_of, with_rest}
+use Rattle.cf_session.specs.Parts.{IsLegBetween, own_queue}
+use Rattle.cf_session.specs.Turn.{IsPushed}
+
+-- the leg stands for the event with the packet, which brings these letters
+pub record Took (ends : Ends) (e : LegEvent) (es : List LegEvent) (p : PacketValue) (leg new : LegValue) (q : Queue) (answer : LegAnswer) (letters : Stream) : Type 0 where
+  pub answer_is : answer ≡ answer_to (end_state ends.role es e) p
+  pub stands : IsLegBetween ends new q (record e { came = Packet p; ending = Unspoken } ∷ es)
+  pub on : (t : Stream) → IsTaken (first_copy (offers ends.role es)) t → IsTaken (first_copy (offers ends.role (record e { came = Packet p; ending = Unspoken } ∷ es))) (with_letters t letters)
+  pub ended_same : (t : Stream) → IsTaken (first_copy (offers ends.role es)) t → leg.window.ended ≡ t.ended
+
+window_ended : (w : Window) (os : List Offer) (t : Stream) → IsWindowOf w os → IsTaken (first_copy os) t → w.ended ≡ t.ended
+window_ended w os t h g = h.ended ∙ ap (λ (s : Stream). s.ended) (same_taken (first_copy os) h.taken t h.is_taken g)
+
+took_own : (leg new : LegValue) (q q' : Queue) (answer : LegAnswer) (now : ℕ) (e : LegEvent) (es : List LegEvent) (p : PacketValue) → Heard now p leg new q q' answer → (n : Newly now p leg new q) → new.ends ≡ leg.ends → now ≡ moment e →
+    IsLegOf leg (marks q) (record e { came = Nothing; ending = Unspoken } ∷ es) → Took leg.ends e es p leg new q' answer n.letters
+took_own leg new q q' answer now e es p h n same at s = record {
+  answer_is = h.answer e es s;
+  stands = record { is = same; stands = h.stands e es at s };
+  on = λ t g. n.taken e es t at s g;
+  ended_same = λ t g. window_ended leg.window (offers leg.ends.role es) t s.of_window g;
+}
+
+pub took : (ends : Ends) (leg new : LegValue) (q q' : Queue) (answer : LegAnswer) (now : ℕ) (e : LegEvent) (es : List LegEvent) (p : PacketValue) → Heard now p leg new q q' answer → (n : Newly now p leg new q) → new.ends ≡ leg.ends → now ≡ moment e →
+    IsLegBetween ends leg q (record e { came = Nothing; ending = Unspoken } ∷ es) → Took ends e es p leg new q' answer n.letters
+took ends leg new q q' answer now e es p h n same at s = subst (λ x. Took x e es p leg new q' answer n.letters) s.is (took_own leg new q q' answer now e es p h n same at s.stands)
+
+-- ---- which letters
+
+or_open : (a b c : Bool) → a ≡ false → c ≡ (a || b) → b ≡ c
+or_open a b c o e = sym (e ∙ ap (λ x. x || b) o)
+
+pub newly_open : (l : Stream) (was now : Bool) → was ≡ false → now ≡ (was || l.ended) → l ≡ record { bytes = l.bytes; ended = now }
+newly_open l was now o e = ap (λ b. let s : Stream = record { bytes = l.bytes; ended = b } in s) (or_open was l.ended now o e)
+
+end_stays : (b c : Bool) → c ≡ true → cond b true c ≡ cond false true c
+end_stays true c e = sym e
+end_stays false c e = refl
+
+-- nothing is taken behind an End
+pub newly_none : (l : Stream) (old new : Window) (t : Stream) → old.ended ≡ true → Continues old new → new.pending ≡ old.pending ++ l.bytes → old.ended ≡ t.ended → with_letters t l ≡ with_letters t no_letters
+newly_none l old new t o k pending same =
+    let none : l.bytes ≡ [] = append_cancel_left old.pending l.bytes [] (sym pending ∙ ap (λ (s : Stream). s.bytes) (k.unread.ended o) ∙ sym (append-nil old.pending)) in
+    ap (λ (xs : List ℕ). let s : Stream = record { bytes = t.bytes ++ xs; ended = cond l.ended true t.ended } in s) none
+    ∙ ap (λ (b : Bool). let s : Stream = record { bytes = t.bytes ++ []; ended = b } in s) (end_stays l.ended t.ended (sym same ∙ o))
+
+-- ---- the leg once the lane has put bytes into its queue, and its window was consumed
+
+same_marks : (a b : Queue) → IsPushed a b → marks b ≡ marks a
+same_marks a b h =
+    ap (λ n. let m : Marks = record { acked = n; sent = b.sent; shown = b.shown } in m) h.acked
+    ∙ ap (λ n. let m : Marks = record { acked = a.acked; sent = n; shown = b.shown } in m) h.sent
+    ∙ ap (λ n. let m : Marks = record { acked = a.acked; sent = a.sent; shown = n } in m) h.shown
+
+pub stands_on : (ends : Ends) (leg new : LegValue) (q q' : Queue) (es : List LegEvent) → IsLegBetween ends leg q es → new.ends ≡ leg.ends → ((m : Marks) (xs : List LegEvent) → IsLegOf leg m xs → IsLegOf new m xs) → IsPushed q q' → IsLegBetween ends new q' es
+stands_on ends leg new q q' es s same on pushed = record { is = same ∙ s.is; stands = subst (λ m. IsLegOf new m es) (sym (same_marks q q' pushed)) (on (marks q) es s.stands) }
+
+pub stands_pushed : (ends : Ends) (leg : LegValue) (q q' : Queue) (es : List LegEvent) → IsLegBetween ends leg q es → IsPushed q q' → IsLegBetween ends leg q' es
+stands_pushed ends leg q q' es s pushed = stands_on ends leg leg q q' es s refl (λ m xs h. h) pushed
+
+pub own_pushed : (s : Side) (c k c' k' : Queue) → IsPushed c c' → IsPushed k k' → IsPushed (own_queue s c k) (own_queue s c' k')
+own_pushed side.Client c k c' k' a b = a
+own_pushed side.Controller c k c' k' a b = b
+
+pub with_own : (s : Side) (r : Rests) → with_rest s r (rest_of s r) ≡ r
+with_own side.Client r = refl
+with_own side.Controller r = refl

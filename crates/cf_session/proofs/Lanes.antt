@@ -1,0 +1,116 @@
+-- The lane stands for a history, in the session's words.
+use Rattle.std.proofs.Common.{◌≡◌, ℕ, ◌+◌, ◌==◌, Bool, true, false, cond, List, [], ◌∷◌, ◌++◌, Option, Some, None, refl, sym, ap, ◌∙◌, subst, append_assoc, arith}
+use Rattle.std.proofs.lemmas.List.{append-nil}
+use Rattle.std.proofs.lemmas.Option.{same_Some}
+use Rattle.cf_audit.specs.declared.CutReason.{CutReason}
+use Rattle.cf_lane.specs.Follows.{AddsTo, AreJudged, AreRests, Follows, IsRest, Rests, over}
+use Rattle.cf_lane.specs.Handled.{LaneValue, State, state}
+use Rattle.cf_lane.specs.History.{Element, bytes_at, bytes_in, bytes_of, end_at, letters_at}
+use Rattle.cf_lane.specs.Judged.{Judged}
+use Rattle.cf_lane.specs.Laws.{EndJoins, NothingTaken}
+use Rattle.cf_lane.specs.Log.{lines}
+use Rattle.cf_outq.specs.SendQueue.{IsQueueOf, Queue}
+use Rattle.cf_outside.specs.Desk.{DeskValue}
+use Rattle.cf_policy.specs.declared.Asset.{Asset}
+use Rattle.cf_policy.specs.declared.Protocol.{Protocol}
+use Rattle.cf_stream.specs.Stream.{Stream, letter_count}
+use Rattle.cf_view.specs.declared.Endpoint.{Endpoint}
+use Rattle.cf_view.specs.declared.Side.{Side}
+use Rattle.cf_view.specs.declared.Side.TheVariants as side
+use Rattle.cf_session.proofs.Fed.{bytes_of-append}
+use Rattle.cf_session.proofs.NewLane.{knows_on}
+use Rattle.cf_session.proofs.Telling.{told_lines}
+use Rattle.cf_session.specs.Parts.{IsLaneAfter}
+use Rattle.cf_session.specs.Told.{told}
+use Rattle.cf_session.specs.Turn.{FollowsMore}
+use Rattle.cf_session.specs.Work.{Work, fed_at, work_by}
+
+-- ---- histories
+
+some_letters : (b : ℕ) (bytes : List ℕ) (ended : Bool) → (letter_count (record { bytes = b ∷ bytes; ended = ended }) == 0) ≡ false
+some_letters b bytes ended = grind arith
+
+nothing_in : (s t : Side) (m : ℕ) → bytes_in t (bytes_at m s []) ≡ []
+nothing_in side.Client side.Client m = refl
+nothing_in side.Client side.Controller m = refl
+nothing_in side.Controller side.Client m = refl
+nothing_in side.Controller side.Controller m = refl
+
+same_bytes : (t s : Side) (h : List Element) (m : ℕ) → bytes_of t (h ++ bytes_at m s [] ∷ []) ≡ bytes_of t h
+same_bytes t s h m =
+    bytes_of-append t h (bytes_at m s [] ∷ []) ∙ ap (λ xs. bytes_of t h ++ (xs ++ [])) (nothing_in s t m) ∙ append-nil (bytes_of t h)
+
+rests_without : (p : Protocol) (h : List Element) (m : ℕ) (s : Side) (r : Rests) (cut : Option CutReason) → AreRests p (h ++ bytes_at m s [] ∷ []) r cut → AreRests p h r cut
+rests_without p h m s r None a = (subst (λ xs. IsRest p xs r.client) (same_bytes side.Client s h m) a.0, subst (λ xs. IsRest p xs r.controller) (same_bytes side.Controller s h m) a.1)
+rests_without p h m s r (Some c) a = a
+
+module _ (nothing : NothingTaken) (ends : EndJoins) (asset : Asset) (m : ℕ) (s : Side) (h : List Element) (r : Rests) (cut : Option CutReason) (first : Option (List (List ℕ))) (now : State) where
+  -- no letters are no element
+  without : Follows asset (h ++ bytes_at m s [] ∷ []) r cut first now → Follows asset (h ++ []) r cut first now
+  without f = subst (λ x. Follows asset x r cut first now) (sym (append-nil h)) (record {
+    judged = f.judged;
+    are_judged = subst (λ x. AreJudged asset now.lane.client.address x f.judged) (append-nil h) (nothing asset now.lane.client.address h [] m s f.judged f.are_judged);
+    is_cut = f.is_cut;
+    are_rests = rests_without asset.protocol h m s r cut f.are_rests;
+    knows = f.knows;
+    client_stream = f.client_stream;
+    controller_stream = f.controller_stream;
+    of_lines = f.of_lines;
+  })
+
+  pub as_fed : (piece : List ℕ) (ended : Bool) → Follows asset (h ++ letters_at m s piece ended ∷ []) r cut first now → Follows asset (h ++ fed_at m s (record { bytes = piece; ended = ended })) r cut first now
+  as_fed [] false f = without f
+  as_fed [] true f = f
+  as_fed (b ∷ bytes) ended f = rw (some_letters b bytes ended) f
+
+  -- bytes and then End at one moment
+  pub as_ended : (piece : List ℕ) → Follows asset ((h ++ fed_at m s (record { bytes = piece; ended = false })) ++ end_at m s ∷ []) r cut first now → Follows asset (h ++ fed_at m s (record { bytes = piece; ended = true })) r cut first now
+  as_ended [] f = subst (λ x. Follows asset (x ++ end_at m s ∷ []) r cut first now) (append-nil h) f
+  as_ended (b ∷ bytes) f =
+      let two : Follows asset ((h ++ bytes_at m s (b ∷ bytes) ∷ []) ++ end_at m s ∷ []) r cut first now =
+      subst (λ x. Follows asset ((h ++ cond x [] (bytes_at m s (b ∷ bytes) ∷ [])) ++ end_at m s ∷ []) r cut first now) (some_letters b bytes false) f in
+      rw (some_letters b bytes true) (ends asset h r cut first now m s (b ∷ bytes) two)
+
+-- ---- there
+
+of_client : (asset : Asset) (client : Endpoint) (lane : LaneValue) (r : Rests) (h : List Element) (w : Work) → IsLaneAfter asset client lane r h w → IsLaneAfter asset lane.client lane r h w
+of_client asset client lane r h w l = subst (λ e. IsLaneAfter asset e lane r h w) (sym l.is_client) l
+
+-- over the lines of the lane's own work
+pub follows_of : (asset : Asset) (client : Endpoint) (lane : LaneValue) (r : Rests) (h : List Element) (w : Work) (c k : Queue) → IsLaneAfter asset client lane r h w → w.cut ≡ None → IsQueueOf c w.to_client → IsQueueOf k w.to_controller →
+    Follows asset h r None (Some []) (state lane c k (Some w.log))
+follows_of asset client lane r h w c k l uncut qc qk =
+    let o = of_client asset client lane r h w l in
+    record {
+      judged = o.judged;
+      are_judged = o.are_judged;
+      is_cut = sym (ap (λ (x : Work). x.cut) o.is_work) ∙ uncut;
+      are_rests = subst (AreRests asset.protocol h r) uncut o.are_rests;
+      knows = o.knows c k (Some w.log) (qc.ended ∙ ap (λ (x : Work). x.to_client.ended) o.is_work) (qk.ended ∙ ap (λ (x : Work). x.to_controller.ended) o.is_work);
+      client_stream = subst (λ (x : Work). IsQueueOf c x.to_client) o.is_work qc;
+      controller_stream = subst (λ (x : Work). IsQueueOf k x.to_controller) o.is_work qk;
+      of_lines = ap (λ (x : Work). Some x.log) o.is_work;
+    }
+
+-- ---- and back
+
+pub more_of : (asset : Asset) (client : Endpoint) (now : ℕ) (s : Side) (r : Rests) (h : List Element) (w : Work) (letters : Stream) (lane : LaneValue) (c k : Queue) (cut : Option CutReason) (d0 d1 : DeskValue) (more : List (List ℕ)) →
+    lane.client ≡ client → Follows asset (h ++ fed_at now s letters) r cut (Some []) (state lane c k (Some (w.log ++ more))) → d1.packets ≡ d0.packets → d1.lines ≡ Rattle.cf_lane.specs.Log.with_lines d0.lines more →
+    FollowsMore asset client now s r h w letters lane c k cut (told d0) (told d1)
+more_of asset client now s r h w letters lane c k cut d0 d1 more is f same added = record {
+  work = work_by asset lane.client f.judged;
+  lane_stands = subst (λ e. IsLaneAfter asset e lane r (h ++ fed_at now s letters) (work_by asset lane.client f.judged)) is (record {
+    judged = f.judged;
+    is_client = refl;
+    are_judged = f.are_judged;
+    are_rests = subst (AreRests asset.protocol (h ++ fed_at now s letters) r) (sym f.is_cut) f.are_rests;
+    is_work = refl;
+    knows = λ c' k' log a b. knows_on asset lane c k c' k' _ log f.judged f.knows a b;
+  });
+  client_stands = f.client_stream;
+  controller_stands = f.controller_stream;
+  cut_is = f.is_cut;
+  lines = more;
+  log_is = sym (same_Some _ _ f.of_lines);
+  told = told_lines d0 d1 more same added;
+}

@@ -1,0 +1,120 @@
+-- A session is sound after a packet that did not cut it.
+use Rattle.std.proofs.Common.{◌≡◌, ◌≢◌, ℕ, ◌+◌, ◌*◌, ◌<◌, ◌≤◌, Bool, true, false, cond, ◌&&◌, ◌||◌, length, Option, Some, None, refl, sym, ap, ◌∙◌, subst, arith}
+use Rattle.std.specs.Prelude.{nat_le}
+use Rattle.std.specs.Option.{is_some, option_or}
+use Rattle.std.proofs.lemmas.Bool.{false≢true, true≢false}
+use Rattle.cf_audit.specs.declared.CutReason.{CutReason}
+use Rattle.cf_lane.specs.Handled.{IsLaneOf, LaneValue}
+use Rattle.cf_outq.specs.SendQueue.{Queue, queue_length}
+use Rattle.cf_policy.specs.Within.{IsAssetWithin}
+use Rattle.cf_policy.specs.declared.Asset.{Asset}
+use Rattle.cf_rebuild.specs.ReceiveWindow.{Window, base_of}
+use Rattle.cf_view.specs.declared.Side.{Side}
+use Rattle.cf_view.specs.declared.Side.TheVariants as side
+use Rattle.cf_session.specs.Cuts.{cut_by, limit_by}
+use Rattle.cf_session.specs.Parts.{SessionValue}
+use Rattle.cf_session.specs.Stands.{IsSound}
+use Rattle.cf_session.specs.Turn.{IsShort, IsSteady, OnlySpeaks, is_acknowledged, is_done_now}
+
+abbrev is_none_of : Option CutReason → Bool
+is_none_of None = true
+is_none_of (Some r) = false
+
+none_some : (r : CutReason) → None ≡ Some r → ⊥
+none_some r e = true≢false (ap (λ (o : Option CutReason). is_none_of o) e)
+
+-- where nothing cuts, the lane did not
+pub lane_none : (closed reset : Bool) (s : Side) (cut full : Option CutReason) → None ≡ cut_by closed reset s cut full → (closed ≡ true → cut ≡ None) → cut ≡ None
+lane_none true reset s cut full e done = done refl
+lane_none false true side.Client cut full e done = absurd (none_some _ e)
+lane_none false true side.Controller cut full e done = absurd (none_some _ e)
+lane_none false false s None full e done = refl
+lane_none false false s (Some r) full e done = absurd (none_some r e)
+
+-- and no stream is full
+pub full_none : (closed reset : Bool) (s : Side) (cut full : Option CutReason) → None ≡ cut_by closed reset s cut full → closed ≡ false → full ≡ None
+full_none true reset s cut full e c = absurd (true≢false c)
+full_none false true side.Client cut full e c = absurd (none_some _ e)
+full_none false true side.Controller cut full e c = absurd (none_some _ e)
+full_none false false s None full e c = sym e
+full_none false false s (Some r) full e c = absurd (none_some r e)
+
+pub some_closed : (o : Option ℕ) → is_some o ≡ true → o ≢ None
+some_closed o e n = true≢false (sym e ∙ ap is_some n)
+
+below : (limit a : ℕ) → nat_le limit a ≡ false → a < limit
+below limit a e = grind arith
+
+parts_false : (a b : Bool) → (a || b) ≡ false → (a ≡ false) × (b ≡ false)
+parts_false false b e = (refl, e)
+parts_false true b e = absurd (true≢false e)
+
+two_none : (x y : Bool) (r q : CutReason) → cond x (Some r) (cond y (Some q) None) ≡ None → (x ≡ false) × (y ≡ false)
+two_none false false r q e = (refl, refl)
+two_none false true r q e = absurd (none_some q (sym e))
+two_none true y r q e = absurd (none_some r (sym e))
+
+pub limits_none : (limit client controller to_client to_controller : ℕ) → limit_by limit client controller to_client to_controller ≡ None → (client < limit) × (controller < limit) × (to_client < limit) × (to_controller < limit)
+limits_none limit client controller to_client to_controller e =
+    let both = two_none (nat_le limit client || nat_le limit to_client) (nat_le limit controller || nat_le limit to_controller) _ _ e in
+    let x = parts_false (nat_le limit client) (nat_le limit to_client) both.0 in
+    let y = parts_false (nat_le limit controller) (nat_le limit to_controller) both.1 in
+    (below limit client x.0, below limit controller y.0, below limit to_client x.1, below limit to_controller y.1)
+
+pub is_short_by : (s : SessionValue) (cut : Option CutReason) (o : Option ℕ) → s.closed ≡ o → IsSteady s cut → (is_some o ≡ false → limit_by s.limit (base_of s.client.window) (base_of s.controller.window) (queue_length s.to_client) (queue_length s.to_controller) ≡ None) → IsShort s
+is_short_by s cut None e h full =
+    let x = limits_none s.limit (base_of s.client.window) (base_of s.controller.window) (queue_length s.to_client) (queue_length s.to_controller) (full refl) in
+    record { client_letters = x.2; controller_letters = x.3; client_taken = x.0; controller_taken = x.1 }
+is_short_by s cut (Some m) e h full = h.short (some_closed s.closed (ap is_some e))
+
+short_on : (s1 s2 : SessionValue) → OnlySpeaks s1 s2 → IsShort s1 → IsShort s2
+short_on s1 s2 o h =
+    let l = ap (λ (x : SessionValue). x.limit) o.rest in
+    record {
+      client_letters = (let a = h.client_letters in let b = ap (λ (q : Queue). queue_length q) o.to_client in omega (arith, a, b, l));
+      controller_letters = (let a = h.controller_letters in let b = ap (λ (q : Queue). queue_length q) o.to_controller in omega (arith, a, b, l));
+      client_taken = (let a = h.client_taken in let b = ap (λ (w : Window). base_of w) o.client_window in omega (arith, a, b, l));
+      controller_taken = (let a = h.controller_taken in let b = ap (λ (w : Window). base_of w) o.controller_window in omega (arith, a, b, l));
+    }
+
+left_true : (a b : Bool) → (a && b) ≡ true → a ≡ true
+left_true true b e = refl
+left_true false b e = absurd (false≢true e)
+
+right_true : (a b : Bool) → (a && b) ≡ true → b ≡ true
+right_true true b e = e
+right_true false b e = absurd (false≢true e)
+
+-- what closes has ended on both sides
+closed_done : (o : Option ℕ) (done : Bool) (now : ℕ) → option_or o (cond done (Some now) None) ≢ None → (P : Type 0) → (o ≢ None → P) → (done ≡ true → P) → P
+closed_done (Some m) done now n P f g = f (some_closed (Some m) refl)
+closed_done None true now n P f g = g refl
+closed_done None false now n P f g = absurd (n refl)
+
+pub sound_after : (asset : Asset) (s1 s2 s3 : SessionValue) (now : ℕ) → IsAssetWithin asset → IsLaneOf asset s1.lane → OnlySpeaks s1 s2 → IsSteady s2 None → IsShort s1 →
+    s3 ≡ record s2 { closed = s3.closed } → s3.closed ≡ option_or s2.closed (cond (is_done_now s2) (Some now) None) → IsSound asset s3
+sound_after asset s1 s2 s3 now within serves only h short same closing =
+    let x = short_on s1 s2 only short in
+    let closed : s3.closed ≢ None → option_or s2.closed (cond (is_done_now s2) (Some now) None) ≢ None = λ n e. n (closing ∙ e) in
+    subst (IsSound asset) (sym same) (record {
+      within = within;
+      serves = subst (λ (l : LaneValue). IsLaneOf asset l) (sym (ap (λ (s : SessionValue). s.lane) only.rest)) serves;
+      passive = h.passive;
+      limit = h.limit;
+      client_letters = x.client_letters;
+      controller_letters = x.controller_letters;
+      client_taken = x.client_taken;
+      controller_taken = x.controller_taken;
+      client_rest = h.client_rest refl;
+      controller_rest = h.controller_rest refl;
+      client_open = h.client_open;
+      controller_open = h.controller_open;
+      client_done = λ n. closed_done s2.closed (is_done_now s2) now (closed n) (s2.client.window.ended ≡ true) h.client_done
+          (λ d. left_true s2.client.window.ended s2.controller.window.ended (left_true _ _ d));
+      controller_done = λ n. closed_done s2.closed (is_done_now s2) now (closed n) (s2.controller.window.ended ≡ true) h.controller_done
+          (λ d. right_true s2.client.window.ended s2.controller.window.ended (left_true _ _ d));
+      commands = h.commands;
+      owed = h.owed;
+      client_room = h.client_room;
+      controller_room = h.controller_room;
+    })

@@ -1,0 +1,235 @@
+-- The first half of an event of a session.
+use Rattle.std.proofs.Common.{◌≡◌, ℕ, ◌+◌, Bool, true, false, not, ◌&&◌, ◌||◌, List, [], ◌∷◌, ◌++◌, length, cond, Option, Some, None, refl, sym, ap, ◌∙◌, subst, append_assoc, inl}
+use Rattle.std.specs.Prelude.{nat_lt}
+use Rattle.std.specs.Option.{is_some, option_or}
+use Rattle.std.proofs.lemmas.Bool.{false≢true}
+use Rattle.std.proofs.lemmas.List.{append-nil}
+use Rattle.cf_audit.specs.Line.{Cut as CutLine}
+use Rattle.cf_audit.specs.declared.CutReason.{CutReason}
+use Rattle.cf_audit.specs.declared.CutReason.TheVariants as reason
+use Rattle.cf_lane.specs.History.{Element, ended_of, taken}
+use Rattle.cf_leg.specs.Emits.{IsRight, fired_at, repeats}
+use Rattle.cf_leg.specs.Event.{Cut, LegEvent, Nothing, Unspoken, begun, clocked, moment}
+use Rattle.cf_leg.specs.Heard.{acked, offers, opened}
+use Rattle.cf_leg.specs.LegValue.{LegValue}
+use Rattle.cf_leg.specs.Timer.{fires, tries}
+use Rattle.cf_leg.specs.Told.{greeting, is_greeted}
+use Rattle.cf_leg.specs.declared.Ends.{Ends}
+use Rattle.cf_outq.specs.SendQueue.{IsQueueOf, Queue}
+use Rattle.cf_packet.specs.Packet.{PacketValue}
+use Rattle.cf_stream.specs.FirstCopy.{IsTaken, first_copy}
+use Rattle.cf_view.specs.declared.Side.TheVariants as side
+use Rattle.cf_session.proofs.Telling.{at-append, then_sent, then_told}
+use Rattle.cf_session.specs.Cuts.{gives_up}
+use Rattle.cf_session.specs.Event.{AreRight, AreTaken, IsTick}
+use Rattle.cf_session.specs.Parts.{AreParts, IsLaneAfter, IsLegBetween, SessionValue}
+use Rattle.cf_session.specs.Sent.{Sent, at, line, logged_first, sent_first}
+use Rattle.cf_session.specs.Session.{Flow, SessionEvent, client_ends, client_of, clients, closed_at, controller_ends, controllers, history, is_closed, is_done, is_expired, was_closed}
+use Rattle.cf_session.specs.Stands.{IsLife, IsSessionOf, Lives, Ticks, TicksBy, life_by}
+use Rattle.cf_session.specs.Told.{Told, with_both}
+use Rattle.cf_session.specs.Turn.{CutsBoth}
+use Rattle.cf_session.specs.declared.life.Life.{Life}
+use Rattle.cf_session.specs.declared.life.Life.TheVariants as life
+
+or_nothing : (b : Bool) → (b || false) ≡ b
+or_nothing true = refl
+or_nothing false = refl
+
+or_no : {A : Type 0} (o : Option A) → option_or o None ≡ o
+or_no None = refl
+or_no (Some x) = refl
+
+-- the closing moment is that of the events before, where nothing changed
+later_closed : (before : Option ℕ) (closed : Bool) (m n : ℕ) → option_or (option_or before (cond closed (Some m) None)) (cond closed (Some n) None) ≡ option_or before (cond closed (Some m) None)
+later_closed (Some k) closed m n = refl
+later_closed None true m n = refl
+later_closed None false m n = refl
+
+module _ (f : Flow) (es : List SessionEvent) (e : SessionEvent) (now : ℕ) where
+  abbrev ticking_at : List PacketValue → List PacketValue → SessionEvent
+  ticking_at fc fd = record { controller = clocked now fc; client = clocked now fd; fed = []; work = e.work; cut = None }
+
+  same_history : (fc fd : List PacketValue) → history (ticking_at fc fd ∷ e ∷ es) ≡ history (e ∷ es)
+  same_history fc fd = append-nil (history (e ∷ es))
+
+  same_closed : (fc fd : List PacketValue) → is_closed f (ticking_at fc fd ∷ e ∷ es) ≡ is_closed f (e ∷ es)
+  same_closed fc fd =
+      ap (λ (h : List Element). (ended_of side.Client h && ended_of side.Controller h)
+      && (is_done e.work.to_client (acked (client_ends f).role (clients (e ∷ es))) && is_done e.work.to_controller (acked (controller_ends f).role (controllers (e ∷ es)))))
+      (append-nil (history (e ∷ es)))
+
+  closed_same : (fc fd : List PacketValue) → closed_at f (ticking_at fc fd ∷ e ∷ es) ≡ closed_at f (e ∷ es)
+  closed_same fc fd =
+      ap (λ b. option_or (closed_at f (e ∷ es)) (cond b (Some (now + 1)) None)) (same_closed fc fd)
+      ∙ later_closed (closed_at f es) (is_closed f (e ∷ es)) (moment e.client) (now + 1)
+
+  module _ (s : SessionValue) (stands : IsSessionOf f es e s) (early : is_expired f (e ∷ es) now ≡ false)
+      (quiet : gives_up (controller_ends f).role (controllers (e ∷ es)) (clocked now []) ≡ false) (silent : gives_up (client_ends f).role (clients (e ∷ es)) (clocked now []) ≡ false)
+      (right_c : IsRight (controller_ends f) (controllers (e ∷ es)) (clocked now (fired_at (controller_ends f) (controllers (e ∷ es)) (clocked now []))))
+      (right_d : IsRight (client_ends f) (clients (e ∷ es)) (clocked now (fired_at (client_ends f) (clients (e ∷ es)) (clocked now [])))) where
+    abbrev fc_at : List PacketValue
+    fc_at = fired_at (controller_ends f) (controllers (e ∷ es)) (clocked now [])
+
+    abbrev fd_at : List PacketValue
+    fd_at = fired_at (client_ends f) (clients (e ∷ es)) (clocked now [])
+
+    pub live_tick : IsTick f (e ∷ es) now (ticking_at fc_at fd_at)
+    live_tick = record {
+      right = record { controller = right_c; client = right_d };
+      controller_tick = refl;
+      client_tick = refl;
+      controller_ticked = refl;
+      client_ticked = sym (ap not quiet);
+      controller_came = refl;
+      client_came = refl;
+      cut = sym (ap (λ a. cond a (Some (reason.NoAnswer side.Controller)) (cond (gives_up (client_ends f).role (clients (e ∷ es)) (clocked now [])) (Some (reason.NoAnswer side.Client)) None)) quiet
+          ∙ ap (λ a. cond a (Some (reason.NoAnswer side.Client)) None) silent);
+      controller_ending = refl;
+      client_ending = refl;
+      fed = refl;
+      work = refl;
+    }
+
+    pub live_told : (t0 t1 t2 : Told) → t1 ≡ with_both t0 (at now fc_at) [] → t2 ≡ with_both t1 (at now fd_at) [] → Ticks f (e ∷ es) now t0 t2 (ticking_at fc_at fd_at)
+    live_told t0 t1 t2 a b = record {
+      kept = early;
+      is_tick = live_tick;
+      told = then_sent t0 t1 t2 now fc_at fd_at a b
+          ∙ ap (λ ps. with_both t0 (at now (ps ++ fd_at)) []) (sym (append-nil fc_at))
+          ∙ ap (λ ps. with_both t0 (at now ((fc_at ++ []) ++ ps)) []) (sym (append-nil fd_at));
+    }
+
+    pub live_stands : (client controller : LegValue) (to_client to_controller : Queue) →
+        IsLegBetween (client_ends f) client to_client (clocked now fd_at ∷ clients (e ∷ es)) → IsLegBetween (controller_ends f) controller to_controller (clocked now fc_at ∷ controllers (e ∷ es)) →
+        IsQueueOf to_client e.work.to_client → IsQueueOf to_controller e.work.to_controller → client.window ≡ s.client.window → controller.window ≡ s.controller.window →
+        IsSessionOf f (e ∷ es) (ticking_at fc_at fd_at) (record s { client = client; controller = controller; to_client = to_client; to_controller = to_controller })
+    live_stands client controller to_client to_controller lc ld qc qd wc wd =
+        let same = sym (same_history fc_at fd_at) in
+        record {
+          parts = record {
+            client = lc;
+            controller = ld;
+            lane = subst (λ h. IsLaneAfter f.asset (client_of f) s.lane (record { client = client.window.pending; controller = controller.window.pending }) h e.work) same
+                (rw (wc, wd) stands.parts.lane);
+            to_client = qc;
+            to_controller = qd;
+            taken = record {
+              client = subst (λ h. IsTaken (first_copy (offers (client_ends f).role (clients (e ∷ es)))) (taken side.Client h)) same stands.parts.taken.client;
+              controller = subst (λ h. IsTaken (first_copy (offers (controller_ends f).role (controllers (e ∷ es)))) (taken side.Controller h)) same stands.parts.taken.controller;
+            };
+          };
+          events = (inl live_tick, stands.events);
+          closed = stands.closed ∙ sym (closed_same fc_at fd_at);
+          going = refl;
+          uncut = stands.uncut;
+          source = stands.source;
+          over = record { client = refl; controller = refl; to_client = stands.over.to_client; to_controller = stands.over.to_controller };
+          greeted = ap is_some (or_no (greeting (clients (e ∷ es)))) ∙ stands.greeted ∙ sym (or_nothing (opened (controller_ends f).role (controllers (e ∷ es))));
+        }
+
+-- ---- a cut in the first half
+
+silent_cut : (a b : Bool) → a ≡ true → cond a (Some (reason.NoAnswer side.Controller)) (cond b (Some (reason.NoAnswer side.Client)) None) ≡ Some (reason.NoAnswer side.Controller)
+silent_cut a b e = ap (λ x. cond x (Some (reason.NoAnswer side.Controller)) (cond b (Some (reason.NoAnswer side.Client)) None)) e
+
+silent_client : (a b : Bool) → a ≡ false → b ≡ true → cond a (Some (reason.NoAnswer side.Controller)) (cond b (Some (reason.NoAnswer side.Client)) None) ≡ Some (reason.NoAnswer side.Client)
+silent_client a b d e = ap (λ x. cond x (Some (reason.NoAnswer side.Controller)) (cond b (Some (reason.NoAnswer side.Client)) None)) d ∙ ap (λ x. cond x (Some (reason.NoAnswer side.Client)) None) e
+
+-- a clock call and then the two RSTs
+told_cut : (t0 t1 t2 : Told) (now : ℕ) (ps qs : List PacketValue) (p q : PacketValue) (bytes : List (List ℕ)) → t1 ≡ with_both t0 (at now (ps ++ qs)) [] → t2 ≡ with_both t1 (at now (p ∷ q ∷ [])) bytes →
+    t2 ≡ with_both t0 (at now ((ps ++ qs) ++ p ∷ q ∷ [])) bytes
+told_cut t0 t1 t2 now ps qs p q bytes a b =
+    then_told t0 t1 t2 (at now (ps ++ qs)) (at now (p ∷ q ∷ [])) [] bytes a b
+    ∙ ap (λ xs. with_both t0 xs bytes) (sym (at-append now (ps ++ qs) (p ∷ q ∷ [])))
+
+module _ (f : Flow) (es : List SessionEvent) (e : SessionEvent) (now : ℕ) (early : is_expired f (e ∷ es) now ≡ false) where
+  module _ (fc : List PacketValue) (fired : fc ≡ fired_at (controller_ends f) (controllers (e ∷ es)) (clocked now [])) (silent : gives_up (controller_ends f).role (controllers (e ∷ es)) (clocked now []) ≡ true)
+      (t0 t1 t2 : Told) (first : t1 ≡ with_both t0 (at now fc) []) (cuts : CutsBoth f (controllers (e ∷ es)) (clients (e ∷ es)) (clocked now fc) (begun now) now (reason.NoAnswer side.Controller) t1 t2) where
+    abbrev pub controller_silent : SessionEvent
+    controller_silent = record {
+      controller = record (clocked now fc) { ending = Cut cuts.to_controller };
+      client = record (begun now) { ending = Cut cuts.to_client };
+      fed = [];
+      work = e.work;
+      cut = Some (reason.NoAnswer side.Controller);
+    }
+
+    pub silent_tick : IsTick f (e ∷ es) now controller_silent
+    silent_tick = record {
+      right = record { controller = cuts.controller_right; client = cuts.client_right };
+      controller_tick = refl;
+      client_tick = refl;
+      controller_ticked = refl;
+      client_ticked = sym (ap not silent);
+      controller_came = refl;
+      client_came = refl;
+      cut = sym (silent_cut (gives_up (controller_ends f).role (controllers (e ∷ es)) (clocked now [])) (gives_up (client_ends f).role (clients (e ∷ es)) (begun now)) silent);
+      controller_ending = (cuts.to_controller, refl);
+      client_ending = (cuts.to_client, refl);
+      fed = refl;
+      work = refl;
+    }
+
+    pub silent_ticks : Ticks f (e ∷ es) now t0 t2 controller_silent
+    silent_ticks = record {
+      kept = early;
+      is_tick = silent_tick;
+      told =
+          (let nothing : t1 ≡ with_both t0 (at now (fc ++ [])) [] = first ∙ ap (λ xs. with_both t0 (at now xs) []) (sym (append-nil fc)) in
+          told_cut t0 t1 t2 now fc [] cuts.to_controller cuts.to_client _ nothing cuts.told
+          ∙ ap (λ xs. with_both t0 (at now xs) (line f now (CutLine (reason.NoAnswer side.Controller)) ∷ []))
+          (ap (λ xs. xs ++ cuts.to_controller ∷ cuts.to_client ∷ []) (append-nil fc) ∙ sym (append_assoc fc (cuts.to_controller ∷ []) (cuts.to_client ∷ []))));
+    }
+
+none_fires : (a b : Bool) (ps : List PacketValue) → (a && not b) ≡ true → cond (a && b) ps [] ≡ []
+none_fires true true ps e = absurd (false≢true e)
+none_fires true false ps e = refl
+none_fires false b ps e = absurd (false≢true e)
+
+-- a leg that gives up sends nothing again
+silent_fires : (ends : Ends) (es : List LegEvent) (now : ℕ) → gives_up ends.role es (clocked now []) ≡ true → fired_at ends es (clocked now []) ≡ []
+silent_fires ends es now e = none_fires (fires ends.role es (clocked now [])) (nat_lt (tries ends.role es) 6) (repeats ends es) e
+
+module _ (f : Flow) (es : List SessionEvent) (e : SessionEvent) (now : ℕ) (early : is_expired f (e ∷ es) now ≡ false) where
+  module _ (fc fd : List PacketValue) (fired : fc ≡ fired_at (controller_ends f) (controllers (e ∷ es)) (clocked now [])) (fired_client : fd ≡ fired_at (client_ends f) (clients (e ∷ es)) (clocked now []))
+      (quiet : gives_up (controller_ends f).role (controllers (e ∷ es)) (clocked now []) ≡ false) (silent : gives_up (client_ends f).role (clients (e ∷ es)) (clocked now []) ≡ true)
+      (t0 t1 t2 t3 : Told) (first : t1 ≡ with_both t0 (at now fc) []) (second : t2 ≡ with_both t1 (at now fd) [])
+      (cuts : CutsBoth f (controllers (e ∷ es)) (clients (e ∷ es)) (clocked now fc) (clocked now fd) now (reason.NoAnswer side.Client) t2 t3) where
+    abbrev pub client_silent : SessionEvent
+    client_silent = record {
+      controller = record (clocked now fc) { ending = Cut cuts.to_controller };
+      client = record (clocked now fd) { ending = Cut cuts.to_client };
+      fed = [];
+      work = e.work;
+      cut = Some (reason.NoAnswer side.Client);
+    }
+
+    pub client_silent_ticks : Ticks f (e ∷ es) now t0 t3 client_silent
+    client_silent_ticks = record {
+      kept = early;
+      is_tick = record {
+        right = record { controller = cuts.controller_right; client = cuts.client_right };
+        controller_tick = refl;
+        client_tick = refl;
+        controller_ticked = refl;
+        client_ticked = sym (ap not quiet);
+        controller_came = refl;
+        client_came = refl;
+        cut = sym (silent_client (gives_up (controller_ends f).role (controllers (e ∷ es)) (clocked now [])) (gives_up (client_ends f).role (clients (e ∷ es)) (clocked now [])) quiet silent);
+        controller_ending = (cuts.to_controller, refl);
+        client_ending = (cuts.to_client, refl);
+        fed = refl;
+        work = refl;
+      };
+      told =
+          (let none : fd ≡ [] = fired_client ∙ silent_fires (client_ends f) (clients (e ∷ es)) now silent in
+          told_cut t0 t2 t3 now fc fd cuts.to_controller cuts.to_client _ (then_sent t0 t1 t2 now fc fd first second) cuts.told
+          ∙ ap (λ xs. with_both t0 (at now xs) (line f now (CutLine (reason.NoAnswer side.Client)) ∷ []))
+          (ap (λ d. (fc ++ d) ++ cuts.to_controller ∷ cuts.to_client ∷ []) none ∙ ap (λ xs. xs ++ cuts.to_controller ∷ cuts.to_client ∷ []) (append-nil fc)
+          ∙ sym (append_assoc fc (cuts.to_controller ∷ []) (cuts.to_client ∷ [])) ∙ ap (λ d. (fc ++ cuts.to_controller ∷ []) ++ (d ++ cuts.to_client ∷ [])) (sym none)));
+    }
+
+pub ticks_live : (f : Flow) (es : List SessionEvent) (now : ℕ) (y : SessionValue) (old new : Told) (closed : Option ℕ) → (t : SessionEvent) → Ticks f es now old new t → IsSessionOf f es t y →
+    closed ≡ closed_at f (t ∷ es) → TicksBy f es now y old new (life_by closed)
+ticks_live f es now y old new None t h s e = (t, h, record { stands = s; is_closed = sym (ap is_some e) })
+ticks_live f es now y old new (Some m) t h s e = (t, h, record { stands = s; is_closed = sym (ap is_some e) })

@@ -1,0 +1,19 @@
+use Rattle.std.proofs.Common.{◌≡◌, List, ℕ, [], ◌∷◌, ◌++◌, Some, None, refl, sym, ap, ◌∙◌, subst, drop}
+use Rattle.cf_lane.specs.Follows.{with_rest}
+use Rattle.cf_lane.specs.Handled.{state}
+use Rattle.cf_session.proofs.Lanes.{as_fed, follows_of, more_of}
+use Rattle.cf_session.proofs.handing.feed_lane.Goals as goal
+
+pub returns-clause-follows : goal.returns-clause-follows
+returns-clause-follows g c = λ client r h w piece ended behind lane uncut pending qc qk.
+    let asset = c.args.asset.now in
+    let now = c.args.now in
+    let s = c.args.side in
+    let fed = c.in_ok-fed.fed in
+    let d0 = g.D.Desk.value c.args.desk.now in
+    let d1 = g.D.Desk.value c.feed.new.desk in
+    let before = follows_of asset client c.args.lane.now r h w c.args.to_client.now c.args.to_controller.now lane uncut qc qk in
+    let x = c.in_ok-fed.ensures.apart h r (Some []) (Some w.log) piece ended behind pending before in
+    let r1 = with_rest s r (drop fed.used c.args.bytes.bytes) in
+    let f = as_fed c.pieces_join.ensures.nothing c.pieces_join.ensures.ends asset now s h r1 fed.cut (Some []) (state c.feed.new.self c.feed.new.to_client c.feed.new.to_controller (Some (w.log ++ x.more))) piece ended x.follows in
+    more_of asset client now s r1 h w (record { bytes = piece; ended = ended }) c.feed.new.self c.feed.new.to_client c.feed.new.to_controller fed.cut d0 d1 x.more (c.in_ok-fed.ensures.client ∙ lane.is_client) f c.feed.ensures.log.packets x.added

@@ -1,0 +1,39 @@
+use Rattle.std.proofs.Common.{◌≡◌, ◌∷◌, [], true, false, not, refl, sym, ap, ◌∙◌, subst}
+use Rattle.std.proofs.lemmas.Bool.{false≢true, true≢false}
+use Rattle.cf_leg.specs.Emits.{syn_ack_for}
+use Rattle.cf_leg.specs.Event.{Unspoken}
+use Rattle.cf_session.proofs.Greeting.{greeted_packets, greeted_stands, made_phase, own_of}
+use Rattle.cf_session.proofs.Telling.{told_sent}
+use Rattle.cf_session.specs.Parts.{IsLegBetween, SessionValue}
+use Rattle.cf_session.specs.Session.{client_ends}
+use Rattle.cf_session.specs.Told.{told}
+use Rattle.cf_session.specs.Turn.{GreetsClient, IsSteady, MayGreet}
+use Rattle.cf_session.proofs.session.Session.greet_client.Goals as goal
+
+pub greet-requires-clause-number : goal.greet-requires-clause-number
+greet-requires-clause-number g c = own_of _ c.in-Some.number (subst (λ s. IsSteady s _) (sym c.self.view_is) c.requires.steady).passive
+
+pub returns-then-not-is_made-clause-greets : goal.returns-then-not-is_made-clause-greets
+returns-then-not-is_made-clause-greets g c = λ flow d ds at may legs.
+    let may' = subst (λ n. MayGreet n d ds) c.in-Some.is may in
+    let s = subst (λ (s : SessionValue). IsLegBetween (client_ends flow) s.client s.to_client (record d { ending = Unspoken } ∷ ds)) (sym c.self.view_is) legs in
+    let made = made_phase c.open_legs_have_greeted.ensures (client_ends flow) c.self.inside.client c.self.inside.to_client d ds may'.0 may'.1 s in
+    absurd (false≢true (c.if-not-is_made.ensures.greeted ∙ ap not made))
+
+pub returns-clause-greets : goal.returns-clause-greets
+returns-clause-greets g c = λ flow d ds at may legs.
+    let may' = subst (λ n. MayGreet n d ds) c.in-Some.is may in
+    let s = subst (λ (s : SessionValue). IsLegBetween (client_ends flow) s.client s.to_client (record d { ending = Unspoken } ∷ ds)) (sym c.self.view_is) legs in
+    let law = c.open_legs_have_greeted.ensures in
+    let n = c.in-Some.number in
+    let now = c.args.now in
+    let e = c.in_ok-greet.ensures in
+    let d0 = g.D.Desk.value c.args.desk.now in
+    let d1 = g.D.Desk.value c.greet.new.desk in
+    let new : SessionValue = record { client = c.greet.new.self; controller = c.self.inside.controller; lane = c.self.inside.lane; to_client = c.self.inside.to_client; to_controller = c.self.inside.to_controller; closed = c.self.inside.closed; limit = c.self.inside.limit; source = c.self.inside.source } in
+    subst (λ x. GreetsClient flow now x d ds new (told d0) (told d1)) (sym c.in-Some.is)
+    (record {
+      stands = greeted_stands law (client_ends flow) c.self.inside.client c.self.inside.to_client d ds may'.0 may'.1 s flow refl n now c.greet.new.self _ _ e.greeted e.ends e.number at;
+      told = told_sent d0 d1 now (syn_ack_for (client_ends flow) flow.syn.seq n ∷ [])
+          (greeted_packets law (client_ends flow) c.self.inside.client c.self.inside.to_client d ds may'.0 may'.1 s flow refl n now c.greet.new.self _ _ e.greeted e.ends e.number at) e.lines;
+    })

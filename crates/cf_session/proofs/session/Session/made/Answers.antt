@@ -1,0 +1,36 @@
+use Rattle.std.proofs.Common.{◌≡◌, ◌+◌, arith, ℕ, [], None, refl, sym, ap, ◌∙◌, subst}
+use Rattle.cf_lane.specs.Handled.{LaneValue}
+use Rattle.cf_leg.specs.Calls.{no_marks}
+use Rattle.cf_leg.specs.LegValue.{IsLegOf, marks}
+use Rattle.cf_outq.specs.SendQueue.{Queue}
+use Rattle.cf_session.proofs.NewLane.{lane_begins}
+use Rattle.cf_session.proofs.session.Session.made.Goals as goal
+
+pub returns-clause-made : goal.returns-clause-made
+returns-clause-made c =
+    let client = c.in_ok-client.client in
+    let controller = c.in_ok-controller.controller in
+    let qc = c.in_ok-to_client.to_client in
+    let qk = c.in_ok-to_controller.to_controller in
+    let lane = c.in_ok-lane.lane in
+    let ec = c.in_ok-to_client.ensures.value in
+    let ek = c.in_ok-to_controller.ensures.value in
+    record {
+      client = record { is = c.in_ok-client.ensures.ends; stands = subst (λ (q : Queue). IsLegOf client (marks q) []) (sym ec) c.in_ok-client.ensures.stands };
+      controller = record { is = c.in_ok-controller.ensures.ends; stands = subst (λ (q : Queue). IsLegOf controller (marks q) []) (sym ek) c.in_ok-controller.ensures.stands };
+      client_base = c.in_ok-client.ensures.window.0;
+      controller_base = c.in_ok-controller.ensures.window.0;
+      client_edge = c.in_ok-client.ensures.window.1;
+      controller_edge = c.in_ok-controller.ensures.window.1;
+      controller_made = c.in_ok-controller.ensures.made;
+      lane = lane_begins c.args.asset.now c.args.syn.now.source lane qc qk c.in_ok-lane.ensures.client
+          (c.in_ok-lane.ensures.follows qc qk None c.in_ok-to_client.ensures.stands c.in_ok-to_controller.ensures.stands);
+      owed = c.in_ok-lane.ensures.counts.2;
+      commands = (let a = c.in_ok-lane.ensures.counts.0 in let b = c.in_ok-lane.ensures.counts.1 in omega (arith, a, b));
+      to_client = ec;
+      to_controller = ek;
+      client_list = c.in_ok-to_client.ensures.stands;
+      controller_list = c.in_ok-to_controller.ensures.stands;
+      closed = refl;
+      source = refl;
+    }

@@ -1,0 +1,76 @@
+-- What holds over every list of right events of a session. The main definitions are `EventsAreFixed` and `HasOneStream`. This
+-- project's own.
+use Rattle.std.specs.Prelude.{◌≡◌, ℕ, ◌+◌, ◌^◌, ◌≤◌, List, [], ◌∷◌, ◌++◌, length, map, slice_get, Option, None, Some, ℤ}
+use Rattle.cf_leg.specs.Event.{Came, Greeting, LegEvent, Nothing, Packet, sent_in}
+use Rattle.cf_leg.specs.Segment.{letters_in}
+use Rattle.cf_leg.specs.Told.{letters_sent, letters_sent_at, letters_sent_by, own_number}
+use Rattle.cf_leg.specs.declared.Role.{Role}
+use Rattle.cf_packet.specs.Packet.{PacketValue}
+use Rattle.cf_stream.specs.Position.{position}
+use Rattle.cf_stream.specs.Stream.{End, Letter, Stream, letter_count, letter_from, letters}
+use Rattle.cf_session.specs.Event.{AreEvents}
+use Rattle.cf_session.specs.Session.{Flow, SessionEvent, client_ends, clients, controller_ends, controllers, work_of}
+
+-- ---- isolation: a session's packets and their moments fix all that it sends and logs
+
+-- the packet that came on a leg, if one did
+abbrev pub packet_in : Came → Option PacketValue
+packet_in Nothing = None
+packet_in (Greeting packet) = None
+packet_in (Packet packet) = Some packet
+
+-- what an event is given: its moment, and the packet of one side or none
+pub record Given : Type 0 where
+  pub tick : ℕ
+  pub from_client : Option PacketValue
+  pub from_controller : Option PacketValue
+
+abbrev pub given : SessionEvent → Given
+given event = record { tick = event.client.tick; from_client = packet_in event.client.came; from_controller = packet_in event.controller.came }
+
+-- two lists of right events of one flow that are given the same are the same, whatever else the box did
+abbrev pub EventsAreFixed : Type 0
+EventsAreFixed =
+    (flow : Flow) (limit : ℕ) (xs ys : List SessionEvent) → AreEvents flow limit xs → AreEvents flow limit ys → map given xs ≡ map given ys → xs ≡ ys
+
+-- ---- one stream: whatever copies of letters a receiver takes, it gets a beginning of the stream to it
+
+-- what a segment carries: letters from a place on
+pub record Part : Type 0 where
+  pub at : ℤ
+  pub text : Stream
+
+-- the parts of segments. The place of a sequence number is read near the number of letters sent before it
+abbrev pub parts_in : (own sent : ℕ) → List PacketValue → List Part
+parts_in own sent [] = []
+parts_in own sent (p ∷ ps) = record { at = position p.seq own sent; text = letters_in p } ∷ parts_in own (letters_sent_by own sent p) ps
+
+-- the parts of all segments of an end
+abbrev pub parts_of : Role → List LegEvent → List Part
+parts_of r [] = []
+parts_of r (e ∷ es) =
+    parts_of r es ++ (parts_in (own_number r es) (letters_sent r es) e.fired ++ parts_in (own_number r (e ∷ es)) (letters_sent_at r es e) (sent_in e))
+
+-- one of the parts has this letter at this place
+pub record HasLetter (parts : List Part) (place : ℕ) (letter : Letter) : Type 0 where
+  pub index : ℕ
+  pub part : Part
+  pub is : slice_get parts index ≡ Some part
+  pub has : letter_from part.at part.text place ≡ Some letter
+
+-- each letter is one that some part has at its place, and nothing follows End
+pub record IsReassembly (parts : List Part) (taken : List Letter) : Type 0 where
+  pub each : (place : ℕ) (letter : Letter) → slice_get taken place ≡ Some letter → HasLetter parts place letter
+  pub end : (place : ℕ) → slice_get taken place ≡ Some End → length taken ≡ place + 1
+
+-- the letters of the stream begin with these
+pub record IsFront (whole : Stream) (taken : List Letter) : Type 0 where
+  pub more : List Letter
+  pub is : letters whole ≡ taken ++ more
+
+-- so it is towards the controller, and towards the client, of every session whose streams have at most 2^31 letters
+abbrev pub HasOneStream : Type 0
+HasOneStream =
+    (flow : Flow) (limit : ℕ) (events : List SessionEvent) (taken : List Letter) → AreEvents flow limit events →
+    (letter_count (work_of events).to_controller ≤ 2 ^ 31 → IsReassembly (parts_of (controller_ends flow).role (controllers events)) taken → IsFront (work_of events).to_controller taken)
+    × (letter_count (work_of events).to_client ≤ 2 ^ 31 → IsReassembly (parts_of (client_ends flow).role (clients events)) taken → IsFront (work_of events).to_client taken)

@@ -1,0 +1,10 @@
+pub mod Work
+pub mod Session
+pub mod Cuts
+pub mod Event
+pub mod Sent
+pub mod Told
+pub mod Parts
+pub mod Stands
+pub mod Turn
+pub mod Laws

@@ -1,0 +1,85 @@
+//! The first half of an event: the clock calls.
+ghost use Rattle.std.specs.Prelude.{◌≡◌, ℕ, ◌+◌, ◌-◌, ◌*◌, ◌^◌, ◌<◌, ◌≤◌, true, List, [], ◌∷◌, length, IfOk, IsErr, OnOk};
+ghost use Rattle.cf_outside.specs.Desk.{DeskValue, KeepsDesk};
+ghost use Rattle.cf_outside.specs.Faults.{HasCause};
+ghost use Rattle.cf_session.specs.Cuts.{is_no_answer};
+ghost use Rattle.cf_session.specs.Parts.{SessionValue};
+ghost use Rattle.cf_session.specs.Session.{Flow, SessionEvent, is_past};
+ghost use Rattle.cf_session.specs.Stands.{IsLife, IsSessionOf, IsSound, TicksBy, life_by};
+ghost use Rattle.cf_session.specs.Told.{told};
+
+use crate::life::Life;
+use crate::session::Session;
+use cf_audit::CutReason;
+use cf_leg::{ClockAnswer, events_begin};
+use cf_outside::Desk;
+use cf_policy::Asset;
+use cf_view::{Side, WriteFault};
+
+/// How long a closed session is kept, in microseconds. This project's own choice.
+const KEPT: u64 = 60_000_000;
+
+impl Session {
+    /// The first half of an event: the clock stands at a moment in microseconds. A session that closed sixty seconds before
+    /// has expired. Else its two ends have their clock calls, and a peer that was silent for too long cuts it.
+    pub fn on_clock<D: Desk>(
+        &mut self,
+        asset: &Asset,
+        now: u64,
+        desk: &mut D,
+    ) -> Result<Life, WriteFault>
+        requires sound { IsSound asset.now self.old }
+        requires moment { now < 2 ^ 32 * 1000000 }
+        requires whole { DeskValue.whole (D.value desk.old) ≡ true }
+        ensures ticks { IfOk result (λ life. (flow : Flow) (earlier : List SessionEvent) (last : SessionEvent) → flow.asset ≡ asset.now
+            → IsSessionOf flow earlier last self.old
+            → TicksBy flow (last ∷ earlier) now self.new (told (D.value desk.old)) (told (D.value desk.new)) life) }
+        ensures sound { IfOk result (λ life. IsLife life → IsSound asset.now self.new) }
+        ensures same { (SessionValue.limit self.new ≡ SessionValue.limit self.old) × (SessionValue.source self.new ≡ SessionValue.source self.old) }
+        ensures keeps { KeepsDesk (D.value desk.old) (D.value desk.new) }
+        ensures whole { OnOk result (DeskValue.whole (D.value desk.new) ≡ true) }
+        ensures cause { HasCause (DeskValue.faults (D.value desk.old)) (DeskValue.faults (D.value desk.new)) (IsErr result) }
+    {
+        if is_over(self.closed, now) {
+            return Ok(Life::Expired);
+        }
+        events_begin();
+        if is_silent(
+            self.controller
+                .on_clock(now, &mut self.to_controller, desk)?,
+        ) {
+            return self.cut_at(asset, now, CutReason::NoAnswer(Side::Controller), desk);
+        }
+        if is_silent(self.client.on_clock(now, &mut self.to_client, desk)?) {
+            return self.cut_at(asset, now, CutReason::NoAnswer(Side::Client), desk);
+        }
+        Ok(life_of(self.closed))
+    }
+}
+
+/// Sixty seconds have passed since a closing.
+fn is_over(closed: Option<u64>, now: u64) -> bool
+    ensures { result ≡ is_past closed now }
+{
+    match closed {
+        None => false,
+        Some(moment) => moment <= now && now - moment >= KEPT,
+    }
+}
+
+fn is_silent(answer: ClockAnswer) -> bool
+    ensures { result ≡ is_no_answer answer }
+{
+    matches!(answer, ClockAnswer::NoAnswer)
+}
+
+/// The life of a session that goes on.
+pub(crate) fn life_of(closed: Option<u64>) -> Life
+    ensures value { result ≡ life_by closed }
+    ensures goes_on { IsLife result }
+{
+    match closed {
+        None => Life::Live,
+        Some(_) => Life::Closed,
+    }
+}

@@ -1,0 +1,78 @@
+//! How a session is cut, and the lines that it writes.
+ghost use Rattle.std.specs.Prelude.{◌≡◌, ◌+◌, ◌*◌, ◌^◌, ◌<◌, ◌≤◌, true, List, [], ◌∷◌, IfOk, IsErr, OnOk};
+ghost use Rattle.cf_audit.specs.Line.{HasShortRule, what_value};
+ghost use Rattle.cf_lane.specs.Handled.{HasAdded, WritesLog};
+ghost use Rattle.cf_lane.specs.Log.{HasPlainRule, line_about};
+ghost use Rattle.cf_leg.specs.Event.{LegEvent, Unspoken};
+ghost use Rattle.cf_outside.specs.Desk.{DeskValue, KeepsDesk};
+ghost use Rattle.cf_outside.specs.Faults.{HasCause};
+ghost use Rattle.cf_policy.specs.Within.{IsAssetWithin};
+ghost use Rattle.cf_rebuild.specs.ReceiveWindow.{base_of};
+ghost use Rattle.cf_session.specs.Parts.{IsLegBetween, SessionValue};
+ghost use Rattle.cf_session.specs.Session.{Flow, client_ends, client_of, controller_ends};
+ghost use Rattle.cf_session.specs.Told.{told};
+ghost use Rattle.cf_session.specs.Turn.{CutsBoth};
+
+use crate::life::Life;
+use crate::session::Session;
+use cf_audit::{CutReason, Line, What};
+use cf_lane::put_line;
+use cf_outside::Desk;
+use cf_policy::Asset;
+use cf_view::{Endpoint, WriteFault};
+
+/// Puts a line about a client of an asset.
+pub(crate) fn log_line<D: Desk>(
+    asset: &Asset,
+    client: Endpoint,
+    now: u64,
+    what: What<'_>,
+    desk: &mut D,
+) -> Result<(), WriteFault>
+    requires within { IsAssetWithin asset.now }
+    requires short { HasShortRule (what_value what) }
+    requires plain { HasPlainRule (what_value what) }
+    requires whole { DeskValue.whole (D.value desk.old) ≡ true }
+    ensures lines { OnOk result (HasAdded (line_about asset.now client now (what_value what.entry) ∷ []) (D.value desk.old) (D.value desk.new)) }
+    ensures whole { OnOk result (DeskValue.whole (D.value desk.new) ≡ true) }
+    ensures log { WritesLog (D.value desk.old) (D.value desk.new) }
+    ensures cause { HasCause (DeskValue.faults (D.value desk.old)) (DeskValue.faults (D.value desk.new)) (IsErr result) }
+{
+    let line = Line {
+        moment: now,
+        client,
+        asset: asset.name.as_str(),
+        what,
+    };
+    put_line(&line, desk)
+}
+
+impl Session {
+    /// Cuts the session: each peer gets an RST, that of the controller first, and the log a line.
+    pub(crate) fn cut_at<D: Desk>(
+        &mut self,
+        asset: &Asset,
+        now: u64,
+        reason: CutReason,
+        desk: &mut D,
+    ) -> Result<Life, WriteFault>
+        requires within { IsAssetWithin asset.now }
+        requires client_base { base_of (self.old.client).window ≤ 2 ^ 30 + 16384 }
+        requires controller_base { base_of (self.old.controller).window ≤ 2 ^ 30 + 16384 }
+        requires moment { now < 2 ^ 32 * 1000000 }
+        requires whole { DeskValue.whole (D.value desk.old) ≡ true }
+        ensures cuts { IfOk result (λ life. (life ≡ Life.Cut reason) × ((flow : Flow) (cs ds : List LegEvent) (c d : LegEvent) → flow.asset ≡ asset.now → SessionValue.source self.old ≡ client_of flow
+            → IsLegBetween (controller_ends flow) (SessionValue.controller self.old) (SessionValue.to_controller self.old) (record c { ending = Unspoken } ∷ cs)
+            → IsLegBetween (client_ends flow) (SessionValue.client self.old) (SessionValue.to_client self.old) (record d { ending = Unspoken } ∷ ds)
+            → CutsBoth flow cs ds c d now reason (told (D.value desk.old)) (told (D.value desk.new)))) }
+        ensures same { (SessionValue.limit self.new ≡ SessionValue.limit self.old) × (SessionValue.source self.new ≡ SessionValue.source self.old) × (SessionValue.lane self.new ≡ SessionValue.lane self.old) }
+        ensures keeps { KeepsDesk (D.value desk.old) (D.value desk.new) }
+        ensures whole { OnOk result (DeskValue.whole (D.value desk.new) ≡ true) }
+        ensures cause { HasCause (DeskValue.faults (D.value desk.old)) (DeskValue.faults (D.value desk.new)) (IsErr result) }
+    {
+        self.controller.cut(now, &self.to_controller, desk)?;
+        self.client.cut(now, &self.to_client, desk)?;
+        log_line(asset, self.source, now, What::Cut(reason), desk)?;
+        Ok(Life::Cut(reason))
+    }
+}

@@ -1,0 +1,170 @@
+//! The bytes that a side's window has taken are handed to the lane.
+ghost use Rattle.std.specs.Prelude.{◌≡◌, ℕ, ◌+◌, ◌*◌, ◌^◌, ◌<◌, ◌≤◌, Bool, true, false, List, ◌++◌, length, drop, IfOk, IsErr, OnOk, None};
+ghost use Rattle.cf_lane.specs.Follows.{IsEndBehindCut, Rests, rest_of, with_rest};
+ghost use Rattle.cf_lane.specs.Handled.{CountsBy, EndsOther, Grows, HasRoom, IsLaneOf, IsOpen, MayEnd, debt};
+ghost use Rattle.cf_lane.specs.History.{Element};
+ghost use Rattle.cf_leg.specs.Event.{LegEvent};
+ghost use Rattle.cf_leg.specs.LegValue.{IsLegOf, Marks};
+ghost use Rattle.cf_outq.specs.SendQueue.{IsQueueOf};
+ghost use Rattle.cf_outside.specs.Desk.{DeskValue, KeepsDesk};
+ghost use Rattle.cf_outside.specs.Faults.{HasCause};
+ghost use Rattle.cf_policy.specs.Within.{IsAssetWithin};
+ghost use Rattle.cf_rebuild.specs.ReceiveWindow.{IsWindow};
+ghost use Rattle.cf_view.specs.declared.Endpoint.{Endpoint as EndpointOf};
+ghost use Rattle.cf_session.specs.Parts.{IsLaneAfter};
+ghost use Rattle.cf_session.specs.Told.{told};
+ghost use Rattle.cf_session.specs.Turn.{FollowsMore, HandsOver};
+ghost use Rattle.cf_session.specs.Work.{Work, fed_at};
+
+use cf_audit::CutReason;
+use cf_lane::{Fed, Lane, pieces_join};
+use cf_leg::Leg;
+use cf_outq::Outq;
+use cf_outside::Desk;
+use cf_policy::Asset;
+use cf_view::{Side, View, WriteFault};
+
+/// Hands bytes to the lane.
+fn feed_lane<D: Desk>(
+    lane: &mut Lane,
+    asset: &Asset,
+    now: u64,
+    side: Side,
+    bytes: View<'_>,
+    to_client: &mut Outq,
+    to_controller: &mut Outq,
+    desk: &mut D,
+) -> Result<Fed, WriteFault>
+    requires serves { IsLaneOf asset.now lane.old }
+    requires within { IsAssetWithin asset.now }
+    requires whole { DeskValue.whole (D.value desk.old) ≡ true }
+    requires open { IsOpen side to_client.old to_controller.old }
+    requires client_room { HasRoom (debt lane.old + 2 * length bytes.bytes) to_client.old }
+    requires controller_room { HasRoom (debt lane.old + 2 * length bytes.bytes) to_controller.old }
+    requires counts { lane.old.admitted + lane.old.refused + length bytes.bytes < 2 ^ 64 }
+    ensures used { IfOk result (λ fed. fed.used ≤ length bytes.entry.bytes) }
+    ensures left { IfOk result (λ fed. fed.cut ≡ None → length (drop fed.used bytes.entry.bytes) < 300) }
+    ensures follows { IfOk result (λ fed. (client : EndpointOf) (rests : Rests) (earlier : List Element) (before : Work) (piece : List ℕ) (ended : Bool)
+        → IsEndBehindCut ended fed.cut → IsLaneAfter asset.now client lane.old rests earlier before → before.cut ≡ None
+        → bytes.entry.bytes ≡ rest_of side rests ++ piece → IsQueueOf to_client.old before.to_client → IsQueueOf to_controller.old before.to_controller
+        → FollowsMore asset.now client now side (with_rest side rests (drop fed.used bytes.entry.bytes)) earlier before (record { bytes = piece; ended = ended })
+        lane.new to_client.new to_controller.new fed.cut (told (D.value desk.old)) (told (D.value desk.new))) }
+    ensures serves { OnOk result (IsLaneOf asset.now lane.new) }
+    ensures client_grows { IfOk result (λ fed. Grows (2 * fed.used) (debt lane.old) (debt lane.new) to_client.old to_client.new) }
+    ensures controller_grows { IfOk result (λ fed. Grows (2 * fed.used) (debt lane.old) (debt lane.new) to_controller.old to_controller.new) }
+    ensures debt { OnOk result (debt lane.new ≤ 5300) }
+    ensures counts { IfOk result (λ fed. CountsBy fed.used lane.old lane.new) }
+    ensures packets { DeskValue.packets (D.value desk.new) ≡ DeskValue.packets (D.value desk.old) }
+    ensures keeps { KeepsDesk (D.value desk.old) (D.value desk.new) }
+    ensures whole { OnOk result (DeskValue.whole (D.value desk.new) ≡ true) }
+    ensures cause { HasCause (DeskValue.faults (D.value desk.old)) (DeskValue.faults (D.value desk.new)) (IsErr result) }
+{
+    pieces_join();
+    let fed = lane.feed(asset, now, side, bytes, to_client, to_controller, desk)?;
+    Ok(fed)
+}
+
+/// Hands the End of a side to the lane, behind bytes that were handed over at the same moment, perhaps none.
+fn end_lane<D: Desk>(
+    lane: &mut Lane,
+    asset: &Asset,
+    now: u64,
+    side: Side,
+    rest: u64,
+    to_client: &mut Outq,
+    to_controller: &mut Outq,
+    desk: &mut D,
+) -> Result<(), WriteFault>
+    requires serves { IsLaneOf asset.now lane.old }
+    requires within { IsAssetWithin asset.now }
+    requires whole { DeskValue.whole (D.value desk.old) ≡ true }
+    requires open { IsOpen side to_client.old to_controller.old }
+    requires limit { MayEnd side to_client.old to_controller.old }
+    ensures follows { OnOk result ((client : EndpointOf) (rests : Rests) (earlier : List Element) (before : Work) (piece : List ℕ) (middle : Work)
+        → IsLaneAfter asset.now client lane.old rests (earlier ++ fed_at now side (record { bytes = piece; ended = false })) middle → middle.cut ≡ None
+        → rest ≡ length (rest_of side rests) → IsQueueOf to_client.old middle.to_client → IsQueueOf to_controller.old middle.to_controller
+        → FollowsMore asset.now client now side rests earlier middle (record { bytes = piece; ended = true })
+        lane.new to_client.new to_controller.new None (told (D.value desk.old)) (told (D.value desk.new))) }
+    ensures queues { OnOk result (EndsOther side to_client.old to_controller.old to_client.new to_controller.new) }
+    ensures lane { lane.new ≡ lane.old }
+    ensures packets { DeskValue.packets (D.value desk.new) ≡ DeskValue.packets (D.value desk.old) }
+    ensures keeps { KeepsDesk (D.value desk.old) (D.value desk.new) }
+    ensures whole { OnOk result (DeskValue.whole (D.value desk.new) ≡ true) }
+    ensures cause { HasCause (DeskValue.faults (D.value desk.old)) (DeskValue.faults (D.value desk.new)) (IsErr result) }
+{
+    pieces_join();
+    lane.ended(asset, now, side, rest, to_client, to_controller, desk)?;
+    Ok(())
+}
+
+/// The bytes that were taken and not consumed.
+fn pending_of<'a>(leg: &'a Leg) -> View<'a>
+    ensures value { result.bytes ≡ leg.now.window.pending }
+    ensures bounds { IsWindow leg.now.window }
+{
+    let _base = leg.window().base();
+    leg.window().pending()
+}
+
+/// Whether End was taken.
+pub(crate) fn has_ended(leg: &Leg) -> bool
+    ensures value { result ≡ leg.now.window.ended }
+    ensures bounds { IsWindow leg.now.window }
+{
+    let _base = leg.window().base();
+    leg.window().ended()
+}
+
+/// Hands the pending bytes of a leg to the lane, and its End where that was taken. Nothing is handed over once that was.
+pub(crate) fn hand_over<D: Desk>(
+    leg: &mut Leg,
+    lane: &mut Lane,
+    asset: &Asset,
+    now: u64,
+    side: Side,
+    to_client: &mut Outq,
+    to_controller: &mut Outq,
+    desk: &mut D,
+) -> Result<Option<CutReason>, WriteFault>
+    requires serves { IsLaneOf asset.now lane.old }
+    requires within { IsAssetWithin asset.now }
+    requires whole { DeskValue.whole (D.value desk.old) ≡ true }
+    requires open { IsOpen side to_client.old to_controller.old }
+    requires client_room { HasRoom (debt lane.old + 2 * length (leg.old.window.pending)) to_client.old }
+    requires controller_room { HasRoom (debt lane.old + 2 * length (leg.old.window.pending)) to_controller.old }
+    requires counts { lane.old.admitted + lane.old.refused + length (leg.old.window.pending) < 2 ^ 64 }
+    ensures follows { IfOk result (λ cut. (client : EndpointOf) (rests : Rests) (earlier : List Element) (before : Work) (piece : List ℕ)
+        → IsLaneAfter asset.now client lane.old rests earlier before → before.cut ≡ None
+        → leg.old.window.pending ≡ rest_of side rests ++ piece → IsQueueOf to_client.old before.to_client → IsQueueOf to_controller.old before.to_controller
+        → FollowsMore asset.now client now side (with_rest side rests leg.new.window.pending) earlier before (record { bytes = piece; ended = leg.old.window.ended })
+        lane.new to_client.new to_controller.new cut (told (D.value desk.old)) (told (D.value desk.new))) }
+    ensures serves { OnOk result (IsLaneOf asset.now lane.new) }
+    ensures rest { IfOk result (λ cut. cut ≡ None → length leg.new.window.pending < 300) }
+    ensures leg { OnOk result (leg.new ≡ record leg.old { window = leg.new.window }) }
+    ensures stands { OnOk result ((m : Marks) (es : List LegEvent) → IsLegOf leg.old m es → IsLegOf leg.new m es) }
+    ensures numbers { OnOk result (HandsOver side leg.old.window leg.new.window lane.old lane.new to_client.old to_client.new to_controller.old to_controller.new) }
+    ensures keeps { KeepsDesk (D.value desk.old) (D.value desk.new) }
+    ensures whole { OnOk result (DeskValue.whole (D.value desk.new) ≡ true) }
+    ensures cause { HasCause (DeskValue.faults (D.value desk.old)) (DeskValue.faults (D.value desk.new)) (IsErr result) }
+{
+    let Fed { used, cut } = feed_lane(
+        lane,
+        asset,
+        now,
+        side,
+        pending_of(leg),
+        to_client,
+        to_controller,
+        desk,
+    )?;
+    leg.consume(used);
+    if cut.is_some() {
+        return Ok(cut);
+    }
+    if !has_ended(leg) {
+        return Ok(None);
+    }
+    let rest = pending_of(leg).len() as u64;
+    end_lane(lane, asset, now, side, rest, to_client, to_controller, desk)?;
+    Ok(None)
+}

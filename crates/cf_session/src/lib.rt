@@ -1,0 +1,20 @@
+//! One session: two ends of TCP connections, and the lane between them.
+#![tactic(auto)]
+
+mod clock;
+mod cutting;
+mod deciding;
+mod handing;
+mod hearing;
+mod laws;
+mod life;
+mod packet;
+mod session;
+mod speaking;
+
+pub use laws::{events_are_fixed, has_one_stream};
+pub use life::Life;
+pub use session::{BeginFault, Session};
+
+#[cfg(test)]
+mod tests;

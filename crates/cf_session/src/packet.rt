@@ -1,0 +1,123 @@
+//! The second half of an event: a packet.
+ghost use Rattle.std.specs.Prelude.{◌≡◌, ℕ, ◌+◌, ◌-◌, ◌*◌, ◌^◌, ◌<◌, ◌≤◌, true, List, [], ◌∷◌, length, IfOk, IsErr, OnOk};
+ghost use Rattle.cf_outside.specs.Desk.{DeskValue, KeepsDesk};
+ghost use Rattle.cf_outside.specs.Faults.{HasCause};
+ghost use Rattle.cf_lane.specs.Handled.{CountsBy, IsLaneOf};
+ghost use Rattle.cf_leg.specs.Event.{moment};
+ghost use Rattle.cf_packet.specs.Packet.{packet_value};
+ghost use Rattle.cf_session.specs.Event.{IsTick};
+ghost use Rattle.cf_session.specs.Parts.{AreParts, SessionValue};
+ghost use Rattle.cf_session.specs.Session.{Flow, SessionEvent};
+ghost use Rattle.cf_session.specs.Stands.{HearsBy, IsLife, IsSessionOf, IsSound};
+ghost use Rattle.cf_session.specs.Told.{told};
+ghost use Rattle.cf_session.specs.Turn.{HeardBy, IsHalf, IsSteady};
+
+use crate::clock::life_of;
+use crate::deciding::{greeting_number, is_reset, why};
+use crate::hearing::{Heard, hear};
+use crate::life::Life;
+use crate::session::Session;
+use cf_leg::base_counts_the_taken;
+use cf_outside::Desk;
+use cf_packet::Packet;
+use cf_policy::Asset;
+use cf_view::{Side, WriteFault};
+
+impl Session {
+    /// The second half of an event, a microsecond after the first: a packet came from the end of a side. What it brings is
+    /// taken, judged and passed on; both ends then speak, or the session is cut.
+    pub fn on_packet<D: Desk>(
+        &mut self,
+        asset: &Asset,
+        now: u64,
+        side: Side,
+        packet: &Packet<'_>,
+        desk: &mut D,
+    ) -> Result<Life, WriteFault>
+        requires sound { IsSound asset.now self.old }
+        requires text { length packet.now.text.now ≤ 65535 }
+        requires moment { now < 2 ^ 32 * 1000000 }
+        requires whole { DeskValue.whole (D.value desk.old) ≡ true }
+        ensures hears { IfOk result (λ life. (flow : Flow) (earlier : List SessionEvent) (half : SessionEvent) → flow.asset ≡ asset.now
+            → IsSessionOf flow earlier half self.old → IsTick flow earlier half.client.tick half → moment half.client ≡ now
+            → HearsBy flow (SessionValue.limit self.old) earlier half side (packet_value packet.now) self.new (told (D.value desk.old)) (told (D.value desk.new)) life) }
+        ensures sound { IfOk result (λ life. IsLife life → IsSound asset.now self.new) }
+        ensures few { OnOk result (CountsBy 32768 (SessionValue.lane self.old) (SessionValue.lane self.new)) }
+        ensures same { (SessionValue.limit self.new ≡ SessionValue.limit self.old) × (SessionValue.source self.new ≡ SessionValue.source self.old) }
+        ensures keeps { KeepsDesk (D.value desk.old) (D.value desk.new) }
+        ensures whole { OnOk result (DeskValue.whole (D.value desk.new) ≡ true) }
+        ensures cause { HasCause (DeskValue.faults (D.value desk.old)) (DeskValue.faults (D.value desk.new)) (IsErr result) }
+    {
+        let heard = self.hear(asset, now, side, packet, desk)?;
+        base_counts_the_taken();
+        let full = self.full();
+        if let Some(reason) = why(
+            self.closed.is_some(),
+            is_reset(heard.answer),
+            side,
+            heard.cut,
+            full,
+        ) {
+            return self.cut_at(asset, now, reason, desk);
+        }
+        self.speak(now, greeting_number(side, heard.answer, packet.seq), desk)?;
+        self.close(asset, now, desk)?;
+        Ok(life_of(self.closed))
+    }
+
+    /// The packet is heard by the leg of its side and by the lane.
+    fn hear<D: Desk>(
+        &mut self,
+        asset: &Asset,
+        now: u64,
+        side: Side,
+        packet: &Packet<'_>,
+        desk: &mut D,
+    ) -> Result<Heard, WriteFault>
+        requires sound { IsSound asset.now self.old }
+        requires text { length packet.now.text.now ≤ 65535 }
+        requires moment { now < 2 ^ 32 * 1000000 }
+        requires whole { DeskValue.whole (D.value desk.old) ≡ true }
+        ensures hears { IfOk result (λ heard. (flow : Flow) (earlier : List SessionEvent) (half : SessionEvent) → flow.asset ≡ asset.now
+            → IsHalf half → moment half.client ≡ now → AreParts flow earlier half self.old
+            → HeardBy flow earlier half side (packet_value packet.now) self.new heard.answer heard.cut (told (D.value desk.old)) (told (D.value desk.new))) }
+        ensures steady { IfOk result (λ heard. IsSteady self.new heard.cut) }
+        ensures serves { OnOk result (IsLaneOf asset.now (SessionValue.lane self.new)) }
+        ensures few { OnOk result (CountsBy 32768 (SessionValue.lane self.old) (SessionValue.lane self.new)) }
+        ensures same { (SessionValue.limit self.new ≡ SessionValue.limit self.old) × (SessionValue.source self.new ≡ SessionValue.source self.old) × (SessionValue.closed self.new ≡ SessionValue.closed self.old) }
+        ensures keeps { KeepsDesk (D.value desk.old) (D.value desk.new) }
+        ensures whole { OnOk result (DeskValue.whole (D.value desk.new) ≡ true) }
+        ensures cause { HasCause (DeskValue.faults (D.value desk.old)) (DeskValue.faults (D.value desk.new)) (IsErr result) }
+    {
+        match side {
+            Side::Client => {
+                let heard = hear(
+                    &mut self.client,
+                    &mut self.lane,
+                    asset,
+                    now,
+                    Side::Client,
+                    packet,
+                    &mut self.to_client,
+                    &mut self.to_controller,
+                    desk,
+                )?;
+                Ok(heard)
+            }
+            Side::Controller => {
+                let heard = hear(
+                    &mut self.controller,
+                    &mut self.lane,
+                    asset,
+                    now,
+                    Side::Controller,
+                    packet,
+                    &mut self.to_client,
+                    &mut self.to_controller,
+                    desk,
+                )?;
+                Ok(heard)
+            }
+        }
+    }
+}

@@ -1,0 +1,104 @@
+//! Both ends speak, that of the controller first, and the client is greeted where the controller's end has opened.
+ghost use Rattle.std.specs.Prelude.{◌≡◌, ℕ, ◌+◌, ◌-◌, ◌*◌, ◌^◌, ◌<◌, ◌≤◌, true, nat_le, ◌&&◌, List, ◌∷◌, length, IsErr, OnOk, None};
+ghost use Rattle.cf_leg.specs.Event.{LegEvent, Unspoken, moment};
+ghost use Rattle.cf_outq.specs.SendQueue.{IsQueueOf, queue_length};
+ghost use Rattle.cf_outside.specs.Desk.{DeskValue, KeepsDesk};
+ghost use Rattle.cf_outside.specs.Faults.{HasCause};
+ghost use Rattle.cf_rebuild.specs.ReceiveWindow.{base_of};
+ghost use Rattle.cf_stream.specs.Stream.{Stream};
+ghost use Rattle.cf_session.specs.Parts.{IsLegBetween, SessionValue};
+ghost use Rattle.cf_session.specs.Session.{Flow, client_ends, controller_ends};
+ghost use Rattle.cf_session.specs.Told.{told};
+ghost use Rattle.cf_session.specs.Turn.{GreetsClient, IsSteady, MayGreet, OnlySpeaks, SaysBoth, roomy_by};
+
+use crate::handing::has_ended;
+use crate::session::Session;
+use cf_leg::open_legs_have_greeted;
+use cf_outq::Outq;
+use cf_outside::Desk;
+use cf_view::WriteFault;
+
+/// How many letters of a queue may be unacknowledged where edges move. This project's own choice.
+const FEW: i64 = 16_384;
+
+/// In both directions few letters are not acknowledged.
+fn is_roomy(to_client: &Outq, to_controller: &Outq) -> bool
+    ensures value { result ≡ roomy_by to_client.now to_controller.now }
+    ensures kept { result ≡ true → (length to_client.now.kept ≤ 16384) × (length to_controller.now.kept ≤ 16384) }
+{
+    has_few(to_client) && has_few(to_controller)
+}
+
+fn has_few(queue: &Outq) -> bool
+    ensures value { result ≡ nat_le (queue_length queue.now - queue.now.acked) 16384 }
+    ensures kept { result ≡ true → length queue.now.kept ≤ 16384 }
+{
+    queue.unacked() <= FEW
+}
+
+impl Session {
+    /// Greets the client with the number of the controller's SYN, where there is one.
+    fn greet_client<D: Desk>(
+        &mut self,
+        now: u64,
+        number: Option<u32>,
+        desk: &mut D,
+    ) -> Result<(), WriteFault>
+        requires steady { IsSteady self.old None }
+        requires moment { now < 2 ^ 32 * 1000000 }
+        requires whole { DeskValue.whole (D.value desk.old) ≡ true }
+        ensures greets { OnOk result ((flow : Flow) (d : LegEvent) (ds : List LegEvent) → now ≡ moment d → MayGreet number d ds
+            → IsLegBetween (client_ends flow) (SessionValue.client self.old) (SessionValue.to_client self.old) (record d { ending = Unspoken } ∷ ds)
+            → GreetsClient flow now number d ds self.new (told (D.value desk.old)) (told (D.value desk.new))) }
+        ensures steady { OnOk result (IsSteady self.new None) }
+        ensures window { OnOk result ((SessionValue.client self.new).window ≡ record (SessionValue.client self.old).window { edge = (SessionValue.client self.new).window.edge }) }
+        ensures same { self.new ≡ record self.old { client = SessionValue.client self.new } }
+        ensures keeps { KeepsDesk (D.value desk.old) (D.value desk.new) }
+        ensures whole { OnOk result (DeskValue.whole (D.value desk.new) ≡ true) }
+        ensures cause { HasCause (DeskValue.faults (D.value desk.old)) (DeskValue.faults (D.value desk.new)) (IsErr result) }
+    {
+        let Some(number) = number else {
+            return Ok(());
+        };
+        open_legs_have_greeted();
+        if !self.client.is_made() {
+            return Ok(());
+        }
+        self.client.greet(now, number, desk)?;
+        Ok(())
+    }
+
+    /// Both ends speak, that of the controller first. Where the controller's end has opened, with a number, the client is
+    /// greeted with it.
+    pub(crate) fn speak<D: Desk>(
+        &mut self,
+        now: u64,
+        number: Option<u32>,
+        desk: &mut D,
+    ) -> Result<(), WriteFault>
+        requires steady { IsSteady self.old None }
+        requires moment { now < 2 ^ 32 * 1000000 }
+        requires whole { DeskValue.whole (D.value desk.old) ≡ true }
+        ensures says { OnOk result ((flow : Flow) (c d : LegEvent) (cs ds : List LegEvent) (w v : Stream) → now ≡ moment c → now ≡ moment d → MayGreet number d ds
+            → IsLegBetween (controller_ends flow) (SessionValue.controller self.old) (SessionValue.to_controller self.old) (record c { ending = Unspoken } ∷ cs)
+            → IsLegBetween (client_ends flow) (SessionValue.client self.old) (SessionValue.to_client self.old) (record d { ending = Unspoken } ∷ ds)
+            → IsQueueOf (SessionValue.to_client self.old) w → IsQueueOf (SessionValue.to_controller self.old) v
+            → SaysBoth flow now number c cs d ds w v (roomy_by (SessionValue.to_client self.old) (SessionValue.to_controller self.old)) self.new (told (D.value desk.old)) (told (D.value desk.new))) }
+        ensures client_stands { OnOk result ((w : Stream) → IsQueueOf (SessionValue.to_client self.old) w → IsQueueOf (SessionValue.to_client self.new) w) }
+        ensures controller_stands { OnOk result ((w : Stream) → IsQueueOf (SessionValue.to_controller self.old) w → IsQueueOf (SessionValue.to_controller self.new) w) }
+        ensures steady { OnOk result (IsSteady self.new None) }
+        ensures only { OnOk result (OnlySpeaks self.old self.new) }
+        ensures same { (SessionValue.limit self.new ≡ SessionValue.limit self.old) × (SessionValue.source self.new ≡ SessionValue.source self.old) }
+        ensures keeps { KeepsDesk (D.value desk.old) (D.value desk.new) }
+        ensures whole { OnOk result (DeskValue.whole (D.value desk.new) ≡ true) }
+        ensures cause { HasCause (DeskValue.faults (D.value desk.old)) (DeskValue.faults (D.value desk.new)) (IsErr result) }
+    {
+        let _ended = (has_ended(&self.client), has_ended(&self.controller));
+        let roomy = is_roomy(&self.to_client, &self.to_controller);
+        self.controller
+            .speak(now, roomy, &mut self.to_controller, desk)?;
+        self.greet_client(now, number, desk)?;
+        self.client.speak(now, roomy, &mut self.to_client, desk)?;
+        Ok(())
+    }
+}
