@@ -1,25 +1,19 @@
 -- The second half of an event of a session, from what its steps did.
-use Rattle.std.proofs.Common.{◌≡◌, ℕ, ◌+◌, Bool, true, false, not, cond, ◌&&◌, ◌||◌, List, [], ◌∷◌, ◌++◌, length, drop, ◌⊎◌, inl, inr, Option, Some, None, refl, sym, ap, ◌∙◌, subst}
+use Rattle.std.proofs.Common.{◌≡◌, ℕ, Bool, true, false, cond, ◌&&◌, ◌||◌, List, [], ◌∷◌, ◌++◌, length, drop, Option, Some, None, refl, sym, ap, ◌∙◌}
 use Rattle.std.specs.Option.{is_some, option_or}
-use Rattle.std.proofs.lemmas.Bool.{false≢true, true≢false}
-use Rattle.std.proofs.lemmas.List.{append-nil}
 use Rattle.std.proofs.Math.Seq.{drop-append_seam}
-use Rattle.cf_audit.specs.Line.{Close, Cut as CutLine}
 use Rattle.cf_audit.specs.declared.CutReason.{CutReason}
-use Rattle.cf_lane.specs.Log.{line_about}
-use Rattle.cf_leg.specs.Event.{Came, Cut, Ending, Greeting, LegEvent, Nothing, Packet, Spoke, Unspoken, greeted_by, is_idle, moment}
+use Rattle.cf_leg.specs.Event.{Came, Ending, Greeting, LegEvent, Nothing, Packet, Spoke, Unspoken, greeted_by, is_idle}
 use Rattle.cf_leg.specs.Heard.{answer_to, end_state, is_opening, opened, opening}
 use Rattle.cf_leg.specs.Emits.{syn_ack_for}
 use Rattle.cf_leg.specs.Told.{greeting, greeting_in, is_greeted}
 use Rattle.cf_leg.specs.declared.LegAnswer.{LegAnswer}
 use Rattle.cf_packet.specs.Packet.{PacketValue}
-use Rattle.cf_policy.specs.declared.Asset.{Asset}
-use Rattle.cf_view.specs.declared.Endpoint.{Endpoint}
 use Rattle.cf_view.specs.declared.Side.{Side}
 use Rattle.cf_view.specs.declared.Side.TheVariants as side
-use Rattle.cf_session.proofs.Heards.{Suits, opens_once}
-use Rattle.cf_session.specs.Event.{AreEvents, EndsTick, IsTick, came_client, came_controller, is_none}
-use Rattle.cf_session.specs.Parts.{IsLaneAfter, SessionValue}
+use Rattle.cf_session.proofs.Heards.{opens_once}
+use Rattle.cf_session.specs.Event.{AreEvents, EndsTick, IsTick, came_client, came_controller}
+use Rattle.cf_session.specs.Parts.{SessionValue}
 use Rattle.cf_session.specs.Sent.{first_line, late}
 use Rattle.cf_session.specs.Session.{Flow, SessionEvent, client_ends, clients, controller_ends, controllers}
 use Rattle.cf_session.specs.Stands.{IsSessionOf}

@@ -1,12 +1,11 @@
 -- The beginning of a session.
-use Rattle.std.proofs.Common.{◌≡◌, ℕ, ◌+◌, ◌<◌, true, false, List, [], ◌∷◌, ◌++◌, length, Option, None, refl, sym, ap, ◌∙◌, subst, arith}
+use Rattle.std.proofs.Common.{◌≡◌, ℕ, ◌+◌, true, List, [], ◌∷◌, length, Option, None, refl, sym, ap, ◌∙◌, subst, arith}
 use Rattle.std.proofs.lemmas.Bool.{false≢true}
 use Rattle.cf_audit.specs.Line.{Begun}
 use Rattle.cf_leg.specs.Calls.{Greeted, Spoken, Widens, window_by}
 use Rattle.cf_leg.specs.Emits.{IsGreeting, IsRight, syn}
 use Rattle.cf_leg.specs.Emitted.{with_segments}
-use Rattle.cf_leg.specs.Event.{Greeting, LegEvent, Spoke, begun, is_settled, moment}
-use Rattle.cf_leg.specs.Heard.{offers}
+use Rattle.cf_leg.specs.Event.{Greeting, LegEvent, Spoke, begun, is_settled}
 use Rattle.cf_leg.specs.LegValue.{IsLegOf, LegValue, Marks, marks}
 use Rattle.cf_leg.specs.declared.Ends.{Ends}
 use Rattle.cf_leg.specs.declared.Role.{Role}
@@ -16,13 +15,13 @@ use Rattle.cf_outside.specs.Desk.{SentValue}
 use Rattle.cf_packet.specs.Packet.{PacketValue}
 use Rattle.cf_rebuild.specs.ReceiveWindow.{Window, base_of}
 use Rattle.cf_stream.specs.FirstCopy.{IsTaken, first_copy}
-use Rattle.cf_stream.specs.Stream.{Stream, no_letters}
+use Rattle.cf_stream.specs.Stream.{no_letters}
 use Rattle.cf_session.proofs.Telling.{then_told}
-use Rattle.cf_session.specs.Event.{AreRight, IsBeginning}
+use Rattle.cf_session.specs.Event.{IsBeginning}
 use Rattle.cf_session.specs.Parts.{IsLaneAfter, IsLegBetween, SessionValue}
-use Rattle.cf_session.specs.Sent.{Sent, at, line, logged_second, sent_second}
+use Rattle.cf_session.specs.Sent.{at, line}
 use Rattle.cf_session.specs.Session.{Flow, SessionEvent, client_ends, client_of, controller_ends}
-use Rattle.cf_session.specs.Stands.{Begins, IsSessionOf}
+use Rattle.cf_session.specs.Stands.{Begins}
 use Rattle.cf_session.specs.Told.{Told, with_both}
 use Rattle.cf_session.specs.Turn.{IsMade}
 use Rattle.cf_session.specs.Work.{no_work}

@@ -1,5 +1,5 @@
 -- The numbers of a lane.
-use Rattle.std.proofs.Common.{◌≡◌, List, Some, None, refl, sym, ap, ◌∙◌}
+use Rattle.std.proofs.Common.{◌≡◌, List, None, sym, ap, ◌∙◌}
 use Rattle.cf_lane.specs.Follows.{Rests}
 use Rattle.cf_lane.specs.Handled.{Knows, LaneValue, state}
 use Rattle.cf_lane.specs.History.{Element}

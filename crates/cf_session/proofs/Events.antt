@@ -1,28 +1,23 @@
 -- The second half of an event of a session, whatever side the packet came from and however the event ends.
-use Rattle.std.proofs.Common.{◌≡◌, ℕ, ◌+◌, inr, Bool, true, false, ◌&&◌, List, [], ◌∷◌, ◌++◌, Option, Some, None, refl, sym, ap, ◌∙◌, subst}
+use Rattle.std.proofs.Common.{◌≡◌, ℕ, inr, true, ◌&&◌, List, [], ◌∷◌, ◌++◌, Option, None, refl, sym, ap, ◌∙◌, subst}
 use Rattle.std.proofs.lemmas.List.{append-nil}
 use Rattle.cf_audit.specs.declared.CutReason.{CutReason}
-use Rattle.cf_lane.specs.History.{Element, ended_of, taken}
+use Rattle.cf_lane.specs.History.{ended_of, taken}
 use Rattle.cf_lane.specs.Output.{other}
 use Rattle.cf_leg.specs.Calls.{with_letters}
 use Rattle.cf_leg.specs.Emits.{IsRight}
-use Rattle.cf_leg.specs.Event.{Came, Ending, Greeting, LegEvent, Nothing, Packet, Unspoken, moment}
-use Rattle.cf_leg.specs.Heard.{offers, opened, opening}
-use Rattle.cf_leg.specs.Told.{is_greeted}
-use Rattle.cf_outq.specs.SendQueue.{IsQueueOf, Queue}
+use Rattle.cf_leg.specs.Event.{Came, Ending, Greeting, LegEvent, Nothing, Packet, moment}
+use Rattle.cf_leg.specs.Heard.{opening}
 use Rattle.cf_packet.specs.Packet.{PacketValue}
 use Rattle.cf_stream.specs.FirstCopy.{IsTaken, Offer, first_copy}
 use Rattle.cf_stream.specs.Stream.{Stream, letter_count}
 use Rattle.cf_view.specs.declared.Side.{Side}
-use Rattle.cf_view.specs.declared.Side.TheVariants as side
 use Rattle.cf_session.proofs.Fed.{nothing_fed, taken_more, taken_other}
 use Rattle.cf_session.specs.Cuts.{packet_cut}
-use Rattle.cf_session.specs.Event.{AreEvents, AreRight, AreTaken, EndsPacket, IsEvent, IsPacket, IsTick, came_client, came_controller, is_none}
-use Rattle.cf_session.specs.Parts.{AreParts, IsLaneAfter, IsLegBetween, SessionValue, rests}
-use Rattle.cf_session.specs.Session.{Flow, SessionEvent, client_ends, client_of, clients, closed_at, controller_ends, controllers, has_room, history}
-use Rattle.cf_session.specs.Stands.{AreOver, IsSessionOf}
-use Rattle.cf_session.specs.Turn.{IsHalf, came_first, heard_event, heard_half}
-use Rattle.cf_session.specs.Work.{Work, Works, fed_at, work_by}
+use Rattle.cf_session.specs.Event.{AreEvents, AreTaken, EndsPacket, IsEvent, IsPacket, IsTick, came_client, came_controller, is_none}
+use Rattle.cf_session.specs.Session.{Flow, SessionEvent, client_ends, client_of, clients, controller_ends, controllers, has_room, history}
+use Rattle.cf_session.specs.Turn.{heard_event}
+use Rattle.cf_session.specs.Work.{Work, Works}
 
 -- the history before the event is that after its first half
 pub before_history : (es : List SessionEvent) (t : SessionEvent) → t.fed ≡ [] → history (t ∷ es) ≡ history es

@@ -1,13 +1,12 @@
 -- The second half of an event of a session, whole.
-use Rattle.std.proofs.Common.{◌≡◌, ℕ, ◌+◌, Bool, true, false, not, cond, ◌&&◌, List, [], ◌∷◌, ◌++◌, length, drop, inl, inr, Option, Some, None, refl, sym, ap, ◌∙◌, subst}
+use Rattle.std.proofs.Common.{◌≡◌, ℕ, Bool, false, not, cond, ◌&&◌, List, [], ◌∷◌, ◌++◌, length, drop, inl, inr, Option, Some, None, refl, sym, ap, ◌∙◌, subst}
 use Rattle.std.specs.Option.{is_some, option_or}
 use Rattle.std.proofs.lemmas.List.{append-nil}
 use Rattle.cf_audit.specs.Line.{Close, Cut as CutLine}
 use Rattle.cf_audit.specs.declared.CutReason.{CutReason}
-use Rattle.cf_audit.specs.declared.CutReason.TheVariants as reason
 use Rattle.cf_lane.specs.Handled.{LaneValue}
 use Rattle.cf_lane.specs.Log.{line_about}
-use Rattle.cf_leg.specs.Event.{Came, Cut, LegEvent, Spoke, Unspoken, greeted_by, is_idle, moment}
+use Rattle.cf_leg.specs.Event.{Came, Cut, LegEvent, Spoke, greeted_by, is_idle, moment}
 use Rattle.cf_leg.specs.Heard.{offers, opened}
 use Rattle.cf_leg.specs.Told.{is_greeted}
 use Rattle.cf_leg.specs.LegValue.{IsLegOf, LegValue, Marks}
@@ -20,7 +19,6 @@ use Rattle.cf_stream.specs.FirstCopy.{IsTaken, first_copy}
 use Rattle.cf_stream.specs.Stream.{Stream, letter_count}
 use Rattle.cf_view.specs.declared.Endpoint.{Endpoint}
 use Rattle.cf_view.specs.declared.Side.{Side}
-use Rattle.cf_view.specs.declared.Side.TheVariants as side
 use Rattle.cf_session.proofs.Assembled.{came_cut, came_due, greeted_after, greeted_before, has_packet, is_half, later_line, new_is, rsts_are, sent_is}
 use Rattle.cf_session.proofs.Counts.{admitted_is, refused_is}
 use Rattle.cf_session.proofs.Events.{heard_is_packet, is_event}
@@ -28,13 +26,13 @@ use Rattle.cf_session.proofs.Heards.{Suits, are_taken, cut_is, done_is, ended_as
 use Rattle.cf_session.proofs.Legs.{right_of}
 use Rattle.cf_session.proofs.Telling.{then_told}
 use Rattle.cf_session.specs.Cuts.{cut_by, is_reset, limit_by, packet_cut}
-use Rattle.cf_session.specs.Event.{AreEvents, IsPacket, IsTick, came_controller, is_none}
-use Rattle.cf_session.specs.Parts.{AreParts, IsLaneAfter, IsLegBetween, SessionValue, rests}
-use Rattle.cf_session.specs.Sent.{at, first_line, last_line, late, line, logged_second, new_lines, sent_second}
+use Rattle.cf_session.specs.Event.{AreEvents, IsPacket, IsTick, came_controller}
+use Rattle.cf_session.specs.Parts.{AreParts, IsLaneAfter, SessionValue, rests}
+use Rattle.cf_session.specs.Sent.{at, first_line, last_line, late, line, new_lines, sent_second}
 use Rattle.cf_session.specs.Session.{Flow, SessionEvent, client_ends, client_of, clients, closed_at, controller_ends, controllers, has_room, history, is_closed, was_closed, work_of}
-use Rattle.cf_session.specs.Stands.{CountsAs, Hears, HearsBy, IsSessionOf, Lives, life_by}
+use Rattle.cf_session.specs.Stands.{CountsAs, Hears, HearsBy, IsSessionOf, life_by}
 use Rattle.cf_session.specs.Told.{Told, with_both}
-use Rattle.cf_session.specs.Turn.{CutsBoth, HeardBy, IsHalf, OnlySpeaks, SaysBoth, came_first, came_greeted, closing_lines, greetings, heard_event, heard_half, is_acknowledged, is_done_now, number_by, roomy_by}
+use Rattle.cf_session.specs.Turn.{CutsBoth, HeardBy, OnlySpeaks, SaysBoth, came_first, came_greeted, closing_lines, greetings, heard_half, is_acknowledged, is_done_now, number_by, roomy_by}
 use Rattle.cf_session.specs.Work.{Work, Works}
 
 abbrev pub BaseCounts : Type 0

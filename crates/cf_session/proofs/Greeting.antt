@@ -1,17 +1,16 @@
 -- The client is greeted.
-use Rattle.std.proofs.Common.{◌≡◌, ℕ, Bool, true, false, not, List, [], ◌∷◌, Option, Some, None, refl, sym, ap, ◌∙◌, subst}
+use Rattle.std.proofs.Common.{◌≡◌, ℕ, true, false, List, [], ◌∷◌, Option, Some, None, refl, sym, ap, ◌∙◌, subst}
 use Rattle.std.specs.Option.{is_some, option_or}
-use Rattle.std.proofs.lemmas.Bool.{cases_Bool, false≢true, true≢false}
+use Rattle.std.proofs.lemmas.Bool.{cases_Bool, true≢false}
 use Rattle.std.proofs.Common.{inl, inr}
 use Rattle.cf_leg.specs.Calls.{Greeted, IsOwn, is_greeted_phase}
-use Rattle.cf_leg.specs.Emits.{IsGreeting, IsRight, syn_ack_for}
+use Rattle.cf_leg.specs.Emits.{IsRight, syn_ack_for}
 use Rattle.cf_leg.specs.Emitted.{with_segments}
 use Rattle.cf_leg.specs.Event.{Came, Greeting, LegEvent, Nothing, Unspoken, moment}
 use Rattle.cf_leg.specs.Heard.{opened}
 use Rattle.cf_leg.specs.LegValue.{IsLegOf, LegValue, marks, phase_of}
 use Rattle.cf_leg.specs.Told.{greeting, is_greeted, own_number, seq_of}
 use Rattle.cf_leg.specs.declared.Ends.{Ends}
-use Rattle.cf_leg.specs.declared.Phase.TheVariants as phase
 use Rattle.cf_leg.specs.declared.Role.{Role}
 use Rattle.cf_leg.specs.declared.Role.TheVariants as role
 use Rattle.cf_outq.specs.SendQueue.{Queue}

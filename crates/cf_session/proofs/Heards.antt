@@ -1,17 +1,15 @@
 -- The second half of an event of a session: what a packet of a side fixes, however the event ends.
-use Rattle.std.proofs.Common.{◌≡◌, ℕ, ◌+◌, ◌-◌, ◌==◌, ◌<◌, ◌≤◌, Bool, true, false, not, cond, ◌&&◌, ◌||◌, List, [], ◌∷◌, ◌++◌, length, ◌⊎◌, inl, inr, Option, Some, None, refl, sym, ap, ◌∙◌, subst, arith}
+use Rattle.std.proofs.Common.{◌≡◌, ℕ, ◌+◌, ◌-◌, ◌==◌, ◌≤◌, Bool, true, false, not, cond, ◌&&◌, ◌||◌, List, [], ◌∷◌, length, ◌⊎◌, inl, inr, Option, Some, None, refl, sym, ap, ◌∙◌, subst, arith}
 use Rattle.std.specs.Prelude.{nat_le}
-use Rattle.std.specs.Option.{is_some, option_or}
-use Rattle.std.proofs.lemmas.Bool.{false≢true, true≢false}
-use Rattle.std.proofs.lemmas.List.{append-nil}
+use Rattle.std.specs.Option.{option_or}
+use Rattle.std.proofs.lemmas.Bool.{false≢true}
 use Rattle.cf_audit.specs.declared.CutReason.{CutReason}
 use Rattle.cf_audit.specs.declared.CutReason.TheVariants as reason
 use Rattle.cf_lane.specs.History.{Element, ended_of, taken}
 use Rattle.cf_leg.specs.Event.{Came, Ending, Greeting, LegEvent, Nothing, Packet, Unspoken, moment}
-use Rattle.cf_leg.specs.Heard.{acked, answer_to, end_state, first_answer, is_opening, offers, open_answer, opened, opening, reset_answer}
+use Rattle.cf_leg.specs.Heard.{acked, answer_to, end_state, first_answer, is_opening, offers, open_answer, opened}
 use Rattle.cf_leg.specs.LegValue.{IsLegOf, LegValue, Marks, marks}
 use Rattle.cf_leg.specs.Segment.{has_ack, has_rst, has_syn}
-use Rattle.cf_leg.specs.Told.{greeting, is_greeted}
 use Rattle.cf_leg.specs.declared.EndState.{EndState}
 use Rattle.cf_leg.specs.declared.Ends.{Ends}
 use Rattle.cf_leg.specs.declared.LegAnswer.{LegAnswer}
@@ -27,12 +25,11 @@ use Rattle.cf_view.specs.declared.Side.{Side}
 use Rattle.cf_view.specs.declared.Side.TheVariants as side
 use Rattle.cf_session.proofs.Events.{before_history}
 use Rattle.cf_session.specs.Cuts.{cut_by, is_reset, limit_by, limit_cut, packet_cut, reset_by, reset_cut, resets}
-use Rattle.cf_session.specs.Event.{AreTaken, IsTick, came_client, came_controller, is_none}
-use Rattle.cf_session.specs.Parts.{AreParts, IsLegBetween, SessionValue}
-use Rattle.cf_session.specs.Session.{Flow, SessionEvent, client_ends, client_of, clients, closed_at, controller_ends, controllers, has_room, history, is_closed, is_done, was_closed, work_of}
-use Rattle.cf_session.specs.Stands.{IsSessionOf}
+use Rattle.cf_session.specs.Event.{AreTaken, IsTick, came_controller}
+use Rattle.cf_session.specs.Parts.{SessionValue}
+use Rattle.cf_session.specs.Session.{Flow, SessionEvent, client_ends, clients, closed_at, controller_ends, controllers, has_room, history, is_closed, is_done, was_closed, work_of}
 use Rattle.cf_session.specs.Told.{Told}
-use Rattle.cf_session.specs.Turn.{HeardBy, MayGreet, came_first, came_greeted, ends_of, heard_event, heard_half, is_acknowledged, is_done_now, leg_in, legs_of, number_by, roomy_by}
+use Rattle.cf_session.specs.Turn.{HeardBy, came_first, came_greeted, ends_of, heard_event, heard_half, is_acknowledged, is_done_now, leg_in, legs_of, number_by, roomy_by}
 use Rattle.cf_session.specs.Work.{Work}
 
 -- ---- a greeting changes nothing that reads packets alone

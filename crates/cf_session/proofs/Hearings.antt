@@ -1,6 +1,5 @@
 -- A packet is heard.
-use Rattle.std.proofs.Common.{◌≡◌, ℕ, Bool, true, false, cond, ◌||◌, List, [], ◌∷◌, ◌++◌, Option, refl, sym, ap, ◌∙◌, subst}
-use Rattle.std.proofs.lemmas.Bool.{true≢false}
+use Rattle.std.proofs.Common.{◌≡◌, ℕ, Bool, true, false, cond, ◌||◌, List, [], ◌∷◌, ◌++◌, refl, sym, ap, ◌∙◌, subst}
 use Rattle.std.proofs.lemmas.List.{append-nil, append_cancel_left}
 use Rattle.cf_leg.specs.Calls.{Continues, Heard, Newly, with_letters}
 use Rattle.cf_leg.specs.Event.{LegEvent, Nothing, Packet, Unspoken, moment}
@@ -8,9 +7,9 @@ use Rattle.cf_leg.specs.Heard.{answer_to, end_state, offers}
 use Rattle.cf_leg.specs.LegValue.{IsLegOf, LegValue, Marks, marks}
 use Rattle.cf_leg.specs.declared.Ends.{Ends}
 use Rattle.cf_leg.specs.declared.LegAnswer.{LegAnswer}
-use Rattle.cf_outq.specs.SendQueue.{IsQueueOf, Queue}
+use Rattle.cf_outq.specs.SendQueue.{Queue}
 use Rattle.cf_packet.specs.Packet.{PacketValue}
-use Rattle.cf_rebuild.specs.ReceiveWindow.{IsWindowOf, Window, unread}
+use Rattle.cf_rebuild.specs.ReceiveWindow.{IsWindowOf, Window}
 use Rattle.cf_stream.proofs.Taken.{same_taken}
 use Rattle.cf_stream.specs.FirstCopy.{IsTaken, Offer, first_copy}
 use Rattle.cf_stream.specs.Stream.{Stream, no_letters}

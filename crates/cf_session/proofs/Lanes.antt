@@ -1,12 +1,11 @@
 -- The lane stands for a history, in the session's words.
-use Rattle.std.proofs.Common.{◌≡◌, ℕ, ◌+◌, ◌==◌, Bool, true, false, cond, List, [], ◌∷◌, ◌++◌, Option, Some, None, refl, sym, ap, ◌∙◌, subst, append_assoc, arith}
+use Rattle.std.proofs.Common.{◌≡◌, ℕ, ◌==◌, Bool, true, false, cond, List, [], ◌∷◌, ◌++◌, Option, Some, None, refl, sym, ap, ◌∙◌, subst, arith}
 use Rattle.std.proofs.lemmas.List.{append-nil}
 use Rattle.std.proofs.lemmas.Option.{same_Some}
 use Rattle.cf_audit.specs.declared.CutReason.{CutReason}
-use Rattle.cf_lane.specs.Follows.{AddsTo, AreJudged, AreRests, Follows, IsRest, Rests, over}
+use Rattle.cf_lane.specs.Follows.{AreJudged, AreRests, Follows, IsRest, Rests}
 use Rattle.cf_lane.specs.Handled.{LaneValue, State, state}
 use Rattle.cf_lane.specs.History.{Element, bytes_at, bytes_in, bytes_of, end_at, letters_at}
-use Rattle.cf_lane.specs.Judged.{Judged}
 use Rattle.cf_lane.specs.Laws.{EndJoins, NothingTaken}
 use Rattle.cf_lane.specs.Log.{lines}
 use Rattle.cf_outq.specs.SendQueue.{IsQueueOf, Queue}

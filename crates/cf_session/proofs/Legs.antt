@@ -1,11 +1,11 @@
 -- What the calls of a leg say, in the session's words.
-use Rattle.std.proofs.Common.{◌≡◌, ℕ, Bool, true, false, not, ◌&&◌, List, [], ◌∷◌, cond, Option, refl, sym, ap, ◌∙◌, subst}
+use Rattle.std.proofs.Common.{◌≡◌, ℕ, Bool, true, false, not, ◌&&◌, List, [], ◌∷◌, cond, Option, refl, ap, ◌∙◌, subst}
 use Rattle.cf_leg.specs.Calls.{Clocked, CutOff, Spoken}
 use Rattle.cf_leg.specs.Emits.{IsRight, fired_at}
 use Rattle.cf_leg.specs.Emitted.{with_segments}
 use Rattle.cf_leg.specs.Event.{Cut, LegEvent, Spoke, Unspoken, clocked, is_settled, moment, stream_after}
-use Rattle.cf_leg.specs.LegValue.{IsLegOf, LegValue, Marks, marks}
-use Rattle.cf_leg.specs.Timer.{clock_answer, fires, tries}
+use Rattle.cf_leg.specs.LegValue.{IsLegOf, LegValue, marks}
+use Rattle.cf_leg.specs.Timer.{clock_answer, fires}
 use Rattle.cf_leg.specs.declared.ClockAnswer.{ClockAnswer}
 use Rattle.cf_leg.specs.declared.ClockAnswer.TheVariants as clock
 use Rattle.cf_leg.specs.declared.Ends.{Ends}

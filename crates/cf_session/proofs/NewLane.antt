@@ -1,12 +1,11 @@
 -- A lane to which nothing was handed.
-use Rattle.std.proofs.Common.{◌≡◌, ℕ, List, [], ◌∷◌, ◌++◌, map, Option, None, Some, refl, sym, ap, ◌∙◌, subst}
+use Rattle.std.proofs.Common.{◌≡◌, ℕ, List, [], ◌∷◌, ◌++◌, map, Option, None, refl, sym, ◌∙◌, subst}
 use Rattle.cf_lane.specs.Follows.{AreJudged, Follows, no_rests}
 use Rattle.cf_lane.specs.Handled.{Knows, LaneValue, state}
 use Rattle.cf_lane.specs.Item.{Placed}
-use Rattle.cf_lane.specs.Judged.{Judged, cut_of, has_ended, place_of}
-use Rattle.cf_outq.specs.SendQueue.{IsQueueOf, Queue}
+use Rattle.cf_lane.specs.Judged.{Judged, has_ended, place_of}
+use Rattle.cf_outq.specs.SendQueue.{Queue}
 use Rattle.cf_policy.specs.declared.Asset.{Asset}
-use Rattle.cf_stream.specs.Stream.{no_letters}
 use Rattle.cf_view.specs.declared.Endpoint.{Endpoint}
 use Rattle.cf_view.specs.declared.Side.TheVariants as side
 use Rattle.cf_session.specs.Parts.{IsLaneAfter}

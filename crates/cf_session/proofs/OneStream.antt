@@ -1,5 +1,5 @@
 -- One stream towards each side of a session.
-use Rattle.std.proofs.Common.{◌≡◌, ℕ, zero, suc, ◌+◌, ◌^◌, ◌≤◌, Bool, true, false, ◌&&◌, ◌||◌, inl, inr, List, [], ◌∷◌, ◌++◌, length, map, Option, Some, None, if◌then◌else◌, refl, sym, ap, ◌∙◌, subst, append_assoc, arith}
+use Rattle.std.proofs.Common.{◌≡◌, ℕ, zero, suc, ◌^◌, ◌≤◌, Bool, true, false, ◌&&◌, ◌||◌, inl, inr, List, [], ◌∷◌, ◌++◌, map, Option, Some, None, refl, sym, ap, ◌∙◌, subst, arith}
 use Rattle.std.specs.Prelude.{slice_get}
 use Rattle.std.specs.List.{list_any}
 use Rattle.std.proofs.lemmas.Bool.{cases_Bool, false≢true, true≢false}
@@ -9,15 +9,14 @@ use Rattle.std.proofs.lemmas.Option.{same_Some}
 use Rattle.cf_audit.specs.declared.CutReason.{CutReason}
 use Rattle.cf_lane.specs.Follows.{AreJudged}
 use Rattle.cf_lane.specs.History.{Element, bytes_of, ended_of, is_side}
-use Rattle.cf_lane.specs.Item.{AreItems, Broke, Completes, Ended, Item, Placed, Took, last_after, placed}
+use Rattle.cf_lane.specs.Item.{AreItems, Completes, Placed, Took, last_after, placed}
 use Rattle.cf_lane.specs.Judged.{Judged, ends, has_ended, place_of}
 use Rattle.cf_lane.specs.Laws.{GoOn, QuietBehindEnd, StreamsGoOn}
 use Rattle.cf_lane.specs.Output.{other, outputs, stream_to}
 use Rattle.cf_lane.specs.Unit.{Left, Tail, UnitValue, Wrong}
-use Rattle.cf_leg.specs.Emits.{AllRight}
-use Rattle.cf_leg.specs.Event.{Cut, Ending, LegEvent, Spoke, Unspoken, sent_in, stream_after, stream_at}
+use Rattle.cf_leg.specs.Event.{Ending, LegEvent, sent_in, stream_after, stream_at}
 use Rattle.cf_leg.specs.OneStream.{CarryAll, Grows, IsOneStream, IsRightRun}
-use Rattle.cf_leg.specs.Told.{letters_sent, letters_sent_at, letters_sent_by, own_number}
+use Rattle.cf_leg.specs.Told.{letters_sent, letters_sent_by, own_number}
 use Rattle.cf_leg.specs.declared.Ends.{Ends}
 use Rattle.cf_leg.specs.declared.Role.{Role}
 use Rattle.cf_packet.specs.Packet.{PacketValue}
@@ -25,16 +24,16 @@ use Rattle.cf_policy.specs.declared.Asset.{Asset}
 use Rattle.cf_policy.specs.declared.Protocol.{Protocol}
 use Rattle.cf_stream.proofs.Extends.{extends_both, extends_none}
 use Rattle.cf_stream.proofs.Taken.{same_stream}
-use Rattle.cf_stream.specs.Stream.{Byte, Carries, End, Extends, Letter, Stream, letter_at, letter_count, letters, no_letters}
+use Rattle.cf_stream.specs.Stream.{Carries, Extends, Letter, Stream, letter_at, letter_count, letters, no_letters}
 use Rattle.cf_view.specs.declared.Endpoint.{Endpoint}
 use Rattle.cf_view.specs.declared.Side.{Side}
 use Rattle.cf_view.specs.declared.Side.TheVariants as side
-use Rattle.cf_session.proofs.Fed.{bytes_of-append, other_bytes}
+use Rattle.cf_session.proofs.Fed.{other_bytes}
 use Rattle.cf_session.proofs.Fixed.{clients_right, controllers_right}
-use Rattle.cf_session.specs.Event.{AreEvents, EndsPacket, EndsTick, IsEvent, IsTick}
-use Rattle.cf_session.specs.Laws.{HasLetter, IsFront, IsReassembly, Part, parts_in, parts_of}
+use Rattle.cf_session.specs.Event.{AreEvents, EndsPacket, EndsTick, IsEvent}
+use Rattle.cf_session.specs.Laws.{IsFront, IsReassembly, Part, parts_in, parts_of}
 use Rattle.cf_session.specs.Session.{Flow, SessionEvent, client_ends, client_of, clients, controller_ends, controllers, history, work_of}
-use Rattle.cf_session.specs.Work.{Work, Works, fed_at, no_work, work_by}
+use Rattle.cf_session.specs.Work.{Work, Works, fed_at, no_work}
 
 -- ---- an End among the items is one of the history
 

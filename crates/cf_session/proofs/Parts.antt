@@ -1,8 +1,8 @@
 -- A session heard a packet of a side.
-use Rattle.std.proofs.Common.{◌≡◌, ℕ, ◌+◌, List, [], ◌∷◌, ◌++◌, Option, None, refl, sym, ap, ◌∙◌, subst}
+use Rattle.std.proofs.Common.{◌≡◌, ℕ, List, ◌∷◌, ◌++◌, Option, None, sym, ap, ◌∙◌, subst}
 use Rattle.cf_audit.specs.declared.CutReason.{CutReason}
-use Rattle.cf_lane.specs.History.{Element, ended_of, taken}
-use Rattle.cf_leg.specs.Event.{Came, Ending, LegEvent, Nothing, Packet, Unspoken, moment}
+use Rattle.cf_lane.specs.History.{ended_of}
+use Rattle.cf_leg.specs.Event.{Came, Ending, LegEvent, Nothing, Unspoken, moment}
 use Rattle.cf_leg.specs.Heard.{offers}
 use Rattle.cf_leg.specs.LegValue.{LegValue}
 use Rattle.cf_leg.specs.declared.Ends.{Ends}
@@ -15,12 +15,10 @@ use Rattle.cf_view.specs.declared.Side.{Side}
 use Rattle.cf_view.specs.declared.Side.TheVariants as side
 use Rattle.cf_session.proofs.Events.{before_history, heard_taken}
 use Rattle.cf_session.proofs.Hearings.{stands_pushed}
-use Rattle.cf_session.specs.Event.{AreTaken}
 use Rattle.cf_session.specs.Parts.{AreParts, IsLaneAfter, IsLegBetween, SessionValue, rests}
 use Rattle.cf_session.specs.Session.{Flow, SessionEvent, client_ends, client_of, clients, controller_ends, controllers, history}
 use Rattle.cf_session.specs.Told.{Told}
 use Rattle.cf_session.specs.Turn.{HeardBy, Hearing, IsHalf, IsPushed, heard_half}
-use Rattle.cf_session.specs.Work.{Work, fed_at}
 
 -- the event with nothing come and nothing said is as it was
 pub idle_is : (d : LegEvent) → d.came ≡ Nothing → d.ending ≡ Unspoken → record d { came = Nothing; ending = Unspoken } ≡ d

@@ -1,5 +1,5 @@
 -- A session is sound after a packet that did not cut it.
-use Rattle.std.proofs.Common.{◌≡◌, ◌≢◌, ℕ, ◌+◌, ◌*◌, ◌<◌, ◌≤◌, Bool, true, false, cond, ◌&&◌, ◌||◌, length, Option, Some, None, refl, sym, ap, ◌∙◌, subst, arith}
+use Rattle.std.proofs.Common.{◌≡◌, ◌≢◌, ℕ, ◌<◌, Bool, true, false, cond, ◌&&◌, ◌||◌, Option, Some, None, refl, sym, ap, ◌∙◌, subst, arith}
 use Rattle.std.specs.Prelude.{nat_le}
 use Rattle.std.specs.Option.{is_some, option_or}
 use Rattle.std.proofs.lemmas.Bool.{false≢true, true≢false}
@@ -14,7 +14,7 @@ use Rattle.cf_view.specs.declared.Side.TheVariants as side
 use Rattle.cf_session.specs.Cuts.{cut_by, limit_by}
 use Rattle.cf_session.specs.Parts.{SessionValue}
 use Rattle.cf_session.specs.Stands.{IsSound}
-use Rattle.cf_session.specs.Turn.{IsShort, IsSteady, OnlySpeaks, is_acknowledged, is_done_now}
+use Rattle.cf_session.specs.Turn.{IsShort, IsSteady, OnlySpeaks, is_done_now}
 
 abbrev is_none_of : Option CutReason → Bool
 is_none_of None = true

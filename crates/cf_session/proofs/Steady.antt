@@ -1,5 +1,5 @@
 -- The room of a session, whatever happened before.
-use Rattle.std.proofs.Common.{◌≡◌, ◌≢◌, ℕ, ◌+◌, ◌-◌, ◌*◌, ◌<◌, ◌≤◌, Bool, true, false, cond, length, refl, sym, ap, ◌∙◌, subst, arith}
+use Rattle.std.proofs.Common.{◌≡◌, ℕ, ◌+◌, ◌-◌, ◌*◌, ◌<◌, ◌≤◌, Bool, true, false, cond, length, refl, sym, ap, ◌∙◌, subst, arith}
 use Rattle.std.specs.Prelude.{None, max}
 use Rattle.cf_lane.specs.Handled.{debt}
 use Rattle.cf_leg.specs.Calls.{Widens}
@@ -7,7 +7,6 @@ use Rattle.cf_leg.specs.LegValue.{LegValue}
 use Rattle.cf_outq.specs.SendQueue.{Queue, queue_length}
 use Rattle.cf_rebuild.specs.ReceiveWindow.{Window, base_of}
 use Rattle.cf_session.specs.Parts.{IsPassive, SessionValue, open_places}
-use Rattle.cf_session.specs.Stands.{HasRoomFor}
 use Rattle.cf_session.specs.Turn.{IsShort, IsSteady}
 
 small_base : (ended : Bool) (consumed pending : ℕ) → pending < 300 → (consumed + pending) + cond ended 1 0 ≤ consumed + 300

@@ -1,19 +1,18 @@
 -- The first half of an event of a session.
-use Rattle.std.proofs.Common.{◌≡◌, ℕ, ◌+◌, Bool, true, false, not, ◌&&◌, ◌||◌, List, [], ◌∷◌, ◌++◌, length, cond, Option, Some, None, refl, sym, ap, ◌∙◌, subst, append_assoc, inl}
+use Rattle.std.proofs.Common.{◌≡◌, ℕ, ◌+◌, Bool, true, false, not, ◌&&◌, ◌||◌, List, [], ◌∷◌, ◌++◌, cond, Option, Some, None, refl, sym, ap, ◌∙◌, subst, append_assoc, inl}
 use Rattle.std.specs.Prelude.{nat_lt}
 use Rattle.std.specs.Option.{is_some, option_or}
 use Rattle.std.proofs.lemmas.Bool.{false≢true}
 use Rattle.std.proofs.lemmas.List.{append-nil}
 use Rattle.cf_audit.specs.Line.{Cut as CutLine}
-use Rattle.cf_audit.specs.declared.CutReason.{CutReason}
 use Rattle.cf_audit.specs.declared.CutReason.TheVariants as reason
 use Rattle.cf_lane.specs.History.{Element, ended_of, taken}
 use Rattle.cf_leg.specs.Emits.{IsRight, fired_at, repeats}
-use Rattle.cf_leg.specs.Event.{Cut, LegEvent, Nothing, Unspoken, begun, clocked, moment}
+use Rattle.cf_leg.specs.Event.{Cut, LegEvent, begun, clocked, moment}
 use Rattle.cf_leg.specs.Heard.{acked, offers, opened}
 use Rattle.cf_leg.specs.LegValue.{LegValue}
 use Rattle.cf_leg.specs.Timer.{fires, tries}
-use Rattle.cf_leg.specs.Told.{greeting, is_greeted}
+use Rattle.cf_leg.specs.Told.{greeting}
 use Rattle.cf_leg.specs.declared.Ends.{Ends}
 use Rattle.cf_outq.specs.SendQueue.{IsQueueOf, Queue}
 use Rattle.cf_packet.specs.Packet.{PacketValue}
@@ -21,15 +20,13 @@ use Rattle.cf_stream.specs.FirstCopy.{IsTaken, first_copy}
 use Rattle.cf_view.specs.declared.Side.TheVariants as side
 use Rattle.cf_session.proofs.Telling.{at-append, then_sent, then_told}
 use Rattle.cf_session.specs.Cuts.{gives_up}
-use Rattle.cf_session.specs.Event.{AreRight, AreTaken, IsTick}
-use Rattle.cf_session.specs.Parts.{AreParts, IsLaneAfter, IsLegBetween, SessionValue}
-use Rattle.cf_session.specs.Sent.{Sent, at, line, logged_first, sent_first}
-use Rattle.cf_session.specs.Session.{Flow, SessionEvent, client_ends, client_of, clients, closed_at, controller_ends, controllers, history, is_closed, is_done, is_expired, was_closed}
-use Rattle.cf_session.specs.Stands.{IsLife, IsSessionOf, Lives, Ticks, TicksBy, life_by}
+use Rattle.cf_session.specs.Event.{IsTick}
+use Rattle.cf_session.specs.Parts.{IsLaneAfter, IsLegBetween, SessionValue}
+use Rattle.cf_session.specs.Sent.{at, line}
+use Rattle.cf_session.specs.Session.{Flow, SessionEvent, client_ends, client_of, clients, closed_at, controller_ends, controllers, history, is_closed, is_done, is_expired}
+use Rattle.cf_session.specs.Stands.{IsSessionOf, Ticks, TicksBy, life_by}
 use Rattle.cf_session.specs.Told.{Told, with_both}
 use Rattle.cf_session.specs.Turn.{CutsBoth}
-use Rattle.cf_session.specs.declared.life.Life.{Life}
-use Rattle.cf_session.specs.declared.life.Life.TheVariants as life
 
 or_nothing : (b : Bool) → (b || false) ≡ b
 or_nothing true = refl

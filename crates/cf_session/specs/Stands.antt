@@ -1,11 +1,8 @@
 -- What a session in memory stands for, and what its calls do. The main definitions are `IsSessionOf` and `IsSound`, and
 -- `Begins`, `TicksBy` and `HearsBy`, one for each call. This project's own.
 use Rattle.std.specs.Prelude.{◌≡◌, ◌≢◌, ℕ, ◌+◌, ◌*◌, ◌^◌, ◌<◌, ◌≤◌, Bool, true, false, List, [], ◌∷◌, length, Option, None, Some}
-use Rattle.cf_audit.specs.Line.{Cut as CutLine}
-use Rattle.cf_audit.specs.declared.CutReason.{CutReason}
 use Rattle.cf_lane.specs.Handled.{IsLaneOf, debt}
-use Rattle.cf_leg.specs.Emits.{IsRight}
-use Rattle.cf_leg.specs.Event.{Cut as LegCut, LegEvent, is_settled, stream_after}
+use Rattle.cf_leg.specs.Event.{is_settled, stream_after}
 use Rattle.cf_leg.specs.Heard.{opened}
 use Rattle.cf_leg.specs.Told.{is_greeted}
 use Rattle.cf_outq.specs.SendQueue.{Queue, queue_length}
@@ -16,8 +13,8 @@ use Rattle.cf_rebuild.specs.ReceiveWindow.{base_of}
 use Rattle.cf_view.specs.declared.Side.{Side}
 use Rattle.cf_session.specs.Event.{AreEvents, IsBeginning, IsPacket, IsTick}
 use Rattle.cf_session.specs.Parts.{AreParts, IsPassive, SessionValue, open_places}
-use Rattle.cf_session.specs.Sent.{Sent, at, line, logged_first, logged_second, sent_first, sent_second}
-use Rattle.cf_session.specs.Session.{Flow, SessionEvent, client_ends, client_of, clients, closed_at, controller_ends, controllers, is_expired, was_closed}
+use Rattle.cf_session.specs.Sent.{logged_first, logged_second, sent_first, sent_second}
+use Rattle.cf_session.specs.Session.{Flow, SessionEvent, client_of, clients, closed_at, controller_ends, controllers, is_expired, was_closed}
 use Rattle.cf_session.specs.Told.{Told, with_both}
 use Rattle.cf_session.specs.declared.life.Life.{Life}
 use Rattle.cf_session.specs.declared.life.Life.TheVariants as life

@@ -8,7 +8,7 @@ use Rattle.cf_leg.specs.Told.{is_greeted}
 use Rattle.cf_leg.specs.Calls.{with_letters}
 use Rattle.cf_leg.specs.Event.{Came, Cut as LegCut, Ending, LegEvent, Nothing, Packet, Spoke, Unspoken, Greeting, moment}
 use Rattle.cf_leg.specs.Heard.{answer_to, end_state, is_opening, offers}
-use Rattle.cf_leg.specs.LegValue.{IsLegOf, LegValue, marks}
+use Rattle.cf_leg.specs.LegValue.{LegValue}
 use Rattle.cf_leg.specs.declared.Ends.{Ends}
 use Rattle.cf_leg.specs.declared.LegAnswer.{LegAnswer}
 use Rattle.cf_leg.specs.declared.Phase.TheVariants as phase

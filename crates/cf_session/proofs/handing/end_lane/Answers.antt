@@ -1,4 +1,4 @@
-use Rattle.std.proofs.Common.{◌≡◌, List, ℕ, [], ◌∷◌, ◌++◌, Some, None, true, false, refl, sym, ap, ◌∙◌, subst}
+use Rattle.std.proofs.Common.{[], ◌++◌, Some, None, true, false, ap, ◌∙◌}
 use Rattle.cf_lane.specs.Handled.{LaneValue, state}
 use Rattle.cf_session.proofs.Lanes.{as_ended, follows_of, more_of}
 use Rattle.cf_session.specs.Work.{fed_at}

@@ -1,4 +1,4 @@
-use Rattle.std.proofs.Common.{◌≡◌, List, ℕ, [], ◌∷◌, ◌++◌, Some, None, refl, sym, ap, ◌∙◌, subst, drop}
+use Rattle.std.proofs.Common.{[], ◌++◌, Some, ◌∙◌, drop}
 use Rattle.cf_lane.specs.Follows.{with_rest}
 use Rattle.cf_lane.specs.Handled.{state}
 use Rattle.cf_session.proofs.Lanes.{as_fed, follows_of, more_of}

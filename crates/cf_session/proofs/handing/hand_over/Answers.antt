@@ -1,4 +1,4 @@
-use Rattle.std.proofs.Common.{◌≡◌, List, ℕ, Bool, None, true, false, refl, sym, ap, ◌∙◌, subst, length, drop}
+use Rattle.std.proofs.Common.{◌≡◌, List, ℕ, Bool, None, true, false, sym, ap, ◌∙◌, subst, length, drop}
 use Rattle.cf_lane.specs.Follows.{rest_of, with_rest}
 use Rattle.cf_session.proofs.Turns.{follows_both, none_of, rest_of-with}
 use Rattle.cf_session.specs.Told.{told}

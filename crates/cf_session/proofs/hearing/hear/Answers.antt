@@ -1,4 +1,4 @@
-use Rattle.std.proofs.Common.{◌≡◌, List, [], ◌∷◌, ◌++◌, ℕ, None, true, false, refl, sym, ap, ◌∙◌, subst}
+use Rattle.std.proofs.Common.{◌≡◌, List, [], ◌∷◌, ◌++◌, ℕ, refl, sym, ap, ◌∙◌, subst}
 use Rattle.std.proofs.lemmas.Bool.{true≢false}
 use Rattle.std.proofs.lemmas.List.{append-nil}
 use Rattle.cf_lane.specs.Follows.{Rests, with_rest}
@@ -14,7 +14,6 @@ use Rattle.cf_session.proofs.Hearings.{newly_none, newly_open, own_pushed, stand
 use Rattle.cf_session.proofs.Telling.{both_nothing}
 use Rattle.cf_session.specs.Parts.{IsLaneAfter, own_queue}
 use Rattle.cf_session.specs.Told.{told}
-use Rattle.cf_session.specs.Turn.{FollowsMore}
 use Rattle.cf_session.proofs.hearing.hear.Goals as goal
 
 pub returns-clause-hears : goal.returns-clause-hears

@@ -1,4 +1,4 @@
-use Rattle.std.proofs.Common.{◌≡◌, ◌&&◌, not, true, false, cond, List, [], ◌∷◌, refl, sym, ap, ◌∙◌}
+use Rattle.std.proofs.Common.{◌≡◌, ◌&&◌, not, true, false, cond, [], ◌∷◌, sym, ap, ◌∙◌}
 use Rattle.std.specs.Option.{is_some}
 use Rattle.cf_audit.specs.Line.{Close}
 use Rattle.cf_lane.specs.Log.{line_about}

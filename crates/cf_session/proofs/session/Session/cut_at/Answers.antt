@@ -1,7 +1,7 @@
-use Rattle.std.proofs.Common.{◌≡◌, [], ◌∷◌, List, refl, sym, ap, ◌∙◌, subst}
+use Rattle.std.proofs.Common.{[], ◌∷◌, List, refl, sym, ap, ◌∙◌, subst}
 use Rattle.cf_audit.specs.Line.{Cut as CutLine}
 use Rattle.cf_lane.specs.Log.{line_about}
-use Rattle.cf_leg.specs.Event.{LegEvent, Unspoken}
+use Rattle.cf_leg.specs.Event.{Unspoken}
 use Rattle.cf_policy.specs.declared.Asset.{Asset}
 use Rattle.cf_view.specs.declared.Endpoint.{Endpoint}
 use Rattle.cf_session.proofs.Legs.{cut_right}

@@ -1,7 +1,6 @@
-use Rattle.std.proofs.Common.{◌≡◌, ◌+◌, ◌∷◌, refl, sym, ap, ◌∙◌, subst}
+use Rattle.std.proofs.Common.{◌+◌, ◌∷◌, refl, sym, ap, ◌∙◌, subst}
 use Rattle.cf_packet.specs.Packet.{packet_value}
 use Rattle.cf_policy.specs.declared.Asset.{Asset}
-use Rattle.cf_view.specs.declared.Side.TheVariants as side
 use Rattle.cf_session.proofs.Parts.{client_at, controller_at, idle_leg, idle_taken}
 use Rattle.cf_session.specs.Parts.{AreParts, IsLaneAfter, SessionValue, rests}
 use Rattle.cf_session.specs.Session.{client_ends, client_of, clients, controller_ends, controllers, history}

@@ -1,6 +1,4 @@
-use Rattle.std.proofs.Common.{◌≡◌, ◌+◌, arith, ℕ, [], None, refl, sym, ap, ◌∙◌, subst}
-use Rattle.cf_lane.specs.Handled.{LaneValue}
-use Rattle.cf_leg.specs.Calls.{no_marks}
+use Rattle.std.proofs.Common.{arith, [], None, refl, sym, subst}
 use Rattle.cf_leg.specs.LegValue.{IsLegOf, marks}
 use Rattle.cf_outq.specs.SendQueue.{Queue}
 use Rattle.cf_session.proofs.NewLane.{lane_begins}

@@ -1,12 +1,11 @@
-use Rattle.std.proofs.Common.{◌≡◌, List, [], ◌∷◌, false, refl, sym, ap, ◌∙◌, subst}
+use Rattle.std.proofs.Common.{◌≡◌, [], ◌∷◌, false, refl, sym, ap, ◌∙◌, subst}
 use Rattle.std.proofs.lemmas.Result.{IfOk-weaker}
 use Rattle.cf_leg.specs.Emits.{fired_at}
-use Rattle.cf_leg.specs.Event.{begun, clocked, stream_after}
+use Rattle.cf_leg.specs.Event.{begun, clocked}
 use Rattle.cf_outq.specs.SendQueue.{IsQueueOf}
 use Rattle.cf_session.proofs.Legs.{gives_up_is, ticked_of}
 use Rattle.cf_session.proofs.Telling.{told_sent}
 use Rattle.cf_session.proofs.Ticks.{client_silent_ticks, live_stands, live_told, silent_ticks, ticks_live}
-use Rattle.cf_session.specs.Cuts.{gives_up}
 use Rattle.cf_session.specs.Parts.{IsLegBetween}
 use Rattle.cf_session.specs.Session.{client_ends, clients, controller_ends, controllers, is_expired, is_past}
 use Rattle.cf_session.specs.Stands.{IsSessionOf, TicksBy}

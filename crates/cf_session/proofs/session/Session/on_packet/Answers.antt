@@ -1,7 +1,6 @@
-use Rattle.std.proofs.Common.{◌≡◌, ◌+◌, ◌∷◌, Option, None, Some, true, false, refl, sym, ap, ◌∙◌, subst}
+use Rattle.std.proofs.Common.{◌≡◌, ◌+◌, None, Some, refl, sym, ap, ◌∙◌, subst}
 use Rattle.std.specs.Option.{is_some}
 use Rattle.std.proofs.lemmas.Result.{IfOk-weaker}
-use Rattle.cf_audit.specs.declared.CutReason.{CutReason}
 use Rattle.cf_outq.specs.SendQueue.{queue_length}
 use Rattle.cf_packet.specs.Packet.{packet_value}
 use Rattle.cf_rebuild.specs.ReceiveWindow.{base_of}
@@ -9,11 +8,11 @@ use Rattle.cf_session.proofs.Assembled.{greeted_before, is_half, may_greet}
 use Rattle.cf_session.proofs.Final.{counts_cut, hears_by, hears_cut, hears_live, lives_three}
 use Rattle.cf_session.proofs.Sound.{is_short_by, lane_none, some_closed, sound_after, full_none}
 use Rattle.cf_session.specs.Cuts.{cut_by, is_reset, limit_by}
-use Rattle.cf_session.specs.Parts.{AreParts, SessionValue}
-use Rattle.cf_session.specs.Session.{client_of, clients, controllers}
-use Rattle.cf_session.specs.Stands.{HearsBy, IsSessionOf}
+use Rattle.cf_session.specs.Parts.{SessionValue}
+use Rattle.cf_session.specs.Session.{clients, controllers}
+use Rattle.cf_session.specs.Stands.{HearsBy}
 use Rattle.cf_session.specs.Told.{told}
-use Rattle.cf_session.specs.Turn.{MayGreet, SaysBoth, heard_half, number_by, roomy_by}
+use Rattle.cf_session.specs.Turn.{MayGreet, SaysBoth, heard_half, roomy_by}
 use Rattle.cf_session.proofs.session.Session.on_packet.Goals as goal
 
 pub returns-in-Some-clause-hears : goal.returns-in-Some-clause-hears

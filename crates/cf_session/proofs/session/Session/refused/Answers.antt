@@ -1,4 +1,4 @@
-use Rattle.std.proofs.Common.{◌≡◌, sym, ap, ◌∙◌, subst}
+use Rattle.std.proofs.Common.{sym, ◌∙◌, subst}
 use Rattle.cf_session.proofs.Counts.{refused_is}
 use Rattle.cf_session.specs.Session.{client_of}
 use Rattle.cf_session.specs.Stands.{IsSessionOf}
