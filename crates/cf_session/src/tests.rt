@@ -252,6 +252,7 @@ fn refused_write(rt: HostRuntime) -> Result<(), Fail> {
             .bytes
             .ends_with(b"\x00\x01\x00\x00\x00\x03\x01\x86\x02")
     );
+    assert!(rt; desk.lines.len() == 2);
     assert!(rt; desk.lines[1].as_str() == REFUSAL);
     Ok(())
 }
@@ -277,10 +278,10 @@ fn client_resets(rt: HostRuntime) -> Result<(), Fail> {
     assert!(rt; desk.packets.len() == 4);
     let right = packet(Side::Client, 1001, 5001, RST, b"");
     ticks(&rt, &asset, &mut session, &mut desk, 1_040_000);
-    assert!(rt; desk.faults == 0);
+    assert!(rt; desk.faults == 0 && right.text.len() <= 65_535);
     let life = session.on_packet(&asset, 1_040_000, Side::Client, &right, &mut desk);
     assert!(rt; life == Ok(Life::Cut(CutReason::ResetByClient)));
-    assert!(rt; desk.packets.len() == 6);
+    assert!(rt; desk.packets.len() == 6 && desk.lines.len() == 2);
     assert!(rt; desk.lines[1].as_str() == "1.040000 10.0.0.5:49152 pump cut client reset\n");
     Ok(())
 }
@@ -305,11 +306,12 @@ fn limit_of_letters(rt: HostRuntime) -> Result<(), Fail> {
     );
     assert!(rt; desk.packets.len() == 5);
     ticks(&rt, &asset, &mut session, &mut desk, 1_040_000);
-    assert!(rt; desk.faults == 0);
     let second = packet(Side::Client, 1013, 5001, ACK + PSH, WRITE);
+    assert!(rt; desk.faults == 0 && second.text.len() <= 65_535);
     let life = session.on_packet(&asset, 1_040_000, Side::Client, &second, &mut desk);
     assert!(rt; life == Ok(Life::Cut(CutReason::StreamLength(Side::Client))));
     assert!(rt; desk.packets.len() == 7 && session.admitted() == 2);
+    assert!(rt; desk.lines.len() == 2);
     assert!(rt; desk.lines[1].as_str() == "1.040000 10.0.0.5:49152 pump cut client long\n");
     Ok(())
 }
