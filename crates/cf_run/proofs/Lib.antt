@@ -1,0 +1,12 @@
+mod Begun
+mod FileDesks
+mod Items
+mod Matched
+mod OutputFiles
+mod Packets
+mod Pieces
+mod Places
+mod Received
+mod Selection
+mod Soundness
+mod Timers

@@ -1,0 +1,235 @@
+-- What a packet is to the sessions in memory is what it is to those of the table.
+use Rattle.std.proofs.Common.{◌≡◌, ℕ, zero, suc, ◌+◌, ◌<◌, ◌&&◌, nat_lt, inl, inr, Bool, true, false, List, [], ◌∷◌, length, cond, if◌then◌else◌, Option, option_map, Some, None, refl, sym, ap, ◌∙◌, subst, arith}
+use Rattle.std.specs.Prelude.{find, position, slice_get}
+use Rattle.std.specs.List.{position_or_len, remove}
+use Rattle.std.specs.Option.{is_some}
+use Rattle.std.proofs.lemmas.List.Edits.{length-remove}
+use Rattle.std.proofs.lemmas.Bool.{cases_Bool}
+use Rattle.std.proofs.lemmas.Bool.Decides.{nat_tests}
+use Rattle.cf_packet.specs.Packet.{PacketValue}
+use Rattle.cf_policy.specs.declared.Asset.{Asset}
+use Rattle.cf_session.specs.Session.{Flow, SessionEvent, client_of, was_closed}
+use Rattle.cf_view.specs.declared.Endpoint.{Endpoint}
+use Rattle.cf_run.specs.Engine.{AreAll, IsOneWith}
+use Rattle.cf_run.specs.Entries.{asset_place, goes_in_client, begins_at, begins_in, entry_between, entry_match, goes_in, is_at, is_closed_in, others, place_in}
+use Rattle.cf_run.specs.Receiving.{may_begin_one}
+use Rattle.cf_run.specs.Table.{Begins, Full, Goes, Match, Outside, Session, asset_at, begins, begins_or_full, goes, goes_from_client, is_between, is_closed_at, match_of, may_begin, place_of, same_endpoint, table_size, without}
+use Rattle.cf_run.specs.declared.entry.Entry.{Entry}
+use Rattle.cf_run.specs.declared.matching.Match.{Match as EntryMatch}
+use Rattle.cf_run.specs.declared.matching.Match.TheVariants as match
+
+-- two lists of which each element passes as the one at its place does
+abbrev Alike : {A B : Type 0} → (A → Bool) → (B → Bool) → List A → List B → Type 0
+Alike p q [] [] = Unit {0}
+Alike p q [] (y ∷ ys) = ⊥
+Alike p q (x ∷ xs) [] = ⊥
+Alike p q (x ∷ xs) (y ∷ ys) = (p x ≡ q y) × Alike p q xs ys
+
+between_with : (assets : List Asset) (last : ℕ) (client endpoint : Endpoint) (x : Entry) (flow : Flow) (events : List SessionEvent) → IsOneWith assets last x flow events →
+    entry_between assets client endpoint x ≡ is_between client endpoint (record { flow = flow; events = events })
+between_with assets last client endpoint x flow [] one = absurd one
+between_with assets last client endpoint x flow (event ∷ earlier) one =
+    ap (λ c. same_endpoint c client && is_at endpoint (slice_get assets x.asset)) one.stands.source
+    ∙ ap (λ a. same_endpoint (client_of flow) client && is_at endpoint a) one.asset
+
+are_alike : (assets : List Asset) (last : ℕ) (client endpoint : Endpoint) (xs : List Entry) (ss : List Session) → AreAll assets last xs ss →
+    Alike (entry_between assets client endpoint) (is_between client endpoint) xs ss
+are_alike assets last client endpoint [] [] all = tt
+are_alike assets last client endpoint [] (s ∷ ss) all = absurd all
+are_alike assets last client endpoint (x ∷ xs) [] all = absurd all
+are_alike assets last client endpoint (x ∷ xs) (s ∷ ss) all =
+    (between_with assets last client endpoint x s.flow s.events all.0, are_alike assets last client endpoint xs ss all.1)
+
+alike_length : {A B : Type 0} (p : A → Bool) (q : B → Bool) (xs : List A) (ys : List B) → Alike p q xs ys → length xs ≡ length ys
+alike_length p q [] [] h = refl
+alike_length p q [] (y ∷ ys) h = absurd h
+alike_length p q (x ∷ xs) [] h = absurd h
+alike_length p q (x ∷ xs) (y ∷ ys) h = ap suc (alike_length p q xs ys h.1)
+
+prefix_by : {A : Type 0} (p : A → Bool) (x : A) (xs : List A) (b : Bool) → p x ≡ b → position_or_len p (x ∷ xs) ≡ cond b 0 (1 + position_or_len p xs)
+prefix_by p x xs true e = rw e refl
+prefix_by p x xs false e = rw e refl
+
+prefix_first : {A : Type 0} (p : A → Bool) (x : A) (xs : List A) → position_or_len p (x ∷ xs) ≡ cond (p x) 0 (1 + position_or_len p xs)
+prefix_first p x xs = prefix_by p x xs (p x) refl
+
+alike_first : {A B : Type 0} (p : A → Bool) (q : B → Bool) (xs : List A) (ys : List B) → Alike p q xs ys → position_or_len p xs ≡ position_or_len q ys
+alike_first p q [] [] h = refl
+alike_first p q [] (y ∷ ys) h = absurd h
+alike_first p q (x ∷ xs) [] h = absurd h
+alike_first p q (x ∷ xs) (y ∷ ys) h =
+    prefix_first p x xs ∙ ap (λ b. cond b 0 (1 + position_or_len p xs)) h.0 ∙ ap (λ n. cond (q y) 0 (1 + n)) (alike_first p q xs ys h.1) ∙ sym (prefix_first q y ys)
+
+alike_position : {A B : Type 0} (p : A → Bool) (q : B → Bool) (xs : List A) (ys : List B) → Alike p q xs ys → position p xs ≡ position q ys
+alike_position p q xs ys h = rw (alike_first p q xs ys h, alike_length p q xs ys h) refl
+
+pub same_place : (assets : List Asset) (last : ℕ) (client endpoint : Endpoint) (xs : List Entry) (ss : List Session) → AreAll assets last xs ss →
+    place_in assets client endpoint xs ≡ place_of client endpoint ss
+same_place assets last client endpoint xs ss all =
+    alike_position (entry_between assets client endpoint) (is_between client endpoint) xs ss (are_alike assets last client endpoint xs ss all)
+
+closed_with : (assets : List Asset) (last : ℕ) (x : Entry) (flow : Flow) (events : List SessionEvent) → IsOneWith assets last x flow events →
+    is_some x.session.closed ≡ was_closed flow events
+closed_with assets last x flow [] one = absurd one
+closed_with assets last x flow (event ∷ earlier) one = ap is_some one.stands.closed
+
+closed_at_place : (assets : List Asset) (last : ℕ) (xs : List Entry) (ss : List Session) (i : ℕ) → AreAll assets last xs ss →
+    is_closed_in xs (Some i) ≡ is_closed_at ss (Some i)
+closed_at_place assets last [] [] i all = refl
+closed_at_place assets last [] (s ∷ ss) i all = absurd all
+closed_at_place assets last (x ∷ xs) [] i all = absurd all
+closed_at_place assets last (x ∷ xs) (s ∷ ss) zero all = closed_with assets last x s.flow s.events all.0
+closed_at_place assets last (x ∷ xs) (s ∷ ss) (suc i) all = closed_at_place assets last xs ss i all.1
+
+same_closed : (assets : List Asset) (last : ℕ) (xs : List Entry) (ss : List Session) (o : Option ℕ) → AreAll assets last xs ss → is_closed_in xs o ≡ is_closed_at ss o
+same_closed assets last xs ss None all = refl
+same_closed assets last xs ss (Some i) all = closed_at_place assets last xs ss i all
+
+-- what the code has of a match, and what the table has
+abbrev pub IsMatch : List Asset → List Session → PacketValue → EntryMatch → Match → Type 0
+IsMatch assets table packet (match.Begins place closed) (Begins flow) =
+    (slice_get assets place ≡ Some flow.asset) × (flow.syn ≡ packet) × (closed ≡ place_of (client_of flow) flow.asset.endpoint table)
+IsMatch assets table packet match.Full Full = Unit {0}
+IsMatch assets table packet (match.Goes place from) (Goes at side) = (place ≡ at) × (from ≡ side)
+IsMatch assets table packet match.Outside Outside = Unit {0}
+IsMatch assets table packet _ _ = ⊥
+
+-- the asset at an endpoint, and its place
+data Found (assets : List Asset) (endpoint : Endpoint) : Type 0 where
+  none : asset_place assets endpoint ≡ None → asset_at assets endpoint ≡ None → Found assets endpoint
+  some : (place : ℕ) (asset : Asset) → asset_place assets endpoint ≡ Some place → asset_at assets endpoint ≡ Some asset → slice_get assets place ≡ Some asset →
+      same_endpoint asset.endpoint endpoint ≡ true → Found assets endpoint
+
+place_by : {A : Type 0} (p : A → Bool) (x : A) (xs : List A) (b : Bool) → p x ≡ b → position p (x ∷ xs) ≡ cond b (Some 0) (option_map suc (position p xs))
+place_by p x xs true e =
+    let inside : nat_lt 0 (length (x ∷ xs)) ≡ true = grind (arith, nat_tests) in
+    rw (prefix_by p x xs true e, inside) refl
+place_by p x xs false e =
+    let n = position_or_len p xs in
+    let one_more : 1 + n ≡ suc n = omega arith in
+    elim (cases_Bool (nat_lt n (length xs))) [
+      | inl here ↦
+          let inside : nat_lt (1 + n) (length (x ∷ xs)) ≡ true = grind (arith, nat_tests, here) in
+          rw (prefix_by p x xs false e, inside, here) (ap Some one_more)
+      | inr gone ↦
+          let past : nat_lt (1 + n) (length (x ∷ xs)) ≡ false = grind (arith, nat_tests, gone) in
+          rw (prefix_by p x xs false e, past, gone) refl
+    ]
+
+position_inside : {A : Type 0} (p : A → Bool) (xs : List A) (i : ℕ) → position p xs ≡ Some i → i < length xs
+position_inside p xs i e =
+    elim (cases_Bool (nat_lt (position_or_len p xs) (length xs))) [
+      | inl here ↦ let f : Some (position_or_len p xs) ≡ Some i = rw here at e in let same : position_or_len p xs ≡ i = cc in grind (arith, nat_tests, here, same)
+      | inr gone ↦ let f : None ≡ Some i = rw gone at e in cc
+    ]
+
+find_by : (p : Asset → Bool) (x : Asset) (xs : List Asset) (b : Bool) → p x ≡ b → find p (x ∷ xs) ≡ cond b (Some x) (find p xs)
+find_by p x xs b e = ap (λ c. cond c (Some x) (find p xs)) e
+
+found_more : (a : Asset) (later : List Asset) (endpoint : Endpoint) (b : Bool) → same_endpoint a.endpoint endpoint ≡ b → Found later endpoint → Found (a ∷ later) endpoint
+found_more a later endpoint true e f =
+    some 0 a (place_by (λ x. same_endpoint x.endpoint endpoint) a later true e) (find_by (λ x. same_endpoint x.endpoint endpoint) a later true e) refl e
+found_more a later endpoint false e (none p q) =
+    none (place_by (λ x. same_endpoint x.endpoint endpoint) a later false e ∙ ap (option_map suc) p) (find_by (λ x. same_endpoint x.endpoint endpoint) a later false e ∙ q)
+found_more a later endpoint false e (some place asset p q r s) =
+    some (suc place) asset (place_by (λ x. same_endpoint x.endpoint endpoint) a later false e ∙ ap (option_map suc) p) (find_by (λ x. same_endpoint x.endpoint endpoint) a later false e ∙ q) r s
+
+found : (assets : List Asset) (endpoint : Endpoint) → Found assets endpoint
+found [] endpoint = none refl refl
+found (a ∷ later) endpoint = found_more a later endpoint (same_endpoint a.endpoint endpoint) refl (found later endpoint)
+
+-- two endpoints that test as the same are the same
+same_is : (a b : Endpoint) → same_endpoint a b ≡ true → a ≡ b
+same_is a b e =
+    let p : a.address ≡ b.address = grind (arith, nat_tests, e) in
+    let q : a.port ≡ b.port = grind (arith, nat_tests, e) in
+    ap (λ x. let r : Endpoint = record { address = x; port = a.port } in r) p ∙ ap (λ y. let r : Endpoint = record { address = b.address; port = y } in r) q
+
+abbrev without_by : List Session → Option ℕ → ℕ
+without_by ss None = length ss
+without_by ss (Some place) = length (remove ss place)
+
+without_is : (ss : List Session) (o : Option ℕ) → length {A = Session} (elim o [ Some place ↦ remove ss place | None ↦ ss ]) ≡ without_by ss o
+without_is ss None = refl
+without_is ss (Some place) = refl
+
+-- a packet that begins a session may, and goes to an asset
+never_begins : (o p : Option ℕ) (place : ℕ) (closed : Option ℕ) → goes_in_client o p ≡ match.Begins place closed → ⊥
+never_begins (Some i) p place closed e = cc
+never_begins None (Some i) place closed e = cc
+never_begins None None place closed e = cc
+
+begins_found : (assets : List Asset) (xs : List Entry) (packet : PacketValue) (place : ℕ) (closed : Option ℕ) → Found assets packet.dest →
+    begins_at assets xs packet (asset_place assets packet.dest) ≡ match.Begins place closed → is_some (asset_at assets packet.dest) ≡ true
+begins_found assets xs packet place closed (none p q) e = absurd (never_begins _ _ place closed (ap (begins_at assets xs packet) (sym p) ∙ e))
+begins_found assets xs packet place closed (some at asset p q r s) e = ap is_some q
+
+begins_by : (assets : List Asset) (xs : List Entry) (packet : PacketValue) (place : ℕ) (closed : Option ℕ) (b : Bool) →
+    (if b then begins_at assets xs packet (asset_place assets packet.dest) else goes_in assets xs packet) ≡ match.Begins place closed → (b && is_some (asset_at assets packet.dest)) ≡ true
+begins_by assets xs packet place closed true e = begins_found assets xs packet place closed (found assets packet.dest) e
+begins_by assets xs packet place closed false e = absurd (never_begins _ _ place closed e)
+
+pub begins_means : (assets : List Asset) (xs : List Entry) (packet : PacketValue) (place : ℕ) (closed : Option ℕ) → entry_match assets xs packet ≡ match.Begins place closed →
+    may_begin_one assets packet ≡ true
+begins_means assets xs packet place closed e = begins_by assets xs packet place closed (may_begin assets packet) e
+
+module _ (assets : List Asset) (last : ℕ) (xs : List Entry) (ss : List Session) (packet : PacketValue) (all : AreAll assets last xs ss) where
+  same_goes : (o p : Option ℕ) → IsMatch assets ss packet (goes_in_client o p) (goes_from_client o p)
+  same_goes (Some place) p = (refl, refl)
+  same_goes None (Some place) = (refl, refl)
+  same_goes None None = tt
+
+  goes_match : IsMatch assets ss packet (goes_in assets xs packet) (goes ss packet)
+  goes_match =
+      rw (same_place assets last packet.source packet.dest xs ss all, same_place assets last packet.dest packet.source xs ss all)
+      (same_goes (place_of packet.source packet.dest ss) (place_of packet.dest packet.source ss))
+
+  all_length : length xs ≡ length ss
+  all_length = alike_length (entry_between assets packet.source packet.dest) (is_between packet.source packet.dest) xs ss (are_alike assets last packet.source packet.dest xs ss all)
+
+  without_length : (o : Option ℕ) (endpoint : Endpoint) → place_of packet.source endpoint ss ≡ o → length (without packet.source endpoint ss) ≡ others (length ss) o
+  without_length None endpoint e = without_is ss (place_of packet.source endpoint ss) ∙ ap (without_by ss) e
+  without_length (Some place) endpoint e =
+      let inside : place < length ss = position_inside (is_between packet.source endpoint) ss place e in
+      without_is ss (place_of packet.source endpoint ss) ∙ ap (without_by ss) e ∙ omega (arith, length-remove ss place inside)
+
+  by_room : (place : ℕ) (flow : Flow) (o : Option ℕ) (b : Bool) → slice_get assets place ≡ Some flow.asset → o ≡ place_of (client_of flow) flow.asset.endpoint ss →
+      IsMatch assets ss flow.syn (if b then match.Begins place o else match.Full) (if b then Begins flow else Full)
+  by_room place flow o true at is = (at, refl, is)
+  by_room place flow o false at is = tt
+
+  begin_match : (place : ℕ) (asset : Asset) → slice_get assets place ≡ Some asset → same_endpoint asset.endpoint packet.dest ≡ true → (o : Option ℕ) → o ≡ place_of packet.source packet.dest ss →
+      IsMatch assets ss packet (begins_in (length xs) place o) (begins_or_full ss (record { asset = asset; syn = packet }))
+  begin_match place asset at same o is =
+      let flow : Flow = record { asset = asset; syn = packet } in
+      let there : o ≡ place_of packet.source asset.endpoint ss = is ∙ ap (λ e. place_of packet.source e ss) (sym (same_is asset.endpoint packet.dest same)) in
+      let size : others (length xs) o ≡ length (without packet.source asset.endpoint ss) =
+      ap (λ n. others n o) all_length ∙ sym (without_length o asset.endpoint (sym there)) in
+      rw (← size) (by_room place flow o (nat_lt (others (length xs) o) table_size) at there)
+
+  closed_by : (place : ℕ) (asset : Asset) → slice_get assets place ≡ Some asset → same_endpoint asset.endpoint packet.dest ≡ true → (b : Bool) →
+      IsMatch assets ss packet (if b then begins_in (length xs) place (place_of packet.source packet.dest ss) else goes_in assets xs packet)
+      (if b then begins_or_full ss (record { asset = asset; syn = packet }) else goes ss packet)
+  closed_by place asset at same true = begin_match place asset at same (place_of packet.source packet.dest ss) refl
+  closed_by place asset at same false = goes_match
+
+  closed_or_goes : (place : ℕ) (asset : Asset) → slice_get assets place ≡ Some asset → same_endpoint asset.endpoint packet.dest ≡ true →
+      IsMatch assets ss packet (begins_at assets xs packet (Some place)) (begins ss packet (Some asset))
+  closed_or_goes place asset at same =
+      let o = place_of packet.source packet.dest ss in
+      let P : Option ℕ → Type 0 = λ z. IsMatch assets ss packet (if is_closed_in xs z then begins_in (length xs) place z else goes_in assets xs packet) (begins ss packet (Some asset)) in
+      let Q : Bool → Type 0 = λ b. IsMatch assets ss packet (if b then begins_in (length xs) place o else goes_in assets xs packet) (begins ss packet (Some asset)) in
+      subst P (sym (same_place assets last packet.source packet.dest xs ss all))
+      (subst Q (sym (same_closed assets last xs ss o all)) (closed_by place asset at same (is_closed_at ss o)))
+
+  begins_match : Found assets packet.dest → IsMatch assets ss packet (begins_at assets xs packet (asset_place assets packet.dest)) (begins ss packet (asset_at assets packet.dest))
+  begins_match (none p q) = rw (p, q) goes_match
+  begins_match (some place asset p q at same) = rw (p, q) (closed_or_goes place asset at same)
+
+  by_beginning : (b : Bool) → IsMatch assets ss packet (if b then begins_at assets xs packet (asset_place assets packet.dest) else goes_in assets xs packet)
+      (if b then begins ss packet (asset_at assets packet.dest) else goes ss packet)
+  by_beginning true = begins_match (found assets packet.dest)
+  by_beginning false = goes_match
+
+  pub is_match : IsMatch assets ss packet (entry_match assets xs packet) (match_of assets ss packet)
+  is_match = by_beginning (may_begin assets packet)

@@ -1,0 +1,213 @@
+-- The second half of an event, in the table.
+use Rattle.std.proofs.Common.{◌≡◌, ℕ, zero, suc, ◌-◌, ◌<◌, ◌≤◌, not, Bool, true, false, List, [], ◌∷◌, length, cond, Some, refl, sym, ap, ◌∙◌, subst, arith}
+use Rattle.std.specs.Prelude.{filter, slice_get, slice_set}
+use Rattle.std.specs.List.{remove}
+use Rattle.cf_leg.specs.Event.{moment}
+use Rattle.cf_packet.specs.Packet.{PacketValue}
+use Rattle.cf_policy.specs.declared.Asset.{Asset}
+use Rattle.cf_view.specs.declared.Side.{Side}
+use Rattle.cf_session.specs.Event.{IsTick}
+use Rattle.cf_session.specs.Parts.{SessionValue}
+use Rattle.cf_session.specs.Sent.{sent_second}
+use Rattle.cf_session.specs.Session.{Flow, SessionEvent}
+use Rattle.cf_session.specs.Stands.{CountsAs, Hears, HearsBy, IsSessionOf}
+use Rattle.cf_session.specs.Told.{Told, with_both}
+use Rattle.cf_session.specs.declared.life.Life.{Life}
+use Rattle.cf_session.specs.declared.life.Life.TheVariants as life
+use Rattle.cf_run.specs.Engine.{AreAll, IsOne, IsOneBy, IsOneWith}
+use Rattle.cf_run.specs.Entries.{cuts_by, number_if, stays_by}
+use Rattle.cf_session.specs.Work.{Work}
+use Rattle.cf_audit.specs.declared.CutReason.{CutReason}
+use Rattle.cf_run.specs.Receiving.{AreTicked, Going, HasTicked}
+use Rattle.cf_run.specs.Summary.{decided_in, one_if, work_before}
+use Rattle.cf_run.specs.Table.{Session}
+use Rattle.cf_run.specs.Trace.{GoesOnAt, Went, is_cut, logged_at, replaced, stays, with_event_at}
+use Rattle.cf_run.specs.declared.entry.Entry.{Entry}
+use Rattle.cf_run.specs.declared.second_half.Outcome.TheVariants as outcome
+
+-- the sessions of a table each stay
+abbrev pub AllStay : List Session → Type 0
+AllStay [] = Unit {0}
+AllStay (session ∷ table) = (stays session ≡ true) × AllStay table
+
+stay_one : (tick : ℕ) (flow : Flow) (events : List SessionEvent) → HasTicked tick flow events → stays (record { flow = flow; events = events }) ≡ true
+stay_one tick flow [] h = absurd h
+stay_one tick flow (half ∷ earlier) h = ap (λ c. not (is_cut c)) h.1
+
+pub ticked_stay : (tick : ℕ) (table : List Session) → AreTicked tick table → AllStay table
+ticked_stay tick [] h = tt
+ticked_stay tick (s ∷ ss) h = (stay_one tick s.flow s.events h.0, ticked_stay tick ss h.1)
+
+filter-stays : (ss : List Session) → AllStay ss → filter stays ss ≡ ss
+filter-stays [] h = refl
+filter-stays (s ∷ ss) h = ap (λ b. cond b (s ∷ filter stays ss) (filter stays ss)) h.0 ∙ ap (λ xs. s ∷ xs) (filter-stays ss h.1)
+
+-- the session at a place, with its newest event replaced
+abbrev pub one_on : SessionEvent → Session → Session
+one_on e s = record s { events = replaced e s.events }
+
+-- a session goes on, in its place
+pub all_replaced : (assets : List Asset) (last : ℕ) (xs : List Entry) (ss : List Session) (i : ℕ) (e : SessionEvent) (y : Entry) → AreAll assets last xs ss → AllStay ss →
+    ((s : Session) → slice_get ss i ≡ Some s → IsOne assets last y (one_on e s) × (stays (one_on e s) ≡ true)) → i < length ss →
+    AreAll assets last (slice_set xs i y) (filter stays (with_event_at i e ss))
+all_replaced assets last [] [] i e y all st h l = absurd (omega (arith, l))
+all_replaced assets last [] (s ∷ ss) i e y all st h l = absurd all
+all_replaced assets last (x ∷ xs) [] i e y all st h l = absurd all
+all_replaced assets last (x ∷ xs) (s ∷ ss) zero e y all st h l =
+    let g = h s refl in
+    let whole : filter stays (one_on e s ∷ ss) ≡ one_on e s ∷ ss = ap (λ b. cond b (one_on e s ∷ filter stays ss) (filter stays ss)) g.1 ∙ ap (λ zs. one_on e s ∷ zs) (filter-stays ss st.1) in
+    subst (AreAll assets last (y ∷ xs)) (sym whole) (g.0, all.1)
+all_replaced assets last (x ∷ xs) (s ∷ ss) (suc i) e y all st h l =
+    let rest = all_replaced assets last xs ss i e y all.1 st.1 h (omega (arith, l)) in
+    let F = filter stays (with_event_at i e ss) in
+    subst (λ b. AreAll assets last (x ∷ slice_set xs i y) (cond b (s ∷ F) F)) (sym st.0) (all.0, rest)
+
+-- a session is cut, and leaves
+pub all_removed : (assets : List Asset) (last : ℕ) (xs : List Entry) (ss : List Session) (i : ℕ) (e : SessionEvent) → AreAll assets last xs ss → AllStay ss →
+    ((s : Session) → slice_get ss i ≡ Some s → stays (one_on e s) ≡ false) → i < length ss →
+    AreAll assets last (remove xs i) (filter stays (with_event_at i e ss))
+all_removed assets last [] [] i e all st h l = absurd (omega (arith, l))
+all_removed assets last [] (s ∷ ss) i e all st h l = absurd all
+all_removed assets last (x ∷ xs) [] i e all st h l = absurd all
+all_removed assets last (x ∷ xs) (s ∷ ss) zero e all st h l =
+    let whole : filter stays (one_on e s ∷ ss) ≡ ss = ap (λ b. cond b (one_on e s ∷ filter stays ss) (filter stays ss)) (h s refl) ∙ filter-stays ss st.1 in
+    subst (AreAll assets last xs) (sym whole) all.1
+all_removed assets last (x ∷ xs) (s ∷ ss) (suc i) e all st h l =
+    let rest = all_removed assets last xs ss i e all.1 st.1 h (omega (arith, l)) in
+    let F = filter stays (with_event_at i e ss) in
+    subst (λ b. AreAll assets last (x ∷ remove xs i) (cond b (s ∷ F) F)) (sym st.0) (all.0, rest)
+
+-- the session of the table for which the one in memory at a place stands
+pub one_at : (assets : List Asset) (last tick : ℕ) (xs : List Entry) (ss : List Session) (i : ℕ) (x : Entry) → AreAll assets last xs ss → AreTicked tick ss → slice_get xs i ≡ Some x →
+    (s : Session) × (slice_get ss i ≡ Some s) × (i < length ss) × IsOne assets last x s × HasTicked tick s.flow s.events
+one_at assets last tick [] ss i x all ticked at = cc
+one_at assets last tick (y ∷ xs) [] i x all ticked at = absurd all
+one_at assets last tick (y ∷ xs) (s ∷ ss) zero x all ticked at =
+    let same : y ≡ x = cc in (s, refl, omega arith, subst (λ (z : Entry). IsOne assets last z s) same all.0, ticked.0)
+one_at assets last tick (y ∷ xs) (s ∷ ss) (suc i) x all ticked at =
+    let rest = one_at assets last tick xs ss i x all.1 ticked.1 at in
+    (rest.0, rest.1, omega (arith, rest.2), rest.3, rest.4)
+
+-- ---- a session hears a packet
+
+module _ (assets : List Asset) (limit now place : ℕ) (from : Side) (packet : PacketValue) (entries : List Entry) (table : List Session) (old new : Told)
+    (x : Entry) (y : SessionValue) (asset : Asset) (at : slice_get entries place ≡ Some x) (asset_at : slice_get assets x.asset ≡ Some asset)
+    (all : AreAll assets now entries table) (ticked : AreTicked (now - 1) table) (some : 1 ≤ now) (admitted refused : ℕ)
+    (counts_admitted : (flow : Flow) (earlier : List SessionEvent) (event : SessionEvent) → IsSessionOf flow earlier event x.session → admitted ≡ event.work.admitted)
+    (counts_refused : (flow : Flow) (earlier : List SessionEvent) (event : SessionEvent) → IsSessionOf flow earlier event x.session → refused ≡ event.work.refused) where
+  abbrev pub after : Entry
+  after = record { session = y; asset = x.asset }
+
+  -- the entries behind the call, by whether the session stays
+  abbrev pub entries_by : Bool → List Entry
+  entries_by true = slice_set entries place after
+  entries_by false = remove entries place
+
+  module _ (s : Session) (flow : Flow) (earlier : List SessionEvent) (half : SessionEvent) (is : s ≡ record { flow = flow; events = half ∷ earlier }) (here : slice_get table place ≡ Some s)
+      (within : place < length table) (one : IsOneBy assets now x flow earlier half) (half_ticked : HasTicked (now - 1) flow (half ∷ earlier)) (event : SessionEvent)
+      (hears : Hears flow limit earlier half from packet old new event) where
+    there : slice_get table place ≡ Some (record { flow = flow; events = half ∷ earlier })
+    there = here ∙ ap Some is
+
+    same_one : (z : Session) → slice_get table place ≡ Some z → record { flow = flow; events = half ∷ earlier } ≡ z
+    same_one z at_z = let e : Some (let r : Session = record { flow = flow; events = half ∷ earlier } in r) ≡ Some z = sym there ∙ at_z in cc
+
+    goes : GoesOnAt limit from packet event (slice_get table place)
+    goes = subst (GoesOnAt limit from packet event) (sym there) hears.is_packet
+
+    says : new ≡ with_both old (sent_second event) (logged_at (slice_get table place) event)
+    says = hears.told ∙ ap (λ o. with_both old (sent_second event) (logged_at o event)) (sym there)
+
+    decides : (count : Work → ℕ) (before now_counts : ℕ) → before ≡ count half.work → now_counts ≡ count event.work →
+        now_counts - before ≡ decided_in count table (Went place event)
+    decides count before now_counts b n =
+        ap (λ m. m - before) n ∙ ap (λ m. count event.work - m) (b ∙ ap count half_ticked.0.work) ∙ ap (λ o. count event.work - count (work_before o)) (sym there)
+
+    going_on : IsSessionOf flow earlier event y →
+        ((flow : Flow) (earlier : List SessionEvent) (event : SessionEvent) → IsSessionOf flow earlier event y → y.lane.admitted ≡ event.work.admitted) →
+        ((flow : Flow) (earlier : List SessionEvent) (event : SessionEvent) → IsSessionOf flow earlier event y → y.lane.refused ≡ event.work.refused) →
+        Going assets limit now place from packet table (slice_set entries place after) old new (outcome.Went (y.lane.admitted - admitted) (y.lane.refused - refused) 0) event
+    going_on stands ca cr =
+        let next : IsOneBy assets now after flow earlier event =
+        record { stands = stands; asset = one.asset; last_moment = omega (arith, hears.is_packet.client_on.0, half_ticked.0.client_tick, some) } in
+        let stay : stays (record { flow = flow; events = event ∷ earlier }) ≡ true = ap (λ c. not (is_cut c)) stands.going in
+        record {
+          goes_on = goes;
+          told = says;
+          all = all_replaced assets now entries table place event after all (ticked_stay (now - 1) table ticked)
+              (λ z at_z. subst (λ (w : Session). IsOne assets now after (one_on event w) × (stays (one_on event w) ≡ true)) (same_one z at_z) (next, stay)) within;
+          counts = (
+            decides (λ w. w.admitted) admitted y.lane.admitted (counts_admitted flow earlier half one.stands) (ca flow earlier event stands),
+            decides (λ w. w.refused) refused y.lane.refused (counts_refused flow earlier half one.stands) (cr flow earlier event stands),
+            ap (λ c. one_if (is_cut c)) (sym stands.going),
+          );
+        }
+
+    going_off : (because : CutReason) → event.cut ≡ Some because → CountsAs event y →
+        Going assets limit now place from packet table (remove entries place) old new (outcome.Went (y.lane.admitted - admitted) (y.lane.refused - refused) 1) event
+    going_off because cut counts = record {
+      goes_on = goes;
+      told = says;
+      all = all_removed assets now entries table place event all (ticked_stay (now - 1) table ticked)
+          (λ z at_z. subst (λ (w : Session). stays (one_on event w) ≡ false) (same_one z at_z) (ap (λ c. not (is_cut c)) cut)) within;
+      counts = (
+        decides (λ w. w.admitted) admitted y.lane.admitted (counts_admitted flow earlier half one.stands) counts.admitted,
+        decides (λ w. w.refused) refused y.lane.refused (counts_refused flow earlier half one.stands) counts.refused,
+        ap (λ c. one_if (is_cut c)) (sym cut),
+      );
+    }
+
+  heard_by : (s : Session) (flow : Flow) (earlier : List SessionEvent) (half : SessionEvent) → s ≡ record { flow = flow; events = half ∷ earlier } → slice_get table place ≡ Some s → place < length table →
+      IsOneBy assets now x flow earlier half → HasTicked (now - 1) flow (half ∷ earlier) → (l : Life) → HearsBy flow limit earlier half from packet y old new l →
+      ((flow : Flow) (earlier : List SessionEvent) (event : SessionEvent) → IsSessionOf flow earlier event y → y.lane.admitted ≡ event.work.admitted) →
+      ((flow : Flow) (earlier : List SessionEvent) (event : SessionEvent) → IsSessionOf flow earlier event y → y.lane.refused ≡ event.work.refused) →
+      (event : SessionEvent) × Going assets limit now place from packet table (entries_by (stays_by l)) old new
+      (outcome.Went (y.lane.admitted - admitted) (y.lane.refused - refused) (number_if (cuts_by l))) event
+  heard_by s flow earlier half is here within one half_ticked life.Expired h ca cr = absurd h
+  heard_by s flow earlier half is here within one half_ticked life.Live h ca cr =
+      (h.0, going_on s flow earlier half is here within one half_ticked h.0 h.1 h.2.stands ca cr)
+  heard_by s flow earlier half is here within one half_ticked life.Closed h ca cr =
+      (h.0, going_on s flow earlier half is here within one half_ticked h.0 h.1 h.2.stands ca cr)
+  heard_by s flow earlier half is here within one half_ticked (life.Cut because) h ca cr =
+      (h.0, going_off s flow earlier half is here within one half_ticked h.0 h.1 because h.2 h.3)
+
+  heard_in : (s : Session) (flow : Flow) (events : List SessionEvent) → s ≡ record { flow = flow; events = events } → slice_get table place ≡ Some s → place < length table →
+      IsOneWith assets now x flow events → HasTicked (now - 1) flow events → (l : Life) →
+      ((flow : Flow) (earlier : List SessionEvent) (half : SessionEvent) → flow.asset ≡ asset → IsSessionOf flow earlier half x.session → IsTick flow earlier half.client.tick half →
+      moment half.client ≡ now → HearsBy flow limit earlier half from packet y old new l) →
+      ((flow : Flow) (earlier : List SessionEvent) (event : SessionEvent) → IsSessionOf flow earlier event y → y.lane.admitted ≡ event.work.admitted) →
+      ((flow : Flow) (earlier : List SessionEvent) (event : SessionEvent) → IsSessionOf flow earlier event y → y.lane.refused ≡ event.work.refused) →
+      (event : SessionEvent) × Going assets limit now place from packet table (entries_by (stays_by l)) old new
+      (outcome.Went (y.lane.admitted - admitted) (y.lane.refused - refused) (number_if (cuts_by l))) event
+  heard_in s flow [] is here within one half_ticked l hears ca cr = absurd half_ticked
+  heard_in s flow (half ∷ earlier) is here within one half_ticked l hears ca cr =
+      let served : flow.asset ≡ asset = let e : Some flow.asset ≡ Some asset = sym one.asset ∙ asset_at in cc in
+      let tick : half.client.tick ≡ now - 1 = half_ticked.0.client_tick in
+      let is_tick : IsTick flow earlier half.client.tick half = subst (λ t. IsTick flow earlier t half) (sym tick) half_ticked.0 in
+      heard_by s flow earlier half is here within one half_ticked l (hears flow earlier half served one.stands is_tick (omega (arith, tick, some))) ca cr
+
+  pub heard : (l : Life) →
+      ((flow : Flow) (earlier : List SessionEvent) (half : SessionEvent) → flow.asset ≡ asset → IsSessionOf flow earlier half x.session → IsTick flow earlier half.client.tick half →
+      moment half.client ≡ now → HearsBy flow limit earlier half from packet y old new l) →
+      ((flow : Flow) (earlier : List SessionEvent) (event : SessionEvent) → IsSessionOf flow earlier event y → y.lane.admitted ≡ event.work.admitted) →
+      ((flow : Flow) (earlier : List SessionEvent) (event : SessionEvent) → IsSessionOf flow earlier event y → y.lane.refused ≡ event.work.refused) →
+      (event : SessionEvent) × Going assets limit now place from packet table (entries_by (stays_by l)) old new
+      (outcome.Went (y.lane.admitted - admitted) (y.lane.refused - refused) (number_if (cuts_by l))) event
+  heard l hears ca cr =
+      let o = one_at assets now (now - 1) entries table place x all ticked at in
+      heard_in o.0 o.0.flow o.0.events refl o.1 o.2 o.3 o.4 l hears ca cr
+
+  -- the same in the numbers of the code
+  pub heard_as : (l : Life) →
+      ((flow : Flow) (earlier : List SessionEvent) (half : SessionEvent) → flow.asset ≡ asset → IsSessionOf flow earlier half x.session → IsTick flow earlier half.client.tick half →
+      moment half.client ≡ now → HearsBy flow limit earlier half from packet y old new l) →
+      ((flow : Flow) (earlier : List SessionEvent) (event : SessionEvent) → IsSessionOf flow earlier event y → y.lane.admitted ≡ event.work.admitted) →
+      ((flow : Flow) (earlier : List SessionEvent) (event : SessionEvent) → IsSessionOf flow earlier event y → y.lane.refused ≡ event.work.refused) →
+      (stay : Bool) → stays_by l ≡ stay → (more_admitted more_refused cut : ℕ) → more_admitted ≡ y.lane.admitted - admitted → more_refused ≡ y.lane.refused - refused → cut ≡ number_if (cuts_by l) →
+      (event : SessionEvent) × Going assets limit now place from packet table (entries_by stay) old new (outcome.Went more_admitted more_refused cut) event
+  heard_as l hears ca cr stay is a r n ea er en =
+      let h = heard l hears ca cr in (
+        h.0,
+        rw (ea, er, en) (subst (λ b. Going assets limit now place from packet table (entries_by b) old new
+            (outcome.Went (y.lane.admitted - admitted) (y.lane.refused - refused) (number_if (cuts_by l))) h.0) is h.1),
+      )

@@ -1,0 +1,80 @@
+-- Sessions in memory that are sound, one of which changes.
+use Rattle.std.proofs.Common.{◌≡◌, ℕ, zero, suc, ◌+◌, ◌<◌, ◌≤◌, List, [], ◌∷◌, ◌++◌, length, get_or, add-one, take, drop, Some, Bool, true, false, not, ◌&&◌, refl, sym, ap, ◌∙◌, subst, arith}
+use Rattle.std.specs.Prelude.{slice_get, slice_set}
+use Rattle.std.specs.List.{remove}
+use Rattle.std.proofs.lemmas.Option.{slice_get-get_or}
+use Rattle.std.proofs.lemmas.List.{take_more}
+use Rattle.std.proofs.Math.Seq.{drop-cons}
+use Rattle.cf_policy.specs.declared.Asset.{Asset}
+use Rattle.cf_session.specs.Parts.{SessionValue}
+use Rattle.cf_session.specs.Stands.{IsLife, IsSound}
+use Rattle.cf_session.specs.declared.life.Life.{Life}
+use Rattle.cf_session.specs.declared.life.Life.TheVariants as life
+use Rattle.cf_run.specs.Entries.{cuts_by, number_if, stays_by}
+use Rattle.cf_run.specs.Engine.{AreSound, IsSoundEntry}
+use Rattle.cf_run.specs.declared.entry.Entry.{Entry}
+
+-- the one at a place
+pub sound_at : (assets : List Asset) (limit : ℕ) (table : List Entry) (place : ℕ) (entry : Entry) → AreSound assets limit table → slice_get table place ≡ Some entry →
+    IsSoundEntry assets limit entry
+sound_at assets limit [] place entry sound at = cc
+sound_at assets limit (e ∷ es) zero entry sound at = let same : e ≡ entry = cc in subst (IsSoundEntry assets limit) same sound.0
+sound_at assets limit (e ∷ es) (suc place) entry sound at = sound_at assets limit es place entry sound.1 at
+
+pub sound_set : (assets : List Asset) (limit : ℕ) (table : List Entry) (place : ℕ) (entry : Entry) → AreSound assets limit table → IsSoundEntry assets limit entry →
+    AreSound assets limit (slice_set table place entry)
+sound_set assets limit [] place entry sound one = tt
+sound_set assets limit (e ∷ es) zero entry sound one = (one, sound.1)
+sound_set assets limit (e ∷ es) (suc place) entry sound one = (sound.0, sound_set assets limit es place entry sound.1 one)
+
+pub sound_removed : (assets : List Asset) (limit : ℕ) (table : List Entry) (place : ℕ) → AreSound assets limit table → AreSound assets limit (remove table place)
+sound_removed assets limit [] zero sound = tt
+sound_removed assets limit [] (suc place) sound = tt
+sound_removed assets limit (e ∷ es) zero sound = sound.1
+sound_removed assets limit (e ∷ es) (suc place) sound = (sound.0, sound_removed assets limit es place sound.1)
+
+pub sound_pushed : (assets : List Asset) (limit : ℕ) (table : List Entry) (entry : Entry) → AreSound assets limit table → IsSoundEntry assets limit entry →
+    AreSound assets limit (table ++ entry ∷ [])
+sound_pushed assets limit [] entry sound one = (one, tt)
+sound_pushed assets limit (e ∷ es) entry sound one = (sound.0, sound_pushed assets limit es entry sound.1 one)
+
+-- an asset is that of its place
+pub same_asset : (assets : List Asset) (place : ℕ) (a b : Asset) → slice_get assets place ≡ Some a → slice_get assets place ≡ Some b → a ≡ b
+same_asset assets place a b p q = let e : Some a ≡ Some b = sym p ∙ q in cc
+
+-- the state of a session after a call, where its asset and its limit are as they were
+pub sound_after : (assets : List Asset) (limit : ℕ) (entry : Entry) (asset : Asset) (s : SessionValue) → IsSoundEntry assets limit entry → slice_get assets entry.asset ≡ Some asset →
+    IsSound asset s → s.limit ≡ SessionValue.limit entry.session → IsSoundEntry assets limit (record { session = s; asset = entry.asset })
+sound_after assets limit entry asset s one at sound same = record { asset = asset; at = at; sound = sound; limit_is = same ∙ one.limit_is }
+
+-- a session that stays is one of those that live on
+pub lives : (l : Life) → stays_by l ≡ true → IsLife l
+lives life.Live h = tt
+lives life.Closed h = tt
+lives life.Expired h = cc
+lives (life.Cut because) h = cc
+
+-- the session at a place, and the lists before and behind it
+pub first_of : (table : List Entry) (place : ℕ) → place < length table →
+    (entry : Entry) × (slice_get table place ≡ Some entry) × (drop place table ≡ entry ∷ drop (place + 1) table) × (take (place + 1) table ≡ take place table ++ entry ∷ [])
+first_of [] place h = absurd (omega (arith, h))
+first_of (e ∷ es) place h =
+    let table = e ∷ es in
+    (get_or table place e, slice_get-get_or table place e h, drop-cons table place e h ∙ ap (λ n. get_or table place e ∷ drop n table) (sym (add-one place)), take_more table place e h)
+
+-- a session that was cut does not stay
+pub cuts_stay : (l : Life) → number_if (not (stays_by l) && cuts_by l) ≡ number_if (cuts_by l)
+cuts_stay life.Live = refl
+cuts_stay life.Closed = refl
+cuts_stay life.Expired = refl
+cuts_stay (life.Cut because) = refl
+
+pub cuts_gone : (l : Life) → stays_by l ≡ true → number_if (cuts_by l) ≡ 0
+cuts_gone life.Live h = refl
+cuts_gone life.Closed h = refl
+cuts_gone life.Expired h = refl
+cuts_gone (life.Cut because) h = cc
+
+pub one_less : (b : Bool) → number_if b ≤ 1
+one_less true = omega arith
+one_less false = omega arith

@@ -1,0 +1,82 @@
+use Rattle.std.proofs.Common.{◌≡◌, ◌+◌, ◌&&◌, not, [], ◌∷◌, ◌++◌, sym, ap, ◌∙◌, subst, Bool, true, false, take, drop, arith, cond, ◌<◌, length}
+use Rattle.std.proofs.lemmas.List.{append-nil}
+use Rattle.std.proofs.lemmas.List.Edits.{length-remove}
+use Rattle.cf_outside.proofs.Desks.{keeps_none, keeps_both}
+use Rattle.cf_session.specs.Told.{told}
+use Rattle.cf_run.specs.Engine.{AreSound, TickSome}
+use Rattle.cf_run.specs.Entries.{number_if, stays_by, cuts_by}
+use Rattle.cf_run.proofs.Soundness.{first_of, sound_removed, cuts_stay, cuts_gone, one_less}
+use Rattle.cf_run.proofs.Timers.{some_first, some_more, some_all, take-removed, drop-removed, removed_same}
+use Rattle.cf_run.proofs.first_half.tick_all.Goals as goal
+
+pub sessions-init : goal.sessions-init
+sessions-init g c = record {
+  inside = omega arith;
+  sound = c.requires.sound;
+  fewer = omega arith;
+  ticked = λ known all. some_first c.args.assets.now c.args.now known c.args.table.now.items _ all;
+  keeps = keeps_none _;
+  whole = c.requires.whole;
+}
+
+pub sessions-preserved-then-stays : goal.sessions-preserved-then-stays
+sessions-preserved-then-stays g c =
+    let value = g.D.Desk.value in
+    let place = c.sessions.place in
+    let before = c.sessions.table.items in
+    let after = c.tick_at.new.table.items in
+    let within : place < length before = omega (arith, c.sessions-test.true, c.len.ensures) in
+    let still : place < length after = omega (arith, within, c.in_ok-life.ensures.length) in
+    let x = first_of before place within in
+    let y = first_of after place still in
+    let stay : stays_by c.in_ok-life.life ≡ true = sym c.stays.ensures ∙ c.if-stays.true in
+    let more : c.sessions.count + number_if (not (stays_by c.in_ok-life.life) && cuts_by c.in_ok-life.life) ≡ c.sessions.count + c.cuts-count.result =
+    ap (λ n. c.sessions.count + n) (cuts_stay c.in_ok-life.life ∙ sym c.cuts-count.ensures) in
+    record {
+      inside = omega (arith, still);
+      sound = c.in_ok-life.ensures.sound stay;
+      fewer = omega (arith, c.sessions.invariant.fewer, c.in_ok-life.ensures.length, c.cuts-count.ensures, cuts_gone c.in_ok-life.life stay);
+      ticked = λ known all.
+          subst (λ n. TickSome c.args.assets.now c.args.now known after (place + 1) (told (value c.args.desk.now)) (told (value c.tick_at.new.desk)) n) more
+          (some_more c.args.assets.now c.args.now known place before _ _ _ x.0 y.0 (drop (place + 1) before) after (place + 1) (stays_by c.in_ok-life.life) (cuts_by c.in_ok-life.life) c.sessions.count
+          (c.sessions.invariant.ticked known all) x.2 (c.in_ok-life.ensures.ticks x.0 y.0 x.1 y.1) c.in_ok-life.ensures.after
+          (y.3 ∙ ap (λ zs. zs ++ y.0 ∷ []) c.in_ok-life.ensures.before ∙ ap (λ (b : Bool). take place before ++ cond b (y.0 ∷ []) []) (sym stay)));
+      keeps = keeps_both _ _ _ c.sessions.invariant.keeps c.in_ok-life.ensures.keeps;
+      whole = c.in_ok-life.ensures.whole;
+    }
+
+pub sessions-preserved : goal.sessions-preserved
+sessions-preserved g c =
+    let value = g.D.Desk.value in
+    let place = c.sessions.place in
+    let before = c.sessions.table.items in
+    let mid = c.tick_at.new.table.items in
+    let after = c.remove.new.self.items in
+    let within : place < length before = omega (arith, c.sessions-test.true, c.len.ensures) in
+    let still : place < length mid = omega (arith, within, c.in_ok-life.ensures.length) in
+    let removed = c.remove.ensures.items in
+    let x = first_of before place within in
+    let y = first_of mid place still in
+    let gone : stays_by c.in_ok-life.life ≡ false = sym c.stays.ensures ∙ c.if-stays.false in
+    let front : take place after ≡ take place mid = ap (take place) removed ∙ take-removed mid place still in
+    let back : drop place after ≡ drop (place + 1) mid = ap (drop place) removed ∙ drop-removed mid place still in
+    let size : length after + 1 ≡ length mid = ap (λ xs. length xs + 1) removed ∙ length-remove mid place still in
+    let more : c.sessions.count + number_if (not (stays_by c.in_ok-life.life) && cuts_by c.in_ok-life.life) ≡ c.sessions.count + c.cuts-count.result =
+    ap (λ n. c.sessions.count + n) (cuts_stay c.in_ok-life.life ∙ sym c.cuts-count.ensures) in
+    record {
+      inside = omega (arith, size, still);
+      sound = subst (AreSound c.args.assets.now c.args.limit) (removed_same before mid place (sym c.in_ok-life.ensures.before) (sym c.in_ok-life.ensures.after) ∙ sym removed)
+          (sound_removed c.args.assets.now c.args.limit before place c.sessions.invariant.sound);
+      fewer = omega (arith, c.sessions.invariant.fewer, c.in_ok-life.ensures.length, size, c.cuts-count.ensures, one_less (cuts_by c.in_ok-life.life));
+      ticked = λ known all.
+          subst (λ n. TickSome c.args.assets.now c.args.now known after place (told (value c.args.desk.now)) (told (value c.tick_at.new.desk)) n) more
+          (some_more c.args.assets.now c.args.now known place before _ _ _ x.0 y.0 (drop (place + 1) before) after place (stays_by c.in_ok-life.life) (cuts_by c.in_ok-life.life) c.sessions.count
+          (c.sessions.invariant.ticked known all) x.2 (c.in_ok-life.ensures.ticks x.0 y.0 x.1 y.1) (back ∙ c.in_ok-life.ensures.after)
+          (front ∙ c.in_ok-life.ensures.before ∙ sym (append-nil (take place before)) ∙ ap (λ (b : Bool). take place before ++ cond b (y.0 ∷ []) []) (sym gone)));
+      keeps = keeps_both _ _ _ c.sessions.invariant.keeps c.in_ok-life.ensures.keeps;
+      whole = c.in_ok-life.ensures.whole;
+    }
+
+pub returns-clause-ticks : goal.returns-clause-ticks
+returns-clause-ticks g c = λ known all.
+    some_all c.args.assets.now c.args.now known c.sessions.table.items c.sessions.place _ _ c.sessions.count (c.sessions.invariant.ticked known all) (omega (arith, c.sessions-test.false, c.len.ensures))

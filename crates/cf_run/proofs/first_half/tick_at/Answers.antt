@@ -1,0 +1,56 @@
+use Rattle.std.proofs.Common.{◌≡◌, ◌∷◌, length, sym, ap, ◌∙◌, refl, subst, Some}
+use Rattle.std.specs.Prelude.{slice_get, slice_set}
+use Rattle.std.proofs.lemmas.Option.{slice_get_within, slice_get_read, get_or_from_slice_get}
+use Rattle.std.proofs.lemmas.List.{get_or-set_same}
+use Rattle.cf_policy.specs.declared.Asset.{Asset}
+use Rattle.cf_session.specs.Stands.{IsSessionOf, IsSound}
+use Rattle.cf_session.specs.Told.{told}
+use Rattle.cf_run.specs.Engine.{TickAs}
+use Rattle.cf_run.specs.Entries.{cuts_by, stays_by}
+use Rattle.cf_run.specs.declared.entry.Entry.{Entry}
+use Rattle.cf_run.proofs.Soundness.{sound_at, sound_set, same_asset, sound_after, lives}
+use Rattle.cf_run.proofs.Timers.{by_life}
+use Rattle.cf_run.proofs.first_half.tick_at.Goals as goal
+
+pub asset_of-asset-requires : goal.asset_of-asset-requires
+asset_of-asset-requires g c =
+    let items = c.args.table.now.items in
+    let x = c.index_mut-entry.result.now in
+    let at : slice_get items c.args.place ≡ Some x = slice_get_read items (length items) c.args.place x refl c.requires.inside c.index_mut-entry.ensures.value in
+    let one = sound_at c.args.assets.now c.args.limit items c.args.place x c.requires.sound at in
+    slice_get_within c.args.assets.now x.asset one.asset one.at
+
+pub on_clock-requires-clause-sound : goal.on_clock-requires-clause-sound
+on_clock-requires-clause-sound g c =
+    let items = c.args.table.now.items in
+    let x = c.index_mut-entry.result.now in
+    let at : slice_get items c.args.place ≡ Some x = slice_get_read items (length items) c.args.place x refl c.requires.inside c.index_mut-entry.ensures.value in
+    let one = sound_at c.args.assets.now c.args.limit items c.args.place x c.requires.sound at in
+    let same : one.asset ≡ c.asset_of-asset.result.now = same_asset c.args.assets.now x.asset one.asset c.asset_of-asset.result.now one.at c.asset_of-asset.ensures in
+    subst (λ (a : Asset). IsSound a x.session) same one.sound
+
+pub returns-clause-sound : goal.returns-clause-sound
+returns-clause-sound g c = λ stays.
+    let items = c.args.table.now.items in
+    let x = c.index_mut-entry.result.now in
+    let at : slice_get items c.args.place ≡ Some x = slice_get_read items (length items) c.args.place x refl c.requires.inside c.index_mut-entry.ensures.value in
+    let one = sound_at c.args.assets.now c.args.limit items c.args.place x c.requires.sound at in
+    sound_set c.args.assets.now c.args.limit items c.args.place _ c.requires.sound
+    (sound_after c.args.assets.now c.args.limit x c.asset_of-asset.result.now c.on_clock.new.self one c.asset_of-asset.ensures
+    (c.in_ok-life.ensures.sound (lives c.in_ok-life.life stays)) c.in_ok-life.ensures.same.0)
+
+pub returns-clause-ticks : goal.returns-clause-ticks
+returns-clause-ticks g c = λ before after at_before at_after.
+    let items = c.args.table.now.items in
+    let x = c.index_mut-entry.result.now in
+    let y : Entry = record { session = c.on_clock.new.self; asset = x.asset } in
+    let was : x ≡ before = c.index_mut-entry.ensures.value ∙ get_or_from_slice_get items c.args.place before x at_before in
+    let is : y ≡ after = sym (get_or-set_same items c.args.place y y c.requires.inside) ∙ get_or_from_slice_get (slice_set items c.args.place y) c.args.place after y at_after in (
+      ap (λ (e : Entry). e.asset) (sym is) ∙ ap (λ (e : Entry). e.asset) was,
+      λ flow earlier event stands asset.
+          let here : slice_get c.args.assets.now x.asset ≡ Some flow.asset = ap (λ (e : Entry). slice_get c.args.assets.now e.asset) was ∙ asset in
+          let found : flow.asset ≡ c.asset_of-asset.result.now = same_asset c.args.assets.now x.asset flow.asset c.asset_of-asset.result.now here c.asset_of-asset.ensures in
+          let ticks = c.in_ok-life.ensures.ticks flow earlier event found (subst (λ (e : Entry). IsSessionOf flow earlier event e.session) (sym was) stands) in
+          subst (λ (e : Entry). TickAs flow (event ∷ earlier) c.args.now e.session (told (g.D.Desk.value c.args.desk.now)) (told (g.D.Desk.value c.on_clock.new.desk)) (stays_by c.in_ok-life.life) (cuts_by c.in_ok-life.life)) is
+          (by_life flow (event ∷ earlier) c.args.now c.on_clock.new.self _ _ c.in_ok-life.life ticks),
+    )

@@ -1,0 +1,66 @@
+use Rattle.std.proofs.Common.{◌≡◌, ◌+◌, ◌-◌, ◌<◌, ◌≤◌, ℕ, List, ◌∷◌, ◌++◌, [], length, sym, ap, ◌∙◌, subst, Option, Some, None, true, not, cond, arith}
+use Rattle.std.specs.Result.{is_ok}
+use Rattle.std.specs.Option.{IfSome}
+use Rattle.std.proofs.lemmas.List.{length-append}
+use Rattle.cf_run.specs.Engine.{IsSoundEntry}
+use Rattle.cf_run.specs.Entries.{others, without_at}
+use Rattle.cf_run.specs.declared.entry.Entry.{Entry}
+use Rattle.cf_policy.specs.declared.Asset.{Asset}
+use Rattle.cf_packet.specs.Packet.{PacketValue, packet_value}
+use Rattle.cf_session.specs.Session.{Flow}
+use Rattle.cf_session.specs.Stands.{Begins}
+use Rattle.cf_session.specs.Told.{told}
+use Rattle.cf_run.proofs.Begun.{begun_last, within_at, sound_without, length_without}
+use Rattle.cf_run.proofs.Soundness.{same_asset, sound_pushed}
+use Rattle.cf_run.proofs.second_half.begin.Goals as goal
+
+inside_by : (xs : List Entry) (o : Option ℕ) → IfSome o (λ place. place < length xs) → (place : ℕ) → o ≡ Some place → place < length xs
+inside_by xs None h place e = cc
+inside_by xs (Some p) h place e = let same : p ≡ place = cc in subst (λ n. n < length xs) same h
+
+fewer_others : (n : ℕ) (o : Option ℕ) → others n o ≤ n
+fewer_others n None = omega arith
+fewer_others n (Some p) = omega arith
+
+pub begin-requires-clause-within : goal.begin-requires-clause-within
+begin-requires-clause-within g c = within_at c.args.assets.now c.args.asset c.asset_of-served.result.now c.requires.within c.asset_of-served.ensures
+
+pub returns-clause-begins : goal.returns-clause-begins
+returns-clause-begins g c = λ table flow all at syn is.
+    let e : Entry = record { session = c.in-Ok.session; asset = c.args.asset } in
+    let ok : is_ok c.push.result ≡ true = c.is_err.ensures.negation ∙ ap not c.if-is_err.false in
+    let items : c.push.new.self.items ≡ without_at c.args.table.now.items c.args.closed ++ e ∷ [] =
+    c.push.ensures.items ∙ ap (λ b. cond b (c.make_way.new.table.items ++ e ∷ []) c.make_way.new.table.items) ok ∙ ap (λ xs. xs ++ e ∷ []) c.make_way.ensures in
+    let old = told (g.D.Desk.value c.args.desk.now) in
+    let new = told (g.D.Desk.value c.begin.new.desk) in
+    let served = c.asset_of-served.result.now in
+    let same : served ≡ flow.asset = same_asset c.args.assets.now c.args.asset served flow.asset c.asset_of-served.ensures at in
+    let path : (let f : Flow = record { asset = served; syn = packet_value c.args.packet.now } in f) ≡ flow =
+    ap (λ (a : Asset). let f : Flow = record { asset = a; syn = packet_value c.args.packet.now } in f) same
+    ∙ ap (λ (p : PacketValue). let f : Flow = record { asset = flow.asset; syn = p } in f) (sym syn) in
+    let begun : Begins flow (c.args.now - 1) c.in-Ok.session old new = subst (λ (f : Flow). Begins f (c.args.now - 1) c.in-Ok.session old new) path c.in-Ok.ensures.begins in
+    let h = begun_last c.args.assets.now c.args.now c.args.asset c.args.closed flow table c.args.table.now.items old new c.in-Ok.session c.requires.moment.0 all at is begun in
+    (h.0, rw items h.1)
+
+pub returns-clause-sound : goal.returns-clause-sound
+returns-clause-sound g c =
+    let e : Entry = record { session = c.in-Ok.session; asset = c.args.asset } in
+    let ok : is_ok c.push.result ≡ true = c.is_err.ensures.negation ∙ ap not c.if-is_err.false in
+    let items : c.push.new.self.items ≡ without_at c.args.table.now.items c.args.closed ++ e ∷ [] =
+    c.push.ensures.items ∙ ap (λ b. cond b (c.make_way.new.table.items ++ e ∷ []) c.make_way.new.table.items) ok ∙ ap (λ xs. xs ++ e ∷ []) c.make_way.ensures in
+    let one : IsSoundEntry c.args.assets.now c.args.limit e =
+    record { asset = c.asset_of-served.result.now; at = c.asset_of-served.ensures; sound = c.in-Ok.ensures.sound; limit_is = grind (arith, c.in-Ok.ensures.limit, c.signed.ensures, c.requires.limit) } in
+    rw items (sound_pushed c.args.assets.now c.args.limit (without_at c.args.table.now.items c.args.closed) e
+    (sound_without c.args.assets.now c.args.limit c.args.table.now.items c.args.closed c.requires.sound) one)
+
+pub returns-clause-size : goal.returns-clause-size
+returns-clause-size g c =
+    let e : Entry = record { session = c.in-Ok.session; asset = c.args.asset } in
+    let ok : is_ok c.push.result ≡ true = c.is_err.ensures.negation ∙ ap not c.if-is_err.false in
+    let items : c.push.new.self.items ≡ without_at c.args.table.now.items c.args.closed ++ e ∷ [] =
+    c.push.ensures.items ∙ ap (λ b. cond b (c.make_way.new.table.items ++ e ∷ []) c.make_way.new.table.items) ok ∙ ap (λ xs. xs ++ e ∷ []) c.make_way.ensures in
+    let rest : length (without_at c.args.table.now.items c.args.closed) ≡ others (length c.args.table.now.items) c.args.closed =
+    length_without c.args.table.now.items c.args.closed (inside_by c.args.table.now.items c.args.closed c.requires.closed) in
+    let size : length c.push.new.self.items ≡ others (length c.args.table.now.items) c.args.closed + 1 =
+    ap length items ∙ length-append (without_at c.args.table.now.items c.args.closed) (e ∷ []) ∙ ap (λ n. n + 1) rest in
+    (omega (arith, size, fewer_others (length c.args.table.now.items) c.args.closed), omega (arith, size, c.requires.room))

@@ -1,0 +1,11 @@
+pub mod Engine
+pub mod Entries
+pub mod FileDesk
+pub mod Items
+pub mod OutputFile
+pub mod Reader
+pub mod Receiving
+pub mod Selected
+pub mod Summary
+pub mod Table
+pub mod Trace

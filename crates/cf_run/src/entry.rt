@@ -1,0 +1,74 @@
+//! The sessions of the table in memory.
+ghost use Rattle.std.specs.Prelude.{◌≡◌, ◌<◌, Some, length, slice_get};
+ghost use Rattle.cf_run.specs.Entries.{cuts_by, entry_between, number_if, place_in, stays_by};
+ghost use Rattle.cf_run.specs.Table.{same_endpoint};
+
+use cf_policy::Asset;
+use cf_session::{Life, Session};
+use cf_view::Endpoint;
+
+/// A session in the table, and the place of its asset in the policy.
+#[derive(Drop)]
+pub struct Entry {
+    /// The session.
+    pub session: Session,
+    /// The place of the asset that it serves.
+    pub asset: usize,
+}
+
+/// The asset at a place of a policy.
+pub(crate) fn asset_of<'a>(assets: &'a [Asset], place: usize) -> &'a Asset
+    requires { place < length assets.now }
+    ensures { slice_get assets.now place ≡ Some result.now }
+{
+    &assets[place]
+}
+
+/// Whether two endpoints are the same.
+pub(crate) fn is_same(a: &Endpoint, b: &Endpoint) -> bool
+    ensures { result ≡ same_endpoint a.now b.now }
+{
+    a.address == b.address && a.port == b.port
+}
+
+/// Whether a session is between this client and the asset at this endpoint.
+fn is_between(entry: &Entry, assets: &[Asset], client: &Endpoint, endpoint: &Endpoint) -> bool
+    ensures { result ≡ entry_between assets.now client.now endpoint.now entry.now }
+{
+    is_same(&entry.session.client(), client)
+        && match assets.get(entry.asset) {
+            Some(asset) => is_same(&asset.endpoint, endpoint),
+            None => false,
+        }
+}
+
+/// The place in the table of the session between this client and the asset at this endpoint.
+pub(crate) fn place_in(
+    table: &[Entry],
+    assets: &[Asset],
+    client: &Endpoint,
+    endpoint: &Endpoint,
+) -> Option<usize>
+    ensures { result ≡ place_in assets.now client.now endpoint.now table.now }
+{
+    table
+        .iter()
+        .position(|entry| is_between(entry, assets, client, endpoint))
+}
+
+/// Whether a session is in the table after its call.
+pub(crate) fn stays(life: &Life) -> bool
+    ensures { result ≡ stays_by life.now }
+{
+    matches!(life, Life::Live | Life::Closed)
+}
+
+/// How many sessions a call cut: one or none.
+pub(crate) fn cuts(life: &Life) -> u64
+    ensures { result ≡ number_if (cuts_by life.now) }
+{
+    match life {
+        Life::Cut(_) => 1,
+        Life::Live | Life::Closed | Life::Expired => 0,
+    }
+}

@@ -1,0 +1,79 @@
+//! The first half of an event: the clock calls of all sessions.
+ghost use Rattle.std.specs.Prelude.{◌≡◌, ◌+◌, ◌*◌, ◌^◌, ◌<◌, ◌≤◌, List, Some, true, IfOk, IsErr, OnOk, drop, length, slice_get, take};
+ghost use Rattle.cf_outside.specs.Desk.{DeskValue, KeepsDesk};
+ghost use Rattle.cf_outside.specs.Faults.{HasCause};
+ghost use Rattle.cf_session.specs.Told.{told};
+ghost use Rattle.cf_run.specs.Engine.{AreAll, AreSound, TickAll, TickAt};
+ghost use Rattle.cf_run.specs.Entries.{cuts_by, stays_by};
+ghost use Rattle.cf_run.specs.Table.{Session as Known};
+ghost use Rattle.cf_run.specs.declared.entry.Entry.{Entry as KnownEntry};
+
+use crate::entry::{Entry, asset_of, cuts, stays};
+use cf_outside::Desk;
+use cf_policy::Asset;
+use cf_session::Life;
+use cf_view::WriteFault;
+
+/// The clock call of the session at a place.
+fn tick_at<D: Desk>(
+    table: &mut Vec<Entry>,
+    place: usize,
+    assets: &[Asset],
+    limit: u64,
+    now: u64,
+    desk: &mut D,
+) -> Result<Life, WriteFault>
+    requires inside { place < length table.old.items }
+    requires sound { AreSound assets.now limit table.old.items }
+    requires moment { now < 2 ^ 32 * 1000000 }
+    requires whole { DeskValue.whole (D.value desk.old) ≡ true }
+    ensures before { take place table.new.items ≡ take place table.old.items }
+    ensures after { drop (place + 1) table.new.items ≡ drop (place + 1) table.old.items }
+    ensures length { length table.new.items ≡ length table.old.items }
+    ensures sound { IfOk result (λ life. stays_by life ≡ true → AreSound assets.now limit table.new.items) }
+    ensures ticks { IfOk result (λ life. (before after : KnownEntry) → slice_get table.old.items place ≡ Some before
+        → slice_get table.new.items place ≡ Some after
+        → TickAt assets.now now before after (told (D.value desk.old)) (told (D.value desk.new)) (stays_by life) (cuts_by life)) }
+    ensures keeps { KeepsDesk (D.value desk.old) (D.value desk.new) }
+    ensures whole { OnOk result (DeskValue.whole (D.value desk.new) ≡ true) }
+    ensures cause { HasCause (DeskValue.faults (D.value desk.old)) (DeskValue.faults (D.value desk.new)) (IsErr result) }
+{
+    let entry = &mut table[place];
+    let asset = asset_of(assets, entry.asset);
+    let life = entry.session.on_clock(asset, now, desk)?;
+    Ok(life)
+}
+
+/// The first half of an event: those that have expired and those that are cut leave the table. Answers how many were cut.
+pub fn tick_all<D: Desk>(
+    table: &mut Vec<Entry>,
+    assets: &[Asset],
+    limit: u64,
+    now: u64,
+    desk: &mut D,
+) -> Result<u64, WriteFault>
+    requires sound { AreSound assets.now limit table.old.items }
+    requires size { length table.old.items ≤ 256 }
+    requires moment { now < 2 ^ 32 * 1000000 }
+    requires whole { DeskValue.whole (D.value desk.old) ≡ true }
+    ensures ticks { IfOk result (λ cuts. (known : List Known) → AreAll assets.now now table.old.items known →
+        TickAll assets.now now known table.new.items (told (D.value desk.old)) (told (D.value desk.new)) cuts) }
+    ensures sound { OnOk result (AreSound assets.now limit table.new.items) }
+    ensures fewer { IfOk result (λ cuts. cuts + length table.new.items ≤ length table.old.items) }
+    ensures keeps { KeepsDesk (D.value desk.old) (D.value desk.new) }
+    ensures whole { OnOk result (DeskValue.whole (D.value desk.new) ≡ true) }
+    ensures cause { HasCause (DeskValue.faults (D.value desk.old)) (DeskValue.faults (D.value desk.new)) (IsErr result) }
+{
+    let mut count = 0;
+    let mut place = 0;
+    'sessions: while place < table.len() {
+        let life = tick_at(table, place, assets, limit, now, desk)?;
+        count += cuts(&life);
+        if stays(&life) {
+            place += 1;
+        } else {
+            table.remove(place);
+        }
+    }
+    Ok(count)
+}

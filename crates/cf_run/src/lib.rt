@@ -1,0 +1,24 @@
+//! The run over a capture: both halves of an event over the table of sessions, the desk that writes the two output files, and
+//! the reading of a capture record by record.
+#![tactic(auto)]
+
+mod engine;
+mod entry;
+mod file_desk;
+mod first_half;
+mod laws;
+mod matching;
+mod record_reader;
+mod second_half;
+
+pub use engine::StepFault;
+pub use entry::Entry;
+pub use file_desk::FileDesk;
+pub use first_half::tick_all;
+pub use laws::selects_by_moment;
+pub use matching::{Match, TABLE_SIZE, match_packet};
+pub use record_reader::{NextRecord, OpenFault, RecordReader};
+pub use second_half::{Outcome, receive};
+
+#[cfg(test)]
+mod tests;

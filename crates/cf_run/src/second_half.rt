@@ -1,0 +1,188 @@
+//! The second half of an event: the packet.
+ghost use Rattle.std.specs.Prelude.{◌≡◌, ◌+◌, ◌*◌, ◌^◌, ◌<◌, ◌≤◌, true, IfOk, IfSome, IsErrOf, OnOk, length, pos};
+ghost use Rattle.cf_outside.specs.Desk.{DeskValue, KeepsDesk};
+ghost use Rattle.cf_outside.specs.Faults.{HasCause};
+ghost use Rattle.cf_packet.specs.Packet.{packet_value};
+ghost use Rattle.cf_policy.specs.Within.{AreAssetsWithin};
+ghost use Rattle.cf_session.specs.Told.{told};
+ghost use Rattle.cf_run.specs.Engine.{AreSound};
+ghost use Rattle.cf_run.specs.Entries.{others, without_at};
+ghost use Rattle.cf_run.specs.Receiving.{BeginsOne, GoesOne, IsSized, ReceivesOne, may_begin_one};
+
+use crate::engine::StepFault;
+use crate::entry::{Entry, asset_of, cuts, stays};
+use crate::matching::{Match, match_packet};
+use cf_outside::Desk;
+use cf_packet::Packet;
+use cf_policy::Asset;
+use cf_session::{BeginFault, Session};
+use cf_view::Side;
+use std::alloc::Global;
+
+/// What became of a packet, as the counts have it.
+#[derive(Clone, Copy, PartialEq, Eq, Debug)]
+pub enum Outcome {
+    /// It would begin a session, and the table had no room.
+    Full,
+    /// It is of no session.
+    Outside,
+    /// A session began.
+    Begun,
+    /// It went to a session, which decided so many commands, and cut so many sessions: that one or none.
+    Went {
+        /// Commands admitted.
+        admitted: u64,
+        /// Commands refused.
+        refused: u64,
+        /// Sessions cut.
+        cuts: u64,
+    },
+}
+
+/// The second half of an event.
+pub fn receive<D: Desk>(
+    table: &mut Vec<Entry>,
+    alloc: Global,
+    assets: &[Asset],
+    limit: u64,
+    now: u64,
+    packet: &Packet<'_>,
+    desk: &mut D,
+) -> Result<Outcome, StepFault>
+    requires within { AreAssetsWithin assets.now }
+    requires sound { AreSound assets.now limit table.old.items }
+    requires size { length table.old.items ≤ 256 }
+    requires limit { (1 ≤ limit) × (limit ≤ 2 ^ 30) }
+    requires moment { (1 ≤ now) × (now < 2 ^ 32 * 1000000) }
+    requires text { length packet.now.text.now ≤ 65535 }
+    requires whole { DeskValue.whole (D.value desk.old) ≡ true }
+    ensures received { IfOk result (λ outcome. ReceivesOne assets.now limit now (packet_value packet.now) table.old.items table.new.items
+        (told (D.value desk.old)) (told (D.value desk.new)) outcome) }
+    ensures sound { OnOk result (AreSound assets.now limit table.new.items) }
+    ensures size { IfOk result (λ outcome. IsSized outcome (length table.old.items) (length table.new.items)) }
+    ensures memory { IsErrOf result StepFault.NoMemory → may_begin_one assets.now (packet_value packet.now) ≡ true }
+    ensures keeps { KeepsDesk (D.value desk.old) (D.value desk.new) }
+    ensures whole { OnOk result (DeskValue.whole (D.value desk.new) ≡ true) }
+    ensures cause { HasCause (DeskValue.faults (D.value desk.old)) (DeskValue.faults (D.value desk.new)) (IsErrOf result StepFault.Write) }
+{
+    match match_packet(table, assets, packet) {
+        Match::Begins { asset, closed } => {
+            match begin(
+                table, alloc, assets, asset, closed, limit, now, packet, desk,
+            ) {
+                Ok(()) => Ok(Outcome::Begun),
+                Err(fault) => Err(fault),
+            }
+        }
+        Match::Goes { place, side } => {
+            match go_on(table, assets, place, side, limit, now, packet, desk) {
+                Ok(outcome) => Ok(outcome),
+                Err(fault) => Err(fault),
+            }
+        }
+        Match::Full => Ok(Outcome::Full),
+        Match::Outside => Ok(Outcome::Outside),
+    }
+}
+
+/// A session begins with the asset at a place, and stands last; the closed one of its flow leaves the table.
+fn begin<D: Desk>(
+    table: &mut Vec<Entry>,
+    alloc: Global,
+    assets: &[Asset],
+    asset: usize,
+    closed: Option<usize>,
+    limit: u64,
+    now: u64,
+    packet: &Packet<'_>,
+    desk: &mut D,
+) -> Result<(), StepFault>
+    requires within { AreAssetsWithin assets.now }
+    requires sound { AreSound assets.now limit table.old.items }
+    requires inside { asset < length assets.now }
+    requires closed { IfSome closed (λ place. place < length table.old.items) }
+    requires room { others (length table.old.items) closed < 256 }
+    requires limit { (1 ≤ limit) × (limit ≤ 2 ^ 30) }
+    requires moment { (1 ≤ now) × (now < 2 ^ 32 * 1000000) }
+    requires whole { DeskValue.whole (D.value desk.old) ≡ true }
+    ensures begins { OnOk result (BeginsOne assets.now now asset closed (packet_value packet.now) table.old.items table.new.items
+        (told (D.value desk.old)) (told (D.value desk.new))) }
+    ensures sound { OnOk result (AreSound assets.now limit table.new.items) }
+    ensures size { OnOk result ((length table.new.items ≤ length table.old.items + 1) × (length table.new.items ≤ 256)) }
+    ensures keeps { KeepsDesk (D.value desk.old) (D.value desk.new) }
+    ensures whole { OnOk result (DeskValue.whole (D.value desk.new) ≡ true) }
+    ensures cause { HasCause (DeskValue.faults (D.value desk.old)) (DeskValue.faults (D.value desk.new)) (IsErrOf result StepFault.Write) }
+{
+    make_way(table, closed);
+    let served = asset_of(assets, asset);
+    let session = match Session::begin(alloc, served, now, signed(limit), packet, desk) {
+        Ok(session) => session,
+        Err(BeginFault::NoMemory) => return Err(StepFault::NoMemory),
+        Err(BeginFault::Write) => return Err(StepFault::Write),
+    };
+    if table.push(Entry { session, asset }).is_err() {
+        return Err(StepFault::NoMemory);
+    }
+    Ok(())
+}
+
+/// A limit as a number with a sign.
+fn signed(limit: u64) -> i64
+    requires { limit ≤ 2 ^ 30 }
+    ensures { result ≡ pos limit }
+{
+    limit as i64
+}
+
+/// A closed session leaves the table.
+fn make_way(table: &mut Vec<Entry>, closed: Option<usize>)
+    requires { IfSome closed (λ place. place < length table.old.items) }
+    ensures { table.new.items ≡ without_at table.old.items closed }
+{
+    if let Some(place) = closed {
+        table.remove(place);
+    }
+}
+
+/// The event of the session at a place goes on with a packet from a side; a session that is cut leaves the table.
+fn go_on<D: Desk>(
+    table: &mut Vec<Entry>,
+    assets: &[Asset],
+    place: usize,
+    side: Side,
+    limit: u64,
+    now: u64,
+    packet: &Packet<'_>,
+    desk: &mut D,
+) -> Result<Outcome, StepFault>
+    requires sound { AreSound assets.now limit table.old.items }
+    requires inside { place < length table.old.items }
+    requires moment { (1 ≤ now) × (now < 2 ^ 32 * 1000000) }
+    requires text { length packet.now.text.now ≤ 65535 }
+    requires whole { DeskValue.whole (D.value desk.old) ≡ true }
+    ensures goes { IfOk result (λ outcome. GoesOne assets.now limit now place side (packet_value packet.now) table.old.items table.new.items
+        (told (D.value desk.old)) (told (D.value desk.new)) outcome) }
+    ensures sound { OnOk result (AreSound assets.now limit table.new.items) }
+    ensures size { IfOk result (λ outcome. IsSized outcome (length table.old.items) (length table.new.items)) }
+    ensures memory { IsErrOf result StepFault.NoMemory → ⊥ }
+    ensures keeps { KeepsDesk (D.value desk.old) (D.value desk.new) }
+    ensures whole { OnOk result (DeskValue.whole (D.value desk.new) ≡ true) }
+    ensures cause { HasCause (DeskValue.faults (D.value desk.old)) (DeskValue.faults (D.value desk.new)) (IsErrOf result StepFault.Write) }
+{
+    let entry = &mut table[place];
+    let asset = asset_of(assets, entry.asset);
+    let admitted = entry.session.admitted();
+    let refused = entry.session.refused();
+    let Ok(life) = entry.session.on_packet(asset, now, side, packet, desk) else {
+        return Err(StepFault::Write);
+    };
+    let outcome = Outcome::Went {
+        admitted: entry.session.admitted().saturating_sub(admitted),
+        refused: entry.session.refused().saturating_sub(refused),
+        cuts: cuts(&life),
+    };
+    if !stays(&life) {
+        table.remove(place);
+    }
+    Ok(outcome)
+}
