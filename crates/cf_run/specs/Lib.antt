@@ -1,3 +1,4 @@
+pub mod Counted
 pub mod Engine
 pub mod Entries
 pub mod FileDesk
@@ -6,6 +7,7 @@ pub mod OutputFile
 pub mod Reader
 pub mod Receiving
 pub mod Selected
+pub mod Step
 pub mod Summary
 pub mod Table
 pub mod Trace

@@ -10,8 +10,9 @@ mod laws;
 mod matching;
 mod record_reader;
 mod second_half;
+mod summary;
 
-pub use engine::StepFault;
+pub use engine::{Engine, StepFault};
 pub use entry::Entry;
 pub use file_desk::FileDesk;
 pub use first_half::tick_all;
@@ -19,6 +20,7 @@ pub use laws::selects_by_moment;
 pub use matching::{Match, TABLE_SIZE, match_packet};
 pub use record_reader::{NextRecord, OpenFault, RecordReader};
 pub use second_half::{Outcome, receive};
+pub use summary::{Happened, Summary};
 
 #[cfg(test)]
 mod tests;
