@@ -1,6 +1,7 @@
 mod Begun
 mod Counting
 mod FileDesks
+mod Isolation
 mod Items
 mod Matched
 mod OutputFiles
@@ -9,6 +10,7 @@ mod Pieces
 mod Places
 mod Received
 mod Selection
+mod Sessions
 mod Soundness
 mod Stepping
 mod Timers

@@ -7,6 +7,7 @@ pub mod OutputFile
 pub mod Reader
 pub mod Receiving
 pub mod Selected
+pub mod Sessions
 pub mod Step
 pub mod Summary
 pub mod Table
