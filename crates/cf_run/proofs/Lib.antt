@@ -1,5 +1,6 @@
 mod Begun
 mod Counting
+mod Created
 mod FileDesks
 mod Isolation
 mod Items
@@ -9,6 +10,7 @@ mod Packets
 mod Pieces
 mod Places
 mod Received
+mod Running
 mod Selection
 mod Sessions
 mod Soundness

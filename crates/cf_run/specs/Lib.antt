@@ -6,6 +6,8 @@ pub mod Items
 pub mod OutputFile
 pub mod Reader
 pub mod Receiving
+pub mod Run
+pub mod RunCapture
 pub mod Selected
 pub mod Sessions
 pub mod Step

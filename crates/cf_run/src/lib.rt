@@ -9,6 +9,7 @@ mod first_half;
 mod laws;
 mod matching;
 mod record_reader;
+mod run;
 mod second_half;
 mod summary;
 
@@ -21,6 +22,7 @@ pub use laws::{
 };
 pub use matching::{Match, TABLE_SIZE, match_packet};
 pub use record_reader::{NextRecord, OpenFault, RecordReader};
+pub use run::{RunFault, RunNames, RunRefusal, run_capture};
 pub use second_half::{Outcome, receive};
 pub use summary::{Happened, Summary};
 
