@@ -38,6 +38,8 @@ module _ (failed : Type 0) (before after : Option (List ℕ)) (capture : List �
   no_other stop.NoMemory other (Err r) lists = cc (lists.0)
   no_other stop.Unbuilt other (Ok h) lists = lists.answers
   no_other stop.Unbuilt other (Err r) lists = cc (lists.0)
+  no_other (stop.RunCut place summary) other (Ok h) lists = lists.answers
+  no_other (stop.RunCut place summary) other (Err r) lists = cc (lists.0)
   no_other stop.WriteFault other r lists = absurd other
   no_other (stop.CaptureRefused why) other r lists = absurd other
   no_other (stop.CaptureCut place) other r lists = absurd other
@@ -79,14 +81,14 @@ module _ (file : List ℕ) (before after : Outside) (content : after.files.conte
   )
   listing_meets (Err (stop.CaptureRefused why)) l = (
     (
-      (file, refl, (l.capture, l.whole, refused_untold failed before.sink.text after.sink.text l.capture (header_of l.capture) why l.lists)),
+      (l.capture, l.whole, refused_untold failed before.sink.text after.sink.text l.capture (header_of l.capture) why l.lists),
       passes_none,
     ),
     record { lines = l; content = content; pair = pair },
   )
   listing_meets (Err (stop.CaptureCut place)) l = (
     (
-      (file, refl, (l.capture, l.whole, cut_untold failed before.sink.text after.sink.text l.capture (header_of l.capture) place l.lists)),
+      (l.capture, l.whole, cut_untold failed before.sink.text after.sink.text l.capture (header_of l.capture) place l.lists),
       passes_none,
     ),
     record { lines = l; content = content; pair = pair },

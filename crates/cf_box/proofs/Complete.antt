@@ -1,21 +1,25 @@
 -- Where all is in form and nothing fails, the work is done.
-use Rattle.std.proofs.Common.{◌≡◌, ◌⊎◌, ℕ, List, None, Some, Result, Ok, Err, drop, sym, subst, ◌∙◌, ap, inl, inr}
+use Rattle.std.proofs.Common.{◌≡◌, ◌⊎◌, ℕ, List, None, Some, Result, Ok, Err, drop, refl, sym, subst, ◌∙◌, ap, inl, inr}
 use Rattle.cf_outside.specs.Files.{Content, holds, IsWhole}
-use Rattle.cf_pcap.proofs.Capture.{one_list}
+use Rattle.cf_pcap.proofs.Capture.{one_list, one_timed_list}
 use Rattle.cf_pcap.specs.Header.{header_of}
-use Rattle.cf_pcap.specs.Capture.{LastPlace, FileEnd, AreRecords, at_place}
+use Rattle.cf_pcap.specs.Capture.{AreRecords, AreTimed, AtPlace, Clock, Cut, FileEnd, Large, LastPlace, TooLong, at_place, first_moment}
 use Rattle.cf_pcap.specs.Record.{Record}
 use Rattle.cf_pcap.specs.declared.Header.{Header}
+use Rattle.cf_pcap.specs.declared.HeaderRefusal.{HeaderRefusal}
+use Rattle.cf_pcap.specs.declared.HeaderRefusal.TheVariants as header
 use Rattle.cf_policy.specs.declared.Asset.{Asset}
 use Rattle.cf_policy.specs.declared.Policy.{Policy}
 use Rattle.cf_policylang.specs.Documents.{policy_meaning}
 use Rattle.cf_policylang.specs.declared.PolicyRefusal.{PolicyRefusal}
-use Rattle.cf_box.specs.Command.{Command}
-use Rattle.cf_box.specs.Ends.{CutsCapture, LacksAsset, Meets, RefusesCapture, RefusesPolicy}
+use Rattle.cf_box.specs.Command.{Command, Check, Packets, Run, Relay, World, Sift, capture_file}
+use Rattle.cf_box.specs.Ends.{CutsCapture, CutsRun, LacksAsset, Meets, RefusesCapture, RefusesPolicy}
 use Rattle.cf_box.specs.Outside.{Outside, ReadFailed, WriteFailed}
 use Rattle.cf_box.specs.Packets.{IsListed, ListsBehind}
 use Rattle.cf_box.specs.PolicyFile.{HasPolicy, IsRefusedBy, asset_named}
-use Rattle.cf_box.specs.Status.{HasInput, HasRecords, NothingFails}
+use Rattle.cf_box.specs.Run.{EndsAt, RunCuts, RunRefuses}
+use Rattle.cf_box.specs.Status.{EndsWell, HasInput, HasRecords, HasTimedRecords, NothingFails}
+use Rattle.cf_box.specs.declared.ending.CaptureRefusal.{CaptureRefusal}
 use Rattle.cf_box.specs.declared.ending.CaptureRefusal.TheVariants as refusal
 use Rattle.cf_box.specs.declared.ending.Done.{Done}
 use Rattle.cf_box.specs.declared.ending.Stop.{Stop}
@@ -66,6 +70,70 @@ not_ended file bytes told has capture whole answer ends =
     let listed : ListsBehind (Ok has.0) bytes None None ⊥ (Err answer) = subst (λ h. ListsBehind h bytes None None ⊥ (Err answer)) has.1 behind in
     stopped_listing bytes has.0 has.2.0 has.2.1 has.2.2 answer listed
 
+-- the same of a run, where each record has its moment
+module _ (bytes : List ℕ) (has : HasTimedRecords bytes) where
+  no_refusal : (of : HeaderRefusal) → header_of bytes ≡ Err of → ⊥
+  no_refusal of refused = let read = has.1 in cc
+
+  no_other_end : (found : AtPlace) (place : ℕ) (h : Header) (records : List Record) → header_of bytes ≡ Ok h → AreTimed h first_moment 24 (drop 24 bytes) records (record { place = place; found = found }) → found ≡ FileEnd
+  no_other_end found place h records read are =
+      let here = has.1 in
+      let same : h ≡ has.0 = cc in
+      let ends : LastPlace = record { place = has.2.1; found = FileEnd } in
+      ap (λ e. e.found) (one_timed_list has.0 first_moment 24 (drop 24 bytes) records has.2.0 (record { place = place; found = found }) ends
+      (subst (λ x. AreTimed x first_moment 24 (drop 24 bytes) records (record { place = place; found = found })) same are) has.2.2).1
+
+  ends_well : (found : AtPlace) (place : ℕ) → EndsAt (holds bytes) found place → found ≡ FileEnd
+  ends_well found place e = no_other_end found place e.header e.records e.has_header e.are_records
+
+  not_refused_run : (r : CaptureRefusal) → RunRefuses (holds bytes) r → ⊥
+  not_refused_run refusal.Short h = no_refusal header.Short h
+  not_refused_run refusal.Magic h = no_refusal header.Magic h
+  not_refused_run refusal.Version h = no_refusal header.Version h
+  not_refused_run refusal.LinkType h = no_refusal header.LinkType h
+  not_refused_run refusal.TooLong h = cc (ends_well TooLong h.0 h.1)
+  not_refused_run refusal.Clock h = cc (ends_well Clock h.0 h.1)
+  not_refused_run refusal.Large h = cc (ends_well Large h.0 h.1)
+
+  not_cut_run : (place : ℕ) → RunCuts (holds bytes) place → ⊥
+  not_cut_run place h = cc (ends_well Cut place h)
+
+abbrev IsInForm : Command → Outside → Type 0
+IsInForm c before = (file : List ℕ) → capture_file c ≡ Some file → (bytes : List ℕ) × (before.files.content file ≡ holds bytes) × EndsWell c bytes
+
+-- so no command's capture in form is refused, nor cut: a line a command
+refused_none : (c : Command) (before : Outside) (r : CaptureRefusal) → IsInForm c before → RefusesCapture c before r → ⊥
+refused_none (Packets capture) before r form h =
+    let here = form capture refl in
+    not_ended (before.files.content capture) here.0 here.1 here.2 h.0 h.1 (stop.CaptureRefused r) h.2
+refused_none (Run policy names) before r form h =
+    let here = form names.capture refl in
+    not_refused_run here.0 here.2 r (subst (λ f. RunRefuses f r) here.1 h)
+refused_none (Check policy) before r form h = h
+refused_none (Relay policy asset port idles log) before r form h = h
+refused_none (World seed sessions policy capture out log) before r form h = h
+refused_none (Sift policy asset client names) before r form h = h
+
+cut_none : (c : Command) (before : Outside) (place : ℕ) → IsInForm c before → CutsCapture c before place → ⊥
+cut_none (Packets capture) before place form h =
+    let here = form capture refl in
+    not_ended (before.files.content capture) here.0 here.1 here.2 h.0 h.1 (stop.CaptureCut place) h.2
+cut_none (Run policy names) before place form h =
+    let here = form names.capture refl in
+    not_cut_run here.0 here.2 place (subst (λ f. RunCuts f place) here.1 h)
+cut_none (Check policy) before place form h = h
+cut_none (Relay policy asset port idles log) before place form h = h
+cut_none (World seed sessions policy capture out log) before place form h = h
+cut_none (Sift policy asset client names) before place form h = h
+
+run_cut_none : (c : Command) (before : Outside) (place : ℕ) → IsInForm c before → CutsRun c before place → ⊥
+run_cut_none (Run policy names) before place form h = cut_none (Run policy names) before place form h
+run_cut_none (Check policy) before place form h = h
+run_cut_none (Packets capture) before place form h = h
+run_cut_none (Relay policy asset port idles log) before place form h = h
+run_cut_none (World seed sessions policy capture out log) before place form h = h
+run_cut_none (Sift policy asset client names) before place form h = h
+
 module _ (c : Command) (before middle : Outside) (failed : Type 0) (status : ℕ) (input : HasInput c before)
     (reads : ReadFailed before middle → ⊥) (writes : WriteFailed before middle → ⊥) (puts : failed → ⊥) where
   is_complete : (r : Result Done Stop) → Meets c before middle r → IsOf r failed status → (status ≡ 0) ⊎ (status ≡ 13)
@@ -88,14 +156,9 @@ module _ (c : Command) (before middle : Outside) (failed : Type 0) (status : ℕ
     where
       clash : (name : List ℕ) (p q : Policy) (a : Asset) → p ≡ q → asset_named name p ≡ None → asset_named name q ≡ Some a → ⊥
       clash name p q a same none some = cc
-  is_complete (Err (stop.CaptureRefused r)) meets h =
-      let cause : RefusesCapture c before r = meets.0.0 in
-      let here = input.capture cause.0 cause.1 in
-      absurd (not_ended (before.files.content cause.0) here.0 here.1 here.2 cause.2.0 cause.2.1 (stop.CaptureRefused r) cause.2.2)
-  is_complete (Err (stop.CaptureCut place)) meets h =
-      let cause : CutsCapture c before place = meets.0.0 in
-      let here = input.capture cause.0 cause.1 in
-      absurd (not_ended (before.files.content cause.0) here.0 here.1 here.2 cause.2.0 cause.2.1 (stop.CaptureCut place) cause.2.2)
+  is_complete (Err (stop.CaptureRefused r)) meets h = absurd (refused_none c before r (input.capture) meets.0.0)
+  is_complete (Err (stop.CaptureCut place)) meets h = absurd (cut_none c before place (input.capture) meets.0.0)
+  is_complete (Err (stop.RunCut place summary)) meets h = absurd (run_cut_none c before place (input.capture) meets.0.0)
   is_complete (Err stop.Unbuilt) meets h = absurd (input.built meets.0.0)
 
 pub complete_told : {c : Command} {before after : Outside} {status : ℕ} (e : Explains c before after status) → HasInput c before → NothingFails

@@ -30,7 +30,10 @@ does_pass before after (Check policy) d m = record {
   asset = λ file name e f. cc f;
 }
 does_pass before after (Packets capture) d m = record { policy = λ file e. cc e; asset = λ file name e f. cc e }
-does_pass before after (Run policy capture out log) d m = absurd m
+does_pass before after (Run policy names) d m = record {
+  policy = λ file e. let same : policy ≡ file = cc in (m.1.policy, subst (λ f. HasPolicy (before.files.content f) m.1.policy) same m.1.has);
+  asset = λ file name e f. cc f;
+}
 does_pass before after (Relay policy asset port idles log) d m = absurd m
 does_pass before after (World seed sessions policy capture out log) d m = absurd m
 does_pass before after (Sift policy name client names) d m = passes policy name client names before after m.asset m.finds
@@ -63,6 +66,7 @@ module _ (failed : Type 0) (status : ℕ) (before after : Outside) where
     refused_from (Err stop.WriteFault) meets h = absurd (not_passed meets.0.1)
     refused_from (Err (stop.CaptureRefused r)) meets h = absurd (not_passed meets.0.1)
     refused_from (Err (stop.CaptureCut place)) meets h = absurd (not_passed meets.0.1)
+    refused_from (Err (stop.RunCut place summary)) meets h = absurd (not_passed meets.0.1)
     refused_from (Err stop.Unbuilt) meets h = absurd (not_passed meets.0.1)
 
   module _ (c : Command) (t : TellsNoAsset c before) where
@@ -91,6 +95,7 @@ module _ (failed : Type 0) (status : ℕ) (before after : Outside) where
     unknown_from (Err stop.WriteFault) meets h = absurd (not_found meets.0.1)
     unknown_from (Err (stop.CaptureRefused r)) meets h = absurd (not_found meets.0.1)
     unknown_from (Err (stop.CaptureCut place)) meets h = absurd (not_found meets.0.1)
+    unknown_from (Err (stop.RunCut place summary)) meets h = absurd (not_found meets.0.1)
     unknown_from (Err stop.Unbuilt) meets h = absurd (not_found meets.0.1)
 
   module _ (capture : List ℕ) (t : TellsLongCapture capture before) where
@@ -108,6 +113,7 @@ module _ (failed : Type 0) (status : ℕ) (before after : Outside) where
     long_from (Err stop.WriteFault) meets h = absurd (not_listed before.sink after.sink (Err stop.WriteFault) meets.1.lines)
     long_from (Err (stop.CaptureRefused r)) meets h = absurd (not_listed before.sink after.sink (Err (stop.CaptureRefused r)) meets.1.lines)
     long_from (Err (stop.CaptureCut place)) meets h = absurd (not_listed before.sink after.sink (Err (stop.CaptureCut place)) meets.1.lines)
+    long_from (Err (stop.RunCut place summary)) meets h = absurd meets.0.0
     long_from (Err stop.Unbuilt) meets h = inl (stop_is failed status stop.Unbuilt h)
 
   module _ (file name : List ℕ) (client : ℕ) (names : SiftNamesValue) (t : TellsUnbuiltStream file name names before) where
@@ -159,16 +165,16 @@ module _ (failed : Type 0) (status : ℕ) (before after : Outside) where
       | inl l ↦ absurd (l.0 refl)
       | inr l ↦ absurd (not_sifted l.1.asset l.1.output l.1.finds l.1.sifted)
     ]
-    unfiltered_from (Err (stop.CaptureRefused r)) meets h = cc (meets.0.0.1)
-    unfiltered_from (Err (stop.CaptureCut place)) meets h = cc (meets.0.0.1)
+    unfiltered_from (Err (stop.CaptureRefused r)) meets h = absurd meets.0.0
+    unfiltered_from (Err (stop.CaptureCut place)) meets h = absurd meets.0.0
+    unfiltered_from (Err (stop.RunCut place summary)) meets h = absurd meets.0.0
     unfiltered_from (Err stop.Unbuilt) meets h = inl (stop_is failed status stop.Unbuilt h)
 
   -- a part that is not built: a line a command
   unbuilt_from : (c : Command) → TellsLack c before → (r : Result Done Stop) → Meets c before after r → IsOf r failed status → Due 14
   unbuilt_from (Check policy) t r meets h = absurd t
   unbuilt_from (Packets capture) t r meets h = long_from capture t r meets h
-  unbuilt_from (Run policy capture out log) t (Ok d) meets h = absurd meets
-  unbuilt_from (Run policy capture out log) t (Err s) meets h = inl (stop_is failed status s h ∙ ap stop_status meets.1.0)
+  unbuilt_from (Run policy names) t r meets h = absurd t
   unbuilt_from (Relay policy asset port idles log) t (Ok d) meets h = absurd meets
   unbuilt_from (Relay policy asset port idles log) t (Err s) meets h = inl (stop_is failed status s h ∙ ap stop_status meets.1.0)
   unbuilt_from (World seed sessions policy capture out log) t (Ok d) meets h = absurd meets

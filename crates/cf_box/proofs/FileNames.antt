@@ -6,6 +6,7 @@ use Rattle.std.proofs.lemmas.Bool.{and_parts, or_parts, not-true, both_ways}
 use Rattle.std.proofs.lemmas.Slice.Eq.{bytes_eq-Decides}
 use Rattle.cf_box.specs.Names.{are_names}
 use Rattle.cf_box.specs.Sift.{AreApart}
+use Rattle.cf_run.specs.RunCapture.{AreApart as AreRunApart}
 
 -- a test of each image is a test of each element
 pub list_any_of_map : {X Y : Type 0} (p : Y → Bool) (f : X → Y) (xs : List X) → list_any p (map f xs) ≡ list_any (λ x. p (f x)) xs
@@ -50,4 +51,15 @@ apart_from_names policy stream out replies log named =
       out_replies = apart out (replies ∷ log ∷ []) replies three (λ none. (or_parts _ _ none).0);
       out_log = apart out (replies ∷ log ∷ []) log three (λ none. (or_parts _ _ (or_parts _ _ none).1).0);
       replies_log = apart replies (log ∷ []) log two (λ none. (or_parts _ _ none).0);
+    }
+
+-- the last three of four names
+pub run_apart : (policy capture out log : List ℕ) → are_names (policy ∷ capture ∷ out ∷ log ∷ []) ≡ true → AreRunApart (record { capture = capture; out = out; log = log })
+run_apart policy capture out log named =
+    let three = rest policy (capture ∷ out ∷ log ∷ []) named in
+    let two = rest capture (out ∷ log ∷ []) three in
+    record {
+      capture_out = apart capture (out ∷ log ∷ []) out three (λ none. (or_parts _ _ none).0);
+      capture_log = apart capture (out ∷ log ∷ []) log three (λ none. (or_parts _ _ (or_parts _ _ none).1).0);
+      out_log = apart out (log ∷ []) log two (λ none. (or_parts _ _ none).0);
     }

@@ -2,8 +2,11 @@ pub mod CaptureStops
 pub mod Complete
 pub mod Exact
 pub mod FileNames
+pub mod Kept
 pub mod Listing
 pub mod Numerals
 pub mod OutputFiles
+pub mod Runs
 pub mod Sifting
 pub mod Statuses
+pub mod Texts

@@ -8,7 +8,7 @@ use Rattle.cf_pcap.specs.declared.HeaderRefusal.{HeaderRefusal}
 use Rattle.cf_policylang.specs.declared.PolicyRefusal.{PolicyRefusal}
 use Rattle.cf_box.specs.Command.{Command, Check, Packets, Run, Relay, World, Sift, SiftNamesValue}
 use Rattle.cf_box.specs.Ending.{Prints, Reports, end_text, status_of, stop_status, unprinted_status}
-use Rattle.cf_box.specs.Ends.{CutsCapture, LacksAsset, Leaves, Meets, RefusesCapture, RefusesPolicy}
+use Rattle.cf_box.specs.Ends.{CutsCapture, CutsRun, LacksAsset, Meets, RefusesCapture, RefusesPolicy}
 use Rattle.cf_box.specs.Outside.{Outside, ReadFailed, SinkValue, WriteFailed}
 use Rattle.cf_box.specs.Packets.{Lists, ListsBehind, ListsFile}
 use Rattle.cf_box.specs.Sift.{stored_client}
@@ -51,6 +51,7 @@ module _ (failed : Type 0) (status : ℕ) where
   is_one (Err (stop.PolicyRefused r)) h = inr (inr (inr (inr (inl (stop_is (stop.PolicyRefused r) h)))))
   is_one (Err (stop.CaptureRefused r)) h = inr (inr (inr (inr (inr (inl (stop_is (stop.CaptureRefused r) h))))))
   is_one (Err (stop.CaptureCut place)) h = inr (inr (inr (inr (inr (inr (inl (stop_is (stop.CaptureCut place) h)))))))
+  is_one (Err (stop.RunCut place summary)) h = inr (inr (inr (inr (inr (inr (inl (stop_is (stop.RunCut place summary) h)))))))
   is_one (Err stop.UnknownAsset) h = inr (inr (inr (inr (inr (inr (inr (inl (stop_is stop.UnknownAsset h))))))))
   is_one (Err stop.NoMemory) h = inr (inr (inr (inr (inr (inr (inr (inr (inl (stop_is stop.NoMemory h)))))))))
   is_one (Err stop.Unbuilt) h = inr (inr (inr (inr (inr (inr (inr (inr (inr (stop_is stop.Unbuilt h)))))))))
@@ -90,29 +91,23 @@ module _ (failed : Type 0) (status : ℕ) where
     capture_from (Err (stop.CaptureRefused p)) meets h is = (p, meets.0.0)
     capture_from r meets h is = absurd (other r 6 h is (omega arith) (omega arith))
 
+    -- a run's capture that is cut is one: a line a command
+    run_cut : (k : Command) (place : ℕ) → CutsRun k before place → CutsCapture k before place
+    run_cut (Run policy names) place cut = cut
+    run_cut (Check policy) place cut = absurd cut
+    run_cut (Packets capture) place cut = absurd cut
+    run_cut (Relay policy asset port idles log) place cut = absurd cut
+    run_cut (World seed sessions policy capture out log) place cut = absurd cut
+    run_cut (Sift policy asset client names) place cut = absurd cut
+
     cut_from : (r : Result Done Stop) → Meets c before middle r → IsOf r failed status → status ≡ 7 → (place : ℕ) × CutsCapture c before place
     cut_from (Err (stop.CaptureCut place)) meets h is = (place, meets.0.0)
+    cut_from (Err (stop.RunCut place summary)) meets h is = (place, run_cut c place meets.0.0)
     cut_from r meets h is = absurd (other r 7 h is (omega arith) (omega arith))
 
     lack_from : (r : Result Done Stop) → Meets c before middle r → IsOf r failed status → status ≡ 10 → LacksAsset c before
     lack_from (Err stop.UnknownAsset) meets h is = meets.0
     lack_from r meets h is = absurd (other r 10 h is (omega arith) (omega arith))
-
-    -- a stop that is no write fault leaves the files as they were: a line a command
-    kept : (k : Command) (s : Stop) → s ≢ stop.WriteFault → Leaves k before middle s → middle.files.content ≡ before.files.content
-    kept (Check policy) s some l = l.same.content
-    kept (Packets file) s some l = l.content
-    kept (Run policy capture out log) s some l = ap (λ o. o.files.content) l.1
-    kept (Relay policy asset port idles log) s some l = ap (λ o. o.files.content) l.1
-    kept (World seed sessions policy capture out log) s some l = ap (λ o. o.files.content) l.1
-    kept (Sift policy asset client names) s some (inl l) = l.1.content
-    kept (Sift policy asset client names) s some (inr l) = absurd (some l.0)
-
-    kept_from : (r : Result Done Stop) → Meets c before middle r → IsOf r failed status → status ≢ 0 → status ≢ 4 → middle.files.content ≡
-        before.files.content
-    kept_from (Ok d) meets (inl h) some written = absurd (some h)
-    kept_from (Ok d) meets (inr h) some written = absurd (written h.0)
-    kept_from (Err s) meets h some written = kept c s (λ e. written (stop_is s h ∙ ap stop_status e)) meets.1
 
   -- what was filtered is what the policy allows
   passes_from : (before middle after : Outside) (policy name : List ℕ) (client : ℕ) (names : SiftNamesValue) → after.files ≡ middle.files →
@@ -148,6 +143,8 @@ module _ (failed : Type 0) (status : ℕ) where
       cc (listed (done.Sifted admitted refused) (header_of m.lists.capture) m.lists.capture _ _ _ m.lists.lists)
   lists_from before middle after file (Ok (done.Checked assets rules)) m reports h is =
       cc (listed (done.Checked assets rules) (header_of m.lists.capture) m.lists.capture _ _ _ m.lists.lists)
+  lists_from before middle after file (Ok (done.Ran summary)) m reports h is =
+      cc (listed (done.Ran summary) (header_of m.lists.capture) m.lists.capture _ _ _ m.lists.lists)
   lists_from before middle after file (Err s) m reports h is = absurd (not_done s h is)
 
 module _ {c : Command} {before after : Outside} {status : ℕ} (e : Explains c before after status) where
@@ -190,10 +187,6 @@ module _ {c : Command} {before after : Outside} {status : ℕ} (e : Explains c b
 
   pub lack_told : status ≡ 10 → LacksAsset c before
   lack_told = lack_from Unprinted status c before e.middle e.r e.meets explained
-
-  pub kept_told : status ≢ 0 → status ≢ 4 → after.files.content ≡ before.files.content
-  kept_told some written =
-      ap (λ f. f.content) e.reports.files ∙ kept_from Unprinted status c before e.middle e.r e.meets explained some written
 
   pub passes_told : (policy name : List ℕ) (client : ℕ) (names : SiftNamesValue) → c ≡ Sift policy name client names → status ≡ 0 →
       SiftPassesAllowed policy name client names before after

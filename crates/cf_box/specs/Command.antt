@@ -1,5 +1,6 @@
 -- What the words ask for, and what each command needs.
-use Rattle.std.specs.Prelude.{ℕ, List, Option, None, Some}
+use Rattle.std.specs.Prelude.{ℕ, List, [], ◌∷◌, Option, None, Some}
+use Rattle.cf_run.specs.RunCapture.{RunNamesValue}
 
 -- the files of a stored stream: where it is read, and the three outputs
 pub record SiftNamesValue : Type 0 where
@@ -11,7 +12,7 @@ pub record SiftNamesValue : Type 0 where
 pub data Command : Type 0 where
   Check : (policy : List ℕ) → Command
   Packets : (capture : List ℕ) → Command
-  Run : (policy capture out log : List ℕ) → Command
+  Run : (policy : List ℕ) (names : RunNamesValue) → Command
   Relay : (policy asset : List ℕ) (port idles : ℕ) (log : List ℕ) → Command
   World : (seed sessions : ℕ) (policy capture out log : List ℕ) → Command
   Sift : (policy asset : List ℕ) (client : ℕ) (names : SiftNamesValue) → Command
@@ -20,7 +21,7 @@ pub data Command : Type 0 where
 abbrev pub policy_file : Command → Option (List ℕ)
 policy_file (Check policy) = Some policy
 policy_file (Packets capture) = None
-policy_file (Run policy capture out log) = None
+policy_file (Run policy names) = Some policy
 policy_file (Relay policy asset port idles log) = None
 policy_file (World seed sessions policy capture out log) = None
 policy_file (Sift policy asset client names) = Some policy
@@ -29,7 +30,7 @@ policy_file (Sift policy asset client names) = Some policy
 abbrev pub asset_name : Command → Option (List ℕ)
 asset_name (Check policy) = None
 asset_name (Packets capture) = None
-asset_name (Run policy capture out log) = None
+asset_name (Run policy names) = None
 asset_name (Relay policy asset port idles log) = None
 asset_name (World seed sessions policy capture out log) = None
 asset_name (Sift policy asset client names) = Some asset
@@ -38,7 +39,16 @@ asset_name (Sift policy asset client names) = Some asset
 abbrev pub capture_file : Command → Option (List ℕ)
 capture_file (Check policy) = None
 capture_file (Packets capture) = Some capture
-capture_file (Run policy capture out log) = None
+capture_file (Run policy names) = Some names.capture
 capture_file (Relay policy asset port idles log) = None
 capture_file (World seed sessions policy capture out log) = None
 capture_file (Sift policy asset client names) = None
+
+-- the files that it may write
+abbrev pub output_files : Command → List (List ℕ)
+output_files (Check policy) = []
+output_files (Packets capture) = []
+output_files (Run policy names) = names.out ∷ names.log ∷ []
+output_files (Relay policy asset port idles log) = []
+output_files (World seed sessions policy capture out log) = []
+output_files (Sift policy asset client names) = names.out ∷ names.replies ∷ names.log ∷ []

@@ -3,6 +3,7 @@ use Rattle.std.specs.Prelude.{◌≡◌, ◌⊎◌, ℕ, List, ◌++◌, Option,
 use Rattle.cf_outside.specs.Faults.{Rose}
 use Rattle.cf_outside.specs.Sink.{printed_with}
 use Rattle.cf_policylang.specs.Keys.{refusal_text}
+use Rattle.cf_run.specs.declared.summary.Summary.{Summary}
 use Rattle.cf_box.specs.Outside.{Outside, SinkValue}
 use Rattle.cf_box.specs.declared.ending.CaptureRefusal.{CaptureRefusal}
 use Rattle.cf_box.specs.declared.ending.CaptureRefusal.TheVariants as refusal
@@ -18,6 +19,7 @@ stop_status stop.WriteFault = 4
 stop_status (stop.PolicyRefused r) = 5
 stop_status (stop.CaptureRefused r) = 6
 stop_status (stop.CaptureCut place) = 7
+stop_status (stop.RunCut place summary) = 7
 stop_status stop.UnknownAsset = 10
 stop_status stop.NoMemory = 13
 stop_status stop.Unbuilt = 14
@@ -31,20 +33,32 @@ abbrev pub unprinted_status : Result Done Stop → ℕ
 unprinted_status (Ok d) = 4
 unprinted_status (Err s) = stop_status s
 
--- the number of each refusal of a capture; 6 is that of a moment, which a listing does not test
+-- the number of each refusal of a capture
 abbrev pub capture_number : CaptureRefusal → ℕ
 capture_number refusal.Short = 1
 capture_number refusal.Magic = 2
 capture_number refusal.Version = 3
 capture_number refusal.LinkType = 4
 capture_number refusal.TooLong = 5
+capture_number refusal.Clock = 6
 capture_number refusal.Large = 7
+
+-- what was counted, a line each
+abbrev pub count_line : (word : List ℕ) → (number : ℕ) → List ℕ
+count_line word number = word ++ decimal number ++ codes "\n"
+
+abbrev pub summary_text : Summary → List ℕ
+summary_text s =
+    count_line (codes "records ") s.records ++ (count_line (codes "dropped ") s.dropped ++ (count_line (codes "outside ") s.outside
+    ++ (count_line (codes "full ") s.full ++ (count_line (codes "sessions ") s.sessions ++ (count_line (codes "admitted ") s.admitted
+    ++ (count_line (codes "refused ") s.refused ++ count_line (codes "cuts ") s.cuts))))))
 
 -- what is printed of work that was done; the lines of a listing were printed before
 abbrev pub done_text : Done → Option (List ℕ)
 done_text (done.Sifted admitted refused) = Some (codes "admitted " ++ decimal admitted ++ codes "\nrefused " ++ decimal refused ++ codes "\n")
 done_text (done.Checked assets rules) = Some (codes "ok " ++ decimal assets ++ codes " " ++ decimal rules ++ codes "\n")
 done_text done.Listed = None
+done_text (done.Ran summary) = Some (summary_text summary)
 
 -- what is printed of a cause: nothing of a write fault, and nothing where memory ran out
 abbrev pub stop_text : Stop → Option (List ℕ)
@@ -53,6 +67,7 @@ stop_text stop.WriteFault = None
 stop_text (stop.PolicyRefused r) = Some (codes "policy refused " ++ refusal_text r ++ codes "\n")
 stop_text (stop.CaptureRefused r) = Some (codes "capture refused " ++ decimal (capture_number r) ++ codes "\n")
 stop_text (stop.CaptureCut place) = Some (codes "capture cut at " ++ decimal place ++ codes "\n")
+stop_text (stop.RunCut place summary) = Some (codes "capture cut at " ++ decimal place ++ codes "\n" ++ summary_text summary)
 stop_text stop.UnknownAsset = Some (codes "unknown asset\n")
 stop_text stop.NoMemory = None
 stop_text stop.Unbuilt = Some (codes "unbuilt\n")

@@ -1,6 +1,5 @@
 -- How the program ends: `Ends` says it of the words. It is read from the end.
 use Rattle.std.specs.Prelude.{◌≡◌, ℕ, List, Option, None, Some, Result, Ok, Err, codes}
-use Rattle.cf_outside.specs.Files.{IsWhole}
 use Rattle.cf_policy.specs.declared.Asset.{Asset}
 use Rattle.cf_policy.specs.declared.Policy.{Policy}
 use Rattle.cf_policylang.specs.declared.PolicyRefusal.{PolicyRefusal}
@@ -8,8 +7,9 @@ use Rattle.cf_box.specs.Check.{CheckLeaves, Checks}
 use Rattle.cf_box.specs.Command.{Command, Check, Packets, Run, Relay, World, Sift, asset_name, capture_file, policy_file}
 use Rattle.cf_box.specs.Ending.{Puts, Reports}
 use Rattle.cf_box.specs.Outside.{Outside, ReadFailed, WriteFailed}
-use Rattle.cf_box.specs.Packets.{LacksPartOfPackets, ListingEnds, Lists, PacketsLeaves}
+use Rattle.cf_box.specs.Packets.{LacksPartOfPackets, ListingCuts, ListingRefuses, Lists, PacketsLeaves}
 use Rattle.cf_box.specs.PolicyFile.{HasPolicy, IsRefusedBy, asset_named}
+use Rattle.cf_box.specs.Run.{RunCuts, RunLeaves, RunRefuses, Runs}
 use Rattle.cf_box.specs.Sift.{LacksPartOfSift, SiftLeaves, Sifts}
 use Rattle.cf_box.specs.declared.ending.CaptureRefusal.{CaptureRefusal}
 use Rattle.cf_box.specs.declared.ending.Done.{Done}
@@ -33,22 +33,27 @@ pub record PassesPolicy (c : Command) (before : Outside) : Type 0 where
       (file name : List ℕ) → policy_file c ≡ Some file → asset_name c ≡ Some name →
       (p : Policy) × HasPolicy (before.files.content file) p × ((a : Asset) × (asset_named name p ≡ Some a))
 
--- the capture of a command, read whole, is refused, or ends inside the record at a place
+-- the capture of a command is refused, or ends inside the record at a place: a line a command that reads one
 abbrev pub RefusesCapture : Command → Outside → CaptureRefusal → Type 0
-RefusesCapture c before r =
-    (file : List ℕ) × (capture_file c ≡ Some file)
-    × ((capture : List ℕ) × IsWhole (before.files.content file) capture × ListingEnds capture (Err (stop.CaptureRefused r)))
+RefusesCapture (Packets capture) before r = ListingRefuses (before.files.content capture) r
+RefusesCapture (Run policy names) before r = RunRefuses (before.files.content names.capture) r
+RefusesCapture _ before r = ⊥
 
 abbrev pub CutsCapture : Command → Outside → ℕ → Type 0
-CutsCapture c before place =
-    (file : List ℕ) × (capture_file c ≡ Some file)
-    × ((capture : List ℕ) × IsWhole (before.files.content file) capture × ListingEnds capture (Err (stop.CaptureCut place)))
+CutsCapture (Packets capture) before place = ListingCuts (before.files.content capture) place
+CutsCapture (Run policy names) before place = RunCuts (before.files.content names.capture) place
+CutsCapture _ before place = ⊥
+
+-- a run's does, and what was counted before it is told
+abbrev pub CutsRun : Command → Outside → ℕ → Type 0
+CutsRun (Run policy names) before place = RunCuts (before.files.content names.capture) place
+CutsRun _ before place = ⊥
 
 -- what a command does, or what of its input, is not built: a line a command
 abbrev pub LacksPart : Command → Outside → Type 0
 LacksPart (Check policy) before = ⊥
 LacksPart (Packets capture) before = LacksPartOfPackets capture before
-LacksPart (Run policy capture out log) before = Unit {0}
+LacksPart (Run policy names) before = ⊥
 LacksPart (Relay policy asset port idles log) before = Unit {0}
 LacksPart (World seed sessions policy capture out log) before = Unit {0}
 LacksPart (Sift policy asset client names) before = LacksPartOfSift policy asset names before
@@ -61,6 +66,7 @@ StopsFor c before after stop.WriteFault = WriteFailed before after × PassesPoli
 StopsFor c before after (stop.PolicyRefused r) = RefusesPolicy c before r
 StopsFor c before after (stop.CaptureRefused r) = RefusesCapture c before r × PassesPolicy c before
 StopsFor c before after (stop.CaptureCut place) = CutsCapture c before place × PassesPolicy c before
+StopsFor c before after (stop.RunCut place summary) = CutsRun c before place × PassesPolicy c before
 StopsFor c before after stop.UnknownAsset = LacksAsset c before
 StopsFor c before after stop.NoMemory = Unit {0}
 StopsFor c before after stop.Unbuilt = LacksPart c before × PassesPolicy c before
@@ -69,7 +75,7 @@ StopsFor c before after stop.Unbuilt = LacksPart c before × PassesPolicy c befo
 abbrev pub Does : Command → (before after : Outside) → Done → Type 0
 Does (Check policy) before after d = Checks policy before after d
 Does (Packets capture) before after d = Lists capture before after d
-Does (Run policy capture out log) before after d = ⊥
+Does (Run policy names) before after d = Runs policy names before after d
 Does (Relay policy asset port idles log) before after d = ⊥
 Does (World seed sessions policy capture out log) before after d = ⊥
 Does (Sift policy asset client names) before after d = Sifts policy asset client names before after d
@@ -78,7 +84,7 @@ Does (Sift policy asset client names) before after d = Sifts policy asset client
 abbrev pub Leaves : Command → (before after : Outside) → Stop → Type 0
 Leaves (Check policy) before after s = CheckLeaves before after s
 Leaves (Packets capture) before after s = PacketsLeaves capture before after s
-Leaves (Run policy capture out log) before after s = (s ≡ stop.Unbuilt) × (after ≡ before)
+Leaves (Run policy names) before after s = RunLeaves policy names before after s
 Leaves (Relay policy asset port idles log) before after s = (s ≡ stop.Unbuilt) × (after ≡ before)
 Leaves (World seed sessions policy capture out log) before after s = (s ≡ stop.Unbuilt) × (after ≡ before)
 Leaves (Sift policy asset client names) before after s = SiftLeaves policy asset client names before after s

@@ -111,6 +111,13 @@ ListsCapture capture before after failed answer = ListsBehind (header_of capture
 abbrev pub ListingEnds : List ℕ → Result Done Stop → Type 0
 ListingEnds capture answer = ListsCapture capture None None ⊥ answer
 
+-- a listing of a file's capture, read whole, is refused, or ends inside the record at a place
+abbrev pub ListingRefuses : Content → CaptureRefusal → Type 0
+ListingRefuses file r = (capture : List ℕ) × IsWhole file capture × ListingEnds capture (Err (stop.CaptureRefused r))
+
+abbrev pub ListingCuts : Content → (place : ℕ) → Type 0
+ListingCuts file place = (capture : List ℕ) × IsWhole file capture × ListingEnds capture (Err (stop.CaptureCut place))
+
 -- the capture of a file was read whole, and listed
 pub record ListsFile (file : Content) (before after : SinkValue) (answer : Result Done Stop) : Type 0 where
   pub capture : List ℕ

@@ -6,6 +6,8 @@ use Rattle.cf_policy.specs.declared.Asset.{Asset}
 use Rattle.cf_policy.specs.declared.Policy.{Policy}
 use Rattle.cf_policylang.specs.Documents.{policy_meaning}
 use Rattle.cf_policylang.specs.declared.PolicyRefusal.{PolicyRefusal}
+use Rattle.cf_box.specs.declared.ending.Stop.{Stop}
+use Rattle.cf_box.specs.declared.ending.Stop.TheVariants as stop
 
 -- the file's bytes mean this policy
 pub record HasPolicy (file : Content) (p : Policy) : Type 0 where
@@ -18,6 +20,13 @@ abbrev pub IsRefusedBy : Content → PolicyRefusal → Type 0
 IsRefusedBy untold refusal = Unit {0}
 IsRefusedBy absent refusal = ⊥
 IsRefusedBy (holds bytes) refusal = policy_meaning bytes ≡ Err refusal
+
+-- what stops the work as a policy is read
+abbrev pub StopsPolicy : Stop → Type 0
+StopsPolicy stop.ReadFault = Unit {0}
+StopsPolicy (stop.PolicyRefused r) = Unit {0}
+StopsPolicy stop.NoMemory = Unit {0}
+StopsPolicy _ = ⊥
 
 -- the asset of a name
 abbrev pub asset_named : List ℕ → Policy → Option Asset

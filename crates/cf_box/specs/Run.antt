@@ -1,8 +1,91 @@
--- `run POLICY CAPTURE OUT LOG`: a policy is run over a capture. It is not built.
-use Rattle.std.specs.Prelude.{ℕ, List, [], ◌∷◌, Option, None, Some, if◌then◌else◌}
+-- `run POLICY CAPTURE OUT LOG`: a policy is run over a capture.
+use Rattle.std.specs.Prelude.{◌≡◌, ◌⊎◌, ℕ, List, [], ◌∷◌, Option, None, Some, Result, Ok, Err, if◌then◌else◌}
+use Rattle.cf_lane.specs.declared.limit.TheConstants.{LETTER_LIMIT}
+use Rattle.cf_outside.specs.Files.{Content}
+use Rattle.cf_pcap.specs.Capture.{AtPlace, Clock, Cut, Large, TooLong}
+use Rattle.cf_pcap.specs.Record.{Record}
+use Rattle.cf_pcap.specs.declared.Header.{Header}
+use Rattle.cf_pcap.specs.declared.HeaderRefusal.TheVariants as header
+use Rattle.cf_policy.specs.declared.Policy.{Policy}
+use Rattle.cf_run.specs.Reader.{HasHeader}
+use Rattle.cf_run.specs.RunCapture.{HasRecords, RunNamesValue, RunsAs}
+use Rattle.cf_run.specs.declared.run.RunFault.{RunFault}
+use Rattle.cf_run.specs.declared.run.RunFault.TheVariants as fault
+use Rattle.cf_run.specs.declared.run.RunRefusal.TheVariants as by
+use Rattle.cf_run.specs.declared.summary.Summary.{Summary}
+use Rattle.cf_box.specs.Check.{ChangesNothing}
 use Rattle.cf_box.specs.Command.{Command, Run}
 use Rattle.cf_box.specs.Names.{are_names}
+use Rattle.cf_box.specs.Outputs.{KeepsAllBut}
+use Rattle.cf_box.specs.Outside.{Outside}
+use Rattle.cf_box.specs.Packets.{header_refusal}
+use Rattle.cf_box.specs.PolicyFile.{HasPolicy, StopsPolicy}
+use Rattle.cf_box.specs.declared.ending.CaptureRefusal.{CaptureRefusal}
+use Rattle.cf_box.specs.declared.ending.CaptureRefusal.TheVariants as refusal
+use Rattle.cf_box.specs.declared.ending.Done.{Done}
+use Rattle.cf_box.specs.declared.ending.Done.TheVariants as done
+use Rattle.cf_box.specs.declared.ending.Stop.{Stop}
+use Rattle.cf_box.specs.declared.ending.Stop.TheVariants as stop
+
+abbrev pub run_command : (policy capture out log : List ℕ) → Option Command
+run_command policy capture out log =
+    if are_names (policy ∷ capture ∷ out ∷ log ∷ []) then Some (Run policy (record { capture = capture; out = out; log = log })) else None
 
 abbrev pub run_of : List (List ℕ) → Option Command
-run_of (policy ∷ capture ∷ out ∷ log ∷ []) = if are_names (policy ∷ capture ∷ out ∷ log ∷ []) then Some (Run policy capture out log) else None
+run_of (policy ∷ capture ∷ out ∷ log ∷ []) = run_command policy capture out log
 run_of _ = None
+
+-- ---- why a capture is no input of a run
+
+-- it has a header, and records up to this place, at which this stands
+pub record EndsAt (file : Content) (found : AtPlace) (place : ℕ) : Type 0 where
+  pub header : Header
+  pub has_header : HasHeader file (Ok header)
+  pub records : List Record
+  pub are_records : HasRecords file header records (record { place = place; found = found })
+
+abbrev pub EndsSomewhere : Content → AtPlace → Type 0
+EndsSomewhere file found = (place : ℕ) × EndsAt file found place
+
+abbrev pub RunRefuses : Content → CaptureRefusal → Type 0
+RunRefuses file refusal.Short = HasHeader file (Err header.Short)
+RunRefuses file refusal.Magic = HasHeader file (Err header.Magic)
+RunRefuses file refusal.Version = HasHeader file (Err header.Version)
+RunRefuses file refusal.LinkType = HasHeader file (Err header.LinkType)
+RunRefuses file refusal.TooLong = EndsSomewhere file TooLong
+RunRefuses file refusal.Clock = EndsSomewhere file Clock
+RunRefuses file refusal.Large = EndsSomewhere file Large
+
+abbrev pub RunCuts : Content → (place : ℕ) → Type 0
+RunCuts file place = EndsAt file Cut place
+
+-- why the work stops at a fault
+abbrev pub run_stop : RunFault → Stop
+run_stop fault.NoMemory = stop.NoMemory
+run_stop fault.Read = stop.ReadFault
+run_stop fault.Write = stop.WriteFault
+run_stop (fault.Refused (by.Header of)) = stop.CaptureRefused (header_refusal of)
+run_stop (fault.Refused by.TooLong) = stop.CaptureRefused refusal.TooLong
+run_stop (fault.Refused by.Clock) = stop.CaptureRefused refusal.Clock
+run_stop (fault.Refused by.Large) = stop.CaptureRefused refusal.Large
+run_stop (fault.Cut at summary) = stop.RunCut at summary
+
+-- ---- what a run did
+
+module _ (policy_file : List ℕ) (names : RunNamesValue) (before after : Outside) where
+  -- the policy was run over the capture, and this was the answer; every other file is as it was
+  pub record HasRun (answer : Result Summary RunFault) : Type 0 where
+    pub policy : Policy
+    pub has : HasPolicy (before.files.content policy_file) policy
+    pub runs : RunsAs policy.assets LETTER_LIMIT names before.files.content after.files.content answer
+    pub others : KeepsAllBut before.files.content after.files.content (names.out ∷ names.log ∷ [])
+    pub sink : after.sink ≡ before.sink
+    pub pair : after.pair ≡ before.pair
+
+  -- it came to the end of the capture, and what was counted is told
+  abbrev pub Runs : Done → Type 0
+  Runs d = (summary : Summary) × HasRun (Ok summary) × (d ≡ done.Ran summary)
+
+  -- the policy was not read, and nothing changed; or the run stopped
+  abbrev pub RunLeaves : Stop → Type 0
+  RunLeaves s = (StopsPolicy s × ChangesNothing before after) ⊎ ((fault : RunFault) × HasRun (Err fault) × (s ≡ run_stop fault))

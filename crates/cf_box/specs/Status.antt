@@ -1,16 +1,16 @@
 -- What a status tells, each by itself.
-use Rattle.std.specs.Prelude.{◌≡◌, ◌⊎◌, ℕ, List, drop, Option, None, Some, Ok, Err}
+use Rattle.std.specs.Prelude.{◌≡◌, ◌⊎◌, ℕ, List, [], drop, Option, None, Some, Ok, Err}
 use Rattle.cf_filter.specs.Laws.{PassesWhatIsAllowed}
 use Rattle.cf_outside.specs.Files.{holds, IsWhole, content_after_write}
 use Rattle.cf_pcap.specs.Header.{header_of}
-use Rattle.cf_pcap.specs.Capture.{FileEnd, AreRecords, at_place}
+use Rattle.cf_pcap.specs.Capture.{FileEnd, AreRecords, AreTimed, at_place, first_moment}
 use Rattle.cf_pcap.specs.Record.{Record}
 use Rattle.cf_pcap.specs.declared.Header.{Header}
 use Rattle.cf_policy.specs.declared.Asset.{Asset}
 use Rattle.cf_policy.specs.declared.Policy.{Policy}
 use Rattle.cf_policylang.specs.Documents.{policy_meaning}
 use Rattle.cf_policylang.specs.declared.PolicyRefusal.{PolicyRefusal}
-use Rattle.cf_box.specs.Command.{Command, Check, Packets, Run, Relay, World, Sift, SiftNamesValue, asset_name, capture_file, policy_file}
+use Rattle.cf_box.specs.Command.{Command, Check, Packets, Run, Relay, World, Sift, SiftNamesValue, asset_name, capture_file, output_files, policy_file}
 use Rattle.cf_box.specs.Ends.{CutsCapture, LacksAsset, LacksPart, RefusesCapture, RefusesPolicy}
 use Rattle.cf_box.specs.Outside.{Outside, ReadFailed, WriteFailed}
 use Rattle.cf_box.specs.Packets.{TellsLongCapture}
@@ -46,11 +46,22 @@ pub record SiftPassesAllowed (policy name : List ℕ) (client : ℕ) (names : Si
   pub passes : PassesWhatIsAllowed asset client bytes passed
   pub output : after.files.content names.out ≡ content_after_write (before.files.content names.out) passed
 
--- a capture's records, up to the end of its bytes
+-- a capture's records, up to the end of its bytes; and the same where each has its moment
 abbrev pub HasRecords : List ℕ → Type 0
 HasRecords bytes =
     (h : Header) × (header_of bytes ≡ Ok h)
     × ((records : List Record) × (place : ℕ) × AreRecords (at_place h) 24 (drop 24 bytes) records (record { place = place; found = FileEnd }))
+
+abbrev pub HasTimedRecords : List ℕ → Type 0
+HasTimedRecords bytes =
+    (h : Header) × (header_of bytes ≡ Ok h)
+    × ((records : List Record) × (place : ℕ) × AreTimed h first_moment 24 (drop 24 bytes) records (record { place = place; found = FileEnd }))
+
+-- the capture of a command that reads one ends so
+abbrev pub EndsWell : Command → List ℕ → Type 0
+EndsWell (Packets capture) bytes = HasRecords bytes
+EndsWell (Run policy names) bytes = HasTimedRecords bytes
+EndsWell _ bytes = Unit {0}
 
 -- what a command needs is told, and in form: its policy has a meaning and the asset of the name, its capture is one whose
 -- records end with the file, and nothing of it is not built
@@ -59,7 +70,7 @@ pub record HasInput (c : Command) (before : Outside) : Type 0 where
       (file : List ℕ) → policy_file c ≡ Some file →
       (bytes : List ℕ) × (before.files.content file ≡ holds bytes) × ((p : Policy) × (policy_meaning bytes ≡ Ok p)
       × ((name : List ℕ) → asset_name c ≡ Some name → (a : Asset) × (asset_named name p ≡ Some a)))
-  pub capture : (file : List ℕ) → capture_file c ≡ Some file → (bytes : List ℕ) × (before.files.content file ≡ holds bytes) × HasRecords bytes
+  pub capture : (file : List ℕ) → capture_file c ≡ Some file → (bytes : List ℕ) × (before.files.content file ≡ holds bytes) × EndsWell c bytes
   pub built : LacksPart c before → ⊥
 
 -- no read failed, and no creation, append or put
@@ -101,7 +112,7 @@ pub record TellsNoAsset (c : Command) (before : Outside) : Type 0 where
 abbrev pub TellsLack : Command → Outside → Type 0
 TellsLack (Check file) before = ⊥
 TellsLack (Packets file) before = TellsLongCapture file before
-TellsLack (Run file capture out log) before = Unit {0}
+TellsLack (Run file names) before = ⊥
 TellsLack (Relay file asset port idles log) before = Unit {0}
 TellsLack (World seed sessions file capture out log) before = Unit {0}
 TellsLack (Sift file asset client names) before = TellsUnbuiltStream file asset names before
@@ -114,6 +125,15 @@ pub record IsExact (c : Command) (before after : Outside) (status : ℕ) : Type 
 
 abbrev pub IsExactly : Option Command → (before after : Outside) → (status : ℕ) → Type 0
 IsExactly words before after status = (c : Command) → words ≡ Some c → IsExact c before after status
+
+-- the files that the words may have written
+abbrev pub outputs_of : Option Command → List (List ℕ)
+outputs_of None = []
+outputs_of (Some c) = output_files c
+
+-- the statuses at which nothing is written: the words, the policy or the asset are at fault, or something is not built
+abbrev pub WritesNothing : ℕ → Type 0
+WritesNothing s = (s ≡ 2) ⊎ (s ≡ 5) ⊎ (s ≡ 10) ⊎ (s ≡ 14)
 
 -- the statuses that there are
 abbrev pub IsStatus : ℕ → Type 0

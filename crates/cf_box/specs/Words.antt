@@ -5,6 +5,7 @@ use Rattle.cf_box.specs.Check.{check_of}
 use Rattle.cf_box.specs.Packets.{packets_of}
 use Rattle.cf_box.specs.Relay.{relay_of}
 use Rattle.cf_box.specs.Run.{run_of}
+use Rattle.cf_run.specs.RunCapture.{AreApart as AreRunApart, run_names_value}
 use Rattle.cf_box.specs.Sift.{AreApart, sift_names_value, sift_of}
 use Rattle.cf_box.specs.World.{world_of}
 use Rattle.cf_box.specs.declared.command.Command.{Command as CommandFields}
@@ -26,12 +27,13 @@ command_of (name ∷ words) =
 abbrev pub command_value : CommandFields → Command
 command_value (fields.Check policy) = Check policy.now
 command_value (fields.Packets capture) = Packets capture.now
-command_value (fields.Run policy capture out log) = Run policy.now capture.now out.now log.now
+command_value (fields.Run policy names) = Run policy.now (run_names_value names)
 command_value (fields.Relay policy asset port idles log) = Relay policy.now asset.now port idles log.now
 command_value (fields.World seed sessions policy capture out log) = World seed sessions policy.now capture.now out.now log.now
 command_value (fields.Sift policy asset client names) = Sift policy.now asset.now client (sift_names_value names)
 
--- the files of a stored stream are apart
+-- the files of a stored stream are apart, and those of a run
 abbrev pub HasApartFiles : CommandFields → Type 0
+HasApartFiles (fields.Run policy names) = AreRunApart (run_names_value names)
 HasApartFiles (fields.Sift policy asset client names) = AreApart (sift_names_value names)
 HasApartFiles _ = Unit {0}

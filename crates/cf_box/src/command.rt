@@ -8,6 +8,7 @@ use crate::relay::read_relay;
 use crate::run::read_run;
 use crate::sift::{SiftNames, read_sift};
 use crate::world::read_world;
+use cf_run::RunNames;
 
 /// What the words ask for. Names of files are not empty, and no two of one command are equal.
 #[derive(Clone, Copy, Debug)]
@@ -23,9 +24,7 @@ pub enum Command<'a> {
     /// Run a policy over a capture.
     Run {
         policy: &'a str,
-        capture: &'a str,
-        out: &'a str,
-        log: &'a str,
+        names: RunNames<'a>,
     },
     /// Stand between two streams: a listening port from 1 to 65,535, and 1 to 1,000,000 idle turns.
     Relay {

@@ -1,6 +1,6 @@
 //! How the program ends: what was done, or why the work stopped, as a status and a printed text.
-ghost use Rattle.std.specs.Prelude.{◌≡◌, ◌≤◌, ◌++◌, codes, decimal, length, option_map};
-ghost use Rattle.cf_box.specs.Ending.{Prints, Puts, capture_number, done_text, end_text, status_of, stop_status, stop_text, unprinted_status};
+ghost use Rattle.std.specs.Prelude.{◌≡◌, ◌≤◌, ◌+◌, ◌++◌, codes, decimal, length, option_map};
+ghost use Rattle.cf_box.specs.Ending.{Prints, Puts, capture_number, count_line, done_text, end_text, status_of, stop_status, stop_text, summary_text, unprinted_status};
 ghost use Rattle.cf_box.specs.Outside.{sink_value};
 ghost use Rattle.cf_policylang.specs.Keys.{refusal_text};
 
@@ -8,6 +8,7 @@ use arrayvec::ArrayString;
 use cf_outside::{Sink, WriteAnswer};
 use cf_pcap::HeaderRefusal;
 use cf_policylang::{PolicyRefusal, push_refusal};
+use cf_run::Summary;
 use cf_view::push_number;
 
 /// Work that was done.
@@ -19,6 +20,8 @@ pub enum Done {
     Checked { assets: u64, rules: u64 },
     /// Each record of a capture has its line.
     Listed,
+    /// A policy was run over a capture, with what was counted.
+    Ran(Summary),
 }
 
 /// Why the work stopped: the same causes for every command.
@@ -34,6 +37,8 @@ pub enum Stop {
     CaptureRefused(CaptureRefusal),
     /// The capture ends inside the record that begins at this place, in octets from 0.
     CaptureCut(u64),
+    /// The capture of a run does, with what was counted over its whole records.
+    RunCut(u64, Summary),
     /// The policy has no asset of the name.
     UnknownAsset,
     /// Memory ran out.
@@ -55,7 +60,9 @@ pub enum CaptureRefusal {
     LinkType,
     /// A record has more than 262,144 octets.
     TooLong,
-    /// An octet of a record stands at place 2^40 or above. It never comes while longer captures are not read.
+    /// The moment of a record reaches 2^32 seconds.
+    Clock,
+    /// An octet of a record stands at place 2^40 or above. A listing never says so, while longer captures are not read.
     Large,
 }
 
@@ -85,7 +92,7 @@ fn stop_status(stop: &Stop) -> u8
         Stop::WriteFault => 4,
         Stop::PolicyRefused(_) => 5,
         Stop::CaptureRefused(_) => 6,
-        Stop::CaptureCut(_) => 7,
+        Stop::CaptureCut(_) | Stop::RunCut(..) => 7,
         Stop::UnknownAsset => 10,
         Stop::NoMemory => 13,
         Stop::Unbuilt => 14,
@@ -111,8 +118,8 @@ fn unprinted_status(ended: &Result<Done, Stop>) -> u8
     }
 }
 
-/// The text that ends the work: a line or two.
-type EndText = ArrayString<128>;
+/// The text that ends the work: at most nine lines.
+type EndText = ArrayString<384>;
 
 fn sifted_text(admitted: u64, refused: u64) -> EndText
     ensures { result.bytes ≡ codes "admitted " ++ decimal admitted ++ codes "\nrefused " ++ decimal refused ++ codes "\n" }
@@ -148,7 +155,7 @@ fn policy_refused_text(refusal: &PolicyRefusal) -> EndText
     text
 }
 
-/// The number of a refusal of a capture; 6 is that of a moment, which a listing does not test.
+/// The number of a refusal of a capture.
 fn capture_number(refusal: CaptureRefusal) -> u64
     ensures { result ≡ capture_number refusal }
 {
@@ -158,14 +165,58 @@ fn capture_number(refusal: CaptureRefusal) -> u64
         CaptureRefusal::Version => 3,
         CaptureRefusal::LinkType => 4,
         CaptureRefusal::TooLong => 5,
+        CaptureRefusal::Clock => 6,
         CaptureRefusal::Large => 7,
     }
 }
 
+/// Pushes a number behind its word, as a line.
+fn push_count(text: &mut EndText, word: &str, number: u64)
+    requires { length text.old.bytes + (length word.now + 21) ≤ 384 }
+    ensures text { text.new.bytes ≡ text.old.bytes ++ count_line word.now number }
+    ensures short { length text.new.bytes ≤ length text.old.bytes + (length word.now + 21) }
+{
+    text.push_str(word);
+    push_number(text, number);
+    text.push_str("\n");
+}
+
+/// Pushes what was counted, a line each.
+fn push_summary(text: &mut EndText, summary: &Summary)
+    requires { length text.old.bytes ≤ 64 }
+    ensures { text.new.bytes ≡ text.old.bytes ++ summary_text summary.now }
+{
+    push_count(text, "records ", summary.records);
+    push_count(text, "dropped ", summary.dropped);
+    push_count(text, "outside ", summary.outside);
+    push_count(text, "full ", summary.full);
+    push_count(text, "sessions ", summary.sessions);
+    push_count(text, "admitted ", summary.admitted);
+    push_count(text, "refused ", summary.refused);
+    push_count(text, "cuts ", summary.cuts);
+}
+
+fn counted_text(summary: &Summary) -> EndText
+    ensures { result.bytes ≡ summary_text summary.now }
+{
+    let mut text = EndText::new();
+    push_summary(&mut text, summary);
+    text
+}
+
+fn run_cut_text(place: u64, summary: &Summary) -> EndText
+    ensures { result.bytes ≡ codes "capture cut at " ++ decimal place ++ codes "\n" ++ summary_text summary.now }
+{
+    let mut text = numbered_line("capture cut at ", place);
+    push_summary(&mut text, summary);
+    text
+}
+
 /// A line that ends in a number.
 fn numbered_line(words: &str, number: u64) -> EndText
-    requires { length words.now ≤ 64 }
-    ensures { result.bytes ≡ words.now ++ decimal number ++ codes "\n" }
+    requires { length words.now ≤ 43 }
+    ensures text { result.bytes ≡ words.now ++ decimal number ++ codes "\n" }
+    ensures short { length result.bytes ≤ 64 }
 {
     let mut text = EndText::new();
     text.push_str(words);
@@ -191,6 +242,7 @@ fn done_text(done: &Done) -> Option<EndText>
         Done::Sifted { admitted, refused } => Some(sifted_text(*admitted, *refused)),
         Done::Checked { assets, rules } => Some(checked_text(*assets, *rules)),
         Done::Listed => None,
+        Done::Ran(summary) => Some(counted_text(summary)),
     }
 }
 
@@ -207,6 +259,7 @@ fn stop_text(stop: &Stop) -> Option<EndText>
             capture_number(*refusal),
         )),
         Stop::CaptureCut(place) => Some(numbered_line("capture cut at ", *place)),
+        Stop::RunCut(place, summary) => Some(run_cut_text(*place, summary)),
         Stop::UnknownAsset => Some(line("unknown asset\n")),
         Stop::Unbuilt => Some(line("unbuilt\n")),
     }

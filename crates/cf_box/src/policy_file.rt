@@ -3,7 +3,7 @@ ghost use Rattle.std.specs.Prelude.{◌≡◌, ◌≢◌, IfOk, IfErr, Some, byt
 ghost use Rattle.cf_box.specs.Command.{Command, policy_file};
 ghost use Rattle.cf_box.specs.Ends.{StopsFor};
 ghost use Rattle.cf_box.specs.Outside.{PairValue, ReadsOnly, SinkValue, files_value, outside};
-ghost use Rattle.cf_box.specs.PolicyFile.{HasPolicy, asset_named, rule_count};
+ghost use Rattle.cf_box.specs.PolicyFile.{HasPolicy, StopsPolicy, asset_named, rule_count};
 ghost use Rattle.cf_policy.specs.Within.{AreAssetsWithin, IsWithin};
 
 use crate::ending::Stop;
@@ -34,6 +34,7 @@ pub(crate) fn load_policy<F: Files>(
     ensures stop { IfErr result (λ s. (c : Command) (sink : SinkValue) (pair : PairValue) → policy_file c ≡ Some name.now
         → StopsFor c (outside (files_value F.Files files.old) sink pair) (outside (files_value F.Files files.new) sink pair) s) }
     ensures unwritten { IfErr result (λ s. s ≢ Stop.WriteFault) }
+    ensures of_policy { IfErr result (λ s. StopsPolicy s) }
     ensures only { ReadsOnly (files_value F.Files files.old) (files_value F.Files files.new) }
 {
     let bytes = match read_whole(alloc, files, name, POLICY_LIMIT) {

@@ -1,10 +1,11 @@
 //! The top call.
-ghost use Rattle.std.specs.Prelude.{◌≡◌, ◌≢◌, ◌≤◌, ◌⊎◌, ◌↔◌, IsNone, List, Some, map, string_bytes, ℕ};
+ghost use Rattle.std.specs.Prelude.{◌≡◌, ◌≤◌, ◌⊎◌, ◌↔◌, IsNone, List, Some, map, string_bytes, ℕ};
 ghost use Rattle.cf_box.specs.Command.{Packets, Sift, SiftNamesValue};
 ghost use Rattle.cf_box.specs.Ends.{Ends, Meets};
+ghost use Rattle.cf_box.specs.Outputs.{KeepsAllBut};
 ghost use Rattle.cf_box.specs.Outside.{FilesNeverFall, PairValue, files_value, outside, outside_value, sink_value};
 ghost use Rattle.cf_box.specs.Packets.{Lists};
-ghost use Rattle.cf_box.specs.Status.{CutsItsCapture, IsComplete, IsExactly, IsStatus, LacksItsAsset, RefusesItsCapture, RefusesItsPolicy, SiftPassesAllowed};
+ghost use Rattle.cf_box.specs.Status.{CutsItsCapture, IsComplete, IsExactly, IsStatus, LacksItsAsset, RefusesItsCapture, RefusesItsPolicy, SiftPassesAllowed, WritesNothing, outputs_of};
 ghost use Rattle.cf_box.specs.Words.{HasApartFiles, command_of, command_value};
 ghost use Rattle.cf_outside.specs.Faults.{Rose};
 
@@ -12,6 +13,7 @@ use crate::check::check;
 use crate::command::{Command, read_words};
 use crate::ending::{Done, Stop, put_text, report};
 use crate::packets::packets;
+use crate::run::run;
 use crate::sift::sift;
 use cf_outside::{Files, Pair, Sink};
 use std::alloc::Global;
@@ -39,7 +41,8 @@ fn perform<F: Files, O: Sink>(
             client,
             names,
         } => sift(alloc, policy, asset, client, &names, files),
-        Command::Run { .. } | Command::Relay { .. } | Command::World { .. } => Err(Stop::Unbuilt),
+        Command::Run { policy, names } => run(alloc, policy, &names, files),
+        Command::Relay { .. } | Command::World { .. } => Err(Stop::Unbuilt),
     }
 }
 
@@ -92,8 +95,10 @@ pub fn box_main<F: Files, O: Sink, P: Pair>(
         SiftPassesAllowed policy asset client names (outside_value F.Files O.Sink P.Pair files.old out.old pair.old)
         (outside_value F.Files O.Sink P.Pair files.new out.new pair.new) }
 
-    // Nothing is written but where the work was done, or a write failed; and nothing is asked of the pair.
-    ensures kept { result ≢ 0 → result ≢ 4 → F.content files.new ≡ F.content files.old }
+    // No file is written but the outputs of the command, and none at all where the words, the policy or the asset are at fault;
+    // and nothing is asked of the pair.
+    ensures kept { KeepsAllBut (F.content files.old) (F.content files.new) (outputs_of (command_of (map string_bytes words.now))) }
+    ensures unwritten { WritesNothing result → F.content files.new ≡ F.content files.old }
     ensures pair { pair.new ≡ pair.old }
 {
     let _ = pair;

@@ -2,18 +2,18 @@ mod Allowed
 mod Apdus
 mod Asdus
 mod Assemblies
-mod Commands
+pub mod Commands
 mod Dnp3Fates
 mod Dnp3Frames
 mod Dnp3Growth
 mod Dnp3Segments
 mod Dnp3Steps
-mod Earlier
+pub mod Earlier
 mod Ends
 mod Failing
 mod Feeding
 mod FrameSizes
-mod Growth
+pub mod Growth
 mod Handling
 mod Histories
 mod Judgements
@@ -26,4 +26,4 @@ mod Renumbering
 mod ReplySizes
 mod Sizes
 mod Taking
-mod Units
+pub mod Units

@@ -7,11 +7,11 @@ use Rattle.cf_run.specs.Sessions.{HasEvents, HasOneStream, IsRight, SessionsAreI
 use Rattle.cf_run.specs.Table.{Session}
 use Rattle.cf_run.proofs.Sessions.{each-at, each-map, sessions_right}
 
-right_events : (limit : ℕ) (f : Flow) (es : List SessionEvent) → HasEvents limit f es → AreSessionEvents f limit es
+pub right_events : (limit : ℕ) (f : Flow) (es : List SessionEvent) → HasEvents limit f es → AreSessionEvents f limit es
 right_events limit f [] h = absurd h
 right_events limit f (e ∷ es) h = h.0
 
-uncut_before : (limit : ℕ) (f : Flow) (es : List SessionEvent) → HasEvents limit f es → AreUncutBefore es
+pub uncut_before : (limit : ℕ) (f : Flow) (es : List SessionEvent) → HasEvents limit f es → AreUncutBefore es
 uncut_before limit f [] h = absurd h
 uncut_before limit f (e ∷ es) h = h.1
 

@@ -2,6 +2,7 @@ mod Begun
 mod Counting
 mod Created
 mod FileDesks
+mod Headline
 mod Isolation
 mod Items
 mod Matched

@@ -2,6 +2,7 @@ pub mod Counted
 pub mod Engine
 pub mod Entries
 pub mod FileDesk
+pub mod Headline
 pub mod Items
 pub mod OutputFile
 pub mod Reader

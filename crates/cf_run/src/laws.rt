@@ -1,8 +1,10 @@
 //! Laws of a run: each is the contract of a function that does nothing.
+ghost use Rattle.cf_run.specs.Headline.{RunsHaveHeadline};
 ghost use Rattle.cf_run.specs.Selected.{SelectsByMoment};
 ghost use Rattle.cf_run.specs.Sessions.{SessionsAreIsolated, SessionsAreRight, SessionsHaveOneStream};
 
-use cf_session::{events_are_fixed, has_one_stream};
+use cf_decode::fragments_decode;
+use cf_session::{events_are_fixed, has_one_stream, work_is_of_what_was_taken};
 
 /// The packets that an event sent in each of its halves are those of all that the run sent which have the moment of that half.
 pub fn selects_by_moment()
@@ -32,4 +34,16 @@ pub fn sessions_are_isolated()
     ensures { SessionsAreIsolated }
 {
     events_are_fixed();
+}
+
+/// The headline: after each event of a run, whatever copies of letters a controller takes in a session of all segments that were
+/// sent to it, it puts together a beginning of one stream, and that decodes to the first of the items that the policy let through
+/// of the client's stream of first copies, in order, and then to a proper prefix of the next.
+#[tactic(auto, using(crate::proofs::Headline::has_headline))]
+pub fn runs_have_headline()
+    ensures { RunsHaveHeadline }
+{
+    has_one_stream();
+    work_is_of_what_was_taken();
+    fragments_decode();
 }

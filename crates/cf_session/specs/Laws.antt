@@ -1,5 +1,5 @@
--- What holds over every list of right events of a session. The main definitions are `EventsAreFixed` and `HasOneStream`. This
--- project's own.
+-- What holds over every list of right events of a session. The main definitions are `EventsAreFixed`,
+-- `WorkIsOfTheTaken` and `HasOneStream`. This project's own.
 use Rattle.std.specs.Prelude.{◌≡◌, ℕ, ◌+◌, ◌^◌, ◌≤◌, List, [], ◌∷◌, ◌++◌, length, map, slice_get, Option, None, Some, ℤ}
 use Rattle.cf_leg.specs.Event.{Came, Greeting, LegEvent, Nothing, Packet, sent_in}
 use Rattle.cf_leg.specs.Segment.{letters_in}
@@ -9,7 +9,8 @@ use Rattle.cf_packet.specs.Packet.{PacketValue}
 use Rattle.cf_stream.specs.Position.{position}
 use Rattle.cf_stream.specs.Stream.{End, Letter, Stream, letter_from, letters}
 use Rattle.cf_session.specs.Event.{AreEvents}
-use Rattle.cf_session.specs.Session.{Flow, SessionEvent, client_ends, clients, controller_ends, controllers, work_of}
+use Rattle.cf_session.specs.Session.{Flow, SessionEvent, client_ends, client_of, clients, controller_ends, controllers, history, work_of}
+use Rattle.cf_session.specs.Work.{Works}
 
 -- ---- isolation: a session's packets and their moments fix all that it sends and logs
 
@@ -32,6 +33,12 @@ given event = record { tick = event.client.tick; from_client = packet_in event.c
 abbrev pub EventsAreFixed : Type 0
 EventsAreFixed =
     (flow : Flow) (limit : ℕ) (xs ys : List SessionEvent) → AreEvents flow limit xs → AreEvents flow limit ys → map given xs ≡ map given ys → xs ≡ ys
+
+-- ---- what a lane made of a session is of all that was taken of both sides, by first copies
+
+abbrev pub WorkIsOfTheTaken : Type 0
+WorkIsOfTheTaken =
+    (flow : Flow) (limit : ℕ) (events : List SessionEvent) → AreEvents flow limit events → Works flow.asset (client_of flow) (history events) (work_of events)
 
 -- ---- one stream: whatever copies of letters a receiver takes, it gets a beginning of the stream to it
 

@@ -1,5 +1,5 @@
 //! Laws over every list of right events of a session: each is the contract of a function that does nothing.
-ghost use Rattle.cf_session.specs.Laws.{EventsAreFixed, HasOneStream};
+ghost use Rattle.cf_session.specs.Laws.{EventsAreFixed, HasOneStream, WorkIsOfTheTaken};
 
 use cf_lane::{has_one_judgement, streams_go_on};
 use cf_leg::{events_fix_what_is_sent, segments_carry_one_stream};
@@ -12,6 +12,12 @@ pub fn events_are_fixed()
     events_fix_what_is_sent();
     has_one_judgement();
 }
+
+/// The streams, the log and the counts of a session are what a lane makes of all letters that were taken of both sides so far.
+#[tactic(auto, using(crate::proofs::OneStream::works_of))]
+pub fn work_is_of_what_was_taken()
+    ensures { WorkIsOfTheTaken }
+{}
 
 /// One stream: after each event, whatever copies of letters the controller takes of all segments that were sent to it, it gets
 /// a beginning of the session's stream to it; and so does the client.

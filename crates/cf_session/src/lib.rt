@@ -12,7 +12,7 @@ mod packet;
 mod session;
 mod speaking;
 
-pub use laws::{events_are_fixed, has_one_stream};
+pub use laws::{events_are_fixed, has_one_stream, work_is_of_what_was_taken};
 pub use life::Life;
 pub use session::{BeginFault, Session};
 

@@ -1,12 +1,14 @@
 use Rattle.std.proofs.Common.{◌≡◌, refl, subst}
 use Rattle.cf_box.specs.Command.{Command}
 use Rattle.cf_box.specs.Ends.{Ends}
+use Rattle.cf_box.specs.Outputs.{KeepsAllBut}
 use Rattle.cf_box.specs.Outside.{Outside, outside_value, pair_value}
-use Rattle.cf_box.specs.Status.{CutsItsCapture, LacksItsAsset, RefusesItsCapture, RefusesItsPolicy}
+use Rattle.cf_box.specs.Status.{CutsItsCapture, LacksItsAsset, RefusesItsCapture, RefusesItsPolicy, outputs_of}
 use Rattle.cf_box.specs.Words.{command_value}
 use Rattle.cf_box.proofs.Complete.{complete_told}
 use Rattle.cf_box.proofs.Exact.{exact_told}
-use Rattle.cf_box.proofs.Statuses.{Explains, capture_told, cut_told, kept_told, lack_told, lists_told, passes_told, read_told, refusal_told, write_told}
+use Rattle.cf_box.proofs.Kept.{kept_told, unwritten_told}
+use Rattle.cf_box.proofs.Statuses.{Explains, capture_told, cut_told, lack_told, lists_told, passes_told, read_told, refusal_told, write_told}
 use Rattle.cf_box.proofs.top.box_main.Given.{Over}
 use Rattle.cf_box.proofs.top.box_main.Goals as goal
 
@@ -77,4 +79,8 @@ returns-in-Some-clause-passes g c = λ policy name client names is. passes_told 
     (let known = c.in-Some.ensures.command in cc)
 
 pub returns-in-Some-clause-kept : goal.returns-in-Some-clause-kept
-returns-in-Some-clause-kept g c = kept_told (explains g c)
+returns-in-Some-clause-kept g c =
+    subst (λ words. KeepsAllBut (before g c).files.content (after g c).files.content (outputs_of words)) c.in-Some.ensures.command (kept_told (explains g c))
+
+pub returns-in-Some-clause-unwritten : goal.returns-in-Some-clause-unwritten
+returns-in-Some-clause-unwritten g c = unwritten_told (explains g c)

@@ -9,3 +9,6 @@ returns-in-Packets-clause-meets g c = λ pair. rw c.in-Packets.is (c.packets.ens
 
 pub returns-in-Sift-clause-meets : goal.returns-in-Sift-clause-meets
 returns-in-Sift-clause-meets g c = λ pair. rw c.in-Sift.is (c.sift.ensures.meets (sink_value g.O.Sink c.args.out.now) pair)
+
+pub returns-in-Run-clause-meets : goal.returns-in-Run-clause-meets
+returns-in-Run-clause-meets g c = λ pair. rw c.in-Run.is (c.run.ensures.meets (sink_value g.O.Sink c.args.out.now) pair)

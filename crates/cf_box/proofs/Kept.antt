@@ -1,0 +1,94 @@
+-- Which files are as they were.
+use Rattle.std.proofs.Common.{◌≡◌, ◌≢◌, ◌⊎◌, ℕ, List, [], ◌∷◌, Result, Ok, Err, sym, subst, ◌∙◌, ap, inl, inr, arith}
+use Rattle.cf_pcap.specs.declared.HeaderRefusal.{HeaderRefusal}
+use Rattle.cf_run.specs.declared.run.RunFault.{RunFault}
+use Rattle.cf_run.specs.declared.run.RunFault.TheVariants as fault
+use Rattle.cf_run.specs.declared.run.RunRefusal.TheVariants as by
+use Rattle.cf_box.specs.Command.{Command, Check, Packets, Run, Relay, World, Sift, output_files}
+use Rattle.cf_box.specs.Ending.{stop_status}
+use Rattle.cf_box.specs.Ends.{Does, Leaves, Meets}
+use Rattle.cf_box.specs.Outputs.{IsSameBeside, KeepsAllBut}
+use Rattle.cf_box.specs.Outside.{Outside}
+use Rattle.cf_box.specs.Run.{run_stop}
+use Rattle.cf_box.specs.Status.{WritesNothing}
+use Rattle.cf_box.specs.declared.ending.Done.{Done}
+use Rattle.cf_box.specs.declared.ending.Stop.{Stop}
+use Rattle.cf_box.proofs.Statuses.{Explains, IsOf, Unprinted, explained, stop_is}
+
+-- a status that is none of those at which nothing is written
+none_of : (n : ℕ) → WritesNothing n → n ≢ 2 → n ≢ 5 → n ≢ 10 → n ≢ 14 → ⊥
+none_of n (inl e) a b c d = a e
+none_of n (inr (inl e)) a b c d = b e
+none_of n (inr (inr (inl e))) a b c d = c e
+none_of n (inr (inr (inr e))) a b c d = d e
+
+-- no fault of a run has one
+not_of_run : (f : RunFault) → WritesNothing (stop_status (run_stop f)) → ⊥
+not_of_run fault.NoMemory w = none_of 13 w (omega arith) (omega arith) (omega arith) (omega arith)
+not_of_run fault.Read w = none_of 3 w (omega arith) (omega arith) (omega arith) (omega arith)
+not_of_run fault.Write w = none_of 4 w (omega arith) (omega arith) (omega arith) (omega arith)
+not_of_run (fault.Refused (by.Header of)) w = none_of 6 w (omega arith) (omega arith) (omega arith) (omega arith)
+not_of_run (fault.Refused by.TooLong) w = none_of 6 w (omega arith) (omega arith) (omega arith) (omega arith)
+not_of_run (fault.Refused by.Clock) w = none_of 6 w (omega arith) (omega arith) (omega arith) (omega arith)
+not_of_run (fault.Refused by.Large) w = none_of 6 w (omega arith) (omega arith) (omega arith) (omega arith)
+not_of_run (fault.Cut at summary) w = none_of 7 w (omega arith) (omega arith) (omega arith) (omega arith)
+
+module _ (before after : Outside) where
+  all_kept : (names : List (List ℕ)) (other : List ℕ) → after.files.content ≡ before.files.content → IsSameBeside before.files.content after.files.content other names
+  all_kept [] other same = ap (λ f. f other) same
+  all_kept (name ∷ names) other same = λ _. all_kept names other same
+
+  abbrev Keeps : Command → Type 0
+  Keeps k = KeepsAllBut before.files.content after.files.content (output_files k)
+
+  nothing_written : (k : Command) → after.files.content ≡ before.files.content → Keeps k
+  nothing_written k same = λ other. all_kept (output_files k) other same
+
+  -- what was done keeps every file but the outputs: a line a command
+  done_keeps : (k : Command) (d : Done) → Does k before after d → Keeps k
+  done_keeps (Check policy) d m = nothing_written (Check policy) m.same.content
+  done_keeps (Packets file) d m = nothing_written (Packets file) m.content
+  done_keeps (Run policy names) d m = m.1.others
+  done_keeps (Relay policy asset port idles log) d m = absurd m
+  done_keeps (World seed sessions policy capture out log) d m = absurd m
+  done_keeps (Sift policy asset client names) d m = m.others
+
+  -- and so does what stopped: a line a command
+  stop_keeps : (k : Command) (s : Stop) → Leaves k before after s → Keeps k
+  stop_keeps (Check policy) s l = nothing_written (Check policy) l.same.content
+  stop_keeps (Packets file) s l = nothing_written (Packets file) l.content
+  stop_keeps (Run policy names) s (inl l) = nothing_written (Run policy names) l.1.content
+  stop_keeps (Run policy names) s (inr l) = l.1.others
+  stop_keeps (Relay policy asset port idles log) s l = nothing_written (Relay policy asset port idles log) (ap (λ (o : Outside). o.files.content) l.1)
+  stop_keeps (World seed sessions policy capture out log) s l = nothing_written (World seed sessions policy capture out log) (ap (λ (o : Outside). o.files.content) l.1)
+  stop_keeps (Sift policy asset client names) s (inl l) = nothing_written (Sift policy asset client names) l.1.content
+  stop_keeps (Sift policy asset client names) s (inr l) = l.1.outputs.others
+
+  keeps_from : (c : Command) (r : Result Done Stop) → Meets c before after r → Keeps c
+  keeps_from c (Ok d) m = done_keeps c d m
+  keeps_from c (Err s) m = stop_keeps c s m.1
+
+  -- such a status leaves the files as they were: a line a command
+  unwritten_by : (k : Command) (s : Stop) → WritesNothing (stop_status s) → Leaves k before after s → after.files.content ≡ before.files.content
+  unwritten_by (Check policy) s w l = l.same.content
+  unwritten_by (Packets file) s w l = l.content
+  unwritten_by (Run policy names) s w (inl l) = l.1.content
+  unwritten_by (Run policy names) s w (inr l) = absurd (not_of_run l.0 (subst (λ t. WritesNothing (stop_status t)) l.2 w))
+  unwritten_by (Relay policy asset port idles log) s w l = ap (λ (o : Outside). o.files.content) l.1
+  unwritten_by (World seed sessions policy capture out log) s w l = ap (λ (o : Outside). o.files.content) l.1
+  unwritten_by (Sift policy asset client names) s w (inl l) = l.1.content
+  unwritten_by (Sift policy asset client names) s w (inr l) = absurd (none_of 4 (subst (λ t. WritesNothing (stop_status t)) l.0 w) (omega arith) (omega arith) (omega arith) (omega arith))
+
+  module _ (failed : Type 0) (status : ℕ) where
+    unwritten_from : (c : Command) (r : Result Done Stop) → Meets c before after r → IsOf r failed status → WritesNothing status → after.files.content ≡ before.files.content
+    unwritten_from c (Ok d) meets (inl h) w = absurd (none_of 0 (subst WritesNothing h w) (omega arith) (omega arith) (omega arith) (omega arith))
+    unwritten_from c (Ok d) meets (inr h) w = absurd (none_of 4 (subst WritesNothing h.0 w) (omega arith) (omega arith) (omega arith) (omega arith))
+    unwritten_from c (Err s) meets h w = unwritten_by c s (subst WritesNothing (stop_is failed status s h) w) meets.1
+
+module _ {c : Command} {before after : Outside} {status : ℕ} (e : Explains c before after status) where
+  pub kept_told : KeepsAllBut before.files.content after.files.content (output_files c)
+  kept_told =
+      subst (λ f. KeepsAllBut before.files.content f (output_files c)) (sym (ap (λ f. f.content) e.reports.files)) (keeps_from before e.middle c e.r e.meets)
+
+  pub unwritten_told : WritesNothing status → after.files.content ≡ before.files.content
+  unwritten_told w = ap (λ f. f.content) e.reports.files ∙ unwritten_from before e.middle (Unprinted e) status c e.r e.meets (explained e) w

@@ -1,0 +1,86 @@
+-- An answer of a run, as the answer of the command.
+use Rattle.std.proofs.Common.{◌≡◌, ◌≢◌, ◌≤◌, ℕ, List, [], ◌∷◌, Option, None, Some, Result, Ok, Err, refl, sym, ap, ◌∙◌, subst, arith, inl, inr}
+use Rattle.std.specs.Result.{IsErrOf}
+use Rattle.cf_lane.specs.declared.limit.TheConstants.{LETTER_LIMIT}
+use Rattle.cf_outside.specs.Desk.{IsNoneOf}
+use Rattle.cf_outside.specs.Faults.{HasCause, Rose}
+use Rattle.cf_outside.specs.Files.{Content}
+use Rattle.cf_pcap.specs.Capture.{AtPlace}
+use Rattle.cf_pcap.specs.declared.HeaderRefusal.{HeaderRefusal}
+use Rattle.cf_pcap.specs.declared.HeaderRefusal.TheVariants as header
+use Rattle.cf_policy.specs.declared.Asset.{Asset}
+use Rattle.cf_policy.specs.declared.Policy.{Policy}
+use Rattle.cf_run.specs.Reader.{HasHeader}
+use Rattle.cf_run.specs.RunCapture.{RunNamesValue, RunsAs, RunsTo}
+use Rattle.cf_run.specs.declared.run.RunFault.{RunFault}
+use Rattle.cf_run.specs.declared.run.RunFault.TheVariants as fault
+use Rattle.cf_run.specs.declared.run.RunRefusal.TheVariants as by
+use Rattle.cf_run.specs.declared.summary.Summary.{Summary}
+use Rattle.cf_box.specs.Command.{Run, policy_file}
+use Rattle.cf_box.specs.Ends.{Meets, PassesPolicy, StopsFor}
+use Rattle.cf_box.specs.Outputs.{KeepsAllBut}
+use Rattle.cf_box.specs.Outside.{FilesValue, Outside, ReadsOnly}
+use Rattle.cf_box.specs.Packets.{header_refusal}
+use Rattle.cf_box.specs.PolicyFile.{HasPolicy}
+use Rattle.cf_box.specs.Run.{EndsAt, HasRun, RunRefuses, run_stop}
+use Rattle.cf_box.specs.declared.ending.Done.{Done}
+use Rattle.cf_box.specs.declared.ending.Done.TheVariants as done
+use Rattle.cf_box.specs.declared.ending.Stop.{Stop}
+
+-- the answer of the command
+abbrev pub run_answer : Result Summary RunFault → Result Done Stop
+run_answer (Ok summary) = Ok (done.Ran summary)
+run_answer (Err fault) = Err (run_stop fault)
+
+-- every file but the two outputs is as it was
+pub kept_but : (names : RunNamesValue) (old middle new : List ℕ → Content) → middle ≡ old → ((other : List ℕ) → IsNoneOf (names.out ∷ names.log ∷ []) other → new other ≡ middle other) →
+    KeepsAllBut old new (names.out ∷ names.log ∷ [])
+kept_but names old middle new same kept = λ other out log. kept other (out, (log, tt)) ∙ ap (λ f. f other) same
+
+module _ (policy_name : List ℕ) (names : RunNamesValue) (before after : Outside) (policy : Policy) (has : HasPolicy (before.files.content policy_name) policy) where
+  passes : PassesPolicy (Run policy_name names) before
+  passes = record {
+    policy = λ file e. let same : policy_name ≡ file = cc in (policy, subst (λ f. HasPolicy (before.files.content f) policy) same has);
+    asset = λ file name e f. cc f;
+  }
+
+  -- where the records ended
+  ends_at : (found : AtPlace) (place : ℕ) (summary : Summary) → RunsTo policy.assets LETTER_LIMIT names before.files.content after.files.content found place summary → EndsAt (before.files.content names.capture) found place
+  ends_at found place summary r = record { header = r.header; has_header = r.has_header; records = r.records; are_records = r.are_records }
+
+  header_refused : (of : HeaderRefusal) → HasHeader (before.files.content names.capture) (Err of) → RunRefuses (before.files.content names.capture) (header_refusal of)
+  header_refused header.Short h = h
+  header_refused header.Magic h = h
+  header_refused header.Version h = h
+  header_refused header.LinkType h = h
+
+  stops : (f : RunFault) → RunsAs policy.assets LETTER_LIMIT names before.files.content after.files.content (Err f) →
+      (f ≡ fault.Read → Rose before.files.read_faults after.files.read_faults) → (f ≡ fault.Write → Rose before.files.write_faults after.files.write_faults) →
+      StopsFor (Run policy_name names) before after (run_stop f)
+  stops fault.NoMemory h read write = tt
+  stops fault.Read h read write = read refl
+  stops fault.Write h read write = (inl (write refl), passes)
+  stops (fault.Refused (by.Header of)) h read write = (header_refused of h.0, passes)
+  stops (fault.Refused by.TooLong) h read write = ((h.0, ends_at _ h.0 h.1 h.2), passes)
+  stops (fault.Refused by.Clock) h read write = ((h.0, ends_at _ h.0 h.1 h.2), passes)
+  stops (fault.Refused by.Large) h read write = ((h.0, ends_at _ h.0 h.1 h.2), passes)
+  stops (fault.Cut at summary) h read write = (ends_at _ at summary h, passes)
+
+  pub run_meets : (r : Result Summary RunFault) → HasRun policy_name names before after r → RunsAs policy.assets LETTER_LIMIT names before.files.content after.files.content r →
+      (IsErrOf r fault.Read → Rose before.files.read_faults after.files.read_faults) → (IsErrOf r fault.Write → Rose before.files.write_faults after.files.write_faults) →
+      Meets (Run policy_name names) before after (run_answer r)
+  run_meets (Ok summary) run h read write = (summary, run, refl)
+  run_meets (Err f) run h read write = (stops f h (λ e. read (ap Err e)) (λ e. write (ap Err e)), inr (f, run, refl))
+
+-- the same after files were read, none of which changed
+pub run_after : (policy_name : List ℕ) (names : RunNamesValue) (before middle after : Outside) (policy : Policy) → HasPolicy (before.files.content policy_name) policy →
+    ReadsOnly before.files middle.files → (r : Result Summary RunFault) → RunsAs policy.assets LETTER_LIMIT names middle.files.content after.files.content r →
+    ((other : List ℕ) → IsNoneOf (names.out ∷ names.log ∷ []) other → after.files.content other ≡ middle.files.content other) →
+    (IsErrOf r fault.Read → Rose middle.files.read_faults after.files.read_faults) → (IsErrOf r fault.Write → Rose middle.files.write_faults after.files.write_faults) →
+    after.sink ≡ before.sink → after.pair ≡ before.pair → Meets (Run policy_name names) before after (run_answer r)
+run_after policy_name names before middle after policy has only r runs others read write sink pair =
+    let here : RunsAs policy.assets LETTER_LIMIT names before.files.content after.files.content r =
+        subst (λ c. RunsAs policy.assets LETTER_LIMIT names c after.files.content r) only.content runs in
+    run_meets policy_name names before after policy has r
+    (record { policy = policy; has = has; runs = here; others = kept_but names before.files.content middle.files.content after.files.content only.content others; sink = sink; pair = pair }) here
+    (λ e. let rose = read e in omega (arith, rose, only.reads)) (λ e. let rose = write e in omega (arith, rose, only.writes))

@@ -1,0 +1,5 @@
+mod Commands
+mod Decoding
+mod Making
+mod Right
+mod Spelled

@@ -1,0 +1,291 @@
+-- What goes to the controller is right: units are spelled, and fragments have 2 to 2,048 octets.
+use Rattle.cf_apci.specs.Apdu.{Ack, ApduValue, Control, Info}
+use Rattle.cf_audit.specs.declared.line.Why.{Why}
+use Rattle.cf_decode.specs.Dnp3.{passed_by_frame}
+use Rattle.cf_decode.specs.Iec104.{acks, passed_by_apdu}
+use Rattle.cf_decode.specs.Passed.{passed_by}
+use Rattle.cf_decode.specs.Received.{has_segment}
+use Rattle.cf_decode.specs.Units.{Fragment, Passed, Whole, data_frame, start_after, units_from, units_of}
+use Rattle.cf_dnplink.proofs.Frames.{user_is}
+use Rattle.cf_dnplink.proofs.Reading.{user_again}
+use Rattle.cf_dnplink.specs.LinkFrame.{FrameValue, SpellsFrame}
+use Rattle.cf_dnplink.specs.UserOctets.{user_of}
+use Rattle.cf_dnptrans.specs.Passing.{IsSent, completed}
+use Rattle.cf_dnptrans.specs.Segments.{count_of, first_segments, octet_of, segment_of}
+use Rattle.cf_dnptrans.specs.Transport.{fitting, is_first, is_linked, last_fragment, octets_of, since_first}
+use Rattle.cf_dnptrans.specs.declared.assembly.SegmentAnswer.{SegmentAnswer}
+use Rattle.cf_lane.proofs.Earlier.{segments_of-more}
+use Rattle.cf_lane.proofs.Growth.{AreItemsOf, IsItemOf, all_of, of_front}
+use Rattle.cf_lane.specs.Dnp3.{answer_now, fate_of_frame, fate_of_fragment, fate_of_segment, has_addresses, has_right_direction, is_data, is_none, is_status, segment_in, segments_of as lane_segments, stray_of}
+use Rattle.cf_lane.specs.Fate.{HasItemFate, HaveFates}
+use Rattle.cf_lane.specs.Follows.{AreJudged}
+use Rattle.cf_lane.specs.History.{Element, is_side}
+use Rattle.cf_lane.specs.Iec104.{info_number, renumbered}
+use Rattle.cf_lane.specs.Item.{Broke, Ended, Item, Took}
+use Rattle.cf_lane.specs.Judged.{Judged, goes_on, in_turn, place_of}
+use Rattle.cf_lane.specs.Numbers.{events_of}
+use Rattle.cf_lane.specs.Unit.{Adu, Apdu, Frame, SpellsUnit, UnitValue, unit_spelling}
+use Rattle.cf_lane.specs.declared.fate.Fate.{Fate}
+use Rattle.cf_modbus.specs.Adu.{SpellsAdu}
+use Rattle.cf_policy.specs.declared.Asset.{Asset}
+use Rattle.cf_policy.specs.declared.Protocol.{Protocol}
+use Rattle.cf_renumber.specs.Counts.{client_translated, last_told}
+use Rattle.cf_view.proofs.OctetLists.{IsOctets-append, IsOctets-drop, IsOctets-take, IsOctets-zeros}
+use Rattle.cf_view.specs.Octets.{IsOctets}
+use Rattle.std.proofs.Common.{Bool, List, None, Option, Some, [], ap, arith, drop, false, length, map, refl, reverse, subst, suc, sym, true, zero, ℕ, ◌%◌, ◌*◌, ◌++◌, ◌+◌, ◌<◌, ◌∙◌, ◌∷◌, ◌≡◌, ◌≤◌}
+use Rattle.std.proofs.lemmas.Bool.Decides.{nat_tests}
+use Rattle.std.proofs.lemmas.Bool.{eqb-true, leb-true, ltb-false}
+use Rattle.std.proofs.lemmas.List.{length-take, map-append, reverse-append}
+use Rattle.std.specs.List.{AllByRecursion}
+use Rattle.std.specs.Prelude.{if◌then◌else◌, nat_eq, nat_le, nat_lt, not, ◌&&◌, ◌^◌}
+use Rattle.cf_audit.specs.declared.line.Why.TheVariants as why
+use Rattle.cf_apci.specs.Apdu as apci
+use Rattle.cf_dnplink.specs.LinkFrame as link
+use Rattle.cf_dnptrans.specs.declared.assembly.SegmentAnswer.TheVariants as answers
+use Rattle.cf_lane.specs.declared.fate.Fate.TheVariants as fate
+use Rattle.cf_policy.specs.declared.Protocol.TheVariants as protocol
+use Rattle.cf_view.specs.declared.Side.TheVariants as side
+
+pub all-append : {A : Type 0} (P : A → Type 0) (xs ys : List A) → AllByRecursion P xs → AllByRecursion P ys → AllByRecursion P (xs ++ ys)
+all-append P [] ys a b = b
+all-append P (x ∷ xs) ys a b = (a.0, all-append P xs ys a.1 b)
+
+-- a unit that some octets are is spelled
+spelled_again : (p : Protocol) (u : UnitValue) (xs : List ℕ) → SpellsUnit p u xs → SpellsUnit p u (unit_spelling u)
+spelled_again protocol.Modbus (Adu a) xs s = subst (SpellsAdu a) s.spelled s
+spelled_again protocol.Modbus (Frame x) xs s = absurd s
+spelled_again protocol.Modbus (Apdu x) xs s = absurd s
+spelled_again protocol.Dnp3 (Adu a) xs s = absurd s
+spelled_again protocol.Dnp3 (Frame x) xs s =
+    subst (SpellsFrame x) (s.spelled ∙ ap (λ user. link.spelling x.control x.dest x.source user) (sym (user_is x (xs, s)))) s
+spelled_again protocol.Dnp3 (Apdu x) xs s = absurd s
+spelled_again protocol.Iec104 (Adu a) xs s = absurd s
+spelled_again protocol.Iec104 (Frame x) xs s = absurd s
+spelled_again protocol.Iec104 (Apdu a) xs s = record { fits = s.fits; spelled = refl }
+
+module _ (p : Protocol) where
+  spelled_frame : (x : FrameValue) → SpellsUnit p (Frame x) (unit_spelling (Frame x)) → (p ≡ protocol.Dnp3) × SpellsFrame x (unit_spelling (Frame x))
+  spelled_frame x s = by_protocol p refl s where
+    by_protocol : (q : Protocol) → q ≡ p → SpellsUnit q (Frame x) (unit_spelling (Frame x)) → (p ≡ protocol.Dnp3) × SpellsFrame x (unit_spelling (Frame x))
+    by_protocol protocol.Modbus is s = absurd s
+    by_protocol protocol.Dnp3 is s = (sym is, s)
+    by_protocol protocol.Iec104 is s = absurd s
+
+-- the segments are octets
+user_octets : (x : FrameValue) → SpellsFrame x (unit_spelling (Frame x)) → IsOctets (user_of x.blocks)
+user_octets x s = subst IsOctets (sym (user_is x (unit_spelling (Frame x), s))) s.user_octets
+
+if_octets : (b : Bool) (xs ys : List (List ℕ)) → AllByRecursion IsOctets xs → AllByRecursion IsOctets ys → AllByRecursion IsOctets (if b then xs else ys)
+if_octets true xs ys a c = a
+if_octets false xs ys a c = c
+
+since_octets : (segments : List (List ℕ)) → AllByRecursion IsOctets segments → AllByRecursion IsOctets (since_first segments)
+since_octets [] a = tt
+since_octets ([] ∷ earlier) a = since_octets earlier a.1
+since_octets ((o ∷ os) ∷ earlier) a =
+    if_octets (is_first (o ∷ os)) ((o ∷ os) ∷ []) ((o ∷ os) ∷ since_first earlier) (a.0, tt) (a.0, since_octets earlier a.1)
+
+put_octets : (run : List (List ℕ)) → AllByRecursion IsOctets run → IsOctets (octets_of run)
+put_octets [] a = IsOctets-zeros 0
+put_octets (s ∷ earlier) a = IsOctets-append (octets_of earlier) (drop 1 s) (put_octets earlier a.1) (IsOctets-drop s 1 a.0)
+
+if_some : (b : Bool) (o : Option (List ℕ)) (x : List ℕ) → (if b then o else None) ≡ Some x → (b ≡ true) × (o ≡ Some x)
+if_some true o x e = (refl, e)
+if_some false o x e = cc
+
+some_is : (x y : List ℕ) → Some x ≡ Some y → x ≡ y
+some_is x y e = cc
+
+-- a fragment that is put together of octets has at most 2,048
+fragment_fits : (segments : List (List ℕ)) (octets : List ℕ) → AllByRecursion IsOctets segments → last_fragment segments ≡ Some octets → (length octets ≤ 2048) × IsOctets octets
+fragment_fits segments octets all e =
+    let run = since_first segments in
+    let linked = if_some (is_linked run) (fitting (octets_of run)) octets e in
+    let fits = if_some (nat_le (length (octets_of run)) 2048) (Some (octets_of run)) octets linked.1 in
+    let same = some_is (octets_of run) octets fits.1 in (
+      omega (arith, leb-true (length (octets_of run)) 2048 fits.0, ap length same),
+      subst IsOctets same (put_octets run (since_octets segments all)),
+    )
+
+-- the data frames of an asset can be spelled
+pub record IsMaster (asset : Asset) : Type 0 where
+  pub dnp3 : asset.protocol ≡ protocol.Dnp3
+  pub station : asset.station < 2 ^ 16
+  pub master : asset.master < 2 ^ 16
+
+module _ (asset : Asset) where
+  -- what goes to the controller is right
+  abbrev pub IsRight : Passed → Type 0
+  IsRight (Whole u) = (has_segment u ≡ false) × SpellsUnit asset.protocol u (unit_spelling u)
+  IsRight (Fragment octets) = IsSent octets × IsOctets octets × IsMaster asset
+
+  abbrev pub AreRight : List Passed → Type 0
+  AreRight items = AllByRecursion IsRight items
+
+  right_if : (b : Bool) (i : Passed) → IsRight i → AreRight (if b then i ∷ [] else [])
+  right_if true i r = (r, tt)
+  right_if false i r = tt
+
+  -- IEC 60870-5-104
+  right_ack : (p : Protocol) → p ≡ asset.protocol → (a : ApduValue) → SpellsUnit p (Apdu a) (unit_spelling (Apdu a)) → (n : ℕ) → n < 32768 → IsRight (Whole (Apdu (Ack n)))
+  right_ack protocol.Modbus is a s n h = absurd s
+  right_ack protocol.Dnp3 is a s n h = absurd s
+  right_ack protocol.Iec104 is a s n h = (refl, subst (λ p. SpellsUnit p (Apdu (Ack n)) (unit_spelling (Apdu (Ack n)))) is (record { fits = h; spelled = refl }))
+
+  by_number : (p : Protocol) → p ≡ asset.protocol → (a : ApduValue) → SpellsUnit p (Apdu a) (unit_spelling (Apdu a)) → (b : ApduValue) → (apci.Fits a → apci.Fits b) → IsRight (Whole (Apdu b))
+  by_number protocol.Modbus is a s b to = absurd s
+  by_number protocol.Dnp3 is a s b to = absurd s
+  by_number protocol.Iec104 is a s b to = (refl, subst (λ p. SpellsUnit p (Apdu b) (unit_spelling (Apdu b))) is (record { fits = to s.fits; spelled = refl }))
+
+  fits_renumbered : (earlier : List Judged) (a : ApduValue) → apci.Fits a → apci.Fits (renumbered side.Controller earlier a)
+  fits_renumbered earlier (Info send receive asdu) f = (omega arith, omega arith, f.2, f.3)
+  fits_renumbered earlier (Ack receive) f = omega arith
+  fits_renumbered earlier (Control octet) f = f
+
+  right_owed : (p : Protocol) → p ≡ asset.protocol → (a : ApduValue) → SpellsUnit p (Apdu a) (unit_spelling (Apdu a)) → (b : Bool) (n : ℕ) → AreRight (acks (if b then Some (n % 32768) else None))
+  right_owed p is a s true n = (right_ack p is a s (n % 32768) (omega arith), tt)
+  right_owed p is a s false n = tt
+
+  right_apdu : (earlier : List Judged) (f : Fate) (a : ApduValue) → SpellsUnit asset.protocol (Apdu a) (unit_spelling (Apdu a)) → AreRight (passed_by_apdu earlier f a)
+  right_apdu earlier fate.Carried a s = (by_number asset.protocol refl a s (renumbered side.Controller earlier a) (fits_renumbered earlier a), tt)
+  right_apdu earlier fate.Admitted a s = (by_number asset.protocol refl a s (renumbered side.Controller earlier a) (fits_renumbered earlier a), tt)
+  right_apdu earlier (fate.Refused refusal) a s =
+      right_owed asset.protocol refl a s (nat_lt (last_told (events_of earlier)) (client_translated (events_of earlier) (info_number a))) (client_translated (events_of earlier) (info_number a))
+  right_apdu earlier (fate.Stray because) a s = tt
+  right_apdu earlier fate.Lengthens a s = tt
+  right_apdu earlier (fate.Cuts because) a s = tt
+
+  -- DNP3
+  module _ (client : ℕ) (earlier : List Judged) (x : FrameValue) (s : SpellsFrame x (unit_spelling (Frame x))) (dnp3 : asset.protocol ≡ protocol.Dnp3) where
+    abbrev Goes : Fate → List (List ℕ) → Type 0
+    Goes f whole = AreRight (if goes_on f then map Fragment whole else [])
+
+    by_length : (octets : List ℕ) (short : Bool) → nat_lt (length octets) 2 ≡ short → length octets ≤ 2048 → IsOctets octets → IsMaster asset →
+        Goes (if short then fate.Stray why.Short else fate_of_fragment asset client side.Client octets) (octets ∷ [])
+    by_length octets true is most o m = tt
+    by_length octets false is most o m =
+        right_if (goes_on (fate_of_fragment asset client side.Client octets)) (Fragment octets) ((ltb-false (length octets) 2 is, most), o, m)
+
+    by_segment : (answer : SegmentAnswer) (last : Option (List ℕ)) → ((octets : List ℕ) → last ≡ Some octets → (length octets ≤ 2048) × IsOctets octets) → IsMaster asset →
+        Goes (fate_of_segment asset client side.Client answer (completed answer last)) (completed answer last)
+    by_segment answers.More last fits m = tt
+    by_segment (answers.Dropped because) last fits m = tt
+    by_segment answers.Whole None fits m = tt
+    by_segment answers.Whole (Some octets) fits m =
+        let f = fits octets refl in by_length octets (nat_lt (length octets) 2) refl f.0 f.1 m
+
+    addressed : (a b : Bool) (o : Option Why) → (if not a then Some why.Address else o) ≡ None → a ≡ true
+    addressed true b o e = refl
+    addressed false b o e = cc
+
+    both : (a b : Bool) → (a && b) ≡ true → (a ≡ true) × (b ≡ true)
+    both true b e = (refl, e)
+    both false b e = cc
+
+    is_master : stray_of asset side.Client x ≡ None → IsMaster asset
+    is_master none =
+        let here = addressed (has_addresses asset side.Client x) true (if not (has_right_direction side.Client x) then Some why.Direction else (if is_data x then None else (if is_status x then None else Some why.Code))) none in
+        let are = both (nat_eq x.dest asset.station) (nat_eq x.source asset.master) here in
+        let d = s.dest in
+        let o = s.source in
+        record {
+          dnp3 = dnp3;
+          station = omega (arith, eqb-true x.dest asset.station are.0, d);
+          master = omega (arith, eqb-true x.source asset.master are.1, o);
+        }
+
+    module _ (all : AllByRecursion IsOctets (lane_segments asset side.Client earlier)) where
+      abbrev run : List (List ℕ)
+      run = user_of x.blocks ∷ lane_segments asset side.Client earlier
+
+      abbrev answer : SegmentAnswer
+      answer = answer_now asset side.Client earlier x
+
+      by_data : (d : Bool) → is_data x ≡ d → stray_of asset side.Client x ≡ None →
+          AreRight (if goes_on (if d then fate_of_segment asset client side.Client answer (completed answer (last_fragment run)) else fate.Carried)
+          then (if d then map Fragment (completed answer (last_fragment run)) else Whole (Frame x) ∷ []) else [])
+      by_data true is none = by_segment answer (last_fragment run) (λ octets e. fragment_fits run octets (user_octets x s, all) e) (is_master none)
+      by_data false is none = ((is, subst (λ p. SpellsUnit p (Frame x) (unit_spelling (Frame x))) (sym dnp3) s), tt)
+
+      by_stray : (o : Option Why) → stray_of asset side.Client x ≡ o → AreRight (passed_by_frame asset earlier (fate_of_frame asset client side.Client earlier x o) x)
+      by_stray None is = by_data (is_data x) refl is
+      by_stray (Some because) is = tt
+
+      right_frame : (f : Fate) → f ≡ fate_of_frame asset client side.Client earlier x (stray_of asset side.Client x) → AreRight (passed_by_frame asset earlier f x)
+      right_frame f is = subst (λ f. AreRight (passed_by_frame asset earlier f x)) (sym is) (by_stray (stray_of asset side.Client x) refl)
+
+  right_item : (client : ℕ) (earlier : List Judged) (j : Judged) (i : Item) → AllByRecursion IsOctets (lane_segments asset side.Client earlier) → IsItemOf asset.protocol i →
+      HasItemFate asset client earlier i j.fate → AreRight (passed_by asset earlier j i)
+  right_item client earlier j (Took side.Client (Adu a)) all s has = right_if (goes_on j.fate) (Whole (Adu a)) (refl, spelled_again asset.protocol (Adu a) s.0 s.1)
+  right_item client earlier j (Took side.Client (Frame x)) all s has =
+      let spelled = spelled_frame asset.protocol x (spelled_again asset.protocol (Frame x) s.0 s.1) in right_frame client earlier x spelled.1 spelled.0 all j.fate has
+  right_item client earlier j (Took side.Client (Apdu a)) all s has = right_apdu earlier j.fate a (spelled_again asset.protocol (Apdu a) s.0 s.1)
+  right_item client earlier j (Took side.Controller u) all s has = tt
+  right_item client earlier j (Ended t n) all s has = tt
+  right_item client earlier j (Broke t because) all s has = tt
+
+  segment_octets : (i : Item) → IsItemOf asset.protocol i → AllByRecursion IsOctets (segment_in asset side.Client i)
+  segment_octets (Took t (Frame x)) s =
+      if_octets (is_side side.Client t && (is_none (stray_of asset t x) && is_data x)) (user_of x.blocks ∷ []) [] (user_octets x (spelled_frame asset.protocol x (spelled_again asset.protocol (Frame x) s.0 s.1)).1, tt) tt
+  segment_octets (Took t (Adu a)) s = tt
+  segment_octets (Took t (Apdu a)) s = tt
+  segment_octets (Ended t n) s = tt
+  segment_octets (Broke t because) s = tt
+
+  abbrev put : List Judged → Judged → List Passed
+  put before j = passed_by asset before j j.item
+
+  right_from : (client : ℕ) (earlier js : List Judged) → AllByRecursion IsOctets (lane_segments asset side.Client earlier) → AreItemsOf asset.protocol (map place_of js) →
+      HaveFates asset client earlier js → AreRight (in_turn put earlier js)
+  right_from client earlier [] all of fates = tt
+  right_from client earlier (j ∷ js) all of fates =
+      all-append IsRight (put earlier j) (in_turn put (earlier ++ j ∷ []) js) (right_item client earlier j j.item all of.0 fates.0)
+      (right_from client (earlier ++ j ∷ []) js
+      (subst (AllByRecursion IsOctets) (sym (segments_of-more asset side.Client earlier j)) (all-append IsOctets (segment_in asset side.Client j.item) (lane_segments asset side.Client earlier) (segment_octets j.item of.0) all))
+      of.1 fates.1)
+
+  pub passed_right : (client : ℕ) (h : List Element) (js : List Judged) → AreJudged asset client h js → AreRight (in_turn put [] js)
+  passed_right client h js a =
+      right_from client [] js tt (of_front asset.protocol (map place_of js) a.dropped (subst (AreItemsOf asset.protocol) a.are_first (all_of asset.protocol h a.items a.are_items))) a.fates
+
+  -- the units of what is right are spelled
+  abbrev IsSpelled : UnitValue → Type 0
+  IsSpelled u = SpellsUnit asset.protocol u (unit_spelling u)
+
+  octet_small : (len i seq : ℕ) → seq < 64 → octet_of len i seq < 256
+  octet_small len i seq h = grind (arith, nat_tests)
+
+  octets_in : (o : List ℕ) (start i : ℕ) → IsOctets o → IsOctets (segment_of o start i)
+  octets_in o start i f zero = octet_small (length o) i ((start + i) % 64) (omega arith)
+  octets_in o start i f (suc j) = IsOctets-take (drop (249 * i) o) 249 (IsOctets-drop o (249 * i) f) j
+
+  data_right : (m : IsMaster asset) (segment : List ℕ) → IsOctets segment → length segment ≤ 250 → IsSpelled (data_frame asset segment)
+  data_right m segment o most =
+      subst (λ p. SpellsUnit p (data_frame asset segment) (unit_spelling (data_frame asset segment))) (sym m.dnp3) (record {
+        user = segment;
+        control = omega arith;
+        dest = m.station;
+        source = m.master;
+        user_octets = o;
+        at_most = most;
+        blocks = refl;
+        spelled = ap (λ user. link.spelling 0xc4 asset.station asset.master user) (user_again segment);
+      })
+
+  segments_right : (m : IsMaster asset) (o : List ℕ) (start n : ℕ) → IsOctets o → AllByRecursion IsSpelled (map (data_frame asset) (reverse (first_segments o start n)))
+  segments_right m o start zero f = tt
+  segments_right m o start (suc n) f =
+      let s = reverse (first_segments o start n) in
+      let last = segment_of o start n in
+      subst (AllByRecursion IsSpelled) (sym (ap (map (data_frame asset)) (reverse-append (last ∷ []) (first_segments o start n)) ∙ map-append (data_frame asset) s (last ∷ [])))
+      (all-append IsSpelled (map (data_frame asset) s) (data_frame asset last ∷ []) (segments_right m o start n f)
+      (data_right m last (octets_in o start n f) (omega (arith, length-take 249 (drop (249 * n) o))), tt))
+
+  one_right : (start : ℕ) (i : Passed) → IsRight i → AllByRecursion IsSpelled (units_of asset start i)
+  one_right start (Whole u) r = (r.1, tt)
+  one_right start (Fragment o) r = segments_right r.2 o start (count_of (length o)) r.1
+
+  pub units_right : (start : ℕ) (items : List Passed) → AreRight items → AllByRecursion IsSpelled (units_from asset start items)
+  units_right start [] all = tt
+  units_right start (i ∷ items) all =
+      all-append IsSpelled (units_of asset start i) (units_from asset (start_after start i) items) (one_right start i all.0) (units_right (start_after start i) items all.1)

@@ -1,0 +1,78 @@
+-- The commands of a client, and that exactly those are admitted which the policy allows: the main definition is
+-- `AdmitsWhatIsAllowed`, which stands last. This project's own.
+use Rattle.cf_apci.specs.Apdu.{Ack, ApduValue, Control, Info}
+use Rattle.cf_audit.specs.declared.line.CutReason.{CutReason}
+use Rattle.cf_dnpobj.specs.Fragment.{read_octets}
+use Rattle.cf_lane.specs.Dnp3.{is_data, is_none, stray_of, whole_now}
+use Rattle.cf_lane.specs.Follows.{AreJudged}
+use Rattle.cf_lane.specs.History.{Element}
+use Rattle.cf_lane.specs.Item.{Broke, Ended, Item, Took}
+use Rattle.cf_lane.specs.Judged.{Judged, is_admitted, is_refused}
+use Rattle.cf_lane.specs.Numbers.{info_cut}
+use Rattle.cf_lane.specs.Passes.{IsAllowedAsdu, IsAllowedCommand, IsAllowedFragment, confirms}
+use Rattle.cf_lane.specs.Unit.{Adu, Apdu, Frame}
+use Rattle.cf_lane.specs.declared.fate.Fate.{Fate}
+use Rattle.cf_modbus.specs.Adu.{AduValue}
+use Rattle.cf_policy.specs.declared.Asset.{Asset}
+use Rattle.std.specs.Prelude.{Bool, List, None, Option, Some, [], false, if◌then◌else◌, length, nat_lt, true, ℕ, ◌++◌, ◌∷◌, ◌≡◌, ◌⊎◌}
+use Rattle.cf_view.specs.declared.Side.TheVariants as side
+
+-- a command: an ADU of Modbus, a fragment of DNP3, or an ASDU of IEC 60870-5-104
+pub data Command : Type 0 where
+  OfModbus : AduValue → Command
+  OfDnp3 : (octets : List ℕ) → Command
+  OfIec104 : (asdu : List ℕ) → Command
+
+-- its station is the asset's, its form is read, and each of its acts is allowed
+abbrev pub Allows : Asset → (client : ℕ) → Command → Type 0
+Allows asset client (OfModbus a) = IsAllowedCommand asset client a
+Allows asset client (OfDnp3 octets) = IsAllowedFragment asset client octets
+Allows asset client (OfIec104 asdu) = IsAllowedAsdu asset client asdu
+
+-- a fragment is a command, but for one that is too short to be any and for a confirmation
+abbrev pub fragment_commands : (short : Bool) → List ℕ → List Command
+fragment_commands true octets = []
+fragment_commands false octets = if confirms (read_octets octets) then [] else OfDnp3 octets ∷ []
+
+abbrev pub whole_commands : List (List ℕ) → List Command
+whole_commands [] = []
+whole_commands (octets ∷ none) = fragment_commands (nat_lt (length octets) 2) octets
+
+-- a data frame that is served brings the fragment that it completes
+abbrev pub frame_commands : (served with_data : Bool) → List (List ℕ) → List Command
+frame_commands true true whole = whole_commands whole
+frame_commands true false whole = []
+frame_commands false with_data whole = []
+
+-- an I frame whose numbers are right brings an ASDU
+abbrev pub info_commands : Option CutReason → List ℕ → List Command
+info_commands None asdu = OfIec104 asdu ∷ []
+info_commands (Some because) asdu = []
+
+abbrev pub apdu_commands : List Judged → ApduValue → List Command
+apdu_commands earlier (Info send receive asdu) = info_commands (info_cut side.Client earlier send receive) asdu
+apdu_commands earlier (Ack receive) = []
+apdu_commands earlier (Control octet) = []
+
+-- the command that an item brings, after the earlier ones, if one
+abbrev pub commands_by : Asset → List Judged → Item → List Command
+commands_by asset earlier (Took side.Client (Adu a)) = OfModbus a ∷ []
+commands_by asset earlier (Took side.Client (Frame x)) =
+    frame_commands (is_none (stray_of asset side.Client x)) (is_data x) (whole_now asset side.Client earlier x)
+commands_by asset earlier (Took side.Client (Apdu a)) = apdu_commands earlier a
+commands_by asset earlier (Took side.Controller u) = []
+commands_by asset earlier (Ended s n) = []
+commands_by asset earlier (Broke s because) = []
+
+-- a command is admitted where it is allowed, and refused where it is not; what brings none is neither
+abbrev pub IsDecided : Asset → (client : ℕ) → List Command → Fate → Type 0
+IsDecided asset client [] f = (is_admitted f ≡ false) × (is_refused f ≡ false)
+IsDecided asset client (c ∷ none) f =
+    ((is_admitted f ≡ true) × Allows asset client c) ⊎ ((is_refused f ≡ true) × (Allows asset client c → ⊥))
+
+-- each item of a history is decided so
+abbrev pub AdmitsWhatIsAllowed : Type 0
+AdmitsWhatIsAllowed =
+    (asset : Asset) (client : ℕ) (h : List Element) (earlier later : List Judged) (j : Judged) →
+    AreJudged asset client h (earlier ++ j ∷ later) →
+    IsDecided asset client (commands_by asset earlier j.item) j.fate

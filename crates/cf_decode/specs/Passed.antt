@@ -1,0 +1,25 @@
+-- What goes to the controller of a session, one after the other: the main definition is `passed`, which stands last. Which
+-- items go on is the fate of each (cf_lane, `Fate`). This project's own.
+use Rattle.cf_decode.specs.Dnp3.{passed_by_frame}
+use Rattle.cf_decode.specs.Iec104.{passed_by_apdu}
+use Rattle.cf_decode.specs.Modbus.{passed_by_adu}
+use Rattle.cf_decode.specs.Units.{Passed}
+use Rattle.cf_lane.specs.Item.{Broke, Ended, Item, Took}
+use Rattle.cf_lane.specs.Judged.{Judged, in_turn}
+use Rattle.cf_lane.specs.Unit.{Adu, Apdu, Frame}
+use Rattle.cf_policy.specs.declared.Asset.{Asset}
+use Rattle.std.specs.Prelude.{List, []}
+use Rattle.cf_view.specs.declared.Side.TheVariants as side
+
+-- what goes to the controller by an item, after the earlier ones: one case a protocol. Nothing goes there that the controller sent
+abbrev pub passed_by : Asset → List Judged → Judged → Item → List Passed
+passed_by asset earlier j (Took side.Client (Adu a)) = passed_by_adu j.fate a
+passed_by asset earlier j (Took side.Client (Frame x)) = passed_by_frame asset earlier j.fate x
+passed_by asset earlier j (Took side.Client (Apdu a)) = passed_by_apdu earlier j.fate a
+passed_by asset earlier j (Took side.Controller u) = []
+passed_by asset earlier j (Ended s n) = []
+passed_by asset earlier j (Broke s because) = []
+
+-- what goes to the controller by judged items, in their order
+abbrev pub passed : Asset → List Judged → List Passed
+passed asset js = in_turn (λ earlier j. passed_by asset earlier j j.item) [] js

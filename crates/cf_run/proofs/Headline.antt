@@ -1,0 +1,67 @@
+-- The headline of a run.
+use Rattle.std.proofs.Common.{◌≡◌, ℕ, ◌^◌, ◌≤◌, true, false, if◌then◌else◌, List, [], ◌∷◌, ◌++◌, map, refl, sym, ap, ◌∙◌, subst}
+use Rattle.std.proofs.lemmas.Bool.{cases_Bool}
+use Rattle.cf_decode.specs.Laws.{FragmentsDecode}
+use Rattle.cf_decode.specs.Passed.{passed}
+use Rattle.cf_lane.specs.Judged.{Judged}
+use Rattle.cf_lane.specs.Output.{outputs, stream_to}
+use Rattle.cf_policy.specs.declared.Asset.{Asset}
+use Rattle.cf_session.specs.Event.{AreEvents as AreSessionEvents}
+use Rattle.cf_session.specs.Laws.{HasOneStream as SessionHasOneStream, IsFront, WorkIsOfTheTaken}
+use Rattle.cf_session.specs.Session.{Flow, SessionEvent, client_of, history, work_of}
+use Rattle.cf_session.specs.Work.{Work, Works}
+use Rattle.cf_stream.specs.Stream.{Byte, End, Letter, Stream, letters}
+use Rattle.cf_view.specs.declared.Side.TheVariants as side
+use Rattle.cf_run.specs.Headline.{Decodes, HasHeadline, IsFaithful, RunsHaveHeadline, bytes_among}
+use Rattle.cf_run.specs.Sessions.{HasEvents, IsRight, sessions_of}
+use Rattle.cf_run.specs.Table.{Session}
+use Rattle.cf_run.specs.Trace.{AreEvents, Event}
+use Rattle.cf_run.proofs.Isolation.{right_events, uncut_before}
+use Rattle.cf_run.proofs.Sessions.{each-map, sessions_right}
+
+-- ---- the bytes of a beginning of a stream are a beginning of its bytes
+
+bytes-append : (xs ys : List Letter) → bytes_among (xs ++ ys) ≡ bytes_among xs ++ bytes_among ys
+bytes-append [] ys = refl
+bytes-append (Byte b ∷ xs) ys = ap (λ l. b ∷ l) (bytes-append xs ys)
+bytes-append (End ∷ xs) ys = bytes-append xs ys
+
+bytes-bytes : (bs : List ℕ) → bytes_among (map Byte bs) ≡ bs
+bytes-bytes [] = refl
+bytes-bytes (b ∷ bs) = ap (λ l. b ∷ l) (bytes-bytes bs)
+
+bytes-none : (bs : List ℕ) → bs ++ [] ≡ bs
+bytes-none [] = refl
+bytes-none (b ∷ bs) = ap (λ l. b ∷ l) (bytes-none bs)
+
+bytes-letters : (bs : List ℕ) (ended : _) → bytes_among (letters (record { bytes = bs; ended = ended })) ≡ bs
+bytes-letters bs true = bytes-append (map Byte bs) (End ∷ []) ∙ bytes-none (bytes_among (map Byte bs)) ∙ bytes-bytes bs
+bytes-letters bs false = bytes-append (map Byte bs) [] ∙ bytes-none (bytes_among (map Byte bs)) ∙ bytes-bytes bs
+
+front_bytes : (whole : Stream) (taken : List Letter) → (h : IsFront whole taken) → whole.bytes ≡ bytes_among taken ++ bytes_among h.more
+front_bytes whole taken h = sym (bytes-letters whole.bytes whole.ended) ∙ ap bytes_among h.is ∙ bytes-append taken h.more
+
+-- ---- one session
+
+module _ (one : SessionHasOneStream) (works : WorkIsOfTheTaken) (fragments : FragmentsDecode) (limit : ℕ) (small : limit ≤ 2 ^ 30) where
+  faithful : (f : Flow) (es : List SessionEvent) → HasEvents limit f es → IsFaithful (record { flow = f; events = es })
+  faithful f es h =
+      let are : AreSessionEvents f limit es = right_events limit f es h in
+      let w : Works f.asset (client_of f) (history es) (work_of es) = works f limit es are in
+      record {
+        judged = w.judged;
+        is_judged = record { are_judged = w.are_judged; is_work = w.is_work };
+        decodes = λ taken re.
+            (let front : IsFront (work_of es).to_controller taken = (one f limit es taken small are (uncut_before limit f es h)).0 re in
+            let bytes : outputs f.asset side.Controller [] w.judged ≡ bytes_among taken ++ bytes_among front.more =
+                sym (ap (λ (x : Work). x.to_controller.bytes) w.is_work) ∙ front_bytes (work_of es).to_controller taken front in
+            record { front = front; makes = fragments f.asset (client_of f).address (history es) w.judged (bytes_among taken) (bytes_among front.more) w.are_judged bytes });
+      }
+
+  pub headline : (assets : List Asset) (es : List Event) → AreEvents assets limit es → HasHeadline es
+  headline assets [] h = tt
+  headline assets (e ∷ es) h =
+      (each-map (IsRight limit) IsFaithful (λ s right. faithful s.flow s.events right) (sessions_of (e ∷ es)) (sessions_right assets limit (e ∷ es) h), headline assets es h.1)
+
+pub has_headline : SessionHasOneStream → WorkIsOfTheTaken → FragmentsDecode → RunsHaveHeadline
+has_headline one works fragments assets limit es small h = headline one works fragments limit small assets es h

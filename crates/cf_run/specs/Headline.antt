@@ -1,0 +1,52 @@
+-- The headline, of all sessions of a run at every moment: HasHeadline. Read this file first.
+--
+-- In one session all segments that went towards the controller carry one letter per place of its stream, so whatever copies it
+-- takes, it puts together a beginning of one stream; and that decodes to the first of what was let through to it, in order, and
+-- then to a proper prefix of the next. What was let through is the list `passed` of the items that the policy's meaning judged;
+-- these are the items of all letters that were taken of the client by first copies (`cf_session`, `AreTaken`), and of what the
+-- controller sent. This project's own.
+use Rattle.std.specs.Prelude.{◌≡◌, ℕ, ◌^◌, ◌≤◌, List, [], ◌∷◌}
+use Rattle.cf_decode.specs.Laws.{MakesFirstOf}
+use Rattle.cf_decode.specs.Passed.{passed}
+use Rattle.cf_lane.specs.Follows.{AreJudged}
+use Rattle.cf_lane.specs.Judged.{Judged}
+use Rattle.cf_policy.specs.declared.Asset.{Asset}
+use Rattle.cf_session.specs.Laws.{IsFront, IsReassembly, parts_of}
+use Rattle.cf_session.specs.Session.{client_of, controller_ends, controllers, history, work_of}
+use Rattle.cf_session.specs.Work.{work_by}
+use Rattle.cf_stream.specs.Stream.{Byte, End, Letter}
+use Rattle.cf_run.specs.Sessions.{Each, sessions_of}
+use Rattle.cf_run.specs.Table.{Session}
+use Rattle.cf_run.specs.Trace.{AreEvents, Event}
+
+-- the bytes among letters
+abbrev pub bytes_among : List Letter → List ℕ
+bytes_among [] = []
+bytes_among (Byte b ∷ letters) = b ∷ bytes_among letters
+bytes_among (End ∷ letters) = bytes_among letters
+
+-- what was taken of both sides of a session has these judged items, and its streams, its log and its counts are theirs
+pub record IsJudged (session : Session) (judged : List Judged) : Type 0 where
+  pub are_judged : AreJudged session.flow.asset (client_of session.flow).address (history session.events) judged
+  pub is_work : work_of session.events ≡ work_by session.flow.asset (client_of session.flow) judged
+
+-- letters that a controller put together are a beginning of the stream to it, and decode to the first of what was let through
+pub record Decodes (session : Session) (judged : List Judged) (taken : List Letter) : Type 0 where
+  pub front : IsFront (work_of session.events).to_controller taken
+  pub makes : MakesFirstOf session.flow.asset (passed session.flow.asset judged) (bytes_among taken)
+
+-- so it is whatever copies of letters it takes of all segments that went to it
+pub record IsFaithful (session : Session) : Type 0 where
+  pub judged : List Judged
+  pub is_judged : IsJudged session judged
+  pub decodes :
+      (taken : List Letter) → IsReassembly (parts_of (controller_ends session.flow).role (controllers session.events)) taken →
+      Decodes session judged taken
+
+-- so it is after each event of a run, of those in the table and those that left it
+abbrev pub HasHeadline : List Event → Type 0
+HasHeadline [] = Unit {0}
+HasHeadline (event ∷ earlier) = Each IsFaithful (sessions_of (event ∷ earlier)) × HasHeadline earlier
+
+abbrev pub RunsHaveHeadline : Type 0
+RunsHaveHeadline = (assets : List Asset) (limit : ℕ) (events : List Event) → limit ≤ 2 ^ 30 → AreEvents assets limit events → HasHeadline events
