@@ -6,6 +6,7 @@ pub mod Kept
 pub mod Listing
 pub mod Numerals
 pub mod OutputFiles
+pub mod RunHolds
 pub mod Runs
 pub mod Sifting
 pub mod Statuses

@@ -66,7 +66,7 @@ module _ (failed : Type 0) (status : ℕ) where
   not_two r h is = other r 2 h is (omega arith) (omega arith)
 
   -- work that stopped was not done
-  not_done : (s : Stop) → IsOf (Err s) failed status → status ≢ 0
+  pub not_done : (s : Stop) → IsOf (Err s) failed status → status ≢ 0
   not_done stop.ReadFault h is = other (Err stop.ReadFault) 0 h is (omega arith) (omega arith)
   not_done s h is = other (Err s) 0 h is (omega arith) (omega arith)
 

@@ -9,6 +9,7 @@ pub mod Packets
 pub mod PolicyFile
 pub mod Relay
 pub mod Run
+pub mod RunHolds
 pub mod Sift
 pub mod Status
 pub mod Words

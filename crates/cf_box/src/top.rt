@@ -1,13 +1,15 @@
 //! The top call.
 ghost use Rattle.std.specs.Prelude.{◌≡◌, ◌≤◌, ◌⊎◌, ◌↔◌, IsNone, List, Some, map, string_bytes, ℕ};
-ghost use Rattle.cf_box.specs.Command.{Packets, Sift, SiftNamesValue};
+ghost use Rattle.cf_box.specs.Command.{Packets, Run, Sift, SiftNamesValue};
 ghost use Rattle.cf_box.specs.Ends.{Ends, Meets};
 ghost use Rattle.cf_box.specs.Outputs.{KeepsAllBut};
 ghost use Rattle.cf_box.specs.Outside.{FilesNeverFall, PairValue, files_value, outside, outside_value, sink_value};
 ghost use Rattle.cf_box.specs.Packets.{Lists};
+ghost use Rattle.cf_box.specs.RunHolds.{RunHolds};
 ghost use Rattle.cf_box.specs.Status.{CutsItsCapture, IsComplete, IsExactly, IsStatus, LacksItsAsset, RefusesItsCapture, RefusesItsPolicy, SiftPassesAllowed, WritesNothing, outputs_of};
 ghost use Rattle.cf_box.specs.Words.{HasApartFiles, command_of, command_value};
 ghost use Rattle.cf_outside.specs.Faults.{Rose};
+ghost use Rattle.cf_run.specs.RunCapture.{RunNamesValue};
 
 use crate::check::check;
 use crate::command::{Command, read_words};
@@ -16,6 +18,7 @@ use crate::packets::packets;
 use crate::run::run;
 use crate::sift::sift;
 use cf_outside::{Files, Pair, Sink};
+use cf_run::runs_have_headline;
 use std::alloc::Global;
 
 /// Does what a command asks for. Nothing is asked of the pair yet.
@@ -95,12 +98,19 @@ pub fn box_main<F: Files, O: Sink, P: Pair>(
         SiftPassesAllowed policy asset client names (outside_value F.Files O.Sink P.Pair files.old out.old pair.old)
         (outside_value F.Files O.Sink P.Pair files.new out.new pair.new) }
 
+    // The headline: the outputs of a run are what the policy and the capture's records make of them, and whatever copies of
+    // segments a controller takes decode to the first of what the policy lets through.
+    ensures headline { (policy : List ℕ) (names : RunNamesValue) → command_of (map string_bytes words.now) ≡ Some (Run policy names) → result ≡ 0 →
+        RunHolds policy names (outside_value F.Files O.Sink P.Pair files.old out.old pair.old)
+        (outside_value F.Files O.Sink P.Pair files.new out.new pair.new) }
+
     // No file is written but the outputs of the command, and none at all where the words, the policy or the asset are at fault;
     // and nothing is asked of the pair.
     ensures kept { KeepsAllBut (F.content files.old) (F.content files.new) (outputs_of (command_of (map string_bytes words.now))) }
     ensures unwritten { WritesNothing result → F.content files.new ≡ F.content files.old }
     ensures pair { pair.new ≡ pair.old }
 {
+    runs_have_headline();
     let _ = pair;
     match read_words(words) {
         None => put_text("usage\n", 2, 2, out),

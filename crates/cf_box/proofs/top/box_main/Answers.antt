@@ -8,6 +8,7 @@ use Rattle.cf_box.specs.Words.{command_value}
 use Rattle.cf_box.proofs.Complete.{complete_told}
 use Rattle.cf_box.proofs.Exact.{exact_told}
 use Rattle.cf_box.proofs.Kept.{kept_told, unwritten_told}
+use Rattle.cf_box.proofs.RunHolds.{run_told}
 use Rattle.cf_box.proofs.Statuses.{Explains, capture_told, cut_told, lack_told, lists_told, passes_told, read_told, refusal_told, write_told}
 use Rattle.cf_box.proofs.top.box_main.Given.{Over}
 use Rattle.cf_box.proofs.top.box_main.Goals as goal
@@ -84,3 +85,7 @@ returns-in-Some-clause-kept g c =
 
 pub returns-in-Some-clause-unwritten : goal.returns-in-Some-clause-unwritten
 returns-in-Some-clause-unwritten g c = unwritten_told (explains g c)
+
+pub returns-in-Some-clause-headline : goal.returns-in-Some-clause-headline
+returns-in-Some-clause-headline g c = λ policy names is. run_told c.runs_have_headline.ensures (explains g c) policy names
+    (let known = c.in-Some.ensures.command in cc)
