@@ -13,13 +13,10 @@ pub fn expect_files<R: FileSystem>(
     match command {
         Command::Check { policy } => files.expect(policy),
         Command::Packets { capture } => files.expect(capture),
-        Command::Run {
-            policy,
-            capture,
-            out,
-            log,
+        Command::Run { policy, names } => {
+            expect_four(files, [policy, names.capture, names.out, names.log])
         }
-        | Command::World {
+        Command::World {
             policy,
             capture,
             out,
