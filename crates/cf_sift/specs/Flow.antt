@@ -1,9 +1,9 @@
 -- What is kept between two elements of a stored stream, and what it stands for: IsFlowOf.
-use Rattle.std.specs.Prelude.{◌≡◌, ◌⊎◌, take, ℕ, ◌+◌, ◌^◌, ◌<◌, ◌≤◌, Bool, true, false, List, [], length, Option, None}
+use Rattle.std.specs.Prelude.{◌≡◌, ◌⊎◌, ◌++◌, ◌∷◌, take, ℕ, ◌+◌, ◌^◌, ◌<◌, ◌≤◌, Bool, true, false, List, [], length, Option, None}
 use Rattle.cf_audit.specs.declared.line.CutReason.{CutReason}
-use Rattle.cf_lane.specs.Follows.{Follows, Rests}
+use Rattle.cf_lane.specs.Follows.{Began, Follows, Rests, rest_of}
 use Rattle.cf_lane.specs.Handled.{IsLaneOf, State, debt, state}
-use Rattle.cf_lane.specs.History.{Element, taken}
+use Rattle.cf_lane.specs.History.{Element, end_at, taken}
 use Rattle.cf_outq.specs.SendQueue.{Queue, queue_length}
 use Rattle.cf_outside.specs.Files.{Content, with_appended}
 use Rattle.cf_outside.specs.Lines.{ends_with_line, file_lines}
@@ -58,6 +58,12 @@ module _ (asset : Asset) (client : Endpoint) (names : SiftNamesValue) (first now
     pub by_item : Option CutReason
     pub flow_of : IsFlowOf history by_item flow
     pub is_cut : cut_behind asset history flow_of.follows.judged ≡ cut
+
+-- the line of an End of the client failed, where so many bytes were left: so it is of each history that was followed
+abbrev pub EndFails : Asset → (rest : ℕ) → State → (log : Option (List (List ℕ))) → (part : List ℕ) → Type 0
+EndFails asset rest old log part =
+    (h : List Element) (rests : Rests) (first : Option (List (List ℕ))) → rest ≡ length (rest_of side.Client rests) → Follows asset h rests None first old →
+    Began asset old.lane.client (h ++ end_at 0 side.Client ∷ []) first log part
 
 -- a queue got more bytes, and is else as it was
 abbrev pub HasGrown : (old new : Queue) → Type 0

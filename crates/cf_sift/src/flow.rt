@@ -1,8 +1,8 @@
 //! A lane with its queues, fed with the bytes of a client alone.
-ghost use Rattle.std.specs.Prelude.{◌≡◌, ◌+◌, ◌*◌, ◌^◌, ◌<◌, ◌≤◌, ◌++◌, ◌∷◌, ℕ, List, [], Option, None, true, false, IfOk, OnOk, OnErr, IsErr, length, drop};
-ghost use Rattle.cf_lane.specs.Follows.{Began, BeganWithin, Follows};
+ghost use Rattle.std.specs.Prelude.{◌≡◌, ◌+◌, ◌*◌, ◌^◌, ◌<◌, ◌≤◌, ◌++◌, ◌∷◌, ℕ, Bool, List, [], Option, None, true, false, IfOk, OnOk, OnErr, IsErr, length, drop};
+ghost use Rattle.cf_lane.specs.Follows.{Began, BeganWithin, FailsWithin, Follows, IsEndBehindCut, Rests, rest_of, with_rest};
 ghost use Rattle.cf_lane.specs.Handled.{CountsBy, Grows, HasRoom, IsLaneOf, LaneValue, debt, state};
-ghost use Rattle.cf_lane.specs.History.{Element, bytes_at, end_at};
+ghost use Rattle.cf_lane.specs.History.{Element, bytes_at, end_at, letters_at};
 ghost use Rattle.cf_lane.specs.Limit.{limit_by};
 ghost use Rattle.cf_outq.specs.SendQueue.{IsQueueOf, after_end, queue_length};
 ghost use Rattle.cf_outside.specs.Faults.{HasCause};
@@ -10,7 +10,7 @@ ghost use Rattle.cf_outside.specs.Files.{KeepsOthers};
 ghost use Rattle.cf_outside.specs.Lines.{ends_with_line, file_lines, file_part};
 ghost use Rattle.cf_policy.specs.Within.{IsAssetWithin};
 ghost use Rattle.cf_stream.specs.Stream.{Stream};
-ghost use Rattle.cf_sift.specs.Flow.{HasGrown, IsReady, MovesFail, rests_of, state_of};
+ghost use Rattle.cf_sift.specs.Flow.{EndFails, HasGrown, IsReady, MovesFail, rests_of, state_of};
 ghost use Rattle.cf_sift.specs.Drained.{Drains};
 ghost use Rattle.cf_sift.specs.Names.{AreApart, sift_names_value, sift_output_names};
 ghost use Rattle.cf_sift.specs.Outputs.{KeepsAllBut};
@@ -213,13 +213,15 @@ fn feed_lane<F: Files>(
     requires controller_room { HasRoom (debt lane.old + 2 * length (rest.now ++ piece.now)) to_controller.old }
     requires counts { lane.old.admitted + lane.old.refused + length (rest.now ++ piece.now) < 2 ^ 64 }
     ensures used { IfOk result (λ fed. fed.used ≤ length (rest.now ++ piece.now)) }
-    ensures history { IfOk result (λ fed. (h : List Element) (first : Option (List (List ℕ)))
-        → Follows asset.now h (rests_of rest.now) None first (state lane.old to_client.old to_controller.old (file_lines (F.content files.old log.now)))
-        → Follows asset.now (h ++ bytes_at 0 Side.Client piece.now ∷ []) (rests_of (drop fed.used (rest.now ++ piece.now))) fed.cut first
+    ensures history { IfOk result (λ fed. (h : List Element) (rests : Rests) (first : Option (List (List ℕ))) (more : List ℕ) (ended : Bool)
+        → IsEndBehindCut ended fed.cut
+        → rest.now ++ piece.now ≡ rest_of Side.Client rests ++ more
+        → Follows asset.now h rests None first (state lane.old to_client.old to_controller.old (file_lines (F.content files.old log.now)))
+        → Follows asset.now (h ++ letters_at 0 Side.Client more ended ∷ []) (with_rest Side.Client rests (drop fed.used (rest.now ++ piece.now))) fed.cut first
         (state lane.new to_client.new to_controller.new (file_lines (F.content files.new log.now)))) }
-    ensures fails { OnErr result ((h : List Element) (first : Option (List (List ℕ)))
-        → Follows asset.now h (rests_of rest.now) None first (state lane.old to_client.old to_controller.old (file_lines (F.content files.old log.now)))
-        → BeganWithin asset.now lane.old.client h 0 Side.Client piece.now first (file_lines (F.content files.new log.now)) (file_part (F.content files.new log.now))) }
+    ensures fails { OnErr result (FailsWithin asset.now 0 Side.Client (rest.now ++ piece.now)
+        (state lane.old to_client.old to_controller.old (file_lines (F.content files.old log.now)))
+        (file_lines (F.content files.new log.now)) (file_part (F.content files.new log.now))) }
     ensures client { OnOk result (LaneValue.client lane.new ≡ LaneValue.client lane.old) }
     ensures of_asset { OnOk result (IsLaneOf asset.now lane.new) }
     ensures left { IfOk result (λ fed. fed.cut ≡ None → length (drop fed.used (rest.now ++ piece.now)) < 300) }
@@ -263,13 +265,12 @@ fn end_lane<F: Files>(
     requires whole { ends_with_line (F.content files.old log.now) ≡ true }
     requires goes { to_controller.old.ended ≡ false }
     requires limit { to_controller.old.pushed < 2 ^ 31 }
-    ensures history { OnOk result ((h : List Element) (left : List ℕ) (first : Option (List (List ℕ))) → rest ≡ length left
-        → Follows asset.now h (rests_of left) None first (state lane.old to_client.old to_controller.old (file_lines (F.content files.old log.now)))
-        → Follows asset.now (h ++ end_at 0 Side.Client ∷ []) (rests_of left) None first
+    ensures history { OnOk result ((h : List Element) (rests : Rests) (first : Option (List (List ℕ))) → rest ≡ length (rest_of Side.Client rests)
+        → Follows asset.now h rests None first (state lane.old to_client.old to_controller.old (file_lines (F.content files.old log.now)))
+        → Follows asset.now (h ++ end_at 0 Side.Client ∷ []) rests None first
         (state lane.new to_client.new to_controller.new (file_lines (F.content files.new log.now)))) }
-    ensures fails { OnErr result ((h : List Element) (left : List ℕ) (first : Option (List (List ℕ))) → rest ≡ length left
-        → Follows asset.now h (rests_of left) None first (state lane.old to_client.old to_controller.old (file_lines (F.content files.old log.now)))
-        → Began asset.now lane.old.client (h ++ end_at 0 Side.Client ∷ []) first (file_lines (F.content files.new log.now)) (file_part (F.content files.new log.now))) }
+    ensures fails { OnErr result (EndFails asset.now rest (state lane.old to_client.old to_controller.old (file_lines (F.content files.old log.now)))
+        (file_lines (F.content files.new log.now)) (file_part (F.content files.new log.now))) }
     ensures lane { lane.new ≡ lane.old }
     ensures to_client { OnOk result (to_client.new ≡ to_client.old) }
     ensures to_controller { OnOk result (to_controller.new ≡ after_end to_controller.old) }
