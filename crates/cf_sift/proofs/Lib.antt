@@ -1,3 +1,4 @@
 mod Draining
 mod Ends
+mod Feeding
 mod Pieces
