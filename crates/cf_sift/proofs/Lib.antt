@@ -1,4 +1,7 @@
 mod Draining
+mod Elements
 mod Ends
 mod Feeding
+mod Logs
 mod Pieces
+mod Stored

@@ -1,0 +1,171 @@
+-- A flow that took an element.
+use Rattle.std.proofs.Common.{◌≡◌, ◌+◌, ◌≤◌, ◌<◌, ◌^◌, ◌⊎◌, ℕ, Bool, true, false, None, Some, Option, List, [], ◌∷◌, ◌++◌, length, take, drop, refl, sym, ap, ◌∙◌, append_assoc, subst, inl, inr, arith, cond}
+use Rattle.std.specs.Option.{option_or}
+use Rattle.std.specs.Prelude.{nat_le, ◌||◌, ◌&&◌, if◌then◌else◌}
+use Rattle.std.specs.List.{list_any}
+use Rattle.std.proofs.Math.Seq.{take-append-add, drop-append-add}
+use Rattle.std.proofs.lemmas.List.{append-nil, length-append, length-drop}
+use Rattle.cf_audit.specs.declared.line.CutReason.{CutReason}
+use Rattle.cf_lane.specs.Follows.{AreJudged, Began, BeganWithin, Follows}
+use Rattle.cf_lane.specs.Handled.{State}
+use Rattle.cf_lane.specs.History.{Element, bytes_at, bytes_in, bytes_of, end_at, ended_of, is_side, taken}
+use Rattle.cf_lane.specs.Judged.{Judged, cut_of}
+use Rattle.cf_lane.specs.Laws.{GoOn, StreamsGoOn}
+use Rattle.cf_lane.specs.Limit.{limit_by, limit_cut}
+use Rattle.cf_lane.specs.Log.{lines, with_lines}
+use Rattle.cf_lane.specs.Output.{outputs, stream_to}
+use Rattle.cf_lane.specs.declared.limit.TheConstants.{LETTER_LIMIT}
+use Rattle.cf_outq.specs.SendQueue.{IsQueueOf, Queue, after_end, queue_length}
+use Rattle.cf_outside.specs.Files.{Content, with_appended}
+use Rattle.cf_outside.specs.Lines.{ends_with_line, file_lines, file_part}
+use Rattle.cf_outside.proofs.Content.{with_appended-twice}
+use Rattle.cf_policy.specs.declared.Asset.{Asset}
+use Rattle.cf_stream.specs.Stream.{Stream, letter_count}
+use Rattle.cf_view.specs.declared.Endpoint.{Endpoint}
+use Rattle.cf_view.specs.declared.Side.{Side}
+use Rattle.cf_view.specs.declared.Side.TheVariants as side
+use Rattle.cf_sift.specs.Drained.{Drains}
+use Rattle.cf_sift.specs.Flow.{HasGrown, IsDrained, IsFlowAfter, IsFlowOf, IsReady, MovesFail, MovesPart, rests_of, state_of}
+use Rattle.cf_sift.specs.Names.{SiftNamesValue}
+use Rattle.cf_sift.specs.Sifted.{BeginsLines, ElementFails, HasLines, HaveOutput, LineFails, OutFails, RepliesFail}
+use Rattle.cf_sift.specs.Stored.{cut_behind}
+use Rattle.cf_sift.specs.declared.flow.Flow.{Flow}
+use Rattle.cf_sift.proofs.Logs.{lines_begun, lines_told}
+
+-- a drained queue has all of its bytes acknowledged
+acked_all : (q : Queue) (w : Stream) → IsDrained q → IsQueueOf q w → q.acked ≡ length w.bytes
+acked_all q w d h =
+    let ended : w.ended ≡ false = sym h.ended ∙ d.goes in
+    let count : letter_count w ≡ length w.bytes = ap (λ b. length w.bytes + cond b 1 0) ended ∙ omega arith in
+    let none : length (drop q.acked w.bytes) ≡ 0 = ap length (sym h.kept ∙ d.kept) in
+    omega (arith, h.acked, h.sent, count, none, length-drop q.acked w.bytes)
+
+-- what it keeps then is what its stream got more
+kept_more : (q r : Queue) (v w : Stream) (more : List ℕ) → IsDrained q → IsQueueOf q v → HasGrown q r → IsQueueOf r w → w.bytes ≡ v.bytes ++ more → r.kept ≡ more
+kept_more q r v w more d hq grown hr goes =
+    let acked : r.acked ≡ q.acked = ap (λ (x : Queue). x.acked) grown in
+    let count : r.acked ≡ length v.bytes + 0 = acked ∙ acked_all q v d hq ∙ omega arith in
+    hr.kept ∙ ap (λ n. drop n w.bytes) count ∙ ap (drop (length v.bytes + 0)) goes ∙ drop-append-add v.bytes more 0
+
+-- a file that had the stream before has the stream now
+file_more : (v w more : List ℕ) (kept : List ℕ) (first c d : Content) → w ≡ v ++ more → kept ≡ more → c ≡ with_appended first v → d ≡ with_appended c kept →
+    d ≡ with_appended first w
+file_more v w more kept first c d goes is had now =
+    now ∙ ap (with_appended c) is ∙ ap (λ x. with_appended x more) had ∙ with_appended-twice first v more ∙ ap (with_appended first) (sym goes)
+
+-- or a beginning of it
+file_part_more : (v w more : List ℕ) (kept : List ℕ) (first c d : Content) → w ≡ v ++ more → kept ≡ more → c ≡ with_appended first v →
+    ((k : ℕ) × (d ≡ with_appended c (take k kept))) → (k : ℕ) × (d ≡ with_appended first (take k w))
+file_part_more v w more kept first c d goes is had (k, now) =
+    (length v + k, now ∙ ap (λ l. with_appended c (take k l)) is ∙ ap (λ x. with_appended x (take k more)) had ∙ with_appended-twice first v (take k more)
+    ∙ ap (with_appended first) (sym (take-append-add v more k) ∙ ap (take (length v + k)) (sym goes)))
+
+-- the bytes of a side in a history with one more element
+bytes_of-last : (s : Side) (h : List Element) (e : Element) → bytes_of s (h ++ e ∷ []) ≡ bytes_of s h ++ bytes_in s e
+bytes_of-last s [] e = append-nil (bytes_in s e)
+bytes_of-last s (x ∷ h) e = ap (λ l. bytes_in s x ++ l) (bytes_of-last s h e) ∙ sym (append_assoc (bytes_in s x) (bytes_of s h) (bytes_in s e))
+
+ended_of-last : (s : Side) (h : List Element) (e : Element) → ended_of s (h ++ e ∷ []) ≡ (ended_of s h || (is_side s e.side && e.letters.ended))
+ended_of-last s [] e = or_nothing (is_side s e.side && e.letters.ended)
+  where
+    or_nothing : (b : Bool) → (b || false) ≡ b
+    or_nothing true = refl
+    or_nothing false = refl
+ended_of-last s (x ∷ h) e =
+    ap (λ b. (is_side s x.side && x.letters.ended) || b) (ended_of-last s h e) ∙ or_assoc (is_side s x.side && x.letters.ended) (ended_of s h) (is_side s e.side && e.letters.ended)
+  where
+    or_assoc : (a b c : Bool) → (a || (b || c)) ≡ ((a || b) || c)
+    or_assoc true b c = refl
+    or_assoc false b c = refl
+
+or_false : (b : Bool) → (b || false) ≡ b
+or_false true = refl
+or_false false = refl
+
+-- how many letters were taken of each side
+pub taken_piece : (h : List Element) (piece : List ℕ) →
+    letter_count (taken side.Client (h ++ bytes_at 0 side.Client piece ∷ [])) ≡ letter_count (taken side.Client h) + length piece
+taken_piece h piece =
+    let e = bytes_at 0 side.Client piece in
+    let bytes = ap length (bytes_of-last side.Client h e) ∙ length-append (bytes_of side.Client h) piece in
+    let ended : ended_of side.Client (h ++ e ∷ []) ≡ ended_of side.Client h = ended_of-last side.Client h e ∙ or_false (ended_of side.Client h) in
+    ap (λ n. n + cond (ended_of side.Client (h ++ e ∷ [])) 1 0) bytes
+    ∙ ap (λ b. length (bytes_of side.Client h) + length piece + cond b 1 0) ended ∙ omega arith
+
+pub taken_other : (h : List Element) (piece : List ℕ) (ended : Bool) →
+    letter_count (taken side.Controller (h ++ record { moment = 0; side = side.Client; letters = record { bytes = piece; ended = ended } } ∷ [])) ≡ letter_count (taken side.Controller h)
+taken_other h piece ended =
+    let e : Element = record { moment = 0; side = side.Client; letters = record { bytes = piece; ended = ended } } in
+    let bytes : bytes_of side.Controller (h ++ e ∷ []) ≡ bytes_of side.Controller h = bytes_of-last side.Controller h e ∙ append-nil (bytes_of side.Controller h) in
+    let over : ended_of side.Controller (h ++ e ∷ []) ≡ ended_of side.Controller h = ended_of-last side.Controller h e ∙ or_false (ended_of side.Controller h) in
+    ap (λ l. length l + cond (ended_of side.Controller (h ++ e ∷ [])) 1 0) bytes ∙ ap (λ b. length (bytes_of side.Controller h) + cond b 1 0) over
+
+module _ (asset : Asset) (client : Endpoint) (names : SiftNamesValue) (first : List ℕ → Content) where
+  -- a flow knows why its history is cut
+  pub cut_known : (now : List ℕ → Content) (h : List Element) (cut : Option CutReason) (flow : Flow) (f : IsFlowOf asset client names first now h cut flow) →
+      cut_behind asset h f.follows.judged ≡ option_or cut (limit_by LETTER_LIMIT flow.taken 0 (queue_length flow.to_client) (queue_length flow.to_controller))
+  cut_known now h cut flow f =
+      let js = f.follows.judged in
+      let c = f.follows.client_stream in
+      let k = f.follows.controller_stream in
+      let to_client : queue_length flow.to_client ≡ letter_count (stream_to asset side.Client js) =
+      ap (λ n. n + cond flow.to_client.ended 1 0) c.pushed ∙ ap (λ b. length (outputs asset side.Client [] js) + cond b 1 0) c.ended in
+      let to_controller : queue_length flow.to_controller ≡ letter_count (stream_to asset side.Controller js) =
+      ap (λ n. n + cond flow.to_controller.ended 1 0) k.pushed ∙ ap (λ b. length (outputs asset side.Controller [] js) + cond b 1 0) k.ended in
+      let limit : limit_cut LETTER_LIMIT h (stream_to asset side.Client js) (stream_to asset side.Controller js)
+      ≡ limit_by LETTER_LIMIT flow.taken 0 (queue_length flow.to_client) (queue_length flow.to_controller) =
+      ap (λ n. limit_by LETTER_LIMIT n (letter_count (taken side.Controller h)) (letter_count (stream_to asset side.Client js)) (letter_count (stream_to asset side.Controller js))) (sym f.letters)
+      ∙ ap (λ n. limit_by LETTER_LIMIT flow.taken n (letter_count (stream_to asset side.Client js)) (letter_count (stream_to asset side.Controller js))) f.quiet
+      ∙ ap (λ n. limit_by LETTER_LIMIT flow.taken 0 n (letter_count (stream_to asset side.Controller js))) (sym to_client)
+      ∙ ap (λ n. limit_by LETTER_LIMIT flow.taken 0 (queue_length flow.to_client) n) (sym to_controller) in
+      ap (λ c. option_or c (limit_cut LETTER_LIMIT h (stream_to asset side.Client js) (stream_to asset side.Controller js))) f.follows.is_cut ∙ ap (option_or cut) limit
+
+  -- the judged items of one more element, of this client
+  module _ (go : StreamsGoOn) (old : List ℕ → Content) (h : List Element) (flow : Flow) (before : IsFlowOf asset client names first old h None flow) where
+    abbrev were : List Judged
+    were = before.follows.judged
+
+    were_judged : AreJudged asset client.address h were
+    were_judged = subst (λ (e : Endpoint). AreJudged asset e.address h were) before.of_client before.follows.are_judged
+
+    -- a line failed
+    pub line_fails : (part element : Element) (rest : List ℕ) (now : List ℕ → Content) → element ≡ record { moment = part.moment; side = part.side; letters = record { bytes = part.letters.bytes ++ rest; ended = part.letters.ended } } →
+        Began asset flow.lane.client (h ++ part ∷ []) (file_lines (first names.log)) (file_lines (now names.log)) (file_part (now names.log)) →
+        now names.out ≡ old names.out → now names.replies ≡ old names.replies → LineFails asset client names first now h were element
+    line_fails part element rest now is began out replies =
+        let b = subst (λ (e : Endpoint). Began asset e (h ++ part ∷ []) (file_lines (first names.log)) (file_lines (now names.log)) (file_part (now names.log))) before.of_client began in
+        record {
+          part = part;
+          front = (rest, is);
+          judged = b.judged;
+          are_judged = b.are_judged;
+          of_out = out ∙ before.of_out;
+          of_replies = replies ∙ before.of_replies;
+          of_log = subst (λ ls. BeginsLines ls (first names.log) (now names.log)) (sym (append-nil (lines asset client [] b.judged)))
+              (lines_begun (first names.log) (now names.log) (lines asset client [] b.judged) b.count b.some before.log_first b.of_lines b.of_part);
+        }
+
+    -- an element was fed
+    module _ (e : Element) (rest : List ℕ) (cut : Option CutReason) (lane_client : flow.lane.client ≡ flow.lane.client) (mid : Flow) (now : List ℕ → Content)
+        (fed : Follows asset (h ++ e ∷ []) (rests_of rest) cut (file_lines (first names.log)) (state_of mid (now names.log)))
+        (same_client : mid.lane.client ≡ flow.lane.client)
+        (out : now names.out ≡ old names.out) (replies : now names.replies ≡ old names.replies) (whole : ends_with_line (now names.log) ≡ true) where
+      abbrev are : List Judged
+      are = fed.judged
+
+      pub are_judged : AreJudged asset client.address (h ++ e ∷ []) are
+      are_judged = subst (λ (p : Endpoint). AreJudged asset p.address (h ++ e ∷ []) are) (same_client ∙ before.of_client) fed.are_judged
+
+      pub goes : GoOn asset client were are
+      goes = go asset client h (e ∷ []) were are were_judged are_judged
+
+      -- the log has the lines
+      pub has_lines : (new : List ℕ → Content) → new names.log ≡ now names.log → HasLines (lines asset client [] are ++ []) (first names.log) (new names.log)
+      has_lines new same =
+          let of_lines = subst (λ (p : Endpoint). file_lines (now names.log) ≡ with_those p) (same_client ∙ before.of_client) fed.of_lines in
+          subst (HasLines (lines asset client [] are ++ []) (first names.log)) (sym same)
+          (subst (λ ls. HasLines ls (first names.log) (now names.log)) (sym (append-nil (lines asset client [] are)))
+          (lines_told (first names.log) (now names.log) (lines asset client [] are) before.log_first whole of_lines))
+        where
+          abbrev with_those : Endpoint → Option (List (List ℕ))
+          with_those p = with_lines (file_lines (first names.log)) (lines asset p [] are)
