@@ -6,8 +6,9 @@ use Rattle.std.specs.List.{list_any}
 use Rattle.std.proofs.Math.Seq.{take-append-add, drop-append-add}
 use Rattle.std.proofs.lemmas.List.{append-nil, length-append, length-drop}
 use Rattle.cf_audit.specs.declared.line.CutReason.{CutReason}
-use Rattle.cf_lane.specs.Follows.{AreJudged, Began, BeganWithin, Follows}
-use Rattle.cf_lane.specs.Handled.{State}
+use Rattle.cf_lane.specs.Follows.{AreJudged, AreRests, Began, Follows}
+use Rattle.cf_lane.specs.Handled.{LaneValue}
+use Rattle.cf_lane.specs.Kept.{KnowsWire}
 use Rattle.cf_lane.specs.History.{Element, bytes_at, bytes_in, bytes_of, end_at, ended_of, is_side, taken}
 use Rattle.cf_lane.specs.Judged.{Judged, cut_of}
 use Rattle.cf_lane.specs.Laws.{GoOn, StreamsGoOn}
@@ -23,6 +24,8 @@ use Rattle.cf_policy.specs.declared.Asset.{Asset}
 use Rattle.cf_stream.specs.Stream.{Stream, letter_count}
 use Rattle.cf_view.specs.declared.Endpoint.{Endpoint}
 use Rattle.cf_view.specs.declared.Side.{Side}
+use Rattle.std.proofs.lemmas.Bool.{cases_lt, le-leb}
+use Rattle.cf_audit.specs.declared.line.CutReason.TheVariants as reason
 use Rattle.cf_view.specs.declared.Side.TheVariants as side
 use Rattle.cf_sift.specs.Drained.{Drains}
 use Rattle.cf_sift.specs.Flow.{HasGrown, IsDrained, IsFlowAfter, IsFlowOf, IsReady, MovesFail, MovesPart, rests_of, state_of}
@@ -100,6 +103,62 @@ taken_other h piece ended =
     let over : ended_of side.Controller (h ++ e ∷ []) ≡ ended_of side.Controller h = ended_of-last side.Controller h e ∙ or_false (ended_of side.Controller h) in
     ap (λ l. length l + cond (ended_of side.Controller (h ++ e ∷ [])) 1 0) bytes ∙ ap (λ b. length (bytes_of side.Controller h) + cond b 1 0) over
 
+or_true : (b : Bool) → (b || true) ≡ true
+or_true true = refl
+or_true false = refl
+
+pub ended_piece : (h : List Element) (piece : List ℕ) → ended_of side.Client (h ++ bytes_at 0 side.Client piece ∷ []) ≡ ended_of side.Client h
+ended_piece h piece = ended_of-last side.Client h (bytes_at 0 side.Client piece) ∙ or_false (ended_of side.Client h)
+
+taken_end : (h : List Element) → ended_of side.Client h ≡ false → letter_count (taken side.Client (h ++ end_at 0 side.Client ∷ [])) ≡ letter_count (taken side.Client h) + 1
+taken_end h not_yet =
+    let e = end_at 0 side.Client in
+    let bytes : bytes_of side.Client (h ++ e ∷ []) ≡ bytes_of side.Client h = bytes_of-last side.Client h e ∙ append-nil (bytes_of side.Client h) in
+    let ended : ended_of side.Client (h ++ e ∷ []) ≡ true = ended_of-last side.Client h e ∙ or_true (ended_of side.Client h) in
+    let before : letter_count (taken side.Client h) ≡ length (bytes_of side.Client h) = ap (λ b. length (bytes_of side.Client h) + cond b 1 0) not_yet ∙ omega arith in
+    ap (λ l. length l + cond (ended_of side.Client (h ++ e ∷ [])) 1 0) bytes ∙ ap (λ b. length (bytes_of side.Client h) + cond b 1 0) ended ∙ ap (λ n. n + 1) (sym before)
+
+nothing_more : (xs ys more : List ℕ) → ys ≡ xs ++ more → length ys ≡ length xs → ys ≡ xs
+nothing_more xs ys more is size =
+    let none : length more ≡ 0 = (let both = ap length is ∙ length-append xs more in omega (arith, both, size)) in
+    is ∙ ap (λ l. xs ++ l) (empty more none) ∙ append-nil xs
+  where
+    empty : (l : List ℕ) → length l ≡ 0 → l ≡ []
+    empty [] e = refl
+    empty (x ∷ l) e = cc
+
+none_of : (p q r s : Bool) (x y : CutReason) → (if p || q then Some x else if r || s then Some y else None) ≡ None →
+    (p ≡ false) × (q ≡ false) × (s ≡ false)
+none_of true q r s x y e = cc
+none_of false true r s x y e = cc
+none_of false false true s x y e = cc
+none_of false false false true x y e = cc
+none_of false false false false x y e = (refl, refl, refl)
+
+below : (limit n : ℕ) → nat_le limit n ≡ false → n < limit
+below limit n e = elim (cases_lt n limit) [ inl less ↦ less | inr more ↦ absurd (let t = le-leb limit n more in cc) ]
+
+-- a limit that is not reached
+pub short_streams : (limit taken to_client to_controller : ℕ) → limit_by limit taken 0 to_client to_controller ≡ None →
+    (taken < limit) × (to_client < limit) × (to_controller < limit)
+short_streams limit taken to_client to_controller e =
+    let all = none_of (nat_le limit taken) (nat_le limit to_client) (nat_le limit 0) (nat_le limit to_controller) (reason.StreamLength side.Client)
+    (reason.StreamLength side.Controller) e in
+    (below limit taken all.0, below limit to_client all.1, below limit to_controller all.2)
+
+pub neither : (a b : Option CutReason) → option_or a b ≡ None → b ≡ None
+neither None b e = e
+neither (Some x) b e = cc
+
+-- a queue all of whose bytes were moved
+pub drained : (q r s : Queue) (c d : Content) → IsDrained q → HasGrown q r → Drains r s c d → queue_length s < LETTER_LIMIT → IsDrained s
+drained q r s c d before grown drains few = record {
+  kept = drains.kept;
+  clean = drains.clean;
+  goes = drains.ended ∙ ap (λ (x : Queue). x.ended) grown ∙ before.goes;
+  few = few;
+}
+
 module _ (asset : Asset) (client : Endpoint) (names : SiftNamesValue) (first : List ℕ → Content) where
   -- a flow knows why its history is cut
   pub cut_known : (now : List ℕ → Content) (h : List Element) (cut : Option CutReason) (flow : Flow) (f : IsFlowOf asset client names first now h cut flow) →
@@ -146,7 +205,7 @@ module _ (asset : Asset) (client : Endpoint) (names : SiftNamesValue) (first : L
         }
 
     -- an element was fed
-    module _ (e : Element) (rest : List ℕ) (cut : Option CutReason) (lane_client : flow.lane.client ≡ flow.lane.client) (mid : Flow) (now : List ℕ → Content)
+    module _ (e : Element) (rest : List ℕ) (cut : Option CutReason) (mid : Flow) (now : List ℕ → Content)
         (fed : Follows asset (h ++ e ∷ []) (rests_of rest) cut (file_lines (first names.log)) (state_of mid (now names.log)))
         (same_client : mid.lane.client ≡ flow.lane.client)
         (out : now names.out ≡ old names.out) (replies : now names.replies ≡ old names.replies) (whole : ends_with_line (now names.log) ≡ true) where
@@ -162,10 +221,130 @@ module _ (asset : Asset) (client : Endpoint) (names : SiftNamesValue) (first : L
       -- the log has the lines
       pub has_lines : (new : List ℕ → Content) → new names.log ≡ now names.log → HasLines (lines asset client [] are ++ []) (first names.log) (new names.log)
       has_lines new same =
-          let of_lines = subst (λ (p : Endpoint). file_lines (now names.log) ≡ with_those p) (same_client ∙ before.of_client) fed.of_lines in
+          let of_lines : file_lines (now names.log) ≡ with_lines (file_lines (first names.log)) (lines asset client [] are) =
+          fed.of_lines ∙ ap (λ (p : Endpoint). with_lines (file_lines (first names.log)) (lines asset p [] are)) (same_client ∙ before.of_client) in
           subst (HasLines (lines asset client [] are ++ []) (first names.log)) (sym same)
           (subst (λ ls. HasLines ls (first names.log) (now names.log)) (sym (append-nil (lines asset client [] are)))
           (lines_told (first names.log) (now names.log) (lines asset client [] are) before.log_first whole of_lines))
-        where
-          abbrev with_those : Endpoint → Option (List (List ℕ))
-          with_those p = with_lines (file_lines (first names.log)) (lines asset p [] are)
+
+      -- the queues got what the element put out
+      module _ (client_drained : IsDrained flow.to_client) (controller_drained : IsDrained flow.to_controller)
+          (client_grown : HasGrown flow.to_client mid.to_client) (controller_grown : HasGrown flow.to_controller mid.to_controller) where
+        pub client_kept : mid.to_client.kept ≡ outputs asset side.Client were goes.ms
+        client_kept = kept_more flow.to_client mid.to_client (stream_to asset side.Client were) (stream_to asset side.Client are) (outputs asset side.Client were goes.ms)
+            client_drained before.follows.client_stream client_grown fed.client_stream goes.to_client
+
+        pub controller_kept : mid.to_controller.kept ≡ outputs asset side.Controller were goes.ms
+        controller_kept = kept_more flow.to_controller mid.to_controller (stream_to asset side.Controller were) (stream_to asset side.Controller are)
+            (outputs asset side.Controller were goes.ms) controller_drained before.follows.controller_stream controller_grown fed.controller_stream goes.to_controller
+
+        -- an append failed
+        pub moves_fail : (new : List ℕ → Content) → new names.log ≡ now names.log → MovesFail names mid now new →
+            ElementFails asset client names first new h were e
+        moves_fail new log (inl (part, same)) = inr (inl (record {
+          judged = are;
+          are_judged = are_judged;
+          of_out = file_part_more (outputs asset side.Controller [] were) (outputs asset side.Controller [] are) (outputs asset side.Controller were goes.ms)
+              mid.to_controller.kept (first names.out) (now names.out) (new names.out) goes.to_controller controller_kept (out ∙ before.of_out) part;
+          of_replies = same ∙ replies ∙ before.of_replies;
+          of_log = has_lines new log;
+        }))
+        moves_fail new log (inr (all, part)) = inr (inr (inl (record {
+          judged = are;
+          are_judged = are_judged;
+          of_out = file_more (outputs asset side.Controller [] were) (outputs asset side.Controller [] are) (outputs asset side.Controller were goes.ms)
+              mid.to_controller.kept (first names.out) (now names.out) (new names.out) goes.to_controller controller_kept (out ∙ before.of_out) all;
+          of_replies = file_part_more (outputs asset side.Client [] were) (outputs asset side.Client [] are) (outputs asset side.Client were goes.ms)
+              mid.to_client.kept (first names.replies) (now names.replies) (new names.replies) goes.to_client client_kept (replies ∙ before.of_replies) part;
+          of_log = has_lines new log;
+        })))
+
+        -- all bytes were moved
+        module _ (new : List ℕ → Content) (last : Flow) (same : last ≡ record mid { to_client = last.to_client; to_controller = last.to_controller })
+            (is_rest : rest ≡ mid.rest.items) (log : new names.log ≡ now names.log)
+            (client_drains : Drains mid.to_client last.to_client (now names.replies) (new names.replies))
+            (controller_drains : Drains mid.to_controller last.to_controller (now names.out) (new names.out))
+            (client_stands : (w : Stream) → IsQueueOf mid.to_client w → IsQueueOf last.to_client w)
+            (controller_stands : (w : Stream) → IsQueueOf mid.to_controller w → IsQueueOf last.to_controller w)
+            (letters : mid.taken ≡ letter_count (taken side.Client (h ++ e ∷ []))) (ends : ended_of side.Client (h ++ e ∷ []) ≡ ended_of side.Client h)
+            (quiet : letter_count (taken side.Controller (h ++ e ∷ [])) ≡ 0) where
+          lane_same : last.lane ≡ mid.lane
+          lane_same = ap (λ (f : Flow). f.lane) same
+
+          follows : Follows asset (h ++ e ∷ []) (rests_of last.rest.items) cut (file_lines (first names.log)) (state_of last (new names.log))
+          follows = record {
+            judged = are;
+            are_judged = subst (λ (l : LaneValue). AreJudged asset l.client.address (h ++ e ∷ []) are) (sym lane_same) fed.are_judged;
+            is_cut = fed.is_cut;
+            are_rests = subst (λ r. AreRests asset.protocol (h ++ e ∷ []) (rests_of r) cut) (is_rest ∙ sym (ap (λ (f : Flow). f.rest.items) same)) fed.are_rests;
+            knows = record {
+              admitted = ap (λ (l : LaneValue). l.admitted) lane_same ∙ fed.knows.admitted;
+              refused = ap (λ (l : LaneValue). l.refused) lane_same ∙ fed.knows.refused;
+              client_ended = client_drains.ended ∙ fed.knows.client_ended;
+              controller_ended = controller_drains.ended ∙ fed.knows.controller_ended;
+              wire = λ none. subst (λ (l : LaneValue). KnowsWire asset l.wire are) (sym lane_same) (fed.knows.wire none);
+            };
+            client_stream = client_stands (stream_to asset side.Client are) fed.client_stream;
+            controller_stream = controller_stands (stream_to asset side.Controller are) fed.controller_stream;
+            of_lines = ap file_lines log ∙ fed.of_lines ∙ ap (λ (l : LaneValue). with_lines (file_lines (first names.log)) (lines asset l.client [] are)) (sym lane_same);
+          }
+
+          pub flow_of : IsFlowOf asset client names first new (h ++ e ∷ []) cut last
+          unfolding follows
+          flow_of = record {
+            follows = follows;
+            of_client = ap (λ (l : LaneValue). l.client) lane_same ∙ same_client ∙ before.of_client;
+            of_out = file_more (outputs asset side.Controller [] were) (outputs asset side.Controller [] are) (outputs asset side.Controller were goes.ms)
+                mid.to_controller.kept (first names.out) (now names.out) (new names.out) goes.to_controller controller_kept (out ∙ before.of_out) controller_drains.file;
+            of_replies = file_more (outputs asset side.Client [] were) (outputs asset side.Client [] are) (outputs asset side.Client were goes.ms)
+                mid.to_client.kept (first names.replies) (now names.replies) (new names.replies) goes.to_client client_kept (replies ∙ before.of_replies) client_drains.file;
+            log_first = before.log_first;
+            log_now = ap ends_with_line log ∙ whole;
+            letters = ap (λ (f : Flow). f.taken) same ∙ letters;
+            ends = controller_drains.ended ∙ ap (λ (q : Queue). q.ended) controller_grown ∙ before.ends ∙ sym ends;
+            quiet = quiet;
+          }
+
+    -- the End was fed, and nothing came of it
+    module _ (now : List ℕ → Content) (new : Flow)
+        (fed : Follows asset (h ++ end_at 0 side.Client ∷ []) (rests_of flow.rest.items) None (file_lines (first names.log)) (state_of new (now names.log)))
+        (is : new ≡ record flow { to_controller = after_end flow.to_controller; taken = flow.taken + 1 })
+        (out : now names.out ≡ old names.out) (replies : now names.replies ≡ old names.replies) (whole : ends_with_line (now names.log) ≡ true)
+        (open_before : flow.to_controller.ended ≡ false) where
+      ended_lane : new.lane.client ≡ flow.lane.client
+      ended_lane = ap (λ (f : Flow). f.lane.client) is
+
+      ended_goes : GoOn asset client were fed.judged
+      ended_goes = goes (end_at 0 side.Client) flow.rest.items None new now fed ended_lane out replies whole
+
+      client_same : outputs asset side.Client [] fed.judged ≡ outputs asset side.Client [] were
+      client_same = nothing_more (outputs asset side.Client [] were) (outputs asset side.Client [] fed.judged) (outputs asset side.Client were ended_goes.ms) ended_goes.to_client
+          (sym fed.client_stream.pushed ∙ ap (λ (f : Flow). f.to_client.pushed) is ∙ before.follows.client_stream.pushed)
+
+      controller_same : outputs asset side.Controller [] fed.judged ≡ outputs asset side.Controller [] were
+      controller_same = nothing_more (outputs asset side.Controller [] were) (outputs asset side.Controller [] fed.judged) (outputs asset side.Controller were ended_goes.ms) ended_goes.to_controller
+          (sym fed.controller_stream.pushed ∙ ap (λ (f : Flow). f.to_controller.pushed) is ∙ before.follows.controller_stream.pushed)
+
+      pub flow_ended : IsFlowOf asset client names first now (h ++ end_at 0 side.Client ∷ []) None new
+      flow_ended =
+          let not_yet : ended_of side.Client h ≡ false = sym before.ends ∙ open_before in
+          record {
+            follows = record {
+              judged = fed.judged;
+              are_judged = fed.are_judged;
+              is_cut = fed.is_cut;
+              are_rests = subst (λ r. AreRests asset.protocol (h ++ end_at 0 side.Client ∷ []) (rests_of r) None) (sym (ap (λ (f : Flow). f.rest.items) is)) fed.are_rests;
+              knows = fed.knows;
+              client_stream = fed.client_stream;
+              controller_stream = fed.controller_stream;
+              of_lines = fed.of_lines;
+            };
+            of_client = ended_lane ∙ before.of_client;
+            of_out = out ∙ before.of_out ∙ ap (with_appended (first names.out)) (sym controller_same);
+            of_replies = replies ∙ before.of_replies ∙ ap (with_appended (first names.replies)) (sym client_same);
+            log_first = before.log_first;
+            log_now = whole;
+            letters = ap (λ (f : Flow). f.taken) is ∙ ap (λ n. n + 1) before.letters ∙ sym (taken_end h not_yet);
+            ends = ap (λ (f : Flow). f.to_controller.ended) is ∙ sym (ended_of-last side.Client h (end_at 0 side.Client) ∙ or_true (ended_of side.Client h));
+            quiet = taken_other h [] true ∙ before.quiet;
+          }

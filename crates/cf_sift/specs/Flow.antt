@@ -3,7 +3,7 @@ use Rattle.std.specs.Prelude.{◌≡◌, ◌⊎◌, ◌++◌, ◌∷◌, take, �
 use Rattle.cf_audit.specs.declared.line.CutReason.{CutReason}
 use Rattle.cf_lane.specs.Follows.{Began, Follows, Rests, rest_of}
 use Rattle.cf_lane.specs.Handled.{IsLaneOf, State, debt, state}
-use Rattle.cf_lane.specs.History.{Element, end_at, taken}
+use Rattle.cf_lane.specs.History.{Element, end_at, ended_of, taken}
 use Rattle.cf_outq.specs.SendQueue.{Queue, queue_length}
 use Rattle.cf_outside.specs.Files.{Content, with_appended}
 use Rattle.cf_outside.specs.Lines.{ends_with_line, file_lines}
@@ -51,6 +51,7 @@ module _ (asset : Asset) (client : Endpoint) (names : SiftNamesValue) (first now
     pub log_first : ends_with_line (first names.log) ≡ true
     pub log_now : ends_with_line (now names.log) ≡ true
     pub letters : flow.taken ≡ letter_count (taken side.Client history)
+    pub ends : flow.to_controller.ended ≡ ended_of side.Client history
     pub quiet : letter_count (taken side.Controller history) ≡ 0
 
   -- so it is after an element, behind which the history is cut so

@@ -1,11 +1,11 @@
 -- How far a stored stream was taken: IsTakenWhole, ReadStops and WriteStops. The files are as they were before its first piece
 -- (`old`) and as they are now, and `first` is what the outputs had before they got anything.
-use Rattle.std.specs.Prelude.{◌≡◌, ℕ, List, [], ◌∷◌, ◌++◌, Option, None}
+use Rattle.std.specs.Prelude.{◌≡◌, ℕ, List, [], ◌∷◌, ◌++◌, length, Option, None}
 use Rattle.cf_audit.specs.declared.line.CutReason.{CutReason}
 use Rattle.cf_lane.specs.Follows.{AreJudged}
 use Rattle.cf_lane.specs.History.{Element}
 use Rattle.cf_lane.specs.Judged.{Judged}
-use Rattle.cf_outside.specs.Files.{Content, IsWhole}
+use Rattle.cf_outside.specs.Files.{BeginsWith, Content, IsWhole}
 use Rattle.cf_policy.specs.declared.Asset.{Asset}
 use Rattle.cf_view.specs.declared.Endpoint.{Endpoint}
 use Rattle.cf_sift.specs.Flow.{IsFlowAfter, IsFlowOf}
@@ -48,3 +48,14 @@ module _ (asset : Asset) (client : Endpoint) (names : SiftNamesValue) (first old
     pub judged : List Judged
     pub are_judged : AreJudged asset client.address earlier judged
     pub fails : ElementFails asset client names first now earlier judged element
+
+module _ (asset : Asset) (client : Endpoint) (names : SiftNamesValue) (first old now : List ℕ → Content) where
+  -- before a piece: so many bytes were taken, and nothing cuts
+  pub record IsTakenTo (at : ℕ) (flow : Flow) : Type 0 where
+    pub bytes : List ℕ
+    pub size : length bytes ≡ at
+    pub begins : BeginsWith (old names.stream) bytes
+    pub history : List Element
+    pub goes_on : (rest : List ℕ) → stored_history (bytes ++ rest) ≡ history ++ stored_history rest
+    pub flow_of : IsFlowOf asset client names first now history None flow
+    pub uncut : IsUncut asset client.address history
