@@ -5,3 +5,4 @@ mod Feeding
 mod Logs
 mod Pieces
 mod Stored
+mod Streams

@@ -56,6 +56,7 @@ pub(crate) fn take_stream<F: Files>(
     ensures read_cause { HasCause (F.read_faults files.old) (F.read_faults files.new) (IsErrOf result SiftFault.Read) }
     ensures write_cause { HasCause (F.write_faults files.old) (F.write_faults files.new) (IsErrOf result SiftFault.Write) }
 {
+    has_one_judgement();
     let mut at = 0;
     'pieces: loop {
         let Some(count) = fill(files, names.stream, at, piece) else {
