@@ -4,5 +4,6 @@ mod Ends
 mod Feeding
 mod Logs
 mod Pieces
+mod Sifting
 mod Stored
 mod Streams

@@ -240,7 +240,11 @@ module _ (asset : Asset) (client : Endpoint) (names : SiftNamesValue) (first : L
             record {
               bytes = t.bytes ++ (p ++ rest);
               whole = whole;
-              history = t.history ++ element ∷ [];
+              earlier = t.history;
+              element = element;
+              uncut = t.uncut;
+              judged = t.flow_of.follows.judged;
+              are_judged = of_client now t.history None flow t.flow_of;
               after = after;
               goes = goes_up one asset client.address (stored_history (t.bytes ++ (p ++ rest))) t.history later element (Some why) after.flow_of.follows.judged t.uncut
                   (t.goes_on (p ++ rest) ∙ ap (λ l. t.history ++ l) splits ∙ sym (append_assoc t.history (element ∷ []) later))
@@ -310,7 +314,11 @@ module _ (asset : Asset) (client : Endpoint) (names : SiftNamesValue) (first : L
       end_taken new last cut after = record {
         bytes = bytes;
         whole = whole;
-        history = h ++ end_at 0 side.Client ∷ [];
+        earlier = h;
+        element = end_at 0 side.Client;
+        uncut = uncut;
+        judged = f.follows.judged;
+        are_judged = of_client now h None flow f;
         after = after;
         goes = goes_up one asset client.address (stored_history bytes) h [] (end_at 0 side.Client) cut after.flow_of.follows.judged uncut
             (begins ∙ sym (append-nil (h ++ end_at 0 side.Client ∷ [])))

@@ -20,9 +20,13 @@ module _ (asset : Asset) (client : Endpoint) (names : SiftNamesValue) (first old
   pub record IsTakenWhole (cut : Option CutReason) (flow : Flow) : Type 0 where
     pub bytes : List ℕ
     pub whole : IsWhole (old names.stream) bytes
-    pub history : List Element
-    pub after : IsFlowAfter asset client names first now history cut flow
-    pub goes : GoesUpTo asset client.address (stored_history bytes) cut history after.flow_of.follows.judged
+    pub earlier : List Element
+    pub element : Element
+    pub uncut : IsUncut asset client.address earlier
+    pub judged : List Judged
+    pub are_judged : AreJudged asset client.address earlier judged
+    pub after : IsFlowAfter asset client names first now (earlier ++ element ∷ []) cut flow
+    pub goes : GoesUpTo asset client.address (stored_history bytes) cut (earlier ++ element ∷ []) after.flow_of.follows.judged
 
   -- up to a read that failed
   pub record ReadStops : Type 0 where
