@@ -4,6 +4,5 @@ pub mod Exact
 pub mod FileNames
 pub mod Listing
 pub mod Numerals
-pub mod OutputFiles
 pub mod Sifting
 pub mod Statuses

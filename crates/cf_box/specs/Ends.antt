@@ -1,5 +1,6 @@
 -- How the program ends: `Ends` says it of the words. It is read from the end.
 use Rattle.std.specs.Prelude.{◌≡◌, ℕ, List, Option, None, Some, Result, Ok, Err, codes}
+use Rattle.cf_audit.specs.declared.line.CutReason.{CutReason}
 use Rattle.cf_outside.specs.Files.{IsWhole}
 use Rattle.cf_policy.specs.declared.Asset.{Asset}
 use Rattle.cf_policy.specs.declared.Policy.{Policy}
@@ -10,7 +11,7 @@ use Rattle.cf_box.specs.Ending.{Puts, Reports}
 use Rattle.cf_box.specs.Outside.{Outside, ReadFailed, WriteFailed}
 use Rattle.cf_box.specs.Packets.{LacksPartOfPackets, ListingEnds, Lists, PacketsLeaves}
 use Rattle.cf_box.specs.PolicyFile.{HasPolicy, IsRefusedBy, asset_named}
-use Rattle.cf_box.specs.Sift.{LacksPartOfSift, SiftLeaves, Sifts}
+use Rattle.cf_box.specs.Sift.{CutsSift, SiftLeaves, Sifts}
 use Rattle.cf_box.specs.declared.ending.CaptureRefusal.{CaptureRefusal}
 use Rattle.cf_box.specs.declared.ending.Done.{Done}
 use Rattle.cf_box.specs.declared.ending.Stop.{Stop}
@@ -44,6 +45,15 @@ CutsCapture c before place =
     (file : List ℕ) × (capture_file c ≡ Some file)
     × ((capture : List ℕ) × IsWhole (before.files.content file) capture × ListingEnds capture (Err (stop.CaptureCut place)))
 
+-- the stream that a command takes is cut so: a line a command
+abbrev pub CutsStream : Command → Outside → CutReason → Type 0
+CutsStream (Check policy) before reason = ⊥
+CutsStream (Packets capture) before reason = ⊥
+CutsStream (Run policy capture out log) before reason = ⊥
+CutsStream (Relay policy asset port idles log) before reason = ⊥
+CutsStream (World seed sessions policy capture out log) before reason = ⊥
+CutsStream (Sift policy asset client names) before reason = CutsSift policy asset client names before reason
+
 -- what a command does, or what of its input, is not built: a line a command
 abbrev pub LacksPart : Command → Outside → Type 0
 LacksPart (Check policy) before = ⊥
@@ -51,7 +61,7 @@ LacksPart (Packets capture) before = LacksPartOfPackets capture before
 LacksPart (Run policy capture out log) before = Unit {0}
 LacksPart (Relay policy asset port idles log) before = Unit {0}
 LacksPart (World seed sessions policy capture out log) before = Unit {0}
-LacksPart (Sift policy asset client names) before = LacksPartOfSift policy asset names before
+LacksPart (Sift policy asset client names) before = ⊥
 
 -- why work stops: a line a cause, the same for every command. What stands later in the order of the work is no cause
 -- where the policy or the asset is one
@@ -62,8 +72,16 @@ StopsFor c before after (stop.PolicyRefused r) = RefusesPolicy c before r
 StopsFor c before after (stop.CaptureRefused r) = RefusesCapture c before r × PassesPolicy c before
 StopsFor c before after (stop.CaptureCut place) = CutsCapture c before place × PassesPolicy c before
 StopsFor c before after stop.UnknownAsset = LacksAsset c before
+StopsFor c before after (stop.Cut reason) = CutsStream c before reason × PassesPolicy c before
 StopsFor c before after stop.NoMemory = Unit {0}
 StopsFor c before after stop.Unbuilt = LacksPart c before × PassesPolicy c before
+
+-- a stop that comes before anything but the policy was asked of the outside
+abbrev pub IsEarly : Stop → Type 0
+IsEarly stop.ReadFault = Unit {0}
+IsEarly (stop.PolicyRefused r) = Unit {0}
+IsEarly stop.NoMemory = Unit {0}
+IsEarly s = ⊥
 
 -- what work that was done means: a line a command
 abbrev pub Does : Command → (before after : Outside) → Done → Type 0

@@ -1,19 +1,22 @@
 //! The top call.
 ghost use Rattle.std.specs.Prelude.{◌≡◌, ◌≢◌, ◌≤◌, ◌⊎◌, ◌↔◌, IsNone, List, Some, map, string_bytes, ℕ};
-ghost use Rattle.cf_box.specs.Command.{Packets, Sift, SiftNamesValue};
+ghost use Rattle.cf_box.specs.Command.{Packets, Sift};
 ghost use Rattle.cf_box.specs.Ends.{Ends, Meets};
 ghost use Rattle.cf_box.specs.Outside.{FilesNeverFall, PairValue, files_value, outside, outside_value, sink_value};
 ghost use Rattle.cf_box.specs.Packets.{Lists};
-ghost use Rattle.cf_box.specs.Status.{CutsItsCapture, IsComplete, IsExactly, IsStatus, LacksItsAsset, RefusesItsCapture, RefusesItsPolicy, SiftPassesAllowed};
+ghost use Rattle.cf_box.specs.Status.{CutsItsCapture, CutsItsStream, IsComplete, IsExactly, IsStatus, LacksItsAsset, MayHaveWritten, RefusesItsCapture, RefusesItsPolicy, SiftPassesAllowed};
 ghost use Rattle.cf_box.specs.Words.{HasApartFiles, command_of, command_value};
 ghost use Rattle.cf_outside.specs.Faults.{Rose};
+ghost use Rattle.cf_sift.specs.Names.{SiftNamesValue};
 
 use crate::check::check;
 use crate::command::{Command, read_words};
 use crate::ending::{Done, Stop, put_text, report};
 use crate::packets::packets;
 use crate::sift::sift;
+use cf_lane::lane_passes_allowed;
 use cf_outside::{Files, Pair, Sink};
+use cf_sift::has_one_cut;
 use std::alloc::Global;
 
 /// Does what a command asks for. Nothing is asked of the pair yet.
@@ -47,7 +50,7 @@ fn perform<F: Files, O: Sink>(
 ///
 /// Statuses: 0 done; 2 the words have no form; 3 a read failed; 4 a write failed, or work that was done could not be
 /// printed; 5 the policy's text means none; 6 the capture is refused; 7 it ends inside a record; 10 the policy has no
-/// asset of the name; 13 memory ran out; 14 the input needs a part that is not built.
+/// asset of the name; 12 the stream is cut; 13 memory ran out; 14 the input needs a part that is not built.
 pub fn box_main<F: Files, O: Sink, P: Pair>(
     alloc: Global,
     words: &[String],
@@ -73,6 +76,9 @@ pub fn box_main<F: Files, O: Sink, P: Pair>(
     ensures unknown { result ≡ 10 → LacksItsAsset (command_of (map string_bytes words.now))
         (outside_value F.Files O.Sink P.Pair files.old out.old pair.old) }
 
+    ensures stream { result ≡ 12 → CutsItsStream (command_of (map string_bytes words.now))
+        (outside_value F.Files O.Sink P.Pair files.old out.old pair.old) }
+
     // Where the input is told, a cause in it gives its status, whatever stands behind it in the order of the work.
     ensures exact { IsExactly (command_of (map string_bytes words.now)) (outside_value F.Files O.Sink P.Pair files.old out.old pair.old)
         (outside_value F.Files O.Sink P.Pair files.new out.new pair.new) result }
@@ -92,10 +98,13 @@ pub fn box_main<F: Files, O: Sink, P: Pair>(
         SiftPassesAllowed policy asset client names (outside_value F.Files O.Sink P.Pair files.old out.old pair.old)
         (outside_value F.Files O.Sink P.Pair files.new out.new pair.new) }
 
-    // Nothing is written but where the work was done, or a write failed; and nothing is asked of the pair.
-    ensures kept { result ≢ 0 → result ≢ 4 → F.content files.new ≡ F.content files.old }
+    // Nothing is written but where the work was done, a stream was cut, a write failed, or a read of a stream did; and nothing
+    // is asked of the pair.
+    ensures kept { (MayHaveWritten (command_of (map string_bytes words.now)) result → ⊥) → F.content files.new ≡ F.content files.old }
     ensures pair { pair.new ≡ pair.old }
 {
+    lane_passes_allowed();
+    has_one_cut();
     let _ = pair;
     match read_words(words) {
         None => put_text("usage\n", 2, 2, out),

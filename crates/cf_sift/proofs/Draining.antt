@@ -1,13 +1,13 @@
 -- Laws of a queue that is moved into a file.
-use Rattle.std.proofs.Common.{◌≡◌, ◌+◌, ◌-◌, ◌^◌, ◌≤◌, ℕ, suc, min, max, Bool, true, false, List, [], ◌∷◌, ◌++◌, length, take, refl, sym, ap, ◌∙◌, subst, arith, Option, None, Some, append_assoc, pos, Ok, Err}
+use Rattle.std.proofs.Common.{◌≡◌, ◌+◌, ◌≤◌, ℕ, true, List, [], ◌∷◌, ◌++◌, length, take, refl, sym, ap, ◌∙◌, arith, Some, append_assoc, Ok, Err}
 use Rattle.std.specs.Prelude.{Result, OnErr}
 use Rattle.std.proofs.Math.Seq.{take-append-add}
-use Rattle.std.proofs.lemmas.List.{append-nil, length-append, take-append-le}
-use Rattle.cf_outq.specs.SendQueue.{Queue, IsQueue, IsAnswer, IsPiece, queue_length, piece_letters, after_sent, after_shown}
+use Rattle.std.proofs.lemmas.List.{append-nil}
+use Rattle.cf_outq.specs.SendQueue.{Queue, IsQueue, IsAnswer, queue_length}
 use Rattle.cf_outq.specs.declared.piece.Piece.{Piece}
 use Rattle.cf_outside.specs.Files.{Content, with_appended}
-use Rattle.cf_outside.proofs.Content.{with_appended-twice, with_appended-nothing}
-use Rattle.cf_sift.specs.Drained.{Moves, Drains}
+use Rattle.cf_outside.proofs.Content.{with_appended-twice}
+use Rattle.cf_sift.specs.Drained.{Moves}
 
 zero_length : (xs : List ℕ) → length xs ≡ 0 → xs ≡ []
 zero_length [] e = refl
@@ -31,9 +31,11 @@ moved_more first old mid new c d e front is same file m = (
 -- and what a failure left of a piece
 pub partly_more : (first old mid : Queue) (c d e : Content) (front : List ℕ) → first.kept ≡ front ++ old.kept → mid.kept ≡ old.kept → d ≡ with_appended c front →
     ((k : ℕ) × (e ≡ with_appended d (take k mid.kept))) → (k : ℕ) × (e ≡ with_appended c (take k first.kept))
-partly_more first old mid c d e front is same file (k, m) =
-    (length front + k, m ∙ ap (λ x. with_appended x (take k mid.kept)) file ∙ with_appended-twice c front (take k mid.kept)
-    ∙ ap (with_appended c) (ap (λ xs. front ++ take k xs) same ∙ sym (take-append-add front old.kept k) ∙ ap (take (length front + k)) (sym is)))
+partly_more first old mid c d e front is same file (k, m) = (
+  length front + k,
+  m ∙ ap (λ x. with_appended x (take k mid.kept)) file ∙ with_appended-twice c front (take k mid.kept)
+      ∙ ap (with_appended c) (ap (λ xs. front ++ take k xs) same ∙ sym (take-append-add front old.kept k) ∙ ap (take (length front + k)) (sym is)),
+)
 
 pub all_moved : (first now : Queue) (c d : Content) (front : List ℕ) → first.kept ≡ front ++ now.kept → d ≡ with_appended c front → now.kept ≡ [] → d ≡ with_appended c first.kept
 all_moved first now c d front is file none = file ∙ ap (with_appended c) (sym (is ∙ ap (λ xs. front ++ xs) none ∙ append-nil front))

@@ -1,8 +1,7 @@
 -- A flow that took an element.
-use Rattle.std.proofs.Common.{◌≡◌, ◌+◌, ◌≤◌, ◌<◌, ◌^◌, ◌⊎◌, ℕ, Bool, true, false, None, Some, Option, List, [], ◌∷◌, ◌++◌, length, take, drop, refl, sym, ap, ◌∙◌, append_assoc, subst, inl, inr, arith, cond}
+use Rattle.std.proofs.Common.{◌≡◌, ◌+◌, ◌<◌, ℕ, Bool, true, false, None, Some, Option, List, [], ◌∷◌, ◌++◌, length, take, drop, refl, sym, ap, ◌∙◌, append_assoc, subst, inl, inr, arith, cond}
 use Rattle.std.specs.Option.{option_or}
 use Rattle.std.specs.Prelude.{nat_le, ◌||◌, ◌&&◌, if◌then◌else◌}
-use Rattle.std.specs.List.{list_any}
 use Rattle.std.proofs.Math.Seq.{take-append-add, drop-append-add}
 use Rattle.std.proofs.lemmas.List.{append-nil, length-append, length-drop}
 use Rattle.cf_audit.specs.declared.line.CutReason.{CutReason}
@@ -10,7 +9,7 @@ use Rattle.cf_lane.specs.Follows.{AreJudged, AreRests, Began, Follows}
 use Rattle.cf_lane.specs.Handled.{LaneValue}
 use Rattle.cf_lane.specs.Kept.{KnowsWire}
 use Rattle.cf_lane.specs.History.{Element, bytes_at, bytes_in, bytes_of, end_at, ended_of, is_side, taken}
-use Rattle.cf_lane.specs.Judged.{Judged, cut_of}
+use Rattle.cf_lane.specs.Judged.{Judged}
 use Rattle.cf_lane.specs.Laws.{GoOn, StreamsGoOn}
 use Rattle.cf_lane.specs.Limit.{limit_by, limit_cut}
 use Rattle.cf_lane.specs.Log.{lines, with_lines}
@@ -28,9 +27,9 @@ use Rattle.std.proofs.lemmas.Bool.{cases_lt, le-leb}
 use Rattle.cf_audit.specs.declared.line.CutReason.TheVariants as reason
 use Rattle.cf_view.specs.declared.Side.TheVariants as side
 use Rattle.cf_sift.specs.Drained.{Drains}
-use Rattle.cf_sift.specs.Flow.{HasGrown, IsDrained, IsFlowAfter, IsFlowOf, IsReady, MovesFail, MovesPart, rests_of, state_of}
+use Rattle.cf_sift.specs.Flow.{HasGrown, IsDrained, IsFlowOf, MovesFail, rests_of, state_of}
 use Rattle.cf_sift.specs.Names.{SiftNamesValue}
-use Rattle.cf_sift.specs.Sifted.{BeginsLines, ElementFails, HasLines, HaveOutput, LineFails, OutFails, RepliesFail}
+use Rattle.cf_sift.specs.Sifted.{BeginsLines, ElementFails, HasLines, LineFails}
 use Rattle.cf_sift.specs.Stored.{cut_behind}
 use Rattle.cf_sift.specs.declared.flow.Flow.{Flow}
 use Rattle.cf_sift.proofs.Logs.{lines_begun, lines_told}
@@ -59,9 +58,11 @@ file_more v w more kept first c d goes is had now =
 -- or a beginning of it
 file_part_more : (v w more : List ℕ) (kept : List ℕ) (first c d : Content) → w ≡ v ++ more → kept ≡ more → c ≡ with_appended first v →
     ((k : ℕ) × (d ≡ with_appended c (take k kept))) → (k : ℕ) × (d ≡ with_appended first (take k w))
-file_part_more v w more kept first c d goes is had (k, now) =
-    (length v + k, now ∙ ap (λ l. with_appended c (take k l)) is ∙ ap (λ x. with_appended x (take k more)) had ∙ with_appended-twice first v (take k more)
-    ∙ ap (with_appended first) (sym (take-append-add v more k) ∙ ap (take (length v + k)) (sym goes)))
+file_part_more v w more kept first c d goes is had (k, now) = (
+  length v + k,
+  now ∙ ap (λ l. with_appended c (take k l)) is ∙ ap (λ x. with_appended x (take k more)) had ∙ with_appended-twice first v (take k more)
+      ∙ ap (with_appended first) (sym (take-append-add v more k) ∙ ap (take (length v + k)) (sym goes)),
+)
 
 -- the bytes of a side in a history with one more element
 bytes_of-last : (s : Side) (h : List Element) (e : Element) → bytes_of s (h ++ e ∷ []) ≡ bytes_of s h ++ bytes_in s e

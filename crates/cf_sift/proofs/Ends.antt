@@ -1,5 +1,5 @@
 -- The End of a stream whose line failed.
-use Rattle.std.proofs.Common.{◌≡◌, ℕ, List, Result, subst}
+use Rattle.std.proofs.Common.{◌≡◌, ℕ, Result, subst}
 use Rattle.std.specs.Prelude.{OnErr}
 use Rattle.cf_lane.specs.Handled.{State}
 use Rattle.cf_outside.specs.Files.{Content}

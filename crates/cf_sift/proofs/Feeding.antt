@@ -1,5 +1,5 @@
 -- A piece that was fed.
-use Rattle.std.proofs.Common.{◌≡◌, List, None, Option, Some, subst, sym}
+use Rattle.std.proofs.Common.{◌≡◌, List, None, Option, Some, subst}
 use Rattle.cf_audit.specs.declared.line.CutReason.{CutReason}
 use Rattle.cf_lane.specs.Follows.{Follows, Rests}
 use Rattle.cf_lane.specs.Handled.{State}

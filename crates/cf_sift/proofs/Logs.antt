@@ -1,5 +1,5 @@
 -- Logs that got lines, or a beginning of them.
-use Rattle.std.proofs.Common.{◌≡◌, ◌+◌, ℕ, true, None, Some, Option, List, [], ◌++◌, length, take, drop, refl, sym, ap, ◌∙◌, append_assoc}
+use Rattle.std.proofs.Common.{◌≡◌, ◌+◌, ℕ, true, List, [], ◌++◌, length, take, drop, sym, ap, ◌∙◌, append_assoc}
 use Rattle.std.specs.List.{concat}
 use Rattle.std.proofs.Math.Seq.{take-append-add}
 use Rattle.std.proofs.lemmas.List.{append-nil, take-append-drop}
@@ -41,9 +41,11 @@ lines_begun absent now ls count some f is part = tt
 lines_begun (holds all) untold ls count some f is part = cc
 lines_begun (holds all) absent ls count some f is part = cc
 lines_begun (holds all) (holds x) ls count some f is part =
-    let same : lines_from [] x ≡ lines_from [] all ++ take count ls = cc in
-    (length (concat (take count ls)) + some, ap holds (octets_are x ∙ ap (λ l. concat l ++ rest_from [] x) same
-    ∙ ap (λ p. concat (lines_from [] all ++ take count ls) ++ p) part
-    ∙ ap (λ c. c ++ take some (concat (drop count ls))) (concat-append (lines_from [] all) (take count ls) ∙ ap (λ xs. xs ++ concat (take count ls)) (sym (whole_lines all f)))
-    ∙ append_assoc all (concat (take count ls)) (take some (concat (drop count ls)))
-    ∙ ap (λ xs. all ++ xs) (begins ls count some)))
+    let same : lines_from [] x ≡ lines_from [] all ++ take count ls = cc in (
+      length (concat (take count ls)) + some,
+      ap holds (octets_are x ∙ ap (λ l. concat l ++ rest_from [] x) same
+          ∙ ap (λ p. concat (lines_from [] all ++ take count ls) ++ p) part
+          ∙ ap (λ c. c ++ take some (concat (drop count ls))) (concat-append (lines_from [] all) (take count ls) ∙ ap (λ xs. xs ++ concat (take count ls)) (sym (whole_lines all f)))
+          ∙ append_assoc all (concat (take count ls)) (take some (concat (drop count ls)))
+          ∙ ap (λ xs. all ++ xs) (begins ls count some)),
+    )

@@ -1,29 +1,28 @@
 -- A stored stream from the creation of its outputs to the line of its cut.
-use Rattle.std.proofs.Common.{◌≡◌, ◌≢◌, ◌+◌, ◌≤◌, ℕ, true, false, None, Some, Option, Result, Ok, Err, List, [], ◌∷◌, ◌++◌, length, map, take, drop, refl, sym, ap, ◌∙◌, append_assoc, subst, inl, inr, arith}
-use Rattle.std.specs.Prelude.{IsErrAnd, IsErrOf, IsSome, count_by, option_map}
+use Rattle.std.proofs.Common.{◌≡◌, ◌≢◌, ℕ, true, false, None, Some, Option, Result, Ok, Err, List, [], ◌∷◌, ◌++◌, length, map, take, drop, refl, sym, ap, ◌∙◌, append_assoc, subst, inl, inr, arith}
+use Rattle.std.specs.Prelude.{IsErrAnd, IsErrOf, IsSome}
 use Rattle.std.specs.List.{concat}
 use Rattle.std.proofs.Math.Seq.{take-append_seam, drop-append-add}
-use Rattle.std.proofs.lemmas.List.{append-nil, take_all}
+use Rattle.std.proofs.lemmas.List.{take_all}
 use Rattle.cf_audit.specs.declared.line.CutReason.{CutReason}
-use Rattle.cf_lane.specs.Follows.{AreJudged, Follows}
+use Rattle.cf_lane.specs.Follows.{Follows}
 use Rattle.cf_lane.specs.Handled.{MayHaveMore, state}
-use Rattle.cf_lane.specs.History.{Element, ended_of, taken}
+use Rattle.cf_lane.specs.History.{Element}
 use Rattle.cf_lane.specs.Item.{Placed}
-use Rattle.cf_lane.specs.Judged.{Judged, is_admitted, is_refused, place_of}
+use Rattle.cf_lane.specs.Judged.{Judged, place_of}
 use Rattle.cf_lane.specs.Log.{lines, with_lines}
 use Rattle.cf_lane.specs.Output.{outputs}
-use Rattle.cf_outside.specs.Files.{Content, IsWhole, content_after_create, with_appended}
+use Rattle.cf_outside.specs.Files.{Content, IsWhole, with_appended}
 use Rattle.cf_outside.specs.Lines.{ends_with_line, file_lines, file_part}
 use Rattle.cf_outside.proofs.Content.{with_appended-nothing}
 use Rattle.cf_outside.proofs.Lines.{ends_with_line-create}
 use Rattle.cf_policy.specs.declared.Asset.{Asset}
 use Rattle.cf_view.specs.declared.Endpoint.{Endpoint}
 use Rattle.cf_view.specs.declared.Side.TheVariants as side
-use Rattle.cf_sift.specs.Flow.{IsFlowOf, IsReady, rests_of, state_of}
+use Rattle.cf_sift.specs.Flow.{IsFlowOf, rests_of}
 use Rattle.cf_sift.specs.Names.{AreApart, SiftNamesValue, sift_output_names}
 use Rattle.cf_sift.specs.Outputs.{AreCreated, KeepsAllBut}
 use Rattle.cf_sift.specs.Sifted.{BeginsLines, HasLines, IsReadUpTo, IsSifted, IsWrittenUpTo, SiftEnds, created, cut_lines, stored_client}
-use Rattle.cf_sift.specs.Stored.{stored_history}
 use Rattle.cf_sift.specs.Stream.{HasStream}
 use Rattle.cf_sift.specs.Taken.{IsTakenWhole, ReadStops, WriteStops}
 use Rattle.cf_sift.specs.declared.flow.Flow.{Flow}

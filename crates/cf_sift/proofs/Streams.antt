@@ -1,14 +1,13 @@
 -- A stored stream that is taken piece by piece.
-use Rattle.std.proofs.Common.{◌≡◌, ◌+◌, ◌≤◌, ◌<◌, ◌⊎◌, ℕ, Bool, true, false, None, Some, Option, List, [], ◌∷◌, ◌++◌, length, min, take, drop, refl, sym, ap, ◌∙◌, append_assoc, subst, inl, inr, arith}
+use Rattle.std.proofs.Common.{◌≡◌, ◌+◌, ◌≤◌, ◌<◌, ℕ, Bool, true, false, None, Some, Option, List, [], ◌∷◌, ◌++◌, length, min, take, drop, refl, sym, ap, ◌∙◌, append_assoc, subst, inl, inr, arith}
 use Rattle.std.specs.Option.{option_or}
 use Rattle.std.specs.Prelude.{nat_le, ◌||◌, if◌then◌else◌}
 use Rattle.std.proofs.lemmas.Bool.{cases_lt, leb-true}
-use Rattle.std.proofs.lemmas.List.{append-nil, length-append, length-drop, length-take, take_all, take-append-drop}
+use Rattle.std.proofs.lemmas.List.{append-nil, length-append, length-take, take_all, take-append-drop}
 use Rattle.cf_audit.specs.declared.line.CutReason.{CutReason}
 use Rattle.cf_audit.specs.declared.line.CutReason.TheVariants as reason
 use Rattle.cf_lane.specs.Follows.{AreJudged, AreRests}
 use Rattle.cf_lane.specs.History.{Element, bytes_at, end_at}
-use Rattle.cf_lane.specs.Judged.{Judged}
 use Rattle.cf_lane.specs.Laws.{HasOneJudgement}
 use Rattle.cf_lane.specs.Limit.{limit_by}
 use Rattle.cf_lane.specs.Log.{lines, with_lines}
@@ -23,7 +22,7 @@ use Rattle.cf_view.specs.declared.Side.TheVariants as side
 use Rattle.cf_sift.specs.Flow.{IsFlowAfter, IsFlowOf, IsReady, rests_of}
 use Rattle.cf_sift.specs.Names.{SiftNamesValue}
 use Rattle.cf_sift.specs.Sifted.{ElementFails, HasLines, HaveOutput}
-use Rattle.cf_sift.specs.Stored.{GoesUpTo, IsUncut, cut_behind, stored_history}
+use Rattle.cf_sift.specs.Stored.{IsUncut, cut_behind, stored_history}
 use Rattle.cf_sift.specs.Stream.{HasStream, IsFilled}
 use Rattle.cf_sift.specs.Taken.{IsTakenTo, IsTakenWhole, ReadStops, WriteStops}
 use Rattle.cf_sift.specs.declared.flow.Flow.{Flow}

@@ -16,7 +16,8 @@ const WRITE: &[u8] = b"\x00\x01\x00\x00\x00\x06\x01\x06\x00\x28\x00\x64";
 
 const EXCEPTION: &[u8] = b"\x00\x01\x00\x00\x00\x03\x01\x86\x02";
 
-const LINES: &str = "0.000000 10.0.0.5:0 pump refuse default point code 6 group 0 point 50 value 100 replied 000100000006010600320064
+const LINES: &str =
+    "0.000000 10.0.0.5:0 pump refuse default point code 6 group 0 point 50 value 100 replied 000100000006010600320064
 0.000000 10.0.0.5:0 pump cut client protocol\n";
 
 const NAMES: SiftNames<'static> = SiftNames {
@@ -86,7 +87,10 @@ fn what_came_before_a_break_is_written_and_then_its_line(rt: HostRuntime) -> Res
         admitted: 1,
         refused: 1,
     };
-    assert_eq!(rt; sift_stream(alloc, &asset, 0x0A00_0005, &NAMES, &mut files), Ok(done));
+    assert_eq!(rt;
+        sift_stream(alloc, &asset, 0x0A00_0005, &NAMES, &mut files),
+        Ok(done)
+    );
     assert!(rt; holds(&files, "o", WRITE));
     assert!(rt; holds(&files, "r", EXCEPTION));
     assert!(rt; holds(&files, "l", LINES.as_bytes()));
@@ -94,7 +98,10 @@ fn what_came_before_a_break_is_written_and_then_its_line(rt: HostRuntime) -> Res
         call: files.calls + 4,
         left: 0,
     })?;
-    assert_eq!(rt; sift_stream(alloc, &asset, 0x0A00_0005, &NAMES, &mut files), Err(SiftFault::Read));
+    assert_eq!(rt;
+        sift_stream(alloc, &asset, 0x0A00_0005, &NAMES, &mut files),
+        Err(SiftFault::Read)
+    );
     assert!(rt; holds(&files, "o", b""));
     Ok(())
 }

@@ -1,5 +1,5 @@
-use Rattle.std.proofs.Common.{ℕ, List, subst, ◌≡◌, ◌+◌, ◌-◌, ◌≤◌, length, take, drop, ◌∙◌, arith}
-use Rattle.std.proofs.lemmas.List.{length-take, length-drop}
+use Rattle.std.proofs.Common.{ℕ, List, subst, ◌≡◌, ◌+◌, ◌-◌, ◌≤◌, length, take, ◌∙◌, arith}
+use Rattle.std.proofs.lemmas.List.{length-drop}
 use Rattle.cf_outside.specs.Files.{Content, HasAt}
 use Rattle.cf_sift.proofs.Pieces.{filled_length, filled_piece}
 use Rattle.cf_sift.proofs.fill.fill.Goals as goal

@@ -1,4 +1,4 @@
-use Rattle.std.proofs.Common.{rules, ◌≡◌}
+use Rattle.std.proofs.Common.{rules}
 use Rattle.cf_sift.proofs.Ends.{end_fails}
 use Rattle.cf_sift.proofs.flow.end_lane.Goals as goal
 

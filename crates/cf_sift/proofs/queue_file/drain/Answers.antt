@@ -1,7 +1,7 @@
-use Rattle.std.proofs.Common.{◌≡◌, ◌+◌, ◌-◌, ◌^◌, ◌≤◌, ℕ, max, List, [], ◌++◌, length, take, refl, sym, ap, ◌∙◌, subst, arith}
+use Rattle.std.proofs.Common.{[], ◌++◌, length, refl, sym, ap, ◌∙◌, arith}
 use Rattle.cf_outq.specs.SendQueue.{Queue}
 use Rattle.cf_outside.proofs.Content.{with_appended-nothing}
-use Rattle.cf_sift.proofs.Draining.{empty_kept, end_kept, moved_more, partly_more, on_err}
+use Rattle.cf_sift.proofs.Draining.{end_kept, moved_more, partly_more, on_err}
 use Rattle.cf_sift.proofs.queue_file.drain.Goals as goal
 
 pub pieces-init : goal.pieces-init

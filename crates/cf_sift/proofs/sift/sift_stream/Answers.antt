@@ -1,4 +1,3 @@
-use Rattle.std.proofs.Common.{◌≡◌}
 use Rattle.cf_sift.specs.Names.{sift_names_value}
 use Rattle.cf_sift.specs.Sifted.{stored_client}
 use Rattle.cf_sift.proofs.Sifting.{fault_ends, sifted, some_fails, starts_flow, write_fault}

@@ -1,4 +1,4 @@
-use Rattle.std.proofs.Common.{◌≡◌, [], None, refl, sym, ◌∙◌, inl}
+use Rattle.std.proofs.Common.{[], None, refl, sym, ◌∙◌, inl}
 use Rattle.cf_lane.specs.History.{end_at}
 use Rattle.cf_view.specs.declared.Side.TheVariants as side
 use Rattle.cf_sift.specs.Names.{sift_names_value}

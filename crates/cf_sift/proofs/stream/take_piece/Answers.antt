@@ -1,4 +1,4 @@
-use Rattle.std.proofs.Common.{◌≡◌, ◌+◌, ◌<◌, ◌≤◌, ℕ, List, subst, [], None, ap, false, length, refl, sym, ◌∙◌, inl}
+use Rattle.std.proofs.Common.{◌+◌, ◌<◌, ◌≤◌, ℕ, List, subst, ap, false, length, refl, sym, ◌∙◌, inl}
 use Rattle.std.specs.Option.{option_or}
 use Rattle.cf_lane.specs.History.{bytes_at}
 use Rattle.cf_view.specs.declared.Side.TheVariants as side

@@ -1,12 +1,10 @@
-use Rattle.std.proofs.Common.{◌≡◌, ◌+◌, ◌<◌, ◌≤◌, ℕ, List, None, Some, Option, [], ◌++◌, ◌∷◌, length, take, refl, sym, ap, ◌∙◌, subst, arith}
+use Rattle.std.proofs.Common.{◌≡◌, ◌+◌, ℕ, List, [], ◌++◌, ◌∷◌, length, take, refl, sym, ap, ◌∙◌, subst, arith}
 use Rattle.std.proofs.lemmas.List.{length-take-le}
 use Rattle.cf_lane.specs.History.{bytes_at}
 use Rattle.cf_outside.specs.Files.{Content}
-use Rattle.cf_view.specs.declared.Endpoint.{Endpoint}
 use Rattle.cf_view.specs.declared.Side.TheVariants as side
-use Rattle.cf_sift.specs.Flow.{IsFlowAfter, IsFlowOf}
-use Rattle.cf_sift.specs.Names.{SiftNamesValue, sift_names_value}
-use Rattle.cf_sift.specs.Stream.{IsFilled}
+use Rattle.cf_sift.specs.Flow.{IsFlowAfter}
+use Rattle.cf_sift.specs.Names.{sift_names_value}
 use Rattle.cf_sift.specs.Taken.{IsTakenTo}
 use Rattle.cf_sift.proofs.Streams.{end_stops, end_taken, filled_at, goes_on, last_behind, none_behind, piece_cuts, piece_stops, read_all, read_stops, starts, uncut_flow, uncut_last}
 use Rattle.cf_sift.proofs.stream.take_stream.Goals as goal

@@ -1,4 +1,3 @@
-use Rattle.std.proofs.Common.{◌≡◌}
 use Rattle.cf_sift.proofs.Draining.{on_err}
 use Rattle.cf_sift.specs.Flow.{rests_of}
 use Rattle.cf_sift.proofs.flow.Flow.end.Goals as goal

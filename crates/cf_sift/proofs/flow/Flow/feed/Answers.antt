@@ -1,4 +1,4 @@
-use Rattle.std.proofs.Common.{◌≡◌, ◌++◌, List, None, Option, Some, ap, drop, false, sym, ◌∙◌, ℕ}
+use Rattle.std.proofs.Common.{◌++◌, List, ap, drop, false, sym, ◌∙◌, ℕ}
 use Rattle.cf_sift.proofs.Draining.{on_err}
 use Rattle.cf_sift.proofs.Feeding.{with_cut, with_rest}
 use Rattle.cf_sift.specs.Flow.{rests_of}
