@@ -96,6 +96,7 @@ module _ (c : Command) (before middle : Outside) (failed : Type 0) (status : ℕ
       let cause : CutsCapture c before place = meets.0.0 in
       let here = input.capture cause.0 cause.1 in
       absurd (not_ended (before.files.content cause.0) here.0 here.1 here.2 cause.2.0 cause.2.1 (stop.CaptureCut place) cause.2.2)
+  is_complete (Err (stop.Cut reason)) meets h = absurd (input.stream reason meets.0.0)
   is_complete (Err stop.Unbuilt) meets h = absurd (input.built meets.0.0)
 
 pub complete_told : {c : Command} {before after : Outside} {status : ℕ} (e : Explains c before after status) → HasInput c before → NothingFails

@@ -82,7 +82,8 @@ module _ (policy_file asset_name : List ℕ) (client : ℕ) (names : SiftNamesVa
   -- a creation or an append failed
   abbrev pub WritesUpTo : Type 0
   WritesUpTo =
-      StopsSifting (λ asset. IsUncreated names before.files.content after.files.content ⊎ IsWrittenUpTo asset client names before.files.content after.files.content)
+      StopsSifting (λ asset. IsUncreated asset client names before.files.content after.files.content
+      ⊎ IsWrittenUpTo asset client names before.files.content after.files.content)
 
   -- what stands after a stop: before the outputs are created nothing changes
   abbrev pub SiftLeaves : Stop → Type 0
