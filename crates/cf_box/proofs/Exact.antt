@@ -1,5 +1,5 @@
 -- Causes that stand in the input, where it is told: no other status comes but those to which they yield.
-use Rattle.std.proofs.Common.{◌≡◌, ◌⊎◌, ℕ, List, None, Some, Result, Ok, Err, length, refl, sym, subst, ◌∙◌, ap, inl, inr, arith}
+use Rattle.std.proofs.Common.{◌≡◌, ◌⊎◌, ℕ, List, None, Some, Result, Ok, Err, length, sym, subst, ◌∙◌, ap, inl, inr, arith}
 use Rattle.cf_policy.specs.declared.Asset.{Asset}
 use Rattle.cf_policy.specs.declared.Policy.{Policy}
 use Rattle.cf_policylang.specs.Documents.{policy_meaning}
@@ -10,7 +10,6 @@ use Rattle.cf_box.specs.Ends.{Does, LacksAsset, Meets, PassesPolicy, RefusesPoli
 use Rattle.cf_box.specs.Outside.{Outside, ReadFailed, SinkValue, WriteFailed}
 use Rattle.cf_box.specs.Packets.{ListsFile, TellsLongCapture}
 use Rattle.cf_box.specs.PolicyFile.{HasPolicy, IsRefusedBy}
-use Rattle.cf_audit.specs.declared.line.CutReason.{CutReason}
 use Rattle.cf_sift.specs.Laws.{HasOneCut}
 use Rattle.cf_sift.specs.Names.{SiftNamesValue}
 use Rattle.cf_sift.specs.Stored.{GoesUpTo, stored_history}

@@ -18,7 +18,7 @@ use Rattle.cf_box.specs.Ending.{Prints, Reports, end_text, status_of, stop_statu
 use Rattle.cf_box.specs.Ends.{CutsCapture, CutsStream, LacksAsset, Leaves, Meets, RefusesCapture, RefusesPolicy}
 use Rattle.cf_box.specs.Outside.{Outside, ReadFailed, SinkValue, WriteFailed}
 use Rattle.cf_box.specs.Packets.{Lists, ListsBehind, ListsFile}
-use Rattle.cf_box.specs.Status.{IsStatus, MayHaveWritten, OfCommand, ReadsBehindCreation, SiftPassesAllowed}
+use Rattle.cf_box.specs.Status.{IsStatus, MayHaveWritten, SiftPassesAllowed}
 use Rattle.cf_box.specs.declared.ending.CaptureRefusal.{CaptureRefusal}
 use Rattle.cf_box.specs.declared.ending.Done.{Done}
 use Rattle.cf_box.specs.declared.ending.Done.TheVariants as done

@@ -14,9 +14,9 @@ mod sift;
 mod top;
 mod world;
 
+pub use cf_sift::{SiftDone, SiftFault, SiftNames, sift_stream};
 pub use command::{Command, read_words};
 pub use ending::{CaptureRefusal, Done, Stop};
-pub use cf_sift::{SiftDone, SiftFault, SiftNames, sift_stream};
 pub use top::box_main;
 
 #[cfg(test)]

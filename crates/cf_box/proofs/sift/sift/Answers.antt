@@ -1,6 +1,6 @@
-use Rattle.std.proofs.Common.{refl, subst, Err, Ok, inl, sym}
+use Rattle.std.proofs.Common.{refl, subst, Err, sym}
 use Rattle.cf_box.specs.Command.{Sift}
-use Rattle.cf_box.specs.Outside.{FilesValue, files_value, outside}
+use Rattle.cf_box.specs.Outside.{files_value, outside}
 use Rattle.cf_box.specs.Sift.{FindsAsset}
 use Rattle.cf_box.proofs.Sifting.{early_leaves, since, sift_cuts, sift_ends, sift_fails}
 use Rattle.cf_sift.specs.Names.{sift_names_value}
