@@ -1,5 +1,5 @@
 -- A flow that took an element.
-use Rattle.std.proofs.Common.{◌≡◌, ◌+◌, ◌<◌, ℕ, Bool, true, false, None, Some, Option, List, [], ◌∷◌, ◌++◌, length, take, drop, refl, sym, ap, ◌∙◌, append_assoc, subst, inl, inr, arith, cond}
+use Rattle.std.proofs.Common.{◌≡◌, ◌≤◌, ◌+◌, ◌<◌, ℕ, Bool, true, false, None, Some, Option, List, [], ◌∷◌, ◌++◌, length, take, drop, refl, sym, ap, ◌∙◌, append_assoc, subst, inl, inr, arith, cond}
 use Rattle.std.specs.Option.{option_or}
 use Rattle.std.specs.Prelude.{nat_le, ◌||◌, ◌&&◌, if◌then◌else◌}
 use Rattle.std.proofs.Math.Seq.{take-append-add, drop-append-add}
@@ -57,9 +57,10 @@ file_more v w more kept first c d goes is had now =
 
 -- or a beginning of it
 file_part_more : (v w more : List ℕ) (kept : List ℕ) (first c d : Content) → w ≡ v ++ more → kept ≡ more → c ≡ with_appended first v →
-    ((k : ℕ) × (d ≡ with_appended c (take k kept))) → (k : ℕ) × (d ≡ with_appended first (take k w))
+    ((k : ℕ) × (d ≡ with_appended c (take k kept))) → (k : ℕ) × (length v ≤ k) × (d ≡ with_appended first (take k w))
 file_part_more v w more kept first c d goes is had (k, now) = (
   length v + k,
+  omega arith,
   now ∙ ap (λ l. with_appended c (take k l)) is ∙ ap (λ x. with_appended x (take k more)) had ∙ with_appended-twice first v (take k more)
       ∙ ap (with_appended first) (sym (take-append-add v more k) ∙ ap (take (length v + k)) (sym goes)),
 )
@@ -201,8 +202,7 @@ module _ (asset : Asset) (client : Endpoint) (names : SiftNamesValue) (first : L
           are_judged = b.are_judged;
           of_out = out ∙ before.of_out;
           of_replies = replies ∙ before.of_replies;
-          of_log = subst (λ ls. BeginsLines ls (first names.log) (now names.log)) (sym (append-nil (lines asset client [] b.judged)))
-              (lines_begun (first names.log) (now names.log) (lines asset client [] b.judged) b.count b.some before.log_first b.of_lines b.of_part);
+          of_log = lines_begun (first names.log) (now names.log) (lines asset client [] b.judged) b.count b.some before.log_first b.of_lines b.of_part;
         }
 
     -- an element was fed

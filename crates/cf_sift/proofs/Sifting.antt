@@ -22,14 +22,14 @@ use Rattle.cf_view.specs.declared.Side.TheVariants as side
 use Rattle.cf_sift.specs.Flow.{IsFlowOf, rests_of}
 use Rattle.cf_sift.specs.Names.{AreApart, SiftNamesValue, sift_output_names}
 use Rattle.cf_sift.specs.Outputs.{AreCreated, KeepsAllBut}
-use Rattle.cf_sift.specs.Sifted.{BeginsLines, HasLines, IsReadUpTo, IsSifted, IsWrittenUpTo, SiftEnds, created, cut_lines, stored_client}
+use Rattle.cf_sift.specs.Sifted.{HasLines, HasLinesThen, IsReadUpTo, IsSifted, IsWrittenUpTo, SiftEnds, created, cut_lines, stored_client}
 use Rattle.cf_sift.specs.Stream.{HasStream}
 use Rattle.cf_sift.specs.Taken.{IsTakenWhole, ReadStops, WriteStops}
 use Rattle.cf_sift.specs.declared.flow.Flow.{Flow}
 use Rattle.cf_sift.specs.declared.sift.SiftDone.{SiftDone}
 use Rattle.cf_sift.specs.declared.sift.SiftFault.{SiftFault}
 use Rattle.cf_sift.specs.declared.sift.SiftFault.TheVariants as fault
-use Rattle.cf_sift.proofs.Logs.{lines_begun, lines_told}
+use Rattle.cf_sift.proofs.Logs.{lines_all, lines_then, lines_told}
 use Rattle.cf_sift.proofs.Streams.{of_client, whole_stream}
 
 -- no items are judged of no elements
@@ -49,15 +49,10 @@ lines_more first mid now ls more f n is then_more =
 
 -- or a beginning of them
 pub lines_partly : (first mid now : Content) (ls more : List (List ℕ)) → ends_with_line first ≡ true → file_lines mid ≡ with_lines (file_lines first) ls →
-    MayHaveMore more (file_lines mid) (file_lines now) (file_part now) → BeginsLines (ls ++ more) first now
-lines_partly first mid now ls more f is (inl (same, (k, part))) =
-    let behind : drop (length ls) (ls ++ more) ≡ more = ap (λ n. drop n (ls ++ more)) (omega arith) ∙ drop-append-add ls more 0 in
-    lines_begun first now (ls ++ more) (length ls) k f (same ∙ is ∙ ap (with_lines (file_lines first)) (sym (take-append_seam ls more)))
-    (part ∙ ap (λ l. take k (concat l)) (sym behind))
+    MayHaveMore more (file_lines mid) (file_lines now) (file_part now) → HasLinesThen ls more first now
+lines_partly first mid now ls more f is (inl (same, (k, part))) = lines_then first now ls more k f (same ∙ is) part
 lines_partly first mid now ls more f is (inr (all, part)) =
-    lines_begun first now (ls ++ more) (length (ls ++ more)) 0 f
-    (all ∙ ap (λ log. with_lines log more) is ∙ with_lines-twice (file_lines first) ls more ∙ ap (with_lines (file_lines first)) (sym (take_all (length (ls ++ more)) (ls ++ more) (omega arith))))
-    part
+    lines_all first now ls more f (all ∙ ap (λ log. with_lines log more) is ∙ with_lines-twice (file_lines first) ls more) part
 
 module _ (asset : Asset) (client : ℕ) (names : SiftNamesValue) (before mid : List ℕ → Content) (are : AreCreated before mid (sift_output_names names))
     (kept : KeepsAllBut before mid (sift_output_names names)) (apart : AreApart names) where

@@ -1,5 +1,5 @@
 -- What a call does that moves a queue's bytes to the end of a file: Drains.
-use Rattle.std.specs.Prelude.{◌≡◌, ℕ, List, [], ◌++◌}
+use Rattle.std.specs.Prelude.{◌≡◌, ℕ, List, [], ◌++◌, take}
 use Rattle.cf_outq.specs.SendQueue.{Queue}
 use Rattle.cf_outside.specs.Files.{Content, with_appended}
 
@@ -20,3 +20,7 @@ pub record Drains (old new : Queue) (before after : Content) : Type 0 where
   pub pushed : new.pushed ≡ old.pushed
   pub ended : new.ended ≡ old.ended
   pub clean : new.acked ≡ new.sent
+
+-- bytes of a queue were moved to a file in part
+abbrev pub MovesPart : Queue → (old new : Content) → Type 0
+MovesPart q old new = (k : ℕ) × (new ≡ with_appended old (take k q.kept))

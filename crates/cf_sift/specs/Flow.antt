@@ -1,18 +1,19 @@
 -- What is kept between two elements of a stored stream, and what it stands for: IsFlowOf.
 use Rattle.std.specs.Prelude.{◌≡◌, ◌⊎◌, ◌++◌, ◌∷◌, take, ℕ, ◌+◌, ◌^◌, ◌<◌, ◌≤◌, true, false, List, [], length, Option, None}
 use Rattle.cf_audit.specs.declared.line.CutReason.{CutReason}
-use Rattle.cf_lane.specs.Follows.{Began, Follows, Rests, rest_of}
+use Rattle.cf_lane.specs.Follows.{Began, BeganWithin, Follows, Rests, rest_of}
 use Rattle.cf_lane.specs.Handled.{IsLaneOf, State, debt, state}
-use Rattle.cf_lane.specs.History.{Element, end_at, ended_of, taken}
+use Rattle.cf_lane.specs.History.{Element, bytes_at, end_at, ended_of, taken}
 use Rattle.cf_outq.specs.SendQueue.{Queue, queue_length}
 use Rattle.cf_outside.specs.Files.{Content, with_appended}
-use Rattle.cf_outside.specs.Lines.{ends_with_line, file_lines}
+use Rattle.cf_outside.specs.Lines.{ends_with_line, file_lines, file_part}
 use Rattle.cf_policy.specs.declared.Asset.{Asset}
 use Rattle.cf_stream.specs.Stream.{letter_count}
 use Rattle.cf_view.specs.declared.Endpoint.{Endpoint}
 use Rattle.cf_view.specs.declared.Side.TheVariants as side
+use Rattle.cf_sift.specs.Drained.{MovesPart}
 use Rattle.cf_sift.specs.Names.{SiftNamesValue}
-use Rattle.cf_sift.specs.Sifted.{HasOut, HasReplies}
+use Rattle.cf_sift.specs.Sifted.{ElementFails, HasOut, HasReplies}
 use Rattle.cf_sift.specs.Stored.{cut_behind}
 use Rattle.cf_sift.specs.declared.flow.Flow.{Flow}
 
@@ -66,13 +67,45 @@ EndFails asset rest old log part =
     (h : List Element) (rests : Rests) (first : Option (List (List ℕ))) → rest ≡ length (rest_of side.Client rests) → Follows asset h rests None first old →
     Began asset old.lane.client (h ++ end_at 0 side.Client ∷ []) first log part
 
+-- a flow was fed a piece of the client's bytes: so it is of each history that was followed
+abbrev pub FeedsPiece : Asset → (piece : List ℕ) → (old new : Flow) → (before after : Content) → Option CutReason → Type 0
+FeedsPiece asset piece old new before after cut =
+    (h : List Element) (first : Option (List (List ℕ))) → Follows asset h (rests_of old.rest.items) None first (state_of old before) →
+    Follows asset (h ++ bytes_at 0 side.Client piece ∷ []) (rests_of new.rest.items) cut first (state_of new after)
+
+-- a line of a piece failed
+abbrev pub PieceFails : Asset → (piece : List ℕ) → (old : Flow) → (before after : Content) → Type 0
+PieceFails asset piece old before after =
+    (h : List Element) (first : Option (List (List ℕ))) → Follows asset h (rests_of old.rest.items) None first (state_of old before) →
+    BeganWithin asset old.lane.client h 0 side.Client piece first (file_lines after) (file_part after)
+
+-- the client's side was ended
+abbrev pub EndsFlow : Asset → (old new : Flow) → (before after : Content) → Type 0
+EndsFlow asset old new before after =
+    (h : List Element) (first : Option (List (List ℕ))) → Follows asset h (rests_of old.rest.items) None first (state_of old before) →
+    Follows asset (h ++ end_at 0 side.Client ∷ []) (rests_of old.rest.items) None first (state_of new after)
+
+-- its line failed
+abbrev pub FlowEndFails : Asset → (old : Flow) → (before after : Content) → Type 0
+FlowEndFails asset old before after =
+    (h : List Element) (first : Option (List (List ℕ))) → Follows asset h (rests_of old.rest.items) None first (state_of old before) →
+    Began asset old.lane.client (h ++ end_at 0 side.Client ∷ []) first (file_lines after) (file_part after)
+
 -- a queue got more bytes, and is else as it was
 abbrev pub HasGrown : (old new : Queue) → Type 0
 HasGrown old new = new ≡ record old { kept = new.kept; pushed = new.pushed }
 
--- bytes of a queue were moved to a file in part
-abbrev pub MovesPart : Queue → (old new : Content) → Type 0
-MovesPart q old new = (k : ℕ) × (new ≡ with_appended old (take k q.kept))
+-- an element was taken: so it is of each history that the flow stood for
+abbrev pub TakesElement : Asset → SiftNamesValue → Element → (old new : Flow) → (before after : List ℕ → Content) → Option CutReason → Type 0
+TakesElement asset names element old new before after cut =
+    (client : Endpoint) (first : List ℕ → Content) (h : List Element) → IsFlowOf asset client names first before h None old →
+    IsFlowAfter asset client names first after (h ++ element ∷ []) cut new
+
+-- a write failed at it
+abbrev pub FailsElement : Asset → SiftNamesValue → Element → (old : Flow) → (before after : List ℕ → Content) → Type 0
+FailsElement asset names element old before after =
+    (client : Endpoint) (first : List ℕ → Content) (h : List Element) → (was : IsFlowOf asset client names first before h None old) →
+    ElementFails asset client names first after h was.follows.judged element
 
 -- an append to OUT failed; or one to REPLIES did, and OUT has all
 abbrev pub MovesFail : SiftNamesValue → Flow → (old new : List ℕ → Content) → Type 0

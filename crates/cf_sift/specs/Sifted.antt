@@ -1,5 +1,5 @@
 -- What an answer about a stored stream means, and what then stands in the files: SiftEnds. It is read from the end.
-use Rattle.std.specs.Prelude.{◌≡◌, ◌⊎◌, ℕ, count_by, List, [], ◌∷◌, ◌++◌, take, Result, Ok, Err, Option, None, Some}
+use Rattle.std.specs.Prelude.{◌≡◌, ◌≤◌, ◌⊎◌, ℕ, count_by, length, List, [], ◌∷◌, ◌++◌, take, Result, Ok, Err, Option, None, Some}
 use Rattle.std.specs.List.{concat}
 use Rattle.cf_audit.specs.Line.{Cut}
 use Rattle.cf_audit.specs.declared.line.CutReason.{CutReason}
@@ -36,6 +36,12 @@ BeginsLines more untold now = Unit {0}
 BeginsLines more absent now = Unit {0}
 BeginsLines more (holds all) now = (k : ℕ) × (now ≡ holds (all ++ take k (concat more)))
 
+-- a log has these lines, and a beginning of those that follow
+abbrev pub HasLinesThen : (lines more : List (List ℕ)) → (first now : Content) → Type 0
+HasLinesThen lines more untold now = Unit {0}
+HasLinesThen lines more absent now = Unit {0}
+HasLinesThen lines more (holds all) now = (k : ℕ) × (now ≡ holds (all ++ (concat lines ++ take k (concat more))))
+
 -- the first bytes of an element
 abbrev pub IsFrontOf : (part whole : Element) → Type 0
 IsFrontOf part whole = (rest : List ℕ) × (whole ≡ letters_at part.moment part.side (part.letters.bytes ++ rest) part.letters.ended)
@@ -50,22 +56,32 @@ module _ (asset : Asset) (client : Endpoint) (names : SiftNamesValue) (first now
   abbrev pub HasOut : List Judged → Type 0
   HasOut judged = now names.out ≡ with_appended (first names.out) (outputs asset side.Controller [] judged)
 
-  abbrev pub BeginsOut : List Judged → Type 0
-  BeginsOut judged = (k : ℕ) × (now names.out ≡ with_appended (first names.out) (take k (outputs asset side.Controller [] judged)))
+  -- or all of the earlier ones, and a beginning of what follows
+  abbrev pub GoesOnOut : (before judged : List Judged) → Type 0
+  GoesOnOut before judged =
+      (k : ℕ) × (length (outputs asset side.Controller [] before) ≤ k)
+      × (now names.out ≡ with_appended (first names.out) (take k (outputs asset side.Controller [] judged)))
 
   -- REPLIES has what they put into the stream to the client
   abbrev pub HasReplies : List Judged → Type 0
   HasReplies judged = now names.replies ≡ with_appended (first names.replies) (outputs asset side.Client [] judged)
 
-  abbrev pub BeginsReplies : List Judged → Type 0
-  BeginsReplies judged = (k : ℕ) × (now names.replies ≡ with_appended (first names.replies) (take k (outputs asset side.Client [] judged)))
+  abbrev pub GoesOnReplies : (before judged : List Judged) → Type 0
+  GoesOnReplies before judged =
+      (k : ℕ) × (length (outputs asset side.Client [] before) ≤ k)
+      × (now names.replies ≡ with_appended (first names.replies) (take k (outputs asset side.Client [] judged)))
 
   -- LOG has their lines, and these behind them
   abbrev pub HasLog : List Judged → (more : List (List ℕ)) → Type 0
   HasLog judged more = HasLines (lines asset client [] judged ++ more) (first names.log) (now names.log)
 
-  abbrev pub BeginsLog : List Judged → (more : List (List ℕ)) → Type 0
-  BeginsLog judged more = BeginsLines (lines asset client [] judged ++ more) (first names.log) (now names.log)
+  -- a beginning of their lines
+  abbrev pub BeginsLog : List Judged → Type 0
+  BeginsLog judged = BeginsLines (lines asset client [] judged) (first names.log) (now names.log)
+
+  -- their lines, and a beginning of these
+  abbrev pub HasLogThen : List Judged → (more : List (List ℕ)) → Type 0
+  HasLogThen judged more = HasLinesThen (lines asset client [] judged) more (first names.log) (now names.log)
 
   -- the outputs have what these items put out
   pub record HaveOutput (judged : List Judged) (more : List (List ℕ)) : Type 0 where
@@ -81,22 +97,22 @@ module _ (asset : Asset) (client : Endpoint) (names : SiftNamesValue) (first now
     pub are_judged : AreJudged asset client.address (earlier ++ part ∷ []) judged
     pub of_out : HasOut before
     pub of_replies : HasReplies before
-    pub of_log : BeginsLog judged []
+    pub of_log : BeginsLog judged
 
   -- an append to OUT failed: the lines of the element are written, and nothing of it is in REPLIES
   pub record OutFails (earlier : List Element) (before : List Judged) (element : Element) : Type 0 where
     pub judged : List Judged
     pub are_judged : AreJudged asset client.address (earlier ++ element ∷ []) judged
-    pub of_out : BeginsOut judged
+    pub of_out : GoesOnOut before judged
     pub of_replies : HasReplies before
     pub of_log : HasLog judged []
 
   -- an append to REPLIES failed: what the element puts into OUT is written
-  pub record RepliesFail (earlier : List Element) (element : Element) : Type 0 where
+  pub record RepliesFail (earlier : List Element) (before : List Judged) (element : Element) : Type 0 where
     pub judged : List Judged
     pub are_judged : AreJudged asset client.address (earlier ++ element ∷ []) judged
     pub of_out : HasOut judged
-    pub of_replies : BeginsReplies judged
+    pub of_replies : GoesOnReplies before judged
     pub of_log : HasLog judged []
 
   -- the line of the cut failed: all else is written
@@ -107,12 +123,12 @@ module _ (asset : Asset) (client : Endpoint) (names : SiftNamesValue) (first now
     pub is_cut : cut_behind asset (earlier ++ element ∷ []) judged ≡ Some reason
     pub of_out : HasOut judged
     pub of_replies : HasReplies judged
-    pub of_log : BeginsLog judged (cut_lines asset client (Some reason))
+    pub of_log : HasLogThen judged (cut_lines asset client (Some reason))
 
   -- a write failed at an element, and nothing was written behind it
   abbrev pub ElementFails : (earlier : List Element) (before : List Judged) (element : Element) → Type 0
   ElementFails earlier before element =
-      LineFails earlier before element ⊎ OutFails earlier before element ⊎ RepliesFail earlier element ⊎ CutLineFails earlier element
+      LineFails earlier before element ⊎ OutFails earlier before element ⊎ RepliesFail earlier before element ⊎ CutLineFails earlier element
 
 -- files as they are once they were created
 abbrev pub created : (List ℕ → Content) → List ℕ → Content

@@ -63,3 +63,8 @@ module _ (asset : Asset) (client : Endpoint) (names : SiftNamesValue) (first old
     pub goes_on : (rest : List ℕ) → stored_history (bytes ++ rest) ≡ history ++ stored_history rest
     pub flow_of : IsFlowOf asset client names first now history None flow
     pub uncut : IsUncut asset client.address history
+
+-- what a call that takes a stream says holds of each client and of whatever the outputs had first
+abbrev pub OfEachFlow : Asset → SiftNamesValue → Flow → (before : List ℕ → Content) → (Endpoint → (List ℕ → Content) → Type 0) → Type 0
+OfEachFlow asset names flow before Holds =
+    (client : Endpoint) (first : List ℕ → Content) → IsFlowOf asset client names first before [] None flow → Holds client first

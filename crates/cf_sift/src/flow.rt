@@ -10,7 +10,7 @@ ghost use Rattle.cf_outside.specs.Files.{KeepsOthers};
 ghost use Rattle.cf_outside.specs.Lines.{ends_with_line, file_lines, file_part};
 ghost use Rattle.cf_policy.specs.Within.{IsAssetWithin};
 ghost use Rattle.cf_stream.specs.Stream.{Stream};
-ghost use Rattle.cf_sift.specs.Flow.{EndFails, HasGrown, IsReady, MovesFail, rests_of, state_of};
+ghost use Rattle.cf_sift.specs.Flow.{EndFails, EndsFlow, FeedsPiece, FlowEndFails, HasGrown, IsReady, MovesFail, PieceFails, rests_of, state_of};
 ghost use Rattle.cf_sift.specs.Drained.{Drains};
 ghost use Rattle.cf_sift.specs.Names.{AreApart, sift_names_value, sift_output_names};
 ghost use Rattle.cf_sift.specs.Outputs.{KeepsAllBut};
@@ -88,12 +88,10 @@ impl Flow {
         requires within { IsAssetWithin asset.now }
         requires whole { ends_with_line (F.content files.old log.now) ≡ true }
         requires piece { length piece.now ≤ 4096 }
-        ensures history { IfOk result (λ cut. (h : List Element) (first : Option (List (List ℕ)))
-            → Follows asset.now h (rests_of self.old.rest.items) None first (state_of self.old (F.content files.old log.now))
-            → Follows asset.now (h ++ bytes_at 0 Side.Client piece.now ∷ []) (rests_of self.new.rest.items) cut first (state_of self.new (F.content files.new log.now))) }
-        ensures fails { OnErr result ((h : List Element) (first : Option (List (List ℕ)))
-            → Follows asset.now h (rests_of self.old.rest.items) None first (state_of self.old (F.content files.old log.now))
-            → BeganWithin asset.now self.old.lane.client h 0 Side.Client piece.now first (file_lines (F.content files.new log.now)) (file_part (F.content files.new log.now))) }
+        ensures history { IfOk result (FeedsPiece asset.now piece.now self.old self.new (F.content files.old log.now)
+            (F.content files.new log.now)) }
+        ensures fails { OnErr result (PieceFails asset.now piece.now self.old (F.content files.old log.now)
+            (F.content files.new log.now)) }
         ensures client { OnOk result (self.new.lane.client ≡ self.old.lane.client) }
         ensures of_asset { OnOk result (IsLaneOf asset.now self.new.lane) }
         ensures debt { OnOk result (debt self.new.lane ≤ 5300) }
@@ -140,12 +138,8 @@ impl Flow {
         requires ready { IsReady asset.now self.old }
         requires within { IsAssetWithin asset.now }
         requires whole { ends_with_line (F.content files.old log.now) ≡ true }
-        ensures history { OnOk result ((h : List Element) (first : Option (List (List ℕ)))
-            → Follows asset.now h (rests_of self.old.rest.items) None first (state_of self.old (F.content files.old log.now))
-            → Follows asset.now (h ++ end_at 0 Side.Client ∷ []) (rests_of self.old.rest.items) None first (state_of self.new (F.content files.new log.now))) }
-        ensures fails { OnErr result ((h : List Element) (first : Option (List (List ℕ)))
-            → Follows asset.now h (rests_of self.old.rest.items) None first (state_of self.old (F.content files.old log.now))
-            → Began asset.now self.old.lane.client (h ++ end_at 0 Side.Client ∷ []) first (file_lines (F.content files.new log.now)) (file_part (F.content files.new log.now))) }
+        ensures history { OnOk result (EndsFlow asset.now self.old self.new (F.content files.old log.now) (F.content files.new log.now)) }
+        ensures fails { OnErr result (FlowEndFails asset.now self.old (F.content files.old log.now) (F.content files.new log.now)) }
         ensures new { OnOk result (self.new ≡ record self.old { to_controller = after_end self.old.to_controller; taken = self.old.taken + 1 }) }
         ensures whole { OnOk result (ends_with_line (F.content files.new log.now) ≡ true) }
         ensures others { KeepsOthers log.now (F.content files.old) (F.content files.new) }
@@ -177,11 +171,15 @@ impl Flow {
         requires to_client { self.old.to_client.acked ≡ self.old.to_client.sent }
         requires to_controller { self.old.to_controller.acked ≡ self.old.to_controller.sent }
         requires buffer { length buffer.old ≡ 4096 }
-        ensures to_client { OnOk result (Drains self.old.to_client self.new.to_client (F.content files.old names.now.replies.now) (F.content files.new names.now.replies.now)) }
-        ensures to_controller { OnOk result (Drains self.old.to_controller self.new.to_controller (F.content files.old names.now.out.now) (F.content files.new names.now.out.now)) }
+        ensures to_client { OnOk result (Drains self.old.to_client self.new.to_client (F.content files.old names.now.replies.now)
+            (F.content files.new names.now.replies.now)) }
+        ensures to_controller { OnOk result (Drains self.old.to_controller self.new.to_controller (F.content files.old names.now.out.now)
+            (F.content files.new names.now.out.now)) }
         ensures client_stands { OnOk result ((whole : Stream) → IsQueueOf self.old.to_client whole → IsQueueOf self.new.to_client whole) }
-        ensures controller_stands { OnOk result ((whole : Stream) → IsQueueOf self.old.to_controller whole → IsQueueOf self.new.to_controller whole) }
-        ensures same { OnOk result (self.new ≡ record self.old { to_client = self.new.to_client; to_controller = self.new.to_controller }) }
+        ensures controller_stands { OnOk result ((whole : Stream) → IsQueueOf self.old.to_controller whole
+            → IsQueueOf self.new.to_controller whole) }
+        ensures same { OnOk result (self.new
+            ≡ record self.old { to_client = self.new.to_client; to_controller = self.new.to_controller }) }
         ensures fails { OnErr result (MovesFail (sift_names_value names.now) self.old (F.content files.old) (F.content files.new)) }
         ensures log { F.content files.new names.now.log.now ≡ F.content files.old names.now.log.now }
         ensures others { KeepsAllBut (F.content files.old) (F.content files.new) (sift_output_names (sift_names_value names.now)) }

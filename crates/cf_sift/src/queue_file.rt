@@ -2,9 +2,9 @@
 ghost use Rattle.std.specs.Prelude.{◌≡◌, ◌+◌, ◌≤◌, ℕ, true, OnOk, OnErr, IsErr, length, take, pos};
 ghost use Rattle.cf_outq.specs.SendQueue.{IsQueueOf, IsUnacked, piece_letters};
 ghost use Rattle.cf_outside.specs.Faults.{HasCause};
-ghost use Rattle.cf_outside.specs.Files.{KeepsOthers, with_appended};
+ghost use Rattle.cf_outside.specs.Files.{KeepsOthers};
 ghost use Rattle.cf_stream.specs.Stream.{Stream};
-ghost use Rattle.cf_sift.specs.Drained.{Drains, Moves};
+ghost use Rattle.cf_sift.specs.Drained.{Drains, Moves, MovesPart};
 
 use crate::stream::PIECE;
 use cf_outq::{Outq, Piece};
@@ -21,7 +21,7 @@ pub(crate) fn drain<F: Files>(
     requires buffer { length buffer.old ≡ 4096 }
     requires clean { queue.old.acked ≡ queue.old.sent }
     ensures drains { OnOk result (Drains queue.old queue.new (F.content files.old name.now) (F.content files.new name.now)) }
-    ensures partly { OnErr result ((k : ℕ) × (F.content files.new name.now ≡ with_appended (F.content files.old name.now) (take k queue.old.kept))) }
+    ensures partly { OnErr result (MovesPart queue.old (F.content files.old name.now) (F.content files.new name.now)) }
     ensures stands { (whole : Stream) → IsQueueOf queue.old whole → IsQueueOf queue.new whole }
     ensures others { KeepsOthers name.now (F.content files.old) (F.content files.new) }
     ensures cause { HasCause (F.write_faults files.old) (F.write_faults files.new) (IsErr result) }
@@ -55,7 +55,7 @@ fn move_piece<F: Files>(
     requires sent { queue.old.sent ≡ queue.old.acked + piece_letters piece }
     requires end { piece.end ≡ true → length queue.old.kept ≡ piece.len }
     ensures moves { OnOk result (Moves queue.old queue.new (F.content files.old name.now) (F.content files.new name.now)) }
-    ensures partly { OnErr result ((k : ℕ) × (F.content files.new name.now ≡ with_appended (F.content files.old name.now) (take k queue.old.kept))) }
+    ensures partly { OnErr result (MovesPart queue.old (F.content files.old name.now) (F.content files.new name.now)) }
     ensures stands { (whole : Stream) → IsQueueOf queue.old whole → IsQueueOf queue.new whole }
     ensures sent { OnOk result (queue.new.sent ≡ queue.old.sent) }
     ensures others { KeepsOthers name.now (F.content files.old) (F.content files.new) }

@@ -115,8 +115,10 @@ fn log_cut<F: Files>(
 ) -> Result<(), WriteFault>
     requires within { IsAssetWithin asset.now }
     requires whole { ends_with_line (F.content files.old log.now) ≡ true }
-    ensures lines { OnOk result (file_lines (F.content files.new log.now) ≡ with_lines (file_lines (F.content files.old log.now)) (cut_lines asset.now client cut.now)) }
-    ensures fails { OnErr result (MayHaveMore (cut_lines asset.now client cut.now) (file_lines (F.content files.old log.now)) (file_lines (F.content files.new log.now)) (file_part (F.content files.new log.now))) }
+    ensures lines { OnOk result (file_lines (F.content files.new log.now)
+        ≡ with_lines (file_lines (F.content files.old log.now)) (cut_lines asset.now client cut.now)) }
+    ensures fails { OnErr result (MayHaveMore (cut_lines asset.now client cut.now) (file_lines (F.content files.old log.now))
+        (file_lines (F.content files.new log.now)) (file_part (F.content files.new log.now))) }
     ensures some { OnErr result (IsSome cut.now) }
     ensures whole { OnOk result (ends_with_line (F.content files.new log.now) ≡ true) }
     ensures others { KeepsOthers log.now (F.content files.old) (F.content files.new) }
@@ -139,8 +141,10 @@ fn log_reason<F: Files>(
 ) -> Result<(), WriteFault>
     requires within { IsAssetWithin asset.now }
     requires whole { ends_with_line (F.content files.old log.now) ≡ true }
-    ensures lines { OnOk result (file_lines (F.content files.new log.now) ≡ with_lines (file_lines (F.content files.old log.now)) (cut_lines asset.now client (Some reason))) }
-    ensures fails { OnErr result (MayHaveMore (cut_lines asset.now client (Some reason)) (file_lines (F.content files.old log.now)) (file_lines (F.content files.new log.now)) (file_part (F.content files.new log.now))) }
+    ensures lines { OnOk result (file_lines (F.content files.new log.now)
+        ≡ with_lines (file_lines (F.content files.old log.now)) (cut_lines asset.now client (Some reason))) }
+    ensures fails { OnErr result (MayHaveMore (cut_lines asset.now client (Some reason)) (file_lines (F.content files.old log.now))
+        (file_lines (F.content files.new log.now)) (file_part (F.content files.new log.now))) }
     ensures whole { OnOk result (ends_with_line (F.content files.new log.now) ≡ true) }
     ensures others { KeepsOthers log.now (F.content files.old) (F.content files.new) }
     ensures cause { HasCause (F.write_faults files.old) (F.write_faults files.new) (IsErr result) }

@@ -6,11 +6,11 @@ ghost use Rattle.cf_outside.specs.Files.{Content};
 ghost use Rattle.cf_outside.specs.Lines.{ends_with_line};
 ghost use Rattle.cf_policy.specs.Within.{IsAssetWithin};
 ghost use Rattle.cf_view.specs.declared.Endpoint.{Endpoint as EndpointOf};
-ghost use Rattle.cf_sift.specs.Flow.{IsFlowAfter, IsFlowOf, IsReady};
+ghost use Rattle.cf_sift.specs.Flow.{FailsElement, IsReady, TakesElement};
 ghost use Rattle.cf_sift.specs.Names.{AreApart, sift_names_value, sift_output_names};
 ghost use Rattle.cf_sift.specs.Outputs.{KeepsAllBut};
 ghost use Rattle.cf_sift.specs.Sifted.{ElementFails};
-ghost use Rattle.cf_sift.specs.Taken.{IsTakenWhole, ReadStops, WriteStops};
+ghost use Rattle.cf_sift.specs.Taken.{IsTakenWhole, OfEachFlow, ReadStops, WriteStops};
 
 use crate::fill::fill;
 use crate::flow::Flow;
@@ -41,15 +41,12 @@ pub(crate) fn take_stream<F: Files>(
     requires whole { ends_with_line (F.content files.old names.now.log.now) ≡ true }
     requires piece { length piece.old ≡ 4096 }
     requires buffer { length buffer.old ≡ 4096 }
-    ensures taken { IfOk result (λ cut. (client : EndpointOf) (first : List ℕ → Content)
-        → IsFlowOf asset.now client (sift_names_value names.now) first (F.content files.old) [] None flow.old
-        → IsTakenWhole asset.now client (sift_names_value names.now) first (F.content files.old) (F.content files.new) cut flow.new) }
-    ensures read { IsErrOf result SiftFault.Read → (client : EndpointOf) (first : List ℕ → Content)
-        → IsFlowOf asset.now client (sift_names_value names.now) first (F.content files.old) [] None flow.old
-        → ReadStops asset.now client (sift_names_value names.now) first (F.content files.old) (F.content files.new) }
-    ensures write { IsErrOf result SiftFault.Write → (client : EndpointOf) (first : List ℕ → Content)
-        → IsFlowOf asset.now client (sift_names_value names.now) first (F.content files.old) [] None flow.old
-        → WriteStops asset.now client (sift_names_value names.now) first (F.content files.old) (F.content files.new) }
+    ensures taken { IfOk result (λ cut. OfEachFlow asset.now (sift_names_value names.now) flow.old (F.content files.old)
+        (λ client first. IsTakenWhole asset.now client (sift_names_value names.now) first (F.content files.old) (F.content files.new) cut flow.new)) }
+    ensures read { IsErrOf result SiftFault.Read → OfEachFlow asset.now (sift_names_value names.now) flow.old (F.content files.old)
+        (λ client first. ReadStops asset.now client (sift_names_value names.now) first (F.content files.old) (F.content files.new)) }
+    ensures write { IsErrOf result SiftFault.Write → OfEachFlow asset.now (sift_names_value names.now) flow.old (F.content files.old)
+        (λ client first. WriteStops asset.now client (sift_names_value names.now) first (F.content files.old) (F.content files.new)) }
     ensures memory { IsErrOf result SiftFault.NoMemory → ⊥ }
     ensures log { OnOk result (ends_with_line (F.content files.new names.now.log.now) ≡ true) }
     ensures others { KeepsAllBut (F.content files.old) (F.content files.new) (sift_output_names (sift_names_value names.now)) }
@@ -90,12 +87,10 @@ fn take_piece<F: Files>(
     requires whole { ends_with_line (F.content files.old names.now.log.now) ≡ true }
     requires piece { length piece.now ≤ 4096 }
     requires buffer { length buffer.old ≡ 4096 }
-    ensures taken { IfOk result (λ cut. (client : EndpointOf) (first : List ℕ → Content) (h : List Element)
-        → IsFlowOf asset.now client (sift_names_value names.now) first (F.content files.old) h None flow.old
-        → IsFlowAfter asset.now client (sift_names_value names.now) first (F.content files.new) (h ++ bytes_at 0 Side.Client piece.now ∷ []) cut flow.new) }
-    ensures fails { OnErr result ((client : EndpointOf) (first : List ℕ → Content) (h : List Element)
-        → (before : IsFlowOf asset.now client (sift_names_value names.now) first (F.content files.old) h None flow.old)
-        → ElementFails asset.now client (sift_names_value names.now) first (F.content files.new) h before.follows.judged (bytes_at 0 Side.Client piece.now)) }
+    ensures taken { IfOk result (TakesElement asset.now (sift_names_value names.now) (bytes_at 0 Side.Client piece.now) flow.old flow.new (F.content files.old)
+        (F.content files.new)) }
+    ensures fails { OnErr result (FailsElement asset.now (sift_names_value names.now) (bytes_at 0 Side.Client piece.now) flow.old (F.content files.old)
+        (F.content files.new)) }
     ensures ready { IfOk result (λ cut. cut ≡ None → IsReady asset.now flow.new) }
     ensures letters { OnOk result (flow.new.taken ≡ flow.old.taken + length piece.now) }
     ensures whole { OnOk result (ends_with_line (F.content files.new names.now.log.now) ≡ true) }
@@ -121,12 +116,10 @@ fn take_end<F: Files>(
     requires within { IsAssetWithin asset.now }
     requires apart { AreApart (sift_names_value names.now) }
     requires whole { ends_with_line (F.content files.old names.now.log.now) ≡ true }
-    ensures taken { IfOk result (λ cut. (client : EndpointOf) (first : List ℕ → Content) (h : List Element)
-        → IsFlowOf asset.now client (sift_names_value names.now) first (F.content files.old) h None flow.old
-        → IsFlowAfter asset.now client (sift_names_value names.now) first (F.content files.new) (h ++ end_at 0 Side.Client ∷ []) cut flow.new) }
-    ensures fails { OnErr result ((client : EndpointOf) (first : List ℕ → Content) (h : List Element)
-        → (before : IsFlowOf asset.now client (sift_names_value names.now) first (F.content files.old) h None flow.old)
-        → ElementFails asset.now client (sift_names_value names.now) first (F.content files.new) h before.follows.judged (end_at 0 Side.Client)) }
+    ensures taken { IfOk result (TakesElement asset.now (sift_names_value names.now) (end_at 0 Side.Client) flow.old flow.new (F.content files.old)
+        (F.content files.new)) }
+    ensures fails { OnErr result (FailsElement asset.now (sift_names_value names.now) (end_at 0 Side.Client) flow.old (F.content files.old)
+        (F.content files.new)) }
     ensures whole { OnOk result (ends_with_line (F.content files.new names.now.log.now) ≡ true) }
     ensures others { KeepsAllBut (F.content files.old) (F.content files.new) (sift_output_names (sift_names_value names.now)) }
     ensures cause { HasCause (F.write_faults files.old) (F.write_faults files.new) (IsErr result) }
