@@ -29,7 +29,7 @@ use Rattle.cf_view.specs.declared.Side.TheVariants as side
 use Rattle.cf_sift.specs.Drained.{Drains}
 use Rattle.cf_sift.specs.Flow.{HasGrown, IsDrained, IsFlowOf, MovesFail, rests_of, state_of}
 use Rattle.cf_sift.specs.Names.{SiftNamesValue}
-use Rattle.cf_sift.specs.Sifted.{BeginsLines, ElementFails, HasLines, LineFails}
+use Rattle.cf_sift.specs.Sifted.{ElementFails, HasLines, LineFails}
 use Rattle.cf_sift.specs.Stored.{cut_behind}
 use Rattle.cf_sift.specs.declared.flow.Flow.{Flow}
 use Rattle.cf_sift.proofs.Logs.{lines_begun, lines_told}

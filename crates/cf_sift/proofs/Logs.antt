@@ -58,11 +58,13 @@ lines_then absent now ls more k f is part = tt
 lines_then (holds all) untold ls more k f is part = cc
 lines_then (holds all) absent ls more k f is part = cc
 lines_then (holds all) (holds x) ls more k f is part =
-    let same : lines_from [] x ≡ lines_from [] all ++ ls = cc in
-    (k, ap holds (octets_are x ∙ ap (λ l. concat l ++ rest_from [] x) same
-    ∙ ap (λ p. concat (lines_from [] all ++ ls) ++ p) part
-    ∙ ap (λ c. c ++ take k (concat more)) (concat-append (lines_from [] all) ls ∙ ap (λ xs. xs ++ concat ls) (sym (whole_lines all f)))
-    ∙ append_assoc all (concat ls) (take k (concat more))))
+    let same : lines_from [] x ≡ lines_from [] all ++ ls = cc in (
+      k,
+      ap holds (octets_are x ∙ ap (λ l. concat l ++ rest_from [] x) same
+          ∙ ap (λ p. concat (lines_from [] all ++ ls) ++ p) part
+          ∙ ap (λ c. c ++ take k (concat more)) (concat-append (lines_from [] all) ls ∙ ap (λ xs. xs ++ concat ls) (sym (whole_lines all f)))
+          ∙ append_assoc all (concat ls) (take k (concat more))),
+    )
 
 -- all of it, where the lines go on with them
 pub lines_all : (first now : Content) (ls more : List (List ℕ)) → ends_with_line first ≡ true →
@@ -72,8 +74,10 @@ lines_all absent now ls more f is part = tt
 lines_all (holds all) untold ls more f is part = cc
 lines_all (holds all) absent ls more f is part = cc
 lines_all (holds all) (holds x) ls more f is part =
-    let same : lines_from [] x ≡ lines_from [] all ++ (ls ++ more) = cc in
-    (length (concat more), ap holds (octets_are x ∙ ap (λ l. concat l ++ rest_from [] x) same
-    ∙ ap (λ p. concat (lines_from [] all ++ (ls ++ more)) ++ p) part ∙ append-nil (concat (lines_from [] all ++ (ls ++ more)))
-    ∙ concat-append (lines_from [] all) (ls ++ more) ∙ ap (λ xs. xs ++ concat (ls ++ more)) (sym (whole_lines all f))
-    ∙ ap (λ c. all ++ c) (concat-append ls more) ∙ ap (λ c. all ++ (concat ls ++ c)) (sym (take_all (length (concat more)) (concat more) (omega arith)))))
+    let same : lines_from [] x ≡ lines_from [] all ++ (ls ++ more) = cc in (
+      length (concat more),
+      ap holds (octets_are x ∙ ap (λ l. concat l ++ rest_from [] x) same
+          ∙ ap (λ p. concat (lines_from [] all ++ (ls ++ more)) ++ p) part ∙ append-nil (concat (lines_from [] all ++ (ls ++ more)))
+          ∙ concat-append (lines_from [] all) (ls ++ more) ∙ ap (λ xs. xs ++ concat (ls ++ more)) (sym (whole_lines all f))
+          ∙ ap (λ c. all ++ c) (concat-append ls more) ∙ ap (λ c. all ++ (concat ls ++ c)) (sym (take_all (length (concat more)) (concat more) (omega arith)))),
+    )

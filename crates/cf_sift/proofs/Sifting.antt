@@ -1,9 +1,6 @@
 -- A stored stream from the creation of its outputs to the line of its cut.
-use Rattle.std.proofs.Common.{◌≡◌, ◌≢◌, ℕ, true, false, None, Some, Option, Result, Ok, Err, List, [], ◌∷◌, ◌++◌, length, map, take, drop, refl, sym, ap, ◌∙◌, append_assoc, subst, inl, inr, arith}
+use Rattle.std.proofs.Common.{◌≡◌, ◌≢◌, ℕ, true, false, None, Some, Option, Result, Ok, Err, List, [], ◌∷◌, ◌++◌, map, refl, sym, ap, ◌∙◌, append_assoc, subst, inl, inr}
 use Rattle.std.specs.Prelude.{IsErrAnd, IsErrOf, IsSome}
-use Rattle.std.specs.List.{concat}
-use Rattle.std.proofs.Math.Seq.{take-append_seam, drop-append-add}
-use Rattle.std.proofs.lemmas.List.{take_all}
 use Rattle.cf_audit.specs.declared.line.CutReason.{CutReason}
 use Rattle.cf_lane.specs.Follows.{Follows}
 use Rattle.cf_lane.specs.Handled.{MayHaveMore, state}

@@ -34,7 +34,8 @@ IsUncut asset client history =
 
 -- a history goes up to these elements, which have these judged items: up to the first element behind which it is cut, or to
 -- its end where it is not
-pub record GoesUpTo (asset : Asset) (client : ℕ) (whole : List Element) (cut : Option CutReason) (history : List Element) (judged : List Judged) : Type 0 where
+pub record GoesUpTo (asset : Asset) (client : ℕ) (whole : List Element) (cut : Option CutReason) (history : List Element)
+    (judged : List Judged) : Type 0 where
   pub later : List Element
   pub begins : whole ≡ history ++ later
   pub are_judged : AreJudged asset client history judged

@@ -17,7 +17,8 @@ pub(crate) fn fill<F: Files>(
     requires short { length buffer.old ≤ 65536 }
     requires near { place ≤ 2 ^ 40 }
     ensures inside { IfSome result (λ have. have ≤ length buffer.new) }
-    ensures filled { IfSome result (λ have. IsFilled (F.content files.old name.now) place (length buffer.old) (take have buffer.new)) }
+    ensures filled { IfSome result (λ have. IsFilled (F.content files.old name.now) place (length buffer.old)
+        (take have buffer.new)) }
     ensures length { length buffer.new ≡ length buffer.old }
     ensures same { F.content files.new ≡ F.content files.old }
     ensures cause { HasCause (F.read_faults files.old) (F.read_faults files.new) (result ≡ None) }

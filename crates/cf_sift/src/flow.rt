@@ -48,7 +48,8 @@ impl Flow {
         ensures ready { IfOk result (λ flow. IsReady asset.now flow) }
         ensures client { IfOk result (λ flow. flow.lane.client ≡ client) }
         ensures letters { IfOk result (λ flow. flow.taken ≡ 0) }
-        ensures follows { IfOk result (λ flow. (first : Option (List (List ℕ))) → Follows asset.now [] (rests_of flow.rest.items) None first
+        ensures follows { IfOk result (λ flow. (first : Option (List (List ℕ)))
+            → Follows asset.now [] (rests_of flow.rest.items) None first
             (state flow.lane flow.to_client flow.to_controller first)) }
     {
         let lane = Lane::new(alloc, asset, client)?;
@@ -65,7 +66,8 @@ impl Flow {
 
     /// Why a stream cuts the session that has as many letters as the limit, if one has.
     pub(crate) fn length_cut(&self) -> Option<CutReason>
-        ensures { result ≡ limit_by LETTER_LIMIT self.now.taken 0 (queue_length self.now.to_client) (queue_length self.now.to_controller) }
+        ensures { result ≡ limit_by LETTER_LIMIT self.now.taken 0 (queue_length self.now.to_client)
+            (queue_length self.now.to_controller) }
     {
         let lengths = Lengths {
             client: self.taken,
@@ -98,7 +100,8 @@ impl Flow {
         ensures to_client { OnOk result (HasGrown self.old.to_client self.new.to_client) }
         ensures to_controller { OnOk result (HasGrown self.old.to_controller self.new.to_controller) }
         ensures rest { OnOk result (length self.new.rest.items < 300) }
-        ensures counts { OnOk result (self.new.lane.admitted + self.new.lane.refused + length self.new.rest.items ≤ self.new.taken) }
+        ensures counts { OnOk result (self.new.lane.admitted + self.new.lane.refused + length self.new.rest.items
+            ≤ self.new.taken) }
         ensures taken { OnOk result (self.new.taken ≡ self.old.taken + length piece.now) }
         ensures whole { OnOk result (ends_with_line (F.content files.new log.now) ≡ true) }
         ensures others { KeepsOthers log.now (F.content files.old) (F.content files.new) }
@@ -140,7 +143,8 @@ impl Flow {
         requires whole { ends_with_line (F.content files.old log.now) ≡ true }
         ensures history { OnOk result (EndsFlow asset.now self.old self.new (F.content files.old log.now) (F.content files.new log.now)) }
         ensures fails { OnErr result (FlowEndFails asset.now self.old (F.content files.old log.now) (F.content files.new log.now)) }
-        ensures new { OnOk result (self.new ≡ record self.old { to_controller = after_end self.old.to_controller; taken = self.old.taken + 1 }) }
+        ensures new { OnOk result (self.new
+            ≡ record self.old { to_controller = after_end self.old.to_controller; taken = self.old.taken + 1 }) }
         ensures whole { OnOk result (ends_with_line (F.content files.new log.now) ≡ true) }
         ensures others { KeepsOthers log.now (F.content files.old) (F.content files.new) }
         ensures cause { HasCause (F.write_faults files.old) (F.write_faults files.new) (IsErr result) }
@@ -211,11 +215,14 @@ fn feed_lane<F: Files>(
     requires controller_room { HasRoom (debt lane.old + 2 * length (rest.now ++ piece.now)) to_controller.old }
     requires counts { lane.old.admitted + lane.old.refused + length (rest.now ++ piece.now) < 2 ^ 64 }
     ensures used { IfOk result (λ fed. fed.used ≤ length (rest.now ++ piece.now)) }
-    ensures history { IfOk result (λ fed. (h : List Element) (rests : Rests) (first : Option (List (List ℕ))) (more : List ℕ) (ended : Bool)
+    ensures history { IfOk result (λ fed. (h : List Element) (rests : Rests) (first : Option (List (List ℕ)))
+        (more : List ℕ) (ended : Bool)
         → IsEndBehindCut ended fed.cut
         → rest.now ++ piece.now ≡ rest_of Side.Client rests ++ more
-        → Follows asset.now h rests None first (state lane.old to_client.old to_controller.old (file_lines (F.content files.old log.now)))
-        → Follows asset.now (h ++ letters_at 0 Side.Client more ended ∷ []) (with_rest Side.Client rests (drop fed.used (rest.now ++ piece.now))) fed.cut first
+        → Follows asset.now h rests None first
+        (state lane.old to_client.old to_controller.old (file_lines (F.content files.old log.now)))
+        → Follows asset.now (h ++ letters_at 0 Side.Client more ended ∷ [])
+        (with_rest Side.Client rests (drop fed.used (rest.now ++ piece.now))) fed.cut first
         (state lane.new to_client.new to_controller.new (file_lines (F.content files.new log.now)))) }
     ensures fails { OnErr result (FailsWithin asset.now 0 Side.Client (rest.now ++ piece.now)
         (state lane.old to_client.old to_controller.old (file_lines (F.content files.old log.now)))
@@ -224,7 +231,8 @@ fn feed_lane<F: Files>(
     ensures of_asset { OnOk result (IsLaneOf asset.now lane.new) }
     ensures left { IfOk result (λ fed. fed.cut ≡ None → length (drop fed.used (rest.now ++ piece.now)) < 300) }
     ensures client_grows { IfOk result (λ fed. Grows (2 * fed.used) (debt lane.old) (debt lane.new) to_client.old to_client.new) }
-    ensures controller_grows { IfOk result (λ fed. Grows (2 * fed.used) (debt lane.old) (debt lane.new) to_controller.old to_controller.new) }
+    ensures controller_grows { IfOk result (λ fed. Grows (2 * fed.used) (debt lane.old) (debt lane.new)
+        to_controller.old to_controller.new) }
     ensures debt { OnOk result (debt lane.new ≤ 5300) }
     ensures counts { IfOk result (λ fed. CountsBy fed.used lane.old lane.new) }
     ensures whole { OnOk result (ends_with_line (F.content files.new log.now) ≡ true) }
@@ -263,11 +271,14 @@ fn end_lane<F: Files>(
     requires whole { ends_with_line (F.content files.old log.now) ≡ true }
     requires goes { to_controller.old.ended ≡ false }
     requires limit { to_controller.old.pushed < 2 ^ 31 }
-    ensures history { OnOk result ((h : List Element) (rests : Rests) (first : Option (List (List ℕ))) → rest ≡ length (rest_of Side.Client rests)
-        → Follows asset.now h rests None first (state lane.old to_client.old to_controller.old (file_lines (F.content files.old log.now)))
+    ensures history { OnOk result ((h : List Element) (rests : Rests) (first : Option (List (List ℕ)))
+        → rest ≡ length (rest_of Side.Client rests)
+        → Follows asset.now h rests None first
+        (state lane.old to_client.old to_controller.old (file_lines (F.content files.old log.now)))
         → Follows asset.now (h ++ end_at 0 Side.Client ∷ []) rests None first
         (state lane.new to_client.new to_controller.new (file_lines (F.content files.new log.now)))) }
-    ensures fails { OnErr result (EndFails asset.now rest (state lane.old to_client.old to_controller.old (file_lines (F.content files.old log.now)))
+    ensures fails { OnErr result (EndFails asset.now rest
+        (state lane.old to_client.old to_controller.old (file_lines (F.content files.old log.now)))
         (file_lines (F.content files.new log.now)) (file_part (F.content files.new log.now))) }
     ensures lane { lane.new ≡ lane.old }
     ensures to_client { OnOk result (to_client.new ≡ to_client.old) }

@@ -1,4 +1,5 @@
-//! The filter of a stored stream: it is read in pieces, each is handed to a lane, and what goes to each side is moved into a file.
+//! The filter of a stored stream: it is read in pieces, each is handed to a lane, and what goes to each side is moved into a
+//! file.
 #![tactic(auto)]
 
 mod fill;

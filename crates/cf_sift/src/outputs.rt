@@ -15,8 +15,10 @@ pub(crate) fn create_outputs<F: Files>(
     names: &SiftNames<'_>,
 ) -> Result<(), WriteFault>
     requires { AreApart (sift_names_value names.now) }
-    ensures done { OnOk result (AreCreated (F.content files.old) (F.content files.new) (sift_output_names (sift_names_value names.now))) }
-    ensures fault { OnErr result (CreationFails (F.content files.old) (F.content files.new) (sift_output_names (sift_names_value names.now))) }
+    ensures done { OnOk result (AreCreated (F.content files.old) (F.content files.new)
+        (sift_output_names (sift_names_value names.now))) }
+    ensures fault { OnErr result (CreationFails (F.content files.old) (F.content files.new)
+        (sift_output_names (sift_names_value names.now))) }
     ensures others { KeepsAllBut (F.content files.old) (F.content files.new) (sift_output_names (sift_names_value names.now)) }
     ensures cause { HasCause (F.write_faults files.old) (F.write_faults files.new) (IsErr result) }
     ensures reads { F.read_faults files.new ≡ F.read_faults files.old }

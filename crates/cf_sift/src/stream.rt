@@ -42,7 +42,8 @@ pub(crate) fn take_stream<F: Files>(
     requires piece { length piece.old ≡ 4096 }
     requires buffer { length buffer.old ≡ 4096 }
     ensures taken { IfOk result (λ cut. OfEachFlow asset.now (sift_names_value names.now) flow.old (F.content files.old)
-        (λ client first. IsTakenWhole asset.now client (sift_names_value names.now) first (F.content files.old) (F.content files.new) cut flow.new)) }
+        (λ client first. IsTakenWhole asset.now client (sift_names_value names.now) first (F.content files.old) (F.content files.new)
+        cut flow.new)) }
     ensures read { IsErrOf result SiftFault.Read → OfEachFlow asset.now (sift_names_value names.now) flow.old (F.content files.old)
         (λ client first. ReadStops asset.now client (sift_names_value names.now) first (F.content files.old) (F.content files.new)) }
     ensures write { IsErrOf result SiftFault.Write → OfEachFlow asset.now (sift_names_value names.now) flow.old (F.content files.old)
@@ -87,10 +88,10 @@ fn take_piece<F: Files>(
     requires whole { ends_with_line (F.content files.old names.now.log.now) ≡ true }
     requires piece { length piece.now ≤ 4096 }
     requires buffer { length buffer.old ≡ 4096 }
-    ensures taken { IfOk result (TakesElement asset.now (sift_names_value names.now) (bytes_at 0 Side.Client piece.now) flow.old flow.new (F.content files.old)
-        (F.content files.new)) }
-    ensures fails { OnErr result (FailsElement asset.now (sift_names_value names.now) (bytes_at 0 Side.Client piece.now) flow.old (F.content files.old)
-        (F.content files.new)) }
+    ensures taken { IfOk result (TakesElement asset.now (sift_names_value names.now) (bytes_at 0 Side.Client piece.now)
+        flow.old flow.new (F.content files.old) (F.content files.new)) }
+    ensures fails { OnErr result (FailsElement asset.now (sift_names_value names.now) (bytes_at 0 Side.Client piece.now)
+        flow.old (F.content files.old) (F.content files.new)) }
     ensures ready { IfOk result (λ cut. cut ≡ None → IsReady asset.now flow.new) }
     ensures letters { OnOk result (flow.new.taken ≡ flow.old.taken + length piece.now) }
     ensures whole { OnOk result (ends_with_line (F.content files.new names.now.log.now) ≡ true) }
@@ -116,10 +117,10 @@ fn take_end<F: Files>(
     requires within { IsAssetWithin asset.now }
     requires apart { AreApart (sift_names_value names.now) }
     requires whole { ends_with_line (F.content files.old names.now.log.now) ≡ true }
-    ensures taken { IfOk result (TakesElement asset.now (sift_names_value names.now) (end_at 0 Side.Client) flow.old flow.new (F.content files.old)
-        (F.content files.new)) }
-    ensures fails { OnErr result (FailsElement asset.now (sift_names_value names.now) (end_at 0 Side.Client) flow.old (F.content files.old)
-        (F.content files.new)) }
+    ensures taken { IfOk result (TakesElement asset.now (sift_names_value names.now) (end_at 0 Side.Client)
+        flow.old flow.new (F.content files.old) (F.content files.new)) }
+    ensures fails { OnErr result (FailsElement asset.now (sift_names_value names.now) (end_at 0 Side.Client)
+        flow.old (F.content files.old) (F.content files.new)) }
     ensures whole { OnOk result (ends_with_line (F.content files.new names.now.log.now) ≡ true) }
     ensures others { KeepsAllBut (F.content files.old) (F.content files.new) (sift_output_names (sift_names_value names.now)) }
     ensures cause { HasCause (F.write_faults files.old) (F.write_faults files.new) (IsErr result) }
