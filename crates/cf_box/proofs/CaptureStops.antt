@@ -34,6 +34,8 @@ module _ (failed : Type 0) (before after : Option (List â„•)) (capture : List â„
   no_other (stop.PolicyRefused p) other (Err r) lists = cc (lists.0)
   no_other stop.UnknownAsset other (Ok h) lists = lists.answers
   no_other stop.UnknownAsset other (Err r) lists = cc (lists.0)
+  no_other (stop.Cut reason) other (Ok h) lists = lists.answers
+  no_other (stop.Cut reason) other (Err r) lists = cc (lists.0)
   no_other stop.NoMemory other (Ok h) lists = lists.answers
   no_other stop.NoMemory other (Err r) lists = cc (lists.0)
   no_other stop.Unbuilt other (Ok h) lists = lists.answers

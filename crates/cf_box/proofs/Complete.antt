@@ -159,6 +159,7 @@ module _ (c : Command) (before middle : Outside) (failed : Type 0) (status : ℕ
   is_complete (Err (stop.CaptureRefused r)) meets h = absurd (refused_none c before r (input.capture) meets.0.0)
   is_complete (Err (stop.CaptureCut place)) meets h = absurd (cut_none c before place (input.capture) meets.0.0)
   is_complete (Err (stop.RunCut place summary)) meets h = absurd (run_cut_none c before place (input.capture) meets.0.0)
+  is_complete (Err (stop.Cut reason)) meets h = absurd (input.stream reason meets.0.0)
   is_complete (Err stop.Unbuilt) meets h = absurd (input.built meets.0.0)
 
 pub complete_told : {c : Command} {before after : Outside} {status : ℕ} (e : Explains c before after status) → HasInput c before → NothingFails

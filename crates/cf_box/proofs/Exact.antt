@@ -1,27 +1,26 @@
 -- Causes that stand in the input, where it is told: no other status comes but those to which they yield.
-use Rattle.std.proofs.Common.{◌≡◌, ◌⊎◌, ℕ, List, Some, Result, Ok, Err, length, refl, sym, subst, ◌∙◌, ap, inl, inr, arith}
-use Rattle.cf_filter.specs.Filtered.{IsBrokenBy, Output}
-use Rattle.cf_modbus.proofs.Framing.{prefix_free}
-use Rattle.cf_modbus.specs.Adu.{SpellsAdu}
+use Rattle.std.proofs.Common.{◌≡◌, ◌⊎◌, ℕ, List, None, Some, Result, Ok, Err, length, sym, subst, ◌∙◌, ap, inl, inr, arith}
 use Rattle.cf_policy.specs.declared.Asset.{Asset}
 use Rattle.cf_policy.specs.declared.Policy.{Policy}
 use Rattle.cf_policylang.specs.Documents.{policy_meaning}
 use Rattle.cf_policylang.specs.declared.PolicyRefusal.{PolicyRefusal}
-use Rattle.cf_view.proofs.Units.{rest_not_break}
-use Rattle.cf_box.specs.Command.{Command, Check, Packets, Run, Relay, World, Sift, SiftNamesValue, policy_file}
+use Rattle.cf_box.specs.Command.{Command, Check, Packets, Run, Relay, World, Sift, policy_file}
 use Rattle.cf_box.specs.Ending.{stop_status}
 use Rattle.cf_box.specs.Ends.{Does, LacksAsset, Meets, PassesPolicy, RefusesPolicy}
-use Rattle.cf_box.specs.Outside.{Outside, ReadFailed, SinkValue}
+use Rattle.cf_box.specs.Outside.{Outside, ReadFailed, SinkValue, WriteFailed}
 use Rattle.cf_box.specs.Packets.{ListsFile, TellsLongCapture}
 use Rattle.cf_box.specs.PolicyFile.{HasPolicy, IsRefusedBy}
-use Rattle.cf_box.specs.Sift.{FindsAsset, IsSifted, TellsUnbuiltStream}
-use Rattle.cf_box.specs.Status.{IsExact, TellsLack, TellsNoAsset, TellsNoPolicy}
+use Rattle.cf_sift.specs.Laws.{HasOneCut}
+use Rattle.cf_sift.specs.Names.{SiftNamesValue}
+use Rattle.cf_sift.specs.Stored.{GoesUpTo, stored_history}
+use Rattle.cf_box.specs.Sift.{FindsAsset, TakesStream, TellsCutStream}
+use Rattle.cf_box.specs.Status.{IsExact, TellsCut, TellsLack, TellsNoAsset, TellsNoPolicy}
 use Rattle.cf_box.specs.declared.ending.Done.{Done}
 use Rattle.cf_box.specs.declared.ending.Stop.{Stop}
 use Rattle.cf_box.specs.declared.ending.Stop.TheVariants as stop
 use Rattle.cf_box.proofs.Complete.{not_refused, same_bytes, same_policy}
 use Rattle.cf_box.proofs.Sifting.{passes}
-use Rattle.cf_box.proofs.Statuses.{Explains, IsOf, Unprinted, explained, read_failed, stop_is}
+use Rattle.cf_box.proofs.Statuses.{Explains, IsOf, Unprinted, explained, read_failed, stop_is, write_failed}
 
 -- work that was done has passed the policy: a line a command
 does_pass : (before after : Outside) (c : Command) (d : Done) → Does c before after d → PassesPolicy c before
@@ -36,7 +35,7 @@ does_pass before after (Run policy names) d m = record {
 }
 does_pass before after (Relay policy asset port idles log) d m = absurd m
 does_pass before after (World seed sessions policy capture out log) d m = absurd m
-does_pass before after (Sift policy name client names) d m = passes policy name client names before after m.asset m.finds
+does_pass before after (Sift policy name client names) d m = passes policy name client names before after m.takes.asset m.takes.finds
 
 module _ (failed : Type 0) (status : ℕ) (before after : Outside) where
   -- the status that is due, or one of those to which it yields
@@ -67,6 +66,7 @@ module _ (failed : Type 0) (status : ℕ) (before after : Outside) where
     refused_from (Err (stop.CaptureRefused r)) meets h = absurd (not_passed meets.0.1)
     refused_from (Err (stop.CaptureCut place)) meets h = absurd (not_passed meets.0.1)
     refused_from (Err (stop.RunCut place summary)) meets h = absurd (not_passed meets.0.1)
+    refused_from (Err (stop.Cut reason)) meets h = absurd (not_passed meets.0.1)
     refused_from (Err stop.Unbuilt) meets h = absurd (not_passed meets.0.1)
 
   module _ (c : Command) (t : TellsNoAsset c before) where
@@ -96,6 +96,7 @@ module _ (failed : Type 0) (status : ℕ) (before after : Outside) where
     unknown_from (Err (stop.CaptureRefused r)) meets h = absurd (not_found meets.0.1)
     unknown_from (Err (stop.CaptureCut place)) meets h = absurd (not_found meets.0.1)
     unknown_from (Err (stop.RunCut place summary)) meets h = absurd (not_found meets.0.1)
+    unknown_from (Err (stop.Cut reason)) meets h = absurd (not_found meets.0.1)
     unknown_from (Err stop.Unbuilt) meets h = absurd (not_found meets.0.1)
 
   module _ (capture : List ℕ) (t : TellsLongCapture capture before) where
@@ -114,9 +115,14 @@ module _ (failed : Type 0) (status : ℕ) (before after : Outside) where
     long_from (Err (stop.CaptureRefused r)) meets h = absurd (not_listed before.sink after.sink (Err (stop.CaptureRefused r)) meets.1.lines)
     long_from (Err (stop.CaptureCut place)) meets h = absurd (not_listed before.sink after.sink (Err (stop.CaptureCut place)) meets.1.lines)
     long_from (Err (stop.RunCut place summary)) meets h = absurd meets.0.0
+    long_from (Err (stop.Cut reason)) meets h = absurd meets.0.0
     long_from (Err stop.Unbuilt) meets h = inl (stop_is failed status stop.Unbuilt h)
 
-  module _ (file name : List ℕ) (client : ℕ) (names : SiftNamesValue) (t : TellsUnbuiltStream file name names before) where
+  -- what is due where a stream is cut
+  abbrev DueWritten : Type 0
+  DueWritten = (status ≡ 12) ⊎ (((status ≡ 4) × (WriteFailed before after ⊎ failed)) ⊎ (((status ≡ 3) × ReadFailed before after) ⊎ (status ≡ 13)))
+
+  module _ (one : HasOneCut) (file name : List ℕ) (client : ℕ) (names : SiftNamesValue) (t : TellsCutStream file name client names before) where
     same_asset : (a : Asset) → FindsAsset (before.files.content file) name a → a ≡ t.asset
     same_asset a finds =
         let same : finds.policy ≡ t.policy = same_policy (before.files.content file) t.bytes t.policy finds.policy t.told t.means finds.has in
@@ -124,33 +130,29 @@ module _ (failed : Type 0) (status : ℕ) (before after : Outside) where
         let named = t.named in
         cc
 
-    not_sifted : (a : Asset) (output : Output) → FindsAsset (before.files.content file) name a → IsSifted a client
-        (before.files.content names.stream) output → ⊥
-    not_sifted a output finds sifted = elim t.lacks [
-      | inl other ↦ other (ap (λ x. x.protocol) (sym (same_asset a finds)) ∙ sifted.modbus)
-      | inr stream ↦
-          let same : sifted.stream ≡ stream.0 = same_bytes (before.files.content names.stream) stream.0 sifted.stream stream.1 sifted.whole in
-          elim stream.2 [
-            | inl long ↦ omega (arith, ap length same, sifted.short, long)
-            | inr broken ↦
-                let breaks : IsBrokenBy sifted.stream broken.0 = subst (λ s. IsBrokenBy s broken.0) (sym same) broken.1 in
-                rest_not_break SpellsAdu prefix_free sifted.filtered.is_judged.units breaks.units sifted.stream sifted.filtered.is_judged.rest
-                breaks.place
-                sifted.filtered.is_judged.cut breaks.broken
-          ]
-    ]
+    -- the stream does not go on to its end
+    not_uncut : TakesStream file name client names before after None → ⊥
+    not_uncut taken =
+        let s = taken.sifted in
+        let asset = same_asset taken.asset taken.finds in
+        let stream = same_bytes (before.files.content names.stream) t.stream s.bytes t.stream_told s.whole in
+        let goes = subst (λ a. GoesUpTo a client (stored_history t.stream) taken.taken.cut s.history s.judged) asset
+        (subst (λ b. GoesUpTo taken.asset client (stored_history b) taken.taken.cut s.history s.judged) stream s.goes) in
+        let cut = (one t.asset client (stored_history t.stream) s.history t.history taken.taken.cut (Some t.reason) s.judged t.judged goes t.goes).2 in
+        let none = taken.is_cut in
+        cc
 
-    unfiltered_from : (r : Result Done Stop) → Meets (Sift file name client names) before after r → IsOf r failed status → Due 14
-    unfiltered_from (Ok d) meets h = absurd (not_sifted meets.asset meets.output meets.finds meets.sifted)
-    unfiltered_from (Err stop.ReadFault) meets h = inr (inl (stop_is failed status stop.ReadFault h, meets.0))
-    unfiltered_from (Err stop.NoMemory) meets h = inr (inr (stop_is failed status stop.NoMemory h))
-    unfiltered_from (Err (stop.PolicyRefused r)) meets h =
+    cut_from : (r : Result Done Stop) → Meets (Sift file name client names) before after r → IsOf r failed status → DueWritten
+    cut_from (Ok d) meets h = absurd (not_uncut meets.takes)
+    cut_from (Err stop.ReadFault) meets h = inr (inr (inl (stop_is failed status stop.ReadFault h, meets.0)))
+    cut_from (Err stop.NoMemory) meets h = inr (inr (inr (stop_is failed status stop.NoMemory h)))
+    cut_from (Err (stop.PolicyRefused r)) meets h =
         let cause : RefusesPolicy (Sift file name client names) before r = meets.0 in
         let e = cause.1 in
         let here : cause.0 ≡ file = cc in
         absurd (not_refused (before.files.content file) t.bytes t.policy r t.told t.means
         (subst (λ f. IsRefusedBy (before.files.content f) r) here cause.2))
-    unfiltered_from (Err stop.UnknownAsset) meets h =
+    cut_from (Err stop.UnknownAsset) meets h =
         let cause : LacksAsset (Sift file name client names) before = meets.0 in
         let e = cause.2 in
         let f = cause.3 in
@@ -161,14 +163,21 @@ module _ (failed : Type 0) (status : ℕ) (before after : Outside) where
         let none = cause.4.2 in
         let named = t.named in
         cc
-    unfiltered_from (Err stop.WriteFault) meets h = elim meets.1 [
-      | inl l ↦ absurd (l.0 refl)
-      | inr l ↦ absurd (not_sifted l.1.asset l.1.output l.1.finds l.1.sifted)
-    ]
-    unfiltered_from (Err (stop.CaptureRefused r)) meets h = absurd meets.0.0
-    unfiltered_from (Err (stop.CaptureCut place)) meets h = absurd meets.0.0
-    unfiltered_from (Err (stop.RunCut place summary)) meets h = absurd meets.0.0
-    unfiltered_from (Err stop.Unbuilt) meets h = inl (stop_is failed status stop.Unbuilt h)
+    cut_from (Err stop.WriteFault) meets h = inr (inl (stop_is failed status stop.WriteFault h, inl meets.0.0))
+    cut_from (Err (stop.CaptureRefused r)) meets h = absurd meets.0.0
+    cut_from (Err (stop.CaptureCut place)) meets h = absurd meets.0.0
+    cut_from (Err (stop.RunCut place summary)) meets h = absurd meets.0.0
+    cut_from (Err (stop.Cut reason)) meets h = inl (stop_is failed status (stop.Cut reason) h)
+    cut_from (Err stop.Unbuilt) meets h = absurd meets.0.0
+
+  -- a stream that is cut: a line a command
+  stream_from : HasOneCut → (c : Command) → TellsCut c before → (r : Result Done Stop) → Meets c before after r → IsOf r failed status → DueWritten
+  stream_from one (Check policy) t r meets h = absurd t
+  stream_from one (Packets capture) t r meets h = absurd t
+  stream_from one (Run policy names) t r meets h = absurd t
+  stream_from one (Relay policy asset port idles log) t r meets h = absurd t
+  stream_from one (World seed sessions policy capture out log) t r meets h = absurd t
+  stream_from one (Sift policy asset client names) t r meets h = cut_from one policy asset client names t r meets h
 
   -- a part that is not built: a line a command
   unbuilt_from : (c : Command) → TellsLack c before → (r : Result Done Stop) → Meets c before after r → IsOf r failed status → Due 14
@@ -179,7 +188,7 @@ module _ (failed : Type 0) (status : ℕ) (before after : Outside) where
   unbuilt_from (Relay policy asset port idles log) t (Err s) meets h = inl (stop_is failed status s h ∙ ap stop_status meets.1.0)
   unbuilt_from (World seed sessions policy capture out log) t (Ok d) meets h = absurd meets
   unbuilt_from (World seed sessions policy capture out log) t (Err s) meets h = inl (stop_is failed status s h ∙ ap stop_status meets.1.0)
-  unbuilt_from (Sift policy asset client names) t r meets h = unfiltered_from policy asset client names t r meets h
+  unbuilt_from (Sift policy asset client names) t r meets h = absurd t
 
 -- what is due at the answer is due at the end
 later : (status n : ℕ) (before middle after : Outside) → (ReadFailed before middle → ReadFailed before after) → Due ⊥ status before middle n →
@@ -188,12 +197,28 @@ later status n before middle after rise (inl h) = inl h
 later status n before middle after rise (inr (inl h)) = inr (inl (h.0, rise h.1))
 later status n before middle after rise (inr (inr h)) = inr (inr h)
 
-pub exact_told : {c : Command} {before after : Outside} {status : ℕ} (e : Explains c before after status) → IsExact c before after status
-exact_told {c = c} {before = before} {after = after} {status = status} e = record {
+later_written : (status : ℕ) (before middle after : Outside) (failed : Type 0) → (ReadFailed before middle → ReadFailed before after) →
+    (WriteFailed before middle ⊎ failed → WriteFailed before after) → DueWritten failed status before middle → DueWritten ⊥ status before after
+later_written status before middle after failed rise wrote (inl h) = inl h
+later_written status before middle after failed rise wrote (inr (inl h)) = inr (inl (h.0, inl (wrote h.1)))
+later_written status before middle after failed rise wrote (inr (inr (inl h))) = inr (inr (inl (h.0, rise h.1)))
+later_written status before middle after failed rise wrote (inr (inr (inr h))) = inr (inr (inr h))
+
+plain : (status : ℕ) (before after : Outside) → DueWritten ⊥ status before after →
+    (status ≡ 12) ⊎ (((status ≡ 4) × WriteFailed before after) ⊎ (((status ≡ 3) × ReadFailed before after) ⊎ (status ≡ 13)))
+plain status before after (inl h) = inl h
+plain status before after (inr (inl (h, inl w))) = inr (inl (h, w))
+plain status before after (inr (inl (h, inr w))) = absurd w
+plain status before after (inr (inr h)) = inr (inr h)
+
+pub exact_told : HasOneCut → {c : Command} {before after : Outside} {status : ℕ} (e : Explains c before after status) → IsExact c before after status
+exact_told one {c = c} {before = before} {after = after} {status = status} e = record {
   refused = λ t. later status 5 before e.middle after (read_failed e)
       (refused_from (Unprinted e) status before e.middle c t e.r e.meets (explained e));
   unknown = λ t. later status 10 before e.middle after (read_failed e)
       (unknown_from (Unprinted e) status before e.middle c t e.r e.meets (explained e));
   unbuilt = λ t. later status 14 before e.middle after (read_failed e)
       (unbuilt_from (Unprinted e) status before e.middle c t e.r e.meets (explained e));
+  cut = λ t. plain status before after (later_written status before e.middle after (Unprinted e) (read_failed e) (write_failed e)
+      (stream_from (Unprinted e) status before e.middle one c t e.r e.meets (explained e)));
 }

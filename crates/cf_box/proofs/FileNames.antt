@@ -5,8 +5,8 @@ use Rattle.std.specs.List.{list_any}
 use Rattle.std.proofs.lemmas.Bool.{and_parts, or_parts, not-true, both_ways}
 use Rattle.std.proofs.lemmas.Slice.Eq.{bytes_eq-Decides}
 use Rattle.cf_box.specs.Names.{are_names}
-use Rattle.cf_box.specs.Sift.{AreApart}
 use Rattle.cf_run.specs.RunCapture.{AreApart as AreRunApart}
+use Rattle.cf_sift.specs.Names.{AreApart}
 
 -- a test of each image is a test of each element
 pub list_any_of_map : {X Y : Type 0} (p : Y → Bool) (f : X → Y) (xs : List X) → list_any p (map f xs) ≡ list_any (λ x. p (f x)) xs

@@ -7,12 +7,15 @@ use Rattle.cf_run.specs.declared.run.RunRefusal.TheVariants as by
 use Rattle.cf_box.specs.Command.{Command, Check, Packets, Run, Relay, World, Sift, output_files}
 use Rattle.cf_box.specs.Ending.{stop_status}
 use Rattle.cf_box.specs.Ends.{Does, Leaves, Meets}
-use Rattle.cf_box.specs.Outputs.{IsSameBeside, KeepsAllBut}
+use Rattle.cf_sift.specs.Outputs.{IsSameBeside, KeepsAllBut}
 use Rattle.cf_box.specs.Outside.{Outside}
 use Rattle.cf_box.specs.Run.{run_stop}
+use Rattle.cf_box.specs.Sift.{SiftLeaves}
 use Rattle.cf_box.specs.Status.{WritesNothing}
 use Rattle.cf_box.specs.declared.ending.Done.{Done}
 use Rattle.cf_box.specs.declared.ending.Stop.{Stop}
+use Rattle.cf_box.specs.declared.ending.Stop.TheVariants as stop
+use Rattle.cf_sift.specs.Names.{SiftNamesValue}
 use Rattle.cf_box.proofs.Statuses.{Explains, IsOf, Unprinted, explained, stop_is}
 
 -- a status that is none of those at which nothing is written
@@ -51,7 +54,14 @@ module _ (before after : Outside) where
   done_keeps (Run policy names) d m = m.1.others
   done_keeps (Relay policy asset port idles log) d m = absurd m
   done_keeps (World seed sessions policy capture out log) d m = absurd m
-  done_keeps (Sift policy asset client names) d m = m.others
+  done_keeps (Sift policy asset client names) d m = m.takes.sifted.others
+
+  sift_keeps : (policy asset : List ℕ) (client : ℕ) (names : SiftNamesValue) (s : Stop) → SiftLeaves policy asset client names before after s → Keeps (Sift policy asset client names)
+  sift_keeps policy asset client names stop.ReadFault (inl l) = nothing_written (Sift policy asset client names) l.content
+  sift_keeps policy asset client names stop.ReadFault (inr l) = l.left.others
+  sift_keeps policy asset client names stop.WriteFault l = elim l.left [ inl u ↦ u.others | inr w ↦ w.others ]
+  sift_keeps policy asset client names (stop.Cut reason) l = l.sifted.others
+  sift_keeps policy asset client names s l = nothing_written (Sift policy asset client names) l.content
 
   -- and so does what stopped: a line a command
   stop_keeps : (k : Command) (s : Stop) → Leaves k before after s → Keeps k
@@ -61,12 +71,17 @@ module _ (before after : Outside) where
   stop_keeps (Run policy names) s (inr l) = l.1.others
   stop_keeps (Relay policy asset port idles log) s l = nothing_written (Relay policy asset port idles log) (ap (λ (o : Outside). o.files.content) l.1)
   stop_keeps (World seed sessions policy capture out log) s l = nothing_written (World seed sessions policy capture out log) (ap (λ (o : Outside). o.files.content) l.1)
-  stop_keeps (Sift policy asset client names) s (inl l) = nothing_written (Sift policy asset client names) l.1.content
-  stop_keeps (Sift policy asset client names) s (inr l) = l.1.outputs.others
+  stop_keeps (Sift policy asset client names) s l = sift_keeps policy asset client names s l
 
   keeps_from : (c : Command) (r : Result Done Stop) → Meets c before after r → Keeps c
   keeps_from c (Ok d) m = done_keeps c d m
   keeps_from c (Err s) m = stop_keeps c s m.1
+
+  sift_unwritten : (policy asset : List ℕ) (client : ℕ) (names : SiftNamesValue) (s : Stop) → WritesNothing (stop_status s) → SiftLeaves policy asset client names before after s → after.files.content ≡ before.files.content
+  sift_unwritten policy asset client names stop.ReadFault w l = absurd (none_of 3 w (omega arith) (omega arith) (omega arith) (omega arith))
+  sift_unwritten policy asset client names stop.WriteFault w l = absurd (none_of 4 w (omega arith) (omega arith) (omega arith) (omega arith))
+  sift_unwritten policy asset client names (stop.Cut reason) w l = absurd (none_of 12 w (omega arith) (omega arith) (omega arith) (omega arith))
+  sift_unwritten policy asset client names s w l = l.content
 
   -- such a status leaves the files as they were: a line a command
   unwritten_by : (k : Command) (s : Stop) → WritesNothing (stop_status s) → Leaves k before after s → after.files.content ≡ before.files.content
@@ -76,8 +91,7 @@ module _ (before after : Outside) where
   unwritten_by (Run policy names) s w (inr l) = absurd (not_of_run l.0 (subst (λ t. WritesNothing (stop_status t)) l.2 w))
   unwritten_by (Relay policy asset port idles log) s w l = ap (λ (o : Outside). o.files.content) l.1
   unwritten_by (World seed sessions policy capture out log) s w l = ap (λ (o : Outside). o.files.content) l.1
-  unwritten_by (Sift policy asset client names) s w (inl l) = l.1.content
-  unwritten_by (Sift policy asset client names) s w (inr l) = absurd (none_of 4 (subst (λ t. WritesNothing (stop_status t)) l.0 w) (omega arith) (omega arith) (omega arith) (omega arith))
+  unwritten_by (Sift policy asset client names) s w l = sift_unwritten policy asset client names s w l
 
   module _ (failed : Type 0) (status : ℕ) where
     unwritten_from : (c : Command) (r : Result Done Stop) → Meets c before after r → IsOf r failed status → WritesNothing status → after.files.content ≡ before.files.content

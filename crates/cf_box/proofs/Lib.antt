@@ -5,7 +5,6 @@ pub mod FileNames
 pub mod Kept
 pub mod Listing
 pub mod Numerals
-pub mod OutputFiles
 pub mod RunHolds
 pub mod Runs
 pub mod Sifting

@@ -10,7 +10,7 @@ use Rattle.cf_run.specs.declared.summary.Summary.{Summary}
 use Rattle.cf_box.specs.Command.{Command, Run}
 use Rattle.cf_box.specs.Ending.{Puts, Reports, end_text, summary_text}
 use Rattle.cf_box.specs.Ends.{Meets}
-use Rattle.cf_box.specs.Outputs.{KeepsAllBut}
+use Rattle.cf_sift.specs.Outputs.{KeepsAllBut}
 use Rattle.cf_box.specs.Outside.{Outside, SinkValue}
 use Rattle.cf_box.specs.Run.{HasRun}
 use Rattle.cf_box.specs.RunHolds.{RunHolds}

@@ -18,7 +18,7 @@ use Rattle.cf_run.specs.declared.run.RunRefusal.TheVariants as by
 use Rattle.cf_run.specs.declared.summary.Summary.{Summary}
 use Rattle.cf_box.specs.Command.{Run, policy_file}
 use Rattle.cf_box.specs.Ends.{Meets, PassesPolicy, StopsFor}
-use Rattle.cf_box.specs.Outputs.{KeepsAllBut}
+use Rattle.cf_sift.specs.Outputs.{KeepsAllBut}
 use Rattle.cf_box.specs.Outside.{FilesValue, Outside, ReadsOnly}
 use Rattle.cf_box.specs.Packets.{header_refusal}
 use Rattle.cf_box.specs.PolicyFile.{HasPolicy}

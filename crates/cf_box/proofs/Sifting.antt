@@ -1,40 +1,39 @@
 -- An answer about a stored stream, as the answer of the command.
-use Rattle.std.proofs.Common.{◌≡◌, ◌≤◌, ℕ, List, Some, Result, Ok, Err, refl, sym, subst, arith, inl, inr}
+use Rattle.std.proofs.Common.{◌≡◌, ◌≤◌, ℕ, List, None, Option, Some, Result, Ok, Err, refl, sym, subst, arith, inl, inr}
+use Rattle.std.specs.Prelude.{IsErrOf}
 use Rattle.std.specs.Result.{IsErrAnd}
-use Rattle.cf_outside.specs.Files.{Content}
+use Rattle.cf_audit.specs.declared.line.CutReason.{CutReason}
+use Rattle.cf_outside.specs.Faults.{Rose}
 use Rattle.cf_policy.specs.declared.Asset.{Asset}
-use Rattle.cf_box.specs.Command.{Sift, SiftNamesValue}
+use Rattle.cf_sift.specs.Names.{SiftNamesValue}
+use Rattle.cf_sift.specs.Sifted.{IsSifted, SiftEnds}
+use Rattle.cf_sift.specs.Stored.{GoesUpTo, stored_history}
+use Rattle.cf_sift.specs.declared.SiftDone.{SiftDone}
+use Rattle.cf_sift.specs.declared.SiftFault.{SiftFault}
+use Rattle.cf_sift.specs.declared.SiftFault.TheVariants as fault
+use Rattle.cf_box.specs.Check.{ChangesNothing}
+use Rattle.cf_box.specs.Command.{Sift}
 use Rattle.cf_box.specs.Ends.{Meets, PassesPolicy, StopsFor}
-use Rattle.cf_box.specs.Outside.{FilesValue, Outside, ReadsOnly}
+use Rattle.cf_box.specs.PolicyFile.{StopsPolicy}
+use Rattle.cf_box.specs.Outside.{Outside}
 use Rattle.cf_box.specs.PolicyFile.{HasPolicy, asset_named}
-use Rattle.cf_box.specs.Sift.{FindsAsset, SiftLeaves, SiftStream, sift_stop}
+use Rattle.cf_box.specs.Sift.{FindsAsset, SiftLeaves, TakesStream, sift_stop}
 use Rattle.cf_box.specs.declared.ending.Done.{Done}
+use Rattle.cf_box.specs.declared.ending.Done.TheVariants as done
 use Rattle.cf_box.specs.declared.ending.Stop.{Stop}
-use Rattle.cf_box.specs.declared.sift.SiftDone.{SiftDone}
-use Rattle.cf_box.specs.declared.sift.SiftFault.{SiftFault}
-use Rattle.cf_box.specs.declared.sift.SiftFault.TheVariants as fault
+use Rattle.cf_box.specs.declared.ending.Stop.TheVariants as stop
 
-module _ (asset : Asset) (client : ℕ) (names : SiftNamesValue) where
-  abbrev SiftFrom : (List ℕ → Content) → (reads writes : ℕ) → FilesValue → Result SiftDone SiftFault → Type 0
-  SiftFrom content reads writes after r =
-      SiftStream asset client names (record { content = content; read_faults = reads; write_faults = writes }) after r
+-- what has risen since late has risen since early
+pub since : (early late now : ℕ) → early ≤ late → Rose late now → Rose early now
+since early late now later rose = omega (arith, later, rose)
 
-  -- a read that failed late has failed since earlier
-  since : (content : List ℕ → Content) (early late writes : ℕ) (after : FilesValue) (r : Result SiftDone SiftFault) → early ≤ late →
-      SiftFrom content late writes after r → SiftFrom content early writes after r
-  since content early late writes after (Ok d) later h = h
-  since content early late writes after (Err fault.NoMemory) later h = h
-  since content early late writes after (Err fault.Read) later h = (omega (arith, h.0), h.1)
-  since content early late writes after (Err fault.Write) later h = h
-  since content early late writes after (Err fault.Unbuilt) later h = h
-
-  -- an answer after files were read, none of which changed
-  pub after_reading : (before middle after : FilesValue) (r : Result SiftDone SiftFault) → ReadsOnly before middle →
-      SiftStream asset client names middle after r → SiftStream asset client names before after r
-  after_reading before middle after r only h =
-      since before.content before.read_faults middle.read_faults before.write_faults after r only.reads
-      (subst (λ w. SiftFrom before.content middle.read_faults w after r) only.writes
-      (subst (λ c. SiftFrom c middle.read_faults middle.write_faults after r) only.content h))
+-- a stop before the asset was found leaves all as it was
+pub early_leaves : (policy name : List ℕ) (client : ℕ) (names : SiftNamesValue) (before after : Outside) (s : Stop) → StopsPolicy s → ChangesNothing before after →
+    SiftLeaves policy name client names before after s
+early_leaves policy name client names before after stop.ReadFault early same = inl same
+early_leaves policy name client names before after (stop.PolicyRefused r) early same = same
+early_leaves policy name client names before after stop.NoMemory early same = same
+early_leaves policy name client names before after s early same = absurd early
 
 module _ (policy name : List ℕ) (client : ℕ) (names : SiftNamesValue) (before after : Outside) (asset : Asset)
     (finds : FindsAsset (before.files.content policy) name asset) where
@@ -54,21 +53,48 @@ module _ (policy name : List ℕ) (client : ℕ) (names : SiftNamesValue) (befor
   }
 
   module _ (sink : after.sink ≡ before.sink) (pair : after.pair ≡ before.pair) where
-    sift_stops : (f : SiftFault) → SiftStream asset client names before.files after.files (Err f) →
-        StopsFor (Sift policy name client names) before after (sift_stop f) × SiftLeaves policy name client names before after (sift_stop f)
-    sift_stops fault.NoMemory h = (tt, inl ((λ e. cc), record { content = h; sink = sink; pair = pair }))
-    sift_stops fault.Read h = (h.0, inl ((λ e. cc), record { content = h.1; sink = sink; pair = pair }))
-    sift_stops fault.Write h = (
-      (inl h.0, passes),
-      inr (refl, record { asset = asset; finds = finds; output = h.1.0; sifted = h.1.1; outputs = h.1.2; sink = sink; pair = pair }),
+    -- the stream was taken up to a cut, or to its end
+    pub takes : (taken : SiftDone) (cut : Option CutReason) → taken.cut ≡ cut → IsSifted asset client names before.files.content after.files.content taken →
+        TakesStream policy name client names before after cut
+    takes taken cut is sifted = record { asset = asset; finds = finds; taken = taken; is_cut = is; sifted = sifted; sink = sink; pair = pair }
+
+    pub sift_cuts : (taken : SiftDone) (reason : CutReason) → taken.cut ≡ Some reason → IsSifted asset client names before.files.content after.files.content taken →
+        Meets (Sift policy name client names) before after (Err (stop.Cut reason))
+    sift_cuts taken reason is sifted = (
+      (
+        (
+          asset,
+          finds,
+          (
+            sifted.bytes,
+            sifted.whole,
+            (sifted.history, sifted.judged, subst (λ c. GoesUpTo asset client (stored_history sifted.bytes) c sifted.history sifted.judged) is sifted.goes),
+          ),
+        ),
+        passes,
+      ),
+      takes taken (Some reason) is sifted,
     )
-    sift_stops fault.Unbuilt h = (((asset, finds, h.0), passes), inl ((λ e. cc), record { content = h.1; sink = sink; pair = pair }))
+
+    pub sift_ends : (taken : SiftDone) → taken.cut ≡ None → IsSifted asset client names before.files.content after.files.content taken →
+        Meets (Sift policy name client names) before after (Ok (done.Sifted taken.admitted taken.refused))
+    unfolding takes
+    sift_ends taken is sifted = record { takes = takes taken None is sifted; counts = refl }
+
+    sift_stops : (f : SiftFault) → (IsErrOf {T = SiftDone} (Err f) fault.Read → Rose before.files.read_faults after.files.read_faults) →
+        (IsErrOf {T = SiftDone} (Err f) fault.Write → Rose before.files.write_faults after.files.write_faults) →
+        SiftEnds asset client names before.files.content after.files.content (Err f) →
+        StopsFor (Sift policy name client names) before after (sift_stop f) × SiftLeaves policy name client names before after (sift_stop f)
+    sift_stops fault.NoMemory reads writes h = (tt, record { content = h; sink = sink; pair = pair })
+    sift_stops fault.Read reads writes h = (reads refl, inr (record { asset = asset; finds = finds; left = h; sink = sink; pair = pair }))
+    sift_stops fault.Write reads writes h = ((inl (writes refl), passes), record { asset = asset; finds = finds; left = h; sink = sink; pair = pair })
 
     -- a fault is the stop of its cause
-    pub sift_fails : (f : SiftFault) (r : Result Done Stop) → IsErrAnd r (λ s. s ≡ sift_stop f) → SiftStream asset client names before.files
-        after.files (Err f) →
-        Meets (Sift policy name client names) before after r
-    sift_fails f (Ok d) is h = absurd is
-    sift_fails f (Err s) is h =
+    pub sift_fails : (f : SiftFault) (r : Result Done Stop) → IsErrAnd r (λ s. s ≡ sift_stop f) →
+        (IsErrOf {T = SiftDone} (Err f) fault.Read → Rose before.files.read_faults after.files.read_faults) →
+        (IsErrOf {T = SiftDone} (Err f) fault.Write → Rose before.files.write_faults after.files.write_faults) →
+        SiftEnds asset client names before.files.content after.files.content (Err f) → Meets (Sift policy name client names) before after r
+    sift_fails f (Ok d) is reads writes h = absurd is
+    sift_fails f (Err s) is reads writes h =
         subst (λ t. StopsFor (Sift policy name client names) before after t × SiftLeaves policy name client names before after t) (sym is)
-        (sift_stops f h)
+        (sift_stops f reads writes h)

@@ -1,17 +1,23 @@
 -- What a status tells, from the answer that explains it.
-use Rattle.std.proofs.Common.{◌≡◌, ◌≢◌, ◌⊎◌, ℕ, List, Option, None, Some, Result, Ok, Err, sym, subst, ◌≤◌, ◌∙◌, ap, inl, inr, arith}
-use Rattle.cf_filter.proofs.FilterLaws.{passes_what_is_allowed}
+use Rattle.std.proofs.lemmas.List.{append-nil}
+use Rattle.std.proofs.Common.{◌≡◌, ◌≢◌, ◌⊎◌, ◌++◌, [], ℕ, List, Option, None, Some, Result, Ok, Err, sym, subst, ◌≤◌, ◌∙◌, ap, inl, inr, arith}
+use Rattle.cf_audit.specs.declared.line.CutReason.{CutReason}
+use Rattle.cf_lane.specs.Follows.{AreJudged}
+use Rattle.cf_lane.specs.Laws.{LanePassesAllowed}
+use Rattle.cf_lane.specs.Output.{outputs}
+use Rattle.cf_view.specs.declared.Side.TheVariants as side
+use Rattle.cf_sift.specs.Names.{SiftNamesValue}
+use Rattle.cf_sift.specs.Stored.{stored_history}
 use Rattle.cf_outside.specs.Faults.{Rose}
 use Rattle.cf_pcap.specs.Header.{header_of}
 use Rattle.cf_pcap.specs.declared.Header.{Header}
 use Rattle.cf_pcap.specs.declared.HeaderRefusal.{HeaderRefusal}
 use Rattle.cf_policylang.specs.declared.PolicyRefusal.{PolicyRefusal}
-use Rattle.cf_box.specs.Command.{Command, Check, Packets, Run, Relay, World, Sift, SiftNamesValue}
+use Rattle.cf_box.specs.Command.{Command, Check, Packets, Run, Relay, World, Sift}
 use Rattle.cf_box.specs.Ending.{Prints, Reports, end_text, status_of, stop_status, unprinted_status}
-use Rattle.cf_box.specs.Ends.{CutsCapture, CutsRun, LacksAsset, Meets, RefusesCapture, RefusesPolicy}
+use Rattle.cf_box.specs.Ends.{CutsCapture, CutsRun, CutsStream, LacksAsset, Meets, RefusesCapture, RefusesPolicy}
 use Rattle.cf_box.specs.Outside.{Outside, ReadFailed, SinkValue, WriteFailed}
 use Rattle.cf_box.specs.Packets.{Lists, ListsBehind, ListsFile}
-use Rattle.cf_box.specs.Sift.{stored_client}
 use Rattle.cf_box.specs.Status.{IsStatus, SiftPassesAllowed}
 use Rattle.cf_box.specs.declared.ending.CaptureRefusal.{CaptureRefusal}
 use Rattle.cf_box.specs.declared.ending.Done.{Done}
@@ -53,8 +59,9 @@ module _ (failed : Type 0) (status : ℕ) where
   is_one (Err (stop.CaptureCut place)) h = inr (inr (inr (inr (inr (inr (inl (stop_is (stop.CaptureCut place) h)))))))
   is_one (Err (stop.RunCut place summary)) h = inr (inr (inr (inr (inr (inr (inl (stop_is (stop.RunCut place summary) h)))))))
   is_one (Err stop.UnknownAsset) h = inr (inr (inr (inr (inr (inr (inr (inl (stop_is stop.UnknownAsset h))))))))
-  is_one (Err stop.NoMemory) h = inr (inr (inr (inr (inr (inr (inr (inr (inl (stop_is stop.NoMemory h)))))))))
-  is_one (Err stop.Unbuilt) h = inr (inr (inr (inr (inr (inr (inr (inr (inr (stop_is stop.Unbuilt h)))))))))
+  is_one (Err (stop.Cut reason)) h = inr (inr (inr (inr (inr (inr (inr (inr (inl (stop_is (stop.Cut reason) h)))))))))
+  is_one (Err stop.NoMemory) h = inr (inr (inr (inr (inr (inr (inr (inr (inr (inl (stop_is stop.NoMemory h))))))))))
+  is_one (Err stop.Unbuilt) h = inr (inr (inr (inr (inr (inr (inr (inr (inr (inr (stop_is stop.Unbuilt h))))))))))
 
   -- another ending's status is another
   other : (r : Result Done Stop) (n : ℕ) → IsOf r failed status → status ≡ n → status_of r ≢ n → unprinted_status r ≢ n → ⊥
@@ -109,20 +116,31 @@ module _ (failed : Type 0) (status : ℕ) where
     lack_from (Err stop.UnknownAsset) meets h is = meets.0
     lack_from r meets h is = absurd (other r 10 h is (omega arith) (omega arith))
 
+    stream_from : (r : Result Done Stop) → Meets c before middle r → IsOf r failed status → status ≡ 12 → (reason : CutReason) × CutsStream c before reason
+    stream_from (Err (stop.Cut reason)) meets h is = (reason, meets.0.0)
+    stream_from r meets h is = absurd (other r 12 h is (omega arith) (omega arith))
+
   -- what was filtered is what the policy allows
-  passes_from : (before middle after : Outside) (policy name : List ℕ) (client : ℕ) (names : SiftNamesValue) → after.files ≡ middle.files →
+  passes_from : LanePassesAllowed → (before middle after : Outside) (policy name : List ℕ) (client : ℕ) (names : SiftNamesValue) → after.files ≡ middle.files →
       (r : Result Done Stop) → Meets (Sift policy name client names) before middle r → IsOf r failed status → status ≡ 0 →
       SiftPassesAllowed policy name client names before after
-  passes_from before middle after policy name client names same (Ok d) m h is = record {
-    asset = m.asset;
-    finds = m.finds;
-    bytes = m.sifted.stream;
-    whole = m.sifted.whole;
-    passed = m.output.to_controller;
-    passes = passes_what_is_allowed m.asset (stored_client client) 0 m.sifted.stream m.output m.sifted.filtered;
-    output = ap (λ f. f.content names.out) same ∙ m.outputs.0;
-  }
-  passes_from before middle after policy name client names same (Err s) m h is = absurd (not_done s h is)
+  passes_from law before middle after policy name client names same (Ok d) m h is =
+      let t = m.takes in
+      let s = t.sifted in
+      let whole : stored_history s.bytes ≡ s.history = s.goes.begins ∙ ap (λ l. s.history ++ l) (s.goes.all t.is_cut) ∙ append-nil s.history in
+      let are = subst (λ l. AreJudged t.asset client l s.judged) (sym whole) s.goes.are_judged in
+      record {
+        asset = t.asset;
+        finds = t.finds;
+        bytes = s.bytes;
+        whole = s.whole;
+        judged = s.judged;
+        are_judged = are;
+        passed = outputs t.asset side.Controller [] s.judged;
+        passes = law t.asset client (stored_history s.bytes) s.judged are;
+        output = ap (λ f. f.content names.out) same ∙ s.have.of_out;
+      }
+  passes_from law before middle after policy name client names same (Err s) m h is = absurd (not_done s h is)
 
   -- a listing answers so alone
   listed : (d : Done) (r : Result Header HeaderRefusal) (capture : List ℕ) (old new : Option (List ℕ)) (put_failed : Type 0) →
@@ -188,10 +206,13 @@ module _ {c : Command} {before after : Outside} {status : ℕ} (e : Explains c b
   pub lack_told : status ≡ 10 → LacksAsset c before
   lack_told = lack_from Unprinted status c before e.middle e.r e.meets explained
 
-  pub passes_told : (policy name : List ℕ) (client : ℕ) (names : SiftNamesValue) → c ≡ Sift policy name client names → status ≡ 0 →
+  pub stream_told : status ≡ 12 → (reason : CutReason) × CutsStream c before reason
+  stream_told = stream_from Unprinted status c before e.middle e.r e.meets explained
+
+  pub passes_told : LanePassesAllowed → (policy name : List ℕ) (client : ℕ) (names : SiftNamesValue) → c ≡ Sift policy name client names → status ≡ 0 →
       SiftPassesAllowed policy name client names before after
-  passes_told policy name client names is =
-      passes_from Unprinted status before e.middle after policy name client names e.reports.files e.r
+  passes_told law policy name client names is =
+      passes_from Unprinted status law before e.middle after policy name client names e.reports.files e.r
       (subst (λ k. Meets k before e.middle e.r) is e.meets) explained
 
   pub lists_told : (file : List ℕ) → c ≡ Packets file → status ≡ 0 → Lists file before after done.Listed

@@ -1,13 +1,7 @@
 -- What the words ask for, and what each command needs.
 use Rattle.std.specs.Prelude.{ℕ, List, [], ◌∷◌, Option, None, Some}
 use Rattle.cf_run.specs.RunCapture.{RunNamesValue}
-
--- the files of a stored stream: where it is read, and the three outputs
-pub record SiftNamesValue : Type 0 where
-  pub stream : List ℕ
-  pub out : List ℕ
-  pub replies : List ℕ
-  pub log : List ℕ
+use Rattle.cf_sift.specs.Names.{SiftNamesValue}
 
 pub data Command : Type 0 where
   Check : (policy : List ℕ) → Command

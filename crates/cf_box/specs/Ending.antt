@@ -1,5 +1,6 @@
 -- How the program ends: the status of each ending, and what is printed.
 use Rattle.std.specs.Prelude.{◌≡◌, ◌⊎◌, ℕ, List, ◌++◌, Option, None, Some, Result, Ok, Err, codes, decimal, take}
+use Rattle.cf_audit.specs.Text.{cut_text}
 use Rattle.cf_outside.specs.Faults.{Rose}
 use Rattle.cf_outside.specs.Sink.{printed_with}
 use Rattle.cf_policylang.specs.Keys.{refusal_text}
@@ -21,6 +22,7 @@ stop_status (stop.CaptureRefused r) = 6
 stop_status (stop.CaptureCut place) = 7
 stop_status (stop.RunCut place summary) = 7
 stop_status stop.UnknownAsset = 10
+stop_status (stop.Cut reason) = 12
 stop_status stop.NoMemory = 13
 stop_status stop.Unbuilt = 14
 
@@ -69,6 +71,7 @@ stop_text (stop.CaptureRefused r) = Some (codes "capture refused " ++ decimal (c
 stop_text (stop.CaptureCut place) = Some (codes "capture cut at " ++ decimal place ++ codes "\n")
 stop_text (stop.RunCut place summary) = Some (codes "capture cut at " ++ decimal place ++ codes "\n" ++ summary_text summary)
 stop_text stop.UnknownAsset = Some (codes "unknown asset\n")
+stop_text (stop.Cut reason) = Some (codes "cut " ++ cut_text reason ++ codes "\n")
 stop_text stop.NoMemory = None
 stop_text stop.Unbuilt = Some (codes "unbuilt\n")
 

@@ -1,5 +1,6 @@
 -- How the program ends: `Ends` says it of the words. It is read from the end.
 use Rattle.std.specs.Prelude.{◌≡◌, ℕ, List, Option, None, Some, Result, Ok, Err, codes}
+use Rattle.cf_audit.specs.declared.line.CutReason.{CutReason}
 use Rattle.cf_policy.specs.declared.Asset.{Asset}
 use Rattle.cf_policy.specs.declared.Policy.{Policy}
 use Rattle.cf_policylang.specs.declared.PolicyRefusal.{PolicyRefusal}
@@ -10,7 +11,7 @@ use Rattle.cf_box.specs.Outside.{Outside, ReadFailed, WriteFailed}
 use Rattle.cf_box.specs.Packets.{LacksPartOfPackets, ListingCuts, ListingRefuses, Lists, PacketsLeaves}
 use Rattle.cf_box.specs.PolicyFile.{HasPolicy, IsRefusedBy, asset_named}
 use Rattle.cf_box.specs.Run.{RunCuts, RunLeaves, RunRefuses, Runs}
-use Rattle.cf_box.specs.Sift.{LacksPartOfSift, SiftLeaves, Sifts}
+use Rattle.cf_box.specs.Sift.{CutsSift, SiftLeaves, Sifts}
 use Rattle.cf_box.specs.declared.ending.CaptureRefusal.{CaptureRefusal}
 use Rattle.cf_box.specs.declared.ending.Done.{Done}
 use Rattle.cf_box.specs.declared.ending.Stop.{Stop}
@@ -49,6 +50,15 @@ abbrev pub CutsRun : Command → Outside → ℕ → Type 0
 CutsRun (Run policy names) before place = RunCuts (before.files.content names.capture) place
 CutsRun _ before place = ⊥
 
+-- the stream that a command takes is cut so: a line a command
+abbrev pub CutsStream : Command → Outside → CutReason → Type 0
+CutsStream (Check policy) before reason = ⊥
+CutsStream (Packets capture) before reason = ⊥
+CutsStream (Run policy names) before reason = ⊥
+CutsStream (Relay policy asset port idles log) before reason = ⊥
+CutsStream (World seed sessions policy capture out log) before reason = ⊥
+CutsStream (Sift policy asset client names) before reason = CutsSift policy asset client names before reason
+
 -- what a command does, or what of its input, is not built: a line a command
 abbrev pub LacksPart : Command → Outside → Type 0
 LacksPart (Check policy) before = ⊥
@@ -56,7 +66,7 @@ LacksPart (Packets capture) before = LacksPartOfPackets capture before
 LacksPart (Run policy names) before = ⊥
 LacksPart (Relay policy asset port idles log) before = Unit {0}
 LacksPart (World seed sessions policy capture out log) before = Unit {0}
-LacksPart (Sift policy asset client names) before = LacksPartOfSift policy asset names before
+LacksPart (Sift policy asset client names) before = ⊥
 
 -- why work stops: a line a cause, the same for every command. What stands later in the order of the work is no cause
 -- where the policy or the asset is one
@@ -68,6 +78,7 @@ StopsFor c before after (stop.CaptureRefused r) = RefusesCapture c before r × P
 StopsFor c before after (stop.CaptureCut place) = CutsCapture c before place × PassesPolicy c before
 StopsFor c before after (stop.RunCut place summary) = CutsRun c before place × PassesPolicy c before
 StopsFor c before after stop.UnknownAsset = LacksAsset c before
+StopsFor c before after (stop.Cut reason) = CutsStream c before reason × PassesPolicy c before
 StopsFor c before after stop.NoMemory = Unit {0}
 StopsFor c before after stop.Unbuilt = LacksPart c before × PassesPolicy c before
 

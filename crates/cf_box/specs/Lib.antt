@@ -3,7 +3,6 @@ pub mod Command
 pub mod Ending
 pub mod Ends
 pub mod Names
-pub mod Outputs
 pub mod Outside
 pub mod Packets
 pub mod PolicyFile

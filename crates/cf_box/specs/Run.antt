@@ -16,7 +16,7 @@ use Rattle.cf_run.specs.declared.summary.Summary.{Summary}
 use Rattle.cf_box.specs.Check.{ChangesNothing}
 use Rattle.cf_box.specs.Command.{Command, Run}
 use Rattle.cf_box.specs.Names.{are_names}
-use Rattle.cf_box.specs.Outputs.{KeepsAllBut}
+use Rattle.cf_sift.specs.Outputs.{KeepsAllBut}
 use Rattle.cf_box.specs.Outside.{Outside}
 use Rattle.cf_box.specs.Packets.{header_refusal}
 use Rattle.cf_box.specs.PolicyFile.{HasPolicy, StopsPolicy}

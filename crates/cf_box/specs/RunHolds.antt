@@ -8,7 +8,7 @@ use Rattle.cf_run.specs.Headline.{HasHeadline}
 use Rattle.cf_run.specs.RunCapture.{RunNamesValue, RunsTo}
 use Rattle.cf_run.specs.declared.summary.Summary.{Summary}
 use Rattle.cf_box.specs.Ending.{summary_text}
-use Rattle.cf_box.specs.Outputs.{KeepsAllBut}
+use Rattle.cf_sift.specs.Outputs.{KeepsAllBut}
 use Rattle.cf_box.specs.Outside.{Outside}
 use Rattle.cf_box.specs.PolicyFile.{HasPolicy}
 

@@ -1,6 +1,9 @@
 -- What a status tells, each by itself.
 use Rattle.std.specs.Prelude.{◌≡◌, ◌⊎◌, ℕ, List, [], drop, Option, None, Some, Ok, Err}
-use Rattle.cf_filter.specs.Laws.{PassesWhatIsAllowed}
+use Rattle.cf_audit.specs.declared.line.CutReason.{CutReason}
+use Rattle.cf_lane.specs.Follows.{AreJudged}
+use Rattle.cf_lane.specs.Judged.{Judged}
+use Rattle.cf_lane.specs.Passes.{Passes}
 use Rattle.cf_outside.specs.Files.{holds, IsWhole, content_after_write}
 use Rattle.cf_pcap.specs.Header.{header_of}
 use Rattle.cf_pcap.specs.Capture.{FileEnd, AreRecords, AreTimed, at_place, first_moment}
@@ -10,13 +13,15 @@ use Rattle.cf_policy.specs.declared.Asset.{Asset}
 use Rattle.cf_policy.specs.declared.Policy.{Policy}
 use Rattle.cf_policylang.specs.Documents.{policy_meaning}
 use Rattle.cf_policylang.specs.declared.PolicyRefusal.{PolicyRefusal}
-use Rattle.cf_box.specs.Command.{Command, Check, Packets, Run, Relay, World, Sift, SiftNamesValue, asset_name, capture_file, output_files, policy_file}
-use Rattle.cf_box.specs.Ends.{CutsCapture, LacksAsset, LacksPart, RefusesCapture, RefusesPolicy}
+use Rattle.cf_box.specs.Command.{Command, Check, Packets, Run, Relay, World, Sift, asset_name, capture_file, output_files, policy_file}
+use Rattle.cf_box.specs.Ends.{CutsCapture, CutsStream, LacksAsset, LacksPart, RefusesCapture, RefusesPolicy}
 use Rattle.cf_box.specs.Outside.{Outside, ReadFailed, WriteFailed}
 use Rattle.cf_box.specs.Packets.{TellsLongCapture}
 use Rattle.cf_box.specs.PolicyFile.{asset_named}
-use Rattle.cf_box.specs.Sift.{FindsAsset, TellsUnbuiltStream}
+use Rattle.cf_box.specs.Sift.{FindsAsset, TellsCutStream}
 use Rattle.cf_box.specs.declared.ending.CaptureRefusal.{CaptureRefusal}
+use Rattle.cf_sift.specs.Names.{SiftNamesValue}
+use Rattle.cf_sift.specs.Stored.{stored_history}
 
 -- the words are a command of which this is so
 abbrev pub OfCommand : Option Command → (Command → Type 0) → Type 0
@@ -35,6 +40,9 @@ RefusesItsCapture words before = OfCommand words (λ c. (r : CaptureRefusal) × 
 abbrev pub CutsItsCapture : Option Command → Outside → Type 0
 CutsItsCapture words before = OfCommand words (λ c. (place : ℕ) × CutsCapture c before place)
 
+abbrev pub CutsItsStream : Option Command → Outside → Type 0
+CutsItsStream words before = OfCommand words (λ c. (reason : CutReason) × CutsStream c before reason)
+
 -- of the commands in the stream exactly those went to the output that the bytes of the policy allow, in their spelling
 -- and at their place
 pub record SiftPassesAllowed (policy name : List ℕ) (client : ℕ) (names : SiftNamesValue) (before after : Outside) : Type 0 where
@@ -42,8 +50,10 @@ pub record SiftPassesAllowed (policy name : List ℕ) (client : ℕ) (names : Si
   pub finds : FindsAsset (before.files.content policy) name asset
   pub bytes : List ℕ
   pub whole : IsWhole (before.files.content names.stream) bytes
+  pub judged : List Judged
+  pub are_judged : AreJudged asset client (stored_history bytes) judged
   pub passed : List ℕ
-  pub passes : PassesWhatIsAllowed asset client bytes passed
+  pub passes : Passes asset client [] judged passed
   pub output : after.files.content names.out ≡ content_after_write (before.files.content names.out) passed
 
 -- a capture's records, up to the end of its bytes; and the same where each has its moment
@@ -64,13 +74,14 @@ EndsWell (Run policy names) bytes = HasTimedRecords bytes
 EndsWell _ bytes = Unit {0}
 
 -- what a command needs is told, and in form: its policy has a meaning and the asset of the name, its capture is one whose
--- records end with the file, and nothing of it is not built
+-- records end with the file, its stream is not cut, and nothing of it is not built
 pub record HasInput (c : Command) (before : Outside) : Type 0 where
   pub policy :
       (file : List ℕ) → policy_file c ≡ Some file →
       (bytes : List ℕ) × (before.files.content file ≡ holds bytes) × ((p : Policy) × (policy_meaning bytes ≡ Ok p)
       × ((name : List ℕ) → asset_name c ≡ Some name → (a : Asset) × (asset_named name p ≡ Some a)))
   pub capture : (file : List ℕ) → capture_file c ≡ Some file → (bytes : List ℕ) × (before.files.content file ≡ holds bytes) × EndsWell c bytes
+  pub stream : (reason : CutReason) → CutsStream c before reason → ⊥
   pub built : LacksPart c before → ⊥
 
 -- no read failed, and no creation, append or put
@@ -115,13 +126,28 @@ TellsLack (Packets file) before = TellsLongCapture file before
 TellsLack (Run file names) before = ⊥
 TellsLack (Relay file asset port idles log) before = Unit {0}
 TellsLack (World seed sessions file capture out log) before = Unit {0}
-TellsLack (Sift file asset client names) before = TellsUnbuiltStream file asset names before
+TellsLack (Sift file asset client names) before = ⊥
 
--- each of these gives its status, and nothing but a failed read or want of memory comes before it
+-- the stream of a command is told, and is cut: a line a command
+abbrev pub TellsCut : Command → Outside → Type 0
+TellsCut (Check file) before = ⊥
+TellsCut (Packets file) before = ⊥
+TellsCut (Run file names) before = ⊥
+TellsCut (Relay file asset port idles log) before = ⊥
+TellsCut (World seed sessions file capture out log) before = ⊥
+TellsCut (Sift file asset client names) before = TellsCutStream file asset client names before
+
+-- what a cut yields to: these, and a write that failed
+abbrev pub YieldsWritten : (before after : Outside) → (status : ℕ) → Type 0
+YieldsWritten before after status = ((status ≡ 4) × WriteFailed before after) ⊎ Yields before after status
+
+-- each of these gives its status, and nothing but a failed read or want of memory comes before it, and before a cut a failed
+-- write
 pub record IsExact (c : Command) (before after : Outside) (status : ℕ) : Type 0 where
   pub refused : TellsNoPolicy c before → (status ≡ 5) ⊎ Yields before after status
   pub unknown : TellsNoAsset c before → (status ≡ 10) ⊎ Yields before after status
   pub unbuilt : TellsLack c before → (status ≡ 14) ⊎ Yields before after status
+  pub cut : TellsCut c before → (status ≡ 12) ⊎ YieldsWritten before after status
 
 abbrev pub IsExactly : Option Command → (before after : Outside) → (status : ℕ) → Type 0
 IsExactly words before after status = (c : Command) → words ≡ Some c → IsExact c before after status
@@ -138,4 +164,4 @@ WritesNothing s = (s ≡ 2) ⊎ (s ≡ 5) ⊎ (s ≡ 10) ⊎ (s ≡ 14)
 -- the statuses that there are
 abbrev pub IsStatus : ℕ → Type 0
 IsStatus s =
-    (s ≡ 0) ⊎ (s ≡ 2) ⊎ (s ≡ 3) ⊎ (s ≡ 4) ⊎ (s ≡ 5) ⊎ (s ≡ 6) ⊎ (s ≡ 7) ⊎ (s ≡ 10) ⊎ (s ≡ 13) ⊎ (s ≡ 14)
+    (s ≡ 0) ⊎ (s ≡ 2) ⊎ (s ≡ 3) ⊎ (s ≡ 4) ⊎ (s ≡ 5) ⊎ (s ≡ 6) ⊎ (s ≡ 7) ⊎ (s ≡ 10) ⊎ (s ≡ 12) ⊎ (s ≡ 13) ⊎ (s ≡ 14)

@@ -5,9 +5,10 @@ use Rattle.cf_box.specs.Check.{check_of}
 use Rattle.cf_box.specs.Packets.{packets_of}
 use Rattle.cf_box.specs.Relay.{relay_of}
 use Rattle.cf_box.specs.Run.{run_of}
+use Rattle.cf_box.specs.Sift.{sift_of}
 use Rattle.cf_run.specs.RunCapture.{AreApart as AreRunApart, run_names_value}
-use Rattle.cf_box.specs.Sift.{AreApart, sift_names_value, sift_of}
 use Rattle.cf_box.specs.World.{world_of}
+use Rattle.cf_sift.specs.Names.{AreApart, sift_names_value}
 use Rattle.cf_box.specs.declared.command.Command.{Command as CommandFields}
 use Rattle.cf_box.specs.declared.command.Command.TheVariants as fields
 

@@ -6,9 +6,10 @@ use crate::check::read_check;
 use crate::packets::read_packets;
 use crate::relay::read_relay;
 use crate::run::read_run;
-use crate::sift::{SiftNames, read_sift};
+use crate::sift::read_sift;
 use crate::world::read_world;
 use cf_run::RunNames;
+use cf_sift::SiftNames;
 
 /// What the words ask for. Names of files are not empty, and no two of one command are equal.
 #[derive(Clone, Copy, Debug)]

@@ -1,10 +1,12 @@
 //! How the program ends: what was done, or why the work stopped, as a status and a printed text.
 ghost use Rattle.std.specs.Prelude.{◌≡◌, ◌≤◌, ◌+◌, ◌++◌, codes, decimal, length, option_map};
+ghost use Rattle.cf_audit.specs.Text.{cut_text};
 ghost use Rattle.cf_box.specs.Ending.{Prints, Puts, capture_number, count_line, done_text, end_text, status_of, stop_status, stop_text, summary_text, unprinted_status};
 ghost use Rattle.cf_box.specs.Outside.{sink_value};
 ghost use Rattle.cf_policylang.specs.Keys.{refusal_text};
 
 use arrayvec::ArrayString;
+use cf_audit::{CutReason, push_cut};
 use cf_outside::{Sink, WriteAnswer};
 use cf_pcap::HeaderRefusal;
 use cf_policylang::{PolicyRefusal, push_refusal};
@@ -41,6 +43,8 @@ pub enum Stop {
     RunCut(u64, Summary),
     /// The policy has no asset of the name.
     UnknownAsset,
+    /// The stream is cut.
+    Cut(CutReason),
     /// Memory ran out.
     NoMemory,
     /// The command, or its input, needs a part that is not built.
@@ -94,6 +98,7 @@ fn stop_status(stop: &Stop) -> u8
         Stop::CaptureRefused(_) => 6,
         Stop::CaptureCut(_) | Stop::RunCut(..) => 7,
         Stop::UnknownAsset => 10,
+        Stop::Cut(_) => 12,
         Stop::NoMemory => 13,
         Stop::Unbuilt => 14,
     }
@@ -225,6 +230,16 @@ fn numbered_line(words: &str, number: u64) -> EndText
     text
 }
 
+fn cut_line(reason: &CutReason) -> EndText
+    ensures { result.bytes ≡ codes "cut " ++ cut_text reason.now ++ codes "\n" }
+{
+    let mut text = EndText::new();
+    text.push_str("cut ");
+    push_cut(&mut text, reason);
+    text.push_str("\n");
+    text
+}
+
 fn line(words: &str) -> EndText
     requires { length words.now ≤ 64 }
     ensures { result.bytes ≡ words.now }
@@ -261,6 +276,7 @@ fn stop_text(stop: &Stop) -> Option<EndText>
         Stop::CaptureCut(place) => Some(numbered_line("capture cut at ", *place)),
         Stop::RunCut(place, summary) => Some(run_cut_text(*place, summary)),
         Stop::UnknownAsset => Some(line("unknown asset\n")),
+        Stop::Cut(reason) => Some(cut_line(reason)),
         Stop::Unbuilt => Some(line("unbuilt\n")),
     }
 }

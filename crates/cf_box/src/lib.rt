@@ -5,7 +5,6 @@ mod check;
 mod command;
 mod ending;
 mod names;
-mod outputs;
 mod packet_line;
 mod packets;
 mod policy_file;
@@ -15,9 +14,9 @@ mod sift;
 mod top;
 mod world;
 
+pub use cf_sift::{SiftDone, SiftFault, SiftNames, sift_stream};
 pub use command::{Command, read_words};
 pub use ending::{CaptureRefusal, Done, Stop};
-pub use sift::{STREAM_LIMIT, SiftDone, SiftFault, SiftNames, sift_stream};
 pub use top::box_main;
 
 #[cfg(test)]

@@ -1,10 +1,10 @@
 //! The policy that a file holds.
-ghost use Rattle.std.specs.Prelude.{◌≡◌, ◌≢◌, IfOk, IfErr, Some, bytes_eq, find, option_map};
+ghost use Rattle.std.specs.Prelude.{◌≡◌, ◌≢◌, IfErr, IfOk, IfSome, Some, bytes_eq, find, option_map};
 ghost use Rattle.cf_box.specs.Command.{Command, policy_file};
 ghost use Rattle.cf_box.specs.Ends.{StopsFor};
 ghost use Rattle.cf_box.specs.Outside.{PairValue, ReadsOnly, SinkValue, files_value, outside};
 ghost use Rattle.cf_box.specs.PolicyFile.{HasPolicy, StopsPolicy, asset_named, rule_count};
-ghost use Rattle.cf_policy.specs.Within.{AreAssetsWithin, IsWithin};
+ghost use Rattle.cf_policy.specs.Within.{AreAssetsWithin, IsAssetWithin, IsWithin};
 
 use crate::ending::Stop;
 use cf_outside::{Files, WholeFault, read_whole};
@@ -34,7 +34,7 @@ pub(crate) fn load_policy<F: Files>(
     ensures stop { IfErr result (λ s. (c : Command) (sink : SinkValue) (pair : PairValue) → policy_file c ≡ Some name.now
         → StopsFor c (outside (files_value F.Files files.old) sink pair) (outside (files_value F.Files files.new) sink pair) s) }
     ensures unwritten { IfErr result (λ s. s ≢ Stop.WriteFault) }
-    ensures of_policy { IfErr result (λ s. StopsPolicy s) }
+    ensures early { IfErr result StopsPolicy }
     ensures only { ReadsOnly (files_value F.Files files.old) (files_value F.Files files.new) }
 {
     let bytes = match read_whole(alloc, files, name, POLICY_LIMIT) {
@@ -52,13 +52,17 @@ pub(crate) fn load_policy<F: Files>(
 
 /// The asset of a name.
 pub(crate) fn find_asset<'a>(policy: &'a Policy, name: &str) -> Option<&'a Asset>
-    ensures { option_map (λ a. a.now) result ≡ asset_named name.now policy.now }
+    requires { IsWithin policy.now }
+    ensures named { option_map (λ a. a.now) result ≡ asset_named name.now policy.now }
+    ensures within { IfSome result (λ a. IsAssetWithin a.now) }
 {
     find_in(policy.assets.as_slice(), name)
 }
 
 fn find_in<'a>(assets: &'a [Asset], name: &str) -> Option<&'a Asset>
-    ensures { option_map (λ a. a.now) result ≡ find (λ a. bytes_eq a.name name.now) assets.now }
+    requires { AreAssetsWithin assets.now }
+    ensures named { option_map (λ a. a.now) result ≡ find (λ a. bytes_eq a.name name.now) assets.now }
+    ensures within { IfSome result (λ a. IsAssetWithin a.now) }
 {
     assets.iter().find(|asset| asset.name.as_str() == name)
 }

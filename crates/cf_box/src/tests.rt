@@ -43,6 +43,39 @@ action = \"allow\"
 codes = [1, 2, 3, 4, 5, 6, 15, 16, 22, 23]
 ";
 
+/// A substation's controller of which four outputs may be operated, selected before.
+const RTU: &str = "version = 1
+[[asset]]
+name = \"rtu\"
+address = \"10.0.0.10\"
+port = 20000
+protocol = \"dnp3\"
+station = 10
+master = 1
+[[asset.rule]]
+name = \"trip\"
+action = \"allow\"
+codes = [3, 4]
+groups = [\"3073\"]
+points = [\"0..3\"]
+";
+
+/// A station of which one single command is allowed.
+const SUB: &str = "version = 1
+[[asset]]
+name = \"sub\"
+address = \"10.0.0.11\"
+port = 2404
+protocol = \"iec104\"
+station = 1
+[[asset.rule]]
+name = \"switch\"
+action = \"allow\"
+codes = [45]
+groups = [\"6\"]
+points = [\"1000\"]
+";
+
 /// What a command left: its status, what was printed, the files, and how often the pair was called.
 #[derive(Drop)]
 struct Left {
@@ -59,7 +92,7 @@ impl Left {
     }
 }
 
-/// Runs words, separated by spaces, over the files `p` and `open` and those given, with scripted failures of the files
+/// Runs words, separated by spaces, over the files `p`, `open`, `rtu` and `sub` and those given, with scripted failures of the files
 /// and of the sink.
 fn run(
     alloc: Global,
@@ -69,9 +102,9 @@ fn run(
     put_fails: &[Fail],
 ) -> Result<Left, TestFail> {
     let mut files = MemoryFiles::new(alloc);
-    for (name, bytes) in [("p", PUMP.as_bytes()), ("open", OPEN.as_bytes())] {
+    for (name, policy) in [("p", PUMP), ("open", OPEN), ("rtu", RTU), ("sub", SUB)] {
         let name = String::from_str(alloc, name)?;
-        files.files.insert(name, bytes.to_vec(alloc)?)?;
+        files.files.insert(name, policy.as_bytes().to_vec(alloc)?)?;
     }
     for (name, bytes) in given {
         let name = String::from_str(alloc, name)?;

@@ -1,15 +1,16 @@
 //! The top call.
 ghost use Rattle.std.specs.Prelude.{◌≡◌, ◌≤◌, ◌⊎◌, ◌↔◌, IsNone, List, Some, map, string_bytes, ℕ};
-ghost use Rattle.cf_box.specs.Command.{Packets, Run, Sift, SiftNamesValue};
+ghost use Rattle.cf_box.specs.Command.{Packets, Run, Sift};
 ghost use Rattle.cf_box.specs.Ends.{Ends, Meets};
-ghost use Rattle.cf_box.specs.Outputs.{KeepsAllBut};
 ghost use Rattle.cf_box.specs.Outside.{FilesNeverFall, PairValue, files_value, outside, outside_value, sink_value};
 ghost use Rattle.cf_box.specs.Packets.{Lists};
 ghost use Rattle.cf_box.specs.RunHolds.{RunHolds};
-ghost use Rattle.cf_box.specs.Status.{CutsItsCapture, IsComplete, IsExactly, IsStatus, LacksItsAsset, RefusesItsCapture, RefusesItsPolicy, SiftPassesAllowed, WritesNothing, outputs_of};
+ghost use Rattle.cf_box.specs.Status.{CutsItsCapture, CutsItsStream, IsComplete, IsExactly, IsStatus, LacksItsAsset, RefusesItsCapture, RefusesItsPolicy, SiftPassesAllowed, WritesNothing, outputs_of};
 ghost use Rattle.cf_box.specs.Words.{HasApartFiles, command_of, command_value};
 ghost use Rattle.cf_outside.specs.Faults.{Rose};
 ghost use Rattle.cf_run.specs.RunCapture.{RunNamesValue};
+ghost use Rattle.cf_sift.specs.Names.{SiftNamesValue};
+ghost use Rattle.cf_sift.specs.Outputs.{KeepsAllBut};
 
 use crate::check::check;
 use crate::command::{Command, read_words};
@@ -17,8 +18,10 @@ use crate::ending::{Done, Stop, put_text, report};
 use crate::packets::packets;
 use crate::run::run;
 use crate::sift::sift;
+use cf_lane::lane_passes_allowed;
 use cf_outside::{Files, Pair, Sink};
 use cf_run::runs_have_headline;
+use cf_sift::has_one_cut;
 use std::alloc::Global;
 
 /// Does what a command asks for. Nothing is asked of the pair yet.
@@ -53,7 +56,7 @@ fn perform<F: Files, O: Sink>(
 ///
 /// Statuses: 0 done; 2 the words have no form; 3 a read failed; 4 a write failed, or work that was done could not be
 /// printed; 5 the policy's text means none; 6 the capture is refused; 7 it ends inside a record; 10 the policy has no
-/// asset of the name; 13 memory ran out; 14 the input needs a part that is not built.
+/// asset of the name; 12 the stream is cut; 13 memory ran out; 14 the input needs a part that is not built.
 pub fn box_main<F: Files, O: Sink, P: Pair>(
     alloc: Global,
     words: &[String],
@@ -77,6 +80,9 @@ pub fn box_main<F: Files, O: Sink, P: Pair>(
     ensures cut { result ≡ 7 → CutsItsCapture (command_of (map string_bytes words.now))
         (outside_value F.Files O.Sink P.Pair files.old out.old pair.old) }
     ensures unknown { result ≡ 10 → LacksItsAsset (command_of (map string_bytes words.now))
+        (outside_value F.Files O.Sink P.Pair files.old out.old pair.old) }
+
+    ensures stream { result ≡ 12 → CutsItsStream (command_of (map string_bytes words.now))
         (outside_value F.Files O.Sink P.Pair files.old out.old pair.old) }
 
     // Where the input is told, a cause in it gives its status, whatever stands behind it in the order of the work.
@@ -110,6 +116,8 @@ pub fn box_main<F: Files, O: Sink, P: Pair>(
     ensures unwritten { WritesNothing result → F.content files.new ≡ F.content files.old }
     ensures pair { pair.new ≡ pair.old }
 {
+    lane_passes_allowed();
+    has_one_cut();
     runs_have_headline();
     let _ = pair;
     match read_words(words) {

@@ -97,7 +97,7 @@ fn lists_a_capture(rt: HostRuntime) -> Result<(), TestFail> {
             wanted.push(b'\n')?;
         }
         assert_eq!(rt; left.printed.as_slice(), wanted.as_slice(), "{listing}");
-        assert_eq!(rt; left.files.files.len(), 3, "{listing}");
+        assert_eq!(rt; left.files.files.len(), 5, "{listing}");
     }
     Ok(())
 }

@@ -130,50 +130,106 @@ printed: unknown asset/
 
 words: sift p pump 10.0.0.5 s o r l
 stream: 000101000006
-status: 14
-printed: unbuilt/
+status: 12
+printed: cut client protocol/
+OUT: 
+REPLIES: 
+LOG: 0.000000 10.0.0.5:0 pump cut client protocol/
 
 words: sift p pump 10.0.0.5 s o r l
 stream: 000100010006
-status: 14
-printed: unbuilt/
+status: 12
+printed: cut client protocol/
+OUT: 
+REPLIES: 
+LOG: 0.000000 10.0.0.5:0 pump cut client protocol/
 
 words: sift p pump 10.0.0.5 s o r l
 stream: 000100000000
-status: 14
-printed: unbuilt/
+status: 12
+printed: cut client length/
+OUT: 
+REPLIES: 
+LOG: 0.000000 10.0.0.5:0 pump cut client length/
 
 words: sift p pump 10.0.0.5 s o r l
 stream: 000100000001
-status: 14
-printed: unbuilt/
+status: 12
+printed: cut client length/
+OUT: 
+REPLIES: 
+LOG: 0.000000 10.0.0.5:0 pump cut client length/
 
 words: sift p pump 10.0.0.5 s o r l
 stream: 0001000000ff
-status: 14
-printed: unbuilt/
+status: 12
+printed: cut client length/
+OUT: 
+REPLIES: 
+LOG: 0.000000 10.0.0.5:0 pump cut client length/
 
 words: sift p pump 10.0.0.5 s o r l
 stream: 000100000100
-status: 14
-printed: unbuilt/
-
-words: sift p pump 10.0.0.5 s o r l
-stream: 000100000006010600280064*5461 00010000
-status: 0
-printed: admitted 5461/refused 0/
-OUT: 000100000006010600280064*5461
+status: 12
+printed: cut client length/
+OUT: 
 REPLIES: 
-LOG: 0.000000 10.0.0.5:0 pump partial client 4/
+LOG: 0.000000 10.0.0.5:0 pump cut client length/
 
 words: sift p pump 10.0.0.5 s o r l
-stream: 000100000006010600280064*5461 0001000000
-status: 14
-printed: unbuilt/
+stream: 000100000006010600280064 00020001
+status: 12
+printed: cut client protocol/
+OUT: 000100000006010600280064
+REPLIES: 
+LOG: 0.000000 10.0.0.5:0 pump cut client protocol/
+
+words: sift p pump 10.0.0.5 s o r l
+stream: 000100000006010600280064*400
+status: 0
+printed: admitted 400/refused 0/
+OUT: 000100000006010600280064*400
+REPLIES: 
+LOG: 
+
+words: sift p pump 10.0.0.5 s o r l
+stream: 000100000006010600280064*5462 0001000000
+status: 0
+printed: admitted 5462/refused 0/
+OUT: 000100000006010600280064*5462
+REPLIES: 
+LOG: 0.000000 10.0.0.5:0 pump partial client 5/
+
+words: sift rtu rtu 10.0.0.5 s o r l
+stream: 056418c40a0001003d3a c0c3050c011701050301640000006400e3e7 000000ffff
+status: 0
+printed: admitted 0/refused 1/
+OUT: 
+REPLIES: 05641a4401000a00af5d c0c38100000c01170105030164000000bc51 6400000009d792
+LOG: 0.000000 10.0.0.5:0 rtu refuse default function code 5 group 3073 point 5 value 3 replied c3050c01170105030164000000640000/
+
+words: sift sub sub 10.0.0.5 s o r l
+stream: 680407000000 680e000000002d0106000100e9030081 680e020002002d0106000100e8030001
+status: 0
+printed: admitted 1/refused 1/
+OUT: 680407000000 680e000000002d0106000100e8030001
+REPLIES: 680e000002002d0147000100e9030081
+LOG: 0.000000 10.0.0.5:0 sub refuse default point code 45 group 6 point 1001 value 1 replied 680e000000002d0106000100e9030081/
+
+words: sift sub sub 10.0.0.5 s o r l
+stream: 680407000000 680e020000002d0106000100e9030081
+status: 12
+printed: cut client send 0 1/
+OUT: 680407000000
+REPLIES: 
+LOG: 0.000000 10.0.0.5:0 sub cut client send 0 1/
 
 words: sift p pump 10.0.0.5 t o r l
 status: 3
 printed: read fault/
+OUT: 
+REPLIES: 
+LOG: 
 
 words: sift q pump 10.0.0.5 t o r l
 status: 3
@@ -188,60 +244,85 @@ words: sift p tank 10.0.0.5 t o r l
 status: 10
 printed: unknown asset/
 
-words: sift p pump 10.0.0.5 t o r l
-policy: modbus=>iec104
-status: 14
-printed: unbuilt/
-
 words: sift p tank 10.0.0.5 s o r l
 stream: 000101000006
 status: 10
 printed: unknown asset/
 
 words: sift p pump 10.0.0.5 s o r l
-stream: 000101000006
-fails: 5 0
-status: 14
-printed: unbuilt/
-
-words: sift p pump 10.0.0.5 s o r l
 stream: 000100000006010600280064 000100000006020600280064
-fails: 5 0
+fails: 3 0
 status: 4
 printed: 
 
 words: sift p pump 10.0.0.5 s o r l
 stream: 000100000006010600280064 000100000006020600280064
-fails: 6 0
+fails: 4 0
 status: 4
 printed: 
 OUT: 
 
 words: sift p pump 10.0.0.5 s o r l
 stream: 000100000006010600280064 000100000006020600280064
-fails: 7 0
+fails: 5 0
 status: 4
 printed: 
 OUT: 
 REPLIES: 
+
+words: sift p pump 10.0.0.5 s o r l
+stream: 000100000006010600280064 000100000006020600280064
+fails: 6 0
+status: 3
+printed: read fault/
+OUT: 
+REPLIES: 
+LOG: 
+
+words: sift p pump 10.0.0.5 s o r l
+stream: 000100000006010600280064 000100000006020600280064
+fails: 7 0
+status: 3
+printed: read fault/
+OUT: 
+REPLIES: 
+LOG: 
 
 words: sift p pump 10.0.0.5 s o r l
 stream: 000100000006010600280064 000100000006020600280064
 fails: 8 5
 status: 4
 printed: 
-OUT: 0001000000
+OUT: 
 REPLIES: 
-LOG: 
+LOG: 0.000
 
 words: sift p pump 10.0.0.5 s o r l
 stream: 000100000006010600280064 000100000006020600280064
-fails: 9 1
+fails: 9 5
+status: 4
+printed: 
+OUT: 0001000000
+REPLIES: 
+LOG: 0.000000 10.0.0.5:0 pump refuse station station code 6 group 0 point 2 value - replied 000100000006020600280064/
+
+words: sift p pump 10.0.0.5 s o r l
+stream: 000100000006010600280064 000100000006020600280064
+fails: 10 1
 status: 4
 printed: 
 OUT: 000100000006010600280064
 REPLIES: 00
-LOG: 
+LOG: 0.000000 10.0.0.5:0 pump refuse station station code 6 group 0 point 2 value - replied 000100000006020600280064/
+
+words: sift p pump 10.0.0.5 s o r l
+stream: 000100000006010600280064 000101000006
+fails: 9 9
+status: 4
+printed: 
+OUT: 000100000006010600280064
+REPLIES: 
+LOG: 0.000000 
 
 words: sift p pump 10.0.0.5 s o r l
 stream: 000100000006010600280064
@@ -387,7 +468,7 @@ fn words_have_a_form_or_none(rt: HostRuntime) -> Result<(), TestFail> {
             let left = run(rt.alloc(), words, &[], &[], &[])?;
             assert_eq!(rt; left.status, status, "{words}");
             assert_eq!(rt; left.printed.as_slice(), printed.as_bytes(), "{words}");
-            assert_eq!(rt; left.files.files.len(), 2, "{words}");
+            assert_eq!(rt; left.files.files.len(), 4, "{words}");
             assert_eq!(rt; left.pair_calls, 0, "{words}");
         }
     }

@@ -9,7 +9,7 @@ use Rattle.cf_box.proofs.run.run.Goals as goal
 pub returns-in-Err-clause-meets : goal.returns-in-Err-clause-meets
 returns-in-Err-clause-meets g c = λ sink pair. (
   c.in-Err.ensures.stop (Run c.args.policy_file.now (run_names_value c.args.names.now)) sink pair refl,
-  inl (c.in-Err.ensures.of_policy, record { content = c.load_policy.ensures.only.content; sink = refl; pair = refl }),
+  inl (c.in-Err.ensures.early, record { content = c.load_policy.ensures.only.content; sink = refl; pair = refl }),
 )
 
 pub returns-clause-meets : goal.returns-clause-meets

@@ -1,26 +1,62 @@
-use Rattle.std.proofs.Common.{refl, subst, Err, inl, sym}
+use Rattle.std.proofs.Common.{refl, subst, Err, sym}
 use Rattle.cf_box.specs.Command.{Sift}
-use Rattle.cf_box.specs.Outside.{FilesValue, files_value, outside}
-use Rattle.cf_box.specs.Sift.{SiftStream, sift_names_value}
-use Rattle.cf_box.proofs.Sifting.{after_reading, sift_fails}
+use Rattle.cf_box.specs.Outside.{files_value, outside}
+use Rattle.cf_box.specs.Sift.{FindsAsset}
+use Rattle.cf_box.proofs.Sifting.{early_leaves, since, sift_cuts, sift_ends, sift_fails}
+use Rattle.cf_sift.specs.Names.{sift_names_value}
+use Rattle.cf_sift.specs.Sifted.{IsSifted, SiftEnds}
+use Rattle.cf_sift.specs.declared.SiftFault.TheVariants as stream
+use Rattle.cf_outside.specs.Faults.{Rose}
+use Rattle.std.specs.Prelude.{IsErrOf}
 use Rattle.cf_box.proofs.sift.sift.Goals as goal
 
 pub returns-in-Err-clause-meets : goal.returns-in-Err-clause-meets
 returns-in-Err-clause-meets g c = λ sink pair. (
   c.in-Err.ensures.stop (Sift c.args.policy_file.now c.args.asset_name.now c.args.client (sift_names_value c.args.names.now)) sink pair refl,
-  inl (c.in-Err.ensures.unwritten, record { content = c.load_policy.ensures.only.content; sink = refl; pair = refl }),
+  early_leaves c.args.policy_file.now c.args.asset_name.now c.args.client (sift_names_value c.args.names.now) _ _ _ c.in-Err.ensures.early
+      (record { content = c.load_policy.ensures.only.content; sink = refl; pair = refl }),
 )
 
 pub returns-in_err-done-clause-meets : goal.returns-in_err-done-clause-meets
 returns-in_err-done-clause-meets g c = λ sink pair.
-    let asset = c.in-Some.asset.now in
+    let content = g.F.Files.content in
+    let before = files_value g.F.Files c.args.files.now in
+    let after = files_value g.F.Files c.sift_stream.new.files in
     let names = sift_names_value c.args.names.now in
-    let before : FilesValue = files_value g.F.Files c.args.files.now in
-    let middle : FilesValue = files_value g.F.Files c.load_policy.new.files in
-    let after : FilesValue = files_value g.F.Files c.sift_stream.new.files in
+    let asset = c.in-Some.asset.now in
+    let finds : FindsAsset (before.content c.args.policy_file.now) c.args.asset_name.now asset = record { policy = c.in-Ok.policy; has = c.in-Ok.ensures.has; named = sym c.in-Some.ensures.named } in
     let fault = c.in_err-done.field-0.0 in
-    let stream = subst (SiftStream asset c.args.client names middle after) c.in_err-done.was c.sift_stream.ensures.stream in
-    sift_fails c.args.policy_file.now c.args.asset_name.now c.args.client names (outside before sink pair) (outside after sink pair) asset
-    (record { policy = c.in-Ok.policy; has = c.in-Ok.ensures.has; named = sym c.in-Some.ensures })
-    refl refl fault c.from_residual.result c.from_residual.ensures.1
-    (after_reading asset c.args.client names before middle after (Err fault) c.load_policy.ensures.only stream)
+    let r = c.sift_stream.ensures.read in
+    let w = c.sift_stream.ensures.write in
+    let only = c.load_policy.ensures.only in
+    let ends = subst (λ k. SiftEnds asset c.args.client names k after.content (Err fault)) only.content
+    (subst (SiftEnds asset c.args.client names (content c.load_policy.new.files) after.content) c.in_err-done.was c.sift_stream.ensures.ends) in
+    sift_fails c.args.policy_file.now c.args.asset_name.now c.args.client names (outside before sink pair) (outside after sink pair) asset finds refl refl
+    fault c.from_residual.result c.from_residual.ensures.1
+    (λ is. since before.read_faults (g.F.Files.read_faults c.load_policy.new.files) after.read_faults only.reads (r.rose (subst (λ k. IsErrOf k stream.Read) (sym c.in_err-done.was) is)))
+    (λ is. subst (λ n. Rose n after.write_faults) only.writes (w.rose (subst (λ k. IsErrOf k stream.Write) (sym c.in_err-done.was) is)))
+    ends
+
+pub returns-in-Some-cut-clause-meets : goal.returns-in-Some-cut-clause-meets
+returns-in-Some-cut-clause-meets g c = λ sink pair.
+    let content = g.F.Files.content in
+    let before = files_value g.F.Files c.args.files.now in
+    let after = files_value g.F.Files c.sift_stream.new.files in
+    let names = sift_names_value c.args.names.now in
+    let asset = c.in-Some.asset.now in
+    let finds : FindsAsset (before.content c.args.policy_file.now) c.args.asset_name.now asset = record { policy = c.in-Ok.policy; has = c.in-Ok.ensures.has; named = sym c.in-Some.ensures.named } in
+    sift_cuts c.args.policy_file.now c.args.asset_name.now c.args.client names (outside before sink pair) (outside after sink pair) asset finds refl refl
+    c.in_ok-done.done c.in-Some-cut.reason c.in-Some-cut.is
+    (subst (λ k. IsSifted asset c.args.client names k after.content c.in_ok-done.done) c.load_policy.ensures.only.content c.in_ok-done.ensures.ends)
+
+pub returns-clause-meets : goal.returns-clause-meets
+returns-clause-meets g c = λ sink pair.
+    let content = g.F.Files.content in
+    let before = files_value g.F.Files c.args.files.now in
+    let after = files_value g.F.Files c.sift_stream.new.files in
+    let names = sift_names_value c.args.names.now in
+    let asset = c.in-Some.asset.now in
+    let finds : FindsAsset (before.content c.args.policy_file.now) c.args.asset_name.now asset = record { policy = c.in-Ok.policy; has = c.in-Ok.ensures.has; named = sym c.in-Some.ensures.named } in
+    sift_ends c.args.policy_file.now c.args.asset_name.now c.args.client names (outside before sink pair) (outside after sink pair) asset finds refl refl
+    c.in_ok-done.done c.in-None.is
+    (subst (λ k. IsSifted asset c.args.client names k after.content c.in_ok-done.done) c.load_policy.ensures.only.content c.in_ok-done.ensures.ends)

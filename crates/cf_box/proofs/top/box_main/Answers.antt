@@ -1,15 +1,15 @@
-use Rattle.std.proofs.Common.{◌≡◌, refl, subst}
+use Rattle.std.proofs.Common.{◌≡◌, refl, subst, sym}
 use Rattle.cf_box.specs.Command.{Command}
 use Rattle.cf_box.specs.Ends.{Ends}
-use Rattle.cf_box.specs.Outputs.{KeepsAllBut}
+use Rattle.cf_sift.specs.Outputs.{KeepsAllBut}
 use Rattle.cf_box.specs.Outside.{Outside, outside_value, pair_value}
-use Rattle.cf_box.specs.Status.{CutsItsCapture, LacksItsAsset, RefusesItsCapture, RefusesItsPolicy, outputs_of}
+use Rattle.cf_box.specs.Status.{CutsItsCapture, CutsItsStream, LacksItsAsset, RefusesItsCapture, RefusesItsPolicy, outputs_of}
 use Rattle.cf_box.specs.Words.{command_value}
 use Rattle.cf_box.proofs.Complete.{complete_told}
 use Rattle.cf_box.proofs.Exact.{exact_told}
 use Rattle.cf_box.proofs.Kept.{kept_told, unwritten_told}
 use Rattle.cf_box.proofs.RunHolds.{run_told}
-use Rattle.cf_box.proofs.Statuses.{Explains, capture_told, cut_told, lack_told, lists_told, passes_told, read_told, refusal_told, write_told}
+use Rattle.cf_box.proofs.Statuses.{Explains, capture_told, cut_told, lack_told, lists_told, passes_told, read_told, refusal_told, stream_told, write_told}
 use Rattle.cf_box.proofs.top.box_main.Given.{Over}
 use Rattle.cf_box.proofs.top.box_main.Goals as goal
 
@@ -65,7 +65,7 @@ returns-in-Some-clause-unknown g c = λ is. subst (λ words. LacksItsAsset words
 pub returns-in-Some-clause-exact : goal.returns-in-Some-clause-exact
 returns-in-Some-clause-exact g c = λ form is.
     let same : command g c ≡ form = let known = c.in-Some.ensures.command in cc in
-    exact_told (subst (λ k. Explains k (before g c) (after g c) c.report.result) same (explains g c))
+    exact_told c.has_one_cut.ensures (subst (λ k. Explains k (before g c) (after g c) c.report.result) same (explains g c))
 
 pub returns-in-Some-clause-complete : goal.returns-in-Some-clause-complete
 returns-in-Some-clause-complete g c = λ form is input fails.
@@ -76,7 +76,7 @@ pub returns-in-Some-clause-lists : goal.returns-in-Some-clause-lists
 returns-in-Some-clause-lists g c = λ capture is. lists_told (explains g c) capture (let known = c.in-Some.ensures.command in cc)
 
 pub returns-in-Some-clause-passes : goal.returns-in-Some-clause-passes
-returns-in-Some-clause-passes g c = λ policy name client names is. passes_told (explains g c) policy name client names
+returns-in-Some-clause-passes g c = λ policy name client names is. passes_told (explains g c) c.lane_passes_allowed.ensures policy name client names
     (let known = c.in-Some.ensures.command in cc)
 
 pub returns-in-Some-clause-kept : goal.returns-in-Some-clause-kept
@@ -89,3 +89,6 @@ returns-in-Some-clause-unwritten g c = unwritten_told (explains g c)
 pub returns-in-Some-clause-headline : goal.returns-in-Some-clause-headline
 returns-in-Some-clause-headline g c = λ policy names is. run_told c.runs_have_headline.ensures (explains g c) policy names
     (let known = c.in-Some.ensures.command in cc)
+
+pub returns-in-Some-clause-stream : goal.returns-in-Some-clause-stream
+returns-in-Some-clause-stream g c = λ is. subst (λ words. CutsItsStream words (before g c)) c.in-Some.ensures.command (stream_told (explains g c) is)

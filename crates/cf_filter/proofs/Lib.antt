@@ -1,2 +1,0 @@
-pub mod FateLaws
-pub mod FilterLaws

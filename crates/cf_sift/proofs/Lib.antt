@@ -1,0 +1,9 @@
+mod Draining
+mod Elements
+mod Ends
+mod Feeding
+mod Logs
+mod Pieces
+mod Sifting
+mod Stored
+mod Streams

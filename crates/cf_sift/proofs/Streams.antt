@@ -1,0 +1,325 @@
+-- A stored stream that is taken piece by piece.
+use Rattle.std.proofs.Common.{◌≡◌, ◌+◌, ◌≤◌, ◌<◌, ℕ, Bool, true, false, None, Some, Option, List, [], ◌∷◌, ◌++◌, length, min, take, drop, refl, sym, ap, ◌∙◌, append_assoc, subst, inl, inr, arith}
+use Rattle.std.specs.Option.{option_or}
+use Rattle.std.specs.Prelude.{nat_le, ◌||◌, if◌then◌else◌}
+use Rattle.std.proofs.lemmas.Bool.{cases_lt, leb-true}
+use Rattle.std.proofs.lemmas.List.{append-nil, length-append, length-take, take_all, take-append-drop}
+use Rattle.cf_audit.specs.declared.line.CutReason.{CutReason}
+use Rattle.cf_audit.specs.declared.line.CutReason.TheVariants as reason
+use Rattle.cf_lane.specs.Follows.{AreJudged, AreRests}
+use Rattle.cf_lane.specs.History.{Element, bytes_at, end_at}
+use Rattle.cf_lane.specs.Laws.{HasOneJudgement}
+use Rattle.cf_lane.specs.Limit.{limit_by}
+use Rattle.cf_lane.specs.Log.{lines, with_lines}
+use Rattle.cf_lane.specs.declared.limit.TheConstants.{LETTER_LIMIT}
+use Rattle.cf_outq.specs.SendQueue.{queue_length}
+use Rattle.cf_outside.specs.Files.{BeginsWith, Content, HasAt, IsWhole, absent, holds, untold}
+use Rattle.cf_outside.specs.Lines.{file_lines}
+use Rattle.cf_outside.proofs.Content.{begins_more}
+use Rattle.cf_policy.specs.declared.Asset.{Asset}
+use Rattle.cf_view.specs.declared.Endpoint.{Endpoint}
+use Rattle.cf_view.specs.declared.Side.TheVariants as side
+use Rattle.cf_sift.specs.Flow.{IsFlowAfter, IsFlowOf, IsReady, rests_of}
+use Rattle.cf_sift.specs.Names.{SiftNamesValue}
+use Rattle.cf_sift.specs.Sifted.{ElementFails, HasLines, HaveOutput}
+use Rattle.cf_sift.specs.Stored.{IsUncut, cut_behind, stored_history}
+use Rattle.cf_sift.specs.Stream.{HasStream, IsFilled}
+use Rattle.cf_sift.specs.Taken.{IsTakenTo, IsTakenWhole, ReadStops, WriteStops}
+use Rattle.cf_sift.specs.declared.flow.Flow.{Flow}
+use Rattle.cf_sift.proofs.Elements.{cut_known}
+use Rattle.cf_sift.proofs.Logs.{lines_told}
+use Rattle.cf_sift.proofs.Stored.{full_piece, goes_up, last_piece, uncut_more}
+
+-- a list that is the first of another is so many of its first
+take_own : (n : ℕ) (d p : List ℕ) → p ≡ take n d → take (length p) d ≡ p
+take_own n d p is =
+    let size : length p ≡ min n (length d) = ap length is ∙ length-take n d in
+    elim (cases_lt n (length d)) [
+      | inl less ↦ ap (λ k. take k d) (omega (arith, size)) ∙ sym is
+      | inr more ↦ take_all (length p) d (omega (arith, size)) ∙ sym (take_all n d more) ∙ sym is
+    ]
+
+-- what is read behind the beginning of a file goes on with it
+pub read_more : (file : Content) (bytes p : List ℕ) → BeginsWith file bytes → IsFilled file (length bytes) 4096 p → BeginsWith file (bytes ++ p)
+read_more file bytes p begins filled = begins_more file bytes p begins (at file filled)
+  where
+    at : (file : Content) → IsFilled file (length bytes) 4096 p → HasAt file (length bytes) p
+    at untold filled = tt
+    at absent filled = absurd filled
+    at (holds all) filled = take_own 4096 (drop (length bytes) all) p filled
+
+-- a piece that is not full is the last one
+pub read_last : (file : Content) (bytes p : List ℕ) → BeginsWith file bytes → IsFilled file (length bytes) 4096 p → length p < 4096 → IsWhole file (bytes ++ p)
+read_last untold bytes p begins filled short = tt
+read_last absent bytes p begins filled short = absurd filled
+read_last (holds all) bytes p begins filled short =
+    let rest = drop (length bytes) all in
+    let size : length p ≡ min 4096 (length rest) = ap length filled ∙ length-take 4096 rest in
+    let whole : p ≡ rest = filled ∙ take_all 4096 rest (omega (arith, size, short)) in
+    ap (λ l. bytes ++ l) whole ∙ ap (λ l. l ++ rest) (sym begins) ∙ take-append-drop (length bytes) all
+
+-- a piece of a file that is as it was
+pub filled_at : (file now : Content) (place at size : ℕ) (p : List ℕ) → now ≡ file → at ≡ place → size ≡ 4096 → IsFilled now place size p → IsFilled file at 4096 p
+filled_at file now place at size p same is full filled =
+    subst (λ n. IsFilled file n 4096 p) (sym is) (subst (λ n. IsFilled file place n p) full (subst (λ f. IsFilled f place size p) same filled))
+
+-- a stream goes on behind its beginning
+pub stream_of : (file : Content) (bytes : List ℕ) → BeginsWith file bytes → (rest : List ℕ) × HasStream file (bytes ++ rest)
+stream_of untold bytes begins = ([], tt)
+stream_of absent bytes begins = ([], append-nil bytes ∙ empty bytes begins)
+  where
+    empty : (l : List ℕ) → length l ≡ 0 → l ≡ []
+    empty [] e = refl
+    empty (x ∷ l) e = cc
+stream_of (holds all) bytes begins = (drop (length bytes) all, ap (λ l. l ++ drop (length bytes) all) (sym begins) ∙ take-append-drop (length bytes) all)
+
+-- the same of a file that was read
+pub whole_of : (file : Content) (bytes : List ℕ) (place : ℕ) (p : List ℕ) → IsFilled file place 4096 p → BeginsWith file bytes → (rest : List ℕ) × IsWhole file (bytes ++ rest)
+whole_of untold bytes place p filled begins = ([], tt)
+whole_of absent bytes place p filled begins = absurd filled
+whole_of (holds all) bytes place p filled begins = (drop (length bytes) all, ap (λ l. l ++ drop (length bytes) all) (sym begins) ∙ take-append-drop (length bytes) all)
+
+pub whole_stream : (file : Content) (bytes : List ℕ) → IsWhole file bytes → HasStream file bytes
+whole_stream untold bytes whole = tt
+whole_stream absent bytes whole = absurd whole
+whole_stream (holds all) bytes whole = whole
+
+-- a piece that is not empty is the next element
+pub piece_at : (file : Content) (bytes p : List ℕ) → BeginsWith file bytes → IsFilled file (length bytes) 4096 p → 0 < length p → length p ≤ 4096 →
+    (rest : List ℕ) × IsWhole file (bytes ++ (p ++ rest)) × ((later : List Element) × (stored_history (p ++ rest) ≡ bytes_at 0 side.Client p ∷ later))
+piece_at file bytes p begins filled some short =
+    elim (cases_lt (length p) 4096) [
+      | inl less ↦
+          let none = append-nil p in
+          ([], subst (λ l. IsWhole file (bytes ++ l)) (sym none) (read_last file bytes p begins filled less), (end_at 0 side.Client ∷ [], ap stored_history none ∙ last_piece p some short))
+      | inr full ↦
+          let more = whole_of file (bytes ++ p) (length bytes) p filled (read_more file bytes p begins filled) in
+          (more.0, subst (IsWhole file) (append_assoc bytes p more.0) more.1, (stored_history more.0, full_piece p more.0 (omega (arith, full, short))))
+    ]
+
+-- no stream is as long as the limit
+short_limit : (p q r s : Bool) (x y : CutReason) → p ≡ false → q ≡ false → r ≡ false → s ≡ false →
+    (if p || q then Some x else if r || s then Some y else None) ≡ None
+short_limit p q r s x y a b c d = rw (a, b, c, d) refl
+
+not_above : (limit n : ℕ) → n < limit → nat_le limit n ≡ false
+not_above limit n less = no (nat_le limit n) (λ e. omega (arith, less, leb-true limit n e))
+  where
+    no : (b : Bool) → (b ≡ true → ⊥) → b ≡ false
+    no true f = absurd (f refl)
+    no false f = refl
+
+pub no_limit : (limit taken to_client to_controller : ℕ) → taken < limit → to_client < limit → to_controller < limit →
+    limit_by limit taken 0 to_client to_controller ≡ None
+no_limit limit taken to_client to_controller a b c =
+    short_limit (nat_le limit taken) (nat_le limit to_client) (nat_le limit 0) (nat_le limit to_controller) (reason.StreamLength side.Client) (reason.StreamLength side.Controller)
+    (not_above limit taken a) (not_above limit to_client b) (not_above limit 0 (omega (arith, a))) (not_above limit to_controller c)
+
+-- a cut that is none is none of its parts
+first_none : (a b : Option CutReason) → option_or a b ≡ None → a ≡ None
+first_none None b e = refl
+first_none (Some x) b e = cc
+
+module _ (asset : Asset) (client : Endpoint) (names : SiftNamesValue) (first : List ℕ → Content) where
+  pub of_client : (now : List ℕ → Content) (h : List Element) (cut : Option CutReason) (flow : Flow) (f : IsFlowOf asset client names first now h cut flow) →
+      AreJudged asset client.address h f.follows.judged
+  of_client now h cut flow f = subst (λ (e : Endpoint). AreJudged asset e.address h f.follows.judged) f.of_client f.follows.are_judged
+
+  -- the outputs have what was taken
+  pub have_output : (now : List ℕ → Content) (h : List Element) (cut : Option CutReason) (flow : Flow) (f : IsFlowOf asset client names first now h cut flow) →
+      HaveOutput asset client names first now f.follows.judged []
+  have_output now h cut flow f =
+      let js = f.follows.judged in
+      let of_lines : file_lines (now names.log) ≡ with_lines (file_lines (first names.log)) (lines asset client [] js) =
+      f.follows.of_lines ∙ ap (λ (e : Endpoint). with_lines (file_lines (first names.log)) (lines asset e [] js)) f.of_client in
+      record {
+        of_out = f.of_out;
+        of_replies = f.of_replies;
+        of_log = subst (λ ls. HasLines ls (first names.log) (now names.log)) (sym (append-nil (lines asset client [] js)))
+            (lines_told (first names.log) (now names.log) (lines asset client [] js) f.log_first f.log_now of_lines);
+      }
+
+  -- a flow that nothing cuts
+  pub uncut_flow : (now : List ℕ → Content) (h : List Element) (flow : Flow) → IsFlowAfter asset client names first now h None flow →
+      IsFlowOf asset client names first now h None flow
+  uncut_flow now h flow after =
+      let f = after.flow_of in
+      let none : after.by_item ≡ None = first_none after.by_item _ (sym (cut_known asset client names first now h after.by_item flow f) ∙ after.is_cut) in
+      record {
+        follows = record {
+          judged = f.follows.judged;
+          are_judged = f.follows.are_judged;
+          is_cut = f.follows.is_cut ∙ none;
+          are_rests = subst (AreRests asset.protocol h (rests_of flow.rest.items)) none f.follows.are_rests;
+          knows = f.follows.knows;
+          client_stream = f.follows.client_stream;
+          controller_stream = f.follows.controller_stream;
+          of_lines = f.follows.of_lines;
+        };
+        of_client = f.of_client;
+        of_out = f.of_out;
+        of_replies = f.of_replies;
+        log_first = f.log_first;
+        log_now = f.log_now;
+        letters = f.letters;
+        ends = f.ends;
+        quiet = f.quiet;
+      }
+
+  module _ (one : HasOneJudgement) where
+    -- before the first piece
+    pub starts : (old : List ℕ → Content) (flow : Flow) → IsReady asset flow → IsFlowOf asset client names first old [] None flow →
+        IsTakenTo asset client names first old old 0 flow
+    starts old flow ready f = record {
+      bytes = [];
+      size = refl;
+      begins = nothing_read (old names.stream);
+      history = [];
+      goes_on = λ rest. refl;
+      flow_of = f;
+      uncut = λ front back ks is are.
+          let none : front ≡ [] = empty front back is in
+          let same : ks ≡ f.follows.judged = one asset client.address [] ks f.follows.judged (subst (λ l. AreJudged asset client.address l ks) none are) (of_client old [] None flow f) in
+          ap (λ l. cut_behind asset l ks) none ∙ ap (cut_behind asset []) same ∙ cut_known asset client names first old [] None flow f
+          ∙ no_limit LETTER_LIMIT flow.taken (queue_length flow.to_client) (queue_length flow.to_controller) ready.few ready.client.few ready.controller.few;
+    }
+      where
+        nothing_read : (file : Content) → BeginsWith file []
+        nothing_read untold = tt
+        nothing_read absent = refl
+        nothing_read (holds all) = refl
+
+        empty : (f b : List Element) → [] ≡ f ++ b → f ≡ []
+        empty [] b is = refl
+        empty (x ∷ f) b is = cc
+
+    module _ (old now : List ℕ → Content) (at : ℕ) (flow : Flow) (t : IsTakenTo asset client names first old now at flow) where
+      -- a read failed
+      pub read_stops : ReadStops asset client names first old now
+      read_stops =
+          let more = stream_of (old names.stream) t.bytes t.begins in
+          record {
+            bytes = t.bytes ++ more.0;
+            stream = more.1;
+            history = t.history;
+            later = stored_history more.0;
+            begins = t.goes_on more.0;
+            uncut = t.uncut;
+            judged = t.flow_of.follows.judged;
+            are_judged = of_client now t.history None flow t.flow_of;
+            have = have_output now t.history None flow t.flow_of;
+          }
+
+      module _ (p : List ℕ) (filled : IsFilled (old names.stream) (length t.bytes) 4096 p) where
+        -- a write failed at a piece
+        pub piece_stops : (new : List ℕ → Content) → 0 < length p → length p ≤ 4096 →
+            ElementFails asset client names first new t.history t.flow_of.follows.judged (bytes_at 0 side.Client p) → WriteStops asset client names first old new
+        piece_stops new some short fails =
+            let (rest, whole, (later, splits)) = piece_at (old names.stream) t.bytes p t.begins filled some short in
+            record {
+              bytes = t.bytes ++ (p ++ rest);
+              stream = whole_stream (old names.stream) (t.bytes ++ (p ++ rest)) whole;
+              earlier = t.history;
+              element = bytes_at 0 side.Client p;
+              later = later;
+              begins = t.goes_on (p ++ rest) ∙ ap (λ l. t.history ++ l) splits;
+              uncut = t.uncut;
+              judged = t.flow_of.follows.judged;
+              are_judged = of_client now t.history None flow t.flow_of;
+              fails = fails;
+            }
+
+        -- a piece cuts
+        pub piece_cuts : (new : List ℕ → Content) (last : Flow) (why : CutReason) → 0 < length p → length p ≤ 4096 →
+            IsFlowAfter asset client names first new (t.history ++ bytes_at 0 side.Client p ∷ []) (Some why) last →
+            IsTakenWhole asset client names first old new (Some why) last
+        piece_cuts new last why some short after =
+            let (rest, whole, (later, splits)) = piece_at (old names.stream) t.bytes p t.begins filled some short in
+            let element = bytes_at 0 side.Client p in
+            record {
+              bytes = t.bytes ++ (p ++ rest);
+              whole = whole;
+              earlier = t.history;
+              element = element;
+              uncut = t.uncut;
+              judged = t.flow_of.follows.judged;
+              are_judged = of_client now t.history None flow t.flow_of;
+              after = after;
+              goes = goes_up one asset client.address (stored_history (t.bytes ++ (p ++ rest))) t.history later element (Some why) after.flow_of.follows.judged t.uncut
+                  (t.goes_on (p ++ rest) ∙ ap (λ l. t.history ++ l) splits ∙ sym (append_assoc t.history (element ∷ []) later))
+                  (of_client new (t.history ++ element ∷ []) after.by_item last after.flow_of) after.is_cut (λ e. cc);
+            }
+
+        -- behind a piece that does not cut
+        uncut_piece : (new : List ℕ → Content) (last : Flow) (after : IsFlowAfter asset client names first new (t.history ++ bytes_at 0 side.Client p ∷ []) None last) →
+            IsUncut asset client.address (t.history ++ bytes_at 0 side.Client p ∷ [])
+        uncut_piece new last after =
+            uncut_more one asset client.address t.history (bytes_at 0 side.Client p) after.flow_of.follows.judged t.uncut
+            (of_client new (t.history ++ bytes_at 0 side.Client p ∷ []) after.by_item last after.flow_of) after.is_cut
+
+        pub goes_on : (new : List ℕ → Content) (last : Flow) → length p ≡ 4096 →
+            IsFlowAfter asset client names first new (t.history ++ bytes_at 0 side.Client p ∷ []) None last →
+            IsTakenTo asset client names first old new (at + length p) last
+        goes_on new last full after = record {
+          bytes = t.bytes ++ p;
+          size = length-append t.bytes p ∙ ap (λ n. n + length p) t.size;
+          begins = read_more (old names.stream) t.bytes p t.begins filled;
+          history = t.history ++ bytes_at 0 side.Client p ∷ [];
+          goes_on = λ rest. ap stored_history (append_assoc t.bytes p rest) ∙ t.goes_on (p ++ rest) ∙ ap (λ l. t.history ++ l) (full_piece p rest full)
+              ∙ sym (append_assoc t.history (bytes_at 0 side.Client p ∷ []) (stored_history rest));
+          flow_of = uncut_flow new (t.history ++ bytes_at 0 side.Client p ∷ []) last after;
+          uncut = uncut_piece new last after;
+        }
+
+        -- all bytes were read
+        pub read_all : length p < 4096 → IsWhole (old names.stream) (t.bytes ++ p)
+        read_all short = read_last (old names.stream) t.bytes p t.begins filled short
+
+        pub none_behind : length p ≡ 0 → stored_history (t.bytes ++ p) ≡ t.history ++ end_at 0 side.Client ∷ []
+        none_behind none = t.goes_on p ∙ ap (λ l. t.history ++ stored_history l) (empty p none)
+          where
+            empty : (l : List ℕ) → length l ≡ 0 → l ≡ []
+            empty [] e = refl
+            empty (x ∷ l) e = cc
+
+        pub last_behind : 0 < length p → length p ≤ 4096 → stored_history (t.bytes ++ p) ≡ (t.history ++ bytes_at 0 side.Client p ∷ []) ++ end_at 0 side.Client ∷ []
+        last_behind some short = t.goes_on p ∙ ap (λ l. t.history ++ l) (last_piece p some short)
+            ∙ sym (append_assoc t.history (bytes_at 0 side.Client p ∷ []) (end_at 0 side.Client ∷ []))
+
+        pub uncut_last : (new : List ℕ → Content) (last : Flow) (after : IsFlowAfter asset client names first new (t.history ++ bytes_at 0 side.Client p ∷ []) None last) →
+            IsUncut asset client.address (t.history ++ bytes_at 0 side.Client p ∷ [])
+        uncut_last = uncut_piece
+
+    -- behind all pieces stands End
+    module _ (old now : List ℕ → Content) (flow : Flow) (bytes : List ℕ) (h : List Element) (whole : IsWhole (old names.stream) bytes)
+        (begins : stored_history bytes ≡ h ++ end_at 0 side.Client ∷ []) (f : IsFlowOf asset client names first now h None flow) (uncut : IsUncut asset client.address h) where
+      pub end_stops : (new : List ℕ → Content) → ElementFails asset client names first new h f.follows.judged (end_at 0 side.Client) →
+          WriteStops asset client names first old new
+      end_stops new fails = record {
+        bytes = bytes;
+        stream = whole_stream (old names.stream) bytes whole;
+        earlier = h;
+        element = end_at 0 side.Client;
+        later = [];
+        begins = begins;
+        uncut = uncut;
+        judged = f.follows.judged;
+        are_judged = of_client now h None flow f;
+        fails = fails;
+      }
+
+      pub end_taken : (new : List ℕ → Content) (last : Flow) (cut : Option CutReason) →
+          IsFlowAfter asset client names first new (h ++ end_at 0 side.Client ∷ []) cut last → IsTakenWhole asset client names first old new cut last
+      end_taken new last cut after = record {
+        bytes = bytes;
+        whole = whole;
+        earlier = h;
+        element = end_at 0 side.Client;
+        uncut = uncut;
+        judged = f.follows.judged;
+        are_judged = of_client now h None flow f;
+        after = after;
+        goes = goes_up one asset client.address (stored_history bytes) h [] (end_at 0 side.Client) cut after.flow_of.follows.judged uncut
+            (begins ∙ sym (append-nil (h ++ end_at 0 side.Client ∷ [])))
+            (of_client new (h ++ end_at 0 side.Client ∷ []) after.by_item last after.flow_of) after.is_cut (λ e. refl);
+      }

@@ -1,0 +1,30 @@
+-- Files that are created in their order: AreCreated and CreationFails.
+use Rattle.std.specs.Prelude.{◌≡◌, ◌≢◌, ◌⊎◌, ℕ, List, [], ◌∷◌}
+use Rattle.cf_outside.specs.Files.{Content, content_after_create}
+
+module _ (before after : List ℕ → Content) where
+  -- each of the files is as it was
+  abbrev pub AreSame : List (List ℕ) → Type 0
+  AreSame [] = Unit {0}
+  AreSame (name ∷ names) = (after name ≡ before name) × AreSame names
+
+  -- each was created
+  abbrev pub AreCreated : List (List ℕ) → Type 0
+  AreCreated [] = Unit {0}
+  AreCreated (name ∷ names) = (after name ≡ content_after_create (before name)) × AreCreated names
+
+  -- the creation of one failed: those before it were created, it is as it was or empty, and those behind it are as they were
+  abbrev pub CreationFails : List (List ℕ) → Type 0
+  CreationFails [] = ⊥
+  CreationFails (name ∷ names) =
+      (((after name ≡ before name) ⊎ (after name ≡ content_after_create (before name))) × AreSame names)
+      ⊎ ((after name ≡ content_after_create (before name)) × CreationFails names)
+
+  -- the other of these is none of the names, and is as it was
+  abbrev pub IsSameBeside : List ℕ → List (List ℕ) → Type 0
+  IsSameBeside other [] = after other ≡ before other
+  IsSameBeside other (name ∷ names) = other ≢ name → IsSameBeside other names
+
+  -- every file of another name is as it was
+  abbrev pub KeepsAllBut : List (List ℕ) → Type 0
+  KeepsAllBut names = (other : List ℕ) → IsSameBeside other names
