@@ -1,4 +1,5 @@
 mod Begun
+mod Counting
 mod FileDesks
 mod Items
 mod Matched
@@ -9,4 +10,5 @@ mod Places
 mod Received
 mod Selection
 mod Soundness
+mod Stepping
 mod Timers

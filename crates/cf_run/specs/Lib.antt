@@ -1,3 +1,4 @@
+pub mod Counted
 pub mod Engine
 pub mod Entries
 pub mod FileDesk
@@ -5,7 +6,10 @@ pub mod Items
 pub mod OutputFile
 pub mod Reader
 pub mod Receiving
+pub mod Run
+pub mod RunCapture
 pub mod Selected
+pub mod Step
 pub mod Summary
 pub mod Table
 pub mod Trace

@@ -12,7 +12,7 @@ use Rattle.cf_view.specs.declared.Side.{Side}
 use Rattle.cf_run.specs.Engine.{AreAll}
 use Rattle.cf_run.specs.Summary.{decided_in, one_if}
 use Rattle.cf_run.specs.Table.{Session, asset_at, match_of, may_begin, place_of}
-use Rattle.cf_run.specs.Trace.{Begun, GoesOnAt, NoRoom, NoSession, Received, Receives, Went, after_received, is_cut, logged_at, logged_received, sent_received, stays, with_event_at}
+use Rattle.cf_run.specs.Trace.{Begun, Dropped, GoesOnAt, NoRoom, NoSession, Received, Receives, Went, after_received, is_cut, logged_at, logged_received, sent_received, stays, with_event_at}
 use Rattle.cf_run.specs.declared.entry.Entry.{Entry}
 use Rattle.cf_run.specs.declared.second_half.Outcome.{Outcome}
 use Rattle.cf_run.specs.declared.second_half.Outcome.TheVariants as outcome
@@ -36,6 +36,7 @@ AreTicked tick (session ∷ table) = HasTicked tick session.flow session.events 
 
 -- how the counts have what became of a packet
 abbrev pub IsOutcome : List Session → Outcome → Received → Type 0
+IsOutcome table outcome.Dropped Dropped = Unit {0}
 IsOutcome table outcome.Full NoRoom = Unit {0}
 IsOutcome table outcome.Outside NoSession = Unit {0}
 IsOutcome table outcome.Begun (Begun flow event) = Unit {0}
@@ -46,6 +47,7 @@ IsOutcome table _ _ = ⊥
 
 -- how many sessions are in memory then
 abbrev pub IsSized : Outcome → (before after : ℕ) → Type 0
+IsSized outcome.Dropped before after = after ≡ before
 IsSized outcome.Full before after = after ≡ before
 IsSized outcome.Outside before after = after ≡ before
 IsSized outcome.Begun before after = (after ≤ before + 1) × (after ≤ 256)

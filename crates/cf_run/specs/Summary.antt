@@ -1,9 +1,10 @@
--- What is counted of an event. This project's own.
-use Rattle.std.specs.Prelude.{ℕ, ◌-◌, Bool, if◌then◌else◌, List, Option, Some, None, slice_get}
+-- What is counted over events: summary_of. This project's own.
+use Rattle.std.specs.Prelude.{ℕ, ◌+◌, ◌-◌, ◌^◌, min, Bool, true, false, if◌then◌else◌, List, [], ◌∷◌, length, count_by, Option, Some, None, slice_get}
 use Rattle.cf_session.specs.Session.{work_of}
 use Rattle.cf_session.specs.Work.{Work, no_work}
 use Rattle.cf_run.specs.Table.{Session}
-use Rattle.cf_run.specs.Trace.{Received, Went, behind}
+use Rattle.cf_run.specs.Trace.{Begun, Dropped, Event, NoRoom, NoSession, Received, Went, behind, is_cut, table_after, tick_of, ticked}
+use Rattle.cf_run.specs.declared.summary.Summary.{Summary}
 
 abbrev pub one_if : Bool → ℕ
 one_if holds = if holds then 1 else 0
@@ -16,3 +17,55 @@ work_before (Some session) = work_of (behind session.events)
 abbrev pub decided_in : (Work → ℕ) → List Session → Received → ℕ
 decided_in count table (Went place event) = count event.work - count (work_before (slice_get table place))
 decided_in count table _ = 0
+
+-- ---- what one event counts, after this table
+
+-- the table as the packet of an event finds it
+abbrev pub found : List Session → Event → List Session
+found before event = ticked event.ticks (tick_of event.input) before
+
+abbrev pub was_dropped : Received → Bool
+was_dropped Dropped = true
+was_dropped _ = false
+
+abbrev pub was_outside : Received → Bool
+was_outside NoSession = true
+was_outside _ = false
+
+abbrev pub found_no_room : Received → Bool
+found_no_room NoRoom = true
+found_no_room _ = false
+
+abbrev pub has_begun : Received → Bool
+has_begun (Begun flow event) = true
+has_begun _ = false
+
+abbrev pub was_cut : Received → Bool
+was_cut (Went place event) = is_cut event.cut
+was_cut _ = false
+
+abbrev pub cuts_in : List Session → Event → ℕ
+cuts_in before event = count_by (λ t. is_cut t.cut) event.ticks + one_if (was_cut event.received)
+
+-- ---- over all events, the newest first
+
+-- the sum of what each event counts, after the table that those before it left
+abbrev pub total : (List Session → Event → ℕ) → List Event → ℕ
+total count [] = 0
+total count (event ∷ earlier) = total count earlier + count (table_after earlier) event
+
+-- a count that passes 2^64 - 1 stays there
+abbrev pub capped : ℕ → ℕ
+capped n = min n (2 ^ 64 - 1)
+
+abbrev pub summary_of : List Event → Summary
+summary_of events = record {
+  records = capped (length events);
+  dropped = capped (total (λ before event. one_if (was_dropped event.received)) events);
+  outside = capped (total (λ before event. one_if (was_outside event.received)) events);
+  full = capped (total (λ before event. one_if (found_no_room event.received)) events);
+  sessions = capped (total (λ before event. one_if (has_begun event.received)) events);
+  admitted = capped (total (λ before event. decided_in (λ w. w.admitted) (found before event) event.received) events);
+  refused = capped (total (λ before event. decided_in (λ w. w.refused) (found before event) event.received) events);
+  cuts = capped (total cuts_in events);
+}

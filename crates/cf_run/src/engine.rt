@@ -1,4 +1,28 @@
-//! Why an event was not handled.
+//! The engine: the table of sessions, one event at a time.
+ghost use Rattle.std.specs.Prelude.{◌≡◌, ◌+◌, ◌*◌, ◌^◌, ◌<◌, ◌≤◌, true, [], ◌∷◌, List, IfOk, IsErrOf, OnOk, length, pos};
+ghost use Rattle.std.specs.Prelude.{◌≤ℤ◌};
+ghost use Rattle.cf_outside.specs.Desk.{DeskValue, KeepsDesk};
+ghost use Rattle.cf_outside.specs.Faults.{HasCause};
+ghost use Rattle.cf_packet.specs.Packet.{read_record};
+ghost use Rattle.cf_policy.specs.Within.{AreAssetsWithin};
+ghost use Rattle.cf_session.specs.Told.{told};
+ghost use Rattle.cf_run.specs.Engine.{AreAll, AreSound};
+ghost use Rattle.cf_run.specs.Receiving.{IsSized, MayBegin};
+ghost use Rattle.cf_run.specs.Step.{EngineValue, IsEngineOf, IsSoundEngine, ReceivesRecordOne, Steps, StepsOn};
+ghost use Rattle.cf_run.specs.Table.{Session as Known};
+ghost use Rattle.cf_run.specs.Trace.{Event};
+
+use crate::entry::Entry;
+use crate::first_half::tick_all;
+use crate::matching::TABLE_SIZE;
+use crate::second_half::{Outcome, receive};
+use crate::summary::{Happened, Summary};
+use cf_outside::Desk;
+use cf_packet::read_packet;
+use cf_policy::{Asset, Policy};
+use cf_view::{LinkKind, NoMemory};
+use std::alloc::Global;
+use std::marker::Model;
 use thiserror::Error;
 
 /// Why a step was not made.
@@ -10,4 +34,165 @@ pub enum StepFault {
     /// The desk failed.
     #[error("a packet or a line could not be written")]
     Write,
+}
+
+/// The table of sessions, and what was counted.
+#[derive(Drop)]
+pub struct Engine {
+    table: Vec<Entry>,
+    limit: u64,
+    last: u64,
+    summary: Summary,
+}
+
+impl Model for Engine {
+    ghost use Rattle.cf_run.specs.Step.{EngineValue};
+
+    ghost Value = { EngineValue };
+
+    ghost view = { λ e. record { table = e.table.items; limit = e.limit; last = e.last; summary = e.summary } };
+}
+
+impl Engine {
+    /// An engine without sessions, with room for 256 of them. A stream of as many letters as the limit, from 1 to 2^30, cuts
+    /// its session.
+    pub fn new(alloc: Global, limit: i64) -> Result<Engine, NoMemory>
+        requires limit { (pos 1 ≤ℤ limit) × (limit ≤ℤ pos (2 ^ 30)) }
+        ensures sound { IfOk result (λ engine. (assets : List Asset) → IsSoundEngine assets engine) }
+        ensures stands { IfOk result (λ engine. (assets : List Asset) → IsEngineOf assets engine []) }
+        ensures limit { IfOk result (λ engine. limit ≡ pos (EngineValue.limit engine)) }
+        ensures last { IfOk result (λ engine. EngineValue.last engine ≡ 0) }
+    {
+        let Ok(table) = Vec::try_with_capacity_in(TABLE_SIZE, alloc) else {
+            return Err(NoMemory);
+        };
+        Ok(Engine {
+            table,
+            limit: limit as u64,
+            last: 0,
+            summary: Summary::default(),
+        })
+    }
+
+    /// One event: the timers that are due a microsecond before the record's moment, and then the packet in its octets. The
+    /// moment is in microseconds, and at least 2 later than that of the event before. Each call is handed the same policy.
+    ///
+    /// `NoMemory`: memory ran out, and the packet would have begun a session. `Write`: the desk failed.
+    pub fn step<D: Desk>(
+        &mut self,
+        alloc: Global,
+        policy: &Policy,
+        moment: u64,
+        link: &LinkKind,
+        bytes: &[u8],
+        desk: &mut D,
+    ) -> Result<(), StepFault>
+        requires within { AreAssetsWithin policy.now.assets }
+        requires sound { IsSoundEngine policy.now.assets self.old }
+        requires later { self.old.last + 2 ≤ moment }
+        requires moment { moment < 2 ^ 32 * 1000000 }
+        requires whole { DeskValue.whole (D.value desk.old) ≡ true }
+        ensures steps { OnOk result ((events : List Event) → IsEngineOf policy.now.assets self.old events →
+            (event : Event) × StepsOn policy.now.assets moment (read_record link.now bytes.now) events self.new
+            (told (D.value desk.old)) (told (D.value desk.new)) event) }
+        ensures sound { OnOk result (IsSoundEngine policy.now.assets self.new) }
+        ensures last { OnOk result (self.new.last ≡ moment) }
+        ensures limit { self.new.limit ≡ self.old.limit }
+        ensures memory { IsErrOf result StepFault.NoMemory → MayBegin policy.now.assets (read_record link.now bytes.now) }
+        ensures keeps { KeepsDesk (D.value desk.old) (D.value desk.new) }
+        ensures whole { OnOk result (DeskValue.whole (D.value desk.new) ≡ true) }
+        ensures cause { HasCause (DeskValue.faults (D.value desk.old)) (DeskValue.faults (D.value desk.new)) (IsErrOf result StepFault.Write) }
+    {
+        let happened = match step_table(
+            &mut self.table,
+            alloc,
+            &policy.assets,
+            self.limit,
+            moment,
+            link,
+            bytes,
+            desk,
+        ) {
+            Ok(happened) => happened,
+            Err(fault) => return Err(fault),
+        };
+        self.summary.count(&happened);
+        self.last = moment;
+        Ok(())
+    }
+
+    /// What was counted over all events.
+    pub fn summary(&self) -> Summary
+        ensures { result ≡ self.now.summary }
+    {
+        self.summary
+    }
+}
+
+/// One event over the table.
+fn step_table<D: Desk>(
+    table: &mut Vec<Entry>,
+    alloc: Global,
+    assets: &[Asset],
+    limit: u64,
+    now: u64,
+    link: &LinkKind,
+    bytes: &[u8],
+    desk: &mut D,
+) -> Result<Happened, StepFault>
+    requires within { AreAssetsWithin assets.now }
+    requires sound { AreSound assets.now limit table.old.items }
+    requires size { length table.old.items ≤ 256 }
+    requires limit { (1 ≤ limit) × (limit ≤ 2 ^ 30) }
+    requires moment { (2 ≤ now) × (now < 2 ^ 32 * 1000000) }
+    requires whole { DeskValue.whole (D.value desk.old) ≡ true }
+    ensures steps { IfOk result (λ happened. (before : List Known) (last : ℕ) → last + 1 ≤ now → AreAll assets.now last table.old.items before →
+        (event : Event) × Steps assets.now limit now (read_record link.now bytes.now) before table.new.items
+        (told (D.value desk.old)) (told (D.value desk.new)) happened event) }
+    ensures sound { OnOk result (AreSound assets.now limit table.new.items) }
+    ensures size { OnOk result (length table.new.items ≤ 256) }
+    ensures memory { IsErrOf result StepFault.NoMemory → MayBegin assets.now (read_record link.now bytes.now) }
+    ensures keeps { KeepsDesk (D.value desk.old) (D.value desk.new) }
+    ensures whole { OnOk result (DeskValue.whole (D.value desk.new) ≡ true) }
+    ensures cause { HasCause (DeskValue.faults (D.value desk.old)) (DeskValue.faults (D.value desk.new)) (IsErrOf result StepFault.Write) }
+{
+    let Ok(cuts) = tick_all(table, assets, limit, now - 1, desk) else {
+        return Err(StepFault::Write);
+    };
+    match receive_record(table, alloc, assets, limit, now, link, bytes, desk) {
+        Ok(outcome) => Ok(Happened { cuts, outcome }),
+        Err(fault) => Err(fault),
+    }
+}
+
+/// The second half of an event, with the octets of a record.
+fn receive_record<D: Desk>(
+    table: &mut Vec<Entry>,
+    alloc: Global,
+    assets: &[Asset],
+    limit: u64,
+    now: u64,
+    link: &LinkKind,
+    bytes: &[u8],
+    desk: &mut D,
+) -> Result<Outcome, StepFault>
+    requires within { AreAssetsWithin assets.now }
+    requires sound { AreSound assets.now limit table.old.items }
+    requires size { length table.old.items ≤ 256 }
+    requires limit { (1 ≤ limit) × (limit ≤ 2 ^ 30) }
+    requires moment { (1 ≤ now) × (now < 2 ^ 32 * 1000000) }
+    requires whole { DeskValue.whole (D.value desk.old) ≡ true }
+    ensures received { IfOk result (λ outcome. ReceivesRecordOne assets.now limit now (read_record link.now bytes.now) table.old.items table.new.items
+        (told (D.value desk.old)) (told (D.value desk.new)) outcome) }
+    ensures sound { OnOk result (AreSound assets.now limit table.new.items) }
+    ensures size { IfOk result (λ outcome. IsSized outcome (length table.old.items) (length table.new.items)) }
+    ensures memory { IsErrOf result StepFault.NoMemory → MayBegin assets.now (read_record link.now bytes.now) }
+    ensures keeps { KeepsDesk (D.value desk.old) (D.value desk.new) }
+    ensures whole { OnOk result (DeskValue.whole (D.value desk.new) ≡ true) }
+    ensures cause { HasCause (DeskValue.faults (D.value desk.old)) (DeskValue.faults (D.value desk.new)) (IsErrOf result StepFault.Write) }
+{
+    match read_packet(link, bytes) {
+        Ok(packet) => receive(table, alloc, assets, limit, now, &packet, desk),
+        Err(_) => Ok(Outcome::Dropped),
+    }
 }

@@ -9,16 +9,20 @@ mod first_half;
 mod laws;
 mod matching;
 mod record_reader;
+mod run;
 mod second_half;
+mod summary;
 
-pub use engine::StepFault;
+pub use engine::{Engine, StepFault};
 pub use entry::Entry;
 pub use file_desk::FileDesk;
 pub use first_half::tick_all;
 pub use laws::selects_by_moment;
 pub use matching::{Match, TABLE_SIZE, match_packet};
 pub use record_reader::{NextRecord, OpenFault, RecordReader};
+pub use run::{RunFault, RunNames, RunRefusal, run_capture};
 pub use second_half::{Outcome, receive};
+pub use summary::{Happened, Summary};
 
 #[cfg(test)]
 mod tests;

@@ -22,6 +22,8 @@ use std::alloc::Global;
 /// What became of a packet, as the counts have it.
 #[derive(Clone, Copy, PartialEq, Eq, Debug)]
 pub enum Outcome {
+    /// Its octets are no packet.
+    Dropped,
     /// It would begin a session, and the table had no room.
     Full,
     /// It is of no session.

@@ -1,0 +1,92 @@
+-- A run over a capture file: RunsAs says what its answer means, and what then stands in the files. This project's own.
+use Rattle.std.specs.Prelude.{◌≡◌, ◌≢◌, ◌⊎◌, ℕ, List, [], ◌∷◌, ◌++◌, drop, Result, Ok, Err}
+use Rattle.cf_outside.specs.Files.{Content, untold, absent, holds}
+use Rattle.cf_pcap.specs.Capture.{AreTimed, AtPlace, Clock, Cut, FileEnd, Large, LastPlace, TooLong, first_moment}
+use Rattle.cf_pcap.specs.Record.{Record}
+use Rattle.cf_pcap.specs.declared.header.Header.{Header}
+use Rattle.cf_pcap.specs.declared.header.HeaderRefusal.{HeaderRefusal}
+use Rattle.cf_policy.specs.declared.Asset.{Asset}
+use Rattle.cf_run.specs.Reader.{HasHeader}
+use Rattle.cf_run.specs.Run.{IsRun, inputs}
+use Rattle.cf_run.specs.declared.run.RunFault.{RunFault}
+use Rattle.cf_run.specs.declared.run.RunFault.TheVariants as fault
+use Rattle.cf_run.specs.declared.run.RunNames.{RunNames}
+use Rattle.cf_run.specs.declared.run.RunRefusal.{RunRefusal}
+use Rattle.cf_run.specs.declared.run.RunRefusal.TheVariants as refusal
+use Rattle.cf_run.specs.declared.summary.Summary.{Summary}
+
+-- what a contract sees of the names of the files
+pub record RunNamesValue : Type 0 where
+  pub capture : List ℕ
+  pub out : List ℕ
+  pub log : List ℕ
+
+abbrev pub run_names_value : RunNames → RunNamesValue
+run_names_value names = record { capture = names.capture.now; out = names.out.now; log = names.log.now }
+
+-- no two of the three files are the same
+pub record AreApart (names : RunNamesValue) : Type 0 where
+  pub capture_out : names.capture ≢ names.out
+  pub capture_log : names.capture ≢ names.log
+  pub out_log : names.out ≢ names.log
+
+-- a file with this header has these records up to its last place, as far as it is told
+abbrev pub HasRecords : Content → Header → List Record → LastPlace → Type 0
+HasRecords untold header records last = Unit {0}
+HasRecords absent header records last = ⊥
+HasRecords (holds all) header records last = AreTimed header first_moment 24 (drop 24 all) records last
+
+-- these are its first records
+abbrev pub BeginsWithRecords : Content → Header → List Record → Type 0
+BeginsWithRecords file header records = (more : List Record) × (last : LastPlace) × HasRecords file header (records ++ more) last
+
+-- a file that was told holds these octets
+abbrev pub HoldsOctets : (before after : Content) → List ℕ → Type 0
+HoldsOctets untold after octets = Unit {0}
+HoldsOctets absent after octets = after ≡ holds octets
+HoldsOctets (holds all) after octets = after ≡ holds octets
+
+module _ (assets : List Asset) (limit : ℕ) (names : RunNamesValue) (before after : List ℕ → Content) where
+  -- the two output files are those of a run over these records
+  pub record LeavesRun (header : Header) (records : List Record) (summary : Summary) : Type 0 where
+    pub out : List ℕ
+    pub log : List ℕ
+    pub is_run : IsRun assets limit (inputs header.link records) out log summary
+    pub in_out : HoldsOctets (before names.out) (after names.out) out
+    pub in_log : HoldsOctets (before names.log) (after names.log) log
+
+  -- the capture was read up to a place, and its records were run over
+  pub record RunsTo (found : AtPlace) (place : ℕ) (summary : Summary) : Type 0 where
+    pub header : Header
+    pub has_header : HasHeader (before names.capture) (Ok header)
+    pub records : List Record
+    pub are_records : HasRecords (before names.capture) header records (record { place = place; found = found })
+    pub leaves : LeavesRun header records summary
+
+  -- a read failed: before the two files were created, or behind records that were run over
+  pub record RunsPartly : Type 0 where
+    pub header : Header
+    pub has_header : HasHeader (before names.capture) (Ok header)
+    pub records : List Record
+    pub are_first : BeginsWithRecords (before names.capture) header records
+    pub summary : Summary
+    pub leaves : LeavesRun header records summary
+
+  -- the record at a place is refused by its length, its moment or its place
+  abbrev pub RunsToRefusal : AtPlace → Type 0
+  RunsToRefusal found = (place : ℕ) × (summary : Summary) × RunsTo found place summary
+
+  abbrev pub RefusesAs : RunRefusal → Type 0
+  RefusesAs (refusal.Header of) = HasHeader (before names.capture) (Err of) × (after ≡ before)
+  RefusesAs refusal.TooLong = RunsToRefusal TooLong
+  RefusesAs refusal.Clock = RunsToRefusal Clock
+  RefusesAs refusal.Large = RunsToRefusal Large
+
+  -- what an answer means, and what then stands in the two files
+  abbrev pub RunsAs : Result Summary RunFault → Type 0
+  RunsAs (Ok summary) = (place : ℕ) × RunsTo FileEnd place summary
+  RunsAs (Err (fault.Cut at summary)) = RunsTo Cut at summary
+  RunsAs (Err (fault.Refused of)) = RefusesAs of
+  RunsAs (Err fault.Read) = (after ≡ before) ⊎ RunsPartly
+  RunsAs (Err fault.Write) = Unit {0}
+  RunsAs (Err fault.NoMemory) = Unit {0}

@@ -1,0 +1,60 @@
+//! What is counted over events.
+ghost use Rattle.std.specs.Prelude.{◌≡◌};
+ghost use Rattle.cf_run.specs.Counted.{counted};
+
+use crate::second_half::Outcome;
+
+/// What was counted over the events so far. A count that would pass `u64::MAX` stays there.
+#[derive(Clone, Copy, PartialEq, Eq, Debug, Default)]
+pub struct Summary {
+    /// Records.
+    pub records: u64,
+    /// Those whose octets are no packet.
+    pub dropped: u64,
+    /// Packets of no session.
+    pub outside: u64,
+    /// Packets that would have begun a session, and found no room in the table.
+    pub full: u64,
+    /// Sessions that began.
+    pub sessions: u64,
+    /// Commands admitted.
+    pub admitted: u64,
+    /// Commands refused.
+    pub refused: u64,
+    /// Sessions cut.
+    pub cuts: u64,
+}
+
+/// What happened in an event, as the counts have it.
+#[derive(Clone, Copy, PartialEq, Eq, Debug)]
+pub struct Happened {
+    /// How many sessions the first half cut.
+    pub cuts: u64,
+    /// What became of the packet.
+    pub outcome: Outcome,
+}
+
+impl Summary {
+    /// Counts an event.
+    pub(crate) fn count(&mut self, happened: &Happened)
+        ensures { self.new ≡ counted self.old happened.now }
+    {
+        self.records = self.records.saturating_add(1);
+        self.cuts = self.cuts.saturating_add(happened.cuts);
+        match happened.outcome {
+            Outcome::Dropped => self.dropped = self.dropped.saturating_add(1),
+            Outcome::Full => self.full = self.full.saturating_add(1),
+            Outcome::Outside => self.outside = self.outside.saturating_add(1),
+            Outcome::Begun => self.sessions = self.sessions.saturating_add(1),
+            Outcome::Went {
+                admitted,
+                refused,
+                cuts,
+            } => {
+                self.admitted = self.admitted.saturating_add(admitted);
+                self.refused = self.refused.saturating_add(refused);
+                self.cuts = self.cuts.saturating_add(cuts);
+            }
+        }
+    }
+}
