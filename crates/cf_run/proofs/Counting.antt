@@ -1,6 +1,6 @@
 -- What is counted of one event more.
-use Rattle.std.proofs.Common.{◌≡◌, ℕ, ◌+◌, ◌-◌, ◌^◌, Bool, true, false, List, ◌∷◌, length, refl, sym, ap, ◌∙◌, subst, arith}
-use Rattle.std.specs.Prelude.{count_by, min}
+use Rattle.std.proofs.Common.{◌≡◌, ℕ, suc, ◌+◌, List, ◌∷◌, length, refl, sym, ap, ◌∙◌, arith}
+use Rattle.std.specs.Prelude.{count_by}
 use Rattle.cf_run.specs.Counted.{counted, counted_outcome, plus}
 use Rattle.cf_run.specs.Receiving.{IsOutcome}
 use Rattle.cf_run.specs.Step.{IsCounted}
@@ -35,9 +35,61 @@ eight s t a b c d e f g h =
     let r : Summary = record { records = t.records; dropped = t.dropped; outside = t.outside; full = t.full; sessions = t.sessions; admitted = t.admitted; refused = t.refused; cuts = t.cuts } in
     rw (a, b, c, d, e, f, g, h) refl
 
+-- ---- one event more, by what became of its packet
 module _ (events : List Event) (event : Event) where
-  -- one event more, by what became of its packet
-  by_outcome : (cuts : ℕ) → cuts ≡ count_by (λ t. is_cut t.cut) event.ticks → (o : Outcome) (r : Received) → event.received ≡ r → IsOutcome (found (table_after events) event) o r →
-      counted (summary_of events) (record { cuts = cuts; outcome = o }) ≡ summary_of (event ∷ events)
-  by_outcome cuts is outcome.Dropped Dropped e h = ?
-  by_outcome cuts is o r e h = ?
+  ticks_cut : ℕ
+  ticks_cut = count_by (λ t. is_cut t.cut) event.ticks
+
+  before : List Session
+  before = table_after events
+
+  -- the counts with one event more
+  abbrev with_one : Received → Summary
+  with_one r = record {
+    records = capped (length (event ∷ events));
+    dropped = capped (total (λ b e. one_if (was_dropped e.received)) events + one_if (was_dropped r));
+    outside = capped (total (λ b e. one_if (was_outside e.received)) events + one_if (was_outside r));
+    full = capped (total (λ b e. one_if (found_no_room e.received)) events + one_if (found_no_room r));
+    sessions = capped (total (λ b e. one_if (has_begun e.received)) events + one_if (has_begun r));
+    admitted = capped (total (λ b e. decided_in (λ w. w.admitted) (found b e) e.received) events + decided_in (λ w. w.admitted) (found before event) r);
+    refused = capped (total (λ b e. decided_in (λ w. w.refused) (found b e) e.received) events + decided_in (λ w. w.refused) (found before event) r);
+    cuts = capped (total cuts_in events + (ticks_cut + one_if (was_cut r)));
+  }
+
+  abbrev Counts : Outcome → Received → Type 0
+  Counts o r = counted (summary_of events) (record { cuts = ticks_cut; outcome = o }) ≡ with_one r
+
+  by_outcome : (o : Outcome) (r : Received) → IsOutcome (found before event) o r → Counts o r
+  by_outcome outcome.Dropped Dropped h = eight _ _ (one _) (more _ 1) (none _) (none _) (none _) (none _) (none _) (first _ _)
+  by_outcome outcome.Dropped NoRoom h = absurd h
+  by_outcome outcome.Dropped NoSession h = absurd h
+  by_outcome outcome.Dropped (Begun flow half) h = absurd h
+  by_outcome outcome.Dropped (Went place half) h = absurd h
+  by_outcome outcome.Full Dropped h = absurd h
+  by_outcome outcome.Full NoRoom h = eight _ _ (one _) (none _) (none _) (more _ 1) (none _) (none _) (none _) (first _ _)
+  by_outcome outcome.Full NoSession h = absurd h
+  by_outcome outcome.Full (Begun flow half) h = absurd h
+  by_outcome outcome.Full (Went place half) h = absurd h
+  by_outcome outcome.Outside Dropped h = absurd h
+  by_outcome outcome.Outside NoRoom h = absurd h
+  by_outcome outcome.Outside NoSession h = eight _ _ (one _) (none _) (more _ 1) (none _) (none _) (none _) (none _) (first _ _)
+  by_outcome outcome.Outside (Begun flow half) h = absurd h
+  by_outcome outcome.Outside (Went place half) h = absurd h
+  by_outcome outcome.Begun Dropped h = absurd h
+  by_outcome outcome.Begun NoRoom h = absurd h
+  by_outcome outcome.Begun NoSession h = absurd h
+  by_outcome outcome.Begun (Begun flow half) h = eight _ _ (one _) (none _) (none _) (none _) (more _ 1) (none _) (none _) (first _ _)
+  by_outcome outcome.Begun (Went place half) h = absurd h
+  by_outcome (outcome.Went admitted refused cuts) Dropped h = absurd h
+  by_outcome (outcome.Went admitted refused cuts) NoRoom h = absurd h
+  by_outcome (outcome.Went admitted refused cuts) NoSession h = absurd h
+  by_outcome (outcome.Went admitted refused cuts) (Begun flow half) h = absurd h
+  by_outcome (outcome.Went admitted refused cuts) (Went place half) h =
+      eight _ _ (one _) (none _) (none _) (none _) (none _) (more _ admitted ∙ ap (λ n. capped (total (λ b e. decided_in (λ w. w.admitted) (found b e) e.received) events + n)) h.0)
+      (more _ refused ∙ ap (λ n. capped (total (λ b e. decided_in (λ w. w.refused) (found b e) e.received) events + n)) h.1)
+      (both _ _ cuts ∙ ap (λ n. capped (total cuts_in events + (ticks_cut + n))) h.2)
+
+-- a summary goes on by one event
+pub counts_on : (events : List Event) (event : Event) (happened : Happened) → IsCounted (table_after events) happened event → counted (summary_of events) happened ≡ summary_of (event ∷ events)
+counts_on events event happened h =
+    ap (λ n. counted (summary_of events) (record { cuts = n; outcome = happened.outcome })) h.ticks ∙ by_outcome events event happened.outcome event.received h.received

@@ -12,12 +12,14 @@ use Rattle.cf_session.specs.Session.{Flow, SessionEvent}
 use Rattle.cf_session.specs.Told.{Told, with_both}
 use Rattle.cf_run.specs.Engine.{AreAll, IsOne, TickAll}
 use Rattle.cf_run.specs.Receiving.{AreTicked}
+use Rattle.cf_run.specs.Counted.{counted}
 use Rattle.cf_run.specs.Step.{EngineValue, IsEngineOf, ReceivesRecordOne, Steps, StepsOn}
 use Rattle.cf_run.specs.Summary.{found}
 use Rattle.cf_run.specs.Table.{Session}
-use Rattle.cf_run.specs.Trace.{AreTicks, Event, is_cut, kept, logged_received, logged_ticks, sent_received, stays, table_after, ticked, with_events}
+use Rattle.cf_run.specs.Trace.{AreEvents, AreTicks, Event, is_cut, kept, logged_received, logged_ticks, sent_received, stays, table_after, ticked, with_events}
 use Rattle.cf_run.specs.declared.entry.Entry.{Entry}
 use Rattle.cf_run.specs.declared.summary.Happened.{Happened}
+use Rattle.cf_run.proofs.Counting.{counts_on}
 use Rattle.cf_run.proofs.Timers.{both_both}
 
 -- ---- the sessions as the packet finds them
@@ -65,4 +67,28 @@ stepped assets limit now packet entries middle after old mid new happened two ti
           ∙ both_both old (flat_map sent_first t.ticks) (sent_received r.0) (logged_ticks (kept (now - 1) before) t.ticks) (logged_received table r.0);
       all = r.1.all;
       counts = record { ticks = t.cuts_is; received = r.1.counts };
+    })
+
+-- ---- the engine
+
+pub steps_on : (assets : List Asset) (now : ℕ) (packet : Result PacketValue PacketRefusal) (before after : EngineValue) (old new : Told) (happened : Happened) →
+    after.limit ≡ before.limit → after.last ≡ now → after.summary ≡ counted before.summary happened → before.last + 2 ≤ now →
+    ((table : List Session) (last : ℕ) → last + 1 ≤ now → AreAll assets last before.table table →
+    (event : Event) × Steps assets before.limit now packet table after.table old new happened event) →
+    (events : List Event) → IsEngineOf assets before events → (event : Event) × StepsOn assets now packet events after old new event
+steps_on assets now packet before after old new happened same_limit is_last counts later steps events h =
+    let s = steps (table_after events) before.last (omega (arith, later)) h.all in
+    let is_moment : s.0.input.moment ≡ now = ap (λ i. i.moment) s.1.input in
+    let are : AreEvents assets before.limit (s.0 ∷ events) = (s.1.is_event, h.are) in
+    let all : AreAll assets now after.table (table_after (s.0 ∷ events)) = s.1.all in
+    (s.0, record {
+      input = s.1.input;
+      stands = record {
+        are = subst (λ n. AreEvents assets n (s.0 ∷ events)) (sym same_limit) are;
+        rises = (omega (arith, later, h.last, is_moment), h.rises);
+        last = is_moment ∙ sym is_last;
+        all = subst (λ n. AreAll assets n after.table (table_after (s.0 ∷ events))) (sym is_last) all;
+        counts = counts ∙ ap (λ x. counted x happened) h.counts ∙ counts_on events s.0 happened s.1.counts;
+      };
+      told = s.1.told;
     })

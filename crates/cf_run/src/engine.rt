@@ -1,5 +1,5 @@
 //! The engine: the table of sessions, one event at a time.
-ghost use Rattle.std.specs.Prelude.{◌≡◌, ◌+◌, ◌*◌, ◌^◌, ◌<◌, ◌≤◌, true, [], ◌∷◌, List, IfOk, IsErrOf, OnOk, length, pos};
+ghost use Rattle.std.specs.Prelude.{◌≡◌, ℕ, ◌+◌, ◌*◌, ◌^◌, ◌<◌, ◌≤◌, true, [], ◌∷◌, List, IfOk, IsErrOf, OnOk, length, pos};
 ghost use Rattle.std.specs.Prelude.{◌≤ℤ◌};
 ghost use Rattle.cf_outside.specs.Desk.{DeskValue, KeepsDesk};
 ghost use Rattle.cf_outside.specs.Faults.{HasCause};
@@ -63,7 +63,7 @@ impl Engine {
         ensures limit { IfOk result (λ engine. limit ≡ pos (EngineValue.limit engine)) }
         ensures last { IfOk result (λ engine. EngineValue.last engine ≡ 0) }
     {
-        let Ok(table) = Vec::try_with_capacity_in(TABLE_SIZE, alloc) else {
+        let Ok(table) = Vec::with_capacity(alloc, TABLE_SIZE) else {
             return Err(NoMemory);
         };
         Ok(Engine {
@@ -106,7 +106,7 @@ impl Engine {
         let happened = match step_table(
             &mut self.table,
             alloc,
-            &policy.assets,
+            policy.assets.as_slice(),
             self.limit,
             moment,
             link,

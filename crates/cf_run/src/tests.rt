@@ -1,12 +1,15 @@
 //! Parts of a run by hand, over files and a desk in memory.
 ghost use Rattle.std.specs.Prelude.{◌≡◌, ◌∷◌, [], IfOk};
-ghost use Rattle.cf_policy.specs.Within.{IsAssetWithin};
+ghost use Rattle.cf_policy.specs.Within.{AreAssetsWithin, IsAssetWithin};
 
-use crate::{Entry, NextRecord, OpenFault, Outcome, RecordReader, receive};
+use crate::{
+    Entry, NextRecord, OpenFault, Outcome, RecordReader, RunFault, RunNames, RunRefusal, Summary,
+    receive, run_capture,
+};
 use cf_outside::{MemoryDesk, MemoryFiles};
 use cf_packet::{Packet, SYN};
 use cf_pcap::HeaderRefusal;
-use cf_policy::{Asset, Items, Name, Protocol};
+use cf_policy::{Action, Asset, Items, Name, Policy, Protocol, Rule, Span};
 use cf_view::Endpoint;
 use std::alloc::{AllocError, Global};
 use std::rt::HostRuntime;
@@ -18,6 +21,37 @@ const CAPTURE: &[u8] =
     \x01\x00\x00\x00\x00\x00\x00\x00\x02\x00\x00\x00\x02\x00\x00\x00ab\
     \x02\x00\x00\x00\x00\x00\x00\x00\x02\x00\x00\x00\x02\x00\x00\x00";
 
+/// A capture of raw IP with five records, 10 milliseconds apart from 1.000000: SYN, SYN ACK, ACK, a write of 100 to register
+/// 40, and its echo.
+const WRITE: &[u8] =
+    b"\xd4\xc3\xb2\xa1\x02\x00\x04\x00\x00\x00\x00\x00\x00\x00\x00\x00\x00\x00\x04\x00\x65\x00\x00\x00\
+    \x01\x00\x00\x00\x00\x00\x00\x00\x2c\x00\x00\x00\x2c\x00\x00\x00\
+    \x45\x00\x00\x2c\x00\x00\x40\x00\x40\x06\x26\xbf\x0a\x00\x00\x05\x0a\x00\x00\x09\xc0\x00\x01\xf6\x00\x00\x03\xe8\
+    \x00\x00\x00\x00\x60\x02\xff\xff\xbe\x3a\x00\x00\x02\x04\x05\xb4\
+    \x01\x00\x00\x00\x10\x27\x00\x00\x2c\x00\x00\x00\x2c\x00\x00\x00\
+    \x45\x00\x00\x2c\x00\x00\x40\x00\x40\x06\x26\xbf\x0a\x00\x00\x09\x0a\x00\x00\x05\x01\xf6\xc0\x00\x00\x00\x13\x88\
+    \x00\x00\x03\xe9\x60\x12\xff\xff\xaa\xa1\x00\x00\x02\x04\x05\xb4\
+    \x01\x00\x00\x00\x20\x4e\x00\x00\x28\x00\x00\x00\x28\x00\x00\x00\
+    \x45\x00\x00\x28\x00\x00\x40\x00\x40\x06\x26\xc3\x0a\x00\x00\x05\x0a\x00\x00\x09\xc0\x00\x01\xf6\x00\x00\x03\xe9\
+    \x00\x00\x13\x89\x50\x10\xff\xff\xc2\x5e\x00\x00\
+    \x01\x00\x00\x00\x30\x75\x00\x00\x34\x00\x00\x00\x34\x00\x00\x00\
+    \x45\x00\x00\x34\x00\x00\x40\x00\x40\x06\x26\xb7\x0a\x00\x00\x05\x0a\x00\x00\x09\xc0\x00\x01\xf6\x00\x00\x03\xe9\
+    \x00\x00\x13\x89\x50\x18\xff\xff\xc0\xb1\x00\x00\x00\x01\x00\x00\x00\x06\x01\x06\x00\x28\x00\x64\
+    \x01\x00\x00\x00\x40\x9c\x00\x00\x34\x00\x00\x00\x34\x00\x00\x00\
+    \x45\x00\x00\x34\x00\x00\x40\x00\x40\x06\x26\xb7\x0a\x00\x00\x09\x0a\x00\x00\x05\x01\xf6\xc0\x00\x00\x00\x13\x89\
+    \x00\x00\x03\xf5\x50\x18\xff\xff\xc0\xa5\x00\x00\x00\x01\x00\x00\x00\x06\x01\x06\x00\x28\x00\x64";
+
+/// A capture of two records of no octets, both stamped 4294967295.999999, the last microsecond below 2^32 seconds.
+const LAST_MOMENT: &[u8] =
+    b"\xd4\xc3\xb2\xa1\x02\x00\x04\x00\x00\x00\x00\x00\x00\x00\x00\x00\x00\x00\x04\x00\x65\x00\x00\x00\
+    \xff\xff\xff\xff\x3f\x42\x0f\x00\x00\x00\x00\x00\x00\x00\x00\x00\
+    \xff\xff\xff\xff\x3f\x42\x0f\x00\x00\x00\x00\x00\x00\x00\x00\x00";
+
+/// The first packet of a run over the write: the SYN to the controller.
+const FIRST: &[u8] =
+    b"\x45\x00\x00\x2c\x00\x00\x40\x00\x40\x06\x26\xbf\x0a\x00\x00\x05\x0a\x00\x00\x09\xc0\x00\x01\xf6\x00\x00\x03\xe8\
+    \x00\x00\x00\x00\x60\x02\x40\x00\x7e\x3a\x00\x00\x02\x04\x05\xb4";
+
 const CLIENT: Endpoint = Endpoint {
     address: 0x0A00_0005,
     port: 49_152,
@@ -28,17 +62,47 @@ const PUMP: Endpoint = Endpoint {
     port: 502,
 };
 
-/// An asset without rules.
+/// The list of one span.
+fn one(alloc: Global, low: i64, high: i64) -> Result<Items<Span>, AllocError>
+    ensures { IfOk result (λ spans. spans ≡ record { low = low; high = high } ∷ []) }
+{
+    let mut items = Vec::new(alloc);
+    items.push(Span { low, high })?;
+    Ok(Items::new(items))
+}
+
+/// The asset `pump`, which allows writes of 0 to 500 to the registers 40 to 49.
 fn pump(alloc: Global) -> Result<Asset, AllocError>
     ensures within { IfOk result (λ asset. IsAssetWithin asset) }
 {
+    let mut rules = Vec::new(alloc);
+    rules.push(Rule {
+        name: Name::from_text("set"),
+        action: Action::Allow,
+        clients: Items::new(Vec::new(alloc)),
+        codes: one(alloc, 6, 6)?,
+        groups: Items::new(Vec::new(alloc)),
+        points: one(alloc, 40, 49)?,
+        values: one(alloc, 0, 500)?,
+    })?;
     Ok(Asset {
         name: Name::from_text("pump"),
         endpoint: PUMP,
         protocol: Protocol::Modbus,
         station: 1,
         master: 0,
-        rules: Items::new(Vec::new(alloc)),
+        rules: Items::new(rules),
+    })
+}
+
+/// The policy of that asset alone.
+fn policy(alloc: Global) -> Result<Policy, AllocError>
+    ensures within { IfOk result (λ policy. AreAssetsWithin policy.assets) }
+{
+    let mut assets = Vec::new(alloc);
+    assets.push(pump(alloc)?)?;
+    Ok(Policy {
+        assets: Items::new(assets),
     })
 }
 
@@ -98,5 +162,72 @@ fn sessions_begin(rt: HostRuntime) -> Result<(), Fail> {
     );
     assert!(rt; begun == Ok(Outcome::Begun));
     assert!(rt; table.len() == 1 && desk.packets.len() == 1 && desk.lines.len() == 1);
+    Ok(())
+}
+
+/// What a run over a capture of these octets answers, and the files behind it.
+fn run(
+    alloc: Global,
+    policy: &Policy,
+    capture: &[u8],
+) -> Result<(Result<Summary, RunFault>, MemoryFiles), AllocError>
+    requires within { AreAssetsWithin policy.now.assets }
+{
+    let mut files = MemoryFiles::new(alloc);
+    files
+        .files
+        .insert(String::from_str(alloc, "c")?, capture.to_vec(alloc)?)?;
+    let names = RunNames {
+        capture: "c",
+        out: "o",
+        log: "l",
+    };
+    let answer = run_capture(alloc, policy, &names, &mut files);
+    Ok((answer, files))
+}
+
+/// A header alone; a write and its echo, whole and without the last octet; a record that has no moment below 2^32 seconds: the
+/// answer, how many octets the capture of packets has, and the log. Without a header nothing is created.
+#[test]
+fn runs_over_captures(rt: HostRuntime) -> Result<(), Fail> {
+    let alloc = rt.alloc();
+    let policy = policy(alloc)?;
+    let open = "1.000000 10.0.0.5:49152 pump open\n";
+    let written = Summary {
+        records: 5,
+        sessions: 1,
+        admitted: 1,
+        ..Summary::default()
+    };
+    let cut = RunFault::Cut {
+        at: 268,
+        summary: Summary {
+            records: 4,
+            ..written
+        },
+    };
+    let clock = RunFault::Refused(RunRefusal::Clock);
+    assert!(rt; WRITE.len() == 336);
+    let rows = [
+        (&WRITE[..24], Ok(Summary::default()), 24, ""),
+        (WRITE, Ok(written), 448, open),
+        (&WRITE[..335], Err(cut), 324, open),
+        (LAST_MOMENT, Err(clock), 24, ""),
+    ];
+    for (capture, answer, size, log) in rows {
+        let (result, files) = run(alloc, &policy, capture)?;
+        assert_eq!(rt; result, answer);
+        match (files.files.get("o"), files.files.get("l")) {
+            (Some(out), Some(lines)) => {
+                assert_eq!(rt; out.len(), size);
+                assert!(rt; out.starts_with(&WRITE[..24]) && lines.as_slice() == log.as_bytes());
+                assert!(rt; size < 84 || out[40..].starts_with(FIRST));
+            }
+            _ => return Err("not created".into()),
+        }
+    }
+    let (result, files) = run(alloc, &policy, b"")?;
+    let short = RunFault::Refused(RunRefusal::Header(HeaderRefusal::Short));
+    assert!(rt; result == Err(short) && files.files.len() == 1);
     Ok(())
 }
