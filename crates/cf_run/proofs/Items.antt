@@ -1,5 +1,6 @@
 -- Items that follow each other in octets that grow.
 use Rattle.std.proofs.Common.{◌≡◌, ◌<◌, ◌≤◌, ℕ, Option, None, Some, List, [], ◌∷◌, ◌++◌, length, take, refl, sym, ap, ◌∙◌, append_assoc, arith, zero, suc}
+use Rattle.std.specs.List.{flat_map}
 use Rattle.std.proofs.lemmas.List.{append-nil}
 use Rattle.cf_run.specs.Items.{next_item, items_from, next_part, part_from}
 
@@ -60,3 +61,19 @@ module _ {A : Type 0} (unit : List ℕ → Option A) where
       λ j h. ap unit (append_assoc part (x ∷ []) (take j (y ∷ ys))) ∙ none (suc j) (omega arith) in
       let (a, b) = items-one p y ys item (ap unit (append_assoc part (x ∷ []) (y ∷ ys)) ∙ whole) later in
       (rw first a, rw first b)
+
+  -- the items as they are spelled, and what stands behind them, are the octets
+  module _ (spell : A → List ℕ) (is_spelled : (octets : List ℕ) (item : A) → unit octets ≡ Some item → octets ≡ spell item) where
+    rest_by : (p xs : List ℕ) (u : Option A) → unit p ≡ u → flat_map spell (items_from unit p xs) ++ part_from unit p xs ≡ p ++ xs →
+        flat_map spell (items_from unit [] xs) ++ part_from unit [] xs ≡ xs →
+        flat_map spell (next_item u (items_from unit p xs) (items_from unit [] xs)) ++ next_part u (part_from unit p xs) (part_from unit [] xs) ≡ p ++ xs
+    rest_by p xs None e more fresh = more
+    rest_by p xs (Some item) e more fresh =
+        append_assoc (spell item) (flat_map spell (items_from unit [] xs)) (part_from unit [] xs) ∙ ap (λ l. spell item ++ l) fresh
+        ∙ ap (λ l. l ++ xs) (sym (is_spelled p item e))
+
+    pub items-rest : (part xs : List ℕ) → flat_map spell (items_from unit part xs) ++ part_from unit part xs ≡ part ++ xs
+    items-rest part [] = sym (append-nil part)
+    items-rest part (x ∷ xs) =
+        let p : List ℕ = part ++ x ∷ [] in
+        rest_by p xs (unit p) refl (items-rest p xs) (items-rest [] xs) ∙ append_assoc part (x ∷ []) xs

@@ -1,15 +1,65 @@
 -- The packets of a capture file that grows.
-use Rattle.std.proofs.Common.{◌≡◌, ◌≤◌, ◌⊎◌, ◌&&◌, ℕ, Bool, true, false, None, List, [], ◌∷◌, ◌++◌, length, take, drop, refl, ap, ◌∙◌, inl, inr, arith}
-use Rattle.std.proofs.lemmas.List.{append-nil, take-append-le, drop-append-le, length-take, take_all}
+use Rattle.std.proofs.Common.{◌≡◌, ◌+◌, ◌-◌, ◌<◌, ◌≤◌, ◌⊎◌, ◌&&◌, ℕ, Bool, true, false, None, Some, List, [], ◌∷◌, ◌++◌, length, take, drop, if◌then◌else◌, bytes_eq, refl, sym, ap, ◌∙◌, subst, inl, inr, arith}
+use Rattle.std.specs.List.{flat_map}
+use Rattle.std.proofs.lemmas.List.{append-nil, take-append-drop, take-append-le, drop-append-le, length-take, take_all}
 use Rattle.std.proofs.lemmas.Slice.Eq.{bytes_eq-Decides}
+use Rattle.std.proofs.Math.Seq.{take-append-add}
 use Rattle.std.proofs.lemmas.Bool.{cases_lt}
-use Rattle.cf_pcap.specs.Header.{output_octets}
+use Rattle.std.proofs.lemmas.Bool.Decides.{nat_tests}
+use Rattle.cf_pcap.specs.Header.{output_header, output_octets}
+use Rattle.cf_pcap.specs.Record.{RecordAnswerValue, Need, TooLong, Whole, captured_at, head_octets, record_of}
 use Rattle.cf_outside.specs.Files.{Content, untold, absent, holds, with_appended}
 use Rattle.cf_outside.specs.Desk.{SentValue, with_item}
 use Rattle.cf_outside.proofs.Lines.{nothing}
 use Rattle.cf_run.specs.Items.{items_from, part_from}
-use Rattle.cf_run.specs.OutputFile.{IsRecord, packet_in, has_header, file_packets, packet_part, ends_with_record}
-use Rattle.cf_run.proofs.Items.{items-append, part-append, items-part, items-one, part-none}
+use Rattle.cf_run.specs.OutputFile.{IsRecord, packet_by, packet_in, record_octets, has_header, file_packets, packet_part, ends_with_record}
+use Rattle.cf_run.proofs.Items.{items-append, items-rest, part-append, items-part, items-one, part-none}
+
+-- octets that are the record of a packet, and are read so, are that packet
+pub packet_in-record : (octets : List ℕ) (sent : SentValue) (used : ℕ) → octets ≡ record_octets sent →
+    record_of output_header octets ≡ Whole sent.moment sent.bytes used → packet_in octets ≡ Some sent
+packet_in-record octets sent used is read = rw (read, (bytes_eq-Decides octets (record_octets sent)).1 is) refl
+
+spelled_if : (octets : List ℕ) (sent packet : SentValue) (b : Bool) → bytes_eq octets (record_octets sent) ≡ b → (if b then Some sent else None) ≡ Some packet →
+    octets ≡ record_octets packet
+spelled_if octets sent packet true same e =
+    let one : sent ≡ packet = cc in
+    subst (λ p. octets ≡ record_octets p) one ((bytes_eq-Decides octets (record_octets sent)).0 same)
+spelled_if octets sent packet false same e = cc
+
+spelled_by : (octets : List ℕ) (packet : SentValue) (answer : RecordAnswerValue) → packet_by octets answer ≡ Some packet → octets ≡ record_octets packet
+spelled_by octets packet (Whole stamp body used) e = spelled_if octets (record { moment = stamp; bytes = body }) packet _ refl e
+spelled_by octets packet (Need size) e = cc
+spelled_by octets packet TooLong e = cc
+
+-- the octets of a packet are its record
+packet_in-spelled : (octets : List ℕ) (packet : SentValue) → packet_in octets ≡ Some packet → octets ≡ record_octets packet
+packet_in-spelled octets packet e = spelled_by octets packet (record_of output_header octets) e
+
+-- octets that end inside the head of a record, or behind it, are none
+in_head : (octets : List ℕ) → length octets < 16 → packet_in octets ≡ None
+in_head octets few = grind (arith, nat_tests)
+
+in_body : (octets : List ℕ) → 16 ≤ length octets → captured_at output_header octets ≤ 262144 → length octets < 16 + captured_at output_header octets →
+    packet_in octets ≡ None
+in_body octets head allowed few = grind (arith, nat_tests)
+
+-- so no beginning of the record of a packet is one
+pub packet_in-beginning : (octets body : List ℕ) (moment count : ℕ) → octets ≡ head_octets moment (length body) ++ body → length body ≤ 1500 →
+    count < length octets → packet_in (take count octets) ≡ None
+packet_in-beginning octets body moment count is small below =
+    elim (cases_lt count 16) [
+      | inl short ↦ in_head (take count octets) (omega (arith, length-take count octets))
+      | inr long ↦
+          let head : List ℕ = head_octets moment (length body) in
+          let more : List ℕ = take (count - 16) body in
+          let same : count ≡ length head + (count - 16) = omega arith in
+          let cut : take count octets ≡ head ++ more = ap (take count) is ∙ ap (λ n. take n (head ++ body)) same ∙ take-append-add head body (count - 16) in
+          let size : length octets ≡ 16 + length body = omega (arith, ap length is) in
+          let some : length more ≡ count - 16 = omega (arith, length-take (count - 16) body, size) in
+          let captured : captured_at output_header (head ++ more) ≡ length body = omega arith in
+          rw cut (in_body (head ++ more) (omega arith) (omega (arith, captured)) (omega (arith, captured, some, size)))
+    ]
 
 one : (octets : List ℕ) (sent : SentValue) → IsRecord octets sent →
     (items_from packet_in [] octets ≡ sent ∷ []) × (part_from packet_in [] octets ≡ [])
@@ -77,3 +127,19 @@ file_packets-part (holds all) octets sent k r e =
         rw (take_all k octets above) (packet_part-record (holds all) octets sent r e ∙ nothing _ n),
       )
     ]
+
+-- a file that ends with a record is its header, and the records of its packets
+pub file_packets-whole : (file : Content) (packets : List SentValue) → file_packets file ≡ Some packets → ends_with_record file ≡ true →
+    file ≡ holds (output_octets ++ flat_map record_octets packets)
+file_packets-whole untold packets h e = cc
+file_packets-whole absent packets h e = cc
+file_packets-whole (holds all) packets h e =
+    let (header, n) = both _ _ e in
+    let same : take 24 all ≡ output_octets = (bytes_eq-Decides (take 24 all) output_octets).0 header in
+    let found : items_from packet_in [] (drop 24 all) ≡ packets =
+    let some : (if true then Some (items_from packet_in [] (drop 24 all)) else None) ≡ Some packets = subst (λ b. (if b then Some (items_from packet_in [] (drop 24 all)) else None) ≡ Some packets) header h in cc in
+    let rest : flat_map record_octets (items_from packet_in [] (drop 24 all)) ++ part_from packet_in [] (drop 24 all) ≡ drop 24 all =
+    items-rest packet_in record_octets packet_in-spelled [] (drop 24 all) in
+    let records : flat_map record_octets packets ≡ drop 24 all =
+    ap (flat_map record_octets) (sym found) ∙ sym (append-nil _) ∙ ap (λ part. flat_map record_octets (items_from packet_in [] (drop 24 all)) ++ part) (sym (nothing _ n)) ∙ rest in
+    ap holds (sym (take-append-drop 24 all) ∙ ap (λ front. front ++ drop 24 all) same ∙ ap (λ back. output_octets ++ back) (sym records))

@@ -7,18 +7,22 @@ use Rattle.cf_outside.specs.Files.{Content, untold, absent, holds}
 use Rattle.cf_outside.specs.Lines.{is_nothing}
 use Rattle.cf_run.specs.Items.{items_from, part_from}
 
-abbrev pub packet_by : RecordAnswerValue → Option SentValue
-packet_by (Whole stamp body used) = Some (record { moment = stamp; bytes = body })
-packet_by (Need size) = None
-packet_by TooLong = None
-
--- the packet of one whole record, and its moment
-abbrev pub packet_in : List ℕ → Option SentValue
-packet_in octets = packet_by (record_of output_header octets)
-
--- the record of a packet
+-- the record of a packet, as it is written
 abbrev pub record_octets : SentValue → List ℕ
 record_octets sent = head_octets sent.moment (length sent.bytes) ++ sent.bytes
+
+-- a packet, where its record is these octets: a record whose original length is not that of its octets is none that is written
+abbrev pub packet_spelled : List ℕ → SentValue → Option SentValue
+packet_spelled octets sent = if bytes_eq octets (record_octets sent) then Some sent else None
+
+abbrev pub packet_by : List ℕ → RecordAnswerValue → Option SentValue
+packet_by octets (Whole stamp body used) = packet_spelled octets (record { moment = stamp; bytes = body })
+packet_by octets (Need size) = None
+packet_by octets TooLong = None
+
+-- the packet of one whole record that is written, and its moment
+abbrev pub packet_in : List ℕ → Option SentValue
+packet_in octets = packet_by octets (record_of output_header octets)
 
 -- octets that are one whole record, and no beginning of which is one
 pub record IsRecord (octets : List ℕ) (sent : SentValue) : Type 0 where
