@@ -37,10 +37,10 @@ eight s t a b c d e f g h =
 
 -- ---- one event more, by what became of its packet
 module _ (events : List Event) (event : Event) where
-  ticks_cut : ℕ
+  abbrev ticks_cut : ℕ
   ticks_cut = count_by (λ t. is_cut t.cut) event.ticks
 
-  before : List Session
+  abbrev before : List Session
   before = table_after events
 
   -- the counts with one event more

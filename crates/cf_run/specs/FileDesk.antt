@@ -4,6 +4,7 @@ use Rattle.std.specs.Borrow.{GName}
 use Rattle.cf_outside.specs.Desk.{DeskValue}
 use Rattle.cf_outside.specs.Files.{Content}
 use Rattle.cf_outside.specs.Lines.{file_lines, file_part, ends_with_line}
+use Rattle.cf_session.specs.Told.{Told}
 use Rattle.cf_run.specs.OutputFile.{file_packets, packet_part, record_octets, ends_with_record}
 
 -- a desk that writes packets to one file and lines to another, through lent files: it tells the packets of the one and the
@@ -22,3 +23,11 @@ file_desk failed lender faults reads out log content = record {
   names = out ∷ log ∷ [];
   content = content;
 }
+
+-- what it tells of its two files
+abbrev pub files_told : (out log : List ℕ) → (List ℕ → Content) → Told
+files_told out log content = record { packets = file_packets (content out); lines = file_lines (content log) }
+
+-- the next record and the next line stand alone
+abbrev pub are_whole : (out log : List ℕ) → (List ℕ → Content) → Bool
+are_whole out log content = ends_with_record (content out) && ends_with_line (content log)

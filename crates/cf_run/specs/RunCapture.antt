@@ -8,6 +8,10 @@ use Rattle.cf_pcap.specs.declared.header.HeaderRefusal.{HeaderRefusal}
 use Rattle.cf_policy.specs.declared.Asset.{Asset}
 use Rattle.cf_run.specs.Reader.{HasHeader}
 use Rattle.cf_run.specs.Run.{IsRun, inputs}
+use Rattle.cf_run.specs.declared.engine.StepFault.{StepFault}
+use Rattle.cf_run.specs.declared.engine.StepFault.TheVariants as stepped
+use Rattle.cf_run.specs.declared.record_reader.OpenFault.{OpenFault}
+use Rattle.cf_run.specs.declared.record_reader.OpenFault.TheVariants as opened
 use Rattle.cf_run.specs.declared.run.RunFault.{RunFault}
 use Rattle.cf_run.specs.declared.run.RunFault.TheVariants as fault
 use Rattle.cf_run.specs.declared.run.RunNames.{RunNames}
@@ -23,6 +27,16 @@ pub record RunNamesValue : Type 0 where
 
 abbrev pub run_names_value : RunNames → RunNamesValue
 run_names_value names = record { capture = names.capture.now; out = names.out.now; log = names.log.now }
+
+-- a fault of opening the capture, and one of an event, as the run has it
+abbrev pub open_fault : OpenFault → RunFault
+open_fault opened.NoMemory = fault.NoMemory
+open_fault opened.Read = fault.Read
+open_fault (opened.Refused of) = fault.Refused (refusal.Header of)
+
+abbrev pub step_fault : StepFault → RunFault
+step_fault stepped.NoMemory = fault.NoMemory
+step_fault stepped.Write = fault.Write
 
 -- no two of the three files are the same
 pub record AreApart (names : RunNamesValue) : Type 0 where
@@ -63,7 +77,7 @@ module _ (assets : List Asset) (limit : ℕ) (names : RunNamesValue) (before aft
     pub are_records : HasRecords (before names.capture) header records (record { place = place; found = found })
     pub leaves : LeavesRun header records summary
 
-  -- a read failed: before the two files were created, or behind records that were run over
+  -- a read failed behind records that were run over
   pub record RunsPartly : Type 0 where
     pub header : Header
     pub has_header : HasHeader (before names.capture) (Ok header)
@@ -76,17 +90,21 @@ module _ (assets : List Asset) (limit : ℕ) (names : RunNamesValue) (before aft
   abbrev pub RunsToRefusal : AtPlace → Type 0
   RunsToRefusal found = (place : ℕ) × (summary : Summary) × RunsTo found place summary
 
-  abbrev pub RefusesAs : RunRefusal → Type 0
-  RefusesAs (refusal.Header of) = HasHeader (before names.capture) (Err of) × (after ≡ before)
-  RefusesAs refusal.TooLong = RunsToRefusal TooLong
-  RefusesAs refusal.Clock = RunsToRefusal Clock
-  RefusesAs refusal.Large = RunsToRefusal Large
+  -- what an answer of the run over the records means
+  abbrev pub RunsRecords : Result Summary RunFault → Type 0
+  RunsRecords (Ok summary) = (place : ℕ) × RunsTo FileEnd place summary
+  RunsRecords (Err (fault.Cut at summary)) = RunsTo Cut at summary
+  RunsRecords (Err (fault.Refused refusal.TooLong)) = RunsToRefusal TooLong
+  RunsRecords (Err (fault.Refused refusal.Clock)) = RunsToRefusal Clock
+  RunsRecords (Err (fault.Refused refusal.Large)) = RunsToRefusal Large
+  RunsRecords (Err (fault.Refused (refusal.Header of))) = ⊥
+  RunsRecords (Err fault.Read) = RunsPartly
+  RunsRecords (Err fault.Write) = Unit {0}
+  RunsRecords (Err fault.NoMemory) = Unit {0}
 
-  -- what an answer means, and what then stands in the two files
+  -- what an answer means, and what then stands in the two files: before they are created the header can be refused, and a read
+  -- can fail
   abbrev pub RunsAs : Result Summary RunFault → Type 0
-  RunsAs (Ok summary) = (place : ℕ) × RunsTo FileEnd place summary
-  RunsAs (Err (fault.Cut at summary)) = RunsTo Cut at summary
-  RunsAs (Err (fault.Refused of)) = RefusesAs of
+  RunsAs (Err (fault.Refused (refusal.Header of))) = HasHeader (before names.capture) (Err of) × (after ≡ before)
   RunsAs (Err fault.Read) = (after ≡ before) ⊎ RunsPartly
-  RunsAs (Err fault.Write) = Unit {0}
-  RunsAs (Err fault.NoMemory) = Unit {0}
+  RunsAs answer = RunsRecords answer

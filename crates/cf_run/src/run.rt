@@ -1,9 +1,16 @@
 //! A run over a capture file.
-ghost use Rattle.std.specs.Prelude.{◌≡◌, ◌∷◌, [], IsErrOf};
+ghost use Rattle.std.specs.Prelude.{◌≡◌, ◌≢◌, ◌+◌, ◌*◌, ◌^◌, ◌<◌, ◌≤◌, ◌∷◌, [], ℕ, List, IsErrOf, Ok, OnOk, true};
 ghost use Rattle.cf_outside.specs.Desk.{IsNoneOf};
 ghost use Rattle.cf_outside.specs.Faults.{HasCause};
+ghost use Rattle.cf_outside.specs.Files.{IsWhole, content_after_create, content_after_write};
+ghost use Rattle.cf_packet.specs.Packet.{read_record};
+ghost use Rattle.cf_pcap.specs.Header.{output_octets};
 ghost use Rattle.cf_policy.specs.Within.{AreAssetsWithin};
-ghost use Rattle.cf_run.specs.RunCapture.{AreApart, RunsAs, run_names_value};
+ghost use Rattle.cf_run.specs.FileDesk.{are_whole, files_told};
+ghost use Rattle.cf_run.specs.Reader.{HasHeader, ReaderValue};
+ghost use Rattle.cf_run.specs.RunCapture.{AreApart, RunsAs, RunsRecords, open_fault, run_names_value, step_fault};
+ghost use Rattle.cf_run.specs.Step.{EngineValue, IsEngineOf, IsSoundEngine, StepsOn};
+ghost use Rattle.cf_run.specs.Trace.{Event};
 
 use crate::engine::{Engine, StepFault};
 use crate::file_desk::FileDesk;
@@ -56,6 +63,29 @@ pub enum RunFault {
     Cut { at: u64, summary: Summary },
 }
 
+impl From<OpenFault> for RunFault {
+    ghost from_gives = { λ opened fault. fault ≡ open_fault opened };
+
+    fn from(fault: OpenFault) -> RunFault {
+        match fault {
+            OpenFault::NoMemory => RunFault::NoMemory,
+            OpenFault::Read => RunFault::Read,
+            OpenFault::Refused(refusal) => RunFault::Refused(RunRefusal::Header(refusal)),
+        }
+    }
+}
+
+impl From<StepFault> for RunFault {
+    ghost from_gives = { λ stepped fault. fault ≡ step_fault stepped };
+
+    fn from(fault: StepFault) -> RunFault {
+        match fault {
+            StepFault::NoMemory => RunFault::NoMemory,
+            StepFault::Write => RunFault::Write,
+        }
+    }
+}
+
 /// Runs over the records of a capture, one event each, and writes all packets and all lines that the box sends and logs into
 /// two files. The header is read, and all memory but that of the sessions is taken, before the two are created, the capture
 /// file of packets first. The policy is one that `read_policy` gives.
@@ -75,14 +105,7 @@ pub fn run_capture<F: Files>(
     ensures read { HasCause (F.read_faults files.old) (F.read_faults files.new) (IsErrOf result RunFault.Read) }
     ensures write { HasCause (F.write_faults files.old) (F.write_faults files.new) (IsErrOf result RunFault.Write) }
 {
-    let mut reader = match RecordReader::open(alloc, files, names.capture) {
-        Ok(reader) => reader,
-        Err(OpenFault::NoMemory) => return Err(RunFault::NoMemory),
-        Err(OpenFault::Read) => return Err(RunFault::Read),
-        Err(OpenFault::Refused(refusal)) => {
-            return Err(RunFault::Refused(RunRefusal::Header(refusal)));
-        }
-    };
+    let mut reader = RecordReader::open(alloc, files, names.capture)?;
     let Ok(mut engine) = Engine::new(alloc, LETTER_LIMIT as i64) else {
         return Err(RunFault::NoMemory);
     };
@@ -93,7 +116,16 @@ pub fn run_capture<F: Files>(
 }
 
 /// Creates the two outputs: the capture file of packets with its header, and the log.
-fn create_outputs<F: Files>(names: &RunNames<'_>, files: &mut F) -> WriteAnswer {
+fn create_outputs<F: Files>(names: &RunNames<'_>, files: &mut F) -> WriteAnswer
+    requires apart { names.now.out.now ≢ names.now.log.now }
+    ensures out { result ≡ WriteAnswer.Done →
+        F.content files.new names.now.out.now ≡ content_after_write (F.content files.old names.now.out.now) output_octets }
+    ensures log { result ≡ WriteAnswer.Done →
+        F.content files.new names.now.log.now ≡ content_after_create (F.content files.old names.now.log.now) }
+    ensures others { (other : List ℕ) → IsNoneOf (names.now.out.now ∷ names.now.log.now ∷ []) other → F.content files.new other ≡ F.content files.old other }
+    ensures cause { HasCause (F.write_faults files.old) (F.write_faults files.new) (result ≡ WriteAnswer.Failed) }
+    ensures reads { F.read_faults files.new ≡ F.read_faults files.old }
+{
     if let WriteAnswer::Failed = files.create(names.out) {
         return WriteAnswer::Failed;
     }
@@ -113,7 +145,20 @@ fn run_records<F: Files>(
     reader: &mut RecordReader,
     engine: &mut Engine,
     files: &mut F,
-) -> Result<Summary, RunFault> {
+) -> Result<Summary, RunFault>
+    requires within { AreAssetsWithin policy.now.assets }
+    requires apart { AreApart (run_names_value names.now) }
+    requires sound { IsSoundEngine policy.now.assets engine.old }
+    requires stands { IsEngineOf policy.now.assets engine.old [] }
+    requires header { HasHeader (F.content files.old names.now.capture.now) (Ok reader.old.header) }
+    requires place { reader.old.place ≡ 24 }
+    requires out { IsWhole (F.content files.old names.now.out.now) output_octets }
+    requires log { IsWhole (F.content files.old names.now.log.now) [] }
+    ensures runs { RunsRecords policy.now.assets engine.old.limit (run_names_value names.now) (F.content files.old) (F.content files.new) result }
+    ensures others { (other : List ℕ) → IsNoneOf (names.now.out.now ∷ names.now.log.now ∷ []) other → F.content files.new other ≡ F.content files.old other }
+    ensures read { HasCause (F.read_faults files.old) (F.read_faults files.new) (IsErrOf result RunFault.Read) }
+    ensures write { HasCause (F.write_faults files.old) (F.write_faults files.new) (IsErrOf result RunFault.Write) }
+{
     let mut least = 2;
     'records: loop {
         match reader.next(files, names.capture) {
@@ -148,16 +193,29 @@ fn run_record<F: Files>(
     engine: &mut Engine,
     moment: u64,
     files: &mut F,
-) -> Result<(), RunFault> {
+) -> Result<(), StepFault>
+    requires within { AreAssetsWithin policy.now.assets }
+    requires apart { names.now.out.now ≢ names.now.log.now }
+    requires sound { IsSoundEngine policy.now.assets engine.old }
+    requires later { engine.old.last + 2 ≤ moment }
+    requires moment { moment < 2 ^ 32 * 1000000 }
+    requires whole { are_whole names.now.out.now names.now.log.now (F.content files.old) ≡ true }
+    ensures steps { OnOk result ((events : List Event) → IsEngineOf policy.now.assets engine.old events →
+        (event : Event) × StepsOn policy.now.assets moment (read_record reader.now.header.link reader.now.body) events engine.new
+        (files_told names.now.out.now names.now.log.now (F.content files.old)) (files_told names.now.out.now names.now.log.now (F.content files.new)) event) }
+    ensures sound { OnOk result (IsSoundEngine policy.now.assets engine.new) }
+    ensures last { OnOk result (engine.new.last ≡ moment) }
+    ensures limit { engine.new.limit ≡ engine.old.limit }
+    ensures whole { OnOk result (are_whole names.now.out.now names.now.log.now (F.content files.new) ≡ true) }
+    ensures others { (other : List ℕ) → IsNoneOf (names.now.out.now ∷ names.now.log.now ∷ []) other → F.content files.new other ≡ F.content files.old other }
+    ensures cause { HasCause (F.write_faults files.old) (F.write_faults files.new) (IsErrOf result StepFault.Write) }
+    ensures reads { F.read_faults files.new ≡ F.read_faults files.old }
+{
     let mut desk = FileDesk {
         files,
         out: names.out,
         log: names.log,
         failed: false,
     };
-    match engine.step(alloc, policy, moment, &reader.header().link, reader.body(), &mut desk) {
-        Ok(()) => Ok(()),
-        Err(StepFault::NoMemory) => Err(RunFault::NoMemory),
-        Err(StepFault::Write) => Err(RunFault::Write),
-    }
+    engine.step(alloc, policy, moment, &reader.header().link, reader.body(), &mut desk)
 }
