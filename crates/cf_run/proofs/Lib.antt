@@ -8,6 +8,7 @@ mod Packets
 mod Pieces
 mod Places
 mod Received
+mod Running
 mod Selection
 mod Soundness
 mod Stepping

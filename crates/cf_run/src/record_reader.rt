@@ -121,6 +121,7 @@ impl RecordReader {
     /// Reads the record at the place, and goes on behind it. Changes no file. Where no record is there, the place stays.
     pub fn next<F: Files>(&mut self, files: &mut F, name: &str) -> NextRecord
         ensures found { FindsRecord (F.content files.old name.now) self.old self.new result }
+        ensures near { self.new.place ≤ 2 ^ 40 }
         ensures same { F.content files.new ≡ F.content files.old }
         ensures cause { HasCause (F.read_faults files.old) (F.read_faults files.new) (result ≡ next.Failed) }
         ensures writes { F.write_faults files.new ≡ F.write_faults files.old }

@@ -66,6 +66,7 @@ returns-in_default g c =
           refl refl refl refl c.read_body-answer.result c.in_default.not-Whole
           (subst (λ (f : List ℕ → Content). FindsBody (f c.args.name.now) c.self.inside.header c.self.inside.place c.read_body-answer.new.buffer c.in-Size.size c.read_body-answer.result)
           c.in-Size.ensures.same c.read_body-answer.ensures.found);
+      near = c.self.invariant.1;
       same = c.read_body-answer.ensures.same ∙ c.in-Size.ensures.same;
       cause = record { later = omega (arith, c.in-Size.ensures.cause.later, cause.later); rose = λ f. later_rose c.in-Size.ensures.cause.later (cause.rose f) };
       writes = c.read_body-answer.ensures.writes ∙ c.in-Size.ensures.writes;

@@ -1,0 +1,183 @@
+-- The records of a capture that were run over so far.
+use Rattle.std.proofs.Common.{◌≡◌, ◌≢◌, ◌+◌, ◌*◌, ◌^◌, ◌<◌, ◌≤◌, ◌&&◌, max, ℕ, true, List, [], ◌∷◌, ◌++◌, map, drop, length, Some, Ok, Result, Err, refl, sym, ap, ◌∙◌, subst, append_assoc, arith}
+use Rattle.std.specs.Prelude.{nat_lt}
+use Rattle.std.specs.List.{concat, flat_map}
+use Rattle.std.proofs.lemmas.List.{append-nil, drop-drop}
+use Rattle.std.proofs.lemmas.List.Folds.{flat_map-map}
+use Rattle.std.proofs.lemmas.Bool.Decides.{nat_tests}
+use Rattle.cf_outside.proofs.Lines.{file_lines-whole}
+use Rattle.cf_outside.specs.Files.{Content, untold, absent, holds, IsWhole}
+use Rattle.cf_outside.specs.Lines.{ends_with_line, file_lines}
+use Rattle.cf_packet.specs.Packet.{PacketValue, read_record}
+use Rattle.cf_packet.specs.declared.packet.PacketRefusal.{PacketRefusal}
+use Rattle.cf_pcap.proofs.Capture.{have_timed_records}
+use Rattle.cf_pcap.specs.Capture.{AreTimed, AtPlace, Clock, FileEnd, Fits, IsLast, LastPlace, at_place, first_moment, moment_from, moment_limit, timed}
+use Rattle.cf_pcap.specs.Header.{output_octets}
+use Rattle.cf_pcap.specs.Record.{Record}
+use Rattle.cf_pcap.specs.declared.header.Header.{Header}
+use Rattle.cf_policy.specs.declared.Asset.{Asset}
+use Rattle.cf_session.specs.Sent.{Sent}
+use Rattle.cf_session.specs.Told.{Told, emitted, with_both, with_more}
+use Rattle.cf_run.specs.FileDesk.{are_whole, files_told}
+use Rattle.cf_run.specs.OutputFile.{ends_with_record, file_packets, record_octets}
+use Rattle.cf_run.specs.Reader.{HasHeader, StandsAt}
+use Rattle.cf_run.specs.Run.{IsRun, capture_of, input_of, inputs, inputs_from, inputs_of}
+use Rattle.cf_run.specs.RunCapture.{BeginsWithRecords, HasRecords, HoldsOctets, LeavesRun, RunNamesValue, RunsPartly, RunsTo}
+use Rattle.cf_run.specs.Step.{EngineValue, IsEngineOf, StepsOn}
+use Rattle.cf_run.specs.Trace.{AreEvents, Event, Input, logged, logged_in_first, logged_in_second, sent, sent_in_first, sent_in_second, table_after}
+use Rattle.cf_run.specs.declared.summary.Summary.{Summary}
+use Rattle.cf_run.proofs.OutputFiles.{both, file_packets-whole}
+use Rattle.cf_run.proofs.Timers.{both_both, both_nothing}
+
+-- with these records in front, the records from a place on are those of the file, as far as it is told
+abbrev pub Leads : Content → Header → (least place : ℕ) → List Record → Type 0
+Leads untold header least place records = Unit {0}
+Leads absent header least place records = ⊥
+Leads (holds all) header least place records =
+    (more : List Record) (last : LastPlace) → AreTimed header least place (drop place all) more last → AreTimed header first_moment 24 (drop 24 all) (records ++ more) last
+
+leads_first : (file : Content) (header : Header) → HasHeader file (Ok header) → Leads file header first_moment 24 []
+leads_first untold header h = tt
+leads_first absent header h = absurd h
+leads_first (holds all) header h = λ more last are. are
+
+in_time : (least used : ℕ) (r : Record) → moment_from least r < 2 ^ 32 * 1000000 → timed least (Fits r used) ≡ Fits r used
+in_time least used r early = grind (arith, nat_tests)
+
+too_late : (least used : ℕ) (r : Record) → 2 ^ 32 * 1000000 ≤ moment_from least r → timed least (Fits r used) ≡ Clock
+too_late least used r late = grind (arith, nat_tests)
+
+leads_on : (file : Content) (header : Header) (least place used : ℕ) (records : List Record) (r : Record) → Leads file header least place records →
+    StandsAt file header place (Fits r used) → moment_from least r < 2 ^ 32 * 1000000 → Leads file header (moment_from least r + 2) (place + used) (records ++ r ∷ [])
+leads_on untold header least place used records r leads stands early = tt
+leads_on absent header least place used records r leads stands early = absurd leads
+leads_on (holds all) header least place used records r leads stands early = λ more last are.
+    rw append_assoc (leads (r ∷ more) last (used, ap (timed least) stands ∙ in_time least used r early, rw drop-drop are))
+
+-- the records end where something else stands
+leads_to : (file : Content) (header : Header) (least place : ℕ) (records : List Record) (found last : AtPlace) → Leads file header least place records →
+    StandsAt file header place found → timed least found ≡ last → IsLast last → HasRecords file header records (record { place = place; found = last })
+leads_to untold header least place records found last leads stands e is = tt
+leads_to absent header least place records found last leads stands e is = absurd leads
+leads_to (holds all) header least place records found last leads stands e is =
+    rw append-nil at (leads [] (record { place = place; found = last }) (refl, ap (timed least) stands ∙ e, is))
+
+-- whatever follows, they are the first
+leads_somewhere : (file : Content) (header : Header) (least place : ℕ) (records : List Record) → Leads file header least place records → BeginsWithRecords file header records
+leads_somewhere untold header least place records leads = ([], record { place = 0; found = FileEnd }, tt)
+leads_somewhere absent header least place records leads = absurd leads
+leads_somewhere (holds all) header least place records leads =
+    let (more, last, are) = have_timed_records header least place (drop place all) in
+    (more, last, leads more last are)
+
+-- ---- events
+
+pub record SoFar (assets : List Asset) (file : Content) (header : Header) (least place : ℕ) (engine : EngineValue) (old now : Told) : Type 0 where
+  pub records : List Record
+  pub events : List Event
+  pub leads : Leads file header least place records
+  pub stands : IsEngineOf assets engine events
+  pub given : (more : List Record) → inputs header.link (records ++ more) ≡ inputs_of events ++ inputs_from header.link least more
+  pub told : now ≡ with_both old (sent events) (logged events)
+
+-- no record yet
+pub nothing_so_far : (assets : List Asset) (file : Content) (header : Header) (engine : EngineValue) (old : Told) → HasHeader file (Ok header) → IsEngineOf assets engine [] →
+    SoFar assets file header first_moment 24 engine old old
+nothing_so_far assets file header engine old h stands = record {
+  records = [];
+  events = [];
+  leads = leads_first file header h;
+  stands = stands;
+  given = λ more. refl;
+  told = sym (both_nothing old);
+}
+
+-- one record more, in time
+pub one_so_far : (assets : List Asset) (file : Content) (header : Header) (least place : ℕ) (engine : EngineValue) (old now : Told) (a : SoFar assets file header least place engine old now) →
+    (r : Record) (used : ℕ) → StandsAt file header place (Fits r used) → moment_from least r < 2 ^ 32 * 1000000 → (after : EngineValue) (new : Told) (event : Event) →
+    StepsOn assets (moment_from least r) (read_record header.link r.body) a.events after now new event →
+    SoFar assets file header (moment_from least r + 2) (place + used) after old new
+one_so_far assets file header least place engine old now a r used at early after new event step =
+    let packets = sent_in_first event ++ sent_in_second event in
+    let lines = logged_in_first (table_after a.events) event ++ logged_in_second (table_after a.events) event in
+    record {
+      records = a.records ++ r ∷ [];
+      events = event ∷ a.events;
+      leads = leads_on file header least place used a.records r a.leads at early;
+      stands = step.stands;
+      given = λ more.
+          ap (inputs header.link) (append_assoc a.records (r ∷ []) more) ∙ a.given (r ∷ more)
+          ∙ sym (append_assoc (inputs_of a.events) (input_of header.link least r ∷ []) (inputs_from header.link (moment_from least r + 2) more))
+          ∙ ap (λ input. (inputs_of a.events ++ input ∷ []) ++ inputs_from header.link (moment_from least r + 2) more) (sym step.input);
+      told = step.told ∙ ap (λ t. with_both t packets lines) a.told ∙ both_both old (sent a.events) packets (logged a.events) lines;
+    }
+
+-- ---- what the two files hold
+
+capture_told : (before after : Content) (all : List Sent) → IsWhole before output_octets → file_packets after ≡ with_more (file_packets before) (map emitted all) →
+    ends_with_record after ≡ true → HoldsOctets before after (capture_of all)
+capture_told untold after all w h e = tt
+capture_told absent after all w h e = absurd w
+capture_told (holds octets) after all w h e =
+    let first : file_packets (holds output_octets) ≡ Some [] = refl in
+    let told : file_packets after ≡ Some (map emitted all) =
+    h ∙ ap (λ xs. with_more (file_packets (holds xs)) (map emitted all)) (sym w) ∙ ap (λ ps. with_more ps (map emitted all)) first in
+    file_packets-whole after (map emitted all) told e ∙ ap (λ rs. holds (output_octets ++ rs)) (flat_map-map record_octets emitted all)
+
+log_told : (before after : Content) (lines : List (List ℕ)) → IsWhole before [] → file_lines after ≡ with_more (file_lines before) lines →
+    ends_with_line after ≡ true → HoldsOctets before after (concat lines)
+log_told untold after lines w h e = tt
+log_told absent after lines w h e = absurd w
+log_told (holds octets) after lines w h e =
+    file_lines-whole after lines (h ∙ ap (λ xs. with_more (file_lines (holds xs)) lines) (sym w)) e
+
+module _ (assets : List Asset) (names : RunNamesValue) (before after : List ℕ → Content) (header : Header) (least place : ℕ) (engine : EngineValue)
+    (a : SoFar assets (before names.capture) header least place engine (files_told names.out names.log before) (files_told names.out names.log after))
+    (out : IsWhole (before names.out) output_octets) (log : IsWhole (before names.log) []) (whole : are_whole names.out names.log after ≡ true) where
+  -- the two files are those of a run over the records so far
+  leaves : (limit : ℕ) → engine.limit ≡ limit → LeavesRun assets limit names before after header a.records engine.summary
+  leaves limit same =
+      let (record_end, line_end) = both _ _ whole in
+      record {
+        out = capture_of (sent a.events);
+        log = concat (logged a.events);
+        is_run = record {
+          events = a.events;
+          are = subst (λ n. AreEvents assets n a.events) same a.stands.are;
+          rises = a.stands.rises;
+          are_inputs = sym (rw append-nil at (a.given []) ∙ append-nil (inputs_of a.events));
+          capture = refl;
+          lines = refl;
+          counts = a.stands.counts;
+        };
+        in_out = capture_told (before names.out) (after names.out) (sent a.events) out (ap (λ t. t.packets) a.told) record_end;
+        in_log = log_told (before names.log) (after names.log) (logged a.events) log (ap (λ t. t.lines) a.told) line_end;
+      }
+
+  module _ (limit : ℕ) (same : engine.limit ≡ limit) (has_header : HasHeader (before names.capture) (Ok header)) where
+    -- something else stands behind them
+    pub runs_to : (found last : AtPlace) → StandsAt (before names.capture) header place found → timed least found ≡ last → IsLast last →
+        RunsTo assets limit names before after last place engine.summary
+    runs_to found last stands e is = record {
+      header = header;
+      has_header = has_header;
+      records = a.records;
+      are_records = leads_to (before names.capture) header least place a.records found last a.leads stands e is;
+      leaves = leaves limit same;
+    }
+
+    -- a record whose moment is too late
+    pub runs_to_clock : (r : Record) (used : ℕ) → StandsAt (before names.capture) header place (Fits r used) → 2 ^ 32 * 1000000 ≤ moment_from least r →
+        RunsTo assets limit names before after Clock place engine.summary
+    runs_to_clock r used stands late = runs_to (Fits r used) Clock stands (too_late least used r late) tt
+
+    -- nothing is known of what follows
+    pub runs_partly : RunsPartly assets limit names before after
+    runs_partly = record {
+      header = header;
+      has_header = has_header;
+      records = a.records;
+      are_first = leads_somewhere (before names.capture) header least place a.records a.leads;
+      summary = engine.summary;
+      leaves = leaves limit same;
+    }
