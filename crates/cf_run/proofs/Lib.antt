@@ -1,5 +1,6 @@
 mod Begun
 mod Counting
+mod Created
 mod FileDesks
 mod Items
 mod Matched

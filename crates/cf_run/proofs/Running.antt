@@ -20,11 +20,12 @@ use Rattle.cf_session.specs.Sent.{Sent}
 use Rattle.cf_session.specs.Told.{Told, emitted, with_both, with_more}
 use Rattle.cf_run.specs.FileDesk.{are_whole, files_told}
 use Rattle.cf_run.specs.OutputFile.{ends_with_record, file_packets, record_octets}
-use Rattle.cf_run.specs.Reader.{HasHeader, StandsAt}
+use Rattle.cf_run.specs.Reader.{FindsRecord, HasHeader, ReaderValue, StandsAt}
 use Rattle.cf_run.specs.Run.{IsRun, capture_of, input_of, inputs, inputs_from, inputs_of}
 use Rattle.cf_run.specs.RunCapture.{BeginsWithRecords, HasRecords, HoldsOctets, LeavesRun, RunNamesValue, RunsPartly, RunsTo}
 use Rattle.cf_run.specs.Step.{EngineValue, IsEngineOf, StepsOn}
 use Rattle.cf_run.specs.Trace.{AreEvents, Event, Input, logged, logged_in_first, logged_in_second, sent, sent_in_first, sent_in_second, table_after}
+use Rattle.cf_run.specs.declared.record_reader.NextRecord.TheVariants as answer
 use Rattle.cf_run.specs.declared.summary.Summary.{Summary}
 use Rattle.cf_run.proofs.OutputFiles.{both, file_packets-whole}
 use Rattle.cf_run.proofs.Timers.{both_both, both_nothing}
@@ -41,10 +42,10 @@ leads_first untold header h = tt
 leads_first absent header h = absurd h
 leads_first (holds all) header h = λ more last are. are
 
-in_time : (least used : ℕ) (r : Record) → moment_from least r < 2 ^ 32 * 1000000 → timed least (Fits r used) ≡ Fits r used
+pub in_time : (least used : ℕ) (r : Record) → moment_from least r < 2 ^ 32 * 1000000 → timed least (Fits r used) ≡ Fits r used
 in_time least used r early = grind (arith, nat_tests)
 
-too_late : (least used : ℕ) (r : Record) → 2 ^ 32 * 1000000 ≤ moment_from least r → timed least (Fits r used) ≡ Clock
+pub too_late : (least used : ℕ) (r : Record) → 2 ^ 32 * 1000000 ≤ moment_from least r → timed least (Fits r used) ≡ Clock
 too_late least used r late = grind (arith, nat_tests)
 
 leads_on : (file : Content) (header : Header) (least place used : ℕ) (records : List Record) (r : Record) → Leads file header least place records →
@@ -69,6 +70,11 @@ leads_somewhere absent header least place records leads = absurd leads
 leads_somewhere (holds all) header least place records leads =
     let (more, last, are) = have_timed_records header least place (drop place all) in
     (more, last, leads more last are)
+
+-- what a reader finds is found in the file as it was at first, under its header
+found_at_first : (now file : Content) → now ≡ file → (reader header : Header) → reader ≡ header → (place : ℕ) (found : AtPlace) → StandsAt now reader place found → StandsAt file header place found
+found_at_first now file n reader header h place found stands =
+    subst (λ f. StandsAt f header place found) n (subst (λ x. StandsAt now x place found) h stands)
 
 -- ---- events
 
@@ -154,30 +160,64 @@ module _ (assets : List Asset) (names : RunNamesValue) (before after : List ℕ 
         in_log = log_told (before names.log) (after names.log) (logged a.events) log (ap (λ t. t.lines) a.told) line_end;
       }
 
-  module _ (limit : ℕ) (same : engine.limit ≡ limit) (has_header : HasHeader (before names.capture) (Ok header)) where
-    -- something else stands behind them
-    pub runs_to : (found last : AtPlace) → StandsAt (before names.capture) header place found → timed least found ≡ last → IsLast last →
-        RunsTo assets limit names before after last place engine.summary
-    runs_to found last stands e is = record {
-      header = header;
-      has_header = has_header;
-      records = a.records;
-      are_records = leads_to (before names.capture) header least place a.records found last a.leads stands e is;
-      leaves = leaves limit same;
-    }
-
-    -- a record whose moment is too late
-    pub runs_to_clock : (r : Record) (used : ℕ) → StandsAt (before names.capture) header place (Fits r used) → 2 ^ 32 * 1000000 ≤ moment_from least r →
-        RunsTo assets limit names before after Clock place engine.summary
-    runs_to_clock r used stands late = runs_to (Fits r used) Clock stands (too_late least used r late) tt
+  module _ (limit : ℕ) (same : engine.limit ≡ limit) (has_header : HasHeader (before names.capture) (Ok header)) (files : List ℕ → Content) (still : files ≡ after) where
+    -- something else was found behind them
+    pub runs_to : (now : Content) → now ≡ before names.capture → (read : Header) → read ≡ header → (found last : AtPlace) → StandsAt now read place found →
+        timed least found ≡ last → IsLast last → (at : ℕ) → at ≡ place → (summary : Summary) → summary ≡ engine.summary → RunsTo assets limit names before files last at summary
+    runs_to now n read h found last stands e is at p summary s =
+        let there : HasRecords (before names.capture) header a.records (record { place = place; found = last }) =
+        leads_to (before names.capture) header least place a.records found last a.leads (found_at_first now (before names.capture) n read header h place found stands) e is in
+        let left : LeavesRun assets limit names before files header a.records engine.summary =
+        subst (λ f. LeavesRun assets limit names before f header a.records engine.summary) (sym still) (leaves limit same) in
+        record {
+          header = header;
+          has_header = has_header;
+          records = a.records;
+          are_records = subst (λ (n : ℕ). HasRecords (before names.capture) header a.records (record { place = n; found = last })) (sym p) there;
+          leaves = subst (λ counts. LeavesRun assets limit names before files header a.records counts) (sym s) left;
+        }
 
     -- nothing is known of what follows
-    pub runs_partly : RunsPartly assets limit names before after
+    pub runs_partly : RunsPartly assets limit names before files
     runs_partly = record {
       header = header;
       has_header = has_header;
       records = a.records;
       are_first = leads_somewhere (before names.capture) header least place a.records a.leads;
       summary = engine.summary;
-      leaves = leaves limit same;
+      leaves = subst (λ f. LeavesRun assets limit names before f header a.records engine.summary) (sym still) (leaves limit same);
     }
+
+-- ---- the loop
+
+pub next_so_far : (assets : List Asset) (file now : Content) → now ≡ file → (header : Header) (least : ℕ) (reader next : ReaderValue) → reader.header ≡ header →
+    (engine : EngineValue) (old told : Told) (a : SoFar assets file header least reader.place engine old told) (stamp moment : ℕ) →
+    FindsRecord now reader next (answer.Whole stamp) → moment ≡ max stamp least → moment < 2 ^ 32 * 1000000 → (after : EngineValue) (middle new : Told) → middle ≡ told →
+    ((events : List Event) → IsEngineOf assets engine events →
+    (event : Event) × StepsOn assets moment (read_record next.header.link next.body) events after middle new event) →
+    SoFar assets file header (moment + 2) next.place after old new
+next_so_far assets file now n header least reader next h engine old told a stamp moment (stands, same, place) is early after middle new m steps =
+    let r : Record = record { stamp = stamp; body = next.body } in
+    let used : ℕ = 16 + length next.body in
+    let (event, step) = steps a.events a.stands in
+    let P : ℕ → Header → Told → Type 0 = λ x y t. StepsOn assets x (read_record y.link next.body) a.events after t new event in
+    let taken : P (moment_from least r) header told =
+    subst (λ t. P (moment_from least r) header t) m (subst (λ y. P (moment_from least r) y middle) (same ∙ h) (subst (λ x. P x next.header middle) is step)) in
+    let at : StandsAt file header reader.place (Fits r used) = found_at_first now file n reader.header header h reader.place (Fits r used) stands in
+    let on : SoFar assets file header (moment_from least r + 2) (reader.place + used) after old new =
+    one_so_far assets file header least reader.place engine old told a r used at (subst (λ x. x < 2 ^ 32 * 1000000) is early) after new event taken in
+    subst (λ x. SoFar assets file header (x + 2) next.place after old new) (sym is)
+        (subst (λ x. SoFar assets file header (moment_from least r + 2) x after old new) (sym place) on)
+
+record_end_first : (file : Content) → IsWhole file output_octets → ends_with_record file ≡ true
+record_end_first untold w = refl
+record_end_first absent w = absurd w
+record_end_first (holds all) w = ap (λ xs. ends_with_record (holds xs)) (sym w)
+
+line_end_first : (file : Content) → IsWhole file [] → ends_with_line file ≡ true
+line_end_first untold w = refl
+line_end_first absent w = absurd w
+line_end_first (holds all) w = ap (λ xs. ends_with_line (holds xs)) (sym w)
+
+pub whole_first : (out log : List ℕ) (content : List ℕ → Content) → IsWhole (content out) output_octets → IsWhole (content log) [] → are_whole out log content ≡ true
+whole_first out log content o l = rw (record_end_first (content out) o, line_end_first (content log) l) refl
