@@ -1,0 +1,31 @@
+use Rattle.std.proofs.Common.{◌≡◌, ℕ, List, pos, refl, ap, ◌∙◌, subst, arith}
+use Rattle.cf_outside.specs.Files.{Content, content_after_create, content_after_write}
+use Rattle.cf_pcap.specs.Header.{output_octets}
+use Rattle.cf_run.specs.RunCapture.{RunNamesValue, RunsRecords, run_names_value}
+use Rattle.cf_run.proofs.Created.{runs_as}
+use Rattle.cf_run.proofs.run.run_capture.Goals as goal
+
+pub run_records-requires-clause-sound : goal.run_records-requires-clause-sound
+run_records-requires-clause-sound g c = c.in-Ok.ensures.sound c.args.policy.now.assets
+
+pub run_records-requires-clause-stands : goal.run_records-requires-clause-stands
+run_records-requires-clause-stands g c = c.in-Ok.ensures.stands c.args.policy.now.assets
+
+pub returns-in-Done-clause-runs : goal.returns-in-Done-clause-runs
+returns-in-Done-clause-runs g c =
+    let content = g.F.Files.content in
+    let assets = c.args.policy.now.assets in
+    let names : RunNamesValue = run_names_value c.args.names.now in
+    let apart = c.requires.apart in
+    let before = content c.args.files.now in
+    let created = content c.create_outputs.new.files in
+    let after = content c.run_records.new.files in
+    let opened = c.in_ok-reader.ensures.same in
+    let made = c.in-Done.ensures in
+    let signed : pos 1073741824 ≡ pos c.in-Ok.engine.limit = c.in-Ok.ensures.limit in
+    let limit : c.in-Ok.engine.limit ≡ 1073741824 = cc in
+    runs_as assets 1073741824 names before created after
+    (made.others names.capture (apart.capture_out, (apart.capture_log, tt)) ∙ ap (λ (f : List ℕ → Content). f names.capture) opened)
+    (made.out refl ∙ ap (λ (f : List ℕ → Content). content_after_write (f names.out) output_octets) opened)
+    (made.log refl ∙ ap (λ (f : List ℕ → Content). content_after_create (f names.log)) opened)
+    c.run_records.result (subst (λ n. RunsRecords assets n names created after c.run_records.result) limit c.run_records.ensures.runs)
