@@ -1,5 +1,5 @@
 -- A run whose two outputs were created.
-use Rattle.std.proofs.Common.{◌≡◌, ℕ, List, [], ◌++◌, Ok, Err, Result, refl, sym, ap, ◌∙◌, subst, inr}
+use Rattle.std.proofs.Common.{◌≡◌, ℕ, List, [], Ok, Err, Result, refl, subst, inr}
 use Rattle.cf_outside.specs.Files.{Content, untold, absent, holds, IsWhole, content_after_create, content_after_write}
 use Rattle.cf_pcap.specs.Capture.{AtPlace}
 use Rattle.cf_pcap.specs.Header.{output_octets}

@@ -1,17 +1,15 @@
 -- The records of a capture that were run over so far.
-use Rattle.std.proofs.Common.{◌≡◌, ◌≢◌, ◌+◌, ◌*◌, ◌^◌, ◌<◌, ◌≤◌, ◌&&◌, max, ℕ, true, List, [], ◌∷◌, ◌++◌, map, drop, length, Some, Ok, Result, Err, refl, sym, ap, ◌∙◌, subst, append_assoc, arith}
-use Rattle.std.specs.Prelude.{nat_lt}
-use Rattle.std.specs.List.{concat, flat_map}
+use Rattle.std.proofs.Common.{◌≡◌, ◌+◌, ◌*◌, ◌^◌, ◌<◌, ◌≤◌, max, ℕ, true, List, [], ◌∷◌, ◌++◌, map, drop, length, Some, Ok, refl, sym, ap, ◌∙◌, subst, append_assoc, arith}
+use Rattle.std.specs.List.{concat}
 use Rattle.std.proofs.lemmas.List.{append-nil, drop-drop}
 use Rattle.std.proofs.lemmas.List.Folds.{flat_map-map}
 use Rattle.std.proofs.lemmas.Bool.Decides.{nat_tests}
 use Rattle.cf_outside.proofs.Lines.{file_lines-whole}
 use Rattle.cf_outside.specs.Files.{Content, untold, absent, holds, IsWhole}
 use Rattle.cf_outside.specs.Lines.{ends_with_line, file_lines}
-use Rattle.cf_packet.specs.Packet.{PacketValue, read_record}
-use Rattle.cf_packet.specs.declared.packet.PacketRefusal.{PacketRefusal}
+use Rattle.cf_packet.specs.Packet.{read_record}
 use Rattle.cf_pcap.proofs.Capture.{have_timed_records}
-use Rattle.cf_pcap.specs.Capture.{AreTimed, AtPlace, Clock, FileEnd, Fits, IsLast, LastPlace, at_place, first_moment, moment_from, moment_limit, timed}
+use Rattle.cf_pcap.specs.Capture.{AreTimed, AtPlace, Clock, FileEnd, Fits, IsLast, LastPlace, first_moment, moment_from, timed}
 use Rattle.cf_pcap.specs.Header.{output_octets}
 use Rattle.cf_pcap.specs.Record.{Record}
 use Rattle.cf_pcap.specs.declared.header.Header.{Header}
@@ -21,10 +19,10 @@ use Rattle.cf_session.specs.Told.{Told, emitted, with_both, with_more}
 use Rattle.cf_run.specs.FileDesk.{are_whole, files_told}
 use Rattle.cf_run.specs.OutputFile.{ends_with_record, file_packets, record_octets}
 use Rattle.cf_run.specs.Reader.{FindsRecord, HasHeader, ReaderValue, StandsAt}
-use Rattle.cf_run.specs.Run.{IsRun, capture_of, input_of, inputs, inputs_from, inputs_of}
+use Rattle.cf_run.specs.Run.{capture_of, input_of, inputs, inputs_from, inputs_of}
 use Rattle.cf_run.specs.RunCapture.{BeginsWithRecords, HasRecords, HoldsOctets, LeavesRun, RunNamesValue, RunsPartly, RunsTo}
 use Rattle.cf_run.specs.Step.{EngineValue, IsEngineOf, StepsOn}
-use Rattle.cf_run.specs.Trace.{AreEvents, Event, Input, logged, logged_in_first, logged_in_second, sent, sent_in_first, sent_in_second, table_after}
+use Rattle.cf_run.specs.Trace.{AreEvents, Event, logged, logged_in_first, logged_in_second, sent, sent_in_first, sent_in_second, table_after}
 use Rattle.cf_run.specs.declared.record_reader.NextRecord.TheVariants as answer
 use Rattle.cf_run.specs.declared.summary.Summary.{Summary}
 use Rattle.cf_run.proofs.OutputFiles.{both, file_packets-whole}

@@ -1,5 +1,5 @@
 -- One event: its first half and its second.
-use Rattle.std.proofs.Common.{◌≡◌, ℕ, ◌+◌, ◌-◌, ◌≤◌, not, List, [], ◌∷◌, ◌++◌, Option, Some, None, Result, cond, refl, sym, ap, ◌∙◌, subst, arith}
+use Rattle.std.proofs.Common.{◌≡◌, ℕ, ◌+◌, ◌-◌, ◌≤◌, not, List, [], ◌∷◌, Option, Some, None, Result, cond, refl, sym, ap, ◌∙◌, subst, arith}
 use Rattle.std.specs.Prelude.{filter}
 use Rattle.std.specs.List.{flat_map}
 use Rattle.cf_audit.specs.declared.CutReason.{CutReason}
@@ -14,7 +14,6 @@ use Rattle.cf_run.specs.Engine.{AreAll, IsOne, TickAll}
 use Rattle.cf_run.specs.Receiving.{AreTicked}
 use Rattle.cf_run.specs.Counted.{counted}
 use Rattle.cf_run.specs.Step.{EngineValue, IsEngineOf, ReceivesRecordOne, Steps, StepsOn}
-use Rattle.cf_run.specs.Summary.{found}
 use Rattle.cf_run.specs.Table.{Session}
 use Rattle.cf_run.specs.Trace.{AreEvents, AreTicks, Event, is_cut, kept, logged_received, logged_ticks, sent_received, stays, table_after, ticked, with_events}
 use Rattle.cf_run.specs.declared.entry.Entry.{Entry}
@@ -59,15 +58,17 @@ stepped assets limit now packet entries middle after old mid new happened two ti
     let table : List Session = ticked t.ticks (now - 1) before in
     let ready : AreTicked (now - 1) table = have_ticked (now - 1) (kept (now - 1) before) t.ticks t.are in
     let same : now - 1 + 1 ≡ now = omega (arith, two) in
-    let r = receives table ready (subst (λ m. AreAll assets m middle table) same t.all) in
-    (record { input = record { moment = now; packet = packet }; ticks = t.ticks; received = r.0 }, record {
-      input = refl;
-      is_event = record { ticks = t.are; received = r.1.receives };
-      told = r.1.told ∙ ap (λ m. with_both m (sent_received r.0) (logged_received table r.0)) t.told
-          ∙ both_both old (flat_map sent_first t.ticks) (sent_received r.0) (logged_ticks (kept (now - 1) before) t.ticks) (logged_received table r.0);
-      all = r.1.all;
-      counts = record { ticks = t.cuts_is; received = r.1.counts };
-    })
+    let r = receives table ready (subst (λ m. AreAll assets m middle table) same t.all) in (
+      record { input = record { moment = now; packet = packet }; ticks = t.ticks; received = r.0 },
+      record {
+        input = refl;
+        is_event = record { ticks = t.are; received = r.1.receives };
+        told = r.1.told ∙ ap (λ m. with_both m (sent_received r.0) (logged_received table r.0)) t.told
+            ∙ both_both old (flat_map sent_first t.ticks) (sent_received r.0) (logged_ticks (kept (now - 1) before) t.ticks) (logged_received table r.0);
+        all = r.1.all;
+        counts = record { ticks = t.cuts_is; received = r.1.counts };
+      },
+    )
 
 -- ---- the engine
 
@@ -80,15 +81,17 @@ steps_on assets now packet before after old new happened same_limit is_last coun
     let s = steps (table_after events) before.last (omega (arith, later)) h.all in
     let is_moment : s.0.input.moment ≡ now = ap (λ i. i.moment) s.1.input in
     let are : AreEvents assets before.limit (s.0 ∷ events) = (s.1.is_event, h.are) in
-    let all : AreAll assets now after.table (table_after (s.0 ∷ events)) = s.1.all in
-    (s.0, record {
-      input = s.1.input;
-      stands = record {
-        are = subst (λ n. AreEvents assets n (s.0 ∷ events)) (sym same_limit) are;
-        rises = (omega (arith, later, h.last, is_moment), h.rises);
-        last = is_moment ∙ sym is_last;
-        all = subst (λ n. AreAll assets n after.table (table_after (s.0 ∷ events))) (sym is_last) all;
-        counts = counts ∙ ap (λ x. counted x happened) h.counts ∙ counts_on events s.0 happened s.1.counts;
-      };
-      told = s.1.told;
-    })
+    let all : AreAll assets now after.table (table_after (s.0 ∷ events)) = s.1.all in (
+      s.0,
+      record {
+        input = s.1.input;
+        stands = record {
+          are = subst (λ n. AreEvents assets n (s.0 ∷ events)) (sym same_limit) are;
+          rises = (omega (arith, later, h.last, is_moment), h.rises);
+          last = is_moment ∙ sym is_last;
+          all = subst (λ n. AreAll assets n after.table (table_after (s.0 ∷ events))) (sym is_last) all;
+          counts = counts ∙ ap (λ x. counted x happened) h.counts ∙ counts_on events s.0 happened s.1.counts;
+        };
+        told = s.1.told;
+      },
+    )

@@ -1,10 +1,9 @@
 -- A run over a capture file: RunsAs says what its answer means, and what then stands in the files. This project's own.
-use Rattle.std.specs.Prelude.{◌≡◌, ◌≢◌, ◌⊎◌, ℕ, List, [], ◌∷◌, ◌++◌, drop, Result, Ok, Err}
+use Rattle.std.specs.Prelude.{◌≡◌, ◌≢◌, ◌⊎◌, ℕ, List, ◌++◌, drop, Result, Ok, Err}
 use Rattle.cf_outside.specs.Files.{Content, untold, absent, holds}
 use Rattle.cf_pcap.specs.Capture.{AreTimed, AtPlace, Clock, Cut, FileEnd, Large, LastPlace, TooLong, first_moment}
 use Rattle.cf_pcap.specs.Record.{Record}
 use Rattle.cf_pcap.specs.declared.header.Header.{Header}
-use Rattle.cf_pcap.specs.declared.header.HeaderRefusal.{HeaderRefusal}
 use Rattle.cf_policy.specs.declared.Asset.{Asset}
 use Rattle.cf_run.specs.Reader.{HasHeader}
 use Rattle.cf_run.specs.Run.{IsRun, inputs}
@@ -15,7 +14,6 @@ use Rattle.cf_run.specs.declared.record_reader.OpenFault.TheVariants as opened
 use Rattle.cf_run.specs.declared.run.RunFault.{RunFault}
 use Rattle.cf_run.specs.declared.run.RunFault.TheVariants as fault
 use Rattle.cf_run.specs.declared.run.RunNames.{RunNames}
-use Rattle.cf_run.specs.declared.run.RunRefusal.{RunRefusal}
 use Rattle.cf_run.specs.declared.run.RunRefusal.TheVariants as refusal
 use Rattle.cf_run.specs.declared.summary.Summary.{Summary}
 

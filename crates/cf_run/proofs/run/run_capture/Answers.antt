@@ -1,4 +1,4 @@
-use Rattle.std.proofs.Common.{◌≡◌, ℕ, List, pos, refl, ap, ◌∙◌, subst, arith}
+use Rattle.std.proofs.Common.{◌≡◌, ℕ, List, pos, refl, ap, ◌∙◌, subst}
 use Rattle.cf_outside.specs.Files.{Content, content_after_create, content_after_write}
 use Rattle.cf_pcap.specs.Header.{output_octets}
 use Rattle.cf_run.specs.RunCapture.{RunNamesValue, RunsRecords, run_names_value}

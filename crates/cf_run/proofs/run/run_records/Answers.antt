@@ -1,7 +1,6 @@
-use Rattle.std.proofs.Common.{◌≡◌, ◌+◌, ◌*◌, ◌^◌, ◌<◌, ◌≤◌, max, ℕ, List, length, refl, sym, ap, ◌∙◌, subst, arith}
+use Rattle.std.proofs.Common.{◌+◌, ℕ, List, length, refl, sym, ap, ◌∙◌, subst, arith}
 use Rattle.cf_outside.specs.Files.{Content}
-use Rattle.cf_pcap.specs.Capture.{Clock, Cut, FileEnd, Fits, Large, TooLong, moment_from}
-use Rattle.cf_pcap.specs.Record.{Record}
+use Rattle.cf_pcap.specs.Capture.{Clock, Cut, FileEnd, Fits, Large, TooLong}
 use Rattle.cf_run.specs.FileDesk.{files_told}
 use Rattle.cf_run.specs.RunCapture.{RunNamesValue, run_names_value}
 use Rattle.cf_run.proofs.Running.{SoFar, next_so_far, nothing_so_far, runs_partly, runs_to, too_late, whole_first}
