@@ -205,7 +205,7 @@ next_so_far assets file now n header least reader next h engine old told a stamp
     let on : SoFar assets file header (moment_from least r + 2) (reader.place + used) after old new =
     one_so_far assets file header least reader.place engine old told a r used at (subst (λ x. x < 2 ^ 32 * 1000000) is early) after new event taken in
     subst (λ x. SoFar assets file header (x + 2) next.place after old new) (sym is)
-        (subst (λ x. SoFar assets file header (moment_from least r + 2) x after old new) (sym place) on)
+    (subst (λ x. SoFar assets file header (moment_from least r + 2) x after old new) (sym place) on)
 
 record_end_first : (file : Content) → IsWhole file output_octets → ends_with_record file ≡ true
 record_end_first untold w = refl

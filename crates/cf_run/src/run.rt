@@ -217,5 +217,12 @@ fn run_record<F: Files>(
         log: names.log,
         failed: false,
     };
-    engine.step(alloc, policy, moment, &reader.header().link, reader.body(), &mut desk)
+    engine.step(
+        alloc,
+        policy,
+        moment,
+        &reader.header().link,
+        reader.body(),
+        &mut desk,
+    )
 }

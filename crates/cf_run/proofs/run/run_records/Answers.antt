@@ -55,11 +55,13 @@ returns-in-End-clause-runs g c =
     let content = g.F.Files.content in
     let names : RunNamesValue = run_names_value c.args.names.now in
     let inv = c.records.invariant in
-    let apart = c.requires.apart in
-    (c.records.reader.place, runs_to c.args.policy.now.assets names (content c.args.files.now) (content c.records.files) c.args.reader.now.header c.records.least c.records.reader.place
-    c.records.engine inv.so_far c.requires.out c.requires.log inv.whole c.args.engine.now.limit inv.limit c.requires.header (content c.next.new.files) c.in-End.ensures.same
-    (content c.records.files names.capture) (inv.others names.capture (apart.capture_out, (apart.capture_log, tt))) c.records.reader.header inv.header
-    FileEnd FileEnd c.in-End.ensures.found.0 refl tt c.records.reader.place refl c.summary.result c.summary.ensures)
+    let apart = c.requires.apart in (
+      c.records.reader.place,
+      runs_to c.args.policy.now.assets names (content c.args.files.now) (content c.records.files) c.args.reader.now.header c.records.least c.records.reader.place
+          c.records.engine inv.so_far c.requires.out c.requires.log inv.whole c.args.engine.now.limit inv.limit c.requires.header (content c.next.new.files) c.in-End.ensures.same
+          (content c.records.files names.capture) (inv.others names.capture (apart.capture_out, (apart.capture_log, tt))) c.records.reader.header inv.header
+          FileEnd FileEnd c.in-End.ensures.found.0 refl tt c.records.reader.place refl c.summary.result c.summary.ensures,
+    )
 
 pub returns-in-Cut-clause-runs : goal.returns-in-Cut-clause-runs
 returns-in-Cut-clause-runs g c =
@@ -77,33 +79,42 @@ returns-then-moment-ge-MOMENT_LIMIT-clause-runs g c =
     let content = g.F.Files.content in
     let names : RunNamesValue = run_names_value c.args.names.now in
     let inv = c.records.invariant in
-    let apart = c.requires.apart in
-    (c.records.reader.place, c.records.engine.summary, runs_to c.args.policy.now.assets names (content c.args.files.now) (content c.records.files) c.args.reader.now.header c.records.least c.records.reader.place
-    c.records.engine inv.so_far c.requires.out c.requires.log inv.whole c.args.engine.now.limit inv.limit c.requires.header (content c.next.new.files) c.in-Whole.ensures.same
-    (content c.records.files names.capture) (inv.others names.capture (apart.capture_out, (apart.capture_log, tt))) c.records.reader.header inv.header
-    (Fits (record { stamp = c.in-Whole.stamp; body = c.next.new.self.body }) (16 + length c.next.new.self.body)) Clock c.in-Whole.ensures.found.0 (too_late c.records.least _ (record { stamp = c.in-Whole.stamp; body = c.next.new.self.body }) (omega (arith, c.if-moment-ge-MOMENT_LIMIT.true, c.max-moment.ensures))) tt c.records.reader.place refl c.records.engine.summary refl)
+    let apart = c.requires.apart in (
+      c.records.reader.place,
+      c.records.engine.summary,
+      runs_to c.args.policy.now.assets names (content c.args.files.now) (content c.records.files) c.args.reader.now.header c.records.least c.records.reader.place
+          c.records.engine inv.so_far c.requires.out c.requires.log inv.whole c.args.engine.now.limit inv.limit c.requires.header (content c.next.new.files) c.in-Whole.ensures.same
+          (content c.records.files names.capture) (inv.others names.capture (apart.capture_out, (apart.capture_log, tt))) c.records.reader.header inv.header
+          (Fits (record { stamp = c.in-Whole.stamp; body = c.next.new.self.body }) (16 + length c.next.new.self.body)) Clock c.in-Whole.ensures.found.0 (too_late c.records.least _ (record { stamp = c.in-Whole.stamp; body = c.next.new.self.body }) (omega (arith, c.if-moment-ge-MOMENT_LIMIT.true, c.max-moment.ensures))) tt c.records.reader.place refl c.records.engine.summary refl,
+    )
 
 pub returns-in-TooLong-clause-runs : goal.returns-in-TooLong-clause-runs
 returns-in-TooLong-clause-runs g c =
     let content = g.F.Files.content in
     let names : RunNamesValue = run_names_value c.args.names.now in
     let inv = c.records.invariant in
-    let apart = c.requires.apart in
-    (c.records.reader.place, c.records.engine.summary, runs_to c.args.policy.now.assets names (content c.args.files.now) (content c.records.files) c.args.reader.now.header c.records.least c.records.reader.place
-    c.records.engine inv.so_far c.requires.out c.requires.log inv.whole c.args.engine.now.limit inv.limit c.requires.header (content c.next.new.files) c.in-TooLong.ensures.same
-    (content c.records.files names.capture) (inv.others names.capture (apart.capture_out, (apart.capture_log, tt))) c.records.reader.header inv.header
-    TooLong TooLong c.in-TooLong.ensures.found.0 refl tt c.records.reader.place refl c.records.engine.summary refl)
+    let apart = c.requires.apart in (
+      c.records.reader.place,
+      c.records.engine.summary,
+      runs_to c.args.policy.now.assets names (content c.args.files.now) (content c.records.files) c.args.reader.now.header c.records.least c.records.reader.place
+          c.records.engine inv.so_far c.requires.out c.requires.log inv.whole c.args.engine.now.limit inv.limit c.requires.header (content c.next.new.files) c.in-TooLong.ensures.same
+          (content c.records.files names.capture) (inv.others names.capture (apart.capture_out, (apart.capture_log, tt))) c.records.reader.header inv.header
+          TooLong TooLong c.in-TooLong.ensures.found.0 refl tt c.records.reader.place refl c.records.engine.summary refl,
+    )
 
 pub returns-in-Large-clause-runs : goal.returns-in-Large-clause-runs
 returns-in-Large-clause-runs g c =
     let content = g.F.Files.content in
     let names : RunNamesValue = run_names_value c.args.names.now in
     let inv = c.records.invariant in
-    let apart = c.requires.apart in
-    (c.records.reader.place, c.records.engine.summary, runs_to c.args.policy.now.assets names (content c.args.files.now) (content c.records.files) c.args.reader.now.header c.records.least c.records.reader.place
-    c.records.engine inv.so_far c.requires.out c.requires.log inv.whole c.args.engine.now.limit inv.limit c.requires.header (content c.next.new.files) c.in-Large.ensures.same
-    (content c.records.files names.capture) (inv.others names.capture (apart.capture_out, (apart.capture_log, tt))) c.records.reader.header inv.header
-    Large Large c.in-Large.ensures.found.0 refl tt c.records.reader.place refl c.records.engine.summary refl)
+    let apart = c.requires.apart in (
+      c.records.reader.place,
+      c.records.engine.summary,
+      runs_to c.args.policy.now.assets names (content c.args.files.now) (content c.records.files) c.args.reader.now.header c.records.least c.records.reader.place
+          c.records.engine inv.so_far c.requires.out c.requires.log inv.whole c.args.engine.now.limit inv.limit c.requires.header (content c.next.new.files) c.in-Large.ensures.same
+          (content c.records.files names.capture) (inv.others names.capture (apart.capture_out, (apart.capture_log, tt))) c.records.reader.header inv.header
+          Large Large c.in-Large.ensures.found.0 refl tt c.records.reader.place refl c.records.engine.summary refl,
+    )
 
 pub returns-in-Failed-clause-runs : goal.returns-in-Failed-clause-runs
 returns-in-Failed-clause-runs g c =
