@@ -2,6 +2,7 @@ mod Begun
 mod Counting
 mod Created
 mod FileDesks
+mod Isolation
 mod Items
 mod Matched
 mod OutputFiles
@@ -11,6 +12,7 @@ mod Places
 mod Received
 mod Running
 mod Selection
+mod Sessions
 mod Soundness
 mod Stepping
 mod Timers

@@ -9,6 +9,7 @@ pub mod Receiving
 pub mod Run
 pub mod RunCapture
 pub mod Selected
+pub mod Sessions
 pub mod Step
 pub mod Summary
 pub mod Table

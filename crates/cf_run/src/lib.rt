@@ -17,7 +17,9 @@ pub use engine::{Engine, StepFault};
 pub use entry::Entry;
 pub use file_desk::FileDesk;
 pub use first_half::tick_all;
-pub use laws::selects_by_moment;
+pub use laws::{
+    selects_by_moment, sessions_are_isolated, sessions_are_right, sessions_have_one_stream,
+};
 pub use matching::{Match, TABLE_SIZE, match_packet};
 pub use record_reader::{NextRecord, OpenFault, RecordReader};
 pub use run::{RunFault, RunNames, RunRefusal, run_capture};

@@ -1,5 +1,6 @@
 //! A run over a capture file.
 ghost use Rattle.std.specs.Prelude.{◌≡◌, ◌≢◌, ◌+◌, ◌*◌, ◌^◌, ◌<◌, ◌≤◌, ◌∷◌, [], ℕ, List, IsErrOf, Ok, OnOk, true};
+ghost use Rattle.cf_lane.specs.declared.limit.TheConstants.{LETTER_LIMIT};
 ghost use Rattle.cf_outside.specs.Faults.{HasCause};
 ghost use Rattle.cf_outside.specs.Files.{IsWhole, content_after_create, content_after_write};
 ghost use Rattle.cf_packet.specs.Packet.{read_record};
@@ -99,7 +100,7 @@ pub fn run_capture<F: Files>(
 ) -> Result<Summary, RunFault>
     requires within { AreAssetsWithin policy.now.assets }
     requires apart { AreApart (run_names_value names.now) }
-    ensures runs { RunsAs policy.now.assets (2 ^ 30) (run_names_value names.now) (F.content files.old) (F.content files.new) result }
+    ensures runs { RunsAs policy.now.assets LETTER_LIMIT (run_names_value names.now) (F.content files.old) (F.content files.new) result }
     ensures others { KeepsOtherFiles (run_names_value names.now) (F.content files.old) (F.content files.new) }
     ensures read { HasCause (F.read_faults files.old) (F.read_faults files.new) (IsErrOf result RunFault.Read) }
     ensures write { HasCause (F.write_faults files.old) (F.write_faults files.new) (IsErrOf result RunFault.Write) }

@@ -18,3 +18,4 @@ mod Sound
 mod Lanes
 mod Fixed
 mod OneStream
+mod Short

@@ -1,5 +1,5 @@
 -- One stream towards each side of a session.
-use Rattle.std.proofs.Common.{◌≡◌, ℕ, zero, suc, ◌^◌, ◌≤◌, Bool, true, false, ◌&&◌, ◌||◌, inl, inr, List, [], ◌∷◌, ◌++◌, map, Option, Some, None, refl, sym, ap, ◌∙◌, subst, arith}
+use Rattle.std.proofs.Common.{◌≡◌, ℕ, zero, suc, Bool, true, false, ◌&&◌, ◌||◌, inl, inr, List, [], ◌∷◌, ◌++◌, map, Option, Some, None, refl, sym, ap, ◌∙◌, subst, arith}
 use Rattle.std.specs.Prelude.{slice_get}
 use Rattle.std.specs.List.{list_any}
 use Rattle.std.proofs.lemmas.Bool.{cases_Bool, false≢true, true≢false}
@@ -24,15 +24,14 @@ use Rattle.cf_policy.specs.declared.Asset.{Asset}
 use Rattle.cf_policy.specs.declared.Protocol.{Protocol}
 use Rattle.cf_stream.proofs.Extends.{extends_both, extends_none}
 use Rattle.cf_stream.proofs.Taken.{same_stream}
-use Rattle.cf_stream.specs.Stream.{Carries, Extends, Letter, Stream, letter_at, letter_count, letters, no_letters}
+use Rattle.cf_stream.specs.Stream.{Carries, Extends, Letter, Stream, letter_at, letters, no_letters}
 use Rattle.cf_view.specs.declared.Endpoint.{Endpoint}
 use Rattle.cf_view.specs.declared.Side.{Side}
 use Rattle.cf_view.specs.declared.Side.TheVariants as side
 use Rattle.cf_session.proofs.Fed.{other_bytes}
-use Rattle.cf_session.proofs.Fixed.{clients_right, controllers_right}
 use Rattle.cf_session.specs.Event.{AreEvents, EndsPacket, EndsTick, IsEvent}
 use Rattle.cf_session.specs.Laws.{IsFront, IsReassembly, Part, parts_in, parts_of}
-use Rattle.cf_session.specs.Session.{Flow, SessionEvent, client_ends, client_of, clients, controller_ends, controllers, history, work_of}
+use Rattle.cf_session.specs.Session.{Flow, SessionEvent, client_of, clients, controllers, history, work_of}
 use Rattle.cf_session.specs.Work.{Work, Works, fed_at, no_work}
 
 -- ---- an End among the items is one of the history
@@ -61,7 +60,7 @@ completed_end p s earlier e items c h =
     ∙ list_any-append (is_end s) (map (placed e.moment) (map (Took e.side) c.more)) (map (placed e.moment) (last_after c.was e.side e.letters.ended c.tail))
     ∙ ap (λ b. b || list_any (is_end s) (map (placed e.moment) (last_after c.was e.side e.letters.ended c.tail))) (took_none s e.side e.moment c.more)) ∙ h)
 
-or_true : (a b : Bool) → (a ≡ true) → (a || b) ≡ true
+pub or_true : (a b : Bool) → (a ≡ true) → (a || b) ≡ true
 or_true true b e = refl
 or_true false b e = absurd (false≢true e)
 
@@ -106,7 +105,7 @@ works_one f limit (d ∷ es) e (inl h) w =
     (subst (λ x. Works f.asset (client_of f) x e.work) (sym (append-nil (history (d ∷ es)))) (subst (Works f.asset (client_of f) (history (d ∷ es))) (sym h.work) w))
 works_one f limit (d ∷ es) e (inr h) w = h.5.work
 
-works_of : (f : Flow) (limit : ℕ) (es : List SessionEvent) → AreEvents f limit es → Works f.asset (client_of f) (history es) (work_of es)
+pub works_of : (f : Flow) (limit : ℕ) (es : List SessionEvent) → AreEvents f limit es → Works f.asset (client_of f) (history es) (work_of es)
 works_of f limit [] h = works_none f.asset (client_of f)
 works_of f limit (e ∷ es) h = works_one f limit es e h.0 (works_of f limit es h.1)
 
@@ -164,7 +163,7 @@ record Says (before whole : Stream) (x : Ending) : Type 0 where
 says_still : (before whole : Stream) (x : Ending) → stream_at x before ≡ before → Extends before whole → Says before whole x
 says_still before whole x e h = record { grows = subst (Extends before) (sym e) (extends_none before); on = subst (λ w. Extends w whole) (sym e) h }
 
-tick_still : (before : Stream) (c : Option CutReason) (x : Ending) → EndsTick c x → stream_at x before ≡ before
+pub tick_still : (before : Stream) (c : Option CutReason) (x : Ending) → EndsTick c x → stream_at x before ≡ before
 tick_still before None x h = ap (λ y. stream_at y before) h
 tick_still before (Some r) x h = ap (λ y. stream_at y before) h.1
 
@@ -182,19 +181,19 @@ client_says f limit [] e h x = says_still no_letters e.work.to_client e.client.e
 client_says f limit (d ∷ es) e (inl h) x = says_still _ _ e.client.ending (tick_still _ e.cut e.client.ending h.client_ending) x
 client_says f limit (d ∷ es) e (inr h) x = packet_says _ _ _ e.cut e.client.ending x h.5.client_ending
 
-record Grown (es : List LegEvent) (whole : Stream) : Type 0 where
-  grows : Grows es
-  on : Extends (stream_after es) whole
+pub record Grown (es : List LegEvent) (whole : Stream) : Type 0 where
+  pub grows : Grows es
+  pub on : Extends (stream_after es) whole
 
 module _ (go : StreamsGoOn) (quiet : QuietBehindEnd) (f : Flow) (limit : ℕ) where
-  controller_grown : (es : List SessionEvent) → AreEvents f limit es → Grown (controllers es) (work_of es).to_controller
+  pub controller_grown : (es : List SessionEvent) → AreEvents f limit es → Grown (controllers es) (work_of es).to_controller
   controller_grown [] h = record { grows = tt; on = extends_none no_letters }
   controller_grown (e ∷ es) h =
       let g = controller_grown es h.1 in
       let s = controller_says f limit es e h.0 (extends_both _ _ _ g.on (controller_on go quiet f limit es e h)) in
       record { grows = (s.grows, g.grows); on = s.on }
 
-  client_grown : (es : List SessionEvent) → AreEvents f limit es → Grown (clients es) (work_of es).to_client
+  pub client_grown : (es : List SessionEvent) → AreEvents f limit es → Grown (clients es) (work_of es).to_client
   client_grown [] h = record { grows = tt; on = extends_none no_letters }
   client_grown (e ∷ es) h =
       let g = client_grown es h.1 in
@@ -203,7 +202,7 @@ module _ (go : StreamsGoOn) (quiet : QuietBehindEnd) (f : Flow) (limit : ℕ) wh
 
 -- ---- parts
 
-abbrev AreOf : Stream → List Part → Type 0
+abbrev pub AreOf : Stream → List Part → Type 0
 AreOf whole parts = (i : ℕ) (part : Part) → slice_get parts i ≡ Some part → Carries whole part.at part.text
 
 of_none : (whole : Stream) → AreOf whole []
@@ -221,7 +220,7 @@ parts_carry : (whole : Stream) (own sent : ℕ) (ps : List PacketValue) → Carr
 parts_carry whole own sent [] h = of_none whole
 parts_carry whole own sent (p ∷ ps) h = of_cons whole _ (parts_in own (letters_sent_by own sent p) ps) h.0 (parts_carry whole own (letters_sent_by own sent p) ps h.1)
 
-all_parts : (whole : Stream) (r : Role) (es : List LegEvent) → IsOneStream whole r es → AreOf whole (parts_of r es)
+pub all_parts : (whole : Stream) (r : Role) (es : List LegEvent) → IsOneStream whole r es → AreOf whole (parts_of r es)
 all_parts whole r [] h = of_none whole
 all_parts whole r (e ∷ es) h =
     of_both whole (parts_of r es) _ (all_parts whole r es h.2)
@@ -247,23 +246,10 @@ begins_by_place (x ∷ xs) (y ∷ ys) h =
     let rest = begins_by_place xs ys (λ p z g. h (suc p) z g) in
     (rest.0, cc (same_Some y x e, rest.1))
 
-front : (whole : Stream) (parts : List Part) (r : List Letter) → AreOf whole parts → IsReassembly parts r → IsFront whole r
+pub front : (whole : Stream) (parts : List Part) (r : List Letter) → AreOf whole parts → IsReassembly parts r → IsFront whole r
 front whole parts r of re =
     let b = begins_by_place r (letters whole) (λ p l e. place whole.bytes whole.ended p ∙ (let x = re.each p l e in of x.index x.part x.is p l x.has)) in
     record { more = b.0; is = b.1 }
 
 abbrev pub Carried : Type 0
 Carried = (ends : Ends) (es : List LegEvent) (whole : Stream) → IsRightRun ends es whole → IsOneStream whole ends.role es
-
-module _ (law : Carried) (go : StreamsGoOn) (quiet : QuietBehindEnd) (f : Flow) (limit : ℕ) (es : List SessionEvent) (r : List Letter) (are : AreEvents f limit es) where
-  pub to_controller : letter_count (work_of es).to_controller ≤ 2 ^ 31 → IsReassembly (parts_of (controller_ends f).role (controllers es)) r → IsFront (work_of es).to_controller r
-  to_controller small re =
-      let g = controller_grown go quiet f limit es are in
-      front (work_of es).to_controller _ r (all_parts (work_of es).to_controller (controller_ends f).role (controllers es)
-      (law (controller_ends f) (controllers es) (work_of es).to_controller (record { right = controllers_right f limit es are; grows = g.grows; on = g.on; limit = small }))) re
-
-  pub to_client : letter_count (work_of es).to_client ≤ 2 ^ 31 → IsReassembly (parts_of (client_ends f).role (clients es)) r → IsFront (work_of es).to_client r
-  to_client small re =
-      let g = client_grown go quiet f limit es are in
-      front (work_of es).to_client _ r (all_parts (work_of es).to_client (client_ends f).role (clients es)
-      (law (client_ends f) (clients es) (work_of es).to_client (record { right = clients_right f limit es are; grows = g.grows; on = g.on; limit = small }))) re

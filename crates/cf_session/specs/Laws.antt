@@ -7,7 +7,7 @@ use Rattle.cf_leg.specs.Told.{letters_sent, letters_sent_at, letters_sent_by, ow
 use Rattle.cf_leg.specs.declared.Role.{Role}
 use Rattle.cf_packet.specs.Packet.{PacketValue}
 use Rattle.cf_stream.specs.Position.{position}
-use Rattle.cf_stream.specs.Stream.{End, Letter, Stream, letter_count, letter_from, letters}
+use Rattle.cf_stream.specs.Stream.{End, Letter, Stream, letter_from, letters}
 use Rattle.cf_session.specs.Event.{AreEvents}
 use Rattle.cf_session.specs.Session.{Flow, SessionEvent, client_ends, clients, controller_ends, controllers, work_of}
 
@@ -68,9 +68,19 @@ pub record IsFront (whole : Stream) (taken : List Letter) : Type 0 where
   pub more : List Letter
   pub is : letters whole ≡ taken ++ more
 
--- so it is towards the controller, and towards the client, of every session whose streams have at most 2^31 letters
+-- none of the events cut the session
+abbrev pub AreUncut : List SessionEvent → Type 0
+AreUncut [] = Unit {0}
+AreUncut (event ∷ earlier) = (event.cut ≡ None) × AreUncut earlier
+
+-- none but perhaps the newest
+abbrev pub AreUncutBefore : List SessionEvent → Type 0
+AreUncutBefore [] = Unit {0}
+AreUncutBefore (event ∷ earlier) = AreUncut earlier
+
+-- so it is towards the controller, and towards the client, of every session
 abbrev pub HasOneStream : Type 0
 HasOneStream =
-    (flow : Flow) (limit : ℕ) (events : List SessionEvent) (taken : List Letter) → AreEvents flow limit events →
-    (letter_count (work_of events).to_controller ≤ 2 ^ 31 → IsReassembly (parts_of (controller_ends flow).role (controllers events)) taken → IsFront (work_of events).to_controller taken)
-    × (letter_count (work_of events).to_client ≤ 2 ^ 31 → IsReassembly (parts_of (client_ends flow).role (clients events)) taken → IsFront (work_of events).to_client taken)
+    (flow : Flow) (limit : ℕ) (events : List SessionEvent) (taken : List Letter) → limit ≤ 2 ^ 30 → AreEvents flow limit events → AreUncutBefore events →
+    (IsReassembly (parts_of (controller_ends flow).role (controllers events)) taken → IsFront (work_of events).to_controller taken)
+    × (IsReassembly (parts_of (client_ends flow).role (clients events)) taken → IsFront (work_of events).to_client taken)

@@ -18,6 +18,7 @@ pub fn events_are_fixed()
 pub fn has_one_stream()
     ensures { HasOneStream }
 {
+    has_one_judgement();
     segments_carry_one_stream();
     streams_go_on();
 }
