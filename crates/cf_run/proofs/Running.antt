@@ -15,7 +15,7 @@ use Rattle.cf_pcap.specs.Record.{Record}
 use Rattle.cf_pcap.specs.declared.header.Header.{Header}
 use Rattle.cf_policy.specs.declared.Asset.{Asset}
 use Rattle.cf_session.specs.Sent.{Sent}
-use Rattle.cf_session.specs.Told.{Told, emitted, with_both, with_more}
+use Rattle.cf_session.specs.Told.{emitted, with_both, with_more}
 use Rattle.cf_run.specs.FileDesk.{are_whole, files_told}
 use Rattle.cf_run.specs.OutputFile.{ends_with_record, file_packets, record_octets}
 use Rattle.cf_run.specs.Reader.{FindsRecord, HasHeader, ReaderValue, StandsAt}

@@ -90,8 +90,9 @@ impl From<StepFault> for RunFault {
 /// two files. The header is read, and all memory but that of the sessions is taken, before the two are created, the capture
 /// file of packets first. The policy is one that `read_policy` gives.
 ///
-/// After `Refused` by the header no file is changed. After every other answer but `NoMemory`, `Read` and `Write` the two files
-/// have what the whole records before the place give.
+/// After `Refused` by the header no file is changed. After `Read` no file is changed, or the two files have what the records
+/// that were read give. After every other answer but `NoMemory` and `Write` they have what the whole records before the place
+/// give: `NoMemory` and `Write` leave them as they are, perhaps in the middle of an event.
 pub fn run_capture<F: Files>(
     alloc: Global,
     policy: &Policy,

@@ -1,6 +1,6 @@
-use Rattle.std.proofs.Common.{◌≡◌, ◌+◌, ◌≤◌, List, ℕ, refl, ap, ◌∙◌, arith}
+use Rattle.std.proofs.Common.{List, ℕ, refl, ap, ◌∙◌, arith}
 use Rattle.cf_outside.specs.Files.{Content}
-use Rattle.cf_pcap.specs.Capture.{Clock, Cut, FileEnd, Large, TooLong}
+use Rattle.cf_pcap.specs.Capture.{Cut, FileEnd, Large, TooLong}
 use Rattle.cf_run.proofs.Running.{nothing_so_far, one_so_far, runs_partly, runs_to, too_late, whole_first}
 use Rattle.cf_run.proofs.run.run_records.Goals as goal
 
