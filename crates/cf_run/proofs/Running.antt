@@ -15,7 +15,7 @@ use Rattle.cf_pcap.specs.Record.{Record}
 use Rattle.cf_pcap.specs.declared.header.Header.{Header}
 use Rattle.cf_policy.specs.declared.Asset.{Asset}
 use Rattle.cf_session.specs.Sent.{Sent}
-use Rattle.cf_session.specs.Told.{Told, emitted, with_both, with_more}
+use Rattle.cf_session.specs.Told.{emitted, with_both, with_more}
 use Rattle.cf_run.specs.FileDesk.{are_whole, files_told}
 use Rattle.cf_run.specs.OutputFile.{ends_with_record, file_packets, record_octets}
 use Rattle.cf_run.specs.Reader.{FindsRecord, HasHeader, ReaderValue, StandsAt}
@@ -69,53 +69,6 @@ leads_somewhere (holds all) header least place records leads =
     let (more, last, are) = have_timed_records header least place (drop place all) in
     (more, last, leads more last are)
 
--- what a reader finds is found in the file as it was at first, under its header
-found_at_first : (now file : Content) → now ≡ file → (reader header : Header) → reader ≡ header → (place : ℕ) (found : AtPlace) → StandsAt now reader place found → StandsAt file header place found
-found_at_first now file n reader header h place found stands =
-    subst (λ f. StandsAt f header place found) n (subst (λ x. StandsAt now x place found) h stands)
-
--- ---- events
-
-pub record SoFar (assets : List Asset) (file : Content) (header : Header) (least place : ℕ) (engine : EngineValue) (old now : Told) : Type 0 where
-  pub records : List Record
-  pub events : List Event
-  pub leads : Leads file header least place records
-  pub stands : IsEngineOf assets engine events
-  pub given : (more : List Record) → inputs header.link (records ++ more) ≡ inputs_of events ++ inputs_from header.link least more
-  pub told : now ≡ with_both old (sent events) (logged events)
-
--- no record yet
-pub nothing_so_far : (assets : List Asset) (file : Content) (header : Header) (engine : EngineValue) (old : Told) → HasHeader file (Ok header) → IsEngineOf assets engine [] →
-    SoFar assets file header first_moment 24 engine old old
-nothing_so_far assets file header engine old h stands = record {
-  records = [];
-  events = [];
-  leads = leads_first file header h;
-  stands = stands;
-  given = λ more. refl;
-  told = sym (both_nothing old);
-}
-
--- one record more, in time
-pub one_so_far : (assets : List Asset) (file : Content) (header : Header) (least place : ℕ) (engine : EngineValue) (old now : Told) (a : SoFar assets file header least place engine old now) →
-    (r : Record) (used : ℕ) → StandsAt file header place (Fits r used) → moment_from least r < 2 ^ 32 * 1000000 → (after : EngineValue) (new : Told) (event : Event) →
-    StepsOn assets (moment_from least r) (read_record header.link r.body) a.events after now new event →
-    SoFar assets file header (moment_from least r + 2) (place + used) after old new
-one_so_far assets file header least place engine old now a r used at early after new event step =
-    let packets = sent_in_first event ++ sent_in_second event in
-    let lines = logged_in_first (table_after a.events) event ++ logged_in_second (table_after a.events) event in
-    record {
-      records = a.records ++ r ∷ [];
-      events = event ∷ a.events;
-      leads = leads_on file header least place used a.records r a.leads at early;
-      stands = step.stands;
-      given = λ more.
-          ap (inputs header.link) (append_assoc a.records (r ∷ []) more) ∙ a.given (r ∷ more)
-          ∙ sym (append_assoc (inputs_of a.events) (input_of header.link least r ∷ []) (inputs_from header.link (moment_from least r + 2) more))
-          ∙ ap (λ input. (inputs_of a.events ++ input ∷ []) ++ inputs_from header.link (moment_from least r + 2) more) (sym step.input);
-      told = step.told ∙ ap (λ t. with_both t packets lines) a.told ∙ both_both old (sent a.events) packets (logged a.events) lines;
-    }
-
 -- ---- what the two files hold
 
 capture_told : (before after : Content) (all : List Sent) → IsWhole before output_octets → file_packets after ≡ with_more (file_packets before) (map emitted all) →
@@ -135,78 +88,6 @@ log_told absent after lines w h e = absurd w
 log_told (holds octets) after lines w h e =
     file_lines-whole after lines (h ∙ ap (λ xs. with_more (file_lines (holds xs)) lines) (sym w)) e
 
-module _ (assets : List Asset) (names : RunNamesValue) (before after : List ℕ → Content) (header : Header) (least place : ℕ) (engine : EngineValue)
-    (a : SoFar assets (before names.capture) header least place engine (files_told names.out names.log before) (files_told names.out names.log after))
-    (out : IsWhole (before names.out) output_octets) (log : IsWhole (before names.log) []) (whole : are_whole names.out names.log after ≡ true) where
-  -- the two files are those of a run over the records so far
-  leaves : (limit : ℕ) → engine.limit ≡ limit → LeavesRun assets limit names before after header a.records engine.summary
-  leaves limit same =
-      let (record_end, line_end) = both _ _ whole in
-      record {
-        out = capture_of (sent a.events);
-        log = concat (logged a.events);
-        is_run = record {
-          events = a.events;
-          are = subst (λ n. AreEvents assets n a.events) same a.stands.are;
-          rises = a.stands.rises;
-          are_inputs = sym (rw append-nil at (a.given []) ∙ append-nil (inputs_of a.events));
-          capture = refl;
-          lines = refl;
-          counts = a.stands.counts;
-        };
-        in_out = capture_told (before names.out) (after names.out) (sent a.events) out (ap (λ t. t.packets) a.told) record_end;
-        in_log = log_told (before names.log) (after names.log) (logged a.events) log (ap (λ t. t.lines) a.told) line_end;
-      }
-
-  module _ (limit : ℕ) (same : engine.limit ≡ limit) (has_header : HasHeader (before names.capture) (Ok header)) (files : List ℕ → Content) (still : files ≡ after) where
-    -- something else was found behind them
-    pub runs_to : (now : Content) → now ≡ before names.capture → (read : Header) → read ≡ header → (found last : AtPlace) → StandsAt now read place found →
-        timed least found ≡ last → IsLast last → (at : ℕ) → at ≡ place → (summary : Summary) → summary ≡ engine.summary → RunsTo assets limit names before files last at summary
-    runs_to now n read h found last stands e is at p summary s =
-        let there : HasRecords (before names.capture) header a.records (record { place = place; found = last }) =
-        leads_to (before names.capture) header least place a.records found last a.leads (found_at_first now (before names.capture) n read header h place found stands) e is in
-        let left : LeavesRun assets limit names before files header a.records engine.summary =
-        subst (λ f. LeavesRun assets limit names before f header a.records engine.summary) (sym still) (leaves limit same) in
-        record {
-          header = header;
-          has_header = has_header;
-          records = a.records;
-          are_records = subst (λ (n : ℕ). HasRecords (before names.capture) header a.records (record { place = n; found = last })) (sym p) there;
-          leaves = subst (λ counts. LeavesRun assets limit names before files header a.records counts) (sym s) left;
-        }
-
-    -- nothing is known of what follows
-    pub runs_partly : RunsPartly assets limit names before files
-    runs_partly = record {
-      header = header;
-      has_header = has_header;
-      records = a.records;
-      are_first = leads_somewhere (before names.capture) header least place a.records a.leads;
-      summary = engine.summary;
-      leaves = subst (λ f. LeavesRun assets limit names before f header a.records engine.summary) (sym still) (leaves limit same);
-    }
-
--- ---- the loop
-
-pub next_so_far : (assets : List Asset) (file now : Content) → now ≡ file → (header : Header) (least : ℕ) (reader next : ReaderValue) → reader.header ≡ header →
-    (engine : EngineValue) (old told : Told) (a : SoFar assets file header least reader.place engine old told) (stamp moment : ℕ) →
-    FindsRecord now reader next (answer.Whole stamp) → moment ≡ max stamp least → moment < 2 ^ 32 * 1000000 → (after : EngineValue) (middle new : Told) → middle ≡ told →
-    ((events : List Event) → IsEngineOf assets engine events →
-    (event : Event) × StepsOn assets moment (read_record next.header.link next.body) events after middle new event) →
-    SoFar assets file header (moment + 2) next.place after old new
-next_so_far assets file now n header least reader next h engine old told a stamp moment (stands, same, place) is early after middle new m steps =
-    let r : Record = record { stamp = stamp; body = next.body } in
-    let used : ℕ = 16 + length next.body in
-    let (event, step) = steps a.events a.stands in
-    let P : ℕ → Header → Told → Type 0 = λ x y t. StepsOn assets x (read_record y.link next.body) a.events after t new event in
-    let taken : P (moment_from least r) header told =
-    subst (λ t. P (moment_from least r) header t) m (subst (λ y. P (moment_from least r) y middle) (same ∙ h) (subst (λ x. P x next.header middle) is step)) in
-    let at : StandsAt file header reader.place (Fits r used) = found_at_first now file n reader.header header h reader.place (Fits r used) stands in
-    let on : SoFar assets file header (moment_from least r + 2) (reader.place + used) after old new =
-    one_so_far assets file header least reader.place engine old told a r used at (subst (λ x. x < 2 ^ 32 * 1000000) is early) after new event taken in
-    subst (λ x. SoFar assets file header (x + 2) next.place after old new) (sym is)
-        (subst (λ x. SoFar assets file header (moment_from least r + 2) x after old new) (sym place) on)
-
 record_end_first : (file : Content) → IsWhole file output_octets → ends_with_record file ≡ true
 record_end_first untold w = refl
 record_end_first absent w = absurd w
@@ -219,3 +100,135 @@ line_end_first (holds all) w = ap (λ xs. ends_with_line (holds xs)) (sym w)
 
 pub whole_first : (out log : List ℕ) (content : List ℕ → Content) → IsWhole (content out) output_octets → IsWhole (content log) [] → are_whole out log content ≡ true
 whole_first out log content o l = rw (record_end_first (content out) o, line_end_first (content log) l) refl
+
+-- ---- the loop
+
+-- what holds of the files before and now, behind the records that were read, where the next moment is this one at least: each was
+-- an event, and what they sent and logged was put behind the header of the one file and into the empty other
+pub record SoFar (assets : List Asset) (limit : ℕ) (names : RunNamesValue) (before now : List ℕ → Content) (header : Header) (least : ℕ)
+    (reader : ReaderValue) (engine : EngineValue) : Type 0 where
+  pub has_header : HasHeader (before names.capture) (Ok header)
+  pub out : IsWhole (before names.out) output_octets
+  pub log : IsWhole (before names.log) []
+  pub capture : now names.capture ≡ before names.capture
+  pub reads_on : reader.header ≡ header
+  pub records : List Record
+  pub events : List Event
+  pub leads : Leads (before names.capture) header least reader.place records
+  pub given : (more : List Record) → inputs header.link (records ++ more) ≡ inputs_of events ++ inputs_from header.link least more
+  pub stands : IsEngineOf assets engine events
+  pub limited : engine.limit ≡ limit
+  pub told : files_told names.out names.log now ≡ with_both (files_told names.out names.log before) (sent events) (logged events)
+
+-- no record yet
+pub nothing_so_far : {assets : List Asset} {names : RunNamesValue} {files : List ℕ → Content} {reader : ReaderValue} {engine : EngineValue} →
+    HasHeader (files names.capture) (Ok reader.header) → IsWhole (files names.out) output_octets → IsWhole (files names.log) [] → reader.place ≡ 24 →
+    IsEngineOf assets engine [] → SoFar assets engine.limit names files files reader.header first_moment reader engine
+nothing_so_far {assets} {names} {files} {reader} {engine} h out log place stands = record {
+  has_header = h;
+  out = out;
+  log = log;
+  capture = refl;
+  reads_on = refl;
+  records = [];
+  events = [];
+  leads = subst (λ n. Leads (files names.capture) reader.header first_moment n []) (sym place) (leads_first (files names.capture) reader.header h);
+  given = λ more. refl;
+  stands = stands;
+  limited = refl;
+  told = sym (both_nothing (files_told names.out names.log files));
+}
+
+-- what a reader finds stood there before
+found_before : (now file : Content) → now ≡ file → (read header : Header) → read ≡ header → (place : ℕ) (found : AtPlace) → StandsAt now read place found →
+    StandsAt file header place found
+found_before now file n read header h place found stands =
+    subst (λ f. StandsAt f header place found) n (subst (λ x. StandsAt now x place found) h stands)
+
+module _ {assets : List Asset} {limit : ℕ} {names : RunNamesValue} {before now : List ℕ → Content} {header : Header} {least : ℕ} {reader : ReaderValue} {engine : EngineValue}
+    (a : SoFar assets limit names before now header least reader engine) where
+  -- one record more: it is read, it is in time, and its event is handled
+  pub one_so_far : (stamp : ℕ) {next : ReaderValue} {moment : ℕ} {files after : List ℕ → Content} {new : EngineValue} → FindsRecord (now names.capture) reader next (answer.Whole stamp) →
+      files ≡ now → moment ≡ max stamp least → moment < 2 ^ 32 * 1000000 →
+      ((events : List Event) → IsEngineOf assets engine events → (event : Event) × StepsOn assets moment (read_record next.header.link next.body) events new
+      (files_told names.out names.log files) (files_told names.out names.log after) event) →
+      new.limit ≡ engine.limit → after names.capture ≡ files names.capture → SoFar assets limit names before after header (moment + 2) next new
+  one_so_far stamp {next} {moment} {files} {after} {new} (found, same, place) still is early steps limited kept =
+      let r : Record = record { stamp = stamp; body = next.body } in
+      let used : ℕ = 16 + length next.body in
+      let (event, step) = steps a.events a.stands in
+      let packets = sent_in_first event ++ sent_in_second event in
+      let lines = logged_in_first (table_after a.events) event ++ logged_in_second (table_after a.events) event in
+      let stands : StandsAt (before names.capture) header reader.place (Fits r used) =
+      found_before (now names.capture) (before names.capture) a.capture reader.header header a.reads_on reader.place (Fits r used) found in
+      let on : Leads (before names.capture) header (moment_from least r + 2) (reader.place + used) (a.records ++ r ∷ []) =
+      leads_on (before names.capture) header least reader.place used a.records r a.leads stands (omega (arith, is, early)) in
+      let input : event.input ≡ input_of header.link least r =
+      rw (step.input, is, same, a.reads_on) refl in
+      record {
+        has_header = a.has_header;
+        out = a.out;
+        log = a.log;
+        capture = kept ∙ ap (λ (f : List ℕ → Content). f names.capture) still ∙ a.capture;
+        reads_on = same ∙ a.reads_on;
+        records = a.records ++ r ∷ [];
+        events = event ∷ a.events;
+        leads = subst (λ n. Leads (before names.capture) header (n + 2) next.place (a.records ++ r ∷ [])) (sym is)
+            (subst (λ n. Leads (before names.capture) header (moment_from least r + 2) n (a.records ++ r ∷ [])) (sym place) on);
+        given = subst (λ n. (more : List Record) → inputs header.link ((a.records ++ r ∷ []) ++ more) ≡ inputs_of (event ∷ a.events) ++ inputs_from header.link (n + 2) more) (sym is)
+            (λ more.
+            ap (inputs header.link) (append_assoc a.records (r ∷ []) more) ∙ a.given (r ∷ more)
+            ∙ sym (append_assoc (inputs_of a.events) (input_of header.link least r ∷ []) (inputs_from header.link (moment_from least r + 2) more))
+            ∙ ap (λ i. (inputs_of a.events ++ i ∷ []) ++ inputs_from header.link (moment_from least r + 2) more) (sym input));
+        stands = step.stands;
+        limited = limited ∙ a.limited;
+        told = step.told ∙ ap (λ (f : List ℕ → Content). with_both (files_told names.out names.log f) packets lines) still ∙ ap (λ t. with_both t packets lines) a.told
+            ∙ both_both (files_told names.out names.log before) (sent a.events) packets (logged a.events) lines;
+      }
+
+  module _ (whole : are_whole names.out names.log now ≡ true) where
+    -- the two files are those of a run over the records so far
+    leaves : {files : List ℕ → Content} → files ≡ now → LeavesRun assets limit names before files header a.records engine.summary
+    leaves {files} still =
+        let (record_end, line_end) = both _ _ whole in
+        let held : LeavesRun assets limit names before now header a.records engine.summary = record {
+          out = capture_of (sent a.events);
+          log = concat (logged a.events);
+          is_run = record {
+            events = a.events;
+            are = subst (λ n. AreEvents assets n a.events) a.limited a.stands.are;
+            rises = a.stands.rises;
+            are_inputs = sym (rw append-nil at (a.given []) ∙ append-nil (inputs_of a.events));
+            capture = refl;
+            lines = refl;
+            counts = a.stands.counts;
+          };
+          in_out = capture_told (before names.out) (now names.out) (sent a.events) a.out (ap (λ t. t.packets) a.told) record_end;
+          in_log = log_told (before names.log) (now names.log) (logged a.events) a.log (ap (λ t. t.lines) a.told) line_end;
+        } in
+        subst (λ f. LeavesRun assets limit names before f header a.records engine.summary) (sym still) held
+
+    -- something else stands behind them
+    pub runs_to : (found : AtPlace) {files : List ℕ → Content} {last : AtPlace} {place : ℕ} {summary : Summary} → files ≡ now → StandsAt (now names.capture) reader.header reader.place found →
+        timed least found ≡ last → IsLast last → place ≡ reader.place → summary ≡ engine.summary → RunsTo assets limit names before files last place summary
+    runs_to found {files} {last} {place} {summary} still stands e is p s =
+        let stood = found_before (now names.capture) (before names.capture) a.capture reader.header header a.reads_on reader.place found stands in
+        record {
+          header = header;
+          has_header = a.has_header;
+          records = a.records;
+          are_records = subst (λ (n : ℕ). HasRecords (before names.capture) header a.records (record { place = n; found = last })) (sym p)
+              (leads_to (before names.capture) header least reader.place a.records found last a.leads stood e is);
+          leaves = subst (λ counts. LeavesRun assets limit names before files header a.records counts) (sym s) (leaves still);
+        }
+
+    -- nothing is known of what follows
+    pub runs_partly : {files : List ℕ → Content} → files ≡ now → RunsPartly assets limit names before files
+    runs_partly still = record {
+      header = header;
+      has_header = a.has_header;
+      records = a.records;
+      are_first = leads_somewhere (before names.capture) header least reader.place a.records a.leads;
+      summary = engine.summary;
+      leaves = leaves still;
+    }

@@ -1,5 +1,6 @@
 -- A run over a capture file: RunsAs says what its answer means, and what then stands in the files. This project's own.
-use Rattle.std.specs.Prelude.{◌≡◌, ◌≢◌, ◌⊎◌, ℕ, List, ◌++◌, drop, Result, Ok, Err}
+use Rattle.std.specs.Prelude.{◌≡◌, ◌≢◌, ◌⊎◌, ℕ, List, [], ◌∷◌, ◌++◌, drop, Result, Ok, Err}
+use Rattle.cf_outside.specs.Desk.{IsNoneOf}
 use Rattle.cf_outside.specs.Files.{Content, untold, absent, holds}
 use Rattle.cf_pcap.specs.Capture.{AreTimed, AtPlace, Clock, Cut, FileEnd, Large, LastPlace, TooLong, first_moment}
 use Rattle.cf_pcap.specs.Record.{Record}
@@ -41,6 +42,10 @@ pub record AreApart (names : RunNamesValue) : Type 0 where
   pub capture_out : names.capture ≢ names.out
   pub capture_log : names.capture ≢ names.log
   pub out_log : names.out ≢ names.log
+
+-- every file but the two that are written is as it was
+abbrev pub KeepsOtherFiles : RunNamesValue → (before after : List ℕ → Content) → Type 0
+KeepsOtherFiles names before after = (other : List ℕ) → IsNoneOf (names.out ∷ names.log ∷ []) other → after other ≡ before other
 
 -- a file with this header has these records up to its last place, as far as it is told
 abbrev pub HasRecords : Content → Header → List Record → LastPlace → Type 0

@@ -1,7 +1,6 @@
 //! A run over a capture file.
 ghost use Rattle.std.specs.Prelude.{◌≡◌, ◌≢◌, ◌+◌, ◌*◌, ◌^◌, ◌<◌, ◌≤◌, ◌∷◌, [], ℕ, List, IsErrOf, Ok, OnOk, true};
 ghost use Rattle.cf_lane.specs.declared.limit.TheConstants.{LETTER_LIMIT};
-ghost use Rattle.cf_outside.specs.Desk.{IsNoneOf};
 ghost use Rattle.cf_outside.specs.Faults.{HasCause};
 ghost use Rattle.cf_outside.specs.Files.{IsWhole, content_after_create, content_after_write};
 ghost use Rattle.cf_packet.specs.Packet.{read_record};
@@ -9,7 +8,7 @@ ghost use Rattle.cf_pcap.specs.Header.{output_octets};
 ghost use Rattle.cf_policy.specs.Within.{AreAssetsWithin};
 ghost use Rattle.cf_run.specs.FileDesk.{are_whole, files_told};
 ghost use Rattle.cf_run.specs.Reader.{HasHeader, ReaderValue};
-ghost use Rattle.cf_run.specs.RunCapture.{AreApart, RunsAs, RunsRecords, open_fault, run_names_value, step_fault};
+ghost use Rattle.cf_run.specs.RunCapture.{AreApart, KeepsOtherFiles, RunsAs, RunsRecords, open_fault, run_names_value, step_fault};
 ghost use Rattle.cf_run.specs.Step.{EngineValue, IsEngineOf, IsSoundEngine, StepsOn};
 ghost use Rattle.cf_run.specs.Trace.{Event};
 
@@ -91,8 +90,9 @@ impl From<StepFault> for RunFault {
 /// two files. The header is read, and all memory but that of the sessions is taken, before the two are created, the capture
 /// file of packets first. The policy is one that `read_policy` gives.
 ///
-/// After `Refused` by the header no file is changed. After every other answer but `NoMemory`, `Read` and `Write` the two files
-/// have what the whole records before the place give.
+/// After `Refused` by the header no file is changed. After `Read` no file is changed, or the two files have what the records
+/// that were read give. After every other answer but `NoMemory` and `Write` they have what the whole records before the place
+/// give: `NoMemory` and `Write` leave them as they are, perhaps in the middle of an event.
 pub fn run_capture<F: Files>(
     alloc: Global,
     policy: &Policy,
@@ -102,7 +102,7 @@ pub fn run_capture<F: Files>(
     requires within { AreAssetsWithin policy.now.assets }
     requires apart { AreApart (run_names_value names.now) }
     ensures runs { RunsAs policy.now.assets LETTER_LIMIT (run_names_value names.now) (F.content files.old) (F.content files.new) result }
-    ensures others { (other : List ℕ) → IsNoneOf (names.now.out.now ∷ names.now.log.now ∷ []) other → F.content files.new other ≡ F.content files.old other }
+    ensures others { KeepsOtherFiles (run_names_value names.now) (F.content files.old) (F.content files.new) }
     ensures read { HasCause (F.read_faults files.old) (F.read_faults files.new) (IsErrOf result RunFault.Read) }
     ensures write { HasCause (F.write_faults files.old) (F.write_faults files.new) (IsErrOf result RunFault.Write) }
 {
@@ -123,7 +123,7 @@ fn create_outputs<F: Files>(names: &RunNames<'_>, files: &mut F) -> WriteAnswer
         F.content files.new names.now.out.now ≡ content_after_write (F.content files.old names.now.out.now) output_octets }
     ensures log { result ≡ WriteAnswer.Done →
         F.content files.new names.now.log.now ≡ content_after_create (F.content files.old names.now.log.now) }
-    ensures others { (other : List ℕ) → IsNoneOf (names.now.out.now ∷ names.now.log.now ∷ []) other → F.content files.new other ≡ F.content files.old other }
+    ensures others { KeepsOtherFiles (run_names_value names.now) (F.content files.old) (F.content files.new) }
     ensures cause { HasCause (F.write_faults files.old) (F.write_faults files.new) (result ≡ WriteAnswer.Failed) }
     ensures reads { F.read_faults files.new ≡ F.read_faults files.old }
 {
@@ -155,8 +155,9 @@ fn run_records<F: Files>(
     requires place { reader.old.place ≡ 24 }
     requires out { IsWhole (F.content files.old names.now.out.now) output_octets }
     requires log { IsWhole (F.content files.old names.now.log.now) [] }
-    ensures runs { RunsRecords policy.now.assets engine.old.limit (run_names_value names.now) (F.content files.old) (F.content files.new) result }
-    ensures others { (other : List ℕ) → IsNoneOf (names.now.out.now ∷ names.now.log.now ∷ []) other → F.content files.new other ≡ F.content files.old other }
+    ensures runs { RunsRecords policy.now.assets engine.old.limit (run_names_value names.now)
+        (F.content files.old) (F.content files.new) result }
+    ensures others { KeepsOtherFiles (run_names_value names.now) (F.content files.old) (F.content files.new) }
     ensures read { HasCause (F.read_faults files.old) (F.read_faults files.new) (IsErrOf result RunFault.Read) }
     ensures write { HasCause (F.write_faults files.old) (F.write_faults files.new) (IsErrOf result RunFault.Write) }
 {
@@ -203,12 +204,13 @@ fn run_record<F: Files>(
     requires whole { are_whole names.now.out.now names.now.log.now (F.content files.old) ≡ true }
     ensures steps { OnOk result ((events : List Event) → IsEngineOf policy.now.assets engine.old events →
         (event : Event) × StepsOn policy.now.assets moment (read_record reader.now.header.link reader.now.body) events engine.new
-        (files_told names.now.out.now names.now.log.now (F.content files.old)) (files_told names.now.out.now names.now.log.now (F.content files.new)) event) }
+        (files_told names.now.out.now names.now.log.now (F.content files.old))
+        (files_told names.now.out.now names.now.log.now (F.content files.new)) event) }
     ensures sound { OnOk result (IsSoundEngine policy.now.assets engine.new) }
     ensures last { OnOk result (engine.new.last ≡ moment) }
     ensures limit { engine.new.limit ≡ engine.old.limit }
     ensures whole { OnOk result (are_whole names.now.out.now names.now.log.now (F.content files.new) ≡ true) }
-    ensures others { (other : List ℕ) → IsNoneOf (names.now.out.now ∷ names.now.log.now ∷ []) other → F.content files.new other ≡ F.content files.old other }
+    ensures others { KeepsOtherFiles (run_names_value names.now) (F.content files.old) (F.content files.new) }
     ensures cause { HasCause (F.write_faults files.old) (F.write_faults files.new) (IsErrOf result StepFault.Write) }
     ensures reads { F.read_faults files.new ≡ F.read_faults files.old }
 {
@@ -218,5 +220,12 @@ fn run_record<F: Files>(
         log: names.log,
         failed: false,
     };
-    engine.step(alloc, policy, moment, &reader.header().link, reader.body(), &mut desk)
+    engine.step(
+        alloc,
+        policy,
+        moment,
+        &reader.header().link,
+        reader.body(),
+        &mut desk,
+    )
 }
