@@ -1,0 +1,204 @@
+-- Asking a side, and the limit behind it, is a stage that is done, or one that breaks off.
+use Rattle.std.proofs.Common.{Err, List, None, Ok, Option, Result, Some, [], ap, arith, inl, inr, refl, subst, sym, ℕ, ◌++◌, ◌+◌, ◌<◌, ◌∙◌, ◌∷◌, ◌≡◌, ◌≤◌}
+use Rattle.std.specs.Prelude.{IfErr, OnOk}
+use Rattle.std.specs.Option.{option_or}
+use Rattle.std.proofs.lemmas.List.{append-nil}
+use Rattle.cf_audit.specs.declared.line.CutReason.{CutReason}
+use Rattle.cf_lane.specs.Follows.{rest_of}
+use Rattle.cf_lane.specs.Handled.{State, WritesLog}
+use Rattle.cf_lane.specs.Laws.{QuietBehindEnd, StreamsGoOn}
+use Rattle.cf_lane.specs.Limit.{limit_by, limit_cut}
+use Rattle.cf_lane.specs.Output.{other, stream_to}
+use Rattle.cf_lane.specs.declared.limit.TheConstants.{LETTER_LIMIT}
+use Rattle.cf_outq.specs.SendQueue.{IsQueueOf, Queue, queue_length}
+use Rattle.cf_outside.specs.Desk.{DeskValue}
+use Rattle.cf_outside.specs.Pair.{Entry, Idle}
+use Rattle.cf_policy.specs.declared.Asset.{Asset}
+use Rattle.cf_view.specs.declared.Side.{Side}
+use Rattle.cf_view.specs.declared.Side.TheVariants as side
+use Rattle.cf_relay.proofs.Doing.{by_own, by_side}
+use Rattle.cf_relay.proofs.Giving.{with_none}
+use Rattle.cf_relay.proofs.Hearing.{or_false}
+use Rattle.cf_relay.proofs.Lists.{closes_more, told_more}
+use Rattle.cf_relay.proofs.Stages.{breaks_nothing, no_take, one_broken, one_stage, open_ended, takes_stage}
+use Rattle.cf_relay.proofs.Standing.{Silent, TakesTo, stands_cut, stands_full, stands_heard, stands_missed, stands_silent}
+use Rattle.cf_relay.specs.Answers.{greatest, history_of, is_finished, moment_of, moments, with_answers}
+use Rattle.cf_relay.specs.Relaying.{RelayingValue, lane_state, letters_from, queue_to, rests_of}
+use Rattle.cf_relay.specs.Scene.{Adds, Goes, PairValue, RoseBy, Stops, StopsBy, scene}
+use Rattle.cf_relay.specs.Taken.{LimitBy, MayTakeNow, TakeState, TakesAnswer, TakesBy, take_state}
+use Rattle.cf_relay.specs.Turn.{Taking}
+use Rattle.cf_relay.specs.declared.stop.Stop.{Stop}
+use Rattle.cf_relay.specs.declared.stop.Stop.TheVariants as stop
+
+-- what a call on a side changes of a relay
+abbrev pub take_state_of : Side → RelayingValue → Option (List (List ℕ)) → Option (List Entry) → TakeState
+take_state_of s now log told = take_state (lane_state now log) (rest_of s (rests_of now)) (letters_from s now) now.idle told
+
+rests_same : (s : Side) (old new : RelayingValue) → rest_of s (rests_of new) ≡ rest_of s (rests_of old) → rest_of (other s) (rests_of new) ≡ rest_of (other s) (rests_of old) → rests_of new ≡ rests_of old
+rests_same side.Client old new e d = ap (λ (xs : List ℕ). record { client = xs; controller = new.controller_rest }) e ∙ ap (λ (xs : List ℕ). record { client = old.client_rest; controller = xs }) d
+rests_same side.Controller old new e d = ap (λ (xs : List ℕ). record { client = new.client_rest; controller = xs }) e ∙ ap (λ (xs : List ℕ). record { client = xs; controller = old.controller_rest }) d
+
+-- nothing came: the lane, its queues and its log are as they were
+silent_none : (s : Side) (old new : RelayingValue) (log log' : Option (List (List ℕ))) → TakesTo s old new → lane_state new log' ≡ lane_state old log →
+    rest_of s (rests_of new) ≡ rest_of s (rests_of old) → letters_from s new ≡ letters_from s old → new.idle ≡ old.idle → Silent [] old new log log'
+silent_none s old new log log' to state rest letters idle =
+    let queues : (t : Side) → queue_to t new ≡ queue_to t old = by_side (λ t. queue_to t new ≡ queue_to t old) (ap (λ (x : State). x.to_client) state) (ap (λ (x : State). x.to_controller) state) in
+    record {
+      history = λ earlier. refl;
+      met = refl;
+      lane = ap (λ (x : State). x.lane) state;
+      same_log = ap (λ (x : State). x.lines) state;
+      rests = rests_same s old new rest to.other_rest;
+      letters = by_own (λ t. letters_from t new ≡ letters_from t old) s letters to.other_letters;
+      stands = λ t w q. subst (λ (k : Queue). IsQueueOf k w) (sym (queues t)) q;
+      ended = λ t. ap (λ (k : Queue). k.ended) (queues t);
+      kept = λ t. ap (λ (k : Queue). k.kept) (sym (queues t));
+      acked = λ t. omega (arith, ap (λ (k : Queue). k.acked) (queues t));
+      done = λ t is. inl (sym (to.closed t) ∙ is);
+      closed = λ es t e. to.closed t ∙ e ∙ ap (is_finished t) (sym (append-nil es));
+      moment = λ es e. to.moment ∙ e ∙ ap moment_of (sym (append-nil es));
+      idle = idle;
+    }
+
+-- Idle came
+silent_idle : (s : Side) (old new : RelayingValue) (log log' : Option (List (List ℕ))) → TakesTo s old new → lane_state new log' ≡ lane_state old log →
+    rest_of s (rests_of new) ≡ rest_of s (rests_of old) → letters_from s new ≡ letters_from s old → new.idle ≡ old.idle + 1 → Silent (Idle s ∷ []) old new log log'
+silent_idle s old new log log' to state rest letters idle =
+    let queues : (t : Side) → queue_to t new ≡ queue_to t old = by_side (λ t. queue_to t new ≡ queue_to t old) (ap (λ (x : State). x.to_client) state) (ap (λ (x : State). x.to_controller) state) in
+    record {
+      history = λ earlier. refl;
+      met = refl;
+      lane = ap (λ (x : State). x.lane) state;
+      same_log = ap (λ (x : State). x.lines) state;
+      rests = rests_same s old new rest to.other_rest;
+      letters = by_own (λ t. letters_from t new ≡ letters_from t old) s letters to.other_letters;
+      stands = λ t w q. subst (λ (k : Queue). IsQueueOf k w) (sym (queues t)) q;
+      ended = λ t. ap (λ (k : Queue). k.ended) (queues t);
+      kept = λ t. ap (λ (k : Queue). k.kept) (sym (queues t));
+      acked = λ t. omega (arith, ap (λ (k : Queue). k.acked) (queues t));
+      done = λ t is. inl (sym (to.closed t) ∙ is);
+      closed = λ es t e. to.closed t ∙ e ∙ sym (closes_more t es (Idle s ∷ []) ∙ or_false (is_finished t es));
+      moment = λ es e. to.moment ∙ e ∙ ap greatest (sym (told_more es (Idle s ∷ []) ∙ append-nil (moments es)));
+      idle = idle ∙ omega arith;
+    }
+
+none_some : (x : Option CutReason) (reason : CutReason) → x ≡ None → x ≡ Some reason → ⊥
+none_some x reason none is = cc
+
+-- ---- a side was asked, or passed over, and what followed
+
+module _ (law : StreamsGoOn) (quiet : QuietBehindEnd) (asset : Asset) (most : ℕ) (s : Side) (old new : RelayingValue) (pair pair' : PairValue) (desk desk' : DeskValue) (few : old.idle < most) (to : TakesTo s old new)
+    (later : pair.faults ≤ pair'.faults) (idles : (start : ℕ) → RoseBy old.idle start pair.idles → RoseBy new.idle start pair'.idles) (log : WritesLog desk desk') where
+  adds_answer : (answers : List Entry) → pair'.told ≡ with_answers pair.told answers → Adds (scene old pair desk) (scene new pair' desk') answers
+  adds_answer answers e = record { tells = e; link = later; idles = idles; log = log }
+
+  -- passed over
+  skip_goes : take_state_of s new desk'.lines pair'.told ≡ take_state_of s old desk.lines pair.told → (MayTakeNow s old.to_client old.to_controller → ⊥) →
+      Goes asset most (Taking s ∷ []) (scene old pair desk) (scene new pair' desk')
+  skip_goes same never = record {
+    answers = [];
+    adds = adds_answer [] (ap (λ (x : TakeState). x.told) same ∙ with_none pair.told);
+    does = λ first es st. (
+      one_stage asset most (Taking s) es [] (no_take asset most first es old desk.lines st few s never),
+      stands_silent asset first es [] old new desk.lines desk'.lines st
+          (silent_none s old new desk.lines desk'.lines to (ap (λ (x : TakeState). x.state) same) (ap (λ (x : TakeState). x.rest) same) (ap (λ (x : TakeState). x.letters) same) (ap (λ (x : TakeState). x.idle) same)),
+    );
+  }
+
+  take_goes : MayTakeNow s old.to_client old.to_controller → TakesAnswer asset old.moment s None (take_state_of s old desk.lines pair.told) (take_state_of s new desk'.lines pair'.told) →
+      limit_by LETTER_LIMIT new.client_letters new.controller_letters (queue_length new.to_client) (queue_length new.to_controller) ≡ None → Goes asset most (Taking s ∷ []) (scene old pair desk) (scene new pair' desk')
+  take_goes may takes short = record {
+    answers = takes.answer ∷ [];
+    adds = adds_answer (takes.answer ∷ []) takes.answers.tells;
+    does = λ first es st. (
+      one_stage asset most (Taking s) es (takes.answer ∷ []) (takes_stage asset most first es old desk.lines st few s takes.answer may takes.answers.is_taken),
+      stands_heard law asset first es s takes.answer takes.answers.is_taken old desk.lines st new desk'.lines to (open_ended asset most first es old desk.lines st s may.open_still)
+          takes.answers.letters takes.answers.idles takes.hears quiet short,
+    );
+  }
+
+  full_stops : MayTakeNow s old.to_client old.to_controller → TakesAnswer asset old.moment s None (take_state_of s old desk.lines pair.told) (take_state_of s new desk'.lines pair'.told) → (reason : CutReason) →
+      limit_by LETTER_LIMIT new.client_letters new.controller_letters (queue_length new.to_client) (queue_length new.to_controller) ≡ Some reason → Stops asset most (Taking s ∷ []) (stop.Cut reason) (scene old pair desk) (scene new pair' desk')
+  full_stops may takes reason full = record {
+    answers = takes.answer ∷ [];
+    adds = adds_answer (takes.answer ∷ []) takes.answers.tells;
+    cause = tt;
+    does = λ first es st. (
+      one_broken asset most (Taking s) es (takes.answer ∷ []) (takes_stage asset most first es old desk.lines st few s takes.answer may takes.answers.is_taken),
+      stands_full law asset first es s takes.answer takes.answers.is_taken old desk.lines st new desk'.lines to (open_ended asset most first es old desk.lines st s may.open_still)
+          takes.answers.letters takes.answers.idles takes.hears reason full,
+    );
+  }
+
+  pub take_stops : (why : Stop) → TakesBy asset old.moment most s (take_state_of s old desk.lines pair.told) (take_state_of s new desk'.lines pair'.told) desk' (Err why) →
+      StopsBy why (scene old pair desk) (scene new pair' desk') → Stops asset most (Taking s ∷ []) why (scene old pair desk) (scene new pair' desk')
+  take_stops stop.Idle (may, full, same) cause = record {
+    answers = Idle s ∷ [];
+    adds = adds_answer (Idle s ∷ []) (ap (λ (x : TakeState). x.told) same);
+    cause = cause;
+    does = λ first es st. (
+      one_broken asset most (Taking s) es (Idle s ∷ []) (takes_stage asset most first es old desk.lines st few s (Idle s) may refl),
+      (
+        stands_silent asset first es (Idle s ∷ []) old new desk.lines desk'.lines st
+            (silent_idle s old new desk.lines desk'.lines to (ap (λ (x : TakeState). x.state) same) (ap (λ (x : TakeState). x.rest) same) (ap (λ (x : TakeState). x.letters) same) (ap (λ (x : TakeState). x.idle) same)),
+        full,
+      ),
+    );
+  }
+  take_stops stop.Link same cause = record {
+    answers = [];
+    adds = adds_answer [] (ap (λ (x : TakeState). x.told) same ∙ with_none pair.told);
+    cause = cause;
+    does = λ first es st. (
+      breaks_nothing asset most (Taking s ∷ []) es,
+      (
+        stands_silent asset first es [] old new desk.lines desk'.lines st
+            (silent_none s old new desk.lines desk'.lines to (ap (λ (x : TakeState). x.state) same) (ap (λ (x : TakeState). x.rest) same) (ap (λ (x : TakeState). x.letters) same) (ap (λ (x : TakeState). x.idle) same)),
+        subst (λ (n : ℕ). n < most) (sym (ap (λ (x : TakeState). x.idle) same)) few,
+      ),
+    );
+  }
+  take_stops stop.Write (may, (answer, answers, misses)) cause = record {
+    answers = answer ∷ [];
+    adds = adds_answer (answer ∷ []) answers.tells;
+    cause = cause;
+    does = λ first es st. (
+      one_broken asset most (Taking s) es (answer ∷ []) (takes_stage asset most first es old desk.lines st few s answer may answers.is_taken),
+      stands_missed law asset first es s answer answers.is_taken old desk.lines st desk' misses,
+    );
+  }
+  take_stops (stop.Cut reason) (may, takes) cause = record {
+    answers = takes.answer ∷ [];
+    adds = adds_answer (takes.answer ∷ []) takes.answers.tells;
+    cause = cause;
+    does = λ first es st. (
+      one_broken asset most (Taking s) es (takes.answer ∷ []) (takes_stage asset most first es old desk.lines st few s takes.answer may takes.answers.is_taken),
+      stands_cut law asset first es s takes.answer takes.answers.is_taken old desk.lines st new desk'.lines (Some reason) to takes.hears reason
+          (λ js cuts qc qk. ap (λ c. option_or c (limit_cut LETTER_LIMIT (history_of (es ++ takes.answer ∷ [])) (stream_to asset side.Client js) (stream_to asset side.Controller js))) cuts),
+    );
+  }
+
+  letters_same : take_state_of s new desk'.lines pair'.told ≡ take_state_of s old desk.lines pair.told → (t : Side) → letters_from t new ≡ letters_from t old
+  letters_same same = by_own (λ t. letters_from t new ≡ letters_from t old) s (ap (λ (x : TakeState). x.letters) same) to.other_letters
+
+  limit_same : take_state_of s new desk'.lines pair'.told ≡ take_state_of s old desk.lines pair.told →
+      limit_by LETTER_LIMIT old.client_letters old.controller_letters (queue_length old.to_client) (queue_length old.to_controller)
+      ≡ limit_by LETTER_LIMIT new.client_letters new.controller_letters (queue_length new.to_client) (queue_length new.to_controller)
+  limit_same same =
+      ap (λ n. limit_by LETTER_LIMIT n old.controller_letters (queue_length old.to_client) (queue_length old.to_controller)) (sym (letters_same same side.Client))
+      ∙ ap (λ n. limit_by LETTER_LIMIT new.client_letters n (queue_length old.to_client) (queue_length old.to_controller)) (sym (letters_same same side.Controller))
+      ∙ ap (λ (q : Queue). limit_by LETTER_LIMIT new.client_letters new.controller_letters (queue_length q) (queue_length old.to_controller)) (sym (ap (λ (x : TakeState). x.state.to_client) same))
+      ∙ ap (λ (q : Queue). limit_by LETTER_LIMIT new.client_letters new.controller_letters (queue_length new.to_client) (queue_length q)) (sym (ap (λ (x : TakeState). x.state.to_controller) same))
+
+  -- a side that was passed over leaves what it was, which was short
+  pub limit_goes : (x : Unit {0}) (r : Result Unit Stop) → TakesBy asset old.moment most s (take_state_of s old desk.lines pair.told) (take_state_of s new desk'.lines pair'.told) desk' (Ok x) →
+      limit_by LETTER_LIMIT old.client_letters old.controller_letters (queue_length old.to_client) (queue_length old.to_controller) ≡ None →
+      LimitBy new.client_letters new.controller_letters (queue_length new.to_client) (queue_length new.to_controller) r →
+      OnOk r (Goes asset most (Taking s ∷ []) (scene old pair desk) (scene new pair' desk')) × IfErr r (λ why. Stops asset most (Taking s ∷ []) why (scene old pair desk) (scene new pair' desk'))
+  limit_goes x (Ok y) (inl (never, same)) short limit = (skip_goes same never, tt)
+  limit_goes x (Ok y) (inr (may, goes, takes)) short limit = (take_goes may takes limit, tt)
+  limit_goes x (Err stop.Idle) takes short limit = absurd limit
+  limit_goes x (Err stop.Link) takes short limit = absurd limit
+  limit_goes x (Err stop.Write) takes short limit = absurd limit
+  limit_goes x (Err (stop.Cut reason)) (inl (never, same)) short limit = absurd (none_some _ reason (sym (limit_same same) ∙ short) limit)
+  limit_goes x (Err (stop.Cut reason)) (inr (may, goes, takes)) short limit = (tt, full_stops may takes reason limit)

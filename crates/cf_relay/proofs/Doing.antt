@@ -1,0 +1,318 @@
+-- What the code does between two places is a stage that is done, or one that breaks off.
+use Rattle.std.proofs.Common.{Bool, Err, List, Ok, Option, [], ap, arith, false, inl, inr, length, map, max, refl, subst, sym, true, ℕ, ◌++◌, ◌+◌, ◌<◌, ◌∙◌, ◌∷◌, ◌≡◌, ◌≤◌, ◌||◌, ◌⊎◌}
+use Rattle.std.specs.List.{flat_map, list_any}
+use Rattle.std.proofs.lemmas.List.{append-nil}
+use Rattle.cf_lane.specs.Output.{other}
+use Rattle.cf_outq.specs.SendQueue.{IsQueueOf, Queue}
+use Rattle.cf_outside.specs.Desk.{DeskValue}
+use Rattle.cf_outside.specs.Faults.{Rose}
+use Rattle.cf_outside.specs.Pair.{Entry, Finished, Idle, Moment, Took, with_entry}
+use Rattle.cf_policy.specs.declared.Asset.{Asset}
+use Rattle.cf_stream.specs.Stream.{Stream}
+use Rattle.cf_view.specs.declared.Side.{Side}
+use Rattle.cf_view.specs.declared.Side.TheVariants as side
+use Rattle.cf_relay.proofs.Giving.{given_more, with_none}
+use Rattle.cf_relay.proofs.Hearing.{or_false}
+use Rattle.cf_relay.proofs.Lists.{closes_more, history_more, met_more, told_more}
+use Rattle.cf_relay.proofs.Scenes.{writes_none}
+use Rattle.cf_relay.proofs.Stages.{begins_stage, breaks_nothing, finishes_stage, gives_stage, no_finish, one_broken, one_stage, tells_stage}
+use Rattle.cf_relay.proofs.Standing.{Silent, stands_silent}
+use Rattle.cf_relay.specs.Answers.{closes, given, greatest, history_after, is_finished, met_in, moment_of, moments}
+use Rattle.cf_relay.specs.Gave.{FinishesBy, Gave, GaveBy, IsLast}
+use Rattle.cf_relay.specs.Relaying.{AreClosed, RelayingValue, is_closed, letters_from, queue_to, rests_of}
+use Rattle.cf_relay.specs.Scene.{Goes, PairValue, RoseBy, Stops, StopsBy, scene}
+use Rattle.cf_relay.specs.Stands.{StandsFor}
+use Rattle.cf_relay.specs.Turn.{BeginsToGive, Finishing, Giving, GivesQueued, HasBytes, Stage, Telling}
+use Rattle.cf_relay.specs.declared.stop.Stop.{Stop}
+use Rattle.cf_relay.specs.declared.stop.Stop.TheVariants as stop
+
+-- ---- both sides
+
+-- a fact of both sides
+pub by_side : (P : Side → Type 0) → P side.Client → P side.Controller → (t : Side) → P t
+by_side P p q side.Client = p
+by_side P p q side.Controller = q
+
+pub by_own : (P : Side → Type 0) (s : Side) → P s → P (other s) → (t : Side) → P t
+by_own P side.Client p q side.Client = p
+by_own P side.Client p q side.Controller = q
+by_own P side.Controller p q side.Client = q
+by_own P side.Controller p q side.Controller = p
+
+-- ---- silent answers
+
+greatest_more : (xs : List ℕ) (m : ℕ) → greatest (xs ++ m ∷ []) ≡ max (greatest xs) m
+greatest_more [] m = omega arith
+greatest_more (x ∷ xs) m = omega (arith, greatest_more xs m)
+
+silent_moment : (old : RelayingValue) (log : Option (List (List ℕ))) (m : ℕ) → Silent (Moment m ∷ []) old (record old { moment = max old.moment m }) log log
+silent_moment old log m = record {
+  history = λ earlier. refl;
+  met = refl;
+  lane = refl;
+  same_log = refl;
+  rests = refl;
+  letters = by_side (λ t. letters_from t (record old { moment = max old.moment m }) ≡ letters_from t old) refl refl;
+  stands = λ t w. by_side (λ t. IsQueueOf (queue_to t old) w → IsQueueOf (queue_to t (record old { moment = max old.moment m })) w) (λ q. q) (λ q. q) t;
+  ended = by_side (λ t. (queue_to t (record old { moment = max old.moment m })).ended ≡ (queue_to t old).ended) refl refl;
+  kept = by_side (λ t. (queue_to t old).kept ≡ [] ++ (queue_to t (record old { moment = max old.moment m })).kept) refl refl;
+  acked = by_side (λ t. (queue_to t (record old { moment = max old.moment m })).acked ≡ (queue_to t old).acked + 0) (omega arith) (omega arith);
+  closed = λ es t e. by_side (λ t. is_closed t (record old { moment = max old.moment m }) ≡ is_closed t old) refl refl t ∙ e ∙ sym (closes_more t es (Moment m ∷ []) ∙ or_false (is_finished t es));
+  done = λ t is. inl (by_side (λ t. is_closed t old ≡ is_closed t (record old { moment = max old.moment m })) refl refl t ∙ is);
+  moment = λ es e. ap (λ n. max n m) e ∙ sym (greatest_more (moments es) m) ∙ ap greatest (sym (told_more es (Moment m ∷ [])));
+  idle = refl;
+}
+
+-- nothing of the relay changed but the queue to a side and the number of answers Idle
+pub record GivesTo (s : Side) (old new : RelayingValue) : Type 0 where
+  pub lane : new.lane ≡ old.lane
+  pub rests : rests_of new ≡ rests_of old
+  pub letters : (t : Side) → letters_from t new ≡ letters_from t old
+  pub closed : (t : Side) → is_closed t new ≡ is_closed t old
+  pub moment : new.moment ≡ old.moment
+  pub same : queue_to (other s) new ≡ queue_to (other s) old
+
+-- five facts of a list of answers that gives to a side
+pub record IsGiving (s : Side) (answers : List Entry) : Type 0 where
+  pub history : (earlier : List Entry) → history_after earlier answers ≡ []
+  pub met : flat_map met_in answers ≡ []
+  pub told : moments answers ≡ []
+  pub closes_nothing : (t : Side) → list_any (closes t) answers ≡ false
+  pub others : given (other s) answers ≡ []
+
+took_history : (s : Side) (pieces : List (List ℕ)) (earlier : List Entry) → history_after earlier (map (Took s) pieces) ≡ []
+took_history s [] earlier = refl
+took_history s (p ∷ pieces) earlier = took_history s pieces (earlier ++ Took s p ∷ [])
+
+took_met : (s : Side) (pieces : List (List ℕ)) → flat_map met_in (map (Took s) pieces) ≡ []
+took_met s [] = refl
+took_met s (p ∷ pieces) = took_met s pieces
+
+took_told : (s : Side) (pieces : List (List ℕ)) → moments (map (Took s) pieces) ≡ []
+took_told s [] = refl
+took_told s (p ∷ pieces) = took_told s pieces
+
+took_closes : (s t : Side) (pieces : List (List ℕ)) → list_any (closes t) (map (Took s) pieces) ≡ false
+took_closes s t [] = refl
+took_closes s t (p ∷ pieces) = took_closes s t pieces
+
+took_other : (s : Side) (pieces : List (List ℕ)) → given (other s) (map (Took s) pieces) ≡ []
+took_other s [] = refl
+took_other side.Client (p ∷ pieces) = took_other side.Client pieces
+took_other side.Controller (p ∷ pieces) = took_other side.Controller pieces
+
+giving_pieces : (s : Side) (pieces : List (List ℕ)) → IsGiving s (map (Took s) pieces)
+giving_pieces s pieces = record {
+  history = took_history s pieces;
+  met = took_met s pieces;
+  told = took_told s pieces;
+  closes_nothing = λ t. took_closes s t pieces;
+  others = took_other s pieces;
+}
+
+giving_idle : (s : Side) (pieces : List (List ℕ)) → IsGiving s (map (Took s) pieces ++ Idle s ∷ [])
+giving_idle s pieces = record {
+  history = λ earlier. history_more earlier (map (Took s) pieces) (Idle s ∷ []) ∙ ap (λ h. h ++ []) (took_history s pieces earlier);
+  met = met_more (map (Took s) pieces) (Idle s ∷ []) ∙ ap (λ h. h ++ []) (took_met s pieces);
+  told = told_more (map (Took s) pieces) (Idle s ∷ []) ∙ ap (λ h. h ++ []) (took_told s pieces);
+  closes_nothing = λ t. closes_more t (map (Took s) pieces) (Idle s ∷ []) ∙ ap (λ b. b || false) (took_closes s t pieces);
+  others = given_more (other s) (map (Took s) pieces) (Idle s ∷ []) ∙ ap (λ h. h ++ []) (took_other s pieces);
+}
+
+giving_until : (s : Side) (pieces : List (List ℕ)) (rest : List ℕ) (answers : List Entry) →
+    ((rest ≡ []) × (answers ≡ map (Took s) pieces)) ⊎ (HasBytes rest × (answers ≡ map (Took s) pieces ++ Idle s ∷ [])) → IsGiving s answers
+giving_until s pieces rest answers (inl (none, e)) = subst (IsGiving s) (sym e) (giving_pieces s pieces)
+giving_until s pieces rest answers (inr (some, e)) = subst (IsGiving s) (sym e) (giving_idle s pieces)
+
+giving_all : (s : Side) (queued : List ℕ) (answers : List Entry) → GivesQueued s queued answers → IsGiving s answers
+giving_all s queued answers g = giving_until s g.pieces g.rest answers g.until
+
+giving_begun : (s : Side) (queued : List ℕ) (answers : List Entry) → BeginsToGive s queued answers → IsGiving s answers
+giving_begun s queued answers g = subst (IsGiving s) (sym g.all) (giving_pieces s g.pieces)
+
+silent_gives : (s : Side) (old new : RelayingValue) (log : Option (List (List ℕ))) (told told' : Option (List Entry)) (answers : List Entry) → IsGiving s answers → GivesTo s old new →
+    Gave s (queue_to s old) (queue_to s new) told told' old.idle new.idle answers → ((w : Stream) → IsQueueOf (queue_to s old) w → IsQueueOf (queue_to s new) w) → Silent answers old new log log
+silent_gives s old new log told told' answers is to gave stands = record {
+  history = is.history;
+  met = is.met;
+  lane = to.lane;
+  same_log = refl;
+  rests = to.rests;
+  letters = to.letters;
+  stands = λ t w. by_own (λ t. IsQueueOf (queue_to t old) w → IsQueueOf (queue_to t new) w) s (stands w) (λ q. subst (λ (k : Queue). IsQueueOf k w) (sym to.same) q) t;
+  ended = by_own (λ t. (queue_to t new).ended ≡ (queue_to t old).ended) s gave.ended (ap (λ (k : Queue). k.ended) to.same);
+  kept = by_own (λ t. (queue_to t old).kept ≡ given t answers ++ (queue_to t new).kept) s gave.kept (ap (λ (k : Queue). k.kept) (sym to.same) ∙ ap (λ xs. xs ++ (queue_to (other s) new).kept) (sym is.others));
+  acked = by_own (λ t. (queue_to t new).acked ≡ (queue_to t old).acked + length (given t answers)) s gave.acked (omega (arith, ap (λ (k : Queue). k.acked) to.same, ap length is.others));
+  done = λ t is. inl (sym (to.closed t) ∙ is);
+  closed = λ es t e. to.closed t ∙ e ∙ sym (closes_more t es answers ∙ ap (λ b. is_finished t es || b) (is.closes_nothing t) ∙ or_false (is_finished t es));
+  moment = λ es e. to.moment ∙ e ∙ ap greatest (sym (told_more es answers ∙ ap (λ ms. moments es ++ ms) is.told ∙ append-nil (moments es)));
+  idle = gave.counts;
+}
+
+-- ---- telling
+
+pub tell_goes : (asset : Asset) (most : ℕ) (old : RelayingValue) (pair pair' : PairValue) (desk : DeskValue) (m now : ℕ) → now ≡ max old.moment m → old.idle < most → (AreClosed old → ⊥) → pair'.told ≡ with_entry pair.told (Moment m) →
+    pair.faults ≤ pair'.faults → pair'.idles ≡ pair.idles → Goes asset most (Telling ∷ []) (scene old pair desk) (scene (record old { moment = now }) pair' desk)
+tell_goes asset most old pair pair' desk m now is few still e later same =
+    subst (λ n. Goes asset most (Telling ∷ []) (scene old pair desk) (scene (record old { moment = n }) pair' desk)) (sym is) (record {
+      answers = Moment m ∷ [];
+      adds = record { tells = e; link = later; idles = λ start r. omega (arith, r, same); log = writes_none desk };
+      does = λ first es st. (
+        one_stage asset most Telling es (Moment m ∷ []) (tells_stage asset most first es old desk.lines st few still m),
+        stands_silent asset first es (Moment m ∷ []) old (record old { moment = max old.moment m }) desk.lines desk.lines st (silent_moment old desk.lines m),
+      );
+    })
+
+-- nothing was done, and a call on the pair failed
+pub link_stops : (asset : Asset) (most : ℕ) (ps : List Stage) (old : RelayingValue) (pair pair' : PairValue) (desk : DeskValue) → old.idle < most → pair'.told ≡ pair.told → Rose pair.faults pair'.faults →
+    pair'.idles ≡ pair.idles → pair.faults ≤ pair'.faults → Stops asset most ps stop.Link (scene old pair desk) (scene old pair' desk)
+link_stops asset most ps old pair pair' desk few e rose same later = record {
+  answers = [];
+  adds = record { tells = e ∙ with_none pair.told; link = later; idles = λ start r. omega (arith, r, same); log = writes_none desk };
+  cause = rose;
+  does = λ first es st. (breaks_nothing asset most ps es, (subst (λ (x : List Entry). StandsFor asset first x old desk.lines) (sym (append-nil es)) st, few));
+}
+
+-- ---- giving
+
+module _ (asset : Asset) (most : ℕ) (s : Side) (old new : RelayingValue) (pair pair' : PairValue) (desk : DeskValue) (few : old.idle < most) (to : GivesTo s old new)
+    (stands : (w : Stream) → IsQueueOf (queue_to s old) w → IsQueueOf (queue_to s new) w) (later : pair.faults ≤ pair'.faults)
+    (idles : (start : ℕ) → RoseBy old.idle start pair.idles → RoseBy new.idle start pair'.idles) where
+  pub give_goes : (x : Unit {0}) → GaveBy s most (queue_to s old) (queue_to s new) pair.told pair'.told old.idle new.idle (Ok x) → Goes asset most (Giving s ∷ []) (scene old pair desk) (scene new pair' desk)
+  give_goes x (answers, gave, gives, goes) = record {
+    answers = answers;
+    adds = record { tells = gave.tells; link = later; idles = idles; log = writes_none desk };
+    does = λ first es st. (
+      one_stage asset most (Giving s) es answers (gives_stage asset most first es old desk.lines st few s answers gives),
+      stands_silent asset first es answers old new desk.lines desk.lines st (silent_gives s old new desk.lines pair.told pair'.told answers (giving_all s (queue_to s old).kept answers gives) to gave stands),
+    );
+  }
+
+  pub give_stops : (why : Stop) → GaveBy s most (queue_to s old) (queue_to s new) pair.told pair'.told old.idle new.idle (Err why) → StopsBy why (scene old pair desk) (scene new pair' desk) →
+      Stops asset most (Giving s ∷ []) why (scene old pair desk) (scene new pair' desk)
+  give_stops stop.Idle (answers, gave, gives, full) cause = record {
+    answers = answers;
+    adds = record { tells = gave.tells; link = later; idles = idles; log = writes_none desk };
+    cause = cause;
+    does = λ first es st. (
+      one_broken asset most (Giving s) es answers (gives_stage asset most first es old desk.lines st few s answers gives),
+      (stands_silent asset first es answers old new desk.lines desk.lines st (silent_gives s old new desk.lines pair.told pair'.told answers (giving_all s (queue_to s old).kept answers gives) to gave stands), full),
+    );
+  }
+  give_stops stop.Link (answers, gave, begins, goes) cause = record {
+    answers = answers;
+    adds = record { tells = gave.tells; link = later; idles = idles; log = writes_none desk };
+    cause = cause;
+    does = λ first es st. (
+      inl (begins_stage asset most first es old desk.lines st few s answers begins),
+      (stands_silent asset first es answers old new desk.lines desk.lines st (silent_gives s old new desk.lines pair.told pair'.told answers (giving_begun s (queue_to s old).kept answers begins) to gave stands), goes),
+    );
+  }
+  give_stops stop.Write gave cause = absurd gave
+  give_stops (stop.Cut reason) gave cause = absurd gave
+
+-- ---- closing
+
+-- nothing of the relay changed but that a side was closed
+pub record ClosesTo (s : Side) (old new : RelayingValue) : Type 0 where
+  pub lane : new.lane ≡ old.lane
+  pub rests : rests_of new ≡ rests_of old
+  pub letters : (t : Side) → letters_from t new ≡ letters_from t old
+  pub queues : (t : Side) → queue_to t new ≡ queue_to t old
+  pub others : is_closed (other s) new ≡ is_closed (other s) old
+  pub moment : new.moment ≡ old.moment
+  pub idle : new.idle ≡ old.idle
+
+own_close : (s : Side) → closes s (Finished s) ≡ true
+own_close side.Client = refl
+own_close side.Controller = refl
+
+other_close : (s : Side) → closes (other s) (Finished s) ≡ false
+other_close side.Client = refl
+other_close side.Controller = refl
+
+or_own : (a b : Bool) → b ≡ true → (a || (b || false)) ≡ true
+or_own true true e = refl
+or_own false true e = refl
+or_own true false e = cc
+or_own false false e = cc
+
+or_none : (a b : Bool) → b ≡ false → (a || (b || false)) ≡ a
+or_none true true e = refl
+or_none false true e = e
+or_none true false e = refl
+or_none false false e = refl
+
+silent_close : (s : Side) (old new : RelayingValue) (log : Option (List (List ℕ))) → ClosesTo s old new → is_closed s new ≡ true → IsLast (queue_to s old) (is_closed s old) → Silent (Finished s ∷ []) old new log log
+silent_close s old new log to closed last = record {
+  done = by_own (λ t. is_closed t new ≡ true → (is_closed t old ≡ true) ⊎ (((queue_to t new).kept ≡ []) × ((queue_to t new).ended ≡ true))) s
+      (λ is. inr (ap (λ (k : Queue). k.kept) (to.queues s) ∙ last.0, ap (λ (k : Queue). k.ended) (to.queues s) ∙ last.1)) (λ is. inl (sym to.others ∙ is));
+  history = λ earlier. refl;
+  met = refl;
+  lane = to.lane;
+  same_log = refl;
+  rests = to.rests;
+  letters = to.letters;
+  stands = λ t w q. subst (λ (k : Queue). IsQueueOf k w) (sym (to.queues t)) q;
+  ended = λ t. ap (λ (k : Queue). k.ended) (to.queues t);
+  kept = λ t. ap (λ (k : Queue). k.kept) (sym (to.queues t));
+  acked = λ t. omega (arith, ap (λ (k : Queue). k.acked) (to.queues t));
+  closed = λ es t e. by_own (λ t. is_closed t old ≡ is_finished t es → is_closed t new ≡ is_finished t (es ++ Finished s ∷ [])) s
+      (λ e. closed ∙ sym (closes_more s es (Finished s ∷ []) ∙ or_own (is_finished s es) (closes s (Finished s)) (own_close s)))
+      (λ e. to.others ∙ e ∙ sym (closes_more (other s) es (Finished s ∷ []) ∙ or_none (is_finished (other s) es) (closes (other s) (Finished s)) (other_close s))) t e;
+  moment = λ es e. to.moment ∙ e ∙ ap greatest (sym (told_more es (Finished s ∷ []) ∙ append-nil (moments es)));
+  idle = to.idle;
+}
+
+silent_same : (s : Side) (old new : RelayingValue) (log : Option (List (List ℕ))) → ClosesTo s old new → is_closed s new ≡ is_closed s old → Silent [] old new log log
+silent_same s old new log to closed = record {
+  done = λ t is. inl (sym (by_own (λ t. is_closed t new ≡ is_closed t old) s closed to.others t) ∙ is);
+  history = λ earlier. refl;
+  met = refl;
+  lane = to.lane;
+  same_log = refl;
+  rests = to.rests;
+  letters = to.letters;
+  stands = λ t w q. subst (λ (k : Queue). IsQueueOf k w) (sym (to.queues t)) q;
+  ended = λ t. ap (λ (k : Queue). k.ended) (to.queues t);
+  kept = λ t. ap (λ (k : Queue). k.kept) (sym (to.queues t));
+  acked = λ t. omega (arith, ap (λ (k : Queue). k.acked) (to.queues t));
+  closed = λ es t e. by_own (λ t. is_closed t new ≡ is_closed t old) s closed to.others t ∙ e ∙ ap (is_finished t) (sym (append-nil es));
+  moment = λ es e. to.moment ∙ e ∙ ap moment_of (sym (append-nil es));
+  idle = to.idle;
+}
+
+module _ (asset : Asset) (most : ℕ) (s : Side) (old new : RelayingValue) (pair pair' : PairValue) (desk : DeskValue) (few : old.idle < most) (to : ClosesTo s old new)
+    (later : pair.faults ≤ pair'.faults) (same : pair'.idles ≡ pair.idles) where
+  pub finish_goes : (x : Unit {0}) → FinishesBy s (queue_to s old) (is_closed s old) (is_closed s new) pair.told pair'.told (Ok x) → Goes asset most (Finishing s ∷ []) (scene old pair desk) (scene new pair' desk)
+  finish_goes x (inl (last, closed, tells)) = record {
+    answers = Finished s ∷ [];
+    adds = record { tells = tells; link = later; idles = λ start r. omega (arith, r, same, to.idle); log = writes_none desk };
+    does = λ first es st. (
+      one_stage asset most (Finishing s) es (Finished s ∷ []) (finishes_stage asset most first es old desk.lines st few s last),
+      stands_silent asset first es (Finished s ∷ []) old new desk.lines desk.lines st (silent_close s old new desk.lines to closed last),
+    );
+  }
+  finish_goes x (inr (never, closed, tells)) = record {
+    answers = [];
+    adds = record { tells = tells ∙ with_none pair.told; link = later; idles = λ start r. omega (arith, r, same, to.idle); log = writes_none desk };
+    does = λ first es st. (
+      one_stage asset most (Finishing s) es [] (no_finish asset most first es old desk.lines st few s never),
+      stands_silent asset first es [] old new desk.lines desk.lines st (silent_same s old new desk.lines to closed),
+    );
+  }
+
+  pub finish_stops : (why : Stop) → FinishesBy s (queue_to s old) (is_closed s old) (is_closed s new) pair.told pair'.told (Err why) → StopsBy why (scene old pair desk) (scene new pair' desk) →
+      Stops asset most (Finishing s ∷ []) why (scene old pair desk) (scene new pair' desk)
+  finish_stops stop.Link (closed, tells) cause = record {
+    answers = [];
+    adds = record { tells = tells ∙ with_none pair.told; link = later; idles = λ start r. omega (arith, r, same, to.idle); log = writes_none desk };
+    cause = cause;
+    does = λ first es st. (
+      breaks_nothing asset most (Finishing s ∷ []) es,
+      (stands_silent asset first es [] old new desk.lines desk.lines st (silent_same s old new desk.lines to closed), omega (arith, few, to.idle)),
+    );
+  }
+  finish_stops stop.Idle none cause = absurd none
+  finish_stops stop.Write none cause = absurd none
+  finish_stops (stop.Cut reason) none cause = absurd none

@@ -1,0 +1,156 @@
+-- What a desk over a log tells, as what stands in the file.
+use Rattle.std.proofs.Common.{Bool, Err, List, None, Ok, Result, Some, [], ap, arith, drop, false, inl, inr, length, refl, subst, suc, sym, take, true, zero, ℕ, ◌&&◌, ◌++◌, ◌+◌, ◌<◌, ◌∙◌, ◌∷◌, ◌≡◌, ◌⊎◌, not}
+use Rattle.std.specs.List.{concat}
+use Rattle.std.proofs.lemmas.List.{append_assoc}
+use Rattle.std.proofs.lemmas.Option.{same_Some}
+use Rattle.cf_lane.specs.Log.{with_lines}
+use Rattle.cf_outside.proofs.Lines.{file_lines-whole, lines_from-rest}
+use Rattle.cf_outside.specs.Files.{Content, IsPartly, absent, content_after_create, content_after_write, holds, untold}
+use Rattle.cf_outside.specs.Lines.{ends_with_line, file_lines, file_part, lines_from, rest_from}
+use Rattle.cf_outside.specs.Pair.{Entry}
+use Rattle.cf_policy.specs.declared.Asset.{Asset}
+use Rattle.cf_relay.proofs.Ending.{empty_judged, relayed_none}
+use Rattle.cf_relay.specs.Closing.{BeginsLines}
+use Rattle.cf_relay.specs.Ends.{EndsBy, IsMemoryEnd, IsTold, IsWriteEnd, Log, RelayEnds, file_log}
+use Rattle.cf_relay.specs.declared.done.RelayDone.{RelayDone}
+use Rattle.cf_relay.specs.declared.done.RelayEnd.{RelayEnd}
+use Rattle.cf_relay.specs.declared.done.RelayEnd.TheVariants as ends
+use Rattle.cf_relay.specs.declared.done.RelayFault.{RelayFault}
+use Rattle.cf_relay.specs.declared.done.RelayFault.TheVariants as fault
+
+-- ---- another log
+
+module _ (asset : Asset) (most : ℕ) (P Q : Log) (es : List Entry) (all : (ls : List (List ℕ)) → P.Holds ls → Q.Holds ls) (some : (ls : List (List ℕ)) → P.Begins ls → Q.Begins ls) where
+  end_over : (done : RelayDone) (end : RelayEnd) → EndsBy asset most P es done end → EndsBy asset most Q es done end
+  end_over done ends.Done h = record { turns = h.turns; does = h.does; goes = h.goes; all = h.all; counts = h.counts; holds_log = all _ h.holds_log }
+  end_over done ends.IdleEnd h = record {
+    judged = h.judged;
+    relayed = h.relayed;
+    are_items = h.are_items;
+    uncut = h.uncut;
+    idle = h.idle;
+    prefixes = h.prefixes;
+    counts = h.counts;
+    holds_log = all _ h.holds_log;
+  }
+  end_over done (ends.Cut reason) h = record {
+    judged = h.judged;
+    relayed = h.relayed;
+    are_items = h.are_items;
+    is_cut = h.is_cut;
+    prefixes = h.prefixes;
+    counts = h.counts;
+    holds_log = all _ h.holds_log;
+  }
+
+  memory_over : (same : Type 0) → IsMemoryEnd (P.Holds []) ⊥ es → IsMemoryEnd (Q.Holds []) same es
+  memory_over same (inl none) = absurd none.1
+  memory_over same (inr (met, created)) = inr (met, all [] created)
+
+  pub ends_over : (same : Type 0) (r : Result RelayDone RelayFault) → RelayEnds asset most P ⊥ es r → RelayEnds asset most Q same es r
+  ends_over same (Ok done) h = end_over done done.end h
+  ends_over same (Err fault.Link) h = record { relayed = h.relayed; goes = h.goes; prefixes = h.prefixes; holds_log = all _ h.holds_log }
+  ends_over same (Err fault.Write) h = record {
+    relayed = h.relayed;
+    history = h.history;
+    is_short = h.is_short;
+    judged = h.judged;
+    are_judged = h.are_judged;
+    prefixes = h.prefixes;
+    last = h.last;
+    is_last = h.is_last;
+    begins = some _ h.begins;
+  }
+  ends_over same (Err fault.NoMemory) h = memory_over same h
+
+-- ---- the file
+
+some_none : {A : Type 0} {B : Type 0} (x : A) → None ≡ Some x → B
+some_none x e = cc
+
+told_lines : (new : Content) (ls : List (List ℕ)) → file_lines new ≡ Some ls → (bytes : List ℕ) × (new ≡ holds bytes) × (lines_from [] bytes ≡ ls)
+told_lines untold ls e = some_none ls e
+told_lines absent ls e = some_none ls e
+told_lines (holds bytes) ls e = (bytes, refl, same_Some _ _ e)
+
+created_lines : (first : Content) (ls : List (List ℕ)) → IsTold first → with_lines (file_lines (content_after_create first)) ls ≡ Some ls
+created_lines untold ls told = absurd told
+created_lines absent ls told = refl
+created_lines (holds bytes) ls told = refl
+
+created_write : (first : Content) (bytes : List ℕ) → IsTold first → content_after_write first bytes ≡ holds bytes
+created_write untold bytes told = absurd told
+created_write absent bytes told = refl
+created_write (holds all) bytes told = refl
+
+lines_now : (first old new : Content) (ls : List (List ℕ)) → old ≡ content_after_create first → file_lines new ≡ with_lines (file_lines old) ls → IsTold first → file_lines new ≡ Some ls
+lines_now first old new ls created e told = e ∙ ap (λ x. with_lines (file_lines x) ls) created ∙ created_lines first ls told
+
+pub holds_file : (first old new : Content) (ls : List (List ℕ)) → old ≡ content_after_create first → file_lines new ≡ with_lines (file_lines old) ls → ends_with_line new ≡ true → IsTold first →
+    new ≡ content_after_write first (concat ls)
+holds_file first old new ls created e whole told = file_lines-whole new ls (lines_now first old new ls created e told) whole ∙ sym (created_write first (concat ls) told)
+
+concat_split : (n : ℕ) (ls : List (List ℕ)) → concat ls ≡ concat (take n ls) ++ concat (drop n ls)
+concat_split zero ls = refl
+concat_split (suc n) [] = refl
+concat_split (suc n) (x ∷ ls) = ap (λ xs. x ++ xs) (concat_split n ls) ∙ sym (append_assoc x (concat (take n ls)) (concat (drop n ls)))
+
+take_prefix : (xs ys : List ℕ) (k : ℕ) → take (length xs + k) (xs ++ ys) ≡ xs ++ take k ys
+take_prefix [] ys k = let e : 0 + k ≡ k = omega arith in ap (λ n. take n ys) e
+take_prefix (x ∷ xs) ys k = let e : length (x ∷ xs) + k ≡ suc (length xs + k) = omega arith in ap (λ n. take n (x ∷ (xs ++ ys))) e ∙ ap (λ zs. x ∷ zs) (take_prefix xs ys k)
+
+pub begins_file : (first old new : Content) (ls : List (List ℕ)) → old ≡ content_after_create first → BeginsLines (file_lines old) (file_lines new) (file_part new) ls → IsTold first → IsPartly (concat ls) first new
+begins_file first old new ls created (count, some, e, d) told =
+    let f = told_lines new (take count ls) (lines_now first old new (take count ls) created e told) in
+    let rest : rest_from [] f.0 ≡ take some (concat (drop count ls)) = ap file_part (sym f.1) ∙ d in
+    let whole : f.0 ≡ concat (take count ls) ++ take some (concat (drop count ls)) =
+    sym (lines_from-rest [] f.0) ∙ ap (λ zs. concat zs ++ rest_from [] f.0) f.2 ∙ ap (λ xs. concat (take count ls) ++ xs) rest in
+    let part : f.0 ≡ take (length (concat (take count ls)) + some) (concat ls) =
+    whole ∙ sym (take_prefix (concat (take count ls)) (concat (drop count ls)) some) ∙ ap (take (length (concat (take count ls)) + some)) (sym (concat_split count ls)) in
+    inr (length (concat (take count ls)) + some, f.1 ∙ ap holds part ∙ sym (created_write first (take (length (concat (take count ls)) + some) (concat ls)) told))
+
+pub both_true : (a b : Bool) → (not a && b) ≡ true → b ≡ true
+both_true true b e = cc
+both_true false b e = e
+
+cons_head : (x y : List ℕ) → (let l : List (List ℕ) = x ∷ [] in l) ≡ y ∷ [] → x ≡ y
+cons_head x y e = cc
+
+-- what stands in a file behind the last write through a lent reference
+pub last_content : {F : Type 0} (content : F → List ℕ → Content) (x now : F) (log log' : List ℕ) (P : Content → Type 0) → x ≡ now → (let l : List (List ℕ) = log' ∷ [] in l) ≡ log ∷ [] → P (content now log') → P (content x log)
+last_content content x now log log' P last name p =
+    subst (λ z. P (content z log)) (sym last) (subst (λ n. P (content now n)) (cons_head log' log name) p)
+
+-- the creation failed
+created_empty : (first : Content) → content_after_create first ≡ content_after_write first []
+created_empty untold = refl
+created_empty absent = refl
+created_empty (holds all) = refl
+
+pub write_first : (asset : Asset) (most : ℕ) (first new : Content) → 0 < most → (new ≡ first) ⊎ (new ≡ content_after_create first) → IsWriteEnd asset most (file_log first new) []
+write_first asset most first new few (inl same) = record {
+  relayed = relayed_none asset most few;
+  history = [];
+  is_short = inl refl;
+  judged = [];
+  are_judged = empty_judged asset 0;
+  prefixes = λ s. ([], refl);
+  last = [];
+  is_last = inl refl;
+  begins = λ told. inl same;
+}
+write_first asset most first new few (inr created) = record {
+  relayed = relayed_none asset most few;
+  history = [];
+  is_short = inl refl;
+  judged = [];
+  are_judged = empty_judged asset 0;
+  prefixes = λ s. ([], refl);
+  last = [];
+  is_last = inl refl;
+  begins = λ told. inr (0, created ∙ created_empty first);
+}
+
+-- the same log, and nothing is known of want of memory
+pub ends_same : (asset : Asset) (m n : ℕ) (log : Log) (es : List Entry) (same : Type 0) (r : Result RelayDone RelayFault) → m ≡ n → RelayEnds asset m log ⊥ es r → RelayEnds asset n log same es r
+ends_same asset m n log es same r e h = subst (λ (k : ℕ). RelayEnds asset k log same es r) e (ends_over asset m log log es (λ ls h. h) (λ ls h. h) same r h)

@@ -1,0 +1,15 @@
+mod Asked
+mod Asking
+mod Doing
+mod Ending
+mod Files
+mod Gave
+mod Giving
+mod Hearing
+mod Lists
+mod Moving
+mod Scenes
+mod Serving
+mod Stages
+mod Standing
+mod Taking

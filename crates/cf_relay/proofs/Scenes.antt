@@ -1,0 +1,95 @@
+-- Stages that are done one after the other, and those that break off.
+use Rattle.std.proofs.Common.{Err, List, Ok, Option, Result, [], ap, append_assoc, arith, refl, subst, sym, ℕ, ◌++◌, ◌∙◌, ◌≡◌}
+use Rattle.std.specs.Prelude.{IfErr, OnOk}
+use Rattle.std.proofs.lemmas.List.{append-nil}
+use Rattle.cf_lane.specs.Handled.{WritesLog}
+use Rattle.cf_outside.proofs.Desks.{keeps_both, keeps_none}
+use Rattle.cf_outside.specs.Desk.{DeskValue}
+use Rattle.cf_outside.specs.Pair.{Entry}
+use Rattle.cf_policy.specs.declared.Asset.{Asset}
+use Rattle.cf_relay.proofs.Giving.{with_more, with_none}
+use Rattle.cf_relay.proofs.Stages.{breaks_more, does_broken, does_then}
+use Rattle.cf_relay.specs.Answers.{with_answers}
+use Rattle.cf_relay.specs.Scene.{Adds, Goes, Scene, Stops, StopsBy}
+use Rattle.cf_relay.specs.Stands.{StandsFor, StandsStopped}
+use Rattle.cf_relay.specs.Turn.{Stage}
+use Rattle.cf_relay.specs.declared.stop.Stop.{Stop}
+use Rattle.cf_relay.specs.declared.stop.Stop.TheVariants as stop
+
+pub writes_none : (d : DeskValue) → WritesLog d d
+writes_none d = record { packets = refl; packet_part = refl; stays = λ w. w; line_part = λ w. refl; keeps = keeps_none d }
+
+writes_both : (d e f : DeskValue) → WritesLog d e → WritesLog e f → WritesLog d f
+writes_both d e f h g = record {
+  packets = g.packets ∙ h.packets;
+  packet_part = g.packet_part ∙ h.packet_part;
+  stays = λ w. h.stays (g.stays w);
+  line_part = λ w. g.line_part w ∙ h.line_part (g.stays w);
+  keeps = keeps_both d e f h.keeps g.keeps;
+}
+
+adds_both : (old mid new : Scene) (xs ys : List Entry) → Adds old mid xs → Adds mid new ys → Adds old new (xs ++ ys)
+adds_both old mid new xs ys h g = record {
+  tells = g.tells ∙ ap (λ t. with_answers t ys) h.tells ∙ with_more old.pair.told xs ys;
+  link = omega (arith, h.link, g.link);
+  idles = λ start r. g.idles start (h.idles start r);
+  log = writes_both old.desk mid.desk new.desk h.log g.log;
+}
+
+pub goes_none : (asset : Asset) (most : ℕ) (now : Scene) → Goes asset most [] now now
+goes_none asset most now = record {
+  answers = [];
+  adds = record { tells = with_none now.pair.told; link = omega arith; idles = λ start r. r; log = writes_none now.desk };
+  does = λ first es st. (refl, subst (λ (x : List Entry). StandsFor asset first x now.relaying now.desk.lines) (sym (append-nil es)) st);
+}
+
+pub goes_then : (asset : Asset) (most : ℕ) (ps qs : List Stage) (old mid new : Scene) → Goes asset most ps old mid → Goes asset most qs mid new → Goes asset most (ps ++ qs) old new
+goes_then asset most ps qs old mid new h g = record {
+  answers = h.answers ++ g.answers;
+  adds = adds_both old mid new h.answers g.answers h.adds g.adds;
+  does = λ first es st.
+      let a = h.does first es st in
+      let b = g.does first (es ++ h.answers) a.1 in (
+        does_then asset most ps qs es h.answers g.answers a.0 b.0,
+        subst (λ (x : List Entry). StandsFor asset first x new.relaying new.desk.lines) (append_assoc es h.answers g.answers) b.1,
+      );
+}
+
+stopped_at : (asset : Asset) (most : ℕ) (first : Option (List (List ℕ))) (es fs : List Entry) (why : Stop) (now : Scene) → es ≡ fs →
+    StandsStopped asset most first es why now.relaying now.desk → StandsStopped asset most first fs why now.relaying now.desk
+stopped_at asset most first es fs why now e st = subst (λ (x : List Entry). StandsStopped asset most first x why now.relaying now.desk) e st
+
+cause_later : (why : Stop) (old mid new : Scene) (xs : List Entry) → Adds old mid xs → StopsBy why mid new → StopsBy why old new
+cause_later stop.Idle old mid new xs h c = tt
+cause_later (stop.Cut reason) old mid new xs h c = tt
+cause_later stop.Link old mid new xs h c = omega (arith, h.link, c)
+cause_later stop.Write old mid new xs h c = omega (arith, h.log.keeps.later, c)
+
+pub goes_stops : (asset : Asset) (most : ℕ) (ps qs : List Stage) (why : Stop) (old mid new : Scene) → Goes asset most ps old mid → Stops asset most qs why mid new → Stops asset most (ps ++ qs) why old new
+goes_stops asset most ps qs why old mid new h g = record {
+  answers = h.answers ++ g.answers;
+  adds = adds_both old mid new h.answers g.answers h.adds g.adds;
+  cause = cause_later why old mid new h.answers h.adds g.cause;
+  does = λ first es st.
+      let a = h.does first es st in
+      let b = g.does first (es ++ h.answers) a.1 in (
+        does_broken asset most ps qs es h.answers g.answers a.0 b.0,
+        stopped_at asset most first ((es ++ h.answers) ++ g.answers) (es ++ (h.answers ++ g.answers)) why new (append_assoc es h.answers g.answers) b.1,
+      );
+}
+
+pub stops_more : (asset : Asset) (most : ℕ) (ps qs : List Stage) (why : Stop) (old new : Scene) → Stops asset most ps why old new → Stops asset most (ps ++ qs) why old new
+stops_more asset most ps qs why old new h = record {
+  answers = h.answers;
+  adds = h.adds;
+  cause = h.cause;
+  does = λ first es st. let a = h.does first es st in (breaks_more asset most ps qs es h.answers a.0, a.1);
+}
+
+pub on_ok : {T : Type 0} (r : Result T Stop) (P Q : Type 0) → (P → Q) → OnOk r P → OnOk r Q
+on_ok (Ok x) P Q f p = f p
+on_ok (Err e) P Q f p = tt
+
+pub if_err : {T : Type 0} (r : Result T Stop) (P Q : Stop → Type 0) → ((e : Stop) → P e → Q e) → IfErr r P → IfErr r Q
+if_err (Ok x) P Q f p = tt
+if_err (Err e) P Q f p = f e p

@@ -1,0 +1,153 @@
+-- What the code does in a stage is that stage of the turn, for the list so far; and stages one after the other.
+use Rattle.std.proofs.Common.{Bool, List, Option, [], ap, cond, drop, false, inl, inr, length, refl, subst, sym, true, ℕ, ◌++◌, ◌+◌, ◌<◌, ◌∙◌, ◌∷◌, ◌≡◌, ◌≤◌, ◌&&◌}
+use Rattle.std.specs.Option.{option_or}
+use Rattle.std.proofs.lemmas.List.{append-nil, append_assoc}
+use Rattle.cf_lane.specs.Follows.{AreJudged}
+use Rattle.cf_lane.specs.Handled.{IsOpen}
+use Rattle.cf_lane.specs.History.{ended_of}
+use Rattle.cf_lane.specs.Limit.{limit_cut}
+use Rattle.cf_lane.specs.Output.{outputs, stream_to}
+use Rattle.cf_lane.specs.declared.limit.TheConstants.{LETTER_LIMIT}
+use Rattle.cf_outside.specs.Pair.{Entry, Finished, Moment}
+use Rattle.cf_policy.specs.declared.Asset.{Asset}
+use Rattle.cf_stream.specs.Stream.{letter_count}
+use Rattle.cf_view.specs.declared.Endpoint.{Endpoint}
+use Rattle.cf_view.specs.declared.Side.{Side}
+use Rattle.cf_view.specs.declared.Side.TheVariants as side
+use Rattle.cf_relay.specs.Answers.{history_of, is_finished}
+use Rattle.cf_relay.specs.Gave.{IsLast}
+use Rattle.cf_relay.specs.Relaying.{AreClosed, RelayingValue, is_closed, queue_to}
+use Rattle.cf_relay.specs.Stands.{StandsFor}
+use Rattle.cf_relay.specs.Taken.{MayTakeNow}
+use Rattle.cf_relay.specs.Turn.{BeginsStage, BeginsToGive, BreaksOff, Continues, DoesStages, Finishing, Giving, GivesQueued, IsStage, IsTaken, MayFinish, MayTake, Meeting, Stage, Taking, Telling, queue_of}
+
+not_both : (a b : Bool) → (a ≡ true → b ≡ true → ⊥) → (a && b) ≡ false
+not_both true true h = absurd (h refl refl)
+not_both true false h = refl
+not_both false b h = refl
+
+module _ (asset : Asset) (most : ℕ) (first : Option (List (List ℕ))) (es : List Entry) (now : RelayingValue) (log : Option (List (List ℕ))) (st : StandsFor asset first es now log) where
+  unfoldable pub goes_on : now.idle < most → Continues asset most es
+  goes_on few = record {
+    judged = st.follows.judged;
+    are_items = subst (λ (c : Endpoint). AreJudged asset c.address (history_of es) st.follows.judged) st.client st.follows.are_judged;
+    uncut = ap (λ c. option_or c (limit_cut LETTER_LIMIT (history_of es) (stream_to asset side.Client st.follows.judged) (stream_to asset side.Controller st.follows.judged))) st.follows.is_cut ∙ st.uncut;
+    idle = subst (λ (n : ℕ). n < most) st.idle few;
+  }
+
+  queue_bytes : (s : Side) → (queue_of asset s es st.follows.judged).bytes ≡ (queue_to s now).kept
+  queue_bytes side.Client = sym (st.follows.client_stream.kept ∙ ap (λ n. drop n (outputs asset side.Client [] st.follows.judged)) (st.acked side.Client))
+  queue_bytes side.Controller = sym (st.follows.controller_stream.kept ∙ ap (λ n. drop n (outputs asset side.Controller [] st.follows.judged)) (st.acked side.Controller))
+
+  queue_ended : (s : Side) → (queue_of asset s es st.follows.judged).ended ≡ (queue_to s now).ended
+  queue_ended side.Client = sym st.follows.knows.client_ended
+  queue_ended side.Controller = sym st.follows.knows.controller_ended
+
+  queue_letters : (s : Side) → letter_count (queue_of asset s es st.follows.judged) ≡ length (queue_to s now).kept + cond (queue_to s now).ended 1 0
+  queue_letters s = ap (λ xs. length xs + cond (queue_of asset s es st.follows.judged).ended 1 0) (queue_bytes s) ∙ ap (λ b. length (queue_to s now).kept + cond b 1 0) (queue_ended s)
+
+  pub tells_stage : now.idle < most → (AreClosed now → ⊥) → (m : ℕ) → IsStage asset most Telling es (Moment m ∷ [])
+  unfolding goes_on
+  tells_stage few still m =
+      (goes_on few, (not_both (is_finished side.Client es) (is_finished side.Controller es) (λ c k. still (st.closed side.Client ∙ c, st.closed side.Controller ∙ k)), (m, refl)))
+
+  pub gives_stage : now.idle < most → (s : Side) (answers : List Entry) → GivesQueued s (queue_to s now).kept answers → IsStage asset most (Giving s) es answers
+  unfolding goes_on
+  gives_stage few s answers gives = (goes_on few, subst (λ (q : List ℕ). GivesQueued s q answers) (sym (queue_bytes s)) gives)
+
+  pub begins_stage : now.idle < most → (s : Side) (answers : List Entry) → BeginsToGive s (queue_to s now).kept answers → BeginsStage asset most (Giving s) es answers
+  unfolding goes_on
+  begins_stage few s answers begins = inr (goes_on few, subst (λ (q : List ℕ). BeginsToGive s q answers) (sym (queue_bytes s)) begins)
+
+  may_finish : (s : Side) → IsLast (queue_to s now) (is_closed s now) → MayFinish asset s es st.follows.judged
+  may_finish s last = record { empty = queue_bytes s ∙ last.0; ends = queue_ended s ∙ last.1; first = sym (st.closed s) ∙ last.2 }
+
+  is_last : (s : Side) → MayFinish asset s es st.follows.judged → IsLast (queue_to s now) (is_closed s now)
+  is_last s may = (sym (queue_bytes s) ∙ may.empty, sym (queue_ended s) ∙ may.ends, st.closed s ∙ may.first)
+
+  pub finishes_stage : now.idle < most → (s : Side) → IsLast (queue_to s now) (is_closed s now) → IsStage asset most (Finishing s) es (Finished s ∷ [])
+  unfolding goes_on
+  finishes_stage few s last = (goes_on few, inl (may_finish s last, refl))
+
+  pub no_finish : now.idle < most → (s : Side) → (IsLast (queue_to s now) (is_closed s now) → ⊥) → IsStage asset most (Finishing s) es []
+  unfolding goes_on
+  no_finish few s never = (goes_on few, inr ((λ may. never (is_last s may)), refl))
+
+  pub open_ended : (s : Side) → IsOpen s now.to_client now.to_controller → ended_of s (history_of es) ≡ false
+  open_ended side.Client is = sym (st.ended side.Controller) ∙ is
+  open_ended side.Controller is = sym (st.ended side.Client) ∙ is
+
+  ended_open : (s : Side) → ended_of s (history_of es) ≡ false → IsOpen s now.to_client now.to_controller
+  ended_open side.Client is = st.ended side.Controller ∙ is
+  ended_open side.Controller is = st.ended side.Client ∙ is
+
+  may_take : (s : Side) → MayTakeNow s now.to_client now.to_controller → MayTake asset s es st.follows.judged
+  may_take s may = record {
+    open_still = open_ended s may.open_still;
+    client = subst (λ (n : ℕ). n ≤ 16384) (sym (queue_letters side.Client)) may.client;
+    controller = subst (λ (n : ℕ). n ≤ 16384) (sym (queue_letters side.Controller)) may.controller;
+  }
+
+  may_take_now : (s : Side) → MayTake asset s es st.follows.judged → MayTakeNow s now.to_client now.to_controller
+  may_take_now s may = record {
+    open_still = ended_open s may.open_still;
+    client = subst (λ (n : ℕ). n ≤ 16384) (queue_letters side.Client) may.client;
+    controller = subst (λ (n : ℕ). n ≤ 16384) (queue_letters side.Controller) may.controller;
+  }
+
+  pub takes_stage : now.idle < most → (s : Side) (answer : Entry) → MayTakeNow s now.to_client now.to_controller → IsTaken s answer → IsStage asset most (Taking s) es (answer ∷ [])
+  unfolding goes_on
+  takes_stage few s answer may taken = (goes_on few, inl (may_take s may, (answer, taken, refl)))
+
+  pub no_take : now.idle < most → (s : Side) → (MayTakeNow s now.to_client now.to_controller → ⊥) → IsStage asset most (Taking s) es []
+  unfolding goes_on
+  no_take few s never = (goes_on few, inr ((λ may. never (may_take_now s may)), refl))
+
+-- ---- stages one after the other
+
+pub one_stage : (asset : Asset) (most : ℕ) (p : Stage) (es answers : List Entry) → IsStage asset most p es answers → DoesStages asset most (p ∷ []) es answers
+one_stage asset most p es answers is = (answers, [], sym (append-nil answers), is, refl)
+
+pub one_broken : (asset : Asset) (most : ℕ) (p : Stage) (es answers : List Entry) → IsStage asset most p es answers → BreaksOff asset most (p ∷ []) es answers
+one_broken asset most p es answers is = inr (answers, [], sym (append-nil answers), is, refl)
+
+pub does_then : (asset : Asset) (most : ℕ) (ps qs : List Stage) (a xs ys : List Entry) → DoesStages asset most ps a xs → DoesStages asset most qs (a ++ xs) ys → DoesStages asset most (ps ++ qs) a (xs ++ ys)
+does_then asset most [] qs a xs ys none does =
+    subst (λ (zs : List Entry). DoesStages asset most qs a zs) (ap (λ (zs : List Entry). zs ++ ys) (sym none)) (subst (λ (zs : List Entry). DoesStages asset most qs zs ys) (ap (λ zs. a ++ zs) none ∙ append-nil a) does)
+does_then asset most (p ∷ ps) qs a xs ys (now, next, e, whole, later) does = (
+  now,
+  next ++ ys,
+  ap (λ zs. zs ++ ys) e ∙ append_assoc now next ys,
+  whole,
+  does_then asset most ps qs (a ++ now) next ys later (subst (λ (zs : List Entry). DoesStages asset most qs zs ys) (ap (λ zs. a ++ zs) e ∙ sym (append_assoc a now next)) does),
+)
+
+pub does_broken : (asset : Asset) (most : ℕ) (ps qs : List Stage) (a xs ys : List Entry) → DoesStages asset most ps a xs → BreaksOff asset most qs (a ++ xs) ys → BreaksOff asset most (ps ++ qs) a (xs ++ ys)
+does_broken asset most [] qs a xs ys none breaks =
+    subst (λ (zs : List Entry). BreaksOff asset most qs a zs) (ap (λ (zs : List Entry). zs ++ ys) (sym none)) (subst (λ (zs : List Entry). BreaksOff asset most qs zs ys) (ap (λ zs. a ++ zs) none ∙ append-nil a) breaks)
+does_broken asset most (p ∷ ps) qs a xs ys (now, next, e, whole, later) breaks =
+    inr (
+      now,
+      next ++ ys,
+      ap (λ zs. zs ++ ys) e ∙ append_assoc now next ys,
+      whole,
+      does_broken asset most ps qs (a ++ now) next ys later (subst (λ (zs : List Entry). BreaksOff asset most qs zs ys) (ap (λ zs. a ++ zs) e ∙ sym (append_assoc a now next)) breaks),
+    )
+
+-- nothing of them
+begins_nothing : (asset : Asset) (most : ℕ) (p : Stage) (a : List Entry) → BeginsStage asset most p a []
+begins_nothing asset most Meeting a = refl
+begins_nothing asset most Telling a = refl
+begins_nothing asset most (Taking s) a = refl
+begins_nothing asset most (Giving s) a = inl refl
+begins_nothing asset most (Finishing s) a = refl
+
+pub breaks_nothing : (asset : Asset) (most : ℕ) (ps : List Stage) (a : List Entry) → BreaksOff asset most ps a []
+breaks_nothing asset most [] a = refl
+breaks_nothing asset most (p ∷ ps) a = inl (begins_nothing asset most p a)
+
+-- stages that break off, and others that were to follow
+pub breaks_more : (asset : Asset) (most : ℕ) (ps qs : List Stage) (a xs : List Entry) → BreaksOff asset most ps a xs → BreaksOff asset most (ps ++ qs) a xs
+breaks_more asset most [] qs a xs none = subst (λ (zs : List Entry). BreaksOff asset most qs a zs) (sym none) (breaks_nothing asset most qs a)
+breaks_more asset most (p ∷ ps) qs a xs (inl begins) = inl begins
+breaks_more asset most (p ∷ ps) qs a xs (inr (now, next, e, whole, later)) = inr (now, next, e, whole, breaks_more asset most ps qs (a ++ now) next later)

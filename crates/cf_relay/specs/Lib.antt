@@ -1,0 +1,9 @@
+pub mod Answers
+pub mod Closing
+pub mod Ends
+pub mod Gave
+pub mod Relaying
+pub mod Scene
+pub mod Stands
+pub mod Taken
+pub mod Turn

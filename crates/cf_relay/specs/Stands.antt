@@ -1,0 +1,83 @@
+-- What a relay keeps between two stages stands for the list of answers: StandsFor; and what it stands for as it stops. This
+-- project's own.
+use Rattle.cf_audit.specs.declared.line.CutReason.{CutReason}
+use Rattle.cf_lane.specs.Follows.{Began, Follows}
+use Rattle.cf_lane.specs.History.{Element, bytes_at, ended_of, taken}
+use Rattle.cf_lane.specs.Judged.{Judged, is_admitted, is_refused}
+use Rattle.cf_lane.specs.Limit.{limit_cut}
+use Rattle.cf_lane.specs.Log.{lines, with_lines}
+use Rattle.cf_lane.specs.Output.{other, outputs, stream_to}
+use Rattle.cf_lane.specs.declared.limit.TheConstants.{LETTER_LIMIT}
+use Rattle.cf_outside.specs.Desk.{DeskValue}
+use Rattle.cf_outside.specs.Pair.{Entry}
+use Rattle.cf_policy.specs.declared.Asset.{Asset}
+use Rattle.cf_stream.specs.Stream.{letter_count}
+use Rattle.cf_view.specs.declared.Side.{Side}
+use Rattle.std.specs.Prelude.{List, None, Option, Some, [], count_by, length, true, ℕ, ◌++◌, ◌<◌, ◌∷◌, ◌≡◌, ◌⊎◌}
+use Rattle.cf_view.specs.declared.Side.TheVariants as side
+use Rattle.cf_relay.specs.Answers.{client_of, given, history_of, idle_run, is_finished, moment_of}
+use Rattle.cf_relay.specs.Relaying.{RelayingValue, is_closed, lane_state, letters_from, queue_to, rests_of}
+use Rattle.cf_relay.specs.Turn.{AreItemsOf, cut_at}
+use Rattle.cf_relay.specs.declared.stop.Stop.{Stop}
+use Rattle.cf_relay.specs.declared.stop.Stop.TheVariants as stop
+
+-- lane, queues and log have the history of the list, which nothing cuts
+pub record StandsFor (asset : Asset) (first : Option (List (List ℕ))) (es : List Entry) (now : RelayingValue) (lines : Option (List (List ℕ))) : Type 0 where
+  pub follows : Follows asset (history_of es) (rests_of now) None first (lane_state now lines)
+  pub uncut : limit_cut LETTER_LIMIT (history_of es) (stream_to asset side.Client follows.judged) (stream_to asset side.Controller follows.judged) ≡ None
+  pub client : now.lane.client ≡ client_of es
+  -- the bytes given left their queue
+  pub acked : (s : Side) → (queue_to s now).acked ≡ length (given s es)
+  pub front : (s : Side) → outputs asset s [] follows.judged ≡ given s es ++ (queue_to s now).kept
+  -- a queue has its End where the other side has ended
+  pub ended : (s : Side) → (queue_to s now).ended ≡ ended_of (other s) (history_of es)
+  pub letters : (s : Side) → letters_from s now ≡ letter_count (taken s (history_of es))
+  pub closed : (s : Side) → is_closed s now ≡ is_finished s es
+  -- a side that was closed was given all, and nothing more comes for it
+  pub done : (s : Side) → is_closed s now ≡ true → ((queue_to s now).kept ≡ []) × ((queue_to s now).ended ≡ true)
+  pub moment : now.moment ≡ moment_of es
+  pub idle : now.idle ≡ idle_run es
+
+-- each side was given a prefix of the stream to it
+abbrev pub IsPrefix : List ℕ → List ℕ → Type 0
+IsPrefix xs all = (more : List ℕ) × (all ≡ xs ++ more)
+
+abbrev pub GivenPrefixes : Asset → List Entry → List Judged → Type 0
+GivenPrefixes asset es js = (s : Side) → IsPrefix (given s es) (outputs asset s [] js)
+
+-- the numbers of the lane are those of the items
+pub record IsCounted (js : List Judged) (admits refuses : ℕ) : Type 0 where
+  pub admitted : admits ≡ count_by (λ j. is_admitted j.fate) js
+  pub refused : refuses ≡ count_by (λ j. is_refused j.fate) js
+
+-- the list is cut, and lane and log have its items
+pub record StandsCut (asset : Asset) (first : Option (List (List ℕ))) (es : List Entry) (now : RelayingValue) (log : Option (List (List ℕ))) (reason : CutReason) : Type 0 where
+  pub judged : List Judged
+  pub are_items : AreItemsOf asset es judged
+  pub is_cut : cut_at asset es judged ≡ Some reason
+  pub prefixes : GivenPrefixes asset es judged
+  pub counts : IsCounted judged now.lane.admitted now.lane.refused
+  pub of_lines : log ≡ with_lines first (lines asset (client_of es) [] judged)
+  pub client : now.lane.client ≡ client_of es
+  pub moment : now.moment ≡ moment_of es
+
+-- a history as it is, or with the bytes of its last element cut short
+abbrev pub IsCutShort : (short whole : List Element) → Type 0
+IsCutShort short whole =
+    (short ≡ whole)
+    ⊎ ((earlier : List Element) × (moment : ℕ) × (s : Side) × (bytes more : List ℕ)
+    × (short ≡ earlier ++ bytes_at moment s bytes ∷ []) × (whole ≡ earlier ++ bytes_at moment s (bytes ++ more) ∷ []))
+
+-- a line failed: the log has a beginning of the lines of the items up to there
+pub record StandsMissed (asset : Asset) (first : Option (List (List ℕ))) (es : List Entry) (desk : DeskValue) : Type 0 where
+  pub history : List Element
+  pub is_short : IsCutShort history (history_of es)
+  pub began : Began asset (client_of es) history first desk.lines desk.line_part
+  pub prefixes : GivenPrefixes asset es began.judged
+
+-- what a relay that stops stands for, with its list
+abbrev pub StandsStopped : Asset → (most : ℕ) → (first : Option (List (List ℕ))) → List Entry → Stop → RelayingValue → DeskValue → Type 0
+StandsStopped asset most first es stop.Idle now desk = StandsFor asset first es now desk.lines × (now.idle ≡ most)
+StandsStopped asset most first es stop.Link now desk = StandsFor asset first es now desk.lines × (now.idle < most)
+StandsStopped asset most first es stop.Write now desk = StandsMissed asset first es desk
+StandsStopped asset most first es (stop.Cut reason) now desk = StandsCut asset first es now desk.lines reason

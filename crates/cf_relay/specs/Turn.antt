@@ -1,0 +1,151 @@
+-- The turns of a relay, as what its pair's list may say. The main definitions are `turn`, `IsStage`, `DoesStages` and
+-- `IsRelayed`. This project's own.
+--
+-- The list is the meeting, one moment, and then turns of seven stages. Each stage adds answers to the list under conditions
+-- on the list so far alone. The list may break off before a stage, or within the gives of one. (The code keeps two queues,
+-- a few numbers and two marks, and reads no list.)
+use Rattle.cf_audit.specs.declared.line.CutReason.{CutReason}
+use Rattle.cf_lane.specs.Follows.{AreJudged}
+use Rattle.cf_lane.specs.History.{ended_of}
+use Rattle.cf_lane.specs.Judged.{Judged, cut_of, has_ended}
+use Rattle.cf_lane.specs.Limit.{limit_cut}
+use Rattle.cf_lane.specs.Output.{other, outputs, stream_to}
+use Rattle.cf_lane.specs.declared.limit.TheConstants.{LETTER_LIMIT}
+use Rattle.cf_outside.specs.Pair.{Ended, Entry, Finished, Got, Idle, Met, Moment, Took}
+use Rattle.cf_policy.specs.declared.Asset.{Asset}
+use Rattle.cf_stream.specs.Stream.{Stream, letter_count}
+use Rattle.cf_view.specs.declared.Endpoint.{Endpoint}
+use Rattle.cf_view.specs.declared.Side.{Side}
+use Rattle.std.specs.List.{AllByRecursion, concat}
+use Rattle.std.specs.Option.{option_or}
+use Rattle.std.specs.Prelude.{List, None, Option, [], drop, false, length, map, suc, true, zero, ℕ, ◌++◌, ◌<◌, ◌∷◌, ◌≡◌, ◌≤◌, ◌⊎◌}
+use Rattle.cf_view.specs.declared.Side.TheVariants as side
+use Rattle.cf_relay.specs.Answers.{are_finished, client_of, given, history_of, idle_run, is_finished}
+
+-- the judged items of the history that the list has
+abbrev pub AreItemsOf : Asset → List Entry → List Judged → Type 0
+AreItemsOf asset es js = AreJudged asset (client_of es).address (history_of es) js
+
+-- why the list is cut: by the first item that cuts, or else by a stream that reached the limit
+abbrev pub cut_at : Asset → List Entry → List Judged → Option CutReason
+cut_at asset es js =
+    option_or (cut_of js) (limit_cut LETTER_LIMIT (history_of es) (stream_to asset side.Client js) (stream_to asset side.Controller js))
+
+-- the relay goes on after this list: nothing cuts it, and fewer answers Idle stand at its end than the number that ends it
+pub record Continues (asset : Asset) (most : ℕ) (es : List Entry) : Type 0 where
+  pub judged : List Judged
+  pub are_items : AreItemsOf asset es judged
+  pub uncut : cut_at asset es judged ≡ None
+  pub idle : idle_run es < most
+
+-- a side's queue: the stream to it, without the bytes that it took
+abbrev pub queue_of : Asset → (to : Side) → List Entry → List Judged → Stream
+queue_of asset to es js = record { bytes = drop (length (given to es)) (outputs asset to [] js); ended = has_ended (other to) js }
+
+-- a side may be asked for bytes: it has not ended, and both queues have at most 16,384 letters
+pub record MayTake (asset : Asset) (s : Side) (es : List Entry) (js : List Judged) : Type 0 where
+  pub open_still : ended_of s (history_of es) ≡ false
+  pub client : letter_count (queue_of asset side.Client es js) ≤ 16384
+  pub controller : letter_count (queue_of asset side.Controller es js) ≤ 16384
+
+-- an answer to that: one to 4,096 bytes, End, or Idle
+abbrev pub IsTaken : Side → Entry → Type 0
+IsTaken s (Met client) = ⊥
+IsTaken s (Moment moment) = ⊥
+IsTaken s (Got of bytes) = (of ≡ s) × (1 ≤ length bytes) × (length bytes ≤ 4096)
+IsTaken s (Took of bytes) = ⊥
+IsTaken s (Ended of) = of ≡ s
+IsTaken s (Idle of) = of ≡ s
+IsTaken s (Finished of) = ⊥
+
+abbrev pub HasBytes : List ℕ → Type 0
+HasBytes [] = ⊥
+HasBytes (x ∷ xs) = Unit {0}
+
+-- a side took pieces from the front of its queue, none of them empty
+pub record TookPieces (s : Side) (queued : List ℕ) (pieces : List (List ℕ)) (rest : List ℕ) : Type 0 where
+  pub split : queued ≡ concat pieces ++ rest
+  pub each : AllByRecursion HasBytes pieces
+
+-- a side is given queued bytes until the queue is empty or Idle comes
+pub record GivesQueued (s : Side) (queued : List ℕ) (answers : List Entry) : Type 0 where
+  pub pieces : List (List ℕ)
+  pub rest : List ℕ
+  pub took : TookPieces s queued pieces rest
+  pub until : ((rest ≡ []) × (answers ≡ map (Took s) pieces)) ⊎ (HasBytes rest × (answers ≡ map (Took s) pieces ++ Idle s ∷ []))
+
+-- the same, broken off where bytes are left
+pub record BeginsToGive (s : Side) (queued : List ℕ) (answers : List Entry) : Type 0 where
+  pub pieces : List (List ℕ)
+  pub rest : List ℕ
+  pub took : TookPieces s queued pieces rest
+  pub left : HasBytes rest
+  pub all : answers ≡ map (Took s) pieces
+
+-- a side may be closed for sending: End is all that is left for it, and it was not closed before
+pub record MayFinish (asset : Asset) (s : Side) (es : List Entry) (js : List Judged) : Type 0 where
+  pub empty : (queue_of asset s es js).bytes ≡ []
+  pub ends : (queue_of asset s es js).ended ≡ true
+  pub first : is_finished s es ≡ false
+
+pub data Stage : Type 0 where
+  Meeting : Stage
+  Telling : Stage
+  Taking : Side → Stage
+  Giving : Side → Stage
+  Finishing : Side → Stage
+
+-- a turn: the moment; what the client and then the controller sends; what is queued for the controller and then for the client
+abbrev pub turn : List Stage
+turn =
+    Telling ∷ Taking side.Client ∷ Taking side.Controller ∷ Giving side.Controller ∷ Finishing side.Controller
+    ∷ Giving side.Client ∷ Finishing side.Client ∷ []
+
+-- so many turns
+abbrev pub turns : ℕ → List Stage
+turns zero = []
+turns (suc n) = turns n ++ turn
+
+-- the meeting, one moment, and then so many turns
+abbrev pub stages : ℕ → List Stage
+stages n = Meeting ∷ Telling ∷ turns n
+
+-- what a stage adds to the list; no turn begins once both sides are closed
+abbrev pub HasAnswers : Asset → Stage → (before : List Entry) → List Judged → (answers : List Entry) → Type 0
+HasAnswers asset Meeting before js answers = (client : Endpoint) × (answers ≡ Met client ∷ [])
+HasAnswers asset Telling before js answers = (are_finished before ≡ false) × ((moment : ℕ) × (answers ≡ Moment moment ∷ []))
+HasAnswers asset (Taking s) before js answers =
+    (MayTake asset s before js × ((answer : Entry) × IsTaken s answer × (answers ≡ answer ∷ []))) ⊎ ((MayTake asset s before js → ⊥) × (answers ≡ []))
+HasAnswers asset (Giving s) before js answers = GivesQueued s (queue_of asset s before js).bytes answers
+HasAnswers asset (Finishing s) before js answers =
+    (MayFinish asset s before js × (answers ≡ Finished s ∷ [])) ⊎ ((MayFinish asset s before js → ⊥) × (answers ≡ []))
+
+-- a stage is done only where the relay goes on
+abbrev pub IsStage : Asset → (most : ℕ) → Stage → (before answers : List Entry) → Type 0
+IsStage asset most stage before answers = (goes : Continues asset most before) × HasAnswers asset stage before goes.judged answers
+
+-- a stage that breaks off: nothing of it, or the first of its gives
+abbrev pub BeginsStage : Asset → (most : ℕ) → Stage → (before answers : List Entry) → Type 0
+BeginsStage asset most Meeting before answers = answers ≡ []
+BeginsStage asset most Telling before answers = answers ≡ []
+BeginsStage asset most (Taking s) before answers = answers ≡ []
+BeginsStage asset most (Giving s) before answers =
+    (answers ≡ []) ⊎ ((goes : Continues asset most before) × BeginsToGive s (queue_of asset s before goes.judged).bytes answers)
+BeginsStage asset most (Finishing s) before answers = answers ≡ []
+
+-- the stages, one after the other
+abbrev pub DoesStages : Asset → (most : ℕ) → List Stage → (before answers : List Entry) → Type 0
+DoesStages asset most [] before answers = answers ≡ []
+DoesStages asset most (stage ∷ later) before answers =
+    (now next : List Entry) × (answers ≡ now ++ next) × IsStage asset most stage before now × DoesStages asset most later (before ++ now) next
+
+-- the stages, broken off before one of them, within one, or behind the last
+abbrev pub BreaksOff : Asset → (most : ℕ) → List Stage → (before answers : List Entry) → Type 0
+BreaksOff asset most [] before answers = answers ≡ []
+BreaksOff asset most (stage ∷ later) before answers =
+    BeginsStage asset most stage before answers
+    ⊎ ((now next : List Entry) × (answers ≡ now ++ next) × IsStage asset most stage before now × BreaksOff asset most later (before ++ now) next)
+
+-- the list of a relay that stops
+abbrev pub IsRelayed : Asset → (most : ℕ) → List Entry → Type 0
+IsRelayed asset most es = (n : ℕ) × BreaksOff asset most (stages n) [] es

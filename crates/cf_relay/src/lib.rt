@@ -1,0 +1,17 @@
+//! A pair of byte streams, one to a client and one to its controller, relayed in turns through the lane.
+#![tactic(auto)]
+
+mod done;
+mod give;
+mod lines;
+mod relaying;
+mod stop;
+mod take;
+mod top;
+mod turns;
+
+pub use done::{RelayDone, RelayEnd, RelayFault};
+pub use top::relay;
+
+#[cfg(test)]
+mod tests;

@@ -1,0 +1,237 @@
+//! A relay between two stages of a turn, and each stage.
+ghost use Rattle.std.specs.Prelude.{◌≡◌, ℕ, ◌+◌, ◌*◌, ◌<◌, ◌≤◌, ◌^◌, ◌⊎◌, [], ◌∷◌, max, true, IfErr, IsErr, OnErr, OnOk, length};
+ghost use Rattle.cf_lane.specs.Limit.{limit_by};
+ghost use Rattle.cf_lane.specs.declared.limit.TheConstants.{LETTER_LIMIT};
+ghost use Rattle.cf_outq.specs.SendQueue.{IsQueue, queue_length};
+ghost use Rattle.cf_outside.specs.Desk.{DeskValue};
+ghost use Rattle.cf_policy.specs.Within.{IsAssetWithin};
+ghost use Rattle.cf_policy.specs.declared.Asset.{Asset as AssetOf};
+ghost use Rattle.cf_relay.specs.Relaying.{AreClosed, AsksOrRests, IsShort, IsSound, ServesOrRests, Unmoved, relaying_value};
+ghost use Rattle.cf_relay.specs.Scene.{Goes, Stops, pair_value, scene, scene_of};
+ghost use Rattle.cf_relay.specs.Taken.{LimitBy, StaysWhole};
+ghost use Rattle.cf_relay.specs.Turn.{Finishing, Giving, Taking, Telling};
+
+use crate::give::{finish_to, give_to};
+use crate::stop::Stop;
+use crate::take::{Heard, take_from};
+use cf_audit::CutReason;
+use cf_lane::{LETTER_LIMIT, Lane, Lengths, limit_cut, streams_go_on};
+use cf_outq::Outq;
+use cf_outside::{Desk, MomentAnswer, Pair};
+use cf_policy::Asset;
+use cf_view::Side;
+
+/// A relay between two stages.
+#[derive(Drop)]
+pub(crate) struct Relaying {
+    pub(crate) lane: Lane,
+    pub(crate) to_client: Outq,
+    pub(crate) to_controller: Outq,
+    pub(crate) from_client: Heard,
+    pub(crate) from_controller: Heard,
+    pub(crate) client_finished: bool,
+    pub(crate) controller_finished: bool,
+    /// The greatest moment told, in microseconds.
+    pub(crate) moment: u64,
+    /// How many answers `Idle` came since the last that was none.
+    pub(crate) idle: u64,
+}
+
+impl Relaying {
+    /// Asks for the moment, and keeps the greatest.
+    pub(crate) fn tell<P: Pair>(&mut self, pair: &mut P) -> Result<(), Stop>
+        requires still { AreClosed (relaying_value self.old) → ⊥ }
+        ensures goes { OnOk result ((asset : AssetOf) (most : ℕ) (desk : DeskValue) → self.old.idle < most →
+            Goes asset most (Telling ∷ [])
+            (scene (relaying_value self.old) (pair_value P.Pair pair.old) desk) (scene (relaying_value self.new) (pair_value P.Pair pair.new) desk)) }
+        ensures stops { IfErr result (λ stop. (asset : AssetOf) (most : ℕ) (desk : DeskValue) → self.old.idle < most →
+            Stops asset most (Telling ∷ []) stop
+            (scene (relaying_value self.old) (pair_value P.Pair pair.old) desk) (scene (relaying_value self.new) (pair_value P.Pair pair.new) desk)) }
+        ensures sound { (asset : AssetOf) (most : ℕ) → IsSound asset most (relaying_value self.old) → IsSound asset most (relaying_value self.new) }
+        ensures unmoved { Unmoved (relaying_value self.old) (relaying_value self.new) }
+    {
+        match pair.moment() {
+            MomentAnswer::Told(now) => {
+                self.moment = self.moment.max(now);
+                Ok(())
+            }
+            MomentAnswer::Failed => Err(Stop::Link),
+        }
+    }
+
+    /// Asks the client for bytes, where it has not ended and both queues are small, and hands the lane what comes.
+    pub(crate) fn take_client<P: Pair, D: Desk>(
+        &mut self,
+        asset: &Asset,
+        most: u64,
+        buf: &mut [u8],
+        pair: &mut P,
+        desk: &mut D,
+    ) -> Result<(), Stop>
+        requires within { IsAssetWithin asset.now }
+        requires sound { IsSound asset.now most (relaying_value self.old) }
+        requires whole { DeskValue.whole (D.value desk.old) ≡ true }
+        requires buffer { length buf.old ≡ 4096 }
+        ensures goes { OnOk result (Goes asset.now most (Taking Side.Client ∷ [])
+            (scene_of P.Pair D.Desk self.old pair.old desk.old) (scene_of P.Pair D.Desk self.new pair.new desk.new)) }
+        ensures stops { IfErr result (λ stop. Stops asset.now most (Taking Side.Client ∷ []) stop
+            (scene_of P.Pair D.Desk self.old pair.old desk.old) (scene_of P.Pair D.Desk self.new pair.new desk.new)) }
+        ensures sound { OnOk result (IsSound asset.now most (relaying_value self.new)) }
+        ensures moves { OnOk result (AsksOrRests Side.Client most (relaying_value self.old) (relaying_value self.new)) }
+        ensures whole { StaysWhole result (D.value desk.new) }
+        ensures buffer { length buf.new ≡ 4096 }
+    {
+        streams_go_on();
+        take_from(
+            Side::Client,
+            asset,
+            self.moment,
+            &mut self.lane,
+            &mut self.from_client,
+            &mut self.to_client,
+            &mut self.to_controller,
+            &mut self.idle,
+            most,
+            buf,
+            pair,
+            desk,
+        )?;
+        self.check_limit()
+    }
+
+    /// Asks the controller for bytes, where it has not ended and both queues are small, and hands the lane what comes.
+    pub(crate) fn take_controller<P: Pair, D: Desk>(
+        &mut self,
+        asset: &Asset,
+        most: u64,
+        buf: &mut [u8],
+        pair: &mut P,
+        desk: &mut D,
+    ) -> Result<(), Stop>
+        requires within { IsAssetWithin asset.now }
+        requires sound { IsSound asset.now most (relaying_value self.old) }
+        requires whole { DeskValue.whole (D.value desk.old) ≡ true }
+        requires buffer { length buf.old ≡ 4096 }
+        ensures goes { OnOk result (Goes asset.now most (Taking Side.Controller ∷ [])
+            (scene_of P.Pair D.Desk self.old pair.old desk.old) (scene_of P.Pair D.Desk self.new pair.new desk.new)) }
+        ensures stops { IfErr result (λ stop. Stops asset.now most (Taking Side.Controller ∷ []) stop
+            (scene_of P.Pair D.Desk self.old pair.old desk.old) (scene_of P.Pair D.Desk self.new pair.new desk.new)) }
+        ensures sound { OnOk result (IsSound asset.now most (relaying_value self.new)) }
+        ensures moves { OnOk result (AsksOrRests Side.Controller most (relaying_value self.old) (relaying_value self.new)) }
+        ensures whole { StaysWhole result (D.value desk.new) }
+        ensures buffer { length buf.new ≡ 4096 }
+    {
+        streams_go_on();
+        take_from(
+            Side::Controller,
+            asset,
+            self.moment,
+            &mut self.lane,
+            &mut self.from_controller,
+            &mut self.to_client,
+            &mut self.to_controller,
+            &mut self.idle,
+            most,
+            buf,
+            pair,
+            desk,
+        )?;
+        self.check_limit()
+    }
+
+    /// Cuts where a stream has as many letters as the limit.
+    fn check_limit(&self) -> Result<(), Stop>
+        ensures limit { LimitBy (self.now.from_client).letters (self.now.from_controller).letters (queue_length self.now.to_client) (queue_length self.now.to_controller) result }
+        ensures short { OnOk result (IsShort (relaying_value self.now)) }
+        ensures to_client { IsQueue self.now.to_client }
+        ensures to_controller { IsQueue self.now.to_controller }
+    {
+        match self.full() {
+            Some(reason) => Err(Stop::Cut(reason)),
+            None => Ok(()),
+        }
+    }
+
+    /// Why a stream that has as many letters as the limit cuts, if one has.
+    fn full(&self) -> Option<CutReason>
+        ensures limit { result ≡ limit_by LETTER_LIMIT (self.now.from_client).letters (self.now.from_controller).letters (queue_length self.now.to_client) (queue_length self.now.to_controller) }
+        ensures to_client { IsQueue self.now.to_client }
+        ensures to_controller { IsQueue self.now.to_controller }
+    {
+        limit_cut(
+            LETTER_LIMIT,
+            &Lengths {
+                client: self.from_client.letters,
+                controller: self.from_controller.letters,
+                to_client: self.to_client.length() as u64,
+                to_controller: self.to_controller.length() as u64,
+            },
+        )
+    }
+
+    /// Gives the controller what is queued for it, and closes it for sending where that is all.
+    pub(crate) fn serve_controller<P: Pair>(
+        &mut self,
+        most: u64,
+        buf: &mut [u8],
+        pair: &mut P,
+    ) -> Result<(), Stop>
+        requires few { self.old.idle < most }
+        requires buffer { length buf.old ≡ 4096 }
+        ensures goes { OnOk result ((asset : AssetOf) (desk : DeskValue) → Goes asset most (Giving Side.Controller ∷ Finishing Side.Controller ∷ [])
+            (scene (relaying_value self.old) (pair_value P.Pair pair.old) desk) (scene (relaying_value self.new) (pair_value P.Pair pair.new) desk)) }
+        ensures stops { IfErr result (λ stop. (asset : AssetOf) (desk : DeskValue) → Stops asset most (Giving Side.Controller ∷ Finishing Side.Controller ∷ []) stop
+            (scene (relaying_value self.old) (pair_value P.Pair pair.old) desk) (scene (relaying_value self.new) (pair_value P.Pair pair.new) desk)) }
+        ensures sound { OnOk result ((asset : AssetOf) → IsSound asset most (relaying_value self.old) → IsSound asset most (relaying_value self.new)) }
+        ensures moves { OnOk result (ServesOrRests Side.Controller most (relaying_value self.old) (relaying_value self.new)) }
+        ensures buffer { length buf.new ≡ 4096 }
+    {
+        give_to(
+            Side::Controller,
+            &mut self.to_controller,
+            &mut self.idle,
+            most,
+            buf,
+            pair,
+        )?;
+        finish_to(
+            Side::Controller,
+            &self.to_controller,
+            &mut self.controller_finished,
+            pair,
+        )
+    }
+
+    /// Gives the client what is queued for it, and closes it for sending where that is all.
+    pub(crate) fn serve_client<P: Pair>(
+        &mut self,
+        most: u64,
+        buf: &mut [u8],
+        pair: &mut P,
+    ) -> Result<(), Stop>
+        requires few { self.old.idle < most }
+        requires buffer { length buf.old ≡ 4096 }
+        ensures goes { OnOk result ((asset : AssetOf) (desk : DeskValue) → Goes asset most (Giving Side.Client ∷ Finishing Side.Client ∷ [])
+            (scene (relaying_value self.old) (pair_value P.Pair pair.old) desk) (scene (relaying_value self.new) (pair_value P.Pair pair.new) desk)) }
+        ensures stops { IfErr result (λ stop. (asset : AssetOf) (desk : DeskValue) → Stops asset most (Giving Side.Client ∷ Finishing Side.Client ∷ []) stop
+            (scene (relaying_value self.old) (pair_value P.Pair pair.old) desk) (scene (relaying_value self.new) (pair_value P.Pair pair.new) desk)) }
+        ensures sound { OnOk result ((asset : AssetOf) → IsSound asset most (relaying_value self.old) → IsSound asset most (relaying_value self.new)) }
+        ensures moves { OnOk result (ServesOrRests Side.Client most (relaying_value self.old) (relaying_value self.new)) }
+        ensures buffer { length buf.new ≡ 4096 }
+    {
+        give_to(
+            Side::Client,
+            &mut self.to_client,
+            &mut self.idle,
+            most,
+            buf,
+            pair,
+        )?;
+        finish_to(
+            Side::Client,
+            &self.to_client,
+            &mut self.client_finished,
+            pair,
+        )
+    }
+}
