@@ -10,6 +10,7 @@ pub mod Item
 pub mod Judged
 pub mod Kept
 pub mod Laws
+pub mod Limit
 pub mod Log
 pub mod Modbus
 pub mod Numbers

@@ -1,5 +1,5 @@
 //! Packets read from the octets of a record.
-ghost use Rattle.std.specs.Prelude.{◌≡◌, option_copied};
+ghost use Rattle.std.specs.Prelude.{◌≡◌, ◌≤◌, IfOk, length, option_copied};
 ghost use Rattle.cf_packet.specs.Ipv4.{ethernet_payload};
 ghost use Rattle.cf_packet.specs.Packet.{read_ipv4, packet_answer, read_record};
 
@@ -12,7 +12,8 @@ use cf_view::{LinkKind, View};
 /// the packet's total length are padding. RFC 791, RFC 9293 and, for Ethernet, RFC 894; the order of the tests is this
 /// project's own.
 pub fn read_packet<'a>(link: &LinkKind, bytes: &'a [u8]) -> Result<Packet<'a>, PacketRefusal>
-    ensures { packet_answer result ≡ read_record link.now bytes.now }
+    ensures answer { packet_answer result ≡ read_record link.now bytes.now }
+    ensures text { IfOk result (λ packet. length packet.text.now ≤ 65535) }
 {
     match link {
         LinkKind::RawIp => read_ipv4(bytes),
@@ -34,7 +35,8 @@ fn ethernet_payload<'a>(octets: &'a [u8]) -> Option<&'a [u8]>
 }
 
 fn read_ipv4<'a>(packet: &'a [u8]) -> Result<Packet<'a>, PacketRefusal>
-    ensures { packet_answer result ≡ read_ipv4 packet.now }
+    ensures answer { packet_answer result ≡ read_ipv4 packet.now }
+    ensures text { IfOk result (λ packet. length packet.text.now ≤ 65535) }
 {
     if let Some(refusal) = header_refusal(packet) {
         return Err(refusal);

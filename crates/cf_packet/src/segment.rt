@@ -1,5 +1,5 @@
 //! The header of a TCP segment. RFC 9293, section 3.1.
-ghost use Rattle.std.specs.Prelude.{◌≡◌, ◌+◌, ◌*◌, ◌/◌, ◌%◌, ◌≤◌, ◌^◌, false, length};
+ghost use Rattle.std.specs.Prelude.{◌≡◌, ◌+◌, ◌*◌, ◌/◌, ◌%◌, ◌≤◌, ◌^◌, IfOk, false, length};
 ghost use Rattle.cf_packet.specs.Checksum.{total, words};
 ghost use Rattle.cf_packet.specs.Packet.{fields_of, packet_answer, packet_value, segment_in};
 ghost use Rattle.cf_packet.specs.Tcp.{is_bad, is_right_segment, pseudo_header};
@@ -16,7 +16,8 @@ pub(crate) fn read_segment<'a>(
     segment: &'a [u8],
 ) -> Result<Packet<'a>, PacketRefusal>
     requires { length segment.now ≤ 65535 }
-    ensures { packet_answer result ≡ segment_in source dest segment.now }
+    ensures answer { packet_answer result ≡ segment_in source dest segment.now }
+    ensures text { IfOk result (λ packet. length packet.text.now ≤ length segment.now) }
 {
     if is_bad(&View::one(segment)) {
         return Err(PacketRefusal::BadTcp);
@@ -30,7 +31,8 @@ pub(crate) fn read_segment<'a>(
 /// What a segment says whose header is whole.
 fn fields<'a>(source: u32, dest: u32, segment: &'a [u8]) -> Packet<'a>
     requires { is_bad segment.now ≡ false }
-    ensures { packet_value result ≡ fields_of source dest segment.now }
+    ensures value { packet_value result ≡ fields_of source dest segment.now }
+    ensures text { length result.text.now ≤ length segment.now }
 {
     let fields = View::one(segment);
     let text_at = usize::from(fields.at(12) / 16) * 4;

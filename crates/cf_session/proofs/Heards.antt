@@ -24,7 +24,8 @@ use Rattle.cf_stream.specs.Stream.{Stream, letter_count}
 use Rattle.cf_view.specs.declared.Side.{Side}
 use Rattle.cf_view.specs.declared.Side.TheVariants as side
 use Rattle.cf_session.proofs.Events.{before_history}
-use Rattle.cf_session.specs.Cuts.{cut_by, is_reset, limit_by, limit_cut, packet_cut, reset_by, reset_cut, resets}
+use Rattle.cf_session.specs.Cuts.{cut_by, is_reset, packet_cut, reset_by, reset_cut, resets}
+use Rattle.cf_lane.specs.Limit.{limit_by, limit_cut}
 use Rattle.cf_session.specs.Event.{AreTaken, IsTick, came_controller}
 use Rattle.cf_session.specs.Parts.{SessionValue}
 use Rattle.cf_session.specs.Session.{Flow, SessionEvent, client_ends, clients, closed_at, controller_ends, controllers, has_room, history, is_closed, is_done, was_closed, work_of}
@@ -217,7 +218,7 @@ module _ (f : Flow) (es : List SessionEvent) (t : SessionEvent) (s : Side) (p : 
       controller_base = law s1.controller (marks s1.to_controller) (controllers (half ∷ es)) (taken side.Controller (history (event ∷ es))) h.parts.controller.stands
           (subst (λ (n : Ends). IsTaken (first_copy (offers n.role (controllers (half ∷ es)))) (taken side.Controller (history (half ∷ es)))) (sym h.parts.controller.is) h.parts.taken.controller)
 
-      full_is : (limit : ℕ) → limit_by limit (base_of s1.client.window) (base_of s1.controller.window) (queue_length s1.to_client) (queue_length s1.to_controller) ≡ limit_cut limit (history (event ∷ es)) h.work
+      full_is : (limit : ℕ) → limit_by limit (base_of s1.client.window) (base_of s1.controller.window) (queue_length s1.to_client) (queue_length s1.to_controller) ≡ limit_cut limit (history (event ∷ es)) h.work.to_client h.work.to_controller
       full_is limit =
           ap (λ n. limit_by limit n (base_of s1.controller.window) (queue_length s1.to_client) (queue_length s1.to_controller)) client_base
           ∙ ap (λ n. limit_by limit (letter_count (taken side.Client (history (event ∷ es)))) n (queue_length s1.to_client) (queue_length s1.to_controller)) controller_base

@@ -11,7 +11,8 @@ use Rattle.cf_policy.specs.declared.Asset.{Asset}
 use Rattle.cf_rebuild.specs.ReceiveWindow.{Window, base_of}
 use Rattle.cf_view.specs.declared.Side.{Side}
 use Rattle.cf_view.specs.declared.Side.TheVariants as side
-use Rattle.cf_session.specs.Cuts.{cut_by, limit_by}
+use Rattle.cf_session.specs.Cuts.{cut_by}
+use Rattle.cf_lane.specs.Limit.{limit_by}
 use Rattle.cf_session.specs.Parts.{SessionValue}
 use Rattle.cf_session.specs.Stands.{IsSound}
 use Rattle.cf_session.specs.Turn.{IsShort, IsSteady, OnlySpeaks, is_done_now}

@@ -1,10 +1,10 @@
 -- Why an event cuts a session. Places of one event stand in the order tick, packet, items, limit, and in a tick the
 -- controller's leg stands before the client's. The main definitions are `clock_cut` and `packet_cut`. This project's own.
-use Rattle.std.specs.Prelude.{ℕ, nat_lt, nat_le, not, Bool, true, false, ◌&&◌, ◌||◌, if◌then◌else◌, List, ◌∷◌, Option, None, Some}
+use Rattle.std.specs.Prelude.{ℕ, nat_lt, not, Bool, true, false, ◌&&◌, if◌then◌else◌, List, ◌∷◌, Option, None, Some}
 use Rattle.std.specs.Option.{option_or}
 use Rattle.cf_audit.specs.declared.CutReason.{CutReason}
 use Rattle.cf_audit.specs.declared.CutReason.TheVariants as reason
-use Rattle.cf_lane.specs.History.{Element, taken}
+use Rattle.cf_lane.specs.Limit.{limit_cut}
 use Rattle.cf_leg.specs.Event.{LegEvent, Came, Nothing, Greeting, Packet}
 use Rattle.cf_leg.specs.Heard.{answer_to, end_state}
 use Rattle.cf_leg.specs.Timer.{fires, tries}
@@ -13,11 +13,9 @@ use Rattle.cf_leg.specs.declared.ClockAnswer.TheVariants as clock
 use Rattle.cf_leg.specs.declared.LegAnswer.{LegAnswer}
 use Rattle.cf_leg.specs.declared.LegAnswer.TheVariants as answer
 use Rattle.cf_leg.specs.declared.Role.{Role}
-use Rattle.cf_stream.specs.Stream.{Stream, letter_count}
 use Rattle.cf_view.specs.declared.Side.{Side}
 use Rattle.cf_view.specs.declared.Side.TheVariants as side
 use Rattle.cf_session.specs.Session.{Flow, SessionEvent, client_ends, clients, controller_ends, controllers, history, was_closed}
-use Rattle.cf_session.specs.Work.{Work}
 
 -- ---- the first half
 
@@ -49,22 +47,11 @@ reset_cut flow earlier event =
     else if resets (controller_ends flow).role (controllers earlier) event.controller event.controller.came then Some reason.ResetByController
     else None
 
--- a stream has as many letters as the limit, End counted
-abbrev pub is_full : (limit : ℕ) → Stream → Bool
-is_full limit stream = nat_le limit (letter_count stream)
-
--- of what was taken of the client and the stream to the client one is full, or else of the controller's two
-abbrev pub limit_cut : (limit : ℕ) → List Element → Work → Option CutReason
-limit_cut limit taken_so_far work =
-    if is_full limit (taken side.Client taken_so_far) || is_full limit work.to_client then Some (reason.StreamLength side.Client)
-    else if is_full limit (taken side.Controller taken_so_far) || is_full limit work.to_controller then Some (reason.StreamLength side.Controller)
-    else None
-
 -- a session that is not closed is cut at the first of these: the packet resets its leg, an item cuts, a stream is full
 abbrev pub packet_cut : Flow → (limit : ℕ) → (earlier : List SessionEvent) → SessionEvent → Option CutReason
 packet_cut flow limit earlier event =
     if was_closed flow earlier then None
-    else option_or (reset_cut flow earlier event) (option_or event.work.cut (limit_cut limit (history (event ∷ earlier)) event.work))
+    else option_or (reset_cut flow earlier event) (option_or event.work.cut (limit_cut limit (history (event ∷ earlier)) event.work.to_client event.work.to_controller))
 
 -- ---- the same in what a session in memory has
 
@@ -75,13 +62,6 @@ is_no_answer _ = false
 abbrev pub reset_by : Side → CutReason
 reset_by side.Client = reason.ResetByClient
 reset_by side.Controller = reason.ResetByController
-
--- the numbers of the letters taken of the two sides, and of those of the two streams
-abbrev pub limit_by : (limit client controller to_client to_controller : ℕ) → Option CutReason
-limit_by limit client controller to_client to_controller =
-    if nat_le limit client || nat_le limit to_client then Some (reason.StreamLength side.Client)
-    else if nat_le limit controller || nat_le limit to_controller then Some (reason.StreamLength side.Controller)
-    else None
 
 -- whether it is closed, whether the packet of a side resets its leg, why the lane cuts, and why a full stream does
 abbrev pub cut_by : (closed resets : Bool) → Side → (lane full : Option CutReason) → Option CutReason

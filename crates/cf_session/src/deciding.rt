@@ -1,12 +1,13 @@
 //! Whether a packet cuts a session, and whether it closes one.
-ghost use Rattle.std.specs.Prelude.{◌≡◌, ◌+◌, ◌-◌, ◌*◌, ◌^◌, ◌<◌, ◌≤◌, true, nat_le, if◌then◌else◌, [], None, Some, IsErr, OnOk};
+ghost use Rattle.std.specs.Prelude.{◌≡◌, ◌+◌, ◌-◌, ◌*◌, ◌<◌, ◌≤◌, true, if◌then◌else◌, [], None, Some, IsErr, OnOk};
 ghost use Rattle.std.specs.Option.{option_or};
 ghost use Rattle.cf_outq.specs.SendQueue.{queue_length};
 ghost use Rattle.cf_outside.specs.Desk.{DeskValue, KeepsDesk};
 ghost use Rattle.cf_outside.specs.Faults.{HasCause};
 ghost use Rattle.cf_policy.specs.Within.{IsAssetWithin};
 ghost use Rattle.cf_rebuild.specs.ReceiveWindow.{base_of};
-ghost use Rattle.cf_session.specs.Cuts.{cut_by, is_reset, limit_by};
+ghost use Rattle.cf_lane.specs.Limit.{limit_by};
+ghost use Rattle.cf_session.specs.Cuts.{cut_by, is_reset};
 ghost use Rattle.cf_session.specs.Parts.{SessionValue};
 ghost use Rattle.cf_session.specs.Told.{told, with_both};
 ghost use Rattle.cf_session.specs.Turn.{closing_lines, is_acknowledged, is_done_now, number_by};
@@ -15,7 +16,8 @@ use crate::cutting::log_line;
 use crate::handing::has_ended;
 use crate::session::Session;
 use cf_audit::{CutReason, What};
-use cf_leg::{Leg, LegAnswer};
+use cf_leg::LegAnswer;
+use cf_lane::{Lengths, limit_cut};
 use cf_outq::Outq;
 use cf_outside::Desk;
 use cf_policy::Asset;
@@ -63,22 +65,6 @@ pub(crate) fn why(
     }
 }
 
-/// As many letters of a queue as the limit.
-fn is_long(queue: &Outq, limit: u64) -> bool
-    requires { limit ≤ 2 ^ 30 }
-    ensures { result ≡ nat_le limit (queue_length queue.now) }
-{
-    queue.length() >= limit as i64
-}
-
-/// As many letters were taken as the limit.
-fn has_many(leg: &Leg, limit: u64) -> bool
-    requires { limit ≤ 2 ^ 30 }
-    ensures { result ≡ nat_le limit (base_of leg.now.window) }
-{
-    leg.window().base() >= limit as i64
-}
-
 /// A queue has End, and its peer has acknowledged it.
 fn is_acknowledged(queue: &Outq) -> bool
     ensures { result ≡ is_acknowledged queue.now }
@@ -89,20 +75,15 @@ fn is_acknowledged(queue: &Outq) -> bool
 impl Session {
     /// Why a stream is full, if one is. This project's own order: the client's two streams, then the controller's.
     pub(crate) fn full(&self) -> Option<CutReason>
-        requires limit { SessionValue.limit self.now ≤ 2 ^ 30 }
         ensures { result ≡ limit_by (SessionValue.limit self.now) (base_of (self.now.client).window) (base_of (self.now.controller).window) (queue_length self.now.to_client) (queue_length self.now.to_controller) }
     {
-        let client_taken = has_many(&self.client, self.limit);
-        let client_sent = is_long(&self.to_client, self.limit);
-        if client_taken || client_sent {
-            return Some(CutReason::StreamLength(Side::Client));
-        }
-        let controller_taken = has_many(&self.controller, self.limit);
-        let controller_sent = is_long(&self.to_controller, self.limit);
-        if controller_taken || controller_sent {
-            return Some(CutReason::StreamLength(Side::Controller));
-        }
-        None
+        let lengths = Lengths {
+            client: self.client.window().base() as u64,
+            controller: self.controller.window().base() as u64,
+            to_client: self.to_client.length() as u64,
+            to_controller: self.to_controller.length() as u64,
+        };
+        limit_cut(self.limit, &lengths)
     }
 
     /// Both sides have ended, and both ends are acknowledged.

@@ -7,7 +7,8 @@ use Rattle.cf_rebuild.specs.ReceiveWindow.{base_of}
 use Rattle.cf_session.proofs.Assembled.{greeted_before, is_half, may_greet}
 use Rattle.cf_session.proofs.Final.{counts_cut, hears_by, hears_cut, hears_live, lives_three}
 use Rattle.cf_session.proofs.Sound.{is_short_by, lane_none, some_closed, sound_after, full_none}
-use Rattle.cf_session.specs.Cuts.{cut_by, is_reset, limit_by}
+use Rattle.cf_session.specs.Cuts.{cut_by, is_reset}
+use Rattle.cf_lane.specs.Limit.{limit_by}
 use Rattle.cf_session.specs.Parts.{SessionValue}
 use Rattle.cf_session.specs.Session.{clients, controllers}
 use Rattle.cf_session.specs.Stands.{HearsBy}
