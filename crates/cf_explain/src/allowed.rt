@@ -15,7 +15,7 @@ pub(crate) fn allowed(key: Key, table: &Table) -> &'static str {
         Key::Port => "a port is a whole number from 1 to 65535, as port = 502",
         Key::Protocol => "a protocol is \"modbus\", \"dnp3\" or \"iec104\"",
         Key::Station => station(table),
-        Key::Master => "the master of DNP3 is its link address, 0 to 65519, as master = 1",
+        Key::Master => "a DNP3 asset has its master's link address, 0 to 65519, as master = 1",
         Key::Rule => "each rule is a table [[asset.rule]] below its [[asset]], at most 1024 of an asset",
         Key::Action => "an action is \"allow\" or \"refuse\"",
         Key::Clients => {

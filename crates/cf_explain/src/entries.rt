@@ -6,7 +6,7 @@ use cf_policy::{
 use toml::Value;
 
 /// Why a text is no number from `low` to `high` as it is printed, if it is none.
-fn number_fault(low: i64, high: i64, text: &str) -> Option<&'static str> {
+fn number_fault(key: Key, low: i64, high: i64, text: &str) -> Option<&'static str> {
     if text.is_empty() {
         return Some("a number is missing");
     }
@@ -26,13 +26,17 @@ fn number_fault(low: i64, high: i64, text: &str) -> Option<&'static str> {
         Ok(number) if number < low => Some("the number is too low"),
         Ok(number) if number > high => Some("the number is too high"),
         Ok(_) => None,
-        Err(_) => Some(misread(text)),
+        Err(_) => Some(misread(key, text)),
     }
 }
 
 /// What a text may be that is no number.
-fn misread(text: &str) -> &'static str {
-    if text.starts_with("@") {
+fn misread(key: Key, text: &str) -> &'static str {
+    if key == Key::Groups && (text.contains(".") || text.starts_with("g")) {
+        "a group of DNP3 is 256 times the object group and then the variation, as 3073 for g12v1"
+    } else if text.contains(".") {
+        "numbers have no point"
+    } else if text.starts_with("@") {
         "there are no sets of points in version 1"
     } else if text.contains("-") {
         "a range has two points between its numbers, as 40..49"
@@ -50,12 +54,12 @@ fn misread(text: &str) -> &'static str {
 }
 
 /// Why a text is no number and no range of numbers from `low` to `high`, if it is neither.
-fn span_fault(low: i64, high: i64, text: &str) -> Option<&'static str> {
+fn span_fault(key: Key, low: i64, high: i64, text: &str) -> Option<&'static str> {
     let (first, last) = text.split_once("..").unwrap_or((text, text));
-    if let Some(fault) = number_fault(low, high, first) {
+    if let Some(fault) = number_fault(key, low, high, first) {
         return Some(fault);
     }
-    if let Some(fault) = number_fault(low, high, last) {
+    if let Some(fault) = number_fault(key, low, high, last) {
         return Some(fault);
     }
     match (first.parse::<i64>(), last.parse::<i64>()) {
@@ -83,9 +87,9 @@ fn entry_fault(key: Key, value: &Value) -> Option<&'static str> {
         (Key::Codes, Value::Integer(code)) if *code < 0 => Some("the number is too low"),
         (Key::Codes, Value::Integer(code)) if *code > HIGHEST_CODE => Some("the number is too high"),
         (Key::Clients, Value::String(text)) => client_fault(text.as_str()),
-        (Key::Groups, Value::String(text)) => span_fault(0, HIGHEST_GROUP, text.as_str()),
-        (Key::Points, Value::String(text)) => span_fault(0, HIGHEST_POINT, text.as_str()),
-        (Key::Values, Value::String(text)) => span_fault(LOWEST_VALUE, HIGHEST_VALUE, text.as_str()),
+        (Key::Groups, Value::String(text)) => span_fault(key, 0, HIGHEST_GROUP, text.as_str()),
+        (Key::Points, Value::String(text)) => span_fault(key, 0, HIGHEST_POINT, text.as_str()),
+        (Key::Values, Value::String(text)) => span_fault(key, LOWEST_VALUE, HIGHEST_VALUE, text.as_str()),
         _ => None,
     }
 }

@@ -1,7 +1,7 @@
 //! Why a policy was refused, and how its text is mended.
 use crate::allowed::allowed;
 use crate::place::{Target, TextPlace, find_place, table_at};
-use crate::quote::push_quoted;
+use crate::quote::push_shown;
 use crate::unknown::{Level, unknown_key};
 use crate::wrong::{Case, cause_of, push_where, push_wrong};
 use cf_policylang::{Cause, Key, LONGEST_TEXT, PolicyRefusal};
@@ -39,12 +39,30 @@ fn push_no_toml(out: &mut String, text: &[u8], error: &toml::de::Error) -> Resul
         return Err(AllocError);
     };
     let before = text.get(..span.start).unwrap_or(text);
+    let line = line_of(text, before);
     push_place(out, TextPlace::behind(before))?;
     out.push_str(": this is no TOML: ")?;
-    let message = error.message();
-    push_line(out, message)?;
-    out.push_str("\n  the line is ")?;
-    push_quoted(out, line_of(text, before))
+    push_line(out, error.message())?;
+    if let Some(hint) = toml_hint(line) {
+        write!(out, "; {hint}")?;
+    }
+    out.push_str("\n  in the line: ")?;
+    push_shown(out, line)
+}
+
+/// What is often meant by a line that is no TOML.
+fn toml_hint(line: &str) -> Option<&'static str> {
+    if line.contains("\u{201c}") || line.contains("\u{201d}") {
+        return Some("quotation marks are the straight ones, as \"allow\"");
+    }
+    if line.starts_with("[") {
+        return Some("write [[asset]] and [[asset.rule]] with two brackets each time");
+    }
+    let (_, value) = line.split_once("=")?;
+    if value.trim().starts_with(|letter: char| letter.is_ascii_alphabetic()) {
+        return Some("a text stands between quotation marks, as \"allow\"");
+    }
+    None
 }
 
 /// A message in one line.
@@ -109,19 +127,18 @@ fn push_refused(
     })
 }
 
+/// The place of the header of an asset's table (its rule 0) or of a rule's.
+pub(crate) fn table_place(alloc: Global, text: &[u8], asset: u32, rule: u32) -> Option<TextPlace> {
+    let key = None;
+    find_place(alloc, text, &Target { asset, rule, key })
+}
+
 /// The place of the key, or of the table that lacks it.
 fn case_place(alloc: Global, text: &[u8], case: &Case<'_>) -> Option<TextPlace> {
-    let table = Target {
-        asset: case.asset,
-        rule: case.rule,
-        key: None,
-    };
-    let key = Target {
-        key: Some(case.name),
-        ..table
-    };
-    match find_place(alloc, text, &key) {
+    let (asset, rule) = (case.asset, case.rule);
+    let key = Some(case.name);
+    match find_place(alloc, text, &Target { asset, rule, key }) {
         Some(place) => Some(place),
-        None => find_place(alloc, text, &table),
+        None => table_place(alloc, text, asset, rule),
     }
 }

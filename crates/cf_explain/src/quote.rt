@@ -6,23 +6,32 @@ use toml::Value;
 /// How many characters of a text are shown.
 const SHOWN: usize = 48;
 
-/// A text between quotation marks, cut behind `SHOWN` characters. What would not print stands as its escape.
-pub(crate) fn push_quoted(out: &mut String, text: &str) -> Result<(), AllocError> {
-    out.push('"')?;
+/// A text cut behind `SHOWN` characters. A control character stands as its escape.
+pub(crate) fn push_shown(out: &mut String, text: &str) -> Result<(), AllocError> {
     for character in text.chars().take(SHOWN) {
-        push_escaped(out, character)?;
+        push_character(out, character)?;
     }
     if text.chars().nth(SHOWN).is_some() {
         out.push_str("..")?;
     }
-    out.push('"')
+    Ok(())
 }
 
-fn push_escaped(out: &mut String, character: char) -> Result<(), AllocError> {
-    for part in character.escape_debug() {
+fn push_character(out: &mut String, character: char) -> Result<(), AllocError> {
+    if !character.is_control() {
+        return out.push(character);
+    }
+    for part in character.escape_default() {
         out.push(part)?;
     }
     Ok(())
+}
+
+/// The same between quotation marks.
+pub(crate) fn push_quoted(out: &mut String, text: &str) -> Result<(), AllocError> {
+    out.push('"')?;
+    push_shown(out, text)?;
+    out.push('"')
 }
 
 /// A value with its kind.

@@ -10,6 +10,10 @@ use std::alloc::{AllocError, Global};
 use std::fmt::Write;
 use toml::{Table, Value};
 
+const ACTIONS: [&str; 2] = ["allow", "refuse"];
+
+const PROTOCOLS: [&str; 3] = ["modbus", "dnp3", "iec104"];
+
 /// The cause of a number, as a refusal has it.
 pub(crate) fn cause_of(number: u8) -> Option<Cause> {
     match number {
@@ -67,8 +71,9 @@ fn push_missing(alloc: Global, out: &mut String, case: &Case<'_>) -> Result<(), 
     write!(out, "`{name}` is missing")?;
     for key in case.table.keys() {
         if nearest(alloc, key.as_str(), &[name])?.is_some() {
-            out.push_str("; did you mean it by ")?;
-            return push_quoted(out, key.as_str());
+            out.push_str("; did you write ")?;
+            push_quoted(out, key.as_str())?;
+            return out.push_str(" for it?");
         }
     }
     Ok(())
@@ -117,14 +122,18 @@ fn push_bad_text(alloc: Global, out: &mut String, key: Key, text: &str) -> Resul
     if let Some(fault) = fault {
         return write!(out, ": {fault}");
     }
-    let known: &[&str] = match key {
-        Key::Action => &["allow", "refuse"],
-        Key::Protocol => &["modbus", "dnp3", "iec104"],
-        _ => &[],
-    };
-    match nearest(alloc, text, known)? {
+    match nearest(alloc, text, known_texts(key))? {
         Some(meant) => write!(out, "; did you mean \"{meant}\"?"),
         None => Ok(()),
+    }
+}
+
+/// The texts that a key takes, where they are few.
+fn known_texts(key: Key) -> &'static [&'static str] {
+    match key {
+        Key::Action => &ACTIONS,
+        Key::Protocol => &PROTOCOLS,
+        _ => &[],
     }
 }
 

@@ -27,7 +27,7 @@ const LINES: &str = r#"1|version = 1
 20|[[asset]]
 21|name = "rtu"
 22|address = "10.0.0.10"
-23|port = 20000
+23|port = 502
 24|protocol = "dnp3"
 25|station = 10
 26|master = 1"#;
@@ -91,7 +91,16 @@ const ROWS: &str = r#"1|version 1
 9|name = "default"
 13|name = "poll"
 21|name = "pump"
-22|address = "10.0.0.9" / port = 502 / # 
+22|address = "10.0.0.9"
+6|protocol = “modbus”
+17|groups = ["g12v1"]
+19|values = ["-0"]
+15|clients = ["10.0.0.1-10.0.0.5"]
+5|port = 
+25|station = -1
+6|station = 1 / station = 2
+8|[[asset.rule]
+10|action = true
 17|groups = ["0"] / groups = ["1"]
 18|points = ["40..49", # a list in lines / "x"]
 18|points = """ / points = 1"""
