@@ -2,7 +2,9 @@
 //! what stands in the outputs after a fault. Each call makes one text, whatever it is given, or ends for want of memory.
 #![tactic(auto)]
 
+mod acts;
 mod allowed;
+mod covered;
 mod entries;
 mod kinds;
 mod nearest;
@@ -10,9 +12,14 @@ mod place;
 mod policy;
 mod quote;
 mod unknown;
+mod unmet;
 mod wrong;
 
+pub use acts::{Groups, Kind};
+pub use covered::covering;
 pub use policy::policy_message;
+
+pub use unmet::{Unmet, why_unmet};
 
 #[cfg(test)]
 mod tests;
