@@ -1,2 +1,3 @@
 mod Reach
 mod Inclusion
+mod Codes

@@ -6,6 +6,7 @@ mod acts;
 mod allowed;
 mod covered;
 mod entries;
+mod found;
 mod kinds;
 mod nearest;
 mod place;
@@ -17,8 +18,8 @@ mod wrong;
 
 pub use acts::{Groups, Kind};
 pub use covered::covering;
+pub use found::{What, findings};
 pub use policy::policy_message;
-
 pub use unmet::{Unmet, why_unmet};
 
 #[cfg(test)]
