@@ -4,23 +4,31 @@
 
 mod acts;
 mod allowed;
+mod capture;
 mod covered;
 mod entries;
 mod found;
 mod kinds;
 mod nearest;
+mod outputs;
 mod place;
 mod policy;
 mod quote;
 mod unknown;
 mod unmet;
+mod warnings;
+mod words;
 mod wrong;
 
 pub use acts::{Groups, Kind};
+pub use capture::capture_message;
 pub use covered::covering;
 pub use found::{What, findings};
+pub use outputs::{asset_message, outputs_message};
 pub use policy::policy_message;
 pub use unmet::{Unmet, why_unmet};
+pub use warnings::policy_warnings;
+pub use words::words_message;
 
 #[cfg(test)]
 mod tests;

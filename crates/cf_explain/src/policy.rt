@@ -128,9 +128,23 @@ fn push_refused(
 }
 
 /// The place of the header of an asset's table (its rule 0) or of a rule's.
-pub(crate) fn table_place(alloc: Global, text: &[u8], asset: u32, rule: u32) -> Option<TextPlace> {
+fn table_place(alloc: Global, text: &[u8], asset: u32, rule: u32) -> Option<TextPlace> {
     let key = None;
     find_place(alloc, text, &Target { asset, rule, key })
+}
+
+/// Adds the place of a rule's header, if a line says it.
+pub(crate) fn push_rule_place(
+    alloc: Global,
+    out: &mut String,
+    text: &[u8],
+    asset: u32,
+    rule: u32,
+) -> Result<(), AllocError> {
+    match table_place(alloc, text, asset, rule) {
+        Some(place) => push_place(out, place),
+        None => Ok(()),
+    }
 }
 
 /// The place of the key, or of the table that lacks it.

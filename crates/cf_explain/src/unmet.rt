@@ -56,7 +56,7 @@ fn first_missed(rule: &Rule, kinds: &[Kind]) -> Unmet {
 }
 
 /// Whether the rule's groups and points meet a kind of acts.
-fn reaches_place(rule: &Rule, kind: &Kind) -> bool {
+pub(crate) fn reaches_place(rule: &Rule, kind: &Kind) -> bool {
     reaches_groups(&rule.groups, kind.groups) && reaches(&rule.points, &kind.points)
 }
 
