@@ -76,10 +76,10 @@ never_decides rules number r (Some k) inside is e = λ client act decided.
     let within : k < length (take number rules) = within_of (λ q. includes_rule q r) (take number rules) k (sym e) in
     let before : k < number = omega (arith, within, length-take number rules) in
     let there : get_or rules k r ≡ early.0 =
-        sym (get_or-take number rules k r before) ∙ get_or_from_slice_get (take number rules) k early.0 r early.1.here in
+    sym (get_or-take number rules k r before) ∙ get_or_from_slice_get (take number rules) k early.0 r early.1.here in
     let here : first.0 ≡ r = sym (get_or_from_slice_get rules number first.0 r first.1.here) ∙ sym is in
     let has : has_act early.0 client act ≡ true =
-        act_had early.0 r client act early.1.passes (subst (λ q. has_act q client act ≡ true) here first.1.passes) in
+    act_had early.0 r client act early.1.passes (subst (λ q. has_act q client act ≡ true) here first.1.passes) in
     let not_had : has_act early.0 client act ≡ false =
-        first.1.before k early.0 before (slice_get-get_or rules k r (omega (arith, before, inside)) ∙ ap Some there) in
+    first.1.before k early.0 before (slice_get-get_or rules k r (omega (arith, before, inside)) ∙ ap Some there) in
     true≢false (sym has ∙ not_had)

@@ -36,9 +36,9 @@ reach_groups spans groups.Causes n a b =
     ⊎_elim
     (λ five. or_left _ _ (reach spans (between 5 5) n a five))
     (λ others. or_right (reaches spans (between 5 5)) _ (⊎_elim
-        (λ six. or_left _ _ (reach spans (between 6 6) n a six))
-        (λ eight. or_right (reaches spans (between 6 6)) _ (reach spans (between 8 8) n a eight))
-        (or_cases (covers (between 6 6) n) (covers (between 8 8) n) others)))
+    (λ six. or_left _ _ (reach spans (between 6 6) n a six))
+    (λ eight. or_right (reaches spans (between 6 6)) _ (reach spans (between 8 8) n a eight))
+    (or_cases (covers (between 6 6) n) (covers (between 8 8) n) others)))
     (or_cases (covers (between 5 5) n) _ b)
 
 reach_values : (spans : List Span) (v : Option Span) (x : Option ℤ) → takes_value spans x ≡ true → has_value v x ≡ true → reaches_values spans v ≡ true
@@ -66,5 +66,5 @@ pub never_has : (p : Protocol) (r : Rule) (code : ℕ) → list_any (meets r) (k
 never_has p r code none client act same can = false_from_ne_true (has_act r client act) (λ has.
     let found = Any-from_list_any (is_of_kind act) (kinds p act.code) can in
     let some : list_any (meets r) (kinds p act.code) ≡ true =
-        list_any-from_Any (meets r) (kinds p act.code) (found.0, found.1, found.2, found.3, meet r found.1 client act has found.4) in
+    list_any-from_Any (meets r) (kinds p act.code) (found.0, found.1, found.2, found.3, meet r found.1 client act has found.4) in
     true≢false (sym some ∙ subst (λ c. list_any (meets r) (kinds p c) ≡ false) (sym same) none))

@@ -52,8 +52,8 @@ abbrev pub dnp3_kinds : ℕ → List Kind
 dnp3_kinds code =
     if code == 2 then written_kind 50 1 ∷ written_kind 50 3 ∷ written_kind 80 1 ∷ [] else
     (if nat_le 3 code && nat_le code 6 then
-        control_kind 12 1 1 (Some (up_to 255)) ∷ control_kind 41 1 1 (Some (signed 2147483648)) ∷ control_kind 41 2 2 (Some (signed 32768))
-        ∷ control_kind 41 3 4 None ∷ []
+    control_kind 12 1 1 (Some (up_to 255)) ∷ control_kind 41 1 1 (Some (signed 2147483648)) ∷ control_kind 41 2 2 (Some (signed 32768))
+    ∷ control_kind 41 3 4 None ∷ []
     else
     (if (code == 1) || ((nat_le 7 code && nat_le code 10) || ((code == 13) || ((code == 14) || (nat_le 20 code && nat_le code 24))))
     then kind (groups.Span (up_to 65535)) (up_to 0) None ∷ [] else []))
@@ -68,11 +68,11 @@ iec104_kinds code =
     if (code == 45) || (code == 58) then object_kind (Some (up_to 1)) ∷ [] else
     (if (code == 46) || ((code == 47) || ((code == 59) || (code == 60))) then object_kind (Some (up_to 3)) ∷ [] else
     (if (code == 48) || ((code == 49) || ((code == 61) || ((code == 62) || ((code == 110) || (code == 111)))))
-        then object_kind (Some (signed 32768)) ∷ [] else
+    then object_kind (Some (signed 32768)) ∷ [] else
     (if (code == 51) || (code == 64) then object_kind (Some (up_to 4294967295)) ∷ [] else
     (if (code == 100) || ((code == 101) || ((code == 105) || (code == 113))) then object_kind (Some (up_to 255)) ∷ [] else
     (if (code == 50) || ((code == 63) || ((code == 102) || ((code == 103) || ((code == 107) || (code == 112)))))
-        then object_kind None ∷ [] else [])))))
+    then object_kind None ∷ [] else [])))))
 
 -- the kinds of acts that commands with a code have
 abbrev pub kinds : Protocol → ℕ → List Kind

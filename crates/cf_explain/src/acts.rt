@@ -31,29 +31,65 @@ const TWO_BITS: Span = Span { low: 0, high: 3 };
 
 const OCTET: Span = Span { low: 0, high: 255 };
 
-const UNSIGNED_16: Span = Span { low: 0, high: 65_535 };
+const UNSIGNED_16: Span = Span {
+    low: 0,
+    high: 65_535,
+};
 
-const SIGNED_16: Span = Span { low: -32_768, high: 32_767 };
+const SIGNED_16: Span = Span {
+    low: -32_768,
+    high: 32_767,
+};
 
-const UNSIGNED_24: Span = Span { low: 0, high: 16_777_215 };
+const UNSIGNED_24: Span = Span {
+    low: 0,
+    high: 16_777_215,
+};
 
-const UNSIGNED_32: Span = Span { low: 0, high: 4_294_967_295 };
+const UNSIGNED_32: Span = Span {
+    low: 0,
+    high: 4_294_967_295,
+};
 
-const SIGNED_32: Span = Span { low: -2_147_483_648, high: 2_147_483_647 };
+const SIGNED_32: Span = Span {
+    low: -2_147_483_648,
+    high: 2_147_483_647,
+};
 
-const G12V1: Span = Span { low: 3073, high: 3073 };
+const G12V1: Span = Span {
+    low: 3073,
+    high: 3073,
+};
 
-const G41V1: Span = Span { low: 10_497, high: 10_497 };
+const G41V1: Span = Span {
+    low: 10_497,
+    high: 10_497,
+};
 
-const G41V2: Span = Span { low: 10_498, high: 10_498 };
+const G41V2: Span = Span {
+    low: 10_498,
+    high: 10_498,
+};
 
-const G41V3_TO_4: Span = Span { low: 10_499, high: 10_500 };
+const G41V3_TO_4: Span = Span {
+    low: 10_499,
+    high: 10_500,
+};
 
-const G50V1: Span = Span { low: 12_801, high: 12_801 };
+const G50V1: Span = Span {
+    low: 12_801,
+    high: 12_801,
+};
 
-const G50V3: Span = Span { low: 12_803, high: 12_803 };
+const G50V3: Span = Span {
+    low: 12_803,
+    high: 12_803,
+};
 
-const G80V1: Span = Span { low: 20_481, high: 20_481 };
+const G80V1: Span = Span {
+    low: 20_481,
+    high: 20_481,
+};
 
 const READ: Kind = Kind {
     groups: Groups::Span(ZERO),

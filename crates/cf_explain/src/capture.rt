@@ -107,18 +107,19 @@ fn ending_of(header: &Header, bytes: &[u8]) -> Ending {
 /// What is wrong with a record, if something is, and whether it was told.
 fn push_ending(out: &mut String, ending: Ending) -> Result<bool, AllocError> {
     let (number, place) = (ending.number, ending.place);
-    let whole = number.saturating_sub(1);
     match ending.stop {
-        Stop::End => Ok(false),
-        Stop::Cut => {
-            write!(out, "the file ends inside record {number}, which begins at byte {place}")?;
-            write!(out, "\n  'editcap -F pcap IN OUT' writes the {whole} records before it")?;
-            Ok(true)
-        }
-        Stop::TooLong => {
-            write!(out, "record {number}, which begins at byte {place}, has more than {CAPTURED_LIMIT} bytes")?;
-            write!(out, "\n  'editcap -F pcap -r IN OUT 1-{whole}' writes the records before it")?;
-            Ok(true)
-        }
+        Stop::End => return Ok(false),
+        Stop::Cut => write!(
+            out,
+            "the file ends inside record {number}, which begins at byte {place}"
+        )?,
+        Stop::TooLong => write!(
+            out,
+            "record {number}, which begins at byte {place}, has more than {CAPTURED_LIMIT} bytes"
+        )?,
     }
+    if number > 1 {
+        out.push_str("\n  'editcap -F pcap IN OUT' writes the records before it")?;
+    }
+    Ok(true)
 }

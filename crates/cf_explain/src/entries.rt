@@ -1,8 +1,8 @@
 //! What is wrong with an entry of a list, or with a name.
-use cf_policylang::{Key, address};
 use cf_policy::{
     HIGHEST_CODE, HIGHEST_GROUP, HIGHEST_POINT, HIGHEST_VALUE, LONGEST_NAME, LOWEST_VALUE,
 };
+use cf_policylang::{Key, address};
 use toml::Value;
 
 /// Why a text is no number from `low` to `high` as it is printed, if it is none.
@@ -33,7 +33,7 @@ fn number_fault(key: Key, low: i64, high: i64, text: &str) -> Option<&'static st
 /// What a text may be that is no number.
 fn misread(key: Key, text: &str) -> &'static str {
     if key == Key::Groups && (text.contains(".") || text.starts_with("g")) {
-        "a group of DNP3 is 256 times the object group and then the variation, as 3073 for g12v1"
+        "a group of DNP3 is 256 times the object group, and the variation: 3073 for g12v1"
     } else if text.contains(".") {
         "numbers have no point"
     } else if text.starts_with("@") {
@@ -77,6 +77,9 @@ fn client_fault(text: &str) -> Option<&'static str> {
     match (address(first), address(last)) {
         (Some(first), Some(last)) if first > last => Some("the first address is above the second"),
         (Some(_), Some(_)) => None,
+        _ if text.contains("-") => {
+            Some("a range has two points between its addresses, as 10.0.0.5..10.0.0.9")
+        }
         _ => Some("it is no address"),
     }
 }
@@ -85,18 +88,27 @@ fn client_fault(text: &str) -> Option<&'static str> {
 fn entry_fault(key: Key, value: &Value) -> Option<&'static str> {
     match (key, value) {
         (Key::Codes, Value::Integer(code)) if *code < 0 => Some("the number is too low"),
-        (Key::Codes, Value::Integer(code)) if *code > HIGHEST_CODE => Some("the number is too high"),
+        (Key::Codes, Value::Integer(code)) if *code > HIGHEST_CODE => Some(
+            "the number is too high",
+        ),
         (Key::Clients, Value::String(text)) => client_fault(text.as_str()),
         (Key::Groups, Value::String(text)) => span_fault(key, 0, HIGHEST_GROUP, text.as_str()),
         (Key::Points, Value::String(text)) => span_fault(key, 0, HIGHEST_POINT, text.as_str()),
-        (Key::Values, Value::String(text)) => span_fault(key, LOWEST_VALUE, HIGHEST_VALUE, text.as_str()),
+        (Key::Values, Value::String(text)) => span_fault(
+            key,
+            LOWEST_VALUE,
+            HIGHEST_VALUE,
+            text.as_str(),
+        ),
         _ => None,
     }
 }
 
 /// The first entry of a list that is refused: its number from 1, and why.
 pub(crate) fn first_fault(key: Key, entries: &[Value]) -> Option<(usize, &Value, &'static str)> {
-    let index = entries.iter().position(|entry| entry_fault(key, entry).is_some())?;
+    let index = entries
+        .iter()
+        .position(|entry| entry_fault(key, entry).is_some())?;
     let entry = entries.get(index)?;
     let fault = entry_fault(key, entry)?;
     Some((index.saturating_add(1), entry, fault))
@@ -137,7 +149,10 @@ pub(crate) fn address_fault(text: &str) -> Option<&'static str> {
     if text.split(".").count() != 4 {
         return Some("it has not four numbers");
     }
-    if text.split(".").any(|part| part.len() > 1 && part.starts_with("0")) {
+    if text
+        .split(".")
+        .any(|part| part.len() > 1 && part.starts_with("0"))
+    {
         return Some("a number has no leading zero");
     }
     Some("a number of it is none from 0 to 255")

@@ -1,5 +1,5 @@
 //! Why a policy was refused, and how its text is mended.
-use crate::allowed::allowed;
+use crate::allowed::{allowed, apart};
 use crate::place::{Target, TextPlace, find_place, table_at};
 use crate::quote::push_shown;
 use crate::unknown::{Level, unknown_key};
@@ -59,7 +59,10 @@ fn toml_hint(line: &str) -> Option<&'static str> {
         return Some("write [[asset]] and [[asset.rule]] with two brackets each time");
     }
     let (_, value) = line.split_once("=")?;
-    if value.trim().starts_with(|letter: char| letter.is_ascii_alphabetic()) {
+    if value
+        .trim()
+        .starts_with(|letter: char| letter.is_ascii_alphabetic())
+    {
         return Some("a text stands between quotation marks, as \"allow\"");
     }
     None
@@ -79,8 +82,12 @@ fn push_line(out: &mut String, message: &str) -> Result<(), AllocError> {
 /// The line of a text in which its front ends; an empty one where it is no UTF-8.
 fn line_of<'a>(text: &'a [u8], before: &[u8]) -> &'a str {
     let number = TextPlace::behind(before).line;
-    let line = text.split(|byte| *byte == b'\n').nth(number.saturating_sub(1));
-    std::str::from_utf8(line.unwrap_or(b"")).unwrap_or("").trim()
+    let line = text
+        .split(|byte| *byte == b'\n')
+        .nth(number.saturating_sub(1));
+    std::str::from_utf8(line.unwrap_or(b""))
+        .unwrap_or("")
+        .trim()
 }
 
 fn push_place(out: &mut String, place: TextPlace) -> Result<(), AllocError> {
@@ -123,6 +130,7 @@ fn push_refused(
     out.push_str("\n  ")?;
     out.push_str(match cause {
         Cause::UnknownKey => level.allowed(),
+        Cause::Duplicate => apart(case.key, case.rule),
         _ => allowed(case.key, table),
     })
 }

@@ -54,11 +54,13 @@ impl Level {
     /// The keys of this level in words.
     pub(crate) fn allowed(self) -> &'static str {
         match self {
-            Level::Document => "above the first table the document has version = 1, and then tables [[asset]]",
+            Level::Document =>
+                "above the first table the document has version = 1, and then tables [[asset]]",
             Level::Asset => {
                 "an asset has name, address, port, protocol, station, for DNP3 master, and tables [[asset.rule]]"
             }
-            Level::Rule => "a rule has name, action, codes, and may have clients, groups, points and values",
+            Level::Rule =>
+                "a rule has name, action, codes, and may have clients, groups, points and values",
         }
     }
 }

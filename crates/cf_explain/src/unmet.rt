@@ -44,11 +44,17 @@ fn some_meets(rule: &Rule, kinds: &[Kind]) -> bool
 fn first_missed(rule: &Rule, kinds: &[Kind]) -> Unmet {
     if kinds.is_empty() {
         Unmet::Code
-    } else if !kinds.iter().any(|kind| reaches_groups(&rule.groups, kind.groups)) {
+    } else if !kinds
+        .iter()
+        .any(|kind| reaches_groups(&rule.groups, kind.groups))
+    {
         Unmet::Group
     } else if !kinds.iter().any(|kind| reaches_place(rule, kind)) {
         Unmet::Point
-    } else if kinds.iter().any(|kind| reaches_place(rule, kind) && kind.values.is_some()) {
+    } else if kinds
+        .iter()
+        .any(|kind| reaches_place(rule, kind) && kind.values.is_some())
+    {
         Unmet::Value
     } else {
         Unmet::NoValue

@@ -138,11 +138,7 @@ fn push_what(out: &mut String, subject: &Subject<'_>, what: What) -> Result<(), 
 }
 
 /// That an earlier rule has all that this one has.
-fn push_covered(
-    out: &mut String,
-    subject: &Subject<'_>,
-    earlier: usize,
-) -> Result<(), AllocError> {
+fn push_covered(out: &mut String, subject: &Subject<'_>, earlier: usize) -> Result<(), AllocError> {
     let number = earlier.saturating_add(1);
     write!(out, "it decides nothing: rule {number} ")?;
     let Some(first) = subject.asset.rules.as_slice().get(earlier) else {
@@ -178,7 +174,10 @@ fn push_reason(
             write!(out, "code {code} has no points but ")?;
             push_points(out, kinds)
         }
-        Unmet::NoValue => write!(out, "code {code} has no value there, and the rule states values"),
+        Unmet::NoValue => write!(
+            out,
+            "code {code} has no value there, and the rule states values"
+        ),
         Unmet::Value => {
             write!(out, "code {code} has no values but ")?;
             push_values(out, rule, kinds)
@@ -232,7 +231,11 @@ fn push_values(out: &mut String, rule: &Rule, kinds: &[Kind]) -> Result<(), Allo
 }
 
 fn push_comma(out: &mut String, index: usize) -> Result<(), AllocError> {
-    if index > 0 { out.push_str(", ") } else { Ok(()) }
+    if index > 0 {
+        out.push_str(", ")
+    } else {
+        Ok(())
+    }
 }
 
 fn push_span(out: &mut String, span: Span) -> Result<(), AllocError> {

@@ -122,7 +122,7 @@ pub fn words_message(alloc: Global, words: &[String]) -> Result<String, AllocErr
         return Ok(out);
     };
     match slots_of(command.as_str()) {
-        Some(slots) => push_command_fault(alloc, &mut out, command.as_str(), slots, rest)?,
+        Some(slots) => push_command_fault(&mut out, command.as_str(), slots, rest)?,
         None => push_no_command(alloc, &mut out, command.as_str())?,
     }
     Ok(out)
@@ -151,13 +151,12 @@ fn push_no_command(alloc: Global, out: &mut String, word: &str) -> Result<(), Al
 
 /// What is wrong with the words behind a command, and its form.
 fn push_command_fault(
-    alloc: Global,
     out: &mut String,
     command: &str,
     slots: &[Slot],
     words: &[String],
 ) -> Result<(), AllocError> {
-    push_words_fault(alloc, out, command, slots, words)?;
+    push_words_fault(out, command, slots, words)?;
     write!(out, "\n  cmdwall {command}")?;
     for slot in slots {
         let name = slot.name;
@@ -168,7 +167,6 @@ fn push_command_fault(
 
 /// The first of these that holds: too few or too many words, a word that is none of its role, two files of one name.
 fn push_words_fault(
-    alloc: Global,
     out: &mut String,
     command: &str,
     slots: &[Slot],
@@ -176,10 +174,13 @@ fn push_words_fault(
 ) -> Result<(), AllocError> {
     let (wanted, count) = (slots.len(), words.len());
     if wanted != count {
-        return write!(out, "{command} has {wanted} words behind it, and not {count}");
+        return write!(
+            out,
+            "behind {command} stand {wanted} words, and here are {count}"
+        );
     }
     for (slot, word) in slots.iter().zip(words) {
-        if push_word_fault(alloc, out, slot, word.as_str())? {
+        if push_word_fault(out, slot, word.as_str())? {
             return Ok(());
         }
     }
@@ -190,12 +191,7 @@ fn push_words_fault(
 }
 
 /// Says what is wrong with a word, if something is, and whether it did.
-fn push_word_fault(
-    _alloc: Global,
-    out: &mut String,
-    slot: &Slot,
-    word: &str,
-) -> Result<bool, AllocError> {
+fn push_word_fault(out: &mut String, slot: &Slot, word: &str) -> Result<bool, AllocError> {
     let name = slot.name;
     match slot.role {
         Role::Asset => Ok(false),

@@ -45,7 +45,11 @@ pub(crate) struct Case<'a> {
 }
 
 /// What is wrong.
-pub(crate) fn push_wrong(alloc: Global, out: &mut String, case: &Case<'_>) -> Result<(), AllocError> {
+pub(crate) fn push_wrong(
+    alloc: Global,
+    out: &mut String,
+    case: &Case<'_>,
+) -> Result<(), AllocError> {
     let name = case.name;
     if case.cause == Cause::UnknownKey {
         return push_unknown(alloc, out, Level::of(case.asset, case.rule), name);
@@ -156,7 +160,8 @@ fn earlier_name(case: &Case<'_>, name: &Value) -> Option<u32> {
     if case.rule == 0 {
         (1..case.asset).find(|number| at_key(case.document, *number, 0, "name") == Some(name))
     } else {
-        (1..case.rule).find(|number| at_key(case.document, case.asset, *number, "name") == Some(name))
+        (1..case.rule).find(|number| at_key(case.document, case.asset, *number, "name")
+            == Some(name))
     }
 }
 
