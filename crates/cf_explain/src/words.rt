@@ -174,10 +174,8 @@ fn push_words_fault(
 ) -> Result<(), AllocError> {
     let (wanted, count) = (slots.len(), words.len());
     if wanted != count {
-        return write!(
-            out,
-            "behind {command} stand {wanted} words, and here are {count}"
-        );
+        let words = if wanted == 1 { "word" } else { "words" };
+        return write!(out, "{command} takes {wanted} {words}, and has {count}");
     }
     for (slot, word) in slots.iter().zip(words) {
         if push_word_fault(out, slot, word.as_str())? {

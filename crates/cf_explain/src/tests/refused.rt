@@ -336,13 +336,22 @@ fn policy_text(alloc: Global, number: &str, change: &str) -> Result<String, Allo
     let mut text = String::new(alloc);
     for line in LINES.lines() {
         let (own, old) = line.split_once("|").unwrap_or(("", line));
-        let new = if own == number { change } else { old };
-        for part in new.split(" / ") {
-            push_part(&mut text, part)?;
-            text.push_str("\n")?;
+        if own == number {
+            push_parts(&mut text, change)?;
+        } else {
+            push_parts(&mut text, old)?;
         }
     }
     Ok(text)
+}
+
+/// Lines, which stand between ` / `.
+fn push_parts(text: &mut String, lines: &str) -> Result<(), AllocError> {
+    for line in lines.split(" / ") {
+        push_part(text, line)?;
+        text.push_str("\n")?;
+    }
+    Ok(())
 }
 
 /// A line, with 65 numbers in place of `MANY`.
