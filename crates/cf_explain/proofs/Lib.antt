@@ -1,3 +1,6 @@
-mod Reach
-mod Inclusion
 mod Codes
+mod Inclusion
+mod OfAsdus
+mod OfRequests
+mod Reach
+mod Tables

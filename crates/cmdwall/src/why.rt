@@ -160,7 +160,7 @@ fn policy_of<'a>(command: &Command<'a>) -> Option<&'a str> {
     }
 }
 
-/// Why a policy is refused. Where its file cannot be read a second time, as a pipe cannot, nothing more is said.
+/// Why a policy is refused. A pipe cannot be read a second time, so no more is said of it.
 fn explain_policy<R: FileSystem + Eprint + AllocGlobal>(
     rt: &R,
     name: &str,
@@ -173,7 +173,7 @@ fn explain_policy<R: FileSystem + Eprint + AllocGlobal>(
             _ => return Ok(()),
         },
         Err(WholeFault::TooLong) => policy_message(alloc, name, &[], &TOO_LONG)?,
-        Err(_) => return Ok(()),
+        Err(_) => return eprintln!(rt; "cmdwall: {name}: its text cannot be read a second time, so no more is said"),
     };
     eprintln!(rt; "cmdwall: {message}")
 }
