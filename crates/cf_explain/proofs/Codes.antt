@@ -14,6 +14,7 @@ use Rattle.cf_policy.specs.Verdict.{takes, takes_value, has_act}
 use Rattle.cf_explain.specs.declared.found.What.{What}
 use Rattle.cf_explain.specs.Acts.{is_of_kind, kinds, modbus_kinds, dnp3_kinds, iec104_kinds}
 use Rattle.cf_explain.specs.Rules.{NeverHas, NeverMeets, listed}
+use Rattle.cf_explain.proofs.OfCommands.{command_acts_in}
 
 -- no code of two octets is served
 modbus_end : (code : ℕ) → 256 ≤ code → modbus_kinds code ≡ []
@@ -39,9 +40,9 @@ code_had r client act has =
 
 -- a rule that has no act of each of its codes has none
 pub never_meets : (p : Protocol) (r : Rule) → ((code : ℕ) → code < 256 → takes r.codes (pos code) ≡ true → NeverHas p r code) → NeverMeets p r
-never_meets p r each client act can = false_from_ne_true (has_act r client act) (λ has. ⊎_elim
-    (λ low. true≢false (sym has ∙ each act.code low (code_had r client act has) client act refl can))
-    (λ high. true≢false (sym can ∙ ap (list_any (is_of_kind act)) (kinds_end p act.code high)))
+never_meets p r each client act of = false_from_ne_true (has_act r client act) (λ has. ⊎_elim
+    (λ low. true≢false (sym has ∙ each act.code low (code_had r client act has) client act refl of))
+    (λ high. true≢false (sym (command_acts_in p act of) ∙ ap (list_any (is_of_kind act)) (kinds_end p act.code high)))
     (cases_lt act.code 256))
 
 -- what is added holds as what was there

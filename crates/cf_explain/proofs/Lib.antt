@@ -1,6 +1,7 @@
 mod Codes
 mod Inclusion
 mod OfAsdus
+mod OfCommands
 mod OfFragments
 mod OfRequests
 mod Reach

@@ -16,6 +16,7 @@ use Rattle.cf_explain.specs.declared.acts.Kind.{Kind}
 use Rattle.cf_explain.specs.Acts.{between, has_group, has_value, is_of_kind, kinds}
 use Rattle.cf_explain.specs.Meets.{overlaps, reaches, reaches_groups, reaches_values, meets}
 use Rattle.cf_explain.specs.Rules.{NeverHas}
+use Rattle.cf_explain.proofs.OfCommands.{command_acts_in}
 
 -- a number in both
 overlap : (s t : Span) (n : ℤ) → covers s n ≡ true → covers t n ≡ true → overlaps s t ≡ true
@@ -63,8 +64,8 @@ meet r k client act has is =
 
 -- where no kind of the code meets the rule, it has no act of the code
 pub never_has : (p : Protocol) (r : Rule) (code : ℕ) → list_any (meets r) (kinds p code) ≡ false → NeverHas p r code
-never_has p r code none client act same can = false_from_ne_true (has_act r client act) (λ has.
-    let found = Any-from_list_any (is_of_kind act) (kinds p act.code) can in
+never_has p r code none client act same of = false_from_ne_true (has_act r client act) (λ has.
+    let found = Any-from_list_any (is_of_kind act) (kinds p act.code) (command_acts_in p act of) in
     let some : list_any (meets r) (kinds p act.code) ≡ true =
     list_any-from_Any (meets r) (kinds p act.code) (found.0, found.1, found.2, found.3, meet r found.1 client act has found.4) in
     true≢false (sym some ∙ subst (λ c. list_any (meets r) (kinds p c) ≡ false) (sym same) none))

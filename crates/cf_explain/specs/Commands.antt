@@ -1,7 +1,9 @@
--- The acts of the commands that the readers of the protocols read: IsOfRequest, IsOfFragment, IsOfAsdu.
+-- The acts of the commands that the reader of a protocol reads: IsOfCommand.
 use Rattle.std.specs.Prelude.{◌≡◌, ◌≢◌, ℕ, List, Some, slice_get}
 use Rattle.cf_view.specs.declared.base.Act.{Act}
 use Rattle.cf_view.specs.Octets.{IsOctets}
+use Rattle.cf_policy.specs.declared.policy.Protocol.{Protocol}
+use Rattle.cf_policy.specs.declared.policy.Protocol.TheVariants.{Modbus, Dnp3, Iec104}
 use Rattle.cf_modbus.specs.Request.{RequestValue}
 use Rattle.cf_modbus.specs.Request as request
 use Rattle.cf_modbus.specs.Acts as request_acts
@@ -25,3 +27,9 @@ abbrev pub IsOfFragment : Act → Type 0
 IsOfFragment act =
     (f : FragmentValue) × (octets : List ℕ) × IsOctets octets × fragment.SpellsRequest f octets × (f.code ≢ 0)
     × (i : ℕ) × (slice_get (fragment_acts.acts f) i ≡ Some act)
+
+-- a command of the protocol that its reader reads has the act
+abbrev pub IsOfCommand : Protocol → Act → Type 0
+IsOfCommand Modbus act = IsOfRequest act
+IsOfCommand Dnp3 act = IsOfFragment act
+IsOfCommand Iec104 act = IsOfAsdu act

@@ -7,15 +7,15 @@ use Rattle.cf_policy.specs.declared.policy.Asset.{Asset}
 use Rattle.cf_policy.specs.Verdict.{has_act, first_number}
 use Rattle.cf_explain.specs.declared.found.What.{What}
 use Rattle.cf_explain.specs.declared.found.What.TheVariants as what
-use Rattle.cf_explain.specs.Acts.{can_have}
+use Rattle.cf_explain.specs.Commands.{IsOfCommand}
 
--- the rule has no act with this code that a command of the protocol can have
+-- no act with this code that a command of the protocol has is the rule's
 abbrev pub NeverHas : Protocol → Rule → ℕ → Type 0
-NeverHas protocol rule code = (client : ℕ) (act : Act) → act.code ≡ code → can_have protocol act ≡ true → has_act rule client act ≡ false
+NeverHas protocol rule code = (client : ℕ) (act : Act) → act.code ≡ code → IsOfCommand protocol act → has_act rule client act ≡ false
 
--- the rule has no act that a command of the protocol can have
+-- no act that a command of the protocol has is the rule's
 abbrev pub NeverMeets : Protocol → Rule → Type 0
-NeverMeets protocol rule = (client : ℕ) (act : Act) → can_have protocol act ≡ true → has_act rule client act ≡ false
+NeverMeets protocol rule = (client : ℕ) (act : Act) → IsOfCommand protocol act → has_act rule client act ≡ false
 
 -- the rule has no act without a value
 abbrev pub WantsValue : Rule → Type 0

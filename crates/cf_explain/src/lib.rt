@@ -25,9 +25,7 @@ pub use acts::{Groups, Kind};
 pub use capture::capture_message;
 pub use covered::covering;
 pub use found::{What, findings};
-pub use laws::{
-    table_has_acts_of_asdus, table_has_acts_of_fragments, table_has_acts_of_requests,
-};
+pub use laws::tables_have_acts_of_commands;
 pub use outputs::{asset_message, outputs_message};
 pub use policy::policy_message;
 pub use unmet::{Unmet, why_unmet};
