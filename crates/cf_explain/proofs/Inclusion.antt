@@ -1,15 +1,14 @@
 -- A rule that an earlier one includes has no act that the earlier one has not.
-use Rattle.std.proofs.Common.{◌≡◌, ℕ, ◌<◌, ℤ, pos, int_le, Bool, true, false, not, ◌&&◌, List, [], ◌∷◌, length, take, get_or, Option, Some, None, IfSome, length-take, refl, sym, subst, ap, ◌∙◌, arith}
+use Rattle.std.proofs.Common.{◌≡◌, ℕ, ◌<◌, ℤ, pos, int_le, true, false, List, [], ◌∷◌, length, take, get_or, Option, Some, None, IfSome, length-take, refl, sym, subst, ap, ◌∙◌, arith}
 use mathlib.Core.Logic.{⊎_elim}
-use Rattle.std.specs.List.{list_any, list_all, position, slice_get}
-use Rattle.std.proofs.lemmas.Grind.{common_steps}
+use Rattle.std.specs.List.{list_any, list_all, position}
 use Rattle.std.proofs.lemmas.Int.{ints}
 use Rattle.std.proofs.lemmas.Bool.{true≢false, and_parts, and_from, or_cases}
 use Rattle.std.proofs.lemmas.List.Folds.{Any-from_list_any, list_any-from_Any}
 use Rattle.cf_view.specs.declared.base.Act.{Act}
 use Rattle.cf_policy.specs.declared.policy.Rule.{Rule}
 use Rattle.cf_policy.specs.declared.policy.Span.{Span}
-use Rattle.cf_policy.specs.Verdict.{covers, takes, takes_value, has_act, first_number}
+use Rattle.cf_policy.specs.Verdict.{covers, takes, takes_value, has_act}
 use Rattle.std.proofs.lemmas.List.{get_or-take}
 use Rattle.std.proofs.lemmas.Option.{slice_get-get_or, get_or_from_slice_get}
 use Rattle.cf_policy.proofs.FirstPlace.{first_at, within_of}

@@ -1,9 +1,9 @@
 -- Each act of an ASDU of IEC 60870-5-104 that is read is in the table.
-use Rattle.std.proofs.Common.{◌≡◌, ℕ, ◌+◌, ◌-◌, ◌*◌, ◌%◌, ◌<◌, ◌≤◌, ◌==◌, ◌||◌, not, nat_lt, if◌then◌else◌, ℤ, pos, ◌-ℤ◌, int_le, Bool, true, false, List, [], ◌∷◌, length, map, slice_index, slice_get, Option, Some, None, is_some, refl, sym, subst, ap, ◌∙◌, arith}
+use Rattle.std.proofs.Common.{◌≡◌, ℕ, ◌+◌, ◌*◌, ◌%◌, ◌<◌, ◌≤◌, ◌==◌, ◌||◌, not, if◌then◌else◌, ℤ, pos, Bool, true, false, List, [], ◌∷◌, map, slice_index, slice_get, Option, Some, None, is_some, refl, sym, subst, ap, ◌∙◌, arith}
 use mathlib.Core.Logic.{⊎_elim}
 use Rattle.std.specs.List.{list_any, range_with_len}
 use Rattle.std.proofs.lemmas.Int.{ints}
-use Rattle.std.proofs.lemmas.Bool.{and_from, or_left, or_right, or_cases, cases_lt, eqb-true, cases_Bool}
+use Rattle.std.proofs.lemmas.Bool.{or_left, or_right, or_cases, eqb-true}
 use Rattle.std.proofs.lemmas.Bool.Decides.{nat_tests}
 use Rattle.std.proofs.lemmas.List.FromFn.{length-map-range_with_len, get_or-map-range_with_len}
 use Rattle.std.proofs.lemmas.Option.{slice_get_within, slice_get-get_or}
@@ -14,11 +14,10 @@ use Rattle.cf_policy.specs.declared.policy.Span.{Span}
 use Rattle.cf_policy.specs.Verdict.{covers}
 use Rattle.cf_asdu.specs.declared.asdu.AsduRefusal.{AsduRefusal}
 use Rattle.cf_asdu.specs.declared.asdu.AsduRefusal.TheVariants as refusals
-use Rattle.cf_asdu.specs.Asdu.{AsduValue, IsRead, is_served, has_objects, is_command_cause, first_refusal}
-use Rattle.cf_asdu.specs.Acts.{acts, acts_by, act_of, object_place}
-use Rattle.cf_asdu.specs.Types.{element_of, number_at, signed}
+use Rattle.cf_asdu.specs.Asdu.{AsduValue, has_objects, is_command_cause}
+use Rattle.cf_asdu.specs.Acts.{acts, acts_by}
+use Rattle.cf_asdu.specs.Types.{element_of, signed}
 use Rattle.cf_explain.specs.declared.acts.Groups.TheVariants as groups
-use Rattle.cf_explain.specs.declared.acts.Kind.{Kind}
 use Rattle.cf_explain.specs.Acts as tables
 use Rattle.cf_explain.specs.Acts.{between, up_to, object_kind, iec104_kinds, has_group, has_value, is_of_kind, can_have}
 use Rattle.cf_explain.specs.Commands.{IsOfAsdu}
@@ -28,9 +27,9 @@ causes : (n : ℕ) → ((n == 5) || ((n == 6) || (n == 8))) ≡ true → has_gro
 causes n h = ⊎_elim
     (λ five. or_left _ _ (in_between 5 5 n (omega (arith, eqb-true n 5 five)) (omega (arith, eqb-true n 5 five))))
     (λ others. or_right (covers (between 5 5) (pos n)) _ (⊎_elim
-        (λ six. or_left _ _ (in_between 6 6 n (omega (arith, eqb-true n 6 six)) (omega (arith, eqb-true n 6 six))))
-        (λ eight. or_right (covers (between 6 6) (pos n)) _ (in_between 8 8 n (omega (arith, eqb-true n 8 eight)) (omega (arith, eqb-true n 8 eight))))
-        (or_cases (n == 6) (n == 8) others)))
+    (λ six. or_left _ _ (in_between 6 6 n (omega (arith, eqb-true n 6 six)) (omega (arith, eqb-true n 6 six))))
+    (λ eight. or_right (covers (between 6 6) (pos n)) _ (in_between 8 8 n (omega (arith, eqb-true n 8 eight)) (omega (arith, eqb-true n 8 eight))))
+    (or_cases (n == 6) (n == 8) others)))
     (or_cases (n == 5) _ h)
 
 signed_range : (n : ℕ) → n ≤ 65535 → covers (tables.signed 32768) (signed n) ≡ true

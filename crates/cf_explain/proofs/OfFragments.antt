@@ -1,9 +1,9 @@
 -- Each act of a request of DNP3 that is read is in the table.
-use Rattle.std.proofs.Common.{◌≡◌, ◌≢◌, ℕ, zero, suc, ◌+◌, ◌-◌, ◌*◌, ◌^◌, ◌<◌, ◌≤◌, ◌==◌, ◌&&◌, ◌||◌, not, nat_lt, nat_le, if◌then◌else◌, ℤ, pos, ◌-ℤ◌, int_le, Bool, true, false, List, [], ◌∷◌, ◌++◌, length, map, take, drop, slice_index, slice_get, get_or, Option, Some, None, Result, Ok, Err, inl, inr, refl, sym, subst, ap, ◌∙◌, arith, length-append}
+use Rattle.std.proofs.Common.{◌≡◌, ◌≢◌, ℕ, zero, suc, ◌+◌, ◌-◌, ◌*◌, ◌<◌, ◌≤◌, ◌==◌, nat_lt, pos, Bool, true, false, List, [], ◌∷◌, ◌++◌, length, map, slice_index, slice_get, get_or, Some, None, Result, Ok, Err, inl, inr, refl, sym, subst, ap, ◌∙◌, arith, length-append}
 use mathlib.Core.Logic.{⊎_elim}
 use Rattle.std.specs.List.{list_any, range_with_len, flat_map, AllByRecursion, concat}
 use Rattle.std.proofs.lemmas.Int.{ints}
-use Rattle.std.proofs.lemmas.Bool.{true≢false, and_parts, or_left, or_right, cases_lt, cases_Bool, eqb-true}
+use Rattle.std.proofs.lemmas.Bool.{and_parts, or_right, cases_lt, cases_Bool, eqb-true}
 use Rattle.std.proofs.lemmas.Bool.Decides.{nat_tests}
 use Rattle.std.proofs.lemmas.List.{get_or_append_left, get_or-append_right}
 use Rattle.std.proofs.lemmas.List.FromFn.{length-map-range_with_len, get_or-map-range_with_len}
@@ -14,10 +14,10 @@ use Rattle.cf_view.specs.Octets.{IsOctets, u16_le_at, u32_le_at}
 use Rattle.cf_view.proofs.OctetLists.{IsOctets-take, IsOctets-drop}
 use Rattle.cf_policy.specs.declared.policy.Protocol.TheVariants.{Dnp3}
 use Rattle.cf_policy.specs.Verdict.{covers}
-use Rattle.cf_dnpobj.specs.Objects.{is_function, is_command, is_write, is_object, layout_of, width}
-use Rattle.cf_dnpobj.specs.Headers.{number_at, count_of, header_size, IsHeader, headers_in}
+use Rattle.cf_dnpobj.specs.Objects.{is_function, is_command, is_write, is_object, width}
+use Rattle.cf_dnpobj.specs.Headers.{number_at, count_of, IsHeader, headers_in}
 use Rattle.cf_dnpobj.specs.Fragment.{FragmentValue, SpellsRequest, takes_headers}
-use Rattle.cf_dnpobj.specs.Acts.{acts, acts_by, acts_in, header_acts, object_act, object_place, plain_act, group_of, signed, value_at}
+use Rattle.cf_dnpobj.specs.Acts.{acts_in, header_acts, object_act, object_place, plain_act, group_of, signed, value_at}
 use Rattle.cf_dnpobj.proofs.Grammar.{are_headers}
 use Rattle.cf_explain.specs.declared.acts.Groups.TheVariants as groups
 use Rattle.cf_explain.specs.declared.acts.Kind.{Kind}
@@ -213,18 +213,22 @@ header_in code h j act f z e o here =
     elim (cases_Bool (is_command code)) [
       | inl c ↦
           (let at : slice_get (map (object_act code h) (range_with_len 0 (count_of h))) j ≡ Some act = rw c at here in
-          let is = object_is code h j act at in
-          (ap (λ a. a.code) (sym is), subst (λ a. list_any (is_of_kind a) (dnp3_kinds code) ≡ true) is
-          (subst (λ ks. list_any (is_of_kind (object_act code h j)) ks ≡ true) (sym (command_kinds code c)) (control_in code h j c e o))))
+          let is = object_is code h j act at in (
+            ap (λ a. a.code) (sym is),
+            subst (λ a. list_any (is_of_kind a) (dnp3_kinds code) ≡ true) is
+                (subst (λ ks. list_any (is_of_kind (object_act code h j)) ks ≡ true) (sym (command_kinds code c)) (control_in code h j c e o)),
+          ))
       | inr c ↦
           (let at : slice_get (plain_act code (group_of h) ∷ []) j ≡ Some act = rw c at here in
-          let is = plain_is (plain_act code (group_of h)) j act at in
-          (ap (λ a. a.code) (sym is), subst (λ a. list_any (is_of_kind a) (dnp3_kinds code) ≡ true) is
-          (elim (cases_Bool (is_write code)) [
-            | inl w ↦ subst (λ ks. list_any (is_of_kind (plain_act code (group_of h))) ks ≡ true) (ap dnp3_kinds (sym (eqb-true code 2 w))) (written_in code h c w e)
-            | inr w ↦ subst (λ ks. list_any (is_of_kind (plain_act code (group_of h))) ks ≡ true) (sym (named_kinds code f z c w))
-                (named_in code (group_of h) (omega (arith, o 0, o 1)))
-          ])))
+          let is = plain_is (plain_act code (group_of h)) j act at in (
+            ap (λ a. a.code) (sym is),
+            subst (λ a. list_any (is_of_kind a) (dnp3_kinds code) ≡ true) is
+                (elim (cases_Bool (is_write code)) [
+                  | inl w ↦ subst (λ ks. list_any (is_of_kind (plain_act code (group_of h))) ks ≡ true) (ap dnp3_kinds (sym (eqb-true code 2 w))) (written_in code h c w e)
+                  | inr w ↦ subst (λ ks. list_any (is_of_kind (plain_act code (group_of h))) ks ≡ true) (sym (named_kinds code f z c w))
+                      (named_in code (group_of h) (omega (arith, o 0, o 1)))
+                ]),
+          ))
     ]
 
 -- all headers' acts
@@ -245,10 +249,10 @@ headers_have code (h ∷ hs) i act f z are o here =
     let got : get_or (header_acts code h ++ flat_map (header_acts code) hs) i act ≡ act = get_or_from_slice_get (header_acts code h ++ flat_map (header_acts code) hs) i act act here in
     ⊎_elim
     (λ early. header_in code h i act f z are.0 (octets_front h (concat hs) o)
-        (slice_get-get_or (header_acts code h) i act early ∙ ap Some (sym (get_or_append_left (header_acts code h) (flat_map (header_acts code) hs) act i early) ∙ got)))
+    (slice_get-get_or (header_acts code h) i act early ∙ ap Some (sym (get_or_append_left (header_acts code h) (flat_map (header_acts code) hs) act i early) ∙ got)))
     (λ late. headers_have code hs (i - length (header_acts code h)) act f z are.1 (octets_back h (concat hs) o)
-        (slice_get-get_or (flat_map (header_acts code) hs) (i - length (header_acts code h)) act (omega (arith, inside, late, length-append (header_acts code h) (flat_map (header_acts code) hs)))
-        ∙ ap Some (sym (get_or-append_right (header_acts code h) (flat_map (header_acts code) hs) (length (header_acts code h)) i act refl late) ∙ got)))
+    (slice_get-get_or (flat_map (header_acts code) hs) (i - length (header_acts code h)) act (omega (arith, inside, late, length-append (header_acts code h) (flat_map (header_acts code) hs)))
+    ∙ ap Some (sym (get_or-append_right (header_acts code h) (flat_map (header_acts code) hs) (length (header_acts code h)) i act refl late) ∙ got)))
     (cases_lt i (length (header_acts code h)))
 
 -- headers that have no octets are none

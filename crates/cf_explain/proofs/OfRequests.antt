@@ -1,8 +1,8 @@
 -- Each act of a request of Modbus that is read is in the table.
-use Rattle.std.proofs.Common.{◌≡◌, ℕ, ◌+◌, ◌-◌, ◌*◌, ◌/◌, ◌%◌, ◌^◌, ◌<◌, ◌≤◌, ◌==◌, if◌then◌else◌, pos, Bool, true, false, List, [], ◌∷◌, length, slice_index, slice_get, Option, Some, None, refl, sym, subst, ap, ◌∙◌, arith}
+use Rattle.std.proofs.Common.{◌≡◌, ℕ, ◌+◌, ◌-◌, ◌*◌, ◌<◌, ◌≤◌, true, List, [], ◌∷◌, Some, None, refl, sym, subst, ◌∙◌, arith}
 use mathlib.Core.Logic.{⊎_elim}
 use Rattle.std.specs.List.{list_any}
-use Rattle.std.proofs.lemmas.Bool.{or_left, or_right, cases_lt, cases_Bool, eqb-true}
+use Rattle.std.proofs.lemmas.Bool.{cases_lt}
 use Rattle.std.proofs.lemmas.Bool.Decides.{nat_tests}
 use Rattle.std.proofs.lemmas.Option.{slice_get_within}
 use Rattle.cf_view.specs.declared.base.Act.{Act}
@@ -76,9 +76,9 @@ request_acts_in act (r, (pdu, spells, place), i, here) =
     let inside = slice_get_within (acts r) i act here in
     ⊎_elim
     (λ early. subst (λ a. can_have Modbus a ≡ true) (some_is (first_of r.code r i) act (sym (first_act r i early) ∙ here))
-        (first_in r i r.code spells.octets (omega (arith, place.0, early)) spells.form))
+    (first_in r i r.code spells.octets (omega (arith, place.0, early)) spells.form))
     (λ late.
-        let lt : i < r.quantity + r.second_quantity = omega (arith, inside, count_of_acts r) in
-        subst (λ a. can_have Modbus a ≡ true) (some_is (second_of r.code r (i - r.quantity)) act (sym (second_act r i late lt) ∙ here))
-        (second_in r (i - r.quantity) r.code (omega (arith, late, lt)) (omega (arith, place.1, late, lt)) spells.form))
+    let lt : i < r.quantity + r.second_quantity = omega (arith, inside, count_of_acts r) in
+    subst (λ a. can_have Modbus a ≡ true) (some_is (second_of r.code r (i - r.quantity)) act (sym (second_act r i late lt) ∙ here))
+    (second_in r (i - r.quantity) r.code (omega (arith, late, lt)) (omega (arith, place.1, late, lt)) spells.form))
     (cases_lt i r.quantity)

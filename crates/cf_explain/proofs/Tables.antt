@@ -1,5 +1,5 @@
 -- Acts of a kind of a table.
-use Rattle.std.proofs.Common.{inl, inr, ◌≡◌, ℕ, ◌≤◌, ℤ, pos, int_le, Bool, true, false, ◌&&◌, List, [], ◌∷◌, ◌==◌, Option, Some, None, refl, sym, subst, arith}
+use Rattle.std.proofs.Common.{inl, inr, ◌≡◌, ℕ, ◌≤◌, pos, int_le, true, false, List, ◌∷◌, ◌==◌, Some, sym, subst, arith}
 use Rattle.std.specs.List.{list_any}
 use Rattle.std.proofs.lemmas.Int.{ints}
 use Rattle.std.proofs.lemmas.Bool.{and_from, or_left, or_right, cases_Bool, eqb-true}

@@ -1,5 +1,5 @@
 -- Whether the lists of a rule have a number of a kind of acts each: meets.
-use Rattle.std.specs.Prelude.{ℕ, int_le, Bool, true, false, not, ◌&&◌, ◌||◌, List, [], ◌∷◌, Option, Some, None}
+use Rattle.std.specs.Prelude.{int_le, Bool, not, ◌&&◌, ◌||◌, List, Option, Some, None}
 use Rattle.std.specs.List.{list_any, list_all}
 use Rattle.cf_policy.specs.declared.policy.Span.{Span}
 use Rattle.cf_policy.specs.declared.policy.Rule.{Rule}

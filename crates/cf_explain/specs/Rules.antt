@@ -1,5 +1,5 @@
 -- Rules that decide nothing, or less than they seem to: what a finding says of a rule is Holds.
-use Rattle.std.specs.Prelude.{◌≡◌, ◌≢◌, ℕ, ◌<◌, true, false, List, [], ◌∷◌, Option, Some, None}
+use Rattle.std.specs.Prelude.{◌≡◌, ◌≢◌, ℕ, ◌<◌, false, List, [], ◌∷◌, Option, Some, None}
 use Rattle.cf_view.specs.declared.base.Act.{Act}
 use Rattle.cf_policy.specs.declared.policy.Protocol.{Protocol}
 use Rattle.cf_policy.specs.declared.policy.Rule.{Rule}

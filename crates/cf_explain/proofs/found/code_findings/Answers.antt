@@ -1,5 +1,4 @@
 use Rattle.std.proofs.Common.{All, refl, sym, subst}
-use Rattle.cf_policy.specs.declared.policy.Asset.{Asset}
 use Rattle.cf_explain.specs.Rules.{Holds}
 use Rattle.cf_explain.proofs.Codes.{all_listed, some_weaker}
 use Rattle.cf_explain.proofs.found.code_findings.Goals as goal
