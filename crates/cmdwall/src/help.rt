@@ -12,11 +12,17 @@ usage:
   cmdwall sift POLICY ASSET CLIENT STREAM OUT REPLIES LOG
       filters a stored stream of one client: OUT gets what the controller of ASSET would
       get, REPLIES what the client would get, LOG a line for each refused command
+  cmdwall run POLICY CAPTURE OUT LOG
+      runs a policy over a capture of what reached the box: OUT gets the packets that the
+      box sends, LOG a line for each session that begins, ends or is cut, and for each
+      refused command
   cmdwall check POLICY
       reads a policy, and prints its numbers of assets and of all rules
   cmdwall packets CAPTURE
       prints a line for each record of a capture: the fields of its TCP segment over IPv4,
       or why it has none
+  cmdwall help COMMAND
+      says more of one command, with an example
   cmdwall --help
   cmdwall --version
 
@@ -31,41 +37,205 @@ status:
    4  a file or standard output could not be written
    5  the policy's text means no policy; what is printed names the place
    6  the capture is refused: 1 it is short, 2 its magic, 3 its version, 4 its link type,
-      5 a record of more than 262,144 bytes
+      5 a record of more than 262,144 bytes, 6 a moment of 2^32 seconds or more, 7 a byte
+      at place 2^40
    7  the capture ends inside the record that begins at the printed place
   10  the policy has no asset of that name
+  12  the stream is cut, for the printed reason
   13  memory ran out
-  14  the input needs a part that is not built: an asset that does not speak Modbus, a
-      stream of more than 65,536 bytes or one whose bytes are no ADUs, a capture of more
-      than 67,108,864 bytes, the commands run, relay and world
+  14  the input needs a part that is not built: a capture of more than 67,108,864 bytes in
+      packets, the commands relay and world
+";
+
+const SIFT: &str = "\
+cmdwall sift POLICY ASSET CLIENT STREAM OUT REPLIES LOG
+
+filters a stored stream of one client
+
+  POLICY   a text in the policy language (docs/POLICY.md)
+  ASSET    the name of the asset in it to which the stream goes
+  CLIENT   the client's IPv4 address, as the rules' clients name it
+  STREAM   the bytes that the client sends
+  OUT      is created, and gets what the controller would get: the commands that the policy
+           allows, as they came
+  REPLIES  is created, and gets what the client would get of the box: a reply for each
+           command that is refused
+  LOG      is created, and gets a line for each refused command
+
+All names of files differ. Standard output has the numbers of admitted and refused commands.
+
+example:
+  cmdwall sift examples/pump.toml pump 10.0.0.5 examples/requests.bin out.bin replies.bin log.txt
+";
+
+const CHECK: &str = "\
+cmdwall check POLICY
+
+reads a policy, and prints 'ok' with its numbers of assets and of all rules
+
+  POLICY   a text in the policy language (docs/POLICY.md), at most 4,194,304 bytes
+
+A policy that is refused has status 5, 'policy refused N KEY asset A rule R' on standard
+output, and on standard error the file with line and column, what is wrong, and what is
+allowed. A policy that is read has status 0, and on standard error a warning for each rule
+that no command meets, each code of a rule that none brings, and each rule that an earlier
+one covers.
+
+example:
+  cmdwall check examples/pump.toml
+";
+
+const PACKETS: &str = "\
+cmdwall packets CAPTURE
+
+prints a line for each record of a capture: its number and moment, and the fields of its TCP
+segment over IPv4, or why it has none
+
+  CAPTURE  a classic pcap file, of Ethernet or raw IP
+
+'editcap -F pcap IN OUT' writes other captures as pcap. Where many records are dropped for
+'badsum' or 'badtcpsum', the capture was made on the machine that sent them, and its card
+filled the checksums in later: 'tcprewrite --fixcsum -i IN -o OUT' sets them right.
+
+example:
+  cmdwall packets examples/four.pcap
+";
+
+const RUN: &str = "\
+cmdwall run POLICY CAPTURE OUT LOG
+
+runs a policy over a capture of what reached the two ports of the box
+
+  POLICY   a text in the policy language (docs/POLICY.md)
+  CAPTURE  a classic pcap file, of Ethernet or raw IP
+  OUT      is created, and gets the packets that the box sends, as a capture
+  LOG      is created, and gets a line for each session that begins, closes or is cut, and for
+           each refused command (docs/LOG.md)
+
+All names of files differ. Standard output has what was counted: records, those dropped, those
+of no session, those for which the table was full, sessions, commands admitted and refused,
+sessions cut.
+
+example:
+  cmdwall run examples/waterworks.toml examples/waterworks.pcap out.pcap log.txt
+";
+
+const RELAY: &str = "\
+cmdwall relay POLICY ASSET PORT IDLES LOG
+
+stands between a client and the controller of an asset. It is not built yet: it ends with
+status 14
+
+  POLICY   a text in the policy language (docs/POLICY.md)
+  ASSET    the name of the asset in it
+  PORT     the port at which the client is awaited, 1 to 65535
+  IDLES    how many turns in which nothing comes end the relay, 1 to 1000000
+  LOG      is created, and gets the lines of the log
+
+example:
+  cmdwall relay examples/pump.toml pump 5020 1000 log.txt
+";
+
+const WORLD: &str = "\
+cmdwall world SEED SESSIONS POLICY CAPTURE OUT LOG
+
+makes a capture of sessions from a number, and runs a policy over it. It is not built yet:
+it ends with status 14
+
+  SEED     a number of 64 bits, from which the sessions are made
+  SESSIONS how many there are, 1 to 200
+  POLICY   a text in the policy language (docs/POLICY.md)
+  CAPTURE  is created, and gets the capture
+  OUT      is created, and gets the packets that the box sends, as a capture
+  LOG      is created, and gets the lines of the log
+
+example:
+  cmdwall world 1 10 examples/waterworks.toml in.pcap out.pcap log.txt
 ";
 
 /// What the words ask of `main` itself.
 pub enum Asked {
     Help,
+    HelpOf(Topic),
     Version,
     /// All else.
     Work,
 }
 
-/// What the words ask of `main`: the text of help or the version, where that word stands alone.
+/// The commands that help says more of.
+#[derive(Clone, Copy, PartialEq, Eq)]
+pub enum Topic {
+    Sift,
+    Check,
+    Packets,
+    Run,
+    Relay,
+    World,
+}
+
+/// What the words ask of `main`: the text of help, also with a command before or behind that word, or the version.
 pub fn question_of(words: &[String]) -> Asked {
-    if words.len() != 1 {
-        return Asked::Work;
+    match words {
+        [word] => question_alone(word.as_str()),
+        [first, second] => {
+            let named = if first.as_str() == "help" {
+                topic_of(second.as_str())
+            } else if is_help(second.as_str()) {
+                topic_of(first.as_str())
+            } else {
+                None
+            };
+            match named {
+                Some(topic) => Asked::HelpOf(topic),
+                None => Asked::Work,
+            }
+        }
+        _ => Asked::Work,
     }
-    let word = words[0].as_str();
-    if word == "--help" {
-        return Asked::Help;
+}
+
+fn question_alone(word: &str) -> Asked {
+    if word == "help" || is_help(word) {
+        Asked::Help
+    } else if word == "--version" {
+        Asked::Version
+    } else {
+        Asked::Work
     }
-    if word == "--version" {
-        return Asked::Version;
+}
+
+fn is_help(word: &str) -> bool {
+    word == "--help" || word == "-h"
+}
+
+fn topic_of(word: &str) -> Option<Topic> {
+    match word {
+        "sift" => Some(Topic::Sift),
+        "check" => Some(Topic::Check),
+        "packets" => Some(Topic::Packets),
+        "run" => Some(Topic::Run),
+        "relay" => Some(Topic::Relay),
+        "world" => Some(Topic::World),
+        _ => None,
     }
-    Asked::Work
 }
 
 /// Prints the help.
 pub fn print_help(rt: &impl Print) -> io::Result<()> {
     print!(rt; "{HELP}")
+}
+
+/// Prints the help on one command.
+pub fn print_topic(rt: &impl Print, topic: Topic) -> io::Result<()> {
+    let text = match topic {
+        Topic::Sift => SIFT,
+        Topic::Check => CHECK,
+        Topic::Packets => PACKETS,
+        Topic::Run => RUN,
+        Topic::Relay => RELAY,
+        Topic::World => WORLD,
+    };
+    print!(rt; "{text}")
 }
 
 /// Prints the program's name and version.

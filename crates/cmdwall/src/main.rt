@@ -8,7 +8,7 @@ mod sink;
 mod why;
 
 use crate::files::{Gather, RealFiles};
-use crate::help::{Asked, print_help, print_version, question_of};
+use crate::help::{Asked, print_help, print_topic, print_version, question_of};
 use crate::pair::NoPair;
 use crate::sink::RealSink;
 use crate::why::{expect_files, explain};
@@ -34,6 +34,7 @@ fn main(rt: HostRuntime) -> ExitCode {
     };
     match question_of(&words) {
         Asked::Help => return printed(print_help(&rt)),
+        Asked::HelpOf(topic) => return printed(print_topic(&rt, topic)),
         Asked::Version => return printed(print_version(&rt)),
         Asked::Work => {}
     }
@@ -48,7 +49,7 @@ fn main(rt: HostRuntime) -> ExitCode {
     let done = box_main(rt.alloc(), &words, &mut files, &mut out, &mut pair);
     // What was gathered is part of the work: where it cannot be written, the work is not done.
     let status = if files.finish() { done } else { WRITE_FAULT };
-    explain(&rt, status, &files);
+    explain(&rt, &words, status, &mut files);
     ExitCode::from(status)
 }
 

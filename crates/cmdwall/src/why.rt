@@ -1,9 +1,27 @@
-//! What standard error says beside what standard output has.
+//! What standard error says beside what standard output has. A line that cannot be said changes nothing.
 
 use crate::files::RealFiles;
-use cf_box::Command;
+use cf_box::{Command, read_words};
+use cf_explain::{
+    asset_message, capture_message, outputs_message, policy_message, policy_warnings,
+    words_message,
+};
+use cf_outside::{WholeFault, read_whole};
+use cf_policy::Policy;
+use cf_policylang::{Cause, Key, LONGEST_TEXT, PolicyFault, PolicyRefusal, read_policy};
 use std::io;
 use std::rt::Files as FileSystem;
+
+/// How many bytes of a capture are read again: as many as `packets` lists.
+const CAPTURE_LIMIT: u64 = 67_108_864;
+
+/// The refusal of a policy's file for its size.
+const TOO_LONG: PolicyRefusal = PolicyRefusal {
+    number: Cause::TooMany as u8,
+    key: Key::Nothing,
+    asset: 0,
+    rule: 0,
+};
 
 /// Notes which files the names of a command stand for.
 pub fn expect_files<R: FileSystem>(
@@ -41,14 +59,60 @@ fn expect_four<R: FileSystem>(files: &mut RealFiles<'_, R>, names: [&str; 4]) ->
     Ok(())
 }
 
-/// Says why the work ended with this status. A failed line changes nothing.
-pub fn explain<R: FileSystem + Eprint>(rt: &R, status: u8, files: &RealFiles<'_, R>) {
-    let _ = match status {
-        2 => eprintln!(rt; "cmdwall: the words have no form; 'cmdwall --help' shows the forms"),
-        3 | 4 => explain_fault(rt, files),
-        13 => eprintln!(rt; "cmdwall: memory ran out"),
-        _ => Ok(()),
+/// Says why the work ended with this status, and of a policy that was checked what is to be warned of.
+pub fn explain<R: FileSystem + Eprint + AllocGlobal>(
+    rt: &R,
+    words: &[String],
+    status: u8,
+    files: &mut RealFiles<'_, R>,
+) {
+    let _ = match read_words(words) {
+        Some(command) => explain_command(rt, &command, status, files),
+        None => explain_words(rt, words),
     };
+}
+
+/// Which word is wrong, and how the words have to be.
+fn explain_words<R: Eprint + AllocGlobal>(rt: &R, words: &[String]) -> io::Result<()> {
+    let message = words_message(rt.alloc(), words)?;
+    eprintln!(rt; "cmdwall: {message}")
+}
+
+fn explain_command<R: FileSystem + Eprint + AllocGlobal>(
+    rt: &R,
+    command: &Command<'_>,
+    status: u8,
+    files: &mut RealFiles<'_, R>,
+) -> io::Result<()> {
+    match (status, command) {
+        (0, Command::Check { policy }) => warn(rt, policy, files),
+        (3, _) => explain_fault(rt, files),
+        (4, _) => {
+            explain_fault(rt, files)?;
+            explain_outputs(rt, command)
+        }
+        (5, _) => match policy_of(command) {
+            Some(policy) => explain_policy(rt, policy, files),
+            None => Ok(()),
+        },
+        (6 | 7, Command::Packets { capture })
+        | (6 | 7, Command::World { capture, .. }) => explain_capture(rt, capture, files),
+        (6 | 7, Command::Run { names, .. }) => explain_capture(rt, names.capture, files),
+        (10, Command::Sift { policy, asset, .. }) | (10, Command::Relay { policy, asset, .. }) => {
+            explain_asset(rt, policy, asset, files)
+        }
+        (12, _) => {
+            eprintln!(rt; "cmdwall: the stream is cut; the outputs have what came before the cut")
+        }
+        (13, _) => {
+            eprintln!(rt; "cmdwall: memory ran out")?;
+            explain_outputs(rt, command)
+        }
+        (14, _) => {
+            eprintln!(rt; "cmdwall: the input needs a part that is not built; 'cmdwall --help' says which")
+        }
+        _ => Ok(()),
+    }
 }
 
 /// The two names of one file, or the file that failed and what the system said.
@@ -65,5 +129,108 @@ fn explain_fault<R: FileSystem + Eprint>(rt: &R, files: &RealFiles<'_, R>) -> io
             eprintln!(rt; "cmdwall: {name}: {error}")
         }
         None => eprintln!(rt; "cmdwall: standard output could not be written"),
+    }
+}
+
+/// What stands in the files that a command writes.
+fn explain_outputs<R: Eprint + AllocGlobal>(rt: &R, command: &Command<'_>) -> io::Result<()> {
+    let message = match command {
+        Command::Check { .. } | Command::Packets { .. } => outputs_message(rt.alloc(), &[])?,
+        Command::Run { names, .. } => outputs_message(rt.alloc(), &[names.out, names.log])?,
+        Command::World {
+            capture, out, log, ..
+        } => outputs_message(rt.alloc(), &[capture, out, log])?,
+        Command::Relay { log, .. } => outputs_message(rt.alloc(), &[log])?,
+        Command::Sift { names, .. } => {
+            outputs_message(rt.alloc(), &[names.out, names.replies, names.log])?
+        }
+    };
+    eprintln!(rt; "cmdwall: {message}")
+}
+
+/// The policy's file of a command.
+fn policy_of<'a>(command: &Command<'a>) -> Option<&'a str> {
+    match command {
+        Command::Packets { .. } => None,
+        Command::Check { policy }
+        | Command::Run { policy, .. }
+        | Command::World { policy, .. }
+        | Command::Relay { policy, .. }
+        | Command::Sift { policy, .. } => Some(*policy),
+    }
+}
+
+/// Why a policy is refused. A pipe cannot be read a second time, so no more is said of it.
+fn explain_policy<R: FileSystem + Eprint + AllocGlobal>(
+    rt: &R,
+    name: &str,
+    files: &mut RealFiles<'_, R>,
+) -> io::Result<()> {
+    let alloc = rt.alloc();
+    let message = match read_whole(alloc, files, name, LONGEST_TEXT as u64) {
+        Ok(text) => match read_policy(alloc, &text) {
+            Err(PolicyFault::Refused(refusal)) => policy_message(alloc, name, &text, &refusal)?,
+            _ => return Ok(()),
+        },
+        Err(WholeFault::TooLong) => policy_message(alloc, name, &[], &TOO_LONG)?,
+        Err(_) => return eprintln!(rt; "cmdwall: {name}: its text cannot be read a second time, so no more is said"),
+    };
+    eprintln!(rt; "cmdwall: {message}")
+}
+
+/// The policy of a file and its text, if it can be read a second time.
+fn policy_again<R: FileSystem + AllocGlobal>(
+    rt: &R,
+    name: &str,
+    files: &mut RealFiles<'_, R>,
+) -> Option<(Policy, Vec<u8>)> {
+    let alloc = rt.alloc();
+    let text = read_whole(alloc, files, name, LONGEST_TEXT as u64).ok()?;
+    let policy = read_policy(alloc, &text).ok()?;
+    Some((policy, text))
+}
+
+/// Warns of rules that decide nothing.
+fn warn<R: FileSystem + Eprint + AllocGlobal>(
+    rt: &R,
+    name: &str,
+    files: &mut RealFiles<'_, R>,
+) -> io::Result<()> {
+    let Some((policy, text)) = policy_again(rt, name, files) else {
+        return Ok(());
+    };
+    let warnings = policy_warnings(rt.alloc(), name, &text, &policy)?;
+    for line in warnings.as_str().lines() {
+        eprintln!(rt; "cmdwall: {line}")?;
+    }
+    Ok(())
+}
+
+/// Which assets a policy has that has none of a name.
+fn explain_asset<R: FileSystem + Eprint + AllocGlobal>(
+    rt: &R,
+    name: &str,
+    asset: &str,
+    files: &mut RealFiles<'_, R>,
+) -> io::Result<()> {
+    let Some((policy, _)) = policy_again(rt, name, files) else {
+        return Ok(());
+    };
+    let message = asset_message(rt.alloc(), name, &policy, asset)?;
+    eprintln!(rt; "cmdwall: {message}")
+}
+
+/// Why a capture is refused, or where it is cut.
+fn explain_capture<R: FileSystem + Eprint + AllocGlobal>(
+    rt: &R,
+    name: &str,
+    files: &mut RealFiles<'_, R>,
+) -> io::Result<()> {
+    let Ok(octets) = read_whole(rt.alloc(), files, name, CAPTURE_LIMIT) else {
+        return Ok(());
+    };
+    match capture_message(rt.alloc(), name, &octets)? {
+        Some(message) => eprintln!(rt; "cmdwall: {message}"),
+        None => Ok(()),
     }
 }

@@ -1,0 +1,36 @@
+# Completion of cmdwall's words in bash: source this file, or put it into the folder of bash-completion as 'cmdwall'.
+_cmdwall() {
+    local word=${COMP_WORDS[COMP_CWORD]} command=${COMP_WORDS[1]:-} place=$((COMP_CWORD - 1))
+    local commands='sift check packets run relay world'
+    COMPREPLY=()
+    if [ "$place" -eq 0 ]; then
+        mapfile -t COMPREPLY < <(compgen -W "$commands help --help --version" -- "$word")
+        return
+    fi
+    case $command:$place in
+        help:1)
+            mapfile -t COMPREPLY < <(compgen -W "$commands" -- "$word")
+            return
+            ;;
+        sift:2 | relay:2)
+            # The names of the assets: each first name below a header [[asset]].
+            mapfile -t COMPREPLY < <(compgen -W "$(_cmdwall_assets "${COMP_WORDS[2]}")" -- "$word")
+            return
+            ;;
+        sift:3 | relay:[34] | world:[12]) return ;;
+        check:1 | packets:1 | sift:[14567] | run:[1234] | relay:[15] | world:[3456]) ;;
+        *) return ;;
+    esac
+    mapfile -t COMPREPLY < <(compgen -f -- "$word")
+    compopt -o filenames 2> /dev/null
+}
+
+# The names that stand on lines of their own below headers of assets.
+_cmdwall_assets() {
+    [ -f "$1" ] || return
+    awk '/^[ \t]*\[/ { below = ($0 ~ /^[ \t]*\[\[[ \t]*asset[ \t]*\]\]/) }
+        below && match($0, /^[ \t]*name[ \t]*=[ \t]*"[a-z0-9_-]*"/) {
+            text = substr($0, RSTART, RLENGTH); split(text, parts, "\""); print parts[2]; below = 0 }' "$1"
+}
+
+complete -F _cmdwall cmdwall ./cmdwall

@@ -1,0 +1,50 @@
+-- Whether the lists of a rule have a number of a kind of acts each: meets.
+use Rattle.std.specs.Prelude.{int_le, Bool, not, ◌&&◌, ◌||◌, List, Option, Some, None}
+use Rattle.std.specs.List.{list_any, list_all}
+use Rattle.cf_policy.specs.declared.policy.Span.{Span}
+use Rattle.cf_policy.specs.declared.policy.Rule.{Rule}
+use Rattle.cf_policy.specs.Verdict.{is_empty}
+use Rattle.cf_explain.specs.declared.acts.Groups.{Groups}
+use Rattle.cf_explain.specs.declared.acts.Groups.TheVariants as groups
+use Rattle.cf_explain.specs.declared.acts.Kind.{Kind}
+use Rattle.cf_explain.specs.Acts.{between}
+
+-- the spans have a number in common
+abbrev pub overlaps : Span → Span → Bool
+overlaps a b = int_le a.low b.high && int_le b.low a.high
+
+-- a list that is stated has a number of the span, and one that is not stated has every number
+abbrev pub reaches : List Span → Span → Bool
+reaches spans s = is_empty spans || list_any (λ t. overlaps t s) spans
+
+-- a list of groups has one of these
+abbrev pub reaches_groups : List Span → Groups → Bool
+reaches_groups spans (groups.Span s) = reaches spans s
+reaches_groups spans groups.Causes = reaches spans (between 5 5) || (reaches spans (between 6 6) || reaches spans (between 8 8))
+
+-- values that are stated have one of these, and none where acts have no value
+abbrev pub reaches_values : List Span → Option Span → Bool
+reaches_values spans None = is_empty spans
+reaches_values spans (Some s) = reaches spans s
+
+-- each list of the rule but those of clients and codes has a number of the kind
+abbrev pub meets : Rule → Kind → Bool
+meets r k = reaches_groups r.groups k.groups && (reaches r.points k.points && reaches_values r.values k.values)
+
+-- all numbers of the second span are in the first
+abbrev pub is_inside : Span → Span → Bool
+is_inside outer inner = int_le outer.low inner.low && int_le inner.high outer.high
+
+-- they are in one of the spans
+abbrev pub is_inside_some : List Span → Span → Bool
+is_inside_some outers inner = list_any (λ o. is_inside o inner) outers
+
+-- a list that is not stated has every number; else the other one is stated, and each of its spans is inside one of this list
+abbrev pub includes : List Span → List Span → Bool
+includes outers inners = is_empty outers || (not (is_empty inners) && list_all (is_inside_some outers) inners)
+
+-- each list of the first rule includes that of the second
+abbrev pub includes_rule : Rule → Rule → Bool
+includes_rule a b =
+    includes a.clients b.clients && (includes a.codes b.codes
+    && (includes a.groups b.groups && (includes a.points b.points && includes a.values b.values)))

@@ -1,0 +1,38 @@
+-- Rules that decide nothing, or less than they seem to: what a finding says of a rule is Holds.
+use Rattle.std.specs.Prelude.{◌≡◌, ◌≢◌, ℕ, ◌<◌, false, List, [], ◌∷◌, Option, Some, None}
+use Rattle.cf_view.specs.declared.base.Act.{Act}
+use Rattle.cf_policy.specs.declared.policy.Protocol.{Protocol}
+use Rattle.cf_policy.specs.declared.policy.Rule.{Rule}
+use Rattle.cf_policy.specs.declared.policy.Asset.{Asset}
+use Rattle.cf_policy.specs.Verdict.{has_act, first_number}
+use Rattle.cf_explain.specs.declared.found.What.{What}
+use Rattle.cf_explain.specs.declared.found.What.TheVariants as what
+use Rattle.cf_explain.specs.Commands.{IsOfCommand}
+
+-- no act with this code that a command of the protocol has is the rule's
+abbrev pub NeverHas : Protocol → Rule → ℕ → Type 0
+NeverHas protocol rule code = (client : ℕ) (act : Act) → act.code ≡ code → IsOfCommand protocol act → has_act rule client act ≡ false
+
+-- no act that a command of the protocol has is the rule's
+abbrev pub NeverMeets : Protocol → Rule → Type 0
+NeverMeets protocol rule = (client : ℕ) (act : Act) → IsOfCommand protocol act → has_act rule client act ≡ false
+
+-- the rule has no act without a value
+abbrev pub WantsValue : Rule → Type 0
+WantsValue rule = (client : ℕ) (act : Act) → act.value ≡ None → has_act rule client act ≡ false
+
+-- no act is decided by the rule of this number
+abbrev pub NeverDecides : List Rule → ℕ → Type 0
+NeverDecides rules number = (client : ℕ) (act : Act) → first_number rules client act ≢ Some number
+
+-- what is found of the rule holds
+abbrev pub Holds : Asset → ℕ → Rule → What → Type 0
+Holds asset number rule (what.Never code why) = NeverMeets asset.protocol rule
+Holds asset number rule (what.Code code why) = NeverHas asset.protocol rule code
+Holds asset number rule what.Reads = WantsValue rule
+Holds asset number rule (what.Covered earlier) = (earlier < number) × NeverDecides asset.rules number
+
+-- what is found, if something is, as a list
+abbrev pub listed : Option What → List What
+listed None = []
+listed (Some found) = found ∷ []

@@ -1,0 +1,59 @@
+//! Rules that an earlier rule covers.
+ghost use Rattle.std.specs.Prelude.{◌≡◌, ◌<◌, IfSome, length, position};
+ghost use Rattle.std.specs.List.{list_all, list_any};
+ghost use Rattle.cf_explain.specs.Meets.{includes, includes_rule, is_inside, is_inside_some};
+ghost use Rattle.cf_explain.specs.Rules.{NeverDecides};
+
+use cf_policy::{Items, Rule, Span};
+
+/// The first rule that covers the rule of a number, from 0, and stands before it: each list that it states has each span of
+/// the later rule's list inside one span. So the later rule never decides. Rules that cover it only together are not found.
+pub fn covering(rules: &[Rule], number: usize) -> Option<usize>
+    requires { number < length rules.now }
+    ensures before { IfSome result (λ earlier. earlier < number) }
+    ensures never { IfSome result (λ _. NeverDecides rules.now number) }
+{
+    let rule = &rules[number];
+    first_covering(&rules[..number], rule)
+}
+
+fn first_covering(earlier: &[Rule], rule: &Rule) -> Option<usize>
+    ensures { result ≡ position (λ r. includes_rule r rule.now) earlier.now }
+{
+    earlier.iter().position(|first| includes_rule(first, rule))
+}
+
+fn includes_rule(outer: &Rule, inner: &Rule) -> bool
+    ensures { result ≡ includes_rule outer.now inner.now }
+{
+    includes(&outer.clients, &inner.clients)
+        && (includes(&outer.codes, &inner.codes)
+            && (includes(&outer.groups, &inner.groups)
+                && (includes(&outer.points, &inner.points)
+                    && includes(&outer.values, &inner.values))))
+}
+
+/// Whether a list that is not stated, or one with each span of the other inside one of its own.
+fn includes(outer: &Items<Span>, inner: &Items<Span>) -> bool
+    ensures { result ≡ includes outer.now inner.now }
+{
+    outer.is_empty() || (!inner.is_empty() && all_inside(outer.as_slice(), inner.as_slice()))
+}
+
+fn all_inside(outers: &[Span], inners: &[Span]) -> bool
+    ensures { result ≡ list_all (is_inside_some outers.now) inners.now }
+{
+    inners.iter().all(|inner| is_inside_some(outers, inner))
+}
+
+fn is_inside_some(outers: &[Span], inner: &Span) -> bool
+    ensures { result ≡ is_inside_some outers.now inner.now }
+{
+    outers.iter().any(|outer| is_inside(outer, inner))
+}
+
+fn is_inside(outer: &Span, inner: &Span) -> bool
+    ensures { result ≡ is_inside outer.now inner.now }
+{
+    outer.low <= inner.low && inner.high <= outer.high
+}

@@ -1,0 +1,159 @@
+//! What is wrong with an entry of a list, or with a name.
+use cf_policy::{
+    HIGHEST_CODE, HIGHEST_GROUP, HIGHEST_POINT, HIGHEST_VALUE, LONGEST_NAME, LOWEST_VALUE,
+};
+use cf_policylang::{Key, address};
+use toml::Value;
+
+/// Why a text is no number from `low` to `high` as it is printed, if it is none.
+fn number_fault(key: Key, low: i64, high: i64, text: &str) -> Option<&'static str> {
+    if text.is_empty() {
+        return Some("a number is missing");
+    }
+    if text.starts_with("+") {
+        return Some("a number has no plus sign");
+    }
+    if text.starts_with("0x") || text.starts_with("0b") || text.starts_with("0o") {
+        return Some("numbers are decimal");
+    }
+    if text == "-0" {
+        return Some("0 has no sign");
+    }
+    if text.starts_with("-0") || (text.len() > 1 && text.starts_with("0")) {
+        return Some("a number has no leading zero");
+    }
+    match text.parse::<i64>() {
+        Ok(number) if number < low => Some("the number is too low"),
+        Ok(number) if number > high => Some("the number is too high"),
+        Ok(_) => None,
+        Err(_) => Some(misread(key, text)),
+    }
+}
+
+/// What a text may be that is no number.
+fn misread(key: Key, text: &str) -> &'static str {
+    if key == Key::Groups && (text.contains(".") || text.starts_with("g")) {
+        "a group of DNP3 is 256 times the object group, and the variation: 3073 for g12v1"
+    } else if text.contains(".") {
+        "numbers have no point"
+    } else if text.starts_with("@") {
+        "there are no sets of points in version 1"
+    } else if text.contains("-") {
+        "a range has two points between its numbers, as 40..49"
+    } else if text.contains(" ") {
+        "there are no spaces in it"
+    } else if text.contains(",") {
+        "each number or range is a text of its own"
+    } else if text.contains("_") {
+        "a number has no underscores"
+    } else if text.bytes().all(|byte| byte.is_ascii_digit()) {
+        "the number is too high"
+    } else {
+        "it is no number"
+    }
+}
+
+/// Why a text is no number and no range of numbers from `low` to `high`, if it is neither.
+fn span_fault(key: Key, low: i64, high: i64, text: &str) -> Option<&'static str> {
+    let (first, last) = text.split_once("..").unwrap_or((text, text));
+    if let Some(fault) = number_fault(key, low, high, first) {
+        return Some(fault);
+    }
+    if let Some(fault) = number_fault(key, low, high, last) {
+        return Some(fault);
+    }
+    match (first.parse::<i64>(), last.parse::<i64>()) {
+        (Ok(first), Ok(last)) if first > last => Some("the first number is above the second"),
+        _ => None,
+    }
+}
+
+/// Why a text is no address and no range of addresses, if it is neither.
+fn client_fault(text: &str) -> Option<&'static str> {
+    if text.contains("/") {
+        return Some("a network is written as a range, as 10.0.0.0..10.0.0.255");
+    }
+    let (first, last) = text.split_once("..").unwrap_or((text, text));
+    match (address(first), address(last)) {
+        (Some(first), Some(last)) if first > last => Some("the first address is above the second"),
+        (Some(_), Some(_)) => None,
+        _ if text.contains("-") => {
+            Some("a range has two points between its addresses, as 10.0.0.5..10.0.0.9")
+        }
+        _ => Some("it is no address"),
+    }
+}
+
+/// Why an entry of the kind of a key's list is refused, if it is.
+fn entry_fault(key: Key, value: &Value) -> Option<&'static str> {
+    match (key, value) {
+        (Key::Codes, Value::Integer(code)) if *code < 0 => Some("the number is too low"),
+        (Key::Codes, Value::Integer(code)) if *code > HIGHEST_CODE => Some(
+            "the number is too high",
+        ),
+        (Key::Clients, Value::String(text)) => client_fault(text.as_str()),
+        (Key::Groups, Value::String(text)) => span_fault(key, 0, HIGHEST_GROUP, text.as_str()),
+        (Key::Points, Value::String(text)) => span_fault(key, 0, HIGHEST_POINT, text.as_str()),
+        (Key::Values, Value::String(text)) => span_fault(
+            key,
+            LOWEST_VALUE,
+            HIGHEST_VALUE,
+            text.as_str(),
+        ),
+        _ => None,
+    }
+}
+
+/// The first entry of a list that is refused: its number from 1, and why.
+pub(crate) fn first_fault(key: Key, entries: &[Value]) -> Option<(usize, &Value, &'static str)> {
+    let index = entries
+        .iter()
+        .position(|entry| entry_fault(key, entry).is_some())?;
+    let entry = entries.get(index)?;
+    let fault = entry_fault(key, entry)?;
+    Some((index.saturating_add(1), entry, fault))
+}
+
+/// Why a text is no name, if it is none.
+pub(crate) fn name_fault(text: &str) -> Option<&'static str> {
+    if text.is_empty() {
+        return Some("it is empty");
+    }
+    if text.bytes().any(|byte| byte.is_ascii_uppercase()) {
+        return Some("it has capital letters");
+    }
+    if text.contains(" ") {
+        return Some("it has a space");
+    }
+    if !text.bytes().all(is_name_byte) {
+        return Some("it has a character that names do not have");
+    }
+    if text.len() > LONGEST_NAME {
+        return Some("it is too long");
+    }
+    None
+}
+
+fn is_name_byte(byte: u8) -> bool {
+    matches!(byte, b'a'..=b'z' | b'0'..=b'9' | b'_' | b'-')
+}
+
+/// Why a text is no address, if it is none.
+pub(crate) fn address_fault(text: &str) -> Option<&'static str> {
+    if address(text).is_some() {
+        return None;
+    }
+    if text.contains(":") {
+        return Some("the port is a key of its own, and addresses of IPv6 are not served");
+    }
+    if text.split(".").count() != 4 {
+        return Some("it has not four numbers");
+    }
+    if text
+        .split(".")
+        .any(|part| part.len() > 1 && part.starts_with("0"))
+    {
+        return Some("a number has no leading zero");
+    }
+    Some("a number of it is none from 0 to 255")
+}

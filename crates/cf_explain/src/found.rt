@@ -1,0 +1,186 @@
+//! What is found of rules that decide nothing, or less than they seem to.
+ghost use Rattle.std.specs.Prelude.{◌≡◌, ℕ, ◌<◌, ◌++◌, All, IfOk, IfSome, IsTrue, OnOk, Some, false, true, length, pos, slice_get};
+ghost use Rattle.std.specs.List.{list_any};
+ghost use Rattle.cf_policy.specs.declared.policy.Asset.{Asset};
+ghost use Rattle.cf_policy.specs.declared.policy.Rule.{Rule};
+ghost use Rattle.cf_policy.specs.Verdict.{covers, takes};
+ghost use Rattle.cf_explain.specs.Rules.{Holds, NeverHas, NeverMeets, WantsValue, listed};
+
+use crate::covered::covering;
+use crate::unmet::{Unmet, why_unmet};
+use cf_policy::{Asset, Items, Protocol, Rule, Span};
+use std::alloc::{AllocError, Global};
+
+/// One more than the highest code of a rule.
+const CODES: u16 = 256;
+
+/// What is found of a rule.
+#[derive(Clone, Copy, PartialEq, Eq, Debug)]
+pub enum What {
+    /// No command meets it, for this reason at its first code.
+    Never(u16, Unmet),
+    /// No command with this code meets it.
+    Code(u16, Unmet),
+    /// The reads of function 23 of Modbus have no value, and the rule states values.
+    Reads,
+    /// The rule of this number, from 0, covers it.
+    Covered(usize),
+}
+
+/// What is found of the rule of a number, from 0: that no command meets it, and nothing else; or for each of its codes that no
+/// command brings, that it wants values where reads have none, and that an earlier rule covers it.
+pub fn findings(alloc: Global, asset: &Asset, number: usize) -> Result<Vec<What>, AllocError>
+    requires { number < length asset.now.rules }
+    ensures { (rule : Rule) → slice_get asset.now.rules number ≡ Some rule → IfOk result (λ found. All (Holds asset.now number rule) found.items) }
+{
+    let rule = &asset.rules.as_slice()[number];
+    match whole_finding(asset.protocol, rule) {
+        Some(what) => Ok(vec![in alloc; what]?),
+        None => partial_findings(alloc, asset, number, rule),
+    }
+}
+
+/// That no command meets a rule, with the reason at its first code.
+fn whole_finding(protocol: Protocol, rule: &Rule) -> Option<What>
+    ensures { IfSome result (λ what. (asset : Asset) (number : ℕ) → asset.protocol ≡ protocol → Holds asset number rule.now what) }
+{
+    if !never_met(protocol, rule) {
+        return None;
+    }
+    let (code, why) = first_unmet(protocol, rule)?;
+    Some(What::Never(code, why))
+}
+
+/// What is found of a rule that some command meets.
+fn partial_findings(
+    alloc: Global,
+    asset: &Asset,
+    number: usize,
+    rule: &Rule,
+) -> Result<Vec<What>, AllocError>
+    requires { number < length asset.now.rules }
+    ensures { IfOk result (λ found. All (Holds asset.now number rule.now) found.items) }
+{
+    let mut found = code_findings(alloc, asset, number, rule)?;
+    put(&mut found, reads_finding(asset.protocol, rule))?;
+    put(&mut found, covered_finding(asset, number))?;
+    Ok(found)
+}
+
+/// Adds what is found, if something is.
+fn put(found: &mut Vec<What>, what: Option<What>) -> Result<(), AllocError>
+    ensures { OnOk result (found.new.items ≡ found.old.items ++ listed what) }
+{
+    if let Some(what) = what {
+        found.push(what)?;
+    }
+    Ok(())
+}
+
+/// That an earlier rule covers the rule of a number.
+fn covered_finding(asset: &Asset, number: usize) -> Option<What>
+    requires { number < length asset.now.rules }
+    ensures { IfSome result (λ what. (rule : Rule) → Holds asset.now number rule what) }
+{
+    let earlier = covering(asset.rules.as_slice(), number)?;
+    Some(What::Covered(earlier))
+}
+
+/// The codes of a rule that no command brings.
+fn code_findings(
+    alloc: Global,
+    asset: &Asset,
+    number: usize,
+    rule: &Rule,
+) -> Result<Vec<What>, AllocError>
+    ensures { IfOk result (λ found. All (Holds asset.now number rule.now) found.items) }
+{
+    let mut found = Vec::new(alloc);
+    for code in 0..CODES {
+        put(&mut found, code_finding(asset.protocol, rule, code))?;
+    }
+    Ok(found)
+}
+
+fn code_finding(protocol: Protocol, rule: &Rule, code: u16) -> Option<What>
+    ensures { IfSome result (λ what. (asset : Asset) (number : ℕ) → asset.protocol ≡ protocol → Holds asset number rule.now what) }
+{
+    let why = missed_code(protocol, rule, code)?;
+    Some(What::Code(code, why))
+}
+
+/// Why no command brings a code of a rule; nothing where one does, or the rule does not have the code.
+fn missed_code(protocol: Protocol, rule: &Rule, code: u16) -> Option<Unmet>
+    ensures { IfSome result (λ _. NeverHas protocol rule.now code) }
+{
+    if !has_code(&rule.codes, code) {
+        return None;
+    }
+    why_unmet(protocol, rule, code)
+}
+
+/// The first code of a rule that no command brings.
+fn first_unmet(protocol: Protocol, rule: &Rule) -> Option<(u16, Unmet)> {
+    for code in 0..CODES {
+        if let Some(why) = missed_code(protocol, rule, code) {
+            return Some((code, why));
+        }
+    }
+    None
+}
+
+/// That a rule of Modbus has function 23 with its reads, and states values, which reads have not.
+fn reads_finding(protocol: Protocol, rule: &Rule) -> Option<What>
+    ensures { IfSome result (λ what. (asset : Asset) (number : ℕ) → Holds asset number rule.now what) }
+{
+    if protocol != Protocol::Modbus || !wants_value(rule) || !has_code(&rule.codes, 23) {
+        return None;
+    }
+    if rule.groups.is_empty() || some_covers(rule.groups.as_slice(), 0) {
+        return Some(What::Reads);
+    }
+    None
+}
+
+fn wants_value(rule: &Rule) -> bool
+    ensures { IsTrue result → WantsValue rule.now }
+{
+    !rule.values.is_empty()
+}
+
+/// Whether a rule has no act that a command of the protocol can have.
+fn never_met(protocol: Protocol, rule: &Rule) -> bool
+    ensures { IsTrue result → NeverMeets protocol rule.now }
+{
+    for code in 0..CODES {
+        if may_have(protocol, rule, code) {
+            return false;
+        }
+    }
+    true
+}
+
+/// Whether a rule has a code, and some act with it that a command may have.
+fn may_have(protocol: Protocol, rule: &Rule, code: u16) -> bool
+    ensures { result ≡ false → takes rule.now.codes (pos code) ≡ true → NeverHas protocol rule.now code }
+{
+    has_code(&rule.codes, code) && why_unmet(protocol, rule, code).is_none()
+}
+
+fn has_code(codes: &Items<Span>, code: u16) -> bool
+    ensures { result ≡ takes codes.now (pos code) }
+{
+    codes.is_empty() || some_covers(codes.as_slice(), i64::from(code))
+}
+
+fn some_covers(spans: &[Span], number: i64) -> bool
+    ensures { result ≡ list_any (λ s. covers s number) spans.now }
+{
+    spans.iter().any(|span| covers(span, number))
+}
+
+fn covers(span: &Span, number: i64) -> bool
+    ensures { result ≡ covers span.now number }
+{
+    span.low <= number && number <= span.high
+}

@@ -1,0 +1,36 @@
+//! What the program says to people: why a policy, a capture or the words were refused, which rules no command meets, and
+//! what stands in the outputs after a fault. Each call makes one text, whatever it is given, or ends for want of memory.
+#![tactic(auto)]
+
+mod acts;
+mod allowed;
+mod capture;
+mod covered;
+mod entries;
+mod found;
+mod kinds;
+mod laws;
+mod nearest;
+mod outputs;
+mod place;
+mod policy;
+mod quote;
+mod unknown;
+mod unmet;
+mod warnings;
+mod words;
+mod wrong;
+
+pub use acts::{Groups, Kind};
+pub use capture::capture_message;
+pub use covered::covering;
+pub use found::{What, findings};
+pub use laws::tables_have_acts_of_commands;
+pub use outputs::{asset_message, outputs_message};
+pub use policy::policy_message;
+pub use unmet::{Unmet, why_unmet};
+pub use warnings::policy_warnings;
+pub use words::words_message;
+
+#[cfg(test)]
+mod tests;

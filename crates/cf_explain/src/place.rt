@@ -1,0 +1,220 @@
+//! Where a table or a key stands in a policy's text.
+//!
+//! The lines are scanned for what looks like it, and the reader of TOML is the judge: the text before such a line has to be
+//! a document without the table or key, and one with it once the line is there. So a place that is told is right, and one
+//! in a string, in an inline table or in an unusual spelling is not told.
+use std::alloc::Global;
+use toml::{Table, Value};
+
+/// How many lines that look right are tried.
+const TRIES: u32 = 8;
+
+/// A place in a text: its line and its column, both from 1. A column counts characters.
+#[derive(Clone, Copy, PartialEq, Eq, Debug)]
+pub(crate) struct TextPlace {
+    pub(crate) line: usize,
+    pub(crate) column: usize,
+}
+
+impl TextPlace {
+    /// The place behind so many bytes of a text.
+    pub(crate) fn behind(before: &[u8]) -> TextPlace {
+        let mut place = TextPlace { line: 1, column: 1 };
+        for byte in before {
+            if *byte == b'\n' {
+                place.line = place.line.saturating_add(1);
+                place.column = 1;
+            } else if *byte & 0xC0 != 0x80 {
+                place.column = place.column.saturating_add(1);
+            }
+        }
+        place
+    }
+}
+
+/// What is looked for: a table by its numbers as a refusal has them, or a key in it.
+#[derive(Clone, Copy, Debug)]
+pub(crate) struct Target<'a> {
+    pub(crate) asset: u32,
+    pub(crate) rule: u32,
+    pub(crate) key: Option<&'a str>,
+}
+
+/// The table of the document (0 and 0), of an asset (its rule 0) or of a rule.
+pub(crate) fn table_at(document: &Table, asset: u32, rule: u32) -> Option<&Table> {
+    if asset == 0 {
+        return Some(document);
+    }
+    let asset = entry_at(document, "asset", asset)?;
+    if rule == 0 {
+        return Some(asset);
+    }
+    entry_at(asset, "rule", rule)
+}
+
+/// The table of a number, from 1, in the list at a key.
+fn entry_at<'a>(table: &'a Table, key: &str, number: u32) -> Option<&'a Table> {
+    let Some(Value::Array(entries)) = table.get(key) else {
+        return None;
+    };
+    let index = (number as usize).checked_sub(1)?;
+    match entries.get(index) {
+        Some(Value::Table(entry)) => Some(entry),
+        _ => None,
+    }
+}
+
+/// Whether a document has what is looked for.
+fn has(document: &Table, target: &Target<'_>) -> bool {
+    match (table_at(document, target.asset, target.rule), target.key) {
+        (Some(table), Some(key)) => table.contains_key(key),
+        (Some(_), None) => true,
+        (None, _) => false,
+    }
+}
+
+/// Whether a text is a document, and has what is looked for; nothing where it is none, or memory ran out.
+fn text_has(alloc: Global, text: &[u8], target: &Target<'_>) -> Option<bool> {
+    match toml::table_from_slice(alloc, text) {
+        Ok(document) => Some(has(&document, target)),
+        Err(_) => None,
+    }
+}
+
+/// Whether what is looked for comes with the text behind a front: that text alone adds it.
+fn comes_with(alloc: Global, front: &[u8], added: &[u8], target: &Target<'_>) -> bool {
+    if text_has(alloc, front, target) != Some(false) {
+        return false;
+    }
+    match joined(alloc, front, added) {
+        Some(text) => text_has(alloc, &text, target) == Some(true),
+        None => false,
+    }
+}
+
+fn joined(alloc: Global, front: &[u8], added: &[u8]) -> Option<Vec<u8>> {
+    let mut text = Vec::new(alloc);
+    text.extend_from_slice(front).ok()?;
+    text.extend_from_slice(added).ok()?;
+    Some(text)
+}
+
+/// What a line looks like: a table's header with its name, a key with its value, or neither.
+#[derive(Clone, Copy, PartialEq, Eq, Debug)]
+enum Look<'a> {
+    Header(&'a str),
+    Pair(&'a str),
+    Other,
+}
+
+fn look_of(line: &str) -> Look<'_> {
+    let line = line.trim();
+    if let Some(name) = line.strip_prefix("[") {
+        return match name.trim_start_matches("[").split_once("]") {
+            Some((name, _)) => Look::Header(name.trim()),
+            None => Look::Other,
+        };
+    }
+    match line.split_once("=") {
+        Some((key, _)) => Look::Pair(key.trim()),
+        None => Look::Other,
+    }
+}
+
+/// A key without the quotation marks that it may stand in.
+fn unquoted(key: &str) -> &str {
+    key.trim_matches("\"").trim_matches("'")
+}
+
+/// The last part of a header's name.
+fn last_part(name: &str) -> &str {
+    match name.rsplit_once(".") {
+        Some((_, last)) => unquoted(last.trim()),
+        None => unquoted(name),
+    }
+}
+
+/// The table whose lines are scanned: by the headers of assets and rules so far.
+#[derive(Clone, Copy, PartialEq, Eq, Debug)]
+struct Section {
+    asset: u32,
+    rule: u32,
+}
+
+impl Section {
+    /// The section behind a line.
+    fn behind(self, look: Look<'_>) -> Section {
+        match look {
+            Look::Header("asset") => Section {
+                asset: self.asset.saturating_add(1),
+                rule: 0,
+            },
+            Look::Header("asset.rule") => Section {
+                asset: self.asset,
+                rule: self.rule.saturating_add(1),
+            },
+            _ => self,
+        }
+    }
+
+    /// Whether a line of this section, which ends in another, may be where the target stands.
+    fn may_have(self, look: Look<'_>, target: &Target<'_>) -> bool {
+        let is_there = self.asset == target.asset && self.rule == target.rule;
+        match (look, target.key) {
+            (Look::Pair(key), Some(wanted)) => is_there && unquoted(key) == wanted,
+            (Look::Header(name), Some(wanted)) => {
+                (target.asset == 0 || self.asset == target.asset) && last_part(name) == wanted
+            }
+            (Look::Header(_), None) => {
+                let next = self.behind(look);
+                next != self && next.asset == target.asset && next.rule == target.rule
+            }
+            _ => false,
+        }
+    }
+}
+
+/// Where a table or a key begins in a text, if a line says so.
+pub(crate) fn find_place(alloc: Global, text: &[u8], target: &Target<'_>) -> Option<TextPlace> {
+    let mut section = Section { asset: 0, rule: 0 };
+    let mut tries = TRIES;
+    let mut start = 0usize;
+    for line in text.split(|byte| *byte == b'\n') {
+        let look = look_of(std::str::from_utf8(line).unwrap_or(""));
+        if section.may_have(look, target) && tries > 0 {
+            tries -= 1;
+            if let Some(place) = place_at(alloc, text, start, line, look, target) {
+                return Some(place);
+            }
+        }
+        section = section.behind(look);
+        start = start.saturating_add(line.len()).saturating_add(1);
+    }
+    None
+}
+
+/// The place of a line's first letter, if what is looked for comes with the line.
+fn place_at(
+    alloc: Global,
+    text: &[u8],
+    start: usize,
+    line: &[u8],
+    look: Look<'_>,
+    target: &Target<'_>,
+) -> Option<TextPlace> {
+    let front = text.get(..start)?;
+    let comes = match look {
+        Look::Header(_) => comes_with(alloc, front, line.trim_ascii(), target),
+        Look::Pair(key) => {
+            let pair = joined(alloc, key.as_bytes(), b" = 0")?;
+            comes_with(alloc, front, &pair, target)
+        }
+        Look::Other => false,
+    };
+    if !comes {
+        return None;
+    }
+    let indent = line.len().saturating_sub(line.trim_ascii_start().len());
+    let first = text.get(..start.saturating_add(indent))?;
+    Some(TextPlace::behind(first))
+}

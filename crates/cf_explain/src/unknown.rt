@@ -1,0 +1,115 @@
+//! A key that its table does not have.
+use crate::nearest::nearest;
+use crate::quote::push_quoted;
+use std::alloc::{AllocError, Global};
+use std::fmt::Write;
+use toml::Table;
+
+const DOCUMENT_KEYS: [&str; 2] = ["version", "asset"];
+
+const ASSET_KEYS: [&str; 7] = [
+    "name", "address", "port", "protocol", "station", "master", "rule",
+];
+
+const RULE_KEYS: [&str; 7] = [
+    "name", "action", "clients", "codes", "groups", "points", "values",
+];
+
+/// What a key stands in.
+#[derive(Clone, Copy, PartialEq, Eq, Debug)]
+pub(crate) enum Level {
+    Document,
+    Asset,
+    Rule,
+}
+
+impl Level {
+    /// The level of a refusal's numbers.
+    pub(crate) fn of(asset: u32, rule: u32) -> Level {
+        if asset == 0 {
+            Level::Document
+        } else if rule == 0 {
+            Level::Asset
+        } else {
+            Level::Rule
+        }
+    }
+
+    fn keys(self) -> &'static [&'static str] {
+        match self {
+            Level::Document => &DOCUMENT_KEYS,
+            Level::Asset => &ASSET_KEYS,
+            Level::Rule => &RULE_KEYS,
+        }
+    }
+
+    fn name(self) -> &'static str {
+        match self {
+            Level::Document => "the document",
+            Level::Asset => "an asset",
+            Level::Rule => "a rule",
+        }
+    }
+
+    /// The keys of this level in words.
+    pub(crate) fn allowed(self) -> &'static str {
+        match self {
+            Level::Document =>
+                "above the first table the document has version = 1, and then tables [[asset]]",
+            Level::Asset => {
+                "an asset has name, address, port, protocol, station, for DNP3 master, and tables [[asset.rule]]"
+            }
+            Level::Rule =>
+                "a rule has name, action, codes, and may have clients, groups, points and values",
+        }
+    }
+}
+
+/// The first key of a table, in the order of its letters, that its level does not have; else `master`, which only DNP3 has.
+pub(crate) fn unknown_key(level: Level, table: &Table) -> &str {
+    for key in table.keys() {
+        if !level.keys().contains(&key.as_str()) {
+            return key.as_str();
+        }
+    }
+    "master"
+}
+
+/// What is wrong with a key, and what may have been meant.
+pub(crate) fn push_unknown(
+    alloc: Global,
+    out: &mut String,
+    level: Level,
+    key: &str,
+) -> Result<(), AllocError> {
+    if level == Level::Asset && key == "master" {
+        return out.push_str("`master` is a key of DNP3 assets alone: leave it out");
+    }
+    push_quoted(out, key)?;
+    let level_name = level.name();
+    write!(out, " is no key of {level_name}")?;
+    if let Some(place) = other_level(level, key) {
+        return out.push_str(place);
+    }
+    if let Some(meant) = nearest(alloc, key, level.keys())? {
+        write!(out, "; did you mean `{meant}`?")?;
+    }
+    Ok(())
+}
+
+/// Where a key belongs that another level has.
+fn other_level(level: Level, key: &str) -> Option<&'static str> {
+    if level != Level::Rule && key != "name" && RULE_KEYS.contains(&key) {
+        return Some(": it stands in a rule, below [[asset.rule]]");
+    }
+    if level != Level::Asset && key == "rule" {
+        return Some(": a rule is a table [[asset.rule]]");
+    }
+    if level != Level::Asset && ASSET_KEYS.contains(&key) {
+        return Some(": it stands in an asset, below [[asset]] and above its first [[asset.rule]]");
+    }
+    if level != Level::Document && DOCUMENT_KEYS.contains(&key) {
+        return Some(": it stands above the first [[asset]]");
+    }
+    None
+}

@@ -1,0 +1,124 @@
+//! Codes of a rule that no command brings.
+ghost use Rattle.std.specs.Prelude.{◌≡◌, IfSome};
+ghost use Rattle.std.specs.List.{list_any};
+ghost use Rattle.cf_explain.specs.Meets.{overlaps, reaches, reaches_groups, reaches_values, meets};
+ghost use Rattle.cf_explain.specs.Rules.{NeverHas};
+
+use crate::acts::{Groups, Kind, kinds};
+use cf_policy::{Items, Protocol, Rule, Span};
+
+/// Why no act with a code meets a rule.
+#[derive(Clone, Copy, PartialEq, Eq, Debug)]
+pub enum Unmet {
+    /// The protocol does not serve the code.
+    Code,
+    /// Acts with the code have none of the rule's groups.
+    Group,
+    /// Those of its groups have none of its points.
+    Point,
+    /// Those of its groups and points have no value, and the rule states some.
+    NoValue,
+    /// Those of its groups and points have none of its values.
+    Value,
+}
+
+/// Why a rule has no act with this code that a command of the protocol can have, if it has none. Each list is judged by
+/// itself. Nothing is said of a rule that has some such act.
+pub fn why_unmet(protocol: Protocol, rule: &Rule, code: u16) -> Option<Unmet>
+    ensures { IfSome result (λ _. NeverHas protocol rule.now code) }
+{
+    let kinds = kinds(protocol, code);
+    if some_meets(rule, kinds) {
+        return None;
+    }
+    Some(first_missed(rule, kinds))
+}
+
+fn some_meets(rule: &Rule, kinds: &[Kind]) -> bool
+    ensures { result ≡ list_any (meets rule.now) kinds.now }
+{
+    kinds.iter().any(|kind| meets(rule, kind))
+}
+
+/// The first list that no kind of acts meets together with the lists before it.
+fn first_missed(rule: &Rule, kinds: &[Kind]) -> Unmet {
+    if kinds.is_empty() {
+        Unmet::Code
+    } else if !kinds
+        .iter()
+        .any(|kind| reaches_groups(&rule.groups, kind.groups))
+    {
+        Unmet::Group
+    } else if !kinds.iter().any(|kind| reaches_place(rule, kind)) {
+        Unmet::Point
+    } else if kinds
+        .iter()
+        .any(|kind| reaches_place(rule, kind) && kind.values.is_some())
+    {
+        Unmet::Value
+    } else {
+        Unmet::NoValue
+    }
+}
+
+/// Whether the rule's groups and points meet a kind of acts.
+pub(crate) fn reaches_place(rule: &Rule, kind: &Kind) -> bool {
+    reaches_groups(&rule.groups, kind.groups) && reaches(&rule.points, &kind.points)
+}
+
+fn meets(rule: &Rule, kind: &Kind) -> bool
+    ensures { result ≡ meets rule.now kind.now }
+{
+    reaches_groups(&rule.groups, kind.groups)
+        && (reaches(&rule.points, &kind.points) && reaches_values(&rule.values, kind.values))
+}
+
+fn reaches_groups(spans: &Items<Span>, groups: Groups) -> bool
+    ensures { result ≡ reaches_groups spans.now groups }
+{
+    match groups {
+        Groups::Span(span) => reaches(spans, &span),
+        Groups::Causes => reaches_one(spans, 5) || (reaches_one(spans, 6) || reaches_one(spans, 8)),
+    }
+}
+
+fn reaches_one(spans: &Items<Span>, number: i64) -> bool
+    ensures { result ≡ reaches spans.now (record { low = number; high = number }) }
+{
+    reaches(
+        spans,
+        &Span {
+            low: number,
+            high: number,
+        },
+    )
+}
+
+fn reaches_values(spans: &Items<Span>, values: Option<Span>) -> bool
+    ensures { result ≡ reaches_values spans.now values }
+{
+    match values {
+        Some(span) => reaches(spans, &span),
+        None => spans.is_empty(),
+    }
+}
+
+/// Whether a list of a rule has a number of a span.
+fn reaches(spans: &Items<Span>, span: &Span) -> bool
+    ensures { result ≡ reaches spans.now span.now }
+{
+    spans.is_empty() || some_overlaps(spans.as_slice(), span)
+}
+
+fn some_overlaps(spans: &[Span], span: &Span) -> bool
+    ensures { result ≡ list_any (λ s. overlaps s span.now) spans.now }
+{
+    spans.iter().any(|stated| overlaps(stated, span))
+}
+
+/// Whether two spans have a number in common.
+fn overlaps(a: &Span, b: &Span) -> bool
+    ensures { result ≡ overlaps a.now b.now }
+{
+    a.low <= b.high && b.low <= a.high
+}
