@@ -1,14 +1,13 @@
 -- What holds where a run came to its end.
-use Rattle.std.proofs.Common.{◌≡◌, ℕ, ◌^◌, ◌≤◌, List, [], ◌∷◌, Some, Result, Ok, Err, refl, sym, subst, ◌∙◌, ap, inl, inr, arith}
+use Rattle.std.proofs.Common.{◌≡◌, ℕ, ◌^◌, ◌≤◌, List, [], ◌∷◌, Result, Ok, Err, sym, subst, ◌∙◌, ap, inl, inr, arith}
 use Rattle.cf_lane.specs.declared.limit.TheConstants.{LETTER_LIMIT}
-use Rattle.cf_outside.specs.Faults.{Rose}
 use Rattle.cf_outside.specs.Sink.{printed_with}
 use Rattle.cf_pcap.specs.Capture.{FileEnd}
 use Rattle.cf_run.specs.Headline.{RunsHaveHeadline}
 use Rattle.cf_run.specs.RunCapture.{RunNamesValue, RunsTo}
 use Rattle.cf_run.specs.declared.summary.Summary.{Summary}
 use Rattle.cf_box.specs.Command.{Command, Run}
-use Rattle.cf_box.specs.Ending.{Puts, Reports, end_text, summary_text}
+use Rattle.cf_box.specs.Ending.{Puts, Reports, summary_text}
 use Rattle.cf_box.specs.Ends.{Meets}
 use Rattle.cf_sift.specs.Outputs.{KeepsAllBut}
 use Rattle.cf_box.specs.Outside.{Outside, SinkValue}
@@ -32,7 +31,7 @@ module _ (law : RunsHaveHeadline) (failed : Type 0) (status : ℕ) (policy_name 
   holds_by summary run reports is =
       let same : middle.files.content ≡ after.files.content = sym (ap (λ f. f.content) reports.files) in
       let runs : RunsTo run.policy.assets LETTER_LIMIT names before.files.content after.files.content FileEnd run.runs.0 summary =
-          subst (λ c. RunsTo run.policy.assets LETTER_LIMIT names before.files.content c FileEnd run.runs.0 summary) same run.runs.1 in
+      subst (λ c. RunsTo run.policy.assets LETTER_LIMIT names before.files.content c FileEnd run.runs.0 summary) same run.runs.1 in
       record {
         policy = run.policy;
         has = run.has;

@@ -1,14 +1,13 @@
 -- An answer of a run, as the answer of the command.
-use Rattle.std.proofs.Common.{◌≡◌, ◌≢◌, ◌≤◌, ℕ, List, [], ◌∷◌, Option, None, Some, Result, Ok, Err, refl, sym, ap, ◌∙◌, subst, arith, inl, inr}
+use Rattle.std.proofs.Common.{◌≡◌, ℕ, List, [], ◌∷◌, Result, Ok, Err, refl, ap, ◌∙◌, subst, arith, inl, inr}
 use Rattle.std.specs.Result.{IsErrOf}
 use Rattle.cf_lane.specs.declared.limit.TheConstants.{LETTER_LIMIT}
 use Rattle.cf_outside.specs.Desk.{IsNoneOf}
-use Rattle.cf_outside.specs.Faults.{HasCause, Rose}
+use Rattle.cf_outside.specs.Faults.{Rose}
 use Rattle.cf_outside.specs.Files.{Content}
 use Rattle.cf_pcap.specs.Capture.{AtPlace}
 use Rattle.cf_pcap.specs.declared.HeaderRefusal.{HeaderRefusal}
 use Rattle.cf_pcap.specs.declared.HeaderRefusal.TheVariants as header
-use Rattle.cf_policy.specs.declared.Asset.{Asset}
 use Rattle.cf_policy.specs.declared.Policy.{Policy}
 use Rattle.cf_run.specs.Reader.{HasHeader}
 use Rattle.cf_run.specs.RunCapture.{RunNamesValue, RunsAs, RunsTo}
@@ -16,10 +15,10 @@ use Rattle.cf_run.specs.declared.run.RunFault.{RunFault}
 use Rattle.cf_run.specs.declared.run.RunFault.TheVariants as fault
 use Rattle.cf_run.specs.declared.run.RunRefusal.TheVariants as by
 use Rattle.cf_run.specs.declared.summary.Summary.{Summary}
-use Rattle.cf_box.specs.Command.{Run, policy_file}
+use Rattle.cf_box.specs.Command.{Run}
 use Rattle.cf_box.specs.Ends.{Meets, PassesPolicy, StopsFor}
 use Rattle.cf_sift.specs.Outputs.{KeepsAllBut}
-use Rattle.cf_box.specs.Outside.{FilesValue, Outside, ReadsOnly}
+use Rattle.cf_box.specs.Outside.{Outside, ReadsOnly}
 use Rattle.cf_box.specs.Packets.{header_refusal}
 use Rattle.cf_box.specs.PolicyFile.{HasPolicy}
 use Rattle.cf_box.specs.Run.{EndsAt, HasRun, RunRefuses, run_stop}
@@ -80,7 +79,7 @@ pub run_after : (policy_name : List ℕ) (names : RunNamesValue) (before middle 
     after.sink ≡ before.sink → after.pair ≡ before.pair → Meets (Run policy_name names) before after (run_answer r)
 run_after policy_name names before middle after policy has only r runs others read write sink pair =
     let here : RunsAs policy.assets LETTER_LIMIT names before.files.content after.files.content r =
-        subst (λ c. RunsAs policy.assets LETTER_LIMIT names c after.files.content r) only.content runs in
+    subst (λ c. RunsAs policy.assets LETTER_LIMIT names c after.files.content r) only.content runs in
     run_meets policy_name names before after policy has r
     (record { policy = policy; has = has; runs = here; others = kept_but names before.files.content middle.files.content after.files.content only.content others; sink = sink; pair = pair }) here
     (λ e. let rose = read e in omega (arith, rose, only.reads)) (λ e. let rose = write e in omega (arith, rose, only.writes))

@@ -5,7 +5,7 @@ use Rattle.cf_policy.specs.declared.Asset.{Asset}
 use Rattle.cf_policy.specs.declared.Policy.{Policy}
 use Rattle.cf_policylang.specs.declared.PolicyRefusal.{PolicyRefusal}
 use Rattle.cf_box.specs.Check.{CheckLeaves, Checks}
-use Rattle.cf_box.specs.Command.{Command, Check, Packets, Run, Relay, World, Sift, asset_name, capture_file, policy_file}
+use Rattle.cf_box.specs.Command.{Command, Check, Packets, Run, Relay, World, Sift, asset_name, policy_file}
 use Rattle.cf_box.specs.Ending.{Puts, Reports}
 use Rattle.cf_box.specs.Outside.{Outside, ReadFailed, WriteFailed}
 use Rattle.cf_box.specs.Packets.{LacksPartOfPackets, ListingCuts, ListingRefuses, Lists, PacketsLeaves}

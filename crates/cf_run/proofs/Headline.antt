@@ -1,10 +1,7 @@
 -- The headline of a run.
-use Rattle.std.proofs.Common.{◌≡◌, ℕ, ◌^◌, ◌≤◌, true, false, if◌then◌else◌, List, [], ◌∷◌, ◌++◌, map, refl, sym, ap, ◌∙◌, subst}
-use Rattle.std.proofs.lemmas.Bool.{cases_Bool}
+use Rattle.std.proofs.Common.{◌≡◌, ℕ, ◌^◌, ◌≤◌, true, false, List, [], ◌∷◌, ◌++◌, map, refl, sym, ap, ◌∙◌}
 use Rattle.cf_decode.specs.Laws.{FragmentsDecode}
-use Rattle.cf_decode.specs.Passed.{passed}
-use Rattle.cf_lane.specs.Judged.{Judged}
-use Rattle.cf_lane.specs.Output.{outputs, stream_to}
+use Rattle.cf_lane.specs.Output.{outputs}
 use Rattle.cf_policy.specs.declared.Asset.{Asset}
 use Rattle.cf_session.specs.Event.{AreEvents as AreSessionEvents}
 use Rattle.cf_session.specs.Laws.{HasOneStream as SessionHasOneStream, IsFront, WorkIsOfTheTaken}
@@ -12,9 +9,8 @@ use Rattle.cf_session.specs.Session.{Flow, SessionEvent, client_of, history, wor
 use Rattle.cf_session.specs.Work.{Work, Works}
 use Rattle.cf_stream.specs.Stream.{Byte, End, Letter, Stream, letters}
 use Rattle.cf_view.specs.declared.Side.TheVariants as side
-use Rattle.cf_run.specs.Headline.{Decodes, HasHeadline, IsFaithful, RunsHaveHeadline, bytes_among}
+use Rattle.cf_run.specs.Headline.{HasHeadline, IsFaithful, RunsHaveHeadline, bytes_among}
 use Rattle.cf_run.specs.Sessions.{HasEvents, IsRight, sessions_of}
-use Rattle.cf_run.specs.Table.{Session}
 use Rattle.cf_run.specs.Trace.{AreEvents, Event}
 use Rattle.cf_run.proofs.Isolation.{right_events, uncut_before}
 use Rattle.cf_run.proofs.Sessions.{each-map, sessions_right}
@@ -54,7 +50,7 @@ module _ (one : SessionHasOneStream) (works : WorkIsOfTheTaken) (fragments : Fra
         decodes = λ taken re.
             (let front : IsFront (work_of es).to_controller taken = (one f limit es taken small are (uncut_before limit f es h)).0 re in
             let bytes : outputs f.asset side.Controller [] w.judged ≡ bytes_among taken ++ bytes_among front.more =
-                sym (ap (λ (x : Work). x.to_controller.bytes) w.is_work) ∙ front_bytes (work_of es).to_controller taken front in
+            sym (ap (λ (x : Work). x.to_controller.bytes) w.is_work) ∙ front_bytes (work_of es).to_controller taken front in
             record { front = front; makes = fragments f.asset (client_of f).address (history es) w.judged (bytes_among taken) (bytes_among front.more) w.are_judged bytes });
       }
 

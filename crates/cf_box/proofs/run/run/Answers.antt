@@ -1,4 +1,4 @@
-use Rattle.std.proofs.Common.{Err, Ok, ap, inl, refl, subst, sym, ◌∙◌}
+use Rattle.std.proofs.Common.{Err, inl, refl, subst, sym}
 use Rattle.cf_run.specs.RunCapture.{run_names_value}
 use Rattle.cf_box.specs.Command.{Run}
 use Rattle.cf_box.specs.Ends.{Meets}

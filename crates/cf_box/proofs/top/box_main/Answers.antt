@@ -1,4 +1,4 @@
-use Rattle.std.proofs.Common.{◌≡◌, refl, subst, sym}
+use Rattle.std.proofs.Common.{◌≡◌, refl, subst}
 use Rattle.cf_box.specs.Command.{Command}
 use Rattle.cf_box.specs.Ends.{Ends}
 use Rattle.cf_sift.specs.Outputs.{KeepsAllBut}
