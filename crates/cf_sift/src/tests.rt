@@ -95,7 +95,7 @@ fn what_came_before_a_break_is_written_and_then_its_line(rt: HostRuntime) -> Res
     assert!(rt; holds(&files, "r", EXCEPTION));
     assert!(rt; holds(&files, "l", LINES.as_bytes()));
     files.fails.push(Scripted {
-        call: files.calls + 4,
+        call: files.calls.saturating_add(4),
         left: 0,
     })?;
     assert_eq!(rt;
