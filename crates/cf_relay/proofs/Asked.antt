@@ -18,7 +18,7 @@ use Rattle.cf_relay.proofs.Doing.{by_side}
 use Rattle.cf_relay.proofs.Moving.{ask_moves}
 use Rattle.cf_relay.proofs.Standing.{TakesTo}
 use Rattle.cf_relay.specs.Relaying.{AsksOrRests, IsShort, RelayingValue, is_closed}
-use Rattle.cf_relay.specs.Scene.{Goes, PairValue, RoseBy, Scene, Stops, StopsBy, scene}
+use Rattle.cf_relay.specs.Scene.{DoesBetween, PairValue, RoseBy, Scene, StopsBetween, StopsBy, scene}
 use Rattle.cf_relay.specs.Taken.{LimitBy, TakesBy}
 use Rattle.cf_relay.specs.Turn.{Taking}
 use Rattle.cf_relay.specs.declared.stop.Stop.{Stop}
@@ -58,14 +58,14 @@ module _ (law : StreamsGoOn) (quiet : QuietBehindEnd) (asset : Asset) (most : �
     (idles : (start : ℕ) → RoseBy old.idle start pair.idles → RoseBy new.idle start pair'.idles) (log : WritesLog desk desk')
     (r : Result (Unit {0}) Stop) (link : HasCause pair.faults pair'.faults (r ≡ Err stop.Link)) (write : HasCause desk.faults desk'.faults (r ≡ Err stop.Write)) where
   pub ask_breaks : (why : Stop) → r ≡ Err why → TakesBy asset old.moment most s (take_state_of s old desk.lines pair.told) (take_state_of s new desk'.lines pair'.told) desk' (Err why) →
-      Stops asset most (Taking s ∷ []) why (scene old pair desk) (scene new pair' desk')
+      StopsBetween asset most (Taking s ∷ []) why (scene old pair desk) (scene new pair' desk')
   ask_breaks why was takes =
       take_stops law quiet asset most s old new pair pair' desk desk' few to link.later idles log why takes
       (take_cause why (scene old pair desk) (scene new pair' desk') (λ is. link.rose (was ∙ ap Err is)) (λ is. write.rose (was ∙ ap Err is)))
 
   pub asks : (x : Unit {0}) (full : Result (Unit {0}) Stop) → TakesBy asset old.moment most s (take_state_of s old desk.lines pair.told) (take_state_of s new desk'.lines pair'.told) desk' (Ok x) →
       IsShort old → LimitBy new.client_letters new.controller_letters (queue_length new.to_client) (queue_length new.to_controller) full →
-      OnOk full (Goes asset most (Taking s ∷ []) (scene old pair desk) (scene new pair' desk')) × IfErr full (λ why. Stops asset most (Taking s ∷ []) why (scene old pair desk) (scene new pair' desk'))
+      OnOk full (DoesBetween asset most (Taking s ∷ []) (scene old pair desk) (scene new pair' desk')) × IfErr full (λ why. StopsBetween asset most (Taking s ∷ []) why (scene old pair desk) (scene new pair' desk'))
   asks x full takes short limit = limit_goes law quiet asset most s old new pair pair' desk desk' few to link.later idles log x full takes (short_none old short) limit
 
 pub asked : (asset : Asset) (most : ℕ) (s : Side) (old new : RelayingValue) (log log' : Option (List (List ℕ))) (told told' : Option (List Entry)) (desk : DeskValue) → old.idle < most → TakesTo s old new → (x : Unit {0}) (full : Result (Unit {0}) Stop) →

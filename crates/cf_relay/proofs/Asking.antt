@@ -24,7 +24,7 @@ use Rattle.cf_relay.proofs.Stages.{breaks_nothing, no_take, one_broken, one_stag
 use Rattle.cf_relay.proofs.Standing.{Silent, TakesTo, stands_cut, stands_full, stands_heard, stands_missed, stands_silent}
 use Rattle.cf_relay.specs.Answers.{greatest, history_of, is_finished, moment_of, moments, with_answers}
 use Rattle.cf_relay.specs.Relaying.{RelayingValue, lane_state, letters_from, queue_to, rests_of}
-use Rattle.cf_relay.specs.Scene.{Adds, Goes, PairValue, RoseBy, Stops, StopsBy, scene}
+use Rattle.cf_relay.specs.Scene.{AddsAnswers, DoesBetween, PairValue, RoseBy, StopsBetween, StopsBy, scene}
 use Rattle.cf_relay.specs.Taken.{LimitBy, MayTakeNow, TakeState, TakesAnswer, TakesBy, take_state}
 use Rattle.cf_relay.specs.Turn.{Taking}
 use Rattle.cf_relay.specs.declared.stop.Stop.{Stop}
@@ -89,12 +89,12 @@ none_some x reason none is = cc
 
 module _ (law : StreamsGoOn) (quiet : QuietBehindEnd) (asset : Asset) (most : ℕ) (s : Side) (old new : RelayingValue) (pair pair' : PairValue) (desk desk' : DeskValue) (few : old.idle < most) (to : TakesTo s old new)
     (later : pair.faults ≤ pair'.faults) (idles : (start : ℕ) → RoseBy old.idle start pair.idles → RoseBy new.idle start pair'.idles) (log : WritesLog desk desk') where
-  adds_answer : (answers : List Entry) → pair'.told ≡ with_answers pair.told answers → Adds (scene old pair desk) (scene new pair' desk') answers
+  adds_answer : (answers : List Entry) → pair'.told ≡ with_answers pair.told answers → AddsAnswers (scene old pair desk) (scene new pair' desk') answers
   adds_answer answers e = record { tells = e; link = later; idles = idles; log = log }
 
   -- passed over
   skip_goes : take_state_of s new desk'.lines pair'.told ≡ take_state_of s old desk.lines pair.told → (MayTakeNow s old.to_client old.to_controller → ⊥) →
-      Goes asset most (Taking s ∷ []) (scene old pair desk) (scene new pair' desk')
+      DoesBetween asset most (Taking s ∷ []) (scene old pair desk) (scene new pair' desk')
   skip_goes same never = record {
     answers = [];
     adds = adds_answer [] (ap (λ (x : TakeState). x.told) same ∙ with_none pair.told);
@@ -106,7 +106,7 @@ module _ (law : StreamsGoOn) (quiet : QuietBehindEnd) (asset : Asset) (most : �
   }
 
   take_goes : MayTakeNow s old.to_client old.to_controller → TakesAnswer asset old.moment s None (take_state_of s old desk.lines pair.told) (take_state_of s new desk'.lines pair'.told) →
-      limit_by LETTER_LIMIT new.client_letters new.controller_letters (queue_length new.to_client) (queue_length new.to_controller) ≡ None → Goes asset most (Taking s ∷ []) (scene old pair desk) (scene new pair' desk')
+      limit_by LETTER_LIMIT new.client_letters new.controller_letters (queue_length new.to_client) (queue_length new.to_controller) ≡ None → DoesBetween asset most (Taking s ∷ []) (scene old pair desk) (scene new pair' desk')
   take_goes may takes short = record {
     answers = takes.answer ∷ [];
     adds = adds_answer (takes.answer ∷ []) takes.answers.tells;
@@ -118,7 +118,7 @@ module _ (law : StreamsGoOn) (quiet : QuietBehindEnd) (asset : Asset) (most : �
   }
 
   full_stops : MayTakeNow s old.to_client old.to_controller → TakesAnswer asset old.moment s None (take_state_of s old desk.lines pair.told) (take_state_of s new desk'.lines pair'.told) → (reason : CutReason) →
-      limit_by LETTER_LIMIT new.client_letters new.controller_letters (queue_length new.to_client) (queue_length new.to_controller) ≡ Some reason → Stops asset most (Taking s ∷ []) (stop.Cut reason) (scene old pair desk) (scene new pair' desk')
+      limit_by LETTER_LIMIT new.client_letters new.controller_letters (queue_length new.to_client) (queue_length new.to_controller) ≡ Some reason → StopsBetween asset most (Taking s ∷ []) (stop.Cut reason) (scene old pair desk) (scene new pair' desk')
   full_stops may takes reason full = record {
     answers = takes.answer ∷ [];
     adds = adds_answer (takes.answer ∷ []) takes.answers.tells;
@@ -131,7 +131,7 @@ module _ (law : StreamsGoOn) (quiet : QuietBehindEnd) (asset : Asset) (most : �
   }
 
   pub take_stops : (why : Stop) → TakesBy asset old.moment most s (take_state_of s old desk.lines pair.told) (take_state_of s new desk'.lines pair'.told) desk' (Err why) →
-      StopsBy why (scene old pair desk) (scene new pair' desk') → Stops asset most (Taking s ∷ []) why (scene old pair desk) (scene new pair' desk')
+      StopsBy why (scene old pair desk) (scene new pair' desk') → StopsBetween asset most (Taking s ∷ []) why (scene old pair desk) (scene new pair' desk')
   take_stops stop.Idle (may, full, same) cause = record {
     answers = Idle s ∷ [];
     adds = adds_answer (Idle s ∷ []) (ap (λ (x : TakeState). x.told) same);
@@ -194,7 +194,7 @@ module _ (law : StreamsGoOn) (quiet : QuietBehindEnd) (asset : Asset) (most : �
   pub limit_goes : (x : Unit {0}) (r : Result Unit Stop) → TakesBy asset old.moment most s (take_state_of s old desk.lines pair.told) (take_state_of s new desk'.lines pair'.told) desk' (Ok x) →
       limit_by LETTER_LIMIT old.client_letters old.controller_letters (queue_length old.to_client) (queue_length old.to_controller) ≡ None →
       LimitBy new.client_letters new.controller_letters (queue_length new.to_client) (queue_length new.to_controller) r →
-      OnOk r (Goes asset most (Taking s ∷ []) (scene old pair desk) (scene new pair' desk')) × IfErr r (λ why. Stops asset most (Taking s ∷ []) why (scene old pair desk) (scene new pair' desk'))
+      OnOk r (DoesBetween asset most (Taking s ∷ []) (scene old pair desk) (scene new pair' desk')) × IfErr r (λ why. StopsBetween asset most (Taking s ∷ []) why (scene old pair desk) (scene new pair' desk'))
   limit_goes x (Ok y) (inl (never, same)) short limit = (skip_goes same never, tt)
   limit_goes x (Ok y) (inr (may, goes, takes)) short limit = (take_goes may takes limit, tt)
   limit_goes x (Err stop.Idle) takes short limit = absurd limit

@@ -18,9 +18,9 @@ use Rattle.cf_relay.proofs.Scenes.{writes_none}
 use Rattle.cf_relay.proofs.Stages.{begins_stage, breaks_nothing, finishes_stage, gives_stage, no_finish, one_broken, one_stage, tells_stage}
 use Rattle.cf_relay.proofs.Standing.{Silent, stands_silent}
 use Rattle.cf_relay.specs.Answers.{closes, given, greatest, history_after, is_finished, met_in, moment_of, moments}
-use Rattle.cf_relay.specs.Gave.{FinishesBy, Gave, GaveBy, IsLast}
+use Rattle.cf_relay.specs.Gave.{FinishesBy, Gave, GaveBy, OnlyEndIsLeft}
 use Rattle.cf_relay.specs.Relaying.{AreClosed, RelayingValue, is_closed, letters_from, queue_to, rests_of}
-use Rattle.cf_relay.specs.Scene.{Goes, PairValue, RoseBy, Stops, StopsBy, scene}
+use Rattle.cf_relay.specs.Scene.{DoesBetween, PairValue, RoseBy, StopsBetween, StopsBy, scene}
 use Rattle.cf_relay.specs.Stands.{StandsFor}
 use Rattle.cf_relay.specs.Turn.{BeginsToGive, Finishing, Giving, GivesQueued, HasBytes, Stage, Telling}
 use Rattle.cf_relay.specs.declared.stop.Stop.{Stop}
@@ -152,9 +152,9 @@ silent_gives s old new log told told' answers is to gave stands = record {
 -- ---- telling
 
 pub tell_goes : (asset : Asset) (most : ℕ) (old : RelayingValue) (pair pair' : PairValue) (desk : DeskValue) (m now : ℕ) → now ≡ max old.moment m → old.idle < most → (AreClosed old → ⊥) → pair'.told ≡ with_entry pair.told (Moment m) →
-    pair.faults ≤ pair'.faults → pair'.idles ≡ pair.idles → Goes asset most (Telling ∷ []) (scene old pair desk) (scene (record old { moment = now }) pair' desk)
+    pair.faults ≤ pair'.faults → pair'.idles ≡ pair.idles → DoesBetween asset most (Telling ∷ []) (scene old pair desk) (scene (record old { moment = now }) pair' desk)
 tell_goes asset most old pair pair' desk m now is few still e later same =
-    subst (λ n. Goes asset most (Telling ∷ []) (scene old pair desk) (scene (record old { moment = n }) pair' desk)) (sym is) (record {
+    subst (λ n. DoesBetween asset most (Telling ∷ []) (scene old pair desk) (scene (record old { moment = n }) pair' desk)) (sym is) (record {
       answers = Moment m ∷ [];
       adds = record { tells = e; link = later; idles = λ start r. omega (arith, r, same); log = writes_none desk };
       does = λ first es st. (
@@ -165,7 +165,7 @@ tell_goes asset most old pair pair' desk m now is few still e later same =
 
 -- nothing was done, and a call on the pair failed
 pub link_stops : (asset : Asset) (most : ℕ) (ps : List Stage) (old : RelayingValue) (pair pair' : PairValue) (desk : DeskValue) → old.idle < most → pair'.told ≡ pair.told → Rose pair.faults pair'.faults →
-    pair'.idles ≡ pair.idles → pair.faults ≤ pair'.faults → Stops asset most ps stop.Link (scene old pair desk) (scene old pair' desk)
+    pair'.idles ≡ pair.idles → pair.faults ≤ pair'.faults → StopsBetween asset most ps stop.Link (scene old pair desk) (scene old pair' desk)
 link_stops asset most ps old pair pair' desk few e rose same later = record {
   answers = [];
   adds = record { tells = e ∙ with_none pair.told; link = later; idles = λ start r. omega (arith, r, same); log = writes_none desk };
@@ -178,7 +178,7 @@ link_stops asset most ps old pair pair' desk few e rose same later = record {
 module _ (asset : Asset) (most : ℕ) (s : Side) (old new : RelayingValue) (pair pair' : PairValue) (desk : DeskValue) (few : old.idle < most) (to : GivesTo s old new)
     (stands : (w : Stream) → IsQueueOf (queue_to s old) w → IsQueueOf (queue_to s new) w) (later : pair.faults ≤ pair'.faults)
     (idles : (start : ℕ) → RoseBy old.idle start pair.idles → RoseBy new.idle start pair'.idles) where
-  pub give_goes : (x : Unit {0}) → GaveBy s most (queue_to s old) (queue_to s new) pair.told pair'.told old.idle new.idle (Ok x) → Goes asset most (Giving s ∷ []) (scene old pair desk) (scene new pair' desk)
+  pub give_goes : (x : Unit {0}) → GaveBy s most (queue_to s old) (queue_to s new) pair.told pair'.told old.idle new.idle (Ok x) → DoesBetween asset most (Giving s ∷ []) (scene old pair desk) (scene new pair' desk)
   give_goes x (answers, gave, gives, goes) = record {
     answers = answers;
     adds = record { tells = gave.tells; link = later; idles = idles; log = writes_none desk };
@@ -189,7 +189,7 @@ module _ (asset : Asset) (most : ℕ) (s : Side) (old new : RelayingValue) (pair
   }
 
   pub give_stops : (why : Stop) → GaveBy s most (queue_to s old) (queue_to s new) pair.told pair'.told old.idle new.idle (Err why) → StopsBy why (scene old pair desk) (scene new pair' desk) →
-      Stops asset most (Giving s ∷ []) why (scene old pair desk) (scene new pair' desk)
+      StopsBetween asset most (Giving s ∷ []) why (scene old pair desk) (scene new pair' desk)
   give_stops stop.Idle (answers, gave, gives, full) cause = record {
     answers = answers;
     adds = record { tells = gave.tells; link = later; idles = idles; log = writes_none desk };
@@ -243,7 +243,7 @@ or_none false true e = e
 or_none true false e = refl
 or_none false false e = refl
 
-silent_close : (s : Side) (old new : RelayingValue) (log : Option (List (List ℕ))) → ClosesTo s old new → is_closed s new ≡ true → IsLast (queue_to s old) (is_closed s old) → Silent (Finished s ∷ []) old new log log
+silent_close : (s : Side) (old new : RelayingValue) (log : Option (List (List ℕ))) → ClosesTo s old new → is_closed s new ≡ true → OnlyEndIsLeft (queue_to s old) (is_closed s old) → Silent (Finished s ∷ []) old new log log
 silent_close s old new log to closed last = record {
   done = by_own (λ t. is_closed t new ≡ true → (is_closed t old ≡ true) ⊎ (((queue_to t new).kept ≡ []) × ((queue_to t new).ended ≡ true))) s
       (λ is. inr (ap (λ (k : Queue). k.kept) (to.queues s) ∙ last.0, ap (λ (k : Queue). k.ended) (to.queues s) ∙ last.1)) (λ is. inl (sym to.others ∙ is));
@@ -284,7 +284,7 @@ silent_same s old new log to closed = record {
 
 module _ (asset : Asset) (most : ℕ) (s : Side) (old new : RelayingValue) (pair pair' : PairValue) (desk : DeskValue) (few : old.idle < most) (to : ClosesTo s old new)
     (later : pair.faults ≤ pair'.faults) (same : pair'.idles ≡ pair.idles) where
-  pub finish_goes : (x : Unit {0}) → FinishesBy s (queue_to s old) (is_closed s old) (is_closed s new) pair.told pair'.told (Ok x) → Goes asset most (Finishing s ∷ []) (scene old pair desk) (scene new pair' desk)
+  pub finish_goes : (x : Unit {0}) → FinishesBy s (queue_to s old) (is_closed s old) (is_closed s new) pair.told pair'.told (Ok x) → DoesBetween asset most (Finishing s ∷ []) (scene old pair desk) (scene new pair' desk)
   finish_goes x (inl (last, closed, tells)) = record {
     answers = Finished s ∷ [];
     adds = record { tells = tells; link = later; idles = λ start r. omega (arith, r, same, to.idle); log = writes_none desk };
@@ -303,7 +303,7 @@ module _ (asset : Asset) (most : ℕ) (s : Side) (old new : RelayingValue) (pair
   }
 
   pub finish_stops : (why : Stop) → FinishesBy s (queue_to s old) (is_closed s old) (is_closed s new) pair.told pair'.told (Err why) → StopsBy why (scene old pair desk) (scene new pair' desk) →
-      Stops asset most (Finishing s ∷ []) why (scene old pair desk) (scene new pair' desk)
+      StopsBetween asset most (Finishing s ∷ []) why (scene old pair desk) (scene new pair' desk)
   finish_stops stop.Link (closed, tells) cause = record {
     answers = [];
     adds = record { tells = tells ∙ with_none pair.told; link = later; idles = λ start r. omega (arith, r, same, to.idle); log = writes_none desk };

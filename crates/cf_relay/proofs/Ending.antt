@@ -27,12 +27,12 @@ use Rattle.cf_relay.proofs.Standing.{limit_is}
 use Rattle.cf_relay.proofs.Stages.{breaks_nothing, does_broken, does_then, goes_on}
 use Rattle.cf_relay.specs.Answers.{given, history_of, is_finished, with_answers}
 use Rattle.cf_relay.specs.Closing.{BeginsLines, ClosesWith, StopsWith, desk_log}
-use Rattle.cf_relay.specs.Ends.{EndsBy, GivenAll, IdlesRose, IdlesRoseAt, IsLinkEnd, IsWriteEnd, RelayEnds, close_line, cut_line, log_of}
+use Rattle.cf_relay.specs.Ends.{EndsAs, GivenAll, IdlesRose, IdlesRoseAt, IsLinkEnd, IsWriteEnd, RelayEnds, close_line, cut_line, log_of}
 use Rattle.cf_relay.specs.Relaying.{RelayingValue, is_closed, letters_from, queue_to}
 use Rattle.cf_relay.specs.Scene.{RoseBy}
 use Rattle.cf_relay.specs.Stands.{GivenPrefixes, StandsCut, StandsFor, StandsStopped}
 use Rattle.cf_relay.specs.Taken.{StaysWhole}
-use Rattle.cf_relay.specs.Turn.{AreItemsOf, BreaksOff, Continues, DoesStages, IsRelayed, Meeting, Telling, cut_at, stages, turns}
+use Rattle.cf_relay.specs.Turn.{AreItemsOf, BeginsStages, IsUnstopped, DoesStages, IsRelayed, Meeting, Telling, cut_at, stages, turns}
 use Rattle.cf_relay.specs.declared.done.RelayDone.{RelayDone}
 use Rattle.cf_relay.specs.declared.done.RelayFault.{RelayFault}
 use Rattle.cf_relay.specs.declared.done.RelayFault.TheVariants as fault
@@ -70,10 +70,10 @@ pub empty_judged : (asset : Asset) (client : ℕ) → AreJudged asset client [] 
 empty_judged asset client = record { items = []; are_items = refl; dropped = []; are_first = refl; goes_on = refl; fates = tt }
 
 module _ (asset : Asset) (most : ℕ) (few : 0 < most) where
-  pub goes_first : Continues asset most []
+  pub goes_first : IsUnstopped asset most []
   goes_first = record { judged = []; are_items = empty_judged asset 0; uncut = refl; idle = few }
 
-  pub goes_met : (client : Endpoint) → Continues asset most (Met client ∷ [])
+  pub goes_met : (client : Endpoint) → IsUnstopped asset most (Met client ∷ [])
   goes_met client = record { judged = []; are_items = empty_judged asset client.address; uncut = refl; idle = few }
 
   pub start_does : (client : Endpoint) (m : ℕ) → DoesStages asset most (Meeting ∷ Telling ∷ []) [] (Met client ∷ Moment m ∷ [])
@@ -132,7 +132,7 @@ module _ (asset : Asset) (most : ℕ) (few : 0 < most) (client : Endpoint) (m : 
   does_all : (n : ℕ) (answers : List Entry) → DoesStages asset most (turns n) (Met client ∷ Moment m ∷ []) answers → DoesStages asset most (stages n) [] (Met client ∷ Moment m ∷ answers)
   does_all n answers d = does_then asset most (Meeting ∷ Telling ∷ []) (turns n) [] (Met client ∷ Moment m ∷ []) answers (start_does asset most few client m) d
 
-  breaks_all : (n : ℕ) (answers : List Entry) → BreaksOff asset most (turns n) (Met client ∷ Moment m ∷ []) answers → IsRelayed asset most (Met client ∷ Moment m ∷ answers)
+  breaks_all : (n : ℕ) (answers : List Entry) → BeginsStages asset most (turns n) (Met client ∷ Moment m ∷ []) answers → IsRelayed asset most (Met client ∷ Moment m ∷ answers)
   breaks_all n answers b = (n, does_broken asset most (Meeting ∷ Telling ∷ []) (turns n) [] (Met client ∷ Moment m ∷ []) answers (start_does asset most few client m) b)
 
   -- the lines behind the open line
@@ -168,10 +168,10 @@ module _ (asset : Asset) (most : ℕ) (few : 0 < most) (client : Endpoint) (m : 
   module _ (answers : List Entry) (now : RelayingValue) (d1 d2 : DeskValue)
       (s2 : StandsFor asset (with_lines base (line_about asset client m Begun ∷ [])) (Met client ∷ Moment m ∷ answers) now d1.lines) where
     -- stages that are done break off behind the last
-    breaks_of : (n : ℕ) → DoesStages asset most (turns n) (Met client ∷ Moment m ∷ []) answers → BreaksOff asset most (turns n) (Met client ∷ Moment m ∷ []) answers
+    breaks_of : (n : ℕ) → DoesStages asset most (turns n) (Met client ∷ Moment m ∷ []) answers → BeginsStages asset most (turns n) (Met client ∷ Moment m ∷ []) answers
     breaks_of n does =
-        subst (λ ps. BreaksOff asset most ps (Met client ∷ Moment m ∷ []) answers) (append-nil (turns n))
-        (subst (λ (xs : List Entry). BreaksOff asset most (turns n ++ []) (Met client ∷ Moment m ∷ []) xs) (append-nil answers)
+        subst (λ ps. BeginsStages asset most ps (Met client ∷ Moment m ∷ []) answers) (append-nil (turns n))
+        (subst (λ (xs : List Entry). BeginsStages asset most (turns n ++ []) (Met client ∷ Moment m ∷ []) xs) (append-nil answers)
         (does_broken asset most (turns n) [] (Met client ∷ Moment m ∷ []) answers [] does refl))
 
     -- both sides are closed, and the close line is put, or fails
@@ -179,7 +179,7 @@ module _ (asset : Asset) (most : ℕ) (few : 0 < most) (client : Endpoint) (m : 
         RelayEnds asset most (desk_log base d2) ⊥ (Met client ∷ Moment m ∷ answers) r
     unfolding goes_on
     done_ends n does closed idle (Ok d) (is, added, whole) =
-        subst (λ (x : RelayDone). EndsBy asset most (desk_log base d2) (Met client ∷ Moment m ∷ answers) x x.end) (sym is) (record {
+        subst (λ (x : RelayDone). EndsAs asset most (desk_log base d2) (Met client ∷ Moment m ∷ answers) x x.end) (sym is) (record {
           turns = n;
           does = does_all n answers does;
           goes = goes_on asset most (with_lines base (line_about asset client m Begun ∷ [])) (Met client ∷ Moment m ∷ answers) now d1.lines s2 idle;
@@ -219,7 +219,7 @@ module _ (asset : Asset) (most : ℕ) (few : 0 < most) (client : Endpoint) (m : 
       (suc count, some, e ∙ with_both base (line_about asset client m Begun ∷ []) (take count ls), d)
 
   -- the relay stopped within its turns
-  pub stop_ends : (n : ℕ) (answers : List Entry) (now : RelayingValue) (d1 d2 : DeskValue) (why : Stop) → BreaksOff asset most (turns n) (Met client ∷ Moment m ∷ []) answers →
+  pub stop_ends : (n : ℕ) (answers : List Entry) (now : RelayingValue) (d1 d2 : DeskValue) (why : Stop) → BeginsStages asset most (turns n) (Met client ∷ Moment m ∷ []) answers →
       StandsStopped asset most (with_lines base (line_about asset client m Begun ∷ [])) (Met client ∷ Moment m ∷ answers) why now d1 → StaysWhole (Err why) d1 →
       (r : Result RelayDone RelayFault) → StopsWith asset client now why d1 d2 r → RelayEnds asset most (desk_log base d2) ⊥ (Met client ∷ Moment m ∷ answers) r
   unfolding goes_on
@@ -255,7 +255,7 @@ module _ (asset : Asset) (most : ℕ) (few : 0 < most) (client : Endpoint) (m : 
             (begun_lines d1 (lines asset client [] missed.began.judged) missed.began.count missed.began.some missed.began.of_lines missed.began.of_part);
       })
   stop_ends n answers now d1 d2 (stop.Cut reason) breaks s2 stays (Ok d) (is, added, whole) =
-      subst (λ (x : RelayDone). EndsBy asset most (desk_log base d2) (Met client ∷ Moment m ∷ answers) x x.end) (sym is) (record {
+      subst (λ (x : RelayDone). EndsAs asset most (desk_log base d2) (Met client ∷ Moment m ∷ answers) x x.end) (sym is) (record {
         judged = s2.judged;
         relayed = breaks_all n answers breaks;
         are_items = s2.are_items;

@@ -11,7 +11,7 @@ use Rattle.cf_outside.specs.Pair.{Entry}
 use Rattle.cf_policy.specs.declared.Asset.{Asset}
 use Rattle.cf_relay.proofs.Ending.{empty_judged, relayed_none}
 use Rattle.cf_relay.specs.Closing.{BeginsLines}
-use Rattle.cf_relay.specs.Ends.{EndsBy, IsMemoryEnd, IsTold, IsWriteEnd, Log, RelayEnds, file_log}
+use Rattle.cf_relay.specs.Ends.{EndsAs, IsMemoryEnd, IsFileTold, IsWriteEnd, LogContents, RelayEnds, file_log}
 use Rattle.cf_relay.specs.declared.done.RelayDone.{RelayDone}
 use Rattle.cf_relay.specs.declared.done.RelayEnd.{RelayEnd}
 use Rattle.cf_relay.specs.declared.done.RelayEnd.TheVariants as ends
@@ -20,8 +20,8 @@ use Rattle.cf_relay.specs.declared.done.RelayFault.TheVariants as fault
 
 -- ---- another log
 
-module _ (asset : Asset) (most : ℕ) (P Q : Log) (es : List Entry) (all : (ls : List (List ℕ)) → P.Holds ls → Q.Holds ls) (some : (ls : List (List ℕ)) → P.Begins ls → Q.Begins ls) where
-  end_over : (done : RelayDone) (end : RelayEnd) → EndsBy asset most P es done end → EndsBy asset most Q es done end
+module _ (asset : Asset) (most : ℕ) (P Q : LogContents) (es : List Entry) (all : (ls : List (List ℕ)) → P.Holds ls → Q.Holds ls) (some : (ls : List (List ℕ)) → P.Begins ls → Q.Begins ls) where
+  end_over : (done : RelayDone) (end : RelayEnd) → EndsAs asset most P es done end → EndsAs asset most Q es done end
   end_over done ends.Done h = record { turns = h.turns; does = h.does; goes = h.goes; all = h.all; counts = h.counts; holds_log = all _ h.holds_log }
   end_over done ends.IdleEnd h = record {
     judged = h.judged;
@@ -73,20 +73,20 @@ told_lines untold ls e = some_none ls e
 told_lines absent ls e = some_none ls e
 told_lines (holds bytes) ls e = (bytes, refl, same_Some _ _ e)
 
-created_lines : (first : Content) (ls : List (List ℕ)) → IsTold first → with_lines (file_lines (content_after_create first)) ls ≡ Some ls
+created_lines : (first : Content) (ls : List (List ℕ)) → IsFileTold first → with_lines (file_lines (content_after_create first)) ls ≡ Some ls
 created_lines untold ls told = absurd told
 created_lines absent ls told = refl
 created_lines (holds bytes) ls told = refl
 
-created_write : (first : Content) (bytes : List ℕ) → IsTold first → content_after_write first bytes ≡ holds bytes
+created_write : (first : Content) (bytes : List ℕ) → IsFileTold first → content_after_write first bytes ≡ holds bytes
 created_write untold bytes told = absurd told
 created_write absent bytes told = refl
 created_write (holds all) bytes told = refl
 
-lines_now : (first old new : Content) (ls : List (List ℕ)) → old ≡ content_after_create first → file_lines new ≡ with_lines (file_lines old) ls → IsTold first → file_lines new ≡ Some ls
+lines_now : (first old new : Content) (ls : List (List ℕ)) → old ≡ content_after_create first → file_lines new ≡ with_lines (file_lines old) ls → IsFileTold first → file_lines new ≡ Some ls
 lines_now first old new ls created e told = e ∙ ap (λ x. with_lines (file_lines x) ls) created ∙ created_lines first ls told
 
-pub holds_file : (first old new : Content) (ls : List (List ℕ)) → old ≡ content_after_create first → file_lines new ≡ with_lines (file_lines old) ls → ends_with_line new ≡ true → IsTold first →
+pub holds_file : (first old new : Content) (ls : List (List ℕ)) → old ≡ content_after_create first → file_lines new ≡ with_lines (file_lines old) ls → ends_with_line new ≡ true → IsFileTold first →
     new ≡ content_after_write first (concat ls)
 holds_file first old new ls created e whole told = file_lines-whole new ls (lines_now first old new ls created e told) whole ∙ sym (created_write first (concat ls) told)
 
@@ -99,7 +99,7 @@ take_prefix : (xs ys : List ℕ) (k : ℕ) → take (length xs + k) (xs ++ ys) �
 take_prefix [] ys k = let e : 0 + k ≡ k = omega arith in ap (λ n. take n ys) e
 take_prefix (x ∷ xs) ys k = let e : length (x ∷ xs) + k ≡ suc (length xs + k) = omega arith in ap (λ n. take n (x ∷ (xs ++ ys))) e ∙ ap (λ zs. x ∷ zs) (take_prefix xs ys k)
 
-pub begins_file : (first old new : Content) (ls : List (List ℕ)) → old ≡ content_after_create first → BeginsLines (file_lines old) (file_lines new) (file_part new) ls → IsTold first → IsPartly (concat ls) first new
+pub begins_file : (first old new : Content) (ls : List (List ℕ)) → old ≡ content_after_create first → BeginsLines (file_lines old) (file_lines new) (file_part new) ls → IsFileTold first → IsPartly (concat ls) first new
 begins_file first old new ls created (count, some, e, d) told =
     let f = told_lines new (take count ls) (lines_now first old new (take count ls) created e told) in
     let rest : rest_from [] f.0 ≡ take some (concat (drop count ls)) = ap file_part (sym f.1) ∙ d in
@@ -152,5 +152,5 @@ write_first asset most first new few (inr created) = record {
 }
 
 -- the same log, and nothing is known of want of memory
-pub ends_same : (asset : Asset) (m n : ℕ) (log : Log) (es : List Entry) (same : Type 0) (r : Result RelayDone RelayFault) → m ≡ n → RelayEnds asset m log ⊥ es r → RelayEnds asset n log same es r
+pub ends_same : (asset : Asset) (m n : ℕ) (log : LogContents) (es : List Entry) (same : Type 0) (r : Result RelayDone RelayFault) → m ≡ n → RelayEnds asset m log ⊥ es r → RelayEnds asset n log same es r
 ends_same asset m n log es same r e h = subst (λ (k : ℕ). RelayEnds asset k log same es r) e (ends_over asset m log log es (λ ls h. h) (λ ls h. h) same r h)

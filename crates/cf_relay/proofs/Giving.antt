@@ -1,13 +1,13 @@
 -- Pieces given one after the other.
 use Rattle.std.proofs.Common.{◌≡◌, ◌≤◌, ◌+◌, ℕ, zero, suc, true, List, [], ◌∷◌, ◌++◌, if◌then◌else◌, length, map, take, drop, refl, sym, ap, ◌∙◌, subst, arith, Option, None, Some}
 use Rattle.std.specs.List.{AllByRecursion, concat}
-use Rattle.std.proofs.lemmas.List.{length-append, append_assoc, append-nil}
+use Rattle.std.proofs.lemmas.List.{length-append, append_assoc, append-nil, length-take}
 use Rattle.cf_outside.specs.Pair.{Entry, Took, with_entry}
 use Rattle.cf_view.specs.declared.Side.{Side}
 use Rattle.cf_view.specs.declared.Side.TheVariants as side
 use Rattle.cf_lane.specs.History.{is_side}
 use Rattle.cf_relay.specs.Answers.{with_answers, given, given_in, idles_after}
-use Rattle.cf_relay.specs.Turn.{TookPieces, HasBytes}
+use Rattle.cf_relay.specs.Turn.{HasBytes, IsGivePiece, TookPieces}
 
 pub with_none : (told : Option (List Entry)) → told ≡ with_answers told []
 with_none None = refl
@@ -45,14 +45,14 @@ flat_more : (pieces : List (List ℕ)) (piece : List ℕ) → concat (pieces ++ 
 flat_more [] piece = append-nil piece
 flat_more (p ∷ pieces) piece = ap (λ xs. p ++ xs) (flat_more pieces piece) ∙ sym (append_assoc p (concat pieces) piece)
 
-each_more : (pieces : List (List ℕ)) (piece : List ℕ) → AllByRecursion HasBytes pieces → HasBytes piece → AllByRecursion HasBytes (pieces ++ piece ∷ [])
+each_more : (pieces : List (List ℕ)) (piece : List ℕ) → AllByRecursion IsGivePiece pieces → IsGivePiece piece → AllByRecursion IsGivePiece (pieces ++ piece ∷ [])
 each_more [] piece each is = (is, each)
 each_more (p ∷ pieces) piece each is = (each.0, each_more pieces piece each.1 is)
 
 pub took_none : (s : Side) (queued : List ℕ) → TookPieces s queued [] queued
 took_none s queued = record { split = refl; each = tt }
 
-pub took_more : (s : Side) (queued : List ℕ) (pieces : List (List ℕ)) (rest piece rest' : List ℕ) → TookPieces s queued pieces rest → rest ≡ piece ++ rest' → HasBytes piece → TookPieces s queued (pieces ++ piece ∷ []) rest'
+pub took_more : (s : Side) (queued : List ℕ) (pieces : List (List ℕ)) (rest piece rest' : List ℕ) → TookPieces s queued pieces rest → rest ≡ piece ++ rest' → IsGivePiece piece → TookPieces s queued (pieces ++ piece ∷ []) rest'
 took_more s queued pieces rest piece rest' took e is = record {
   split = took.split ∙ ap (λ xs. concat pieces ++ xs) e ∙ sym (append_assoc (concat pieces) piece rest') ∙ ap (λ xs. xs ++ rest') (sym (flat_more pieces piece));
   each = each_more pieces piece took.each is;
@@ -78,14 +78,14 @@ split_at zero xs = refl
 split_at (suc k) [] = refl
 split_at (suc k) (x ∷ xs) = ap (λ ys. x ∷ ys) (split_at k xs)
 
-pub took_step : (s : Side) (queued rest rest' front : List ℕ) (pieces : List (List ℕ)) (n k : ℕ) → TookPieces s queued pieces rest → front ≡ take n rest → 1 ≤ k → k ≤ length front → rest' ≡ drop k rest →
+pub took_step : (s : Side) (queued rest rest' front : List ℕ) (pieces : List (List ℕ)) (n k : ℕ) → TookPieces s queued pieces rest → front ≡ take n rest → n ≤ 4096 → 1 ≤ k → k ≤ length front → rest' ≡ drop k rest →
     TookPieces s queued (pieces ++ take k front ∷ []) rest'
-took_step s queued rest rest' front pieces n k took e some inside left =
+took_step s queued rest rest' front pieces n k took e most some inside left =
     let within : k ≤ length (take n rest) = subst (λ (xs : List ℕ). k ≤ length xs) e inside in
     let same : take k front ≡ take k rest = ap (take k) e ∙ take_within k n rest within in
     took_more s queued pieces rest (take k front) rest' took
     (split_at k rest ∙ ap (λ xs. xs ++ drop k rest) (sym same) ∙ ap (λ xs. take k front ++ xs) (sym left))
-    (some_of (take k front) (omega (arith, some, length_take k front inside)))
+    (omega (arith, some, length_take k front inside), omega (arith, most, inside, length_take k front inside, ap length e, length-take n rest))
 
 pub acked_step : (a b k : ℕ) (front : List ℕ) (pieces : List (List ℕ)) → b ≡ a + length (concat pieces) → k ≤ length front → b + k ≡ a + length (concat (pieces ++ take k front ∷ []))
 acked_step a b k front pieces e inside =

@@ -11,7 +11,7 @@ use Rattle.cf_outside.specs.Pair.{Ended, Entry, Got}
 use Rattle.cf_policy.specs.declared.Asset.{Asset}
 use Rattle.cf_view.specs.declared.Side.{Side}
 use Rattle.cf_view.specs.declared.Side.TheVariants as side
-use Rattle.cf_relay.specs.Taken.{Hears, OnlyPushed, ended_after}
+use Rattle.cf_relay.specs.Taken.{IsHeard, OnlyPushed, ended_after}
 
 pub or_true : (b : Bool) → (b || true) ≡ true
 or_true true = refl
@@ -75,7 +75,7 @@ module _ (asset : Asset) (moment : ℕ) (s : Side) (lane lane' : LaneValue) (c k
       Follows asset h rests None first (state lane c k log) → Follows asset (h ++ letters_at moment s piece ended ∷ []) (with_rest s rests (drop used view)) cut first (state lane' c' k' log')) →
       (cut ≡ None → length (drop used view) < 300) → (cut ≡ None → rest' ≡ drop used view) → IsLaneOf asset lane' → debt lane' ≤ 5300 → lane'.client ≡ lane.client →
       Grows (2 * used) (debt lane) (debt lane') c c' → Grows (2 * used) (debt lane) (debt lane') k k' → CountsBy used lane lane' →
-      Hears asset moment s (Got s bytes) cut rest rest' (state lane c k log) (state lane' c' k' log')
+      IsHeard asset moment s (Got s bytes) cut rest rest' (state lane c k log) (state lane' c' k' log')
   hears_got bytes rest rest' view used cut e inside history short keeps of_asset owed client cs ks counts =
       let len : length view ≡ length rest + length bytes = ap length e ∙ length-append rest bytes in
       record {
@@ -96,7 +96,7 @@ module _ (asset : Asset) (moment : ℕ) (s : Side) (lane lane' : LaneValue) (c k
       ((h : List Element) (rests : Rests) (first : Option (List (List ℕ))) → size ≡ length (rest_of s rests) →
       Follows asset h rests None first (state lane c k log) → Follows asset (h ++ end_at moment s ∷ []) rests None first (state lane' c' k' log')) →
       length rest < 300 → IsLaneOf asset lane → debt lane ≤ 5300 → lane' ≡ lane → EndsOther s c k c' k' →
-      Hears asset moment s (Ended s) None rest rest (state lane c k log) (state lane' c' k' log')
+      IsHeard asset moment s (Ended s) None rest rest (state lane c k log) (state lane' c' k' log')
   hears_end rest size e history short of_asset owed same queues = record {
     left = rest;
     keeps = λ n. (refl, short);
@@ -123,5 +123,5 @@ pub some_none : {A : Type 0} (x : Option CutReason) (reason : CutReason) → x �
 some_none x reason is none = cc
 
 pub hears_at : (asset : Asset) (moment : ℕ) (s : Side) (answer : Entry) (cut cut' : Option CutReason) (rest rest' : List ℕ) (old new : State) → cut ≡ cut' →
-    Hears asset moment s answer cut rest rest' old new → Hears asset moment s answer cut' rest rest' old new
-hears_at asset moment s answer cut cut' rest rest' old new is h = subst (λ k. Hears asset moment s answer k rest rest' old new) is h
+    IsHeard asset moment s answer cut rest rest' old new → IsHeard asset moment s answer cut' rest rest' old new
+hears_at asset moment s answer cut cut' rest rest' old new is h = subst (λ k. IsHeard asset moment s answer k rest rest' old new) is h

@@ -11,8 +11,8 @@ use Rattle.cf_view.specs.declared.Side.{Side}
 use Rattle.cf_view.specs.declared.Side.TheVariants as side
 use Rattle.cf_relay.proofs.Hearing.{or_false}
 use Rattle.cf_relay.specs.Answers.{closes, element_of, given_in, history_after, met_in, moment_of, moments, told_in}
-use Rattle.cf_relay.specs.Taken.{ended_after, letters_in}
-use Rattle.cf_relay.specs.Turn.{IsTaken}
+use Rattle.cf_relay.specs.Taken.{ended_after, letters_brought}
+use Rattle.cf_relay.specs.Turn.{IsTakeAnswer}
 
 pub history_more : (a xs ys : List Entry) → history_after a (xs ++ ys) ≡ history_after a xs ++ history_after (a ++ xs) ys
 history_more a [] ys = ap (λ zs. history_after zs ys) (sym (append-nil a))
@@ -33,7 +33,7 @@ closes_more t xs ys = list_any-append (closes t) xs ys
 
 -- ---- what an answer to a side that was asked says
 
-pub gives_none : (s t : Side) (e : Entry) → IsTaken s e → given_in t e ≡ []
+pub gives_none : (s t : Side) (e : Entry) → IsTakeAnswer s e → given_in t e ≡ []
 gives_none s t (Met c) is = absurd is
 gives_none s t (Moment m) is = absurd is
 gives_none s t (Got of bytes) is = refl
@@ -42,7 +42,7 @@ gives_none s t (Ended of) is = refl
 gives_none s t (Idle of) is = refl
 gives_none s t (Finished of) is = absurd is
 
-pub meets_none : (s : Side) (e : Entry) → IsTaken s e → met_in e ≡ []
+pub meets_none : (s : Side) (e : Entry) → IsTakeAnswer s e → met_in e ≡ []
 meets_none s (Met c) is = absurd is
 meets_none s (Moment m) is = refl
 meets_none s (Got of bytes) is = refl
@@ -51,7 +51,7 @@ meets_none s (Ended of) is = refl
 meets_none s (Idle of) is = refl
 meets_none s (Finished of) is = refl
 
-pub tells_none : (s : Side) (e : Entry) → IsTaken s e → told_in e ≡ []
+pub tells_none : (s : Side) (e : Entry) → IsTakeAnswer s e → told_in e ≡ []
 tells_none s (Met c) is = refl
 tells_none s (Moment m) is = absurd is
 tells_none s (Got of bytes) is = refl
@@ -60,7 +60,7 @@ tells_none s (Ended of) is = refl
 tells_none s (Idle of) is = refl
 tells_none s (Finished of) is = refl
 
-pub closes_none : (s t : Side) (e : Entry) → IsTaken s e → closes t e ≡ false
+pub closes_none : (s t : Side) (e : Entry) → IsTakeAnswer s e → closes t e ≡ false
 closes_none s t (Met c) is = refl
 closes_none s t (Moment m) is = refl
 closes_none s t (Got of bytes) is = refl
@@ -78,7 +78,7 @@ bytes_of-append s (x ∷ xs) ys = ap (λ zs. bytes_in s x ++ zs) (bytes_of-appen
 ended_of-append : (s : Side) (xs ys : List Element) → ended_of s (xs ++ ys) ≡ (ended_of s xs || ended_of s ys)
 ended_of-append s xs ys = list_any-append _ xs ys
 
-ended_here : (m : ℕ) (t s : Side) (e : Entry) (b : Bool) → IsTaken s e → (b || ended_of t (element_of m e)) ≡ ended_after t e b
+ended_here : (m : ℕ) (t s : Side) (e : Entry) (b : Bool) → IsTakeAnswer s e → (b || ended_of t (element_of m e)) ≡ ended_after t e b
 ended_here m t s (Met c) b is = absurd is
 ended_here m t s (Moment m') b is = absurd is
 ended_here m side.Client s (Got side.Client bytes) b is = or_false b
@@ -93,7 +93,7 @@ ended_here m side.Controller s (Ended side.Controller) b is = refl
 ended_here m t s (Idle of) b is = or_false b
 ended_here m t s (Finished of) b is = absurd is
 
-pub ended_more : (m : ℕ) (t s : Side) (h : List Element) (e : Entry) → IsTaken s e → ended_of t (h ++ element_of m e) ≡ ended_after t e (ended_of t h)
+pub ended_more : (m : ℕ) (t s : Side) (h : List Element) (e : Entry) → IsTakeAnswer s e → ended_of t (h ++ element_of m e) ≡ ended_after t e (ended_of t h)
 ended_more m t s h e is = ended_of-append t h (element_of m e) ∙ ended_here m t s e (ended_of t h) is
 
 -- ---- its letters
@@ -112,7 +112,7 @@ same_side side.Client false = refl
 same_side side.Controller true = refl
 same_side side.Controller false = refl
 
-letters_here : (m : ℕ) (s : Side) (e : Entry) → IsTaken s e → length (bytes_of s (element_of m e)) + cond (ended_after s e false) 1 0 ≡ 0 + letters_in e
+letters_here : (m : ℕ) (s : Side) (e : Entry) → IsTakeAnswer s e → length (bytes_of s (element_of m e)) + cond (ended_after s e false) 1 0 ≡ 0 + letters_brought e
 letters_here m s (Met c) is = absurd is
 letters_here m s (Moment m') is = absurd is
 letters_here m s (Got of bytes) is = omega (arith, ap (λ o. length (bytes_of s (element_of m (Got o bytes)))) is.0, ap length (own_bytes m s bytes))
@@ -122,13 +122,13 @@ letters_here m s (Ended of) is =
 letters_here m s (Idle of) is = refl
 letters_here m s (Finished of) is = absurd is
 
-pub letters_more : (m : ℕ) (s : Side) (h : List Element) (e : Entry) → IsTaken s e → ended_of s h ≡ false → letter_count (taken s (h ++ element_of m e)) ≡ letter_count (taken s h) + letters_in e
+pub letters_more : (m : ℕ) (s : Side) (h : List Element) (e : Entry) → IsTakeAnswer s e → ended_of s h ≡ false → letter_count (taken s (h ++ element_of m e)) ≡ letter_count (taken s h) + letters_brought e
 letters_more m s h e is going =
     let after : ended_of s (h ++ element_of m e) ≡ ended_after s e false = ended_more m s s h e is ∙ ap (ended_after s e) going in
     let lengths : length (bytes_of s (h ++ element_of m e)) ≡ length (bytes_of s h) + length (bytes_of s (element_of m e)) = ap length (bytes_of-append s h (element_of m e)) ∙ length-append (bytes_of s h) (bytes_of s (element_of m e)) in
     omega (arith, lengths, letters_here m s e is, ap {B = ℕ} (λ b. cond b 1 0) after, ap {B = ℕ} (λ b. cond b 1 0) going)
 
-pub other_bytes : (m : ℕ) (s : Side) (e : Entry) → IsTaken s e → bytes_of (other s) (element_of m e) ≡ []
+pub other_bytes : (m : ℕ) (s : Side) (e : Entry) → IsTakeAnswer s e → bytes_of (other s) (element_of m e) ≡ []
 other_bytes m s (Met c) is = absurd is
 other_bytes m s (Moment m') is = absurd is
 other_bytes m side.Client (Got of bytes) is = ap (λ o. bytes_of side.Controller (element_of m (Got o bytes))) is.0
@@ -139,7 +139,7 @@ other_bytes m side.Controller (Ended of) is = ap (λ o. bytes_of side.Client (el
 other_bytes m s (Idle of) is = refl
 other_bytes m s (Finished of) is = absurd is
 
-other_ended : (s : Side) (e : Entry) (b : Bool) → IsTaken s e → ended_after (other s) e b ≡ b
+other_ended : (s : Side) (e : Entry) (b : Bool) → IsTakeAnswer s e → ended_after (other s) e b ≡ b
 other_ended s (Met c) b is = refl
 other_ended s (Moment m') b is = refl
 other_ended s (Got of bytes) b is = refl
@@ -149,7 +149,7 @@ other_ended side.Controller (Ended of) b is = ap (λ o. ended_after side.Client 
 other_ended s (Idle of) b is = refl
 other_ended s (Finished of) b is = refl
 
-pub letters_other : (m : ℕ) (s : Side) (h : List Element) (e : Entry) → IsTaken s e → letter_count (taken (other s) (h ++ element_of m e)) ≡ letter_count (taken (other s) h)
+pub letters_other : (m : ℕ) (s : Side) (h : List Element) (e : Entry) → IsTakeAnswer s e → letter_count (taken (other s) (h ++ element_of m e)) ≡ letter_count (taken (other s) h)
 letters_other m s h e is =
     let after : ended_of (other s) (h ++ element_of m e) ≡ ended_of (other s) h = ended_more m (other s) s h e is ∙ other_ended s e (ended_of (other s) h) is in
     let bytes : bytes_of (other s) (h ++ element_of m e) ≡ bytes_of (other s) h =

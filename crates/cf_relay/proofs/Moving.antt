@@ -18,8 +18,8 @@ use Rattle.cf_relay.proofs.Standing.{TakesTo}
 use Rattle.cf_relay.specs.Answers.{given, idles_after}
 use Rattle.cf_relay.specs.Gave.{FinishesBy, Gave, GaveBy}
 use Rattle.cf_relay.specs.Relaying.{AreClosed, AsksOrRests, IsSound, ListensOrRests, RelayingValue, ServesOrRests, Unmoved, is_closed, letters_from, moved, progress, queue_to}
-use Rattle.cf_relay.specs.Taken.{IsSmall, MayTakeNow, TakeState, TakesBy, letters_in}
-use Rattle.cf_relay.specs.Turn.{GivesQueued, HasBytes, IsTaken, TookPieces}
+use Rattle.cf_relay.specs.Taken.{IsSmall, MayTakeNow, TakeState, TakesBy, letters_brought}
+use Rattle.cf_relay.specs.Turn.{GivesQueued, HasBytes, IsTakeAnswer, TookPieces}
 
 -- ---- progress
 
@@ -33,10 +33,6 @@ unmoved_progress most old new u =
 
 -- ---- giving
 
-one_of : (xs : List ℕ) → HasBytes xs → 1 ≤ length xs
-one_of [] h = absurd h
-one_of (x ∷ xs) h = omega arith
-
 -- nothing was queued; or a byte went; or Idle came alone
 gave_cases : (s : Side) (idle : ℕ) (queued : List ℕ) (answers : List Entry) (pieces : List (List ℕ)) (rest : List ℕ) → TookPieces s queued pieces rest →
     ((rest ≡ []) × (answers ≡ map (Took s) pieces)) ⊎ (HasBytes rest × (answers ≡ map (Took s) pieces ++ Idle s ∷ [])) →
@@ -44,11 +40,11 @@ gave_cases : (s : Side) (idle : ℕ) (queued : List ℕ) (answers : List Entry) 
 gave_cases s idle queued answers [] rest took (inl (none, e)) = inl (took.split ∙ none, e)
 gave_cases s idle queued answers [] rest took (inr (some, e)) = inr (inr (ap (λ xs. length (given s xs)) e, ap (idles_after idle) e ∙ omega arith))
 gave_cases s idle queued answers (p ∷ pieces) rest took (inl (none, e)) =
-    inr (inl (omega (arith, one_of p took.each.0, length-append p (concat pieces), ap length (ap (given s) e ∙ given_pieces s (p ∷ pieces)))))
+    inr (inl (omega (arith, took.each.0.0, length-append p (concat pieces), ap length (ap (given s) e ∙ given_pieces s (p ∷ pieces)))))
 gave_cases s idle queued answers (p ∷ pieces) rest took (inr (some, e)) =
     inr (inl (omega (
       arith,
-      one_of p took.each.0,
+      took.each.0.0,
       length-append p (concat pieces),
       ap length (given_pieces s (p ∷ pieces)),
       ap length (ap (given s) e ∙ given_more s (map (Took s) (p ∷ pieces)) (Idle s ∷ [])),
@@ -125,7 +121,7 @@ module _ (most : ℕ) (s : Side) (old mid new : RelayingValue) (few : old.idle <
 
 -- ---- asking
 
-answer_moves : (s : Side) (e : Entry) (letters letters' idle idle' : ℕ) → IsTaken s e → letters' ≡ letters + letters_in e → idle' ≡ idles_after idle (e ∷ []) → (letters < letters') ⊎ ((letters' ≡ letters) × (idle' ≡ idle + 1))
+answer_moves : (s : Side) (e : Entry) (letters letters' idle idle' : ℕ) → IsTakeAnswer s e → letters' ≡ letters + letters_brought e → idle' ≡ idles_after idle (e ∷ []) → (letters < letters') ⊎ ((letters' ≡ letters) × (idle' ≡ idle + 1))
 answer_moves s (Met c) letters letters' idle idle' is e d = absurd is
 answer_moves s (Moment m) letters letters' idle idle' is e d = absurd is
 answer_moves s (Got of bytes) letters letters' idle idle' is e d = inl (omega (arith, is.1, e))

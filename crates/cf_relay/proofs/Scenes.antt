@@ -10,7 +10,7 @@ use Rattle.cf_policy.specs.declared.Asset.{Asset}
 use Rattle.cf_relay.proofs.Giving.{with_more, with_none}
 use Rattle.cf_relay.proofs.Stages.{breaks_more, does_broken, does_then}
 use Rattle.cf_relay.specs.Answers.{with_answers}
-use Rattle.cf_relay.specs.Scene.{Adds, Goes, Scene, Stops, StopsBy}
+use Rattle.cf_relay.specs.Scene.{AddsAnswers, DoesBetween, Scene, StopsBetween, StopsBy}
 use Rattle.cf_relay.specs.Stands.{StandsFor, StandsStopped}
 use Rattle.cf_relay.specs.Turn.{Stage}
 use Rattle.cf_relay.specs.declared.stop.Stop.{Stop}
@@ -28,7 +28,7 @@ writes_both d e f h g = record {
   keeps = keeps_both d e f h.keeps g.keeps;
 }
 
-adds_both : (old mid new : Scene) (xs ys : List Entry) → Adds old mid xs → Adds mid new ys → Adds old new (xs ++ ys)
+adds_both : (old mid new : Scene) (xs ys : List Entry) → AddsAnswers old mid xs → AddsAnswers mid new ys → AddsAnswers old new (xs ++ ys)
 adds_both old mid new xs ys h g = record {
   tells = g.tells ∙ ap (λ t. with_answers t ys) h.tells ∙ with_more old.pair.told xs ys;
   link = omega (arith, h.link, g.link);
@@ -36,14 +36,14 @@ adds_both old mid new xs ys h g = record {
   log = writes_both old.desk mid.desk new.desk h.log g.log;
 }
 
-pub goes_none : (asset : Asset) (most : ℕ) (now : Scene) → Goes asset most [] now now
+pub goes_none : (asset : Asset) (most : ℕ) (now : Scene) → DoesBetween asset most [] now now
 goes_none asset most now = record {
   answers = [];
   adds = record { tells = with_none now.pair.told; link = omega arith; idles = λ start r. r; log = writes_none now.desk };
   does = λ first es st. (refl, subst (λ (x : List Entry). StandsFor asset first x now.relaying now.desk.lines) (sym (append-nil es)) st);
 }
 
-pub goes_then : (asset : Asset) (most : ℕ) (ps qs : List Stage) (old mid new : Scene) → Goes asset most ps old mid → Goes asset most qs mid new → Goes asset most (ps ++ qs) old new
+pub goes_then : (asset : Asset) (most : ℕ) (ps qs : List Stage) (old mid new : Scene) → DoesBetween asset most ps old mid → DoesBetween asset most qs mid new → DoesBetween asset most (ps ++ qs) old new
 goes_then asset most ps qs old mid new h g = record {
   answers = h.answers ++ g.answers;
   adds = adds_both old mid new h.answers g.answers h.adds g.adds;
@@ -59,13 +59,13 @@ stopped_at : (asset : Asset) (most : ℕ) (first : Option (List (List ℕ))) (es
     StandsStopped asset most first es why now.relaying now.desk → StandsStopped asset most first fs why now.relaying now.desk
 stopped_at asset most first es fs why now e st = subst (λ (x : List Entry). StandsStopped asset most first x why now.relaying now.desk) e st
 
-cause_later : (why : Stop) (old mid new : Scene) (xs : List Entry) → Adds old mid xs → StopsBy why mid new → StopsBy why old new
+cause_later : (why : Stop) (old mid new : Scene) (xs : List Entry) → AddsAnswers old mid xs → StopsBy why mid new → StopsBy why old new
 cause_later stop.Idle old mid new xs h c = tt
 cause_later (stop.Cut reason) old mid new xs h c = tt
 cause_later stop.Link old mid new xs h c = omega (arith, h.link, c)
 cause_later stop.Write old mid new xs h c = omega (arith, h.log.keeps.later, c)
 
-pub goes_stops : (asset : Asset) (most : ℕ) (ps qs : List Stage) (why : Stop) (old mid new : Scene) → Goes asset most ps old mid → Stops asset most qs why mid new → Stops asset most (ps ++ qs) why old new
+pub goes_stops : (asset : Asset) (most : ℕ) (ps qs : List Stage) (why : Stop) (old mid new : Scene) → DoesBetween asset most ps old mid → StopsBetween asset most qs why mid new → StopsBetween asset most (ps ++ qs) why old new
 goes_stops asset most ps qs why old mid new h g = record {
   answers = h.answers ++ g.answers;
   adds = adds_both old mid new h.answers g.answers h.adds g.adds;
@@ -78,7 +78,7 @@ goes_stops asset most ps qs why old mid new h g = record {
       );
 }
 
-pub stops_more : (asset : Asset) (most : ℕ) (ps qs : List Stage) (why : Stop) (old new : Scene) → Stops asset most ps why old new → Stops asset most (ps ++ qs) why old new
+pub stops_more : (asset : Asset) (most : ℕ) (ps qs : List Stage) (why : Stop) (old new : Scene) → StopsBetween asset most ps why old new → StopsBetween asset most (ps ++ qs) why old new
 stops_more asset most ps qs why old new h = record {
   answers = h.answers;
   adds = h.adds;

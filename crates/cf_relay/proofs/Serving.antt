@@ -15,7 +15,7 @@ use Rattle.cf_relay.proofs.Moving.{serve_moves}
 use Rattle.cf_relay.proofs.Scenes.{goes_stops, goes_then, stops_more}
 use Rattle.cf_relay.specs.Gave.{FinishesBy, GaveBy}
 use Rattle.cf_relay.specs.Relaying.{RelayingValue, ServesOrRests, is_closed, letters_from, queue_to}
-use Rattle.cf_relay.specs.Scene.{Goes, PairValue, RoseBy, Scene, Stops, StopsBy, scene}
+use Rattle.cf_relay.specs.Scene.{DoesBetween, PairValue, RoseBy, Scene, StopsBetween, StopsBy, scene}
 use Rattle.cf_relay.specs.Turn.{Finishing, Giving}
 use Rattle.cf_relay.specs.declared.stop.Stop.{Stop}
 use Rattle.cf_relay.specs.declared.stop.Stop.TheVariants as stop
@@ -75,15 +75,15 @@ finish_cause s q a b told told' old new stop.Write finishes rose = absurd finish
 finish_cause s q a b told told' old new (stop.Cut reason) finishes rose = tt
 
 module _ (most : ℕ) (s : Side) (old mid new : RelayingValue) (pair pairm pair' : PairValue) (few : mid.idle < most) (closes : ClosesTo s mid new)
-    (gives : (asset : Asset) (desk : DeskValue) → Goes asset most (Giving s ∷ []) (scene old pair desk) (scene mid pairm desk)) (same : pair'.idles ≡ pairm.idles) where
+    (gives : (asset : Asset) (desk : DeskValue) → DoesBetween asset most (Giving s ∷ []) (scene old pair desk) (scene mid pairm desk)) (same : pair'.idles ≡ pairm.idles) where
   pub serve_goes : (r : Result (Unit {0}) Stop) → FinishesBy s (queue_to s mid) (is_closed s mid) (is_closed s new) pairm.told pair'.told r → HasCause pairm.faults pair'.faults (r ≡ Err stop.Link) →
-      OnOk r ((asset : Asset) (desk : DeskValue) → Goes asset most (Giving s ∷ Finishing s ∷ []) (scene old pair desk) (scene new pair' desk))
+      OnOk r ((asset : Asset) (desk : DeskValue) → DoesBetween asset most (Giving s ∷ Finishing s ∷ []) (scene old pair desk) (scene new pair' desk))
   serve_goes (Ok x) finishes cause = λ asset desk. goes_then asset most (Giving s ∷ []) (Finishing s ∷ []) (scene old pair desk) (scene mid pairm desk) (scene new pair' desk) (gives asset desk)
       (finish_goes asset most s mid new pairm pair' desk few closes cause.later same x finishes)
   serve_goes (Err e) finishes cause = tt
 
   pub serve_stops : (r : Result (Unit {0}) Stop) → FinishesBy s (queue_to s mid) (is_closed s mid) (is_closed s new) pairm.told pair'.told r → HasCause pairm.faults pair'.faults (r ≡ Err stop.Link) →
-      IfErr r (λ why. (asset : Asset) (desk : DeskValue) → Stops asset most (Giving s ∷ Finishing s ∷ []) why (scene old pair desk) (scene new pair' desk))
+      IfErr r (λ why. (asset : Asset) (desk : DeskValue) → StopsBetween asset most (Giving s ∷ Finishing s ∷ []) why (scene old pair desk) (scene new pair' desk))
   serve_stops (Ok x) finishes cause = tt
   serve_stops (Err e) finishes cause = λ asset desk. goes_stops asset most (Giving s ∷ []) (Finishing s ∷ []) e (scene old pair desk) (scene mid pairm desk) (scene new pair' desk) (gives asset desk)
       (finish_stops asset most s mid new pairm pair' desk few closes cause.later same e finishes
@@ -106,7 +106,7 @@ pub give_breaks : (asset : Asset) (most : ℕ) (s : Side) (old new : RelayingVal
     ((w : Stream) → IsQueueOf (queue_to s old) w → IsQueueOf (queue_to s new) w) → (r : Result (Unit {0}) Stop) (why : Stop) → r ≡ Err why → HasCause pair.faults pair'.faults (r ≡ Err stop.Link) →
     ((start : ℕ) → RoseBy old.idle start pair.idles → RoseBy new.idle start pair'.idles) →
     GaveBy s most (queue_to s old) (queue_to s new) pair.told pair'.told old.idle new.idle (Err why) →
-    Stops asset most (Giving s ∷ Finishing s ∷ []) why (scene old pair desk) (scene new pair' desk)
+    StopsBetween asset most (Giving s ∷ Finishing s ∷ []) why (scene old pair desk) (scene new pair' desk)
 give_breaks asset most s old new pair pair' desk few to stands r why was cause idles gave =
     stops_more asset most (Giving s ∷ []) (Finishing s ∷ []) why (scene old pair desk) (scene new pair' desk)
     (give_stops asset most s old new pair pair' desk few to stands cause.later idles why gave

@@ -15,11 +15,11 @@ use Rattle.cf_view.specs.declared.Endpoint.{Endpoint}
 use Rattle.cf_view.specs.declared.Side.{Side}
 use Rattle.cf_view.specs.declared.Side.TheVariants as side
 use Rattle.cf_relay.specs.Answers.{history_of, is_finished}
-use Rattle.cf_relay.specs.Gave.{IsLast}
+use Rattle.cf_relay.specs.Gave.{OnlyEndIsLeft}
 use Rattle.cf_relay.specs.Relaying.{AreClosed, RelayingValue, is_closed, queue_to}
 use Rattle.cf_relay.specs.Stands.{StandsFor}
 use Rattle.cf_relay.specs.Taken.{MayTakeNow}
-use Rattle.cf_relay.specs.Turn.{BeginsStage, BeginsToGive, BreaksOff, Continues, DoesStages, Finishing, Giving, GivesQueued, IsStage, IsTaken, MayFinish, MayTake, Meeting, Stage, Taking, Telling, queue_of}
+use Rattle.cf_relay.specs.Turn.{BeginsStage, BeginsToGive, BeginsStages, IsUnstopped, DoesStages, Finishing, Giving, GivesQueued, IsStage, IsTakeAnswer, MayFinish, MayTake, Meeting, Stage, Taking, Telling, queue_of}
 
 not_both : (a b : Bool) → (a ≡ true → b ≡ true → ⊥) → (a && b) ≡ false
 not_both true true h = absurd (h refl refl)
@@ -27,7 +27,7 @@ not_both true false h = refl
 not_both false b h = refl
 
 module _ (asset : Asset) (most : ℕ) (first : Option (List (List ℕ))) (es : List Entry) (now : RelayingValue) (log : Option (List (List ℕ))) (st : StandsFor asset first es now log) where
-  unfoldable pub goes_on : now.idle < most → Continues asset most es
+  unfoldable pub goes_on : now.idle < most → IsUnstopped asset most es
   goes_on few = record {
     judged = st.follows.judged;
     are_items = subst (λ (c : Endpoint). AreJudged asset c.address (history_of es) st.follows.judged) st.client st.follows.are_judged;
@@ -59,17 +59,17 @@ module _ (asset : Asset) (most : ℕ) (first : Option (List (List ℕ))) (es : L
   unfolding goes_on
   begins_stage few s answers begins = inr (goes_on few, subst (λ (q : List ℕ). BeginsToGive s q answers) (sym (queue_bytes s)) begins)
 
-  may_finish : (s : Side) → IsLast (queue_to s now) (is_closed s now) → MayFinish asset s es st.follows.judged
+  may_finish : (s : Side) → OnlyEndIsLeft (queue_to s now) (is_closed s now) → MayFinish asset s es st.follows.judged
   may_finish s last = record { empty = queue_bytes s ∙ last.0; ends = queue_ended s ∙ last.1; first = sym (st.closed s) ∙ last.2 }
 
-  is_last : (s : Side) → MayFinish asset s es st.follows.judged → IsLast (queue_to s now) (is_closed s now)
+  is_last : (s : Side) → MayFinish asset s es st.follows.judged → OnlyEndIsLeft (queue_to s now) (is_closed s now)
   is_last s may = (sym (queue_bytes s) ∙ may.empty, sym (queue_ended s) ∙ may.ends, st.closed s ∙ may.first)
 
-  pub finishes_stage : now.idle < most → (s : Side) → IsLast (queue_to s now) (is_closed s now) → IsStage asset most (Finishing s) es (Finished s ∷ [])
+  pub finishes_stage : now.idle < most → (s : Side) → OnlyEndIsLeft (queue_to s now) (is_closed s now) → IsStage asset most (Finishing s) es (Finished s ∷ [])
   unfolding goes_on
   finishes_stage few s last = (goes_on few, inl (may_finish s last, refl))
 
-  pub no_finish : now.idle < most → (s : Side) → (IsLast (queue_to s now) (is_closed s now) → ⊥) → IsStage asset most (Finishing s) es []
+  pub no_finish : now.idle < most → (s : Side) → (OnlyEndIsLeft (queue_to s now) (is_closed s now) → ⊥) → IsStage asset most (Finishing s) es []
   unfolding goes_on
   no_finish few s never = (goes_on few, inr ((λ may. never (is_last s may)), refl))
 
@@ -95,7 +95,7 @@ module _ (asset : Asset) (most : ℕ) (first : Option (List (List ℕ))) (es : L
     controller = subst (λ (n : ℕ). n ≤ 16384) (queue_letters side.Controller) may.controller;
   }
 
-  pub takes_stage : now.idle < most → (s : Side) (answer : Entry) → MayTakeNow s now.to_client now.to_controller → IsTaken s answer → IsStage asset most (Taking s) es (answer ∷ [])
+  pub takes_stage : now.idle < most → (s : Side) (answer : Entry) → MayTakeNow s now.to_client now.to_controller → IsTakeAnswer s answer → IsStage asset most (Taking s) es (answer ∷ [])
   unfolding goes_on
   takes_stage few s answer may taken = (goes_on few, inl (may_take s may, (answer, taken, refl)))
 
@@ -108,7 +108,7 @@ module _ (asset : Asset) (most : ℕ) (first : Option (List (List ℕ))) (es : L
 pub one_stage : (asset : Asset) (most : ℕ) (p : Stage) (es answers : List Entry) → IsStage asset most p es answers → DoesStages asset most (p ∷ []) es answers
 one_stage asset most p es answers is = (answers, [], sym (append-nil answers), is, refl)
 
-pub one_broken : (asset : Asset) (most : ℕ) (p : Stage) (es answers : List Entry) → IsStage asset most p es answers → BreaksOff asset most (p ∷ []) es answers
+pub one_broken : (asset : Asset) (most : ℕ) (p : Stage) (es answers : List Entry) → IsStage asset most p es answers → BeginsStages asset most (p ∷ []) es answers
 one_broken asset most p es answers is = inr (answers, [], sym (append-nil answers), is, refl)
 
 pub does_then : (asset : Asset) (most : ℕ) (ps qs : List Stage) (a xs ys : List Entry) → DoesStages asset most ps a xs → DoesStages asset most qs (a ++ xs) ys → DoesStages asset most (ps ++ qs) a (xs ++ ys)
@@ -122,16 +122,16 @@ does_then asset most (p ∷ ps) qs a xs ys (now, next, e, whole, later) does = (
   does_then asset most ps qs (a ++ now) next ys later (subst (λ (zs : List Entry). DoesStages asset most qs zs ys) (ap (λ zs. a ++ zs) e ∙ sym (append_assoc a now next)) does),
 )
 
-pub does_broken : (asset : Asset) (most : ℕ) (ps qs : List Stage) (a xs ys : List Entry) → DoesStages asset most ps a xs → BreaksOff asset most qs (a ++ xs) ys → BreaksOff asset most (ps ++ qs) a (xs ++ ys)
+pub does_broken : (asset : Asset) (most : ℕ) (ps qs : List Stage) (a xs ys : List Entry) → DoesStages asset most ps a xs → BeginsStages asset most qs (a ++ xs) ys → BeginsStages asset most (ps ++ qs) a (xs ++ ys)
 does_broken asset most [] qs a xs ys none breaks =
-    subst (λ (zs : List Entry). BreaksOff asset most qs a zs) (ap (λ (zs : List Entry). zs ++ ys) (sym none)) (subst (λ (zs : List Entry). BreaksOff asset most qs zs ys) (ap (λ zs. a ++ zs) none ∙ append-nil a) breaks)
+    subst (λ (zs : List Entry). BeginsStages asset most qs a zs) (ap (λ (zs : List Entry). zs ++ ys) (sym none)) (subst (λ (zs : List Entry). BeginsStages asset most qs zs ys) (ap (λ zs. a ++ zs) none ∙ append-nil a) breaks)
 does_broken asset most (p ∷ ps) qs a xs ys (now, next, e, whole, later) breaks =
     inr (
       now,
       next ++ ys,
       ap (λ zs. zs ++ ys) e ∙ append_assoc now next ys,
       whole,
-      does_broken asset most ps qs (a ++ now) next ys later (subst (λ (zs : List Entry). BreaksOff asset most qs zs ys) (ap (λ zs. a ++ zs) e ∙ sym (append_assoc a now next)) breaks),
+      does_broken asset most ps qs (a ++ now) next ys later (subst (λ (zs : List Entry). BeginsStages asset most qs zs ys) (ap (λ zs. a ++ zs) e ∙ sym (append_assoc a now next)) breaks),
     )
 
 -- nothing of them
@@ -142,12 +142,12 @@ begins_nothing asset most (Taking s) a = refl
 begins_nothing asset most (Giving s) a = inl refl
 begins_nothing asset most (Finishing s) a = refl
 
-pub breaks_nothing : (asset : Asset) (most : ℕ) (ps : List Stage) (a : List Entry) → BreaksOff asset most ps a []
+pub breaks_nothing : (asset : Asset) (most : ℕ) (ps : List Stage) (a : List Entry) → BeginsStages asset most ps a []
 breaks_nothing asset most [] a = refl
 breaks_nothing asset most (p ∷ ps) a = inl (begins_nothing asset most p a)
 
 -- stages that break off, and others that were to follow
-pub breaks_more : (asset : Asset) (most : ℕ) (ps qs : List Stage) (a xs : List Entry) → BreaksOff asset most ps a xs → BreaksOff asset most (ps ++ qs) a xs
-breaks_more asset most [] qs a xs none = subst (λ (zs : List Entry). BreaksOff asset most qs a zs) (sym none) (breaks_nothing asset most qs a)
+pub breaks_more : (asset : Asset) (most : ℕ) (ps qs : List Stage) (a xs : List Entry) → BeginsStages asset most ps a xs → BeginsStages asset most (ps ++ qs) a xs
+breaks_more asset most [] qs a xs none = subst (λ (zs : List Entry). BeginsStages asset most qs a zs) (sym none) (breaks_nothing asset most qs a)
 breaks_more asset most (p ∷ ps) qs a xs (inl begins) = inl begins
 breaks_more asset most (p ∷ ps) qs a xs (inr (now, next, e, whole, later)) = inr (now, next, e, whole, breaks_more asset most ps qs (a ++ now) next later)

@@ -29,8 +29,8 @@ use Rattle.cf_relay.proofs.Lists.{closes_more, closes_none, ended_more, gives_no
 use Rattle.cf_relay.specs.Answers.{client_of, element_of, first_of, given, greatest, history_after, history_of, idles_after, is_finished, met_in, moment_of, moments}
 use Rattle.cf_relay.specs.Relaying.{RelayingValue, is_closed, lane_state, letters_from, queue_to, rests_of}
 use Rattle.cf_relay.specs.Stands.{IsCutShort, StandsCut, StandsFor, StandsMissed}
-use Rattle.cf_relay.specs.Taken.{Hears, MissesLine, ended_after, letters_in}
-use Rattle.cf_relay.specs.Turn.{IsTaken, cut_at}
+use Rattle.cf_relay.specs.Taken.{IsHeard, MissesLine, ended_after, letters_brought}
+use Rattle.cf_relay.specs.Turn.{IsTakeAnswer, cut_at}
 
 -- the same items of the same history
 pub follows_at : (asset : Asset) (h h' : List Element) (r r' : Rests) (cut : Option CutReason) (first : Option (List (List ℕ))) (now : State) → h ≡ h' → r ≡ r' →
@@ -176,7 +176,7 @@ pub goes_on_outputs : (asset : Asset) (client : Endpoint) (js ks : List Judged) 
 goes_on_outputs asset client js ks g side.Client = (_, g.to_client)
 goes_on_outputs asset client js ks g side.Controller = (_, g.to_controller)
 
-module _ (law : StreamsGoOn) (asset : Asset) (first : Option (List (List ℕ))) (es : List Entry) (s : Side) (answer : Entry) (taken_is : IsTaken s answer)
+module _ (law : StreamsGoOn) (asset : Asset) (first : Option (List (List ℕ))) (es : List Entry) (s : Side) (answer : Entry) (taken_is : IsTakeAnswer s answer)
     (old : RelayingValue) (log : Option (List (List ℕ))) (st : StandsFor asset first es old log) where
   one_history : history_of (es ++ answer ∷ []) ≡ history_of es ++ element_of (moment_of es) answer
   one_history = history_more [] es (answer ∷ []) ∙ ap (λ x. history_of es ++ x) (append-nil (element_of (moment_of es) answer))
@@ -214,7 +214,7 @@ module _ (law : StreamsGoOn) (asset : Asset) (first : Option (List (List ℕ))) 
       }
 
   -- a line failed
-  missed_by : (desk : DeskValue) (e : Entry) → e ≡ answer → IsTaken s e → MissesLine asset old.moment s e (rest_of s (rests_of old)) (lane_state old log) desk → StandsMissed asset first (es ++ answer ∷ []) desk
+  missed_by : (desk : DeskValue) (e : Entry) → e ≡ answer → IsTakeAnswer s e → MissesLine asset old.moment s e (rest_of s (rests_of old)) (lane_state old log) desk → StandsMissed asset first (es ++ answer ∷ []) desk
   missed_by desk (Met c) is t misses = absurd t
   missed_by desk (Moment m) is t misses = absurd t
   missed_by desk (Got of bytes) is t misses =
@@ -244,7 +244,7 @@ module _ (law : StreamsGoOn) (asset : Asset) (first : Option (List (List ℕ))) 
   stands_missed desk misses = missed_by desk answer refl taken_is misses
 
   module _ (new : RelayingValue) (log' : Option (List (List ℕ))) (cut : Option CutReason) (to : TakesTo s old new)
-      (hears : Hears asset old.moment s answer cut (rest_of s (rests_of old)) (rest_of s (rests_of new)) (lane_state old log) (lane_state new log')) where
+      (hears : IsHeard asset old.moment s answer cut (rest_of s (rests_of old)) (rest_of s (rests_of new)) (lane_state old log) (lane_state new log')) where
     follows_left : Follows asset (history_of es ++ element_of old.moment answer) (with_rest s (rests_of old) hears.left) cut first (lane_state new log')
     follows_left = hears.follows (history_of es) (rests_of old) first refl st.follows
 
@@ -270,11 +270,11 @@ module _ (law : StreamsGoOn) (asset : Asset) (first : Option (List (List ℕ))) 
         }
 
   module _ (new : RelayingValue) (log' : Option (List (List ℕ))) (to : TakesTo s old new) (going : ended_of s (history_of es) ≡ false)
-      (letters : letters_from s new ≡ letters_from s old + letters_in answer) (idle : new.idle ≡ idles_after old.idle (answer ∷ []))
-      (hears : Hears asset old.moment s answer None (rest_of s (rests_of old)) (rest_of s (rests_of new)) (lane_state old log) (lane_state new log')) where
+      (letters : letters_from s new ≡ letters_from s old + letters_brought answer) (idle : new.idle ≡ idles_after old.idle (answer ∷ []))
+      (hears : IsHeard asset old.moment s answer None (rest_of s (rests_of old)) (rest_of s (rests_of new)) (lane_state old log) (lane_state new log')) where
     letters_own : letters_from s new ≡ letter_count (taken s (history_of (es ++ answer ∷ [])))
     letters_own =
-        letters ∙ ap (λ n. n + letters_in answer) (st.letters s) ∙ sym (letters_more (moment_of es) s (history_of es) answer taken_is going) ∙ ap (λ h. letter_count (taken s h)) (sym one_history)
+        letters ∙ ap (λ n. n + letters_brought answer) (st.letters s) ∙ sym (letters_more (moment_of es) s (history_of es) answer taken_is going) ∙ ap (λ h. letter_count (taken s h)) (sym one_history)
 
     letters_others : letters_from (other s) new ≡ letter_count (taken (other s) (history_of (es ++ answer ∷ [])))
     letters_others =

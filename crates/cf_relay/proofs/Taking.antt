@@ -11,12 +11,12 @@ use Rattle.cf_policy.specs.declared.Asset.{Asset}
 use Rattle.cf_view.specs.declared.Side.{Side}
 use Rattle.cf_relay.proofs.Giving.{length_take}
 use Rattle.cf_relay.proofs.Hearing.{same_pushed, same_rest}
-use Rattle.cf_relay.specs.Taken.{Answers, Hears, MayTakeNow, TakesAnswer, TakesBy, take_state}
+use Rattle.cf_relay.specs.Taken.{AnswersTo, IsHeard, MayTakeNow, TakesAnswer, TakesBy, take_state}
 use Rattle.cf_relay.specs.declared.stop.Stop.{Stop}
 use Rattle.cf_relay.specs.declared.stop.Stop.TheVariants as stop
 
 hears_idle : (asset : Asset) (moment : ℕ) (s : Side) (rest : List ℕ) (now : State) → length rest < 300 → IsLaneOf asset now.lane → debt now.lane ≤ 5300 →
-    Hears asset moment s (Idle s) None rest rest now now
+    IsHeard asset moment s (Idle s) None rest rest now now
 hears_idle asset moment s rest now short of_asset owed = record {
   left = rest;
   keeps = λ n. (refl, short);
@@ -53,8 +53,8 @@ pub got_size : (n : ℕ) (buf : List ℕ) → 1 ≤ n → n ≤ length buf → l
 got_size n buf some inside size = (omega (arith, some, length_take n buf inside), omega (arith, inside, size, length_take n buf inside))
 
 pub got_answers : (s : Side) (bytes : List ℕ) (told told' : Option (List Entry)) (idle letters letters' : ℕ) → 1 ≤ length bytes → length bytes ≤ 4096 → told' ≡ with_entry told (Got s bytes) → letters' ≡ letters + length bytes →
-    Answers s (Got s bytes) told told' idle 0 letters letters'
+    AnswersTo s (Got s bytes) told told' idle 0 letters letters'
 got_answers s bytes told told' idle letters letters' some most tells more = record { is_taken = (refl, some, most); tells = tells; idles = refl; letters = more }
 
-pub end_answers : (s : Side) (told told' : Option (List Entry)) (idle letters letters' : ℕ) → told' ≡ with_entry told (Ended s) → letters' ≡ letters + 1 → Answers s (Ended s) told told' idle 0 letters letters'
+pub end_answers : (s : Side) (told told' : Option (List Entry)) (idle letters letters' : ℕ) → told' ≡ with_entry told (Ended s) → letters' ≡ letters + 1 → AnswersTo s (Ended s) told told' idle 0 letters letters'
 end_answers s told told' idle letters letters' tells more = record { is_taken = refl; tells = tells; idles = refl; letters = more }

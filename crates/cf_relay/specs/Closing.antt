@@ -8,7 +8,7 @@ use Rattle.cf_policy.specs.declared.Asset.{Asset}
 use Rattle.cf_view.specs.declared.Endpoint.{Endpoint}
 use Rattle.std.specs.List.{concat}
 use Rattle.std.specs.Prelude.{Err, List, Ok, Option, Result, [], drop, take, true, ℕ, ◌∷◌, ◌≡◌}
-use Rattle.cf_relay.specs.Ends.{Log}
+use Rattle.cf_relay.specs.Ends.{LogContents}
 use Rattle.cf_relay.specs.Relaying.{RelayingValue}
 use Rattle.cf_relay.specs.declared.done.RelayDone.{RelayDone}
 use Rattle.cf_relay.specs.declared.done.RelayEnd.{RelayEnd}
@@ -31,7 +31,8 @@ EndsWith line done old new (Err fault.NoMemory) = ⊥
 
 abbrev pub ClosesWith : Asset → Endpoint → RelayingValue → (old new : DeskValue) → Result RelayDone RelayFault → Type 0
 ClosesWith asset client now old new result =
-    EndsWith (line_about asset client now.moment (Close now.lane.admitted now.lane.refused)) (done_by now ends.Done) old new result
+    EndsWith (line_about asset client now.moment (Close now.lane.admitted now.lane.refused))
+    (done_by now ends.Done) old new result
 
 -- a relay that stopped puts a line for a cut alone
 abbrev pub StopsWith : Asset → Endpoint → RelayingValue → Stop → (old new : DeskValue) → Result RelayDone RelayFault → Type 0
@@ -43,10 +44,11 @@ StopsWith asset client now (stop.Cut reason) old new result =
 
 -- a log has, behind what it had, the first of these lines, and then a beginning of the lines that follow
 abbrev pub BeginsLines : (base lines : Option (List (List ℕ))) → (part : List ℕ) → List (List ℕ) → Type 0
-BeginsLines base lines part ls = (count some : ℕ) × (lines ≡ with_lines base (take count ls)) × (part ≡ take some (concat (drop count ls)))
+BeginsLines base lines part ls = (count some : ℕ) × (lines ≡ with_lines base (take count ls)) ×
+    (part ≡ take some (concat (drop count ls)))
 
 -- a log as a desk tells it, behind what it had
-abbrev pub desk_log : (base : Option (List (List ℕ))) → DeskValue → Log
+abbrev pub desk_log : (base : Option (List (List ℕ))) → DeskValue → LogContents
 desk_log base desk = record {
   Holds = λ ls. (desk.lines ≡ with_lines base ls) × (desk.whole ≡ true);
   Begins = λ ls. BeginsLines base desk.lines desk.line_part ls;

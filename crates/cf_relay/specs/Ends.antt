@@ -16,7 +16,7 @@ use Rattle.std.specs.Prelude.{Err, List, None, Ok, Result, Some, [], true, ℕ, 
 use Rattle.cf_relay.specs.Answers.{client_of, given, history_of, idle_run, is_finished, moment_of, moments}
 use Rattle.cf_relay.specs.Scene.{RoseBy}
 use Rattle.cf_relay.specs.Stands.{GivenPrefixes, IsCounted, IsCutShort}
-use Rattle.cf_relay.specs.Turn.{AreItemsOf, Continues, DoesStages, IsRelayed, cut_at, stages}
+use Rattle.cf_relay.specs.Turn.{AreItemsOf, IsUnstopped, DoesStages, IsRelayed, cut_at, stages}
 use Rattle.cf_relay.specs.declared.done.RelayDone.{RelayDone}
 use Rattle.cf_relay.specs.declared.done.RelayEnd.{RelayEnd}
 use Rattle.cf_relay.specs.declared.done.RelayEnd.TheVariants as ends
@@ -39,7 +39,7 @@ abbrev pub cut_line : Asset → List Entry → CutReason → List ℕ
 cut_line asset es reason = line_about asset (client_of es) (moment_of es) (Cut reason)
 
 -- what a log may hold: just these lines, or a beginning of their octets
-pub record Log : Type 1 where
+pub record LogContents : Type 1 where
   pub Holds : List (List ℕ) → Type 0
   pub Begins : List (List ℕ) → Type 0
 
@@ -49,16 +49,16 @@ pub record GivenAll (asset : Asset) (es : List Entry) (js : List Judged) : Type 
   pub closed : (s : Side) → is_finished s es ≡ true
 
 -- both sides were given all that was for them, in so many turns, and a close line is the log's last
-pub record IsDone (asset : Asset) (most : ℕ) (log : Log) (es : List Entry) (done : RelayDone) : Type 0 where
+pub record IsDone (asset : Asset) (most : ℕ) (log : LogContents) (es : List Entry) (done : RelayDone) : Type 0 where
   pub turns : ℕ
   pub does : DoesStages asset most (stages turns) [] es
-  pub goes : Continues asset most es
+  pub goes : IsUnstopped asset most es
   pub all : GivenAll asset es goes.judged
   pub counts : IsCounted goes.judged done.admitted done.refused
   pub holds_log : log.Holds (log_of asset es goes.judged ++ close_line asset es done.admitted done.refused ∷ [])
 
 -- the last answer is the Idle that completes their number; nothing cuts
-pub record IsIdleEnd (asset : Asset) (most : ℕ) (log : Log) (es : List Entry) (done : RelayDone) : Type 0 where
+pub record IsIdleEnd (asset : Asset) (most : ℕ) (log : LogContents) (es : List Entry) (done : RelayDone) : Type 0 where
   pub judged : List Judged
   pub relayed : IsRelayed asset most es
   pub are_items : AreItemsOf asset es judged
@@ -69,7 +69,8 @@ pub record IsIdleEnd (asset : Asset) (most : ℕ) (log : Log) (es : List Entry) 
   pub holds_log : log.Holds (log_of asset es judged)
 
 -- the list is cut, for this reason, and the cut line is the log's last
-pub record IsCutEnd (asset : Asset) (most : ℕ) (log : Log) (es : List Entry) (done : RelayDone) (reason : CutReason) : Type 0 where
+pub record IsCutEnd (asset : Asset) (most : ℕ) (log : LogContents) (es : List Entry) (done : RelayDone)
+    (reason : CutReason) : Type 0 where
   pub judged : List Judged
   pub relayed : IsRelayed asset most es
   pub are_items : AreItemsOf asset es judged
@@ -79,9 +80,9 @@ pub record IsCutEnd (asset : Asset) (most : ℕ) (log : Log) (es : List Entry) (
   pub holds_log : log.Holds (log_of asset es judged ++ cut_line asset es reason ∷ [])
 
 -- a call on the pair failed, which adds nothing to the list
-pub record IsLinkEnd (asset : Asset) (most : ℕ) (log : Log) (es : List Entry) : Type 0 where
+pub record IsLinkEnd (asset : Asset) (most : ℕ) (log : LogContents) (es : List Entry) : Type 0 where
   pub relayed : IsRelayed asset most es
-  pub goes : Continues asset most es
+  pub goes : IsUnstopped asset most es
   pub prefixes : GivenPrefixes asset es goes.judged
   pub holds_log : log.Holds (log_of asset es goes.judged)
 
@@ -89,10 +90,11 @@ pub record IsLinkEnd (asset : Asset) (most : ℕ) (log : Log) (es : List Entry) 
 abbrev pub IsLastLine : Asset → List Entry → List Judged → List (List ℕ) → Type 0
 IsLastLine asset es js last =
     (last ≡ []) ⊎ (((reason : CutReason) × (cut_at asset es js ≡ Some reason) × (last ≡ cut_line asset es reason ∷ []))
-    ⊎ (GivenAll asset es js × ((admitted refused : ℕ) × IsCounted js admitted refused × (last ≡ close_line asset es admitted refused ∷ []))))
+    ⊎ (GivenAll asset es js × ((admitted refused : ℕ) × IsCounted js admitted refused ×
+    (last ≡ close_line asset es admitted refused ∷ []))))
 
 -- a write to the log failed: it has a beginning of the lines, those of an element up to the unit whose line failed
-pub record IsWriteEnd (asset : Asset) (most : ℕ) (log : Log) (es : List Entry) : Type 0 where
+pub record IsWriteEnd (asset : Asset) (most : ℕ) (log : LogContents) (es : List Entry) : Type 0 where
   pub relayed : IsRelayed asset most es
   pub history : List Element
   pub is_short : IsCutShort history (history_of es)
@@ -108,29 +110,29 @@ abbrev pub IsMemoryEnd : (created same : Type 0) → List Entry → Type 0
 IsMemoryEnd created same es = ((es ≡ []) × same) ⊎ (((client : Endpoint) × (es ≡ Met client ∷ [])) × created)
 
 -- how a relay ended that no fault stopped
-abbrev pub EndsBy : Asset → (most : ℕ) → Log → List Entry → RelayDone → RelayEnd → Type 0
-EndsBy asset most log es done ends.Done = IsDone asset most log es done
-EndsBy asset most log es done ends.IdleEnd = IsIdleEnd asset most log es done
-EndsBy asset most log es done (ends.Cut reason) = IsCutEnd asset most log es done reason
+abbrev pub EndsAs : Asset → (most : ℕ) → LogContents → List Entry → RelayDone → RelayEnd → Type 0
+EndsAs asset most log es done ends.Done = IsDone asset most log es done
+EndsAs asset most log es done ends.IdleEnd = IsIdleEnd asset most log es done
+EndsAs asset most log es done (ends.Cut reason) = IsCutEnd asset most log es done reason
 
 -- what each answer means
-abbrev pub RelayEnds : Asset → (most : ℕ) → Log → (same : Type 0) → List Entry → Result RelayDone RelayFault → Type 0
-RelayEnds asset most log same es (Ok done) = EndsBy asset most log es done done.end
+abbrev pub RelayEnds : Asset → (most : ℕ) → LogContents → (same : Type 0) → List Entry → Result RelayDone RelayFault → Type 0
+RelayEnds asset most log same es (Ok done) = EndsAs asset most log es done done.end
 RelayEnds asset most log same es (Err fault.Link) = IsLinkEnd asset most log es
 RelayEnds asset most log same es (Err fault.Write) = IsWriteEnd asset most log es
 RelayEnds asset most log same es (Err fault.NoMemory) = IsMemoryEnd (log.Holds []) same es
 
 -- a file is told
-abbrev pub IsTold : Content → Type 0
-IsTold untold = ⊥
-IsTold absent = Unit {0}
-IsTold (holds all) = Unit {0}
+abbrev pub IsFileTold : Content → Type 0
+IsFileTold untold = ⊥
+IsFileTold absent = Unit {0}
+IsFileTold (holds all) = Unit {0}
 
 -- a log as a file, where it is told
-abbrev pub file_log : (old new : Content) → Log
+abbrev pub file_log : (old new : Content) → LogContents
 file_log old new = record {
-  Holds = λ ls. IsTold old → new ≡ content_after_write old (concat ls);
-  Begins = λ ls. IsTold old → IsPartly (concat ls) old new;
+  Holds = λ ls. IsFileTold old → new ≡ content_after_write old (concat ls);
+  Begins = λ ls. IsFileTold old → IsPartly (concat ls) old new;
 }
 
 -- at the Idle end the pair counted so many answers Idle

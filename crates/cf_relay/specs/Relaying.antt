@@ -80,7 +80,8 @@ pub record IsSound (asset : Asset) (most : ℕ) (now : RelayingValue) : Type 0 w
   pub client_rest : length now.client_rest < 300
   pub controller_rest : length now.controller_rest < 300
   -- a command for each byte taken at most
-  pub counts : now.lane.admitted + now.lane.refused + (length now.client_rest + length now.controller_rest) ≤ now.client_letters + now.controller_letters
+  pub counts : now.lane.admitted + now.lane.refused +
+      (length now.client_rest + length now.controller_rest) ≤ now.client_letters + now.controller_letters
   pub few : now.idle < most
 
 -- how many letters were taken of both sides and how many bytes were given to both
@@ -103,17 +104,20 @@ pub record Unmoved (old new : RelayingValue) : Type 0 where
 abbrev pub ServesOrRests : Side → (most : ℕ) → (old new : RelayingValue) → Type 0
 ServesOrRests s most old new =
     (progress most old < progress most new)
-    ⊎ (((queue_to s old).kept ≡ []) × Unmoved old new × (is_closed (other s) new ≡ is_closed (other s) old) × ((queue_to s old).ended ≡ true → is_closed s new ≡ true))
+    ⊎ (((queue_to s old).kept ≡ []) × Unmoved old new × (is_closed (other s) new ≡ is_closed (other s) old) ×
+    ((queue_to s old).ended ≡ true → is_closed s new ≡ true))
 
 -- a side was asked; or it was passed over
 abbrev pub AsksOrRests : Side → (most : ℕ) → (old new : RelayingValue) → Type 0
-AsksOrRests s most old new = (progress most old < progress most new) ⊎ (Unmoved old new × (MayTakeNow s old.to_client old.to_controller → ⊥))
+AsksOrRests s most old new = (progress most old < progress most new) ⊎
+    (Unmoved old new × (MayTakeNow s old.to_client old.to_controller → ⊥))
 
 -- a side was asked; or both were passed over
 abbrev pub ListensOrRests : (most : ℕ) → (old new : RelayingValue) → Type 0
 ListensOrRests most old new =
     (progress most old < progress most new)
-    ⊎ (Unmoved old new × (MayTakeNow side.Client old.to_client old.to_controller → ⊥) × (MayTakeNow side.Controller old.to_client old.to_controller → ⊥))
+    ⊎ (Unmoved old new × (MayTakeNow side.Client old.to_client old.to_controller → ⊥) ×
+    (MayTakeNow side.Controller old.to_client old.to_controller → ⊥))
 
 -- both sides are closed
 abbrev pub AreClosed : RelayingValue → Type 0

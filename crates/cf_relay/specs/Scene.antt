@@ -1,4 +1,5 @@
--- What was done between two places of the code: stages that are done, Goes, or that break off, Stops. This project's own.
+-- What was done between two places of the code: stages that are done, DoesBetween, or that break off, StopsBetween. This
+-- project's own.
 use Rattle.cf_lane.specs.Handled.{WritesLog}
 use Rattle.cf_outside.specs.Desk.{DeskValue}
 use Rattle.cf_outside.specs.Faults.{Rose}
@@ -10,7 +11,7 @@ use Rattle.std.specs.Prelude.{List, Option, min, ℕ, ◌++◌, ◌+◌, ◌-◌
 use Rattle.cf_relay.specs.Answers.{with_answers}
 use Rattle.cf_relay.specs.Relaying.{RelayingValue, relaying_value}
 use Rattle.cf_relay.specs.Stands.{StandsFor, StandsStopped}
-use Rattle.cf_relay.specs.Turn.{BreaksOff, DoesStages, Stage}
+use Rattle.cf_relay.specs.Turn.{BeginsStages, DoesStages, Stage}
 use Rattle.cf_relay.specs.declared.relaying.Relaying.{Relaying}
 use Rattle.cf_relay.specs.declared.stop.Stop.{Stop}
 use Rattle.cf_relay.specs.declared.stop.Stop.TheVariants as stop
@@ -41,16 +42,16 @@ abbrev pub RoseBy : ℕ → ℕ → ℕ → Type 0
 RoseBy n before now = min (before + n) (2 ^ 64 - 1) ≤ now
 
 -- answers were added, counts did not fall, each answer Idle was counted, and nothing but the log was written
-pub record Adds (old new : Scene) (answers : List Entry) : Type 0 where
+pub record AddsAnswers (old new : Scene) (answers : List Entry) : Type 0 where
   pub tells : new.pair.told ≡ with_answers old.pair.told answers
   pub link : old.pair.faults ≤ new.pair.faults
   pub idles : (start : ℕ) → RoseBy old.relaying.idle start old.pair.idles → RoseBy new.relaying.idle start new.pair.idles
   pub log : WritesLog old.desk new.desk
 
 -- the stages are done, whatever list came before
-pub record Goes (asset : Asset) (most : ℕ) (stages : List Stage) (old new : Scene) : Type 0 where
+pub record DoesBetween (asset : Asset) (most : ℕ) (stages : List Stage) (old new : Scene) : Type 0 where
   pub answers : List Entry
-  pub adds : Adds old new answers
+  pub adds : AddsAnswers old new answers
   pub does : (first : Option (List (List ℕ))) (es : List Entry) → StandsFor asset first es old.relaying old.desk.lines →
       DoesStages asset most stages es answers × StandsFor asset first (es ++ answers) new.relaying new.desk.lines
 
@@ -62,9 +63,9 @@ StopsBy stop.Link old new = Rose old.pair.faults new.pair.faults
 StopsBy stop.Write old new = Rose old.desk.faults new.desk.faults
 
 -- the stages break off, whatever list came before
-pub record Stops (asset : Asset) (most : ℕ) (stages : List Stage) (stop : Stop) (old new : Scene) : Type 0 where
+pub record StopsBetween (asset : Asset) (most : ℕ) (stages : List Stage) (stop : Stop) (old new : Scene) : Type 0 where
   pub answers : List Entry
-  pub adds : Adds old new answers
+  pub adds : AddsAnswers old new answers
   pub cause : StopsBy stop old new
   pub does : (first : Option (List (List ℕ))) (es : List Entry) → StandsFor asset first es old.relaying old.desk.lines →
-      BreaksOff asset most stages es answers × StandsStopped asset most first (es ++ answers) stop new.relaying new.desk
+      BeginsStages asset most stages es answers × StandsStopped asset most first (es ++ answers) stop new.relaying new.desk

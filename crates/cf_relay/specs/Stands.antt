@@ -22,9 +22,11 @@ use Rattle.cf_relay.specs.declared.stop.Stop.{Stop}
 use Rattle.cf_relay.specs.declared.stop.Stop.TheVariants as stop
 
 -- lane, queues and log have the history of the list, which nothing cuts
-pub record StandsFor (asset : Asset) (first : Option (List (List ℕ))) (es : List Entry) (now : RelayingValue) (lines : Option (List (List ℕ))) : Type 0 where
+pub record StandsFor (asset : Asset) (first : Option (List (List ℕ))) (es : List Entry) (now : RelayingValue)
+    (lines : Option (List (List ℕ))) : Type 0 where
   pub follows : Follows asset (history_of es) (rests_of now) None first (lane_state now lines)
-  pub uncut : limit_cut LETTER_LIMIT (history_of es) (stream_to asset side.Client follows.judged) (stream_to asset side.Controller follows.judged) ≡ None
+  pub uncut : limit_cut LETTER_LIMIT (history_of es) (stream_to asset side.Client follows.judged)
+      (stream_to asset side.Controller follows.judged) ≡ None
   pub client : now.lane.client ≡ client_of es
   -- the bytes given left their queue
   pub acked : (s : Side) → (queue_to s now).acked ≡ length (given s es)
@@ -51,7 +53,8 @@ pub record IsCounted (js : List Judged) (admits refuses : ℕ) : Type 0 where
   pub refused : refuses ≡ count_by (λ j. is_refused j.fate) js
 
 -- the list is cut, and lane and log have its items
-pub record StandsCut (asset : Asset) (first : Option (List (List ℕ))) (es : List Entry) (now : RelayingValue) (log : Option (List (List ℕ))) (reason : CutReason) : Type 0 where
+pub record StandsCut (asset : Asset) (first : Option (List (List ℕ))) (es : List Entry) (now : RelayingValue)
+    (log : Option (List (List ℕ))) (reason : CutReason) : Type 0 where
   pub judged : List Judged
   pub are_items : AreItemsOf asset es judged
   pub is_cut : cut_at asset es judged ≡ Some reason
@@ -76,7 +79,8 @@ pub record StandsMissed (asset : Asset) (first : Option (List (List ℕ))) (es :
   pub prefixes : GivenPrefixes asset es began.judged
 
 -- what a relay that stops stands for, with its list
-abbrev pub StandsStopped : Asset → (most : ℕ) → (first : Option (List (List ℕ))) → List Entry → Stop → RelayingValue → DeskValue → Type 0
+abbrev pub StandsStopped : Asset → (most : ℕ) → (first : Option (List (List ℕ))) → List Entry → Stop → RelayingValue
+    → DeskValue → Type 0
 StandsStopped asset most first es stop.Idle now desk = StandsFor asset first es now desk.lines × (now.idle ≡ most)
 StandsStopped asset most first es stop.Link now desk = StandsFor asset first es now desk.lines × (now.idle < most)
 StandsStopped asset most first es stop.Write now desk = StandsMissed asset first es desk

@@ -13,7 +13,7 @@ use Rattle.cf_view.specs.declared.Side.{Side}
 use Rattle.std.specs.Prelude.{Bool, Err, List, None, Ok, Option, Result, Some, [], if◌then◌else◌, length, true, ℕ, ◌++◌, ◌+◌, ◌<◌, ◌∷◌, ◌≡◌, ◌≤◌, ◌||◌, ◌⊎◌}
 use Rattle.cf_view.specs.declared.Side.TheVariants as side
 use Rattle.cf_relay.specs.Answers.{element_of, idles_after, with_answers}
-use Rattle.cf_relay.specs.Turn.{IsTaken}
+use Rattle.cf_relay.specs.Turn.{IsTakeAnswer}
 use Rattle.cf_relay.specs.declared.stop.Stop.{Stop}
 use Rattle.cf_relay.specs.declared.stop.Stop.TheVariants as stop
 
@@ -28,14 +28,14 @@ pub record MayTakeNow (s : Side) (to_client to_controller : Queue) : Type 0 wher
   pub controller : IsSmall to_controller
 
 -- how many letters an answer brings
-abbrev pub letters_in : Entry → ℕ
-letters_in (Met client) = 0
-letters_in (Moment moment) = 0
-letters_in (Got s bytes) = length bytes
-letters_in (Took s bytes) = 0
-letters_in (Ended s) = 1
-letters_in (Idle s) = 0
-letters_in (Finished s) = 0
+abbrev pub letters_brought : Entry → ℕ
+letters_brought (Met client) = 0
+letters_brought (Moment moment) = 0
+letters_brought (Got s bytes) = length bytes
+letters_brought (Took s bytes) = 0
+letters_brought (Ended s) = 1
+letters_brought (Idle s) = 0
+letters_brought (Finished s) = 0
 
 -- what a queue keeps beside what was pushed stays
 pub record OnlyPushed (old new : Queue) : Type 0 where
@@ -54,10 +54,12 @@ ended_after s (Idle of) ended = ended
 ended_after s (Finished of) ended = ended
 
 -- what came was handled by the lane, whatever history came before
-pub record Hears (asset : Asset) (moment : ℕ) (s : Side) (answer : Entry) (cut : Option CutReason) (rest_before rest_after : List ℕ) (old new : State) : Type 0 where
+pub record IsHeard (asset : Asset) (moment : ℕ) (s : Side) (answer : Entry) (cut : Option CutReason)
+    (rest_before rest_after : List ℕ) (old new : State) : Type 0 where
   pub left : List ℕ
   pub keeps : cut ≡ None → (rest_after ≡ left) × (length rest_after < 300)
-  pub follows : (h : List Element) (rests : Rests) (first : Option (List (List ℕ))) → rest_before ≡ rest_of s rests → Follows asset h rests None first old
+  pub follows : (h : List Element) (rests : Rests) (first : Option (List (List ℕ))) → rest_before ≡ rest_of s rests
+      → Follows asset h rests None first old
       → Follows asset (h ++ element_of moment answer) (with_rest s rests left) cut first new
   pub of_asset : IsLaneOf asset new.lane
   pub debt : debt new.lane ≤ 5300
@@ -66,28 +68,32 @@ pub record Hears (asset : Asset) (moment : ℕ) (s : Side) (answer : Entry) (cut
   pub to_controller : OnlyPushed old.to_controller new.to_controller
   pub client_ended : new.to_controller.ended ≡ ended_after side.Client answer old.to_controller.ended
   pub controller_ended : new.to_client.ended ≡ ended_after side.Controller answer old.to_client.ended
-  pub counts : cut ≡ None → new.lane.admitted + new.lane.refused + length rest_after ≤ old.lane.admitted + old.lane.refused + (length rest_before + letters_in answer)
+  pub counts : cut ≡ None → new.lane.admitted + new.lane.refused + length rest_after ≤ old.lane.admitted + old.lane.refused +
+      (length rest_before + letters_brought answer)
 
 -- a line of what came failed, whatever history came before: the log has a beginning of the lines of what was handled
 abbrev pub MissesLine : Asset → (moment : ℕ) → Side → Entry → (rest : List ℕ) → (old : State) → DeskValue → Type 0
 MissesLine asset moment s (Met client) rest old desk = ⊥
 MissesLine asset moment s (Moment other) rest old desk = ⊥
 MissesLine asset moment s (Got of bytes) rest old desk =
-    (h : List Element) (rests : Rests) (first : Option (List (List ℕ))) → rest ≡ rest_of s rests → Follows asset h rests None first old
+    (h : List Element) (rests : Rests) (first : Option (List (List ℕ))) → rest ≡ rest_of s rests
+    → Follows asset h rests None first old
     → BeganWithin asset old.lane.client h moment s bytes first desk.lines desk.line_part
 MissesLine asset moment s (Took of bytes) rest old desk = ⊥
 MissesLine asset moment s (Ended of) rest old desk =
-    (h : List Element) (rests : Rests) (first : Option (List (List ℕ))) → rest ≡ rest_of s rests → Follows asset h rests None first old
+    (h : List Element) (rests : Rests) (first : Option (List (List ℕ))) → rest ≡ rest_of s rests
+    → Follows asset h rests None first old
     → Began asset old.lane.client (h ++ end_at moment s ∷ []) first desk.lines desk.line_part
 MissesLine asset moment s (Idle of) rest old desk = ⊥
 MissesLine asset moment s (Finished of) rest old desk = ⊥
 
 -- a side that was asked answered
-pub record Answers (s : Side) (answer : Entry) (told_before told_after : Option (List Entry)) (idle_before idle_after letters_before letters_after : ℕ) : Type 0 where
-  pub is_taken : IsTaken s answer
+pub record AnswersTo (s : Side) (answer : Entry) (told_before told_after : Option (List Entry))
+    (idle_before idle_after letters_before letters_after : ℕ) : Type 0 where
+  pub is_taken : IsTakeAnswer s answer
   pub tells : told_after ≡ with_answers told_before (answer ∷ [])
   pub idles : idle_after ≡ idles_after idle_before (answer ∷ [])
-  pub letters : letters_after ≡ letters_before + letters_in answer
+  pub letters : letters_after ≡ letters_before + letters_brought answer
 
 -- what a call on a side and its lane changes
 pub record TakeState : Type 0 where
@@ -103,8 +109,8 @@ take_state state rest letters idle told = record { state = state; rest = rest; l
 -- a side was asked, answered, and the lane handled it
 pub record TakesAnswer (asset : Asset) (moment : ℕ) (s : Side) (cut : Option CutReason) (old new : TakeState) : Type 0 where
   pub answer : Entry
-  pub answers : Answers s answer old.told new.told old.idle new.idle old.letters new.letters
-  pub hears : Hears asset moment s answer cut old.rest new.rest old.state new.state
+  pub answers : AnswersTo s answer old.told new.told old.idle new.idle old.letters new.letters
+  pub hears : IsHeard asset moment s answer cut old.rest new.rest old.state new.state
 
 -- what came of asking a side, which happens exactly where it has not ended and both queues are small
 abbrev pub TakesBy : Asset → (moment most : ℕ) → Side → (old new : TakeState) → DeskValue → Result Unit Stop → Type 0
@@ -117,7 +123,8 @@ TakesBy asset moment most s old new desk (Err stop.Idle) =
 TakesBy asset moment most s old new desk (Err stop.Link) = new ≡ old
 TakesBy asset moment most s old new desk (Err stop.Write) =
     MayTakeNow s old.state.to_client old.state.to_controller
-    × ((answer : Entry) × Answers s answer old.told new.told old.idle new.idle old.letters new.letters × MissesLine asset moment s answer old.rest old.state desk)
+    × ((answer : Entry) × AnswersTo s answer old.told new.told old.idle new.idle old.letters new.letters
+    × MissesLine asset moment s answer old.rest old.state desk)
 TakesBy asset moment most s old new desk (Err (stop.Cut reason)) =
     MayTakeNow s old.state.to_client old.state.to_controller × TakesAnswer asset moment s (Some reason) old new
 

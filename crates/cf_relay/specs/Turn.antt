@@ -29,10 +29,11 @@ AreItemsOf asset es js = AreJudged asset (client_of es).address (history_of es) 
 -- why the list is cut: by the first item that cuts, or else by a stream that reached the limit
 abbrev pub cut_at : Asset → List Entry → List Judged → Option CutReason
 cut_at asset es js =
-    option_or (cut_of js) (limit_cut LETTER_LIMIT (history_of es) (stream_to asset side.Client js) (stream_to asset side.Controller js))
+    option_or (cut_of js) (limit_cut LETTER_LIMIT (history_of es) (stream_to asset side.Client js)
+    (stream_to asset side.Controller js))
 
 -- the relay goes on after this list: nothing cuts it, and fewer answers Idle stand at its end than the number that ends it
-pub record Continues (asset : Asset) (most : ℕ) (es : List Entry) : Type 0 where
+pub record IsUnstopped (asset : Asset) (most : ℕ) (es : List Entry) : Type 0 where
   pub judged : List Judged
   pub are_items : AreItemsOf asset es judged
   pub uncut : cut_at asset es judged ≡ None
@@ -49,23 +50,27 @@ pub record MayTake (asset : Asset) (s : Side) (es : List Entry) (js : List Judge
   pub controller : letter_count (queue_of asset side.Controller es js) ≤ 16384
 
 -- an answer to that: one to 4,096 bytes, End, or Idle
-abbrev pub IsTaken : Side → Entry → Type 0
-IsTaken s (Met client) = ⊥
-IsTaken s (Moment moment) = ⊥
-IsTaken s (Got of bytes) = (of ≡ s) × (1 ≤ length bytes) × (length bytes ≤ 4096)
-IsTaken s (Took of bytes) = ⊥
-IsTaken s (Ended of) = of ≡ s
-IsTaken s (Idle of) = of ≡ s
-IsTaken s (Finished of) = ⊥
+abbrev pub IsTakeAnswer : Side → Entry → Type 0
+IsTakeAnswer s (Met client) = ⊥
+IsTakeAnswer s (Moment moment) = ⊥
+IsTakeAnswer s (Got of bytes) = (of ≡ s) × (1 ≤ length bytes) × (length bytes ≤ 4096)
+IsTakeAnswer s (Took of bytes) = ⊥
+IsTakeAnswer s (Ended of) = of ≡ s
+IsTakeAnswer s (Idle of) = of ≡ s
+IsTakeAnswer s (Finished of) = ⊥
 
 abbrev pub HasBytes : List ℕ → Type 0
 HasBytes [] = ⊥
 HasBytes (x ∷ xs) = Unit {0}
 
--- a side took pieces from the front of its queue, none of them empty
+-- what a side took in one give, which is handed at most 4,096 of the oldest bytes that wait
+abbrev pub IsGivePiece : List ℕ → Type 0
+IsGivePiece bytes = (1 ≤ length bytes) × (length bytes ≤ 4096)
+
+-- a side took pieces from the front of its queue
 pub record TookPieces (s : Side) (queued : List ℕ) (pieces : List (List ℕ)) (rest : List ℕ) : Type 0 where
   pub split : queued ≡ concat pieces ++ rest
-  pub each : AllByRecursion HasBytes pieces
+  pub each : AllByRecursion IsGivePiece pieces
 
 -- a side is given queued bytes until the queue is empty or Idle comes
 pub record GivesQueued (s : Side) (queued : List ℕ) (answers : List Entry) : Type 0 where
@@ -115,14 +120,16 @@ abbrev pub HasAnswers : Asset → Stage → (before : List Entry) → List Judge
 HasAnswers asset Meeting before js answers = (client : Endpoint) × (answers ≡ Met client ∷ [])
 HasAnswers asset Telling before js answers = (are_finished before ≡ false) × ((moment : ℕ) × (answers ≡ Moment moment ∷ []))
 HasAnswers asset (Taking s) before js answers =
-    (MayTake asset s before js × ((answer : Entry) × IsTaken s answer × (answers ≡ answer ∷ []))) ⊎ ((MayTake asset s before js → ⊥) × (answers ≡ []))
+    (MayTake asset s before js × ((answer : Entry) × IsTakeAnswer s answer × (answers ≡ answer ∷ []))) ⊎
+    ((MayTake asset s before js → ⊥) × (answers ≡ []))
 HasAnswers asset (Giving s) before js answers = GivesQueued s (queue_of asset s before js).bytes answers
 HasAnswers asset (Finishing s) before js answers =
     (MayFinish asset s before js × (answers ≡ Finished s ∷ [])) ⊎ ((MayFinish asset s before js → ⊥) × (answers ≡ []))
 
 -- a stage is done only where the relay goes on
 abbrev pub IsStage : Asset → (most : ℕ) → Stage → (before answers : List Entry) → Type 0
-IsStage asset most stage before answers = (goes : Continues asset most before) × HasAnswers asset stage before goes.judged answers
+IsStage asset most stage before answers = (goes : IsUnstopped asset most before)
+    × HasAnswers asset stage before goes.judged answers
 
 -- a stage that breaks off: nothing of it, or the first of its gives
 abbrev pub BeginsStage : Asset → (most : ℕ) → Stage → (before answers : List Entry) → Type 0
@@ -130,22 +137,24 @@ BeginsStage asset most Meeting before answers = answers ≡ []
 BeginsStage asset most Telling before answers = answers ≡ []
 BeginsStage asset most (Taking s) before answers = answers ≡ []
 BeginsStage asset most (Giving s) before answers =
-    (answers ≡ []) ⊎ ((goes : Continues asset most before) × BeginsToGive s (queue_of asset s before goes.judged).bytes answers)
+    (answers ≡ []) ⊎ ((goes : IsUnstopped asset most before) × BeginsToGive s (queue_of asset s before goes.judged).bytes answers)
 BeginsStage asset most (Finishing s) before answers = answers ≡ []
 
 -- the stages, one after the other
 abbrev pub DoesStages : Asset → (most : ℕ) → List Stage → (before answers : List Entry) → Type 0
 DoesStages asset most [] before answers = answers ≡ []
 DoesStages asset most (stage ∷ later) before answers =
-    (now next : List Entry) × (answers ≡ now ++ next) × IsStage asset most stage before now × DoesStages asset most later (before ++ now) next
+    (now next : List Entry) × (answers ≡ now ++ next) × IsStage asset most stage before now × DoesStages asset most later
+    (before ++ now) next
 
 -- the stages, broken off before one of them, within one, or behind the last
-abbrev pub BreaksOff : Asset → (most : ℕ) → List Stage → (before answers : List Entry) → Type 0
-BreaksOff asset most [] before answers = answers ≡ []
-BreaksOff asset most (stage ∷ later) before answers =
+abbrev pub BeginsStages : Asset → (most : ℕ) → List Stage → (before answers : List Entry) → Type 0
+BeginsStages asset most [] before answers = answers ≡ []
+BeginsStages asset most (stage ∷ later) before answers =
     BeginsStage asset most stage before answers
-    ⊎ ((now next : List Entry) × (answers ≡ now ++ next) × IsStage asset most stage before now × BreaksOff asset most later (before ++ now) next)
+    ⊎ ((now next : List Entry) × (answers ≡ now ++ next) × IsStage asset most stage before now × BeginsStages asset most later
+    (before ++ now) next)
 
 -- the list of a relay that stops
 abbrev pub IsRelayed : Asset → (most : ℕ) → List Entry → Type 0
-IsRelayed asset most es = (n : ℕ) × BreaksOff asset most (stages n) [] es
+IsRelayed asset most es = (n : ℕ) × BeginsStages asset most (stages n) [] es

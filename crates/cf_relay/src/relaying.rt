@@ -7,7 +7,7 @@ ghost use Rattle.cf_outside.specs.Desk.{DeskValue};
 ghost use Rattle.cf_policy.specs.Within.{IsAssetWithin};
 ghost use Rattle.cf_policy.specs.declared.Asset.{Asset as AssetOf};
 ghost use Rattle.cf_relay.specs.Relaying.{AreClosed, AsksOrRests, IsShort, IsSound, ServesOrRests, Unmoved, relaying_value};
-ghost use Rattle.cf_relay.specs.Scene.{Goes, Stops, pair_value, scene, scene_of};
+ghost use Rattle.cf_relay.specs.Scene.{DoesBetween, StopsBetween, pair_value, scene, scene_of};
 ghost use Rattle.cf_relay.specs.Taken.{LimitBy, StaysWhole};
 ghost use Rattle.cf_relay.specs.Turn.{Finishing, Giving, Taking, Telling};
 
@@ -42,12 +42,15 @@ impl Relaying {
     pub(crate) fn tell<P: Pair>(&mut self, pair: &mut P) -> Result<(), Stop>
         requires still { AreClosed (relaying_value self.old) → ⊥ }
         ensures goes { OnOk result ((asset : AssetOf) (most : ℕ) (desk : DeskValue) → self.old.idle < most →
-            Goes asset most (Telling ∷ [])
-            (scene (relaying_value self.old) (pair_value P.Pair pair.old) desk) (scene (relaying_value self.new) (pair_value P.Pair pair.new) desk)) }
+            DoesBetween asset most (Telling ∷ [])
+            (scene (relaying_value self.old) (pair_value P.Pair pair.old) desk)
+            (scene (relaying_value self.new) (pair_value P.Pair pair.new) desk)) }
         ensures stops { IfErr result (λ stop. (asset : AssetOf) (most : ℕ) (desk : DeskValue) → self.old.idle < most →
-            Stops asset most (Telling ∷ []) stop
-            (scene (relaying_value self.old) (pair_value P.Pair pair.old) desk) (scene (relaying_value self.new) (pair_value P.Pair pair.new) desk)) }
-        ensures sound { (asset : AssetOf) (most : ℕ) → IsSound asset most (relaying_value self.old) → IsSound asset most (relaying_value self.new) }
+            StopsBetween asset most (Telling ∷ []) stop
+            (scene (relaying_value self.old) (pair_value P.Pair pair.old) desk)
+            (scene (relaying_value self.new) (pair_value P.Pair pair.new) desk)) }
+        ensures sound { (asset : AssetOf) (most : ℕ) → IsSound asset most (relaying_value self.old) → IsSound asset most
+            (relaying_value self.new) }
         ensures unmoved { Unmoved (relaying_value self.old) (relaying_value self.new) }
     {
         match pair.moment() {
@@ -72,9 +75,9 @@ impl Relaying {
         requires sound { IsSound asset.now most (relaying_value self.old) }
         requires whole { DeskValue.whole (D.value desk.old) ≡ true }
         requires buffer { length buf.old ≡ 4096 }
-        ensures goes { OnOk result (Goes asset.now most (Taking Side.Client ∷ [])
+        ensures goes { OnOk result (DoesBetween asset.now most (Taking Side.Client ∷ [])
             (scene_of P.Pair D.Desk self.old pair.old desk.old) (scene_of P.Pair D.Desk self.new pair.new desk.new)) }
-        ensures stops { IfErr result (λ stop. Stops asset.now most (Taking Side.Client ∷ []) stop
+        ensures stops { IfErr result (λ stop. StopsBetween asset.now most (Taking Side.Client ∷ []) stop
             (scene_of P.Pair D.Desk self.old pair.old desk.old) (scene_of P.Pair D.Desk self.new pair.new desk.new)) }
         ensures sound { OnOk result (IsSound asset.now most (relaying_value self.new)) }
         ensures moves { OnOk result (AsksOrRests Side.Client most (relaying_value self.old) (relaying_value self.new)) }
@@ -112,9 +115,9 @@ impl Relaying {
         requires sound { IsSound asset.now most (relaying_value self.old) }
         requires whole { DeskValue.whole (D.value desk.old) ≡ true }
         requires buffer { length buf.old ≡ 4096 }
-        ensures goes { OnOk result (Goes asset.now most (Taking Side.Controller ∷ [])
+        ensures goes { OnOk result (DoesBetween asset.now most (Taking Side.Controller ∷ [])
             (scene_of P.Pair D.Desk self.old pair.old desk.old) (scene_of P.Pair D.Desk self.new pair.new desk.new)) }
-        ensures stops { IfErr result (λ stop. Stops asset.now most (Taking Side.Controller ∷ []) stop
+        ensures stops { IfErr result (λ stop. StopsBetween asset.now most (Taking Side.Controller ∷ []) stop
             (scene_of P.Pair D.Desk self.old pair.old desk.old) (scene_of P.Pair D.Desk self.new pair.new desk.new)) }
         ensures sound { OnOk result (IsSound asset.now most (relaying_value self.new)) }
         ensures moves { OnOk result (AsksOrRests Side.Controller most (relaying_value self.old) (relaying_value self.new)) }
@@ -141,7 +144,8 @@ impl Relaying {
 
     /// Cuts where a stream has as many letters as the limit.
     fn check_limit(&self) -> Result<(), Stop>
-        ensures limit { LimitBy (self.now.from_client).letters (self.now.from_controller).letters (queue_length self.now.to_client) (queue_length self.now.to_controller) result }
+        ensures limit { LimitBy (self.now.from_client).letters (self.now.from_controller).letters
+            (queue_length self.now.to_client) (queue_length self.now.to_controller) result }
         ensures short { OnOk result (IsShort (relaying_value self.now)) }
         ensures to_client { IsQueue self.now.to_client }
         ensures to_controller { IsQueue self.now.to_controller }
@@ -154,7 +158,8 @@ impl Relaying {
 
     /// Why a stream that has as many letters as the limit cuts, if one has.
     fn full(&self) -> Option<CutReason>
-        ensures limit { result ≡ limit_by LETTER_LIMIT (self.now.from_client).letters (self.now.from_controller).letters (queue_length self.now.to_client) (queue_length self.now.to_controller) }
+        ensures limit { result ≡ limit_by LETTER_LIMIT (self.now.from_client).letters (self.now.from_controller).letters
+            (queue_length self.now.to_client) (queue_length self.now.to_controller) }
         ensures to_client { IsQueue self.now.to_client }
         ensures to_controller { IsQueue self.now.to_controller }
     {
@@ -178,11 +183,16 @@ impl Relaying {
     ) -> Result<(), Stop>
         requires few { self.old.idle < most }
         requires buffer { length buf.old ≡ 4096 }
-        ensures goes { OnOk result ((asset : AssetOf) (desk : DeskValue) → Goes asset most (Giving Side.Controller ∷ Finishing Side.Controller ∷ [])
-            (scene (relaying_value self.old) (pair_value P.Pair pair.old) desk) (scene (relaying_value self.new) (pair_value P.Pair pair.new) desk)) }
-        ensures stops { IfErr result (λ stop. (asset : AssetOf) (desk : DeskValue) → Stops asset most (Giving Side.Controller ∷ Finishing Side.Controller ∷ []) stop
-            (scene (relaying_value self.old) (pair_value P.Pair pair.old) desk) (scene (relaying_value self.new) (pair_value P.Pair pair.new) desk)) }
-        ensures sound { OnOk result ((asset : AssetOf) → IsSound asset most (relaying_value self.old) → IsSound asset most (relaying_value self.new)) }
+        ensures goes { OnOk result ((asset : AssetOf) (desk : DeskValue) → DoesBetween asset most
+            (Giving Side.Controller ∷ Finishing Side.Controller ∷ [])
+            (scene (relaying_value self.old) (pair_value P.Pair pair.old) desk)
+            (scene (relaying_value self.new) (pair_value P.Pair pair.new) desk)) }
+        ensures stops { IfErr result (λ stop. (asset : AssetOf) (desk : DeskValue) → StopsBetween asset most
+            (Giving Side.Controller ∷ Finishing Side.Controller ∷ []) stop
+            (scene (relaying_value self.old) (pair_value P.Pair pair.old) desk)
+            (scene (relaying_value self.new) (pair_value P.Pair pair.new) desk)) }
+        ensures sound { OnOk result ((asset : AssetOf) → IsSound asset most (relaying_value self.old) → IsSound asset most
+            (relaying_value self.new)) }
         ensures moves { OnOk result (ServesOrRests Side.Controller most (relaying_value self.old) (relaying_value self.new)) }
         ensures buffer { length buf.new ≡ 4096 }
     {
@@ -211,11 +221,16 @@ impl Relaying {
     ) -> Result<(), Stop>
         requires few { self.old.idle < most }
         requires buffer { length buf.old ≡ 4096 }
-        ensures goes { OnOk result ((asset : AssetOf) (desk : DeskValue) → Goes asset most (Giving Side.Client ∷ Finishing Side.Client ∷ [])
-            (scene (relaying_value self.old) (pair_value P.Pair pair.old) desk) (scene (relaying_value self.new) (pair_value P.Pair pair.new) desk)) }
-        ensures stops { IfErr result (λ stop. (asset : AssetOf) (desk : DeskValue) → Stops asset most (Giving Side.Client ∷ Finishing Side.Client ∷ []) stop
-            (scene (relaying_value self.old) (pair_value P.Pair pair.old) desk) (scene (relaying_value self.new) (pair_value P.Pair pair.new) desk)) }
-        ensures sound { OnOk result ((asset : AssetOf) → IsSound asset most (relaying_value self.old) → IsSound asset most (relaying_value self.new)) }
+        ensures goes { OnOk result ((asset : AssetOf) (desk : DeskValue) → DoesBetween asset most
+            (Giving Side.Client ∷ Finishing Side.Client ∷ [])
+            (scene (relaying_value self.old) (pair_value P.Pair pair.old) desk)
+            (scene (relaying_value self.new) (pair_value P.Pair pair.new) desk)) }
+        ensures stops { IfErr result (λ stop. (asset : AssetOf) (desk : DeskValue) → StopsBetween asset most
+            (Giving Side.Client ∷ Finishing Side.Client ∷ []) stop
+            (scene (relaying_value self.old) (pair_value P.Pair pair.old) desk)
+            (scene (relaying_value self.new) (pair_value P.Pair pair.new) desk)) }
+        ensures sound { OnOk result ((asset : AssetOf) → IsSound asset most (relaying_value self.old) → IsSound asset most
+            (relaying_value self.new)) }
         ensures moves { OnOk result (ServesOrRests Side.Client most (relaying_value self.old) (relaying_value self.new)) }
         ensures buffer { length buf.new ≡ 4096 }
     {

@@ -7,7 +7,7 @@ ghost use Rattle.cf_outside.specs.Pair.{Ended, Got};
 ghost use Rattle.cf_policy.specs.Within.{IsAssetWithin};
 ghost use Rattle.cf_lane.specs.Handled.{HasRoom, IsLaneOf, IsOpen, WritesLog, debt, state};
 ghost use Rattle.cf_relay.specs.Scene.{RoseBy};
-ghost use Rattle.cf_relay.specs.Taken.{Hears, MayTakeNow, MissesLine, StaysWhole, TakesBy, take_state};
+ghost use Rattle.cf_relay.specs.Taken.{IsHeard, MayTakeNow, MissesLine, StaysWhole, TakesBy, take_state};
 
 use crate::stop::{Stop, count_idle};
 use arrayvec::ArrayVec;
@@ -66,8 +66,10 @@ fn feed_lane<D: Desk>(
     requires controller_room { HasRoom (debt lane.old + 2 * length (heard.old.rest.items ++ bytes.now)) to_controller.old }
     requires counts { lane.old.admitted + lane.old.refused + length (heard.old.rest.items ++ bytes.now) < 2 ^ 64 }
     requires letters { heard.old.letters + length bytes.now < 2 ^ 64 }
-    ensures hears { IfOk result (λ cut. Hears asset.now moment side (Got side bytes.now) cut heard.old.rest.items heard.new.rest.items
-        (state lane.old to_client.old to_controller.old (DeskValue.lines (D.value desk.old))) (state lane.new to_client.new to_controller.new (DeskValue.lines (D.value desk.new)))) }
+    ensures hears { IfOk result (λ cut. IsHeard asset.now moment side
+        (Got side bytes.now) cut heard.old.rest.items heard.new.rest.items
+        (state lane.old to_client.old to_controller.old (DeskValue.lines (D.value desk.old)))
+        (state lane.new to_client.new to_controller.new (DeskValue.lines (D.value desk.new)))) }
     ensures misses { OnErr result (MissesLine asset.now moment side (Got side bytes.now) heard.old.rest.items
         (state lane.old to_client.old to_controller.old (DeskValue.lines (D.value desk.old))) (D.value desk.new)) }
     ensures letters { heard.new.letters ≡ heard.old.letters + length bytes.now }
@@ -107,8 +109,9 @@ fn end_lane<D: Desk>(
     requires controller_limit { to_controller.old.pushed < 2 ^ 31 }
     requires letters { heard.old.letters + 1 < 2 ^ 64 }
     requires little { length heard.old.rest.items < 300 }
-    ensures hears { OnOk result (Hears asset.now moment side (Ended side) None heard.old.rest.items heard.new.rest.items
-        (state lane.old to_client.old to_controller.old (DeskValue.lines (D.value desk.old))) (state lane.new to_client.new to_controller.new (DeskValue.lines (D.value desk.new)))) }
+    ensures hears { OnOk result (IsHeard asset.now moment side (Ended side) None heard.old.rest.items heard.new.rest.items
+        (state lane.old to_client.old to_controller.old (DeskValue.lines (D.value desk.old)))
+        (state lane.new to_client.new to_controller.new (DeskValue.lines (D.value desk.new)))) }
     ensures misses { OnErr result (MissesLine asset.now moment side (Ended side) heard.old.rest.items
         (state lane.old to_client.old to_controller.old (DeskValue.lines (D.value desk.old))) (D.value desk.new)) }
     ensures letters { heard.new.letters ≡ heard.old.letters + 1 }
@@ -160,12 +163,15 @@ pub(crate) fn take_from<P: Pair, D: Desk>(
     requires few { idle.old < most }
     requires buffer { length buf.old ≡ 4096 }
     ensures takes { TakesBy asset.now moment most side
-        (take_state (state lane.old to_client.old to_controller.old (DeskValue.lines (D.value desk.old))) heard.old.rest.items heard.old.letters idle.old (P.told pair.old))
-        (take_state (state lane.new to_client.new to_controller.new (DeskValue.lines (D.value desk.new))) heard.new.rest.items heard.new.letters idle.new (P.told pair.new))
+        (take_state (state lane.old to_client.old to_controller.old
+        (DeskValue.lines (D.value desk.old))) heard.old.rest.items heard.old.letters idle.old (P.told pair.old))
+        (take_state (state lane.new to_client.new to_controller.new
+        (DeskValue.lines (D.value desk.new))) heard.new.rest.items heard.new.letters idle.new (P.told pair.new))
         (D.value desk.new) result }
     ensures whole { StaysWhole result (D.value desk.new) }
     ensures log { WritesLog (D.value desk.old) (D.value desk.new) }
-    ensures write { HasCause (DeskValue.faults (D.value desk.old)) (DeskValue.faults (D.value desk.new)) (result ≡ Err Stop.Write) }
+    ensures write { HasCause (DeskValue.faults (D.value desk.old)) (DeskValue.faults (D.value desk.new))
+        (result ≡ Err Stop.Write) }
     ensures link { HasCause (P.faults pair.old) (P.faults pair.new) (result ≡ Err Stop.Link) }
     ensures idles { (start : ℕ) → RoseBy idle.old start (P.idles pair.old) → RoseBy idle.new start (P.idles pair.new) }
     ensures buffer { length buf.new ≡ 4096 }

@@ -18,6 +18,31 @@ const CLIENT: Endpoint = Endpoint {
 const STREAM: [u8; 24] =
     *b"\x00\x01\x00\x00\x00\x06\x01\x06\x00\x32\x00\x64\x00\x01\x00\x00\x00\x06\x01\x06\x00\x28\x00\x64";
 
+/// A direct operate of point 5, which no rule allows.
+const OPERATE: &[u8] =
+    b"\x05\x64\x18\xC4\x0A\x00\x01\x00\x3D\x3A\xC0\xC3\x05\x0C\x01\x17\x01\x05\x03\x01\x64\x00\x00\x00\x64\x00\xE3\xE7\x00\x00\x00\xFF\xFF";
+
+/// The response to it, with status 9.
+const RESPONSE: &[u8] =
+    b"\x05\x64\x1A\x44\x01\x00\x0A\x00\xAF\x5D\xC0\xC3\x81\x00\x00\x0C\x01\x17\x01\x05\x03\x01\x64\x00\x00\x00\xBC\x51\x64\x00\x00\x00\x09\xD7\x92";
+
+/// The asset `rtu`, which allows nothing.
+fn rtu(alloc: Global) -> Asset
+    ensures within { IsAssetWithin result }
+{
+    Asset {
+        name: Name::from_text("rtu"),
+        endpoint: Endpoint {
+            address: 0x0A00_000A,
+            port: 20000,
+        },
+        protocol: Protocol::Dnp3,
+        station: 10,
+        master: 1,
+        rules: Items::new(Vec::new(alloc)),
+    }
+}
+
 /// The list of one span.
 fn one(alloc: Global, low: i64, high: i64) -> Result<Items<Span>, AllocError>
     ensures { IfOk result (λ spans. spans ≡ record { low = low; high = high } ∷ []) }
@@ -214,5 +239,28 @@ fn gives_in_pieces_and_over_idle(rt: HostRuntime) -> Result<(), TestFail> {
         given(&pair, Side::Client, alloc)?.as_slice()
             == b"\x00\x01\x00\x00\x00\x03\x01\x86\x02".as_slice()
     );
+    Ok(())
+}
+
+#[test]
+fn a_refused_direct_operate_is_answered(rt: HostRuntime) -> Result<(), TestFail> {
+    let alloc = rt.alloc();
+    let asset = rtu(alloc);
+    let mut files = MemoryFiles::new(alloc);
+    let mut pair = MemoryPair::new(alloc);
+    pair.client = CLIENT;
+    pair.from_client.extend_from_slice(OPERATE)?;
+    pair.moments.push(5)?;
+    let done = relay(alloc, &asset, 1502, 5, "l", &mut pair, &mut files);
+    assert_eq!(rt;
+        done,
+        Ok(RelayDone {
+            end: RelayEnd::Done,
+            admitted: 0,
+            refused: 1
+        })
+    );
+    assert!(rt; given(&pair, Side::Controller, alloc)?.is_empty());
+    assert!(rt; given(&pair, Side::Client, alloc)?.as_slice() == RESPONSE);
     Ok(())
 }

@@ -36,7 +36,7 @@ use std::alloc::Global;
 /// were given all, or the session is cut, or twice `idles` answers `Idle` came with no answer between them that moves a
 /// letter. `idles` is from 1 to 1,000,000. The log is created before the client is met. It gets a line as the session begins,
 /// one for each command that is refused and each stray or partial item, and one as the session closes or is cut, each with
-/// the greatest moment that the pair has told so far, in microseconds. This project's own, as `README.md` has it.
+/// the greatest moment that the pair has told so far, in microseconds. This project's own.
 ///
 /// After a fault every line that the log was to get before stands there: `Link`: a call on the pair failed, and no further
 /// was made. `Write`: the log could not be created or appended to; it may have a beginning of the line that failed.
@@ -53,7 +53,8 @@ pub fn relay<P: Pair, F: Files>(
     requires within { IsAssetWithin asset.now }
     requires idles { (1 ≤ idles) × (idles ≤ 1000000) }
     ensures ends { (answers : List Entry) × (P.told pair.new ≡ with_answers (P.told pair.old) answers)
-        × RelayEnds asset.now (2 * idles) (file_log (F.content files.old log.now) (F.content files.new log.now)) (F.content files.new log.now ≡ F.content files.old log.now) answers result }
+        × RelayEnds asset.now (2 * idles) (file_log (F.content files.old log.now) (F.content files.new log.now))
+        (F.content files.new log.now ≡ F.content files.old log.now) answers result }
     ensures idle { IdlesRose (2 * idles) (P.idles pair.old) (P.idles pair.new) result }
     ensures link { HasCause (P.faults pair.old) (P.faults pair.new) (result ≡ Err RelayFault.Link) }
     ensures write { HasCause (F.write_faults files.old) (F.write_faults files.new) (result ≡ Err RelayFault.Write) }
@@ -103,7 +104,8 @@ fn relay_logged<P: Pair, F: Files>(
     requires client_stands { IsQueueOf to_client no_letters }
     requires controller_stands { IsQueueOf to_controller no_letters }
     requires created { (first : Content) × (F.content files.old log.now ≡ content_after_create first) }
-    ensures ends { (first : Content) → F.content files.old log.now ≡ content_after_create first → (answers : List Entry) × (P.told pair.new ≡ with_answers (P.told pair.old) answers)
+    ensures ends { (first : Content) → F.content files.old log.now ≡ content_after_create first → (answers : List Entry) ×
+        (P.told pair.new ≡ with_answers (P.told pair.old) answers)
         × RelayEnds asset.now most (file_log first (F.content files.new log.now)) ⊥ answers result }
     ensures idle { IdlesRose most (P.idles pair.old) (P.idles pair.new) result }
     ensures link { HasCause (P.faults pair.old) (P.faults pair.new) (result ≡ Err RelayFault.Link) }
@@ -150,7 +152,8 @@ fn relay_desk<P: Pair, D: Desk>(
         × RelayEnds asset.now most (desk_log (DeskValue.lines (D.value desk.old)) (D.value desk.new)) ⊥ answers result }
     ensures idle { IdlesRose most (P.idles pair.old) (P.idles pair.new) result }
     ensures link { HasCause (P.faults pair.old) (P.faults pair.new) (result ≡ Err RelayFault.Link) }
-    ensures write { HasCause (DeskValue.faults (D.value desk.old)) (DeskValue.faults (D.value desk.new)) (result ≡ Err RelayFault.Write) }
+    ensures write { HasCause (DeskValue.faults (D.value desk.old)) (DeskValue.faults (D.value desk.new))
+        (result ≡ Err RelayFault.Write) }
     ensures log { WritesLog (D.value desk.old) (D.value desk.new) }
 {
     let client = match pair.meet(listen, asset.endpoint) {
@@ -222,14 +225,17 @@ fn relay_turns<P: Pair, D: Desk>(
     requires still { AreClosed (relaying_value relaying) → ⊥ }
     requires whole { DeskValue.whole (D.value desk.old) ≡ true }
     ensures ends { (base : Option (List (List ℕ))) (m : ℕ)
-        → StandsFor asset.now (with_lines base (line_about asset.now client m Begun ∷ [])) (Met client ∷ Moment m ∷ []) (relaying_value relaying) (DeskValue.lines (D.value desk.old))
+        → StandsFor asset.now (with_lines base (line_about asset.now client m Begun ∷ [])) (Met client ∷ Moment m ∷ [])
+        (relaying_value relaying) (DeskValue.lines (D.value desk.old))
         → (answers : List Entry) × (P.told pair.new ≡ with_answers (P.told pair.old) answers)
         × RelayEnds asset.now most (desk_log base (D.value desk.new)) ⊥ (Met client ∷ Moment m ∷ answers) result }
     ensures idle { (base : Option (List (List ℕ))) (m : ℕ)
-        → StandsFor asset.now (with_lines base (line_about asset.now client m Begun ∷ [])) (Met client ∷ Moment m ∷ []) (relaying_value relaying) (DeskValue.lines (D.value desk.old))
+        → StandsFor asset.now (with_lines base (line_about asset.now client m Begun ∷ [])) (Met client ∷ Moment m ∷ [])
+        (relaying_value relaying) (DeskValue.lines (D.value desk.old))
         → (start : ℕ) → RoseBy relaying.idle start (P.idles pair.old) → IdlesRose most start (P.idles pair.new) result }
     ensures link { HasCause (P.faults pair.old) (P.faults pair.new) (result ≡ Err RelayFault.Link) }
-    ensures write { HasCause (DeskValue.faults (D.value desk.old)) (DeskValue.faults (D.value desk.new)) (result ≡ Err RelayFault.Write) }
+    ensures write { HasCause (DeskValue.faults (D.value desk.old)) (DeskValue.faults (D.value desk.new))
+        (result ≡ Err RelayFault.Write) }
     ensures log { WritesLog (D.value desk.old) (D.value desk.new) }
 {
     let mut buf = [0u8; 4096];
@@ -262,7 +268,8 @@ impl Relaying {
         requires whole { DeskValue.whole (D.value desk.old) ≡ true }
         ensures closes { ClosesWith asset.now client (relaying_value self.now) (D.value desk.old) (D.value desk.new) result }
         ensures log { WritesLog (D.value desk.old) (D.value desk.new) }
-        ensures write { HasCause (DeskValue.faults (D.value desk.old)) (DeskValue.faults (D.value desk.new)) (result ≡ Err RelayFault.Write) }
+        ensures write { HasCause (DeskValue.faults (D.value desk.old)) (DeskValue.faults (D.value desk.new))
+            (result ≡ Err RelayFault.Write) }
     {
         let what = What::Close {
             admitted: self.lane.admitted(),
@@ -287,7 +294,8 @@ impl Relaying {
         ensures stops { StopsWith asset.now client (relaying_value self.now) stop (D.value desk.old) (D.value desk.new) result }
         ensures log { WritesLog (D.value desk.old) (D.value desk.new) }
         ensures later { DeskValue.faults (D.value desk.old) ≤ DeskValue.faults (D.value desk.new) }
-        ensures write { IsCutLost stop (DeskValue.faults (D.value desk.old)) (DeskValue.faults (D.value desk.new)) (result ≡ Err RelayFault.Write) }
+        ensures write { IsCutLost stop (DeskValue.faults (D.value desk.old)) (DeskValue.faults (D.value desk.new))
+            (result ≡ Err RelayFault.Write) }
     {
         match stop {
             Stop::Idle => Ok(self.done(RelayEnd::IdleEnd)),

@@ -3,7 +3,7 @@ ghost use Rattle.std.specs.Prelude.{◌≡◌, ℕ, ◌<◌, ◌⊎◌, [], ◌�
 ghost use Rattle.cf_outside.specs.Desk.{DeskValue};
 ghost use Rattle.cf_policy.specs.Within.{IsAssetWithin};
 ghost use Rattle.cf_relay.specs.Relaying.{AreClosed, IsSound, ListensOrRests, progress, relaying_value};
-ghost use Rattle.cf_relay.specs.Scene.{Goes, Stops, scene_of};
+ghost use Rattle.cf_relay.specs.Scene.{DoesBetween, StopsBetween, scene_of};
 ghost use Rattle.cf_relay.specs.Taken.{StaysWhole};
 ghost use Rattle.cf_relay.specs.Turn.{Taking, Telling, turn, turns};
 
@@ -28,9 +28,9 @@ impl Relaying {
         requires still { AreClosed (relaying_value self.old) → ⊥ }
         requires whole { DeskValue.whole (D.value desk.old) ≡ true }
         requires buffer { length buf.old ≡ 4096 }
-        ensures goes { OnOk result ((n : ℕ) × Goes asset.now most (turns n)
+        ensures goes { OnOk result ((n : ℕ) × DoesBetween asset.now most (turns n)
             (scene_of P.Pair D.Desk self.old pair.old desk.old) (scene_of P.Pair D.Desk self.new pair.new desk.new)) }
-        ensures stops { IfErr result (λ stop. (n : ℕ) × Stops asset.now most (turns n) stop
+        ensures stops { IfErr result (λ stop. (n : ℕ) × StopsBetween asset.now most (turns n) stop
             (scene_of P.Pair D.Desk self.old pair.old desk.old) (scene_of P.Pair D.Desk self.new pair.new desk.new)) }
         ensures closed { OnOk result (AreClosed (relaying_value self.new)) }
         ensures few { OnOk result (self.new.idle < most) }
@@ -66,12 +66,13 @@ impl Relaying {
         requires still { AreClosed (relaying_value self.old) → ⊥ }
         requires whole { DeskValue.whole (D.value desk.old) ≡ true }
         requires buffer { length buf.old ≡ 4096 }
-        ensures goes { OnOk result (Goes asset.now most turn
+        ensures goes { OnOk result (DoesBetween asset.now most turn
             (scene_of P.Pair D.Desk self.old pair.old desk.old) (scene_of P.Pair D.Desk self.new pair.new desk.new)) }
-        ensures stops { IfErr result (λ stop. Stops asset.now most turn stop
+        ensures stops { IfErr result (λ stop. StopsBetween asset.now most turn stop
             (scene_of P.Pair D.Desk self.old pair.old desk.old) (scene_of P.Pair D.Desk self.new pair.new desk.new)) }
         ensures sound { OnOk result (IsSound asset.now most (relaying_value self.new)) }
-        ensures moves { OnOk result ((progress most (relaying_value self.old) < progress most (relaying_value self.new)) ⊎ AreClosed (relaying_value self.new)) }
+        ensures moves { OnOk result ((progress most (relaying_value self.old) < progress most (relaying_value self.new))
+            ⊎ AreClosed (relaying_value self.new)) }
         ensures whole { StaysWhole result (D.value desk.new) }
         ensures buffer { length buf.new ≡ 4096 }
     {
@@ -94,9 +95,10 @@ impl Relaying {
         requires still { AreClosed (relaying_value self.old) → ⊥ }
         requires whole { DeskValue.whole (D.value desk.old) ≡ true }
         requires buffer { length buf.old ≡ 4096 }
-        ensures goes { OnOk result (Goes asset.now most (Telling ∷ Taking Side.Client ∷ Taking Side.Controller ∷ [])
+        ensures goes { OnOk result (DoesBetween asset.now most (Telling ∷ Taking Side.Client ∷ Taking Side.Controller ∷ [])
             (scene_of P.Pair D.Desk self.old pair.old desk.old) (scene_of P.Pair D.Desk self.new pair.new desk.new)) }
-        ensures stops { IfErr result (λ stop. Stops asset.now most (Telling ∷ Taking Side.Client ∷ Taking Side.Controller ∷ []) stop
+        ensures stops { IfErr result (λ stop. StopsBetween asset.now most
+            (Telling ∷ Taking Side.Client ∷ Taking Side.Controller ∷ []) stop
             (scene_of P.Pair D.Desk self.old pair.old desk.old) (scene_of P.Pair D.Desk self.new pair.new desk.new)) }
         ensures sound { OnOk result (IsSound asset.now most (relaying_value self.new)) }
         ensures moves { OnOk result (ListensOrRests most (relaying_value self.old) (relaying_value self.new)) }

@@ -19,7 +19,7 @@ gives-preserved g c =
     let e = c.in-Took.ensures.entry in
     record {
       pieces = inv.pieces ++ take c.in-Took.took _ ∷ [];
-      took = took_step c.args.side _ _ _ _ inv.pieces c.copy_front-n.result c.in-Took.took inv.took c.copy_front-n.ensures.bytes e.0 e.1 c.take_front.ensures.kept;
+      took = took_step c.args.side _ _ _ _ inv.pieces c.copy_front-n.result c.in-Took.took inv.took c.copy_front-n.ensures.bytes (omega (arith, c.copy_front-n.ensures.count, inv.buffer)) e.0 e.1 c.take_front.ensures.kept;
       tells = tells_step c.args.side _ _ _ inv.pieces _ inv.tells e.2;
       counts = idles_took c.args.side _ inv.pieces _;
       acked = c.take_front.ensures.acked ∙ acked_step _ _ c.in-Took.took _ inv.pieces inv.acked e.1;

@@ -1,6 +1,6 @@
 use Rattle.std.proofs.Common.{ℕ, length, true, ◌*◌, ◌-◌, ◌^◌, ◌≡◌}
 use Rattle.cf_relay.specs.Relaying.{AreClosed, IsSound, progress, relaying_value}
-use Rattle.cf_relay.specs.Scene.{Goes, pair_value, scene}
+use Rattle.cf_relay.specs.Scene.{DoesBetween, pair_value, scene}
 use Rattle.cf_relay.specs.Turn.{turns}
 use Rattle.cf_relay.proofs.relaying.Relaying.run.Given as goal
 
@@ -8,7 +8,7 @@ abbrev pub invariant-turns : goal.invariant-turns
 invariant-turns g l =
     record {
       count : ℕ;
-      goes : Goes l.fn.asset l.most (turns count)
+      goes : DoesBetween l.fn.asset l.most (turns count)
           (scene (relaying_value l.fn.self) (pair_value g.P.Pair l.fn.pair) (g.D.Desk.value l.fn.desk))
           (scene (relaying_value l.self) (pair_value g.P.Pair l.pair) (g.D.Desk.value l.desk));
       sound : IsSound l.fn.asset l.most (relaying_value l.self);
