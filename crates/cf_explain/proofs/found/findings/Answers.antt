@@ -1,4 +1,4 @@
-use Rattle.std.proofs.Common.{◌≡◌, [], ◌∷◌, ◌++◌, All, IfOk, refl, sym, subst}
+use Rattle.std.proofs.Common.{◌≡◌, [], All, IfOk, refl, sym, subst}
 use Rattle.std.proofs.lemmas.List.Elements.{All-nil, All-push}
 use Rattle.cf_explain.specs.Rules.{Holds, IsSound}
 use Rattle.cf_explain.proofs.Codes.{same_rule}
