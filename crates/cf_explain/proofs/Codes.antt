@@ -1,5 +1,5 @@
 -- What is found of a rule, code by code and put together.
-use Rattle.std.proofs.Common.{◌≡◌, ℕ, ◌<◌, ◌≤◌, pos, true, List, [], ◌++◌, Option, Some, None, IfSome, All, get_or, slice_get, refl, sym, ap, ◌∙◌, arith, append-nil}
+use Rattle.std.proofs.Common.{◌≡◌, ℕ, ◌+◌, ◌<◌, ◌≤◌, pos, true, List, [], ◌∷◌, ◌++◌, Option, Some, None, IfSome, All, get_or, slice_get, is_none, refl, sym, subst, ap, ◌∙◌, arith, append-nil}
 use mathlib.Core.Logic.{⊎_elim}
 use Rattle.std.specs.List.{list_any}
 use Rattle.std.proofs.lemmas.Bool.{true≢false, and_parts, cases_lt, false_from_ne_true}
@@ -57,3 +57,17 @@ some_weaker P Q (Some x) step h = step x h
 -- a rule that was read at a number is the one that stands there
 pub same_rule : (rules read : List Rule) (n : ℕ) (r q : Rule) → read ≡ rules → q ≡ get_or read n q → slice_get rules n ≡ Some r → q ≡ r
 same_rule rules read n r q lent is here = is ∙ (ap (λ xs. get_or xs n q) lent ∙ get_or_from_slice_get rules n r q here)
+
+-- where nothing stands in the end, nothing stood there and nothing was added
+pub none_added : (found : List What) (what : Option What) → found ++ listed what ≡ [] → (found ≡ []) × (is_none what ≡ true)
+none_added [] None e = (refl, refl)
+none_added [] (Some what) e = cc
+none_added (f ∷ found) None e = cc
+none_added (f ∷ found) (Some what) e = cc
+
+-- what holds of all numbers below one and of that one holds of all below the next
+pub one_more : (P : ℕ → Type 0) (n : ℕ) → ((k : ℕ) → k < n → P k) → P n → (k : ℕ) → k < n + 1 → P k
+one_more P n below here k lt = ⊎_elim
+    (λ early. below k early)
+    (λ late. subst P (omega (arith, late, lt)) here)
+    (cases_lt k n)

@@ -1,13 +1,16 @@
 -- Rules that decide nothing, or less than they seem to: what a finding says of a rule is Holds.
-use Rattle.std.specs.Prelude.{◌≡◌, ◌≢◌, ℕ, ◌<◌, false, List, [], ◌∷◌, Option, Some, None}
+use Rattle.std.specs.Prelude.{◌≡◌, ◌≢◌, ℕ, ◌<◌, false, List, [], ◌∷◌, Option, Some, None, pos, take, position, true}
+use Rattle.std.specs.List.{list_any}
 use Rattle.cf_view.specs.declared.base.Act.{Act}
 use Rattle.cf_policy.specs.declared.policy.Protocol.{Protocol}
 use Rattle.cf_policy.specs.declared.policy.Rule.{Rule}
 use Rattle.cf_policy.specs.declared.policy.Asset.{Asset}
-use Rattle.cf_policy.specs.Verdict.{has_act, first_number}
+use Rattle.cf_policy.specs.Verdict.{takes, has_act, first_number}
 use Rattle.cf_explain.specs.declared.found.What.{What}
 use Rattle.cf_explain.specs.declared.found.What.TheVariants as what
+use Rattle.cf_explain.specs.Acts.{kinds}
 use Rattle.cf_explain.specs.Commands.{IsOfCommand}
+use Rattle.cf_explain.specs.Meets.{meets, includes_rule}
 
 -- no act with this code that a command of the protocol has is the rule's
 abbrev pub NeverHas : Protocol → Rule → ℕ → Type 0
@@ -36,3 +39,15 @@ Holds asset number rule (what.Covered earlier) = (earlier < number) × NeverDeci
 abbrev pub listed : Option What → List What
 listed None = []
 listed (Some found) = found ∷ []
+
+-- some kind of acts of each of the rule's codes meets it
+abbrev pub IsMet : Protocol → Rule → Type 0
+IsMet protocol rule = (code : ℕ) → code < 256 → takes rule.codes (pos code) ≡ true → list_any (meets rule) (kinds protocol code) ≡ true
+
+-- the first rule before that of a number which includes this rule
+abbrev pub first_including : List Rule → ℕ → Rule → Option ℕ
+first_including rules number rule = position (λ r. includes_rule r rule) (take number rules)
+
+-- there is nothing to find: each code is met, and no earlier rule includes the rule
+abbrev pub IsSound : Asset → ℕ → Rule → Type 0
+IsSound asset number rule = IsMet asset.protocol rule × (first_including asset.rules number rule ≡ None)

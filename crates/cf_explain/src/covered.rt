@@ -1,8 +1,9 @@
 //! Rules that an earlier rule covers.
-ghost use Rattle.std.specs.Prelude.{◌≡◌, ◌<◌, IfSome, length, position};
+ghost use Rattle.std.specs.Prelude.{◌≡◌, ◌<◌, IfSome, Some, length, position, slice_get};
+ghost use Rattle.cf_policy.specs.declared.policy.Rule.{Rule};
 ghost use Rattle.std.specs.List.{list_all, list_any};
 ghost use Rattle.cf_explain.specs.Meets.{includes, includes_rule, is_inside, is_inside_some};
-ghost use Rattle.cf_explain.specs.Rules.{NeverDecides};
+ghost use Rattle.cf_explain.specs.Rules.{NeverDecides, first_including};
 
 use cf_policy::{Items, Rule, Span};
 
@@ -12,6 +13,7 @@ pub fn covering(rules: &[Rule], number: usize) -> Option<usize>
     requires { number < length rules.now }
     ensures before { IfSome result (λ earlier. earlier < number) }
     ensures never { IfSome result (λ _. NeverDecides rules.now number) }
+    ensures first { (rule : Rule) → slice_get rules.now number ≡ Some rule → result ≡ first_including rules.now number rule }
 {
     let rule = &rules[number];
     first_covering(&rules[..number], rule)

@@ -1,10 +1,12 @@
 //! What is found of rules that decide nothing, or less than they seem to.
-ghost use Rattle.std.specs.Prelude.{◌≡◌, ℕ, ◌<◌, ◌++◌, All, IfOk, IfSome, IsTrue, OnOk, Some, false, true, length, pos, slice_get};
+ghost use Rattle.std.specs.Prelude.{◌≡◌, ℕ, ◌<◌, [], ◌++◌, All, IfOk, IfSome, IsTrue, None, OnOk, Some, false, is_none, length, pos, slice_get, true};
 ghost use Rattle.std.specs.List.{list_any};
 ghost use Rattle.cf_policy.specs.declared.policy.Asset.{Asset};
 ghost use Rattle.cf_policy.specs.declared.policy.Rule.{Rule};
 ghost use Rattle.cf_policy.specs.Verdict.{covers, takes};
-ghost use Rattle.cf_explain.specs.Rules.{Holds, NeverHas, NeverMeets, WantsValue, listed};
+ghost use Rattle.cf_explain.specs.Acts.{kinds};
+ghost use Rattle.cf_explain.specs.Meets.{meets};
+ghost use Rattle.cf_explain.specs.Rules.{Holds, IsMet, IsSound, NeverHas, NeverMeets, WantsValue, first_including, listed};
 
 use crate::covered::covering;
 use crate::unmet::{Unmet, why_unmet};
@@ -31,7 +33,9 @@ pub enum What {
 /// command brings, that it wants values where reads have none, and that an earlier rule covers it.
 pub fn findings(alloc: Global, asset: &Asset, number: usize) -> Result<Vec<What>, AllocError>
     requires { number < length asset.now.rules }
-    ensures { (rule : Rule) → slice_get asset.now.rules number ≡ Some rule → IfOk result (λ found. All (Holds asset.now number rule) found.items) }
+    ensures so { (rule : Rule) → slice_get asset.now.rules number ≡ Some rule → IfOk result (λ found. All (Holds asset.now number rule) found.items) }
+    ensures nothing { (rule : Rule) → slice_get asset.now.rules number ≡ Some rule
+        → IfOk result (λ found. found.items ≡ [] → IsSound asset.now number rule) }
 {
     let rule = &asset.rules.as_slice()[number];
     match whole_finding(asset.protocol, rule) {
@@ -58,8 +62,10 @@ fn partial_findings(
     number: usize,
     rule: &Rule,
 ) -> Result<Vec<What>, AllocError>
-    requires { number < length asset.now.rules }
-    ensures { IfOk result (λ found. All (Holds asset.now number rule.now) found.items) }
+    requires inside { number < length asset.now.rules }
+    requires rule { slice_get asset.now.rules number ≡ Some rule.now }
+    ensures so { IfOk result (λ found. All (Holds asset.now number rule.now) found.items) }
+    ensures nothing { IfOk result (λ found. found.items ≡ [] → IsSound asset.now number rule.now) }
 {
     let mut found = code_findings(alloc, asset, number, rule)?;
     put(&mut found, reads_finding(asset.protocol, rule))?;
@@ -80,7 +86,8 @@ fn put(found: &mut Vec<What>, what: Option<What>) -> Result<(), AllocError>
 /// That an earlier rule covers the rule of a number.
 fn covered_finding(asset: &Asset, number: usize) -> Option<What>
     requires { number < length asset.now.rules }
-    ensures { IfSome result (λ what. (rule : Rule) → Holds asset.now number rule what) }
+    ensures so { IfSome result (λ what. (rule : Rule) → Holds asset.now number rule what) }
+    ensures none { (rule : Rule) → slice_get asset.now.rules number ≡ Some rule → is_none result ≡ true → first_including asset.now.rules number rule ≡ None }
 {
     let earlier = covering(asset.rules.as_slice(), number)?;
     Some(What::Covered(earlier))
@@ -93,7 +100,8 @@ fn code_findings(
     number: usize,
     rule: &Rule,
 ) -> Result<Vec<What>, AllocError>
-    ensures { IfOk result (λ found. All (Holds asset.now number rule.now) found.items) }
+    ensures so { IfOk result (λ found. All (Holds asset.now number rule.now) found.items) }
+    ensures nothing { IfOk result (λ found. found.items ≡ [] → IsMet asset.now.protocol rule.now) }
 {
     let mut found = Vec::new(alloc);
     for code in 0..CODES {
@@ -103,7 +111,8 @@ fn code_findings(
 }
 
 fn code_finding(protocol: Protocol, rule: &Rule, code: u16) -> Option<What>
-    ensures { IfSome result (λ what. (asset : Asset) (number : ℕ) → asset.protocol ≡ protocol → Holds asset number rule.now what) }
+    ensures so { IfSome result (λ what. (asset : Asset) (number : ℕ) → asset.protocol ≡ protocol → Holds asset number rule.now what) }
+    ensures none { is_none result ≡ true → takes rule.now.codes (pos code) ≡ true → list_any (meets rule.now) (kinds protocol code) ≡ true }
 {
     let why = missed_code(protocol, rule, code)?;
     Some(What::Code(code, why))
@@ -111,7 +120,8 @@ fn code_finding(protocol: Protocol, rule: &Rule, code: u16) -> Option<What>
 
 /// Why no command brings a code of a rule; nothing where one does, or the rule does not have the code.
 fn missed_code(protocol: Protocol, rule: &Rule, code: u16) -> Option<Unmet>
-    ensures { IfSome result (λ _. NeverHas protocol rule.now code) }
+    ensures never { IfSome result (λ _. NeverHas protocol rule.now code) }
+    ensures none { is_none result ≡ true → takes rule.now.codes (pos code) ≡ true → list_any (meets rule.now) (kinds protocol code) ≡ true }
 {
     if !has_code(&rule.codes, code) {
         return None;

@@ -1,6 +1,7 @@
 //! Codes of a rule that no command brings.
-ghost use Rattle.std.specs.Prelude.{◌≡◌, IfSome};
+ghost use Rattle.std.specs.Prelude.{◌≡◌, IfSome, is_none};
 ghost use Rattle.std.specs.List.{list_any};
+ghost use Rattle.cf_explain.specs.Acts.{kinds};
 ghost use Rattle.cf_explain.specs.Meets.{overlaps, reaches, reaches_groups, reaches_values, meets};
 ghost use Rattle.cf_explain.specs.Rules.{NeverHas};
 
@@ -25,7 +26,8 @@ pub enum Unmet {
 /// Why a rule has no act with this code that a command of the protocol can have, if it has none. Each list is judged by
 /// itself. Nothing is said of a rule that has some such act.
 pub fn why_unmet(protocol: Protocol, rule: &Rule, code: u16) -> Option<Unmet>
-    ensures { IfSome result (λ _. NeverHas protocol rule.now code) }
+    ensures never { IfSome result (λ _. NeverHas protocol rule.now code) }
+    ensures exact { is_none result ≡ list_any (meets rule.now) (kinds protocol code) }
 {
     let kinds = kinds(protocol, code);
     if some_meets(rule, kinds) {
