@@ -6,7 +6,7 @@ mod reader;
 mod same;
 mod writer;
 
-use crate::files::reader::{Reader, read_from};
+use crate::files::reader::{Reader, forget, read_from};
 use crate::files::same::{Place, place_of, twin_of};
 use crate::files::writer::{Writer, append_to, create_file, flush_all, flush_one};
 use cf_outside::{Files, ReadAnswer, WriteAnswer};
@@ -31,7 +31,8 @@ pub struct Fault {
     pub error: io::Error,
 }
 
-/// The files of the machine. They tell nothing of what they hold. Failures are counted. A file stays open between calls.
+/// The files of the machine. They tell nothing of what they hold. Failures are counted. A file stays open between calls, and is
+/// read ahead.
 /// A file that two of the command's names stand for is never made empty.
 #[derive(Drop)]
 pub struct RealFiles<'a, R: FileSystem> {
@@ -118,6 +119,7 @@ impl<'a, R: FileSystem> RealFiles<'a, R> {
             self.twins = Some(twins);
             return Err(io::Error::from(io::ErrorKind::AlreadyExists));
         }
+        forget(&mut self.reader, name);
         create_file(self.rt, self.alloc, &mut self.writers, name)?;
         self.expect(name)
     }
@@ -170,6 +172,7 @@ impl<R: FileSystem> Files for RealFiles<'_, R> {
     }
 
     fn append(&mut self, name: &str, bytes: &[u8]) -> WriteAnswer {
+        forget(&mut self.reader, name);
         match append_to(
             self.rt,
             self.alloc,

@@ -4,15 +4,18 @@ ghost use Rattle.std.specs.Prelude.{◌≤◌, IfOk, length};
 use std::alloc::Global;
 use std::fs::OpenOptions;
 use std::io;
-use std::io::{Read, Seek, SeekFrom};
+use std::io::{BufReader, Read, Seek, SeekFrom};
 use std::rt::Files as FileSystem;
 
-/// A file that is kept open between calls, with its name and the place at which it stands.
+/// How many bytes are read ahead at most.
+const PIECE: usize = 65_536;
+
+/// A file that is kept open between calls, with its name and the place at which it stands for whoever reads it.
 #[derive(Drop)]
 pub(crate) struct Reader<F: Drop> {
     name: String,
     at: u64,
-    file: F,
+    file: BufReader<F>,
 }
 
 /// Reads at a place, by the file that is open if it is this one and stands there.
@@ -31,7 +34,11 @@ pub(crate) fn read_from<R: FileSystem>(
         _ => Reader {
             name: String::from_str(alloc, name)?,
             at: 0,
-            file: OpenOptions::new().read(true).open(rt, name)?,
+            file: BufReader::with_capacity(
+                alloc,
+                PIECE,
+                OpenOptions::new().read(true).open(rt, name)?,
+            )?,
         },
     };
     if opened.at != at {
@@ -41,4 +48,13 @@ pub(crate) fn read_from<R: FileSystem>(
     opened.at = opened.at.saturating_add(count as u64);
     *reader = Some(opened);
     Ok(count)
+}
+
+/// Closes the file if it has this name, so that nothing that was read ahead is told once other bytes stand in it.
+pub(crate) fn forget<F: Drop>(reader: &mut Option<Reader<F>>, name: &str) {
+    if let Some(opened) = reader
+        && opened.name.as_str() == name
+    {
+        *reader = None;
+    }
 }

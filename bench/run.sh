@@ -1,0 +1,100 @@
+#!/usr/bin/env bash
+# The processor time of `cmdwall run` on a capture of Modbus round trips, beside that of `tcpdump -n -r` on the same file in the
+# same run (left out where it is missing); its memory; and its time on the same number of round trips spread over 200 open
+# sessions. Ratios, and no promise. Word: the number of round trips (300,000).
+set -eu
+top=$(cd "$(dirname "$0")/.." && pwd)
+work=$(mktemp -d)
+trap 'rm -rf "$work"' EXIT
+"$top/cmdwall" --version > /dev/null
+PYTHONDONTWRITEBYTECODE=1 python3 - "$top" "$work" "${1:-300000}" <<'PY'
+import os, shutil, struct, subprocess, sys
+
+top, work, trips = sys.argv[1], sys.argv[2], int(sys.argv[3])
+sys.path.insert(0, os.path.join(top, "examples"))
+from make import ACK, PSH, Capture, Session, adu, frame
+
+policy = os.path.join(work, "policy.toml")
+with open(policy, "w") as file:
+    file.write('version = 1\n[[asset]]\nname = "pump"\naddress = "10.0.0.9"\nport = 502\nprotocol = "modbus"\nstation = 1\n'
+               '[[asset.rule]]\nname = "set"\naction = "allow"\ncodes = [6]\npoints = ["40..49"]\nvalues = ["0..500"]\n')
+
+
+class Short(Capture):
+    """Frames ten microseconds apart, kept as a list, so that no session's timer comes to its end between two of its packets."""
+
+    def __init__(self):
+        super().__init__()
+        self.records = [self.octets]
+
+    def add(self, octets):
+        self.records.append(struct.pack("<IIII", self.at // 1_000_000, self.at % 1_000_000, len(octets), len(octets)) + octets)
+        self.at += 10
+
+
+def capture(name, sessions):
+    into = Short()
+    opened = [Session(into, ((10, 0, 0, 5), 49152 + k), ((10, 0, 0, 9), 502), 1000, 5000) for k in range(sessions)]
+    for session in opened:
+        session.open()
+    for trip in range(trips):
+        session = opened[trip % sessions]
+        write = adu(trip % 65536, 1, struct.pack(">BHH", 6, 40 + trip % 10, trip % 500))
+        session.asks(write, write)
+        into.add(frame(session.controller, session.client, session.controller_number + 1 + session.of_controller,
+                       session.client_number + 1 + session.to_controller, PSH | ACK, write))
+        session.of_controller += len(write)
+        session.to_client += len(write)
+    path = os.path.join(work, name)
+    with open(path, "wb") as file:
+        file.writelines(into.records)
+    return path
+
+
+def took(words):
+    """Processor time in seconds, the least of three."""
+    times = []
+    for _ in range(3):
+        with open(os.path.join(work, "printed"), "wb") as printed:
+            child = subprocess.Popen(words, stdout=printed, stderr=subprocess.DEVNULL)
+            _, status, usage = os.wait4(child.pid, 0)
+        if status:
+            sys.exit(f"{words[0]} ended with {status}")
+        times.append(usage.ru_utime + usage.ru_stime)
+    return min(times)
+
+
+def words_of(path):
+    outs = [os.path.join(work, "out"), os.path.join(work, "log")]
+    return [os.path.join(top, "crates", "cmdwall", "out", "cmdwall"), "run", policy, path, *outs]
+
+
+def run(path):
+    seconds = took(words_of(path))
+    with open(os.path.join(work, "printed")) as printed:
+        if f"admitted {trips}\n" not in printed.read():
+            sys.exit("not every command was admitted, and nothing was measured")
+    return seconds
+
+
+def memory(path):
+    """The greatest resident memory, in words. A child of this process would be told with this process's own."""
+    if not shutil.which("/usr/bin/time"):
+        return "memory not measured, as time is missing here"
+    told = subprocess.run(["/usr/bin/time", "-f", "%M", *words_of(path)], stdout=subprocess.DEVNULL, stderr=subprocess.PIPE, check=True)
+    return f"{int(told.stderr.split()[-1]):,} KiB"
+
+
+one = capture("one", 1)
+ours = run(one)
+print(f"run      {ours:.3f} s for {trips:,} round trips, {os.path.getsize(one):,} octets, {memory(one)}")
+if shutil.which("tcpdump"):
+    other = took(["tcpdump", "-n", "-r", one])
+    print(f"tcpdump  {other:.3f} s")
+    print(f"run takes {ours / other:.2f} times the processor time of tcpdump")
+else:
+    print("tcpdump is missing here, and was left out")
+many = capture("many", 200)
+spread = run(many)
+print(f"run      {spread:.3f} s with 200 open sessions, {memory(many)}: {spread / ours:.2f} times that of one session")
+PY
