@@ -32,7 +32,7 @@ module _ (law : RunsHaveHeadline) (failed : Type 0) (status : ℕ) (policy_name 
   holds_by summary run reports is =
       let same : middle.files.content ≡ after.files.content = sym (ap (λ f. f.content) reports.files) in
       let runs : RunsTo run.policy.assets LETTER_LIMIT names before.files.content after.files.content FileEnd run.runs.0 summary =
-          subst (λ c. RunsTo run.policy.assets LETTER_LIMIT names before.files.content c FileEnd run.runs.0 summary) same run.runs.1 in
+      subst (λ c. RunsTo run.policy.assets LETTER_LIMIT names before.files.content c FileEnd run.runs.0 summary) same run.runs.1 in
       record {
         policy = run.policy;
         has = run.has;

@@ -80,7 +80,7 @@ pub run_after : (policy_name : List ℕ) (names : RunNamesValue) (before middle 
     after.sink ≡ before.sink → after.pair ≡ before.pair → Meets (Run policy_name names) before after (run_answer r)
 run_after policy_name names before middle after policy has only r runs others read write sink pair =
     let here : RunsAs policy.assets LETTER_LIMIT names before.files.content after.files.content r =
-        subst (λ c. RunsAs policy.assets LETTER_LIMIT names c after.files.content r) only.content runs in
+    subst (λ c. RunsAs policy.assets LETTER_LIMIT names c after.files.content r) only.content runs in
     run_meets policy_name names before after policy has r
     (record { policy = policy; has = has; runs = here; others = kept_but names before.files.content middle.files.content after.files.content only.content others; sink = sink; pair = pair }) here
     (λ e. let rose = read e in omega (arith, rose, only.reads)) (λ e. let rose = write e in omega (arith, rose, only.writes))

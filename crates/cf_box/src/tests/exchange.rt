@@ -15,7 +15,7 @@
 use super::{Left, octets, run, text};
 use arrayvec::ArrayVec;
 use cf_packet::{ACK, FIN, PSH, Packet, RST, SYN, URG, write_packet};
-use cf_pcap::{write_header, write_record_head};
+use cf_pcap::{CAPTURED_LIMIT, write_header, write_record_head};
 use cf_view::{Endpoint, LinkKind};
 use std::alloc::Global;
 use std::test::Fail as TestFail;
@@ -80,7 +80,20 @@ fn part(alloc: Global, spelled: &str) -> Result<Vec<u8>, TestFail> {
     Ok(part.to_vec(alloc)?)
 }
 
-/// The IPv4 packet of a segment.
+/// The IPv4 packet of a segment that may be written.
+fn written(alloc: Global, packet: &Packet<'_>) -> Result<Vec<u8>, TestFail> {
+    if packet.text.len() > 1460 || packet.flags >= 64 {
+        return Err("text or flags".into());
+    }
+    if packet.mss.is_some() && !packet.text.is_empty() {
+        return Err("text beside a maximum segment size".into());
+    }
+    let mut written = ArrayVec::new();
+    write_packet(packet, &mut written);
+    Ok(written.as_slice().to_vec(alloc)?)
+}
+
+/// The IPv4 packet that a line spells.
 fn segment(alloc: Global, spelled: &str) -> Result<Vec<u8>, TestFail> {
     let mut fields = spelled.splitn(6, ' ');
     let (source, dest) = ends(fields.next().ok_or("who")?)?;
@@ -93,19 +106,20 @@ fn segment(alloc: Global, spelled: &str) -> Result<Vec<u8>, TestFail> {
         Some(size) => (Some(size.parse()?), Vec::new(alloc)),
         None => (None, part(alloc, text)?),
     };
-    let packet = Packet {
-        source,
-        dest,
-        seq,
-        ack,
-        flags,
-        window,
-        mss,
-        text: text.as_slice(),
-    };
-    let mut written = ArrayVec::new();
-    write_packet(&packet, &mut written);
-    Ok(written.as_slice().to_vec(alloc)?)
+    let text = text.as_slice();
+    written(
+        alloc,
+        &Packet {
+            source,
+            dest,
+            seq,
+            ack,
+            flags,
+            window,
+            mss,
+            text,
+        },
+    )
 }
 
 /// What a record holds: the packet alone, or a frame that is filled up to 60 octets.
@@ -136,18 +150,27 @@ fn moment(spelled: &str) -> Result<u64, TestFail> {
     Ok(u64::from(seconds) * 1_000_000 + u64::from(micros))
 }
 
+/// The head of a record of so many octets.
+fn head(moment: u64, len: usize) -> Result<[u8; 16], TestFail> {
+    let len = u32::try_from(len)?;
+    if moment >= 4_294_967_296_000_000 || len > CAPTURED_LIMIT {
+        return Err("moment or length".into());
+    }
+    let mut head = [0; 16];
+    write_record_head(moment, len, &mut head);
+    Ok(head)
+}
+
 /// The records of a line.
 pub(super) fn records(alloc: Global, line: &str, link: LinkKind) -> Result<Vec<u8>, TestFail> {
     let (when, spelled) = line.split_once(' ').ok_or("record")?;
     let (first, times) = when.split_once('~').unwrap_or((when, "1"));
     let first = moment(first)?;
     let body = body(alloc, spelled, link)?;
-    let len = u32::try_from(body.len())?;
     let mut records = Vec::new(alloc);
     for i in 0..times.parse::<u16>()? {
-        let mut head = [0; 16];
-        write_record_head(first + u64::from(i) * 500_000, len, &mut head);
-        records.extend_from_slice(&head)?;
+        let moment = first.checked_add(u64::from(i) * 500_000).ok_or("moment")?;
+        records.extend_from_slice(&head(moment, body.len())?)?;
         records.extend_from_slice(&body)?;
     }
     Ok(records)

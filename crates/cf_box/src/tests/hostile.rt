@@ -269,10 +269,12 @@ printed: capture refused 6/
 const CLOSED: &str = "log 1.270000 10.0.0.5:49152 pump close admitted 11 refused 0";
 
 /// What is printed of the first client's session beside twenty frames of no IPv4 packet.
-const ALONE: &str = "records 48/dropped 20/outside 0/full 0/sessions 1/admitted 11/refused 0/cuts 0/";
+const ALONE: &str =
+    "records 48/dropped 20/outside 0/full 0/sessions 1/admitted 11/refused 0/cuts 0/";
 
 /// What is printed of both sessions.
-const BESIDE: &str = "records 48/dropped 0/outside 1/full 0/sessions 2/admitted 14/refused 1/cuts 1/";
+const BESIDE: &str =
+    "records 48/dropped 0/outside 1/full 0/sessions 2/admitted 14/refused 1/cuts 1/";
 
 /// The last write lies across the ring's wrap, eight of its octets before it. Those from its fifth on come first, and stay
 /// as they came when it comes with another value.
@@ -311,7 +313,6 @@ log 1.035000 10.0.0.5:49153 pump refuse default value code 6 group 0 point 40 va
 > 1.065000 k2 PA 88001 77013 65535 W
 < 1.065000 c2 A 77013 88013 16384
 < 1.065000 k2 PA 88010 77025 16384 W
-> 1.075000 c2 A 77025 88022 64240
 > 1.085000 c2 PA 77013 88022 64240 W
 < 1.085000 k2 A 88022 77025 16384
 > 1.095000 c2 S 77000 0 64240 mss1460
@@ -382,12 +383,14 @@ fn round_the_ring(alloc: Global) -> Result<String, TestFail> {
     for i in 0..27_u32 {
         let (second, seq) = (i + 2, 1001 + 1200 * i);
         let next = seq + 1200;
-        let packets = format!(in alloc; "\
+        let packets = format!(in alloc;
+            "\
 > {second}.000000 c PA {seq} 5001 64240 W*100
 < {second}.000000 c PA {seq} 5001 16384 W*100
 < {second}.000000 k A 5001 {next} 16384
 > {second}.010000 k A 5001 {next} 65535
-")?;
+"
+        )?;
         row.push_str(&packets)?;
     }
     row.push_str(LAST_OF_THE_RING)?;
@@ -405,11 +408,13 @@ fn crowd(alloc: Global) -> Result<String, TestFail> {
     let mut row = String::from_str(alloc, "row: a table that is full\n")?;
     for client in 1..257_u32 {
         let (micros, port) = (100_000 + 2 * client, 49_151 + client);
-        let packets = format!(in alloc; "\
+        let packets = format!(in alloc;
+            "\
 > 1.{micros} c{client} S 1000 0 64240 mss1460
 < 1.{micros} c{client} S 1000 0 16384 mss1460
 log 1.{micros} 10.0.0.5:{port} pump open
-")?;
+"
+        )?;
         row.push_str(&packets)?;
     }
     row.push_str(LAST_OF_THE_CROWD)?;

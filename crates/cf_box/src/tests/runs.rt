@@ -343,13 +343,7 @@ fn ran(alloc: Global, row: &str) -> Result<Left, TestFail> {
     if let Some(len) = field(row, "first: ") {
         capture.truncate(len.parse()?);
     }
-    run(
-        alloc,
-        "run p c o l",
-        &[("c", capture.as_slice())],
-        &[],
-        &[],
-    )
+    run(alloc, "run p c o l", &[("c", capture.as_slice())], &[], &[])
 }
 
 /// Runs a row, and sees that it leaves what it says.
