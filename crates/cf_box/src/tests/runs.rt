@@ -2,6 +2,7 @@
 
 use super::exchange::{capture, difference, field, log};
 use super::{Left, octets, run, text};
+use cf_outside::Fail;
 use cf_view::LinkKind;
 use std::alloc::Global;
 use std::process::Abort;
@@ -375,4 +376,43 @@ fn runs_leave_what_they_say(rt: HostRuntime) -> Result<(), TestFail> {
         leaves_what_it_says(&rt, rt.alloc(), row)?;
     }
     Ok(())
+}
+
+/// Whether what a run left is a beginning of what another one left.
+fn begins(left: &Left, whole: &Left, name: &str) -> bool {
+    let left = left.file(name).unwrap_or(&[]);
+    whole
+        .file(name)
+        .is_some_and(|bytes| bytes.starts_with(left))
+}
+
+/// One call of the files after the other fails, and leaves ten octets where it appends. One such run stops in the last of
+/// the 51 packets, which has 40 octets behind the 16 of its head.
+#[test]
+fn a_failed_call_leaves_a_beginning(rt: HostRuntime) -> Result<(), TestFail> {
+    let alloc = rt.alloc();
+    let capture = capture(alloc, EXCHANGE, LinkKind::Ethernet)?;
+    let given = [("c", capture.as_slice())];
+    let whole = run(alloc, "run p c o l", &given, &[], &[])?;
+    let mut in_the_last = 0_u8;
+    for call in 1..1000 {
+        let fails = [Fail { call, left: 10 }];
+        let left = run(alloc, "run p c o l", &given, &fails, &[])?;
+        if left.status == 0 {
+            assert_eq!(rt; in_the_last, 1);
+            return Ok(());
+        }
+        let printed = if left.status == 3 { "read fault\n" } else { "" };
+        assert!(rt; left.status == 3 || left.status == 4, "{call}");
+        assert_eq!(rt; left.printed.as_slice(), printed.as_bytes(), "{call}");
+        assert!(rt;
+            begins(&left, &whole, "o") && begins(&left, &whole, "l"),
+            "{call}"
+        );
+        let len = left.file("o").map_or(0, |out| out.len());
+        if left.status == 4 && len == 3162 - 56 + 10 {
+            in_the_last = in_the_last.saturating_add(1);
+        }
+    }
+    Err("every run failed".into())
 }
