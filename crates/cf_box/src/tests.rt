@@ -6,8 +6,11 @@ use std::alloc::Global;
 use std::test::Fail as TestFail;
 
 mod captures;
+mod exchange;
+mod hostile;
 mod requests;
 mod rows;
+mod runs;
 
 /// A pump whose registers may be read, and of which ten may be written.
 const PUMP: &str = "version = 1
@@ -127,11 +130,15 @@ fn run(
     })
 }
 
-/// The octets that hexadecimal digits spell; `0001*3` is three times `0001`, and spaces separate.
+/// A write of 100 to register 40.
+const WRITE: &str = "000100000006010600280064";
+
+/// The octets that hexadecimal digits spell; `0001*3` is three times `0001`, `W` is the write, and spaces separate.
 fn octets(alloc: Global, spelled: &str) -> Result<Vec<u8>, TestFail> {
     let mut all = Vec::new(alloc);
     for token in spelled.split(' ') {
         let (digits, times) = token.split_once('*').unwrap_or((token, "1"));
+        let digits = if digits == "W" { WRITE } else { digits };
         let bytes = hex::decode(alloc, digits.as_bytes())?;
         for _ in 0..times.parse::<usize>()? {
             all.extend_from_slice(&bytes)?;

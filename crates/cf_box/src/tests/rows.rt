@@ -235,6 +235,19 @@ words: sift q pump 10.0.0.5 t o r l
 status: 3
 printed: read fault/
 
+words: run p t o l
+status: 3
+printed: read fault/
+
+words: run q s o l
+status: 3
+printed: read fault/
+
+words: run p t o l
+policy: version = 1=>version = 3
+status: 5
+printed: policy refused 9 version asset 0 rule 0/
+
 words: sift p tank 10.0.0.5 t o r l
 policy: version = 1=>version = 3
 status: 5
@@ -453,7 +466,6 @@ Check p
 
 /// Words of commands that are not built, at their limits.
 const UNBUILT: &str = "\
-run p s o l
 relay p pump 1 1 l
 relay p pump 65535 1000000 l
 relay p p 1 1 l
