@@ -3,8 +3,7 @@
 use crate::files::RealFiles;
 use cf_box::{Command, read_words};
 use cf_explain::{
-    asset_message, capture_message, outputs_message, policy_message, policy_warnings,
-    words_message,
+    asset_message, capture_message, outputs_message, policy_message, policy_warnings, words_message,
 };
 use cf_outside::{WholeFault, read_whole};
 use cf_policy::Policy;
@@ -109,7 +108,9 @@ fn explain_command<R: FileSystem + Eprint + AllocGlobal>(
             explain_outputs(rt, command)
         }
         (14, _) => {
-            eprintln!(rt; "cmdwall: the input needs a part that is not built; 'cmdwall --help' says which")
+            eprintln!(rt;
+                "cmdwall: the input needs a part that is not built; 'cmdwall --help' says which"
+            )
         }
         _ => Ok(()),
     }
@@ -138,7 +139,10 @@ fn explain_outputs<R: Eprint + AllocGlobal>(rt: &R, command: &Command<'_>) -> io
         Command::Check { .. } | Command::Packets { .. } => outputs_message(rt.alloc(), &[])?,
         Command::Run { out, log, .. } => outputs_message(rt.alloc(), &[out, log])?,
         Command::World {
-            capture, out, log, ..
+            capture,
+            out,
+            log,
+            ..
         } => outputs_message(rt.alloc(), &[capture, out, log])?,
         Command::Relay { log, .. } => outputs_message(rt.alloc(), &[log])?,
         Command::Sift { names, .. } => {
@@ -173,7 +177,9 @@ fn explain_policy<R: FileSystem + Eprint + AllocGlobal>(
             _ => return Ok(()),
         },
         Err(WholeFault::TooLong) => policy_message(alloc, name, &[], &TOO_LONG)?,
-        Err(_) => return eprintln!(rt; "cmdwall: {name}: its text cannot be read a second time, so no more is said"),
+        Err(_) => return eprintln!(rt;
+            "cmdwall: {name}: its text cannot be read a second time, so no more is said"
+        ),
     };
     eprintln!(rt; "cmdwall: {message}")
 }
