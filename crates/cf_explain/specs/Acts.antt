@@ -41,19 +41,21 @@ modbus_kinds code =
 
 -- objects of a group and its variations, with indexes of 16 bits
 abbrev pub control_kind : (group first last : ℕ) → Option Span → Kind
-control_kind group first last values = kind (groups.Span (between (group * 256 + first) (group * 256 + last))) (up_to 65535) values
+control_kind group first last values =
+    kind (groups.Span (between (group * 256 + first) (group * 256 + last))) (up_to 65535) values
 
 -- an object that is written, which has no index here
 abbrev pub written_kind : (group variation : ℕ) → Kind
-written_kind group variation = kind (groups.Span (between (group * 256 + variation) (group * 256 + variation))) (up_to 0) None
+written_kind group variation =
+    kind (groups.Span (between (group * 256 + variation) (group * 256 + variation))) (up_to 0) None
 
 -- DNP3: controls, written objects, and requests that name objects of any group and variation
 abbrev pub dnp3_kinds : ℕ → List Kind
 dnp3_kinds code =
     if code == 2 then written_kind 50 1 ∷ written_kind 50 3 ∷ written_kind 80 1 ∷ [] else
     (if nat_le 3 code && nat_le code 6 then
-    control_kind 12 1 1 (Some (up_to 255)) ∷ control_kind 41 1 1 (Some (signed 2147483648)) ∷ control_kind 41 2 2 (Some (signed 32768))
-    ∷ control_kind 41 3 4 None ∷ []
+    control_kind 12 1 1 (Some (up_to 255)) ∷ control_kind 41 1 1 (Some (signed 2147483648))
+    ∷ control_kind 41 2 2 (Some (signed 32768)) ∷ control_kind 41 3 4 None ∷ []
     else
     (if (code == 1) || ((nat_le 7 code && nat_le code 10) || ((code == 13) || ((code == 14) || (nat_le 20 code && nat_le code 24))))
     then kind (groups.Span (up_to 65535)) (up_to 0) None ∷ [] else []))

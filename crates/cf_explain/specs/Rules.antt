@@ -14,7 +14,8 @@ use Rattle.cf_explain.specs.Meets.{meets, includes_rule}
 
 -- no act with this code that a command of the protocol has is the rule's
 abbrev pub NeverHas : Protocol → Rule → ℕ → Type 0
-NeverHas protocol rule code = (client : ℕ) (act : Act) → act.code ≡ code → IsOfCommand protocol act → has_act rule client act ≡ false
+NeverHas protocol rule code =
+    (client : ℕ) (act : Act) → act.code ≡ code → IsOfCommand protocol act → has_act rule client act ≡ false
 
 -- no act that a command of the protocol has is the rule's
 abbrev pub NeverMeets : Protocol → Rule → Type 0
@@ -42,7 +43,8 @@ listed (Some found) = found ∷ []
 
 -- some kind of acts of each of the rule's codes meets it
 abbrev pub IsMet : Protocol → Rule → Type 0
-IsMet protocol rule = (code : ℕ) → code < 256 → takes rule.codes (pos code) ≡ true → list_any (meets rule) (kinds protocol code) ≡ true
+IsMet protocol rule =
+    (code : ℕ) → code < 256 → takes rule.codes (pos code) ≡ true → list_any (meets rule) (kinds protocol code) ≡ true
 
 -- the first rule before that of a number which includes this rule
 abbrev pub first_including : List Rule → ℕ → Rule → Option ℕ

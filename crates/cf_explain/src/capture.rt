@@ -59,7 +59,8 @@ fn push_header(out: &mut String, refusal: HeaderRefusal, bytes: &[u8]) -> Result
             "its version is not 2.4\n  'editcap -F pcap IN OUT' writes a capture of this version"
         }
         HeaderRefusal::LinkType => {
-            "its link type is neither 1 (Ethernet) nor 101 (raw IP)\n  capture on one interface, as 'tcpdump -i eth0 -w OUT'; '-i any' has another link type"
+            "its link type is neither 1 (Ethernet) nor 101 (raw IP)\n  \
+             capture on one interface, as 'tcpdump -i eth0 -w OUT'; '-i any' has another link type"
         }
     })
 }

@@ -1,5 +1,6 @@
 //! What is found of rules that decide nothing, or less than they seem to.
-ghost use Rattle.std.specs.Prelude.{◌≡◌, ℕ, ◌<◌, [], ◌++◌, All, IfOk, IfSome, IsTrue, None, OnOk, Some, false, is_none, length, pos, slice_get, true};
+ghost use Rattle.std.specs.Prelude.{◌≡◌, ℕ, ◌<◌, [], ◌++◌, All, IfOk, IfSome, IsTrue, None, OnOk, Some, false, is_none, length};
+ghost use Rattle.std.specs.Prelude.{pos, slice_get, true};
 ghost use Rattle.std.specs.List.{list_any};
 ghost use Rattle.cf_policy.specs.declared.policy.Asset.{Asset};
 ghost use Rattle.cf_policy.specs.declared.policy.Rule.{Rule};
@@ -33,7 +34,8 @@ pub enum What {
 /// command brings, that it wants values where reads have none, and that an earlier rule covers it.
 pub fn findings(alloc: Global, asset: &Asset, number: usize) -> Result<Vec<What>, AllocError>
     requires { number < length asset.now.rules }
-    ensures so { (rule : Rule) → slice_get asset.now.rules number ≡ Some rule → IfOk result (λ found. All (Holds asset.now number rule) found.items) }
+    ensures so { (rule : Rule) → slice_get asset.now.rules number ≡ Some rule
+        → IfOk result (λ found. All (Holds asset.now number rule) found.items) }
     ensures nothing { (rule : Rule) → slice_get asset.now.rules number ≡ Some rule
         → IfOk result (λ found. found.items ≡ [] → IsSound asset.now number rule) }
 {
@@ -46,7 +48,8 @@ pub fn findings(alloc: Global, asset: &Asset, number: usize) -> Result<Vec<What>
 
 /// That no command meets a rule, with the reason at its first code.
 fn whole_finding(protocol: Protocol, rule: &Rule) -> Option<What>
-    ensures { IfSome result (λ what. (asset : Asset) (number : ℕ) → asset.protocol ≡ protocol → Holds asset number rule.now what) }
+    ensures { IfSome result (λ what. (asset : Asset) (number : ℕ) → asset.protocol ≡ protocol
+        → Holds asset number rule.now what) }
 {
     if !never_met(protocol, rule) {
         return None;
@@ -87,7 +90,8 @@ fn put(found: &mut Vec<What>, what: Option<What>) -> Result<(), AllocError>
 fn covered_finding(asset: &Asset, number: usize) -> Option<What>
     requires { number < length asset.now.rules }
     ensures so { IfSome result (λ what. (rule : Rule) → Holds asset.now number rule what) }
-    ensures none { (rule : Rule) → slice_get asset.now.rules number ≡ Some rule → is_none result ≡ true → first_including asset.now.rules number rule ≡ None }
+    ensures none { (rule : Rule) → slice_get asset.now.rules number ≡ Some rule → is_none result ≡ true
+        → first_including asset.now.rules number rule ≡ None }
 {
     let earlier = covering(asset.rules.as_slice(), number)?;
     Some(What::Covered(earlier))
@@ -111,8 +115,10 @@ fn code_findings(
 }
 
 fn code_finding(protocol: Protocol, rule: &Rule, code: u16) -> Option<What>
-    ensures so { IfSome result (λ what. (asset : Asset) (number : ℕ) → asset.protocol ≡ protocol → Holds asset number rule.now what) }
-    ensures none { is_none result ≡ true → takes rule.now.codes (pos code) ≡ true → list_any (meets rule.now) (kinds protocol code) ≡ true }
+    ensures so { IfSome result (λ what. (asset : Asset) (number : ℕ) → asset.protocol ≡ protocol
+        → Holds asset number rule.now what) }
+    ensures none { is_none result ≡ true → takes rule.now.codes (pos code) ≡ true
+        → list_any (meets rule.now) (kinds protocol code) ≡ true }
 {
     let why = missed_code(protocol, rule, code)?;
     Some(What::Code(code, why))
@@ -121,7 +127,8 @@ fn code_finding(protocol: Protocol, rule: &Rule, code: u16) -> Option<What>
 /// Why no command brings a code of a rule; nothing where one does, or the rule does not have the code.
 fn missed_code(protocol: Protocol, rule: &Rule, code: u16) -> Option<Unmet>
     ensures never { IfSome result (λ _. NeverHas protocol rule.now code) }
-    ensures none { is_none result ≡ true → takes rule.now.codes (pos code) ≡ true → list_any (meets rule.now) (kinds protocol code) ≡ true }
+    ensures none { is_none result ≡ true → takes rule.now.codes (pos code) ≡ true
+        → list_any (meets rule.now) (kinds protocol code) ≡ true }
 {
     if !has_code(&rule.codes, code) {
         return None;
