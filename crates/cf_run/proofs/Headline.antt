@@ -50,7 +50,7 @@ module _ (one : SessionHasOneStream) (works : WorkIsOfTheTaken) (fragments : Fra
         decodes = λ taken re.
             (let front : IsFront (work_of es).to_controller taken = (one f limit es taken small are (uncut_before limit f es h)).0 re in
             let bytes : outputs f.asset side.Controller [] w.judged ≡ bytes_among taken ++ bytes_among front.more =
-                sym (ap (λ (x : Work). x.to_controller.bytes) w.is_work) ∙ front_bytes (work_of es).to_controller taken front in
+            sym (ap (λ (x : Work). x.to_controller.bytes) w.is_work) ∙ front_bytes (work_of es).to_controller taken front in
             record { front = front; makes = fragments f.asset (client_of f).address (history es) w.judged (bytes_among taken) (bytes_among front.more) w.are_judged bytes });
       }
 

@@ -3,14 +3,14 @@ ghost use Rattle.std.specs.Prelude.{◌≡◌, ◌∷◌, [], IfOk};
 ghost use Rattle.cf_policy.specs.Within.{AreAssetsWithin, IsAssetWithin};
 
 use crate::{
-    Entry, NextRecord, OpenFault, Outcome, RecordReader, RunFault, RunNames, RunRefusal, Summary,
-    receive, run_capture,
+    Engine, Entry, NextRecord, OpenFault, Outcome, RecordReader, RunFault, RunNames, RunRefusal,
+    Summary, receive, run_capture,
 };
 use cf_outside::{MemoryDesk, MemoryFiles};
 use cf_packet::{Packet, SYN};
 use cf_pcap::HeaderRefusal;
 use cf_policy::{Action, Asset, Items, Name, Policy, Protocol, Rule, Span};
-use cf_view::Endpoint;
+use cf_view::{Endpoint, LinkKind};
 use std::alloc::{AllocError, Global};
 use std::rt::HostRuntime;
 use std::test::Fail;
@@ -51,6 +51,21 @@ const LAST_MOMENT: &[u8] =
 const FIRST: &[u8] =
     b"\x45\x00\x00\x2c\x00\x00\x40\x00\x40\x06\x26\xbf\x0a\x00\x00\x05\x0a\x00\x00\x09\xc0\x00\x01\xf6\x00\x00\x03\xe8\
     \x00\x00\x00\x00\x60\x02\x40\x00\x7e\x3a\x00\x00\x02\x04\x05\xb4";
+
+/// The same write again, behind the first.
+const AGAIN: &[u8] =
+    b"\x45\x00\x00\x34\x00\x00\x40\x00\x40\x06\x26\xb7\x0a\x00\x00\x05\x0a\x00\x00\x09\xc0\x00\x01\xf6\x00\x00\x03\xf5\
+    \x00\x00\x13\x89\x50\x18\xff\xff\xc0\xa5\x00\x00\x00\x01\x00\x00\x00\x06\x01\x06\x00\x28\x00\x64";
+
+/// The RST to the controller, which got one write.
+const TO_CONTROLLER: &[u8] =
+    b"\x45\x00\x00\x28\x00\x00\x40\x00\x40\x06\x26\xc3\x0a\x00\x00\x05\x0a\x00\x00\x09\xc0\x00\x01\xf6\x00\x00\x03\xf5\
+    \x00\x00\x13\x89\x50\x14\x00\x00\xc2\x4e\x00\x00";
+
+/// The RST to the client, of which both were taken.
+const TO_CLIENT: &[u8] =
+    b"\x45\x00\x00\x28\x00\x00\x40\x00\x40\x06\x26\xc3\x0a\x00\x00\x09\x0a\x00\x00\x05\x01\xf6\xc0\x00\x00\x00\x13\x89\
+    \x00\x00\x04\x01\x50\x14\x00\x00\xc2\x42\x00\x00";
 
 const CLIENT: Endpoint = Endpoint {
     address: 0x0A00_0005,
@@ -229,5 +244,59 @@ fn runs_over_captures(rt: HostRuntime) -> Result<(), Fail> {
     let (result, files) = run(alloc, &policy, b"")?;
     let short = RunFault::Refused(RunRefusal::Header(HeaderRefusal::Short));
     assert!(rt; result == Err(short) && files.files.len() == 1);
+    Ok(())
+}
+
+/// Both writes of a client have 24 letters. Where that is the limit the second one is taken, its session is cut, and it is
+/// not sent.
+#[test]
+fn a_stream_reaches_the_limit(rt: HostRuntime) -> Result<(), Fail> {
+    let alloc = rt.alloc();
+    let policy = policy(alloc)?;
+    let link = LinkKind::RawIp;
+    let mut desk = MemoryDesk::new(alloc);
+    let mut engine = Engine::new(alloc, 24)?;
+    assert!(rt; desk.faults == 0 && WRITE.len() == 336);
+    engine.step(alloc, &policy, 1_000_000, &link, &WRITE[40..84], &mut desk)?;
+    engine.step(
+        alloc,
+        &policy,
+        1_010_000,
+        &link,
+        &WRITE[100..144],
+        &mut desk,
+    )?;
+    engine.step(
+        alloc,
+        &policy,
+        1_020_000,
+        &link,
+        &WRITE[160..200],
+        &mut desk,
+    )?;
+    engine.step(
+        alloc,
+        &policy,
+        1_030_000,
+        &link,
+        &WRITE[216..268],
+        &mut desk,
+    )?;
+    engine.step(alloc, &policy, 1_040_000, &link, AGAIN, &mut desk)?;
+    let summary = Summary {
+        records: 5,
+        sessions: 1,
+        admitted: 2,
+        cuts: 1,
+        ..Summary::default()
+    };
+    assert_eq!(rt; engine.summary(), summary);
+    assert!(rt; desk.lines.len() == 2 && desk.packets.len() == 7);
+    assert_eq!(rt;
+        desk.lines[1].as_str(),
+        "1.040000 10.0.0.5:49152 pump cut client long\n"
+    );
+    assert_eq!(rt; desk.packets[5].bytes.as_slice(), TO_CONTROLLER);
+    assert_eq!(rt; desk.packets[6].bytes.as_slice(), TO_CLIENT);
     Ok(())
 }
