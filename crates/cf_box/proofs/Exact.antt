@@ -9,11 +9,11 @@ use Rattle.cf_box.specs.Ending.{stop_status}
 use Rattle.cf_box.specs.Ends.{Does, LacksAsset, Meets, PassesPolicy, RefusesPolicy}
 use Rattle.cf_box.specs.Outside.{Outside, ReadFailed, SinkValue, WriteFailed}
 use Rattle.cf_box.specs.Packets.{ListsFile, TellsLongCapture}
-use Rattle.cf_box.specs.PolicyFile.{HasPolicy, IsRefusedBy}
+use Rattle.cf_box.specs.PolicyFile.{FindsAsset, HasPolicy, IsRefusedBy, asset_named}
 use Rattle.cf_sift.specs.Laws.{HasOneCut}
 use Rattle.cf_sift.specs.Names.{SiftNamesValue}
 use Rattle.cf_sift.specs.Stored.{GoesUpTo, stored_history}
-use Rattle.cf_box.specs.Sift.{FindsAsset, TakesStream, TellsCutStream}
+use Rattle.cf_box.specs.Sift.{TakesStream, TellsCutStream}
 use Rattle.cf_box.specs.Status.{IsExact, TellsCut, TellsLack, TellsNoAsset, TellsNoPolicy}
 use Rattle.cf_box.specs.declared.ending.Done.{Done}
 use Rattle.cf_box.specs.declared.ending.Stop.{Stop}
