@@ -15,7 +15,7 @@ use Rattle.cf_policylang.specs.Documents.{policy_meaning}
 use Rattle.cf_policylang.specs.declared.PolicyRefusal.{PolicyRefusal}
 use Rattle.cf_box.specs.Command.{Command, Check, Packets, Run, Relay, World, Sift, AsksPair, asset_name, capture_file, output_files, policy_file}
 use Rattle.cf_box.specs.Ends.{CutsCapture, CutsStream, EndsIdle, LacksAsset, LacksPart, LinkFails, RefusesCapture, RefusesPolicy}
-use Rattle.cf_box.specs.Outside.{Outside, ReadFailed, WriteFailed}
+use Rattle.cf_box.specs.Outside.{Outside, PairValue, ReadFailed, WriteFailed}
 use Rattle.cf_box.specs.Packets.{TellsLongCapture}
 use Rattle.cf_box.specs.PolicyFile.{FindsAsset, asset_named}
 use Rattle.cf_box.specs.Relay.{TellsCutRelay, TellsIdleRelay}
@@ -138,18 +138,18 @@ TellsLack (World seed sessions file capture out log) before = Unit {0}
 TellsLack (Sift file asset client names) before = ⊥
 
 -- the stream of a command is told, or the answers of its pair are, and is cut: a line a command
-abbrev pub TellsCut : Command → (before after : Outside) → Type 0
-TellsCut (Check file) before after = ⊥
-TellsCut (Packets file) before after = ⊥
-TellsCut (Run file names) before after = ⊥
-TellsCut (Relay file asset port idles log) before after = TellsCutRelay file asset before after.pair
-TellsCut (World seed sessions file capture out log) before after = ⊥
-TellsCut (Sift file asset client names) before after = TellsCutStream file asset client names before
+abbrev pub TellsCut : Command → (before : Outside) → (pair : PairValue) → Type 0
+TellsCut (Check file) before pair = ⊥
+TellsCut (Packets file) before pair = ⊥
+TellsCut (Run file names) before pair = ⊥
+TellsCut (Relay file asset port idles log) before pair = TellsCutRelay file asset before pair
+TellsCut (World seed sessions file capture out log) before pair = ⊥
+TellsCut (Sift file asset client names) before pair = TellsCutStream file asset client names before
 
 -- the answers of a command's pair are told, and end in as many answers Idle as end its work
-abbrev pub TellsIdle : Command → (before after : Outside) → Type 0
-TellsIdle (Relay file asset port idles log) before after = TellsIdleRelay file asset before after.pair idles
-TellsIdle _ before after = ⊥
+abbrev pub TellsIdle : Command → (before : Outside) → (pair : PairValue) → Type 0
+TellsIdle (Relay file asset port idles log) before pair = TellsIdleRelay file asset before pair idles
+TellsIdle _ before pair = ⊥
 
 -- what a cut and the idle answers yield to: these, and a write that failed
 abbrev pub YieldsWritten : (before after : Outside) → (status : ℕ) → Type 0
@@ -161,8 +161,8 @@ pub record IsExact (c : Command) (before after : Outside) (status : ℕ) : Type 
   pub refused : TellsNoPolicy c before → (status ≡ 5) ⊎ Yields before after status
   pub unknown : TellsNoAsset c before → (status ≡ 10) ⊎ Yields before after status
   pub unbuilt : TellsLack c before → (status ≡ 14) ⊎ Yields before after status
-  pub cut : TellsCut c before after → (status ≡ 12) ⊎ YieldsWritten before after status
-  pub idle : TellsIdle c before after → (status ≡ 9) ⊎ YieldsWritten before after status
+  pub cut : TellsCut c before after.pair → (status ≡ 12) ⊎ YieldsWritten before after status
+  pub idle : TellsIdle c before after.pair → (status ≡ 9) ⊎ YieldsWritten before after status
 
 abbrev pub IsExactly : Option Command → (before after : Outside) → (status : ℕ) → Type 0
 IsExactly words before after status = (c : Command) → words ≡ Some c → IsExact c before after status
