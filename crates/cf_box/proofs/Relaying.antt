@@ -139,3 +139,23 @@ module _ (policy name : List ℕ) (port idles : ℕ) (log : List ℕ) (before af
   relay_meets (Err fault.Link) relayed link write = ((link refl, passed (Err fault.Link) relayed), inr (Err fault.Link, relayed, refl))
   relay_meets (Err fault.Write) relayed link write = ((inl (write refl), passed (Err fault.Write) relayed), inr (Err fault.Write, relayed, refl))
   relay_meets (Err fault.NoMemory) relayed link write = (tt, inr (Err fault.NoMemory, relayed, refl))
+
+-- the same after files were read, none of which changed
+pub relay_after : (policy name : List ℕ) (port idles : ℕ) (log : List ℕ) (before middle after : Outside) (asset : Asset) → FindsAsset (before.files.content policy) name asset →
+    ReadsOnly before.files middle.files → (answer : Result RelayDone RelayFault) (answers : List Entry) → after.pair.told ≡ with_answers before.pair.told answers →
+    RelayEnds asset (2 * idles) (file_log (middle.files.content log) (after.files.content log)) (after.files.content log ≡ middle.files.content log) answers answer →
+    IdlesRose (2 * idles) before.pair.idles after.pair.idles answer → KeepsOthers log middle.files.content after.files.content →
+    HasCause before.pair.faults after.pair.faults (answer ≡ Err fault.Link) → HasCause middle.files.write_faults after.files.write_faults (answer ≡ Err fault.Write) →
+    after.sink ≡ before.sink → Meets (Relay policy name port idles log) before after (relay_answer answer)
+relay_after policy name port idles log before middle after asset finds only answer answers told ends idles_rose others link write sink =
+    relay_meets policy name port idles log before after answer
+    (record {
+      asset = asset;
+      finds = finds;
+      answers = answers;
+      told = told;
+      relayed = subst (λ k. RelayEnds asset (2 * idles) (file_log (k log) (after.files.content log)) (after.files.content log ≡ k log) answers answer) only.content ends;
+      idles_rose = idles_rose;
+      others = λ other differs. others other differs ∙ ap (λ f. f other) only.content;
+      sink = sink;
+    }) link.rose (λ is. subst (λ n. Rose n after.files.write_faults) only.writes (write.rose is))

@@ -19,7 +19,7 @@ use crate::packets::packets;
 use crate::relay::relay;
 use crate::run::run;
 use crate::sift::sift;
-use cf_lane::lane_passes_allowed;
+use cf_lane::{has_one_judgement, lane_passes_allowed};
 use cf_outside::{Files, Pair, Sink};
 use cf_run::runs_have_headline;
 use cf_sift::has_one_cut;
@@ -133,6 +133,7 @@ pub fn box_main<F: Files, O: Sink, P: Pair>(
 {
     lane_passes_allowed();
     has_one_cut();
+    has_one_judgement();
     runs_have_headline();
     match read_words(words) {
         None => put_text("usage\n", 2, 2, out),
