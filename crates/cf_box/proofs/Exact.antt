@@ -45,7 +45,7 @@ does_pass before after (Run policy names) d m = record {
   asset = λ file name e f. cc f;
 }
 does_pass before after (Relay policy asset port idles log) d m =
-    relay_passes policy asset port idles log before m.1.0.asset m.1.0.finds
+    relay_passes policy asset port idles log before m.1.asset m.1.finds
 does_pass before after (World seed sessions policy capture out log) d m = absurd m
 does_pass before after (Sift policy name client names) d m = passes policy name client names before after m.takes.asset m.takes.finds
 
@@ -245,7 +245,7 @@ module _ (failed : Type 0) (status : ℕ) (before after : Outside) where
     not_cut : (reason : CutReason) → cut_at t.asset t.answers t.judged ≡ Some reason → (r : Result Done Stop) → IsUncutEnd r → (answer : Result RelayDone RelayFault) →
         HasRelayed file name idles log before after answer → relay_answer answer ≡ r → ⊥
     not_cut reason cut r kind answer h is =
-        let uncut = uncut_by _ _ _ _ r kind answer is h.relayed in
+        let uncut = uncut_by _ _ _ _ h.answers r kind answer is h.relayed in
         let same = relayed_cut h.asset h.answers uncut.judged h.finds h.told uncut.are_items in
         let none = uncut.uncut in
         cc
@@ -253,11 +253,11 @@ module _ (failed : Type 0) (status : ℕ) (before after : Outside) where
     not_cut_stop : (reason : CutReason) → cut_at t.asset t.answers t.judged ≡ Some reason → (s : Stop) → IsUncutEnd (Err s) →
         (StopsPolicy s ⊎ (s ≡ stop.UnknownAsset) → ⊥) → RelayLeaves file name idles log before after s → ⊥
     not_cut_stop reason cut s kind late (inl l) = late l.0
-    not_cut_stop reason cut s kind late (inr l) = not_cut reason cut (Err s) kind l.0 l.1.0 l.1.1
+    not_cut_stop reason cut s kind late (inr l) = not_cut reason cut (Err s) kind l.0 l.1 l.2
 
     relay_cut_from : (reason : CutReason) → cut_at t.asset t.answers t.judged ≡ Some reason → (r : Result Done Stop) →
         Meets (Relay file name port idles log) before after r → IsOf r failed status → DueWritten
-    relay_cut_from reason cut (Ok d) meets h = absurd (not_cut reason cut (Ok d) tt meets.0 meets.1.0 meets.1.1)
+    relay_cut_from reason cut (Ok d) meets h = absurd (not_cut reason cut (Ok d) tt meets.0 meets.1 meets.2)
     relay_cut_from reason cut (Err stop.ReadFault) meets h = inr (inr (inl (stop_is failed status stop.ReadFault h, meets.0)))
     relay_cut_from reason cut (Err stop.NoMemory) meets h = inr (inr (inr (stop_is failed status stop.NoMemory h)))
     relay_cut_from reason cut (Err (stop.PolicyRefused r)) meets h = absurd (known_means r meets.0)
@@ -275,13 +275,13 @@ module _ (failed : Type 0) (status : ℕ) (before after : Outside) where
     not_idle : idle_run t.answers ≡ 2 * idles → (r : Result Done Stop) → GoesOn r → (answer : Result RelayDone RelayFault) →
         HasRelayed file name idles log before after answer → relay_answer answer ≡ r → ⊥
     not_idle idle r kind answer h is =
-        let few = few_by _ _ _ _ r kind answer is h.relayed in
+        let few = few_by _ _ _ _ h.answers r kind answer is h.relayed in
         let same : h.answers ≡ t.answers = relayed_answers h.answers h.told in
         omega (arith, few, idle, ap idle_run same)
 
     relay_idle_from : cut_at t.asset t.answers t.judged ≡ None → idle_run t.answers ≡ 2 * idles → (r : Result Done Stop) →
         Meets (Relay file name port idles log) before after r → IsOf r failed status → DueIdle
-    relay_idle_from uncut idle (Ok d) meets h = absurd (not_idle idle (Ok d) tt meets.0 meets.1.0 meets.1.1)
+    relay_idle_from uncut idle (Ok d) meets h = absurd (not_idle idle (Ok d) tt meets.0 meets.1 meets.2)
     relay_idle_from uncut idle (Err stop.ReadFault) meets h = inr (inr (inl (stop_is failed status stop.ReadFault h, meets.0)))
     relay_idle_from uncut idle (Err stop.NoMemory) meets h = inr (inr (inr (stop_is failed status stop.NoMemory h)))
     relay_idle_from uncut idle (Err (stop.PolicyRefused r)) meets h = absurd (known_means r meets.0)
@@ -291,7 +291,7 @@ module _ (failed : Type 0) (status : ℕ) (before after : Outside) where
     relay_idle_from uncut idle (Err (stop.CaptureCut place)) meets h = absurd meets.0.0
     relay_idle_from uncut idle (Err (stop.RunCut place summary)) meets h = absurd meets.0.0
     relay_idle_from uncut idle (Err stop.LinkFault) (cause, inl l) h = absurd (link_is_late l.0)
-    relay_idle_from uncut idle (Err stop.LinkFault) (cause, inr l) h = absurd (not_idle idle (Err stop.LinkFault) tt l.0 l.1.0 l.1.1)
+    relay_idle_from uncut idle (Err stop.LinkFault) (cause, inr l) h = absurd (not_idle idle (Err stop.LinkFault) tt l.0 l.1 l.2)
     relay_idle_from uncut idle (Err stop.IdleEnd) meets h = inl (stop_is failed status stop.IdleEnd h)
     relay_idle_from uncut idle (Err (stop.Cut reason)) meets h =
         let c = meets.0.0 in
@@ -305,7 +305,7 @@ module _ (failed : Type 0) (status : ℕ) (before after : Outside) where
   idle_from law (Check policy) t r meets h = absurd t
   idle_from law (Packets capture) t r meets h = absurd t
   idle_from law (Run policy names) t r meets h = absurd t
-  idle_from law (Relay policy asset port idles log) t r meets h = relay_idle_from law policy asset port idles log t.0 t.1.0 t.1.1 r meets h
+  idle_from law (Relay policy asset port idles log) t r meets h = relay_idle_from law policy asset port idles log t.0 t.1 t.2 r meets h
   idle_from law (World seed sessions policy capture out log) t r meets h = absurd t
   idle_from law (Sift policy asset client names) t r meets h = absurd t
 

@@ -92,7 +92,7 @@ module _ (before after : Outside) where
   stop_keeps (Run policy names) s (inl l) = nothing_written (Run policy names) l.1.content
   stop_keeps (Run policy names) s (inr l) = l.1.others
   stop_keeps (Relay policy asset port idles log) s (inl l) = nothing_written (Relay policy asset port idles log) l.1.content
-  stop_keeps (Relay policy asset port idles log) s (inr l) = relay_keeps policy asset idles log l.0 l.1.0
+  stop_keeps (Relay policy asset port idles log) s (inr l) = relay_keeps policy asset idles log l.0 l.1
   stop_keeps (World seed sessions policy capture out log) s l = nothing_written (World seed sessions policy capture out log) (ap (λ (o : Outside). o.files.content) l.1)
   stop_keeps (Sift policy asset client names) s l = sift_keeps policy asset client names s l
 
@@ -113,7 +113,7 @@ module _ (before after : Outside) where
   unwritten_by (Run policy names) s w (inl l) = l.1.content
   unwritten_by (Run policy names) s w (inr l) = absurd (not_of_run l.0 (subst (λ t. WritesNothing (stop_status t)) l.2 w))
   unwritten_by (Relay policy asset port idles log) s w (inl l) = l.1.content
-  unwritten_by (Relay policy asset port idles log) s w (inr l) = absurd (not_of_relay s w l.0 l.1.1)
+  unwritten_by (Relay policy asset port idles log) s w (inr l) = absurd (not_of_relay s w l.0 l.2)
   unwritten_by (World seed sessions policy capture out log) s w l = ap (λ (o : Outside). o.files.content) l.1
   unwritten_by (Sift policy asset client names) s w l = sift_unwritten policy asset client names s w l
 

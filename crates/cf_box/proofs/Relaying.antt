@@ -52,7 +52,7 @@ pub record IsUncut (asset : Asset) (es : List Entry) : Type 0 where
   pub are_items : AreItemsOf asset es judged
   pub uncut : cut_at asset es judged ≡ None
 
-module _ (asset : Asset) (most : ℕ) (log : LogContents) (same : Type 0) {es : List Entry} where
+module _ (asset : Asset) (most : ℕ) (log : LogContents) (same : Type 0) (es : List Entry) where
   unstopped : IsUnstopped asset most es → IsUncut asset es
   unstopped goes = record { judged = goes.judged; are_items = goes.are_items; uncut = goes.uncut }
 
