@@ -18,7 +18,7 @@ use Rattle.cf_box.specs.Ending.{stop_status}
 use Rattle.cf_box.specs.Ends.{Does, LacksAsset, Meets, PassesPolicy, RefusesPolicy}
 use Rattle.cf_box.specs.Outside.{Outside, ReadFailed, SinkValue, WriteFailed}
 use Rattle.cf_box.specs.Packets.{ListsFile, TellsLongCapture}
-use Rattle.cf_box.specs.PolicyFile.{FindsAsset, HasPolicy, IsRefusedBy, StopsPolicy, asset_named}
+use Rattle.cf_box.specs.PolicyFile.{FindsAsset, HasPolicy, IsRefusedBy, StopsPolicy}
 use Rattle.cf_sift.specs.Laws.{HasOneCut}
 use Rattle.cf_sift.specs.Names.{SiftNamesValue}
 use Rattle.cf_sift.specs.Stored.{GoesUpTo, stored_history}

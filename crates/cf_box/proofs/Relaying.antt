@@ -1,14 +1,12 @@
 -- An answer about a relay, as the answer of the command; and what an answer says of the pair's list.
-use Rattle.std.proofs.Common.{◌≡◌, ◌≤◌, ◌<◌, ◌⊎◌, ◌*◌, ℕ, List, None, Some, Result, Ok, Err, refl, sym, subst, ap, ◌∙◌, arith, inl, inr}
-use Rattle.cf_audit.specs.declared.line.CutReason.{CutReason}
+use Rattle.std.proofs.Common.{◌≡◌, ◌<◌, ◌⊎◌, ◌*◌, ℕ, List, None, Some, Result, Ok, Err, refl, sym, subst, ap, ◌∙◌, inl, inr}
 use Rattle.cf_lane.specs.Judged.{Judged}
 use Rattle.cf_outside.specs.Faults.{HasCause, Rose}
-use Rattle.cf_outside.specs.Files.{Content, KeepsOthers}
+use Rattle.cf_outside.specs.Files.{KeepsOthers}
 use Rattle.cf_outside.specs.Pair.{Entry}
 use Rattle.cf_policy.specs.declared.Asset.{Asset}
 use Rattle.cf_relay.specs.Answers.{idle_run, with_answers}
 use Rattle.cf_relay.specs.Ends.{EndsAs, IdlesRose, IdlesRoseAt, LogContents, RelayEnds, file_log}
-use Rattle.cf_relay.specs.Scene.{RoseBy}
 use Rattle.cf_relay.specs.Turn.{AreItemsOf, IsUnstopped, cut_at}
 use Rattle.cf_relay.specs.declared.done.RelayDone.{RelayDone}
 use Rattle.cf_relay.specs.declared.done.RelayEnd.{RelayEnd}
@@ -16,7 +14,7 @@ use Rattle.cf_relay.specs.declared.done.RelayEnd.TheVariants as ends
 use Rattle.cf_relay.specs.declared.done.RelayFault.{RelayFault}
 use Rattle.cf_relay.specs.declared.done.RelayFault.TheVariants as fault
 use Rattle.cf_box.specs.Command.{Relay}
-use Rattle.cf_box.specs.Ends.{Meets, PassesPolicy, StopsFor}
+use Rattle.cf_box.specs.Ends.{Meets, PassesPolicy}
 use Rattle.cf_box.specs.Outside.{Outside, ReadsOnly}
 use Rattle.cf_box.specs.PolicyFile.{FindsAsset, HasPolicy, StopsPolicy, asset_named}
 use Rattle.cf_box.specs.Relay.{HasRelayed, end_answer, relay_answer}

@@ -130,7 +130,10 @@ fn relays_leave_what_they_say(rt: HostRuntime) -> Result<(), TestFail> {
         assert_eq!(rt; left.printed.as_slice(), printed.as_slice(), "{row}");
         let answers = field(row, "answers: ").ok_or("answers")?;
         assert_eq!(rt; pair.told.len(), answers.parse()?, "{row}");
-        for (side, key) in [(Side::Controller, "CONTROLLER: "), (Side::Client, "CLIENT: ")] {
+        for (side, key) in [
+            (Side::Controller, "CONTROLLER: "),
+            (Side::Client, "CLIENT: "),
+        ] {
             let wanted = octets(alloc, field(row, key).ok_or("given")?)?;
             let all = given(alloc, &pair, side)?;
             assert_eq!(rt; all.as_slice(), wanted.as_slice(), "{key} of {row}");

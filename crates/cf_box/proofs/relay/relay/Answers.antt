@@ -1,4 +1,4 @@
-use Rattle.std.proofs.Common.{inl, inr, refl, subst, sym}
+use Rattle.std.proofs.Common.{inl, refl, subst, sym}
 use Rattle.cf_box.specs.Command.{Relay}
 use Rattle.cf_box.specs.Ends.{Meets}
 use Rattle.cf_box.specs.Outside.{files_value, outside, pair_value}

@@ -1,4 +1,3 @@
-use Rattle.std.proofs.Common.{inl}
 use Rattle.cf_box.specs.Outside.{pair_value, sink_value}
 use Rattle.cf_box.proofs.top.perform.Goals as goal
 
