@@ -32,6 +32,10 @@ module _ (failed : Type 0) (before after : Option (List â„•)) (capture : List â„
   no_other stop.ReadFault other (Err r) lists = cc (lists.0)
   no_other (stop.PolicyRefused p) other (Ok h) lists = lists.answers
   no_other (stop.PolicyRefused p) other (Err r) lists = cc (lists.0)
+  no_other stop.LinkFault other (Ok h) lists = lists.answers
+  no_other stop.LinkFault other (Err r) lists = cc (lists.0)
+  no_other stop.IdleEnd other (Ok h) lists = lists.answers
+  no_other stop.IdleEnd other (Err r) lists = cc (lists.0)
   no_other stop.UnknownAsset other (Ok h) lists = lists.answers
   no_other stop.UnknownAsset other (Err r) lists = cc (lists.0)
   no_other (stop.Cut reason) other (Ok h) lists = lists.answers

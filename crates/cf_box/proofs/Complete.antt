@@ -13,7 +13,7 @@ use Rattle.cf_policy.specs.declared.Policy.{Policy}
 use Rattle.cf_policylang.specs.Documents.{policy_meaning}
 use Rattle.cf_policylang.specs.declared.PolicyRefusal.{PolicyRefusal}
 use Rattle.cf_box.specs.Command.{Command, Check, Packets, Run, Relay, World, Sift, capture_file}
-use Rattle.cf_box.specs.Ends.{CutsCapture, CutsRun, LacksAsset, Meets, RefusesCapture, RefusesPolicy}
+use Rattle.cf_box.specs.Ends.{CutsCapture, CutsRun, CutsStream, EndsIdle, LacksAsset, LinkFails, Meets, RefusesCapture, RefusesPolicy}
 use Rattle.cf_box.specs.Outside.{Outside, ReadFailed, WriteFailed}
 use Rattle.cf_box.specs.Packets.{IsListed, ListsBehind}
 use Rattle.cf_box.specs.PolicyFile.{HasPolicy, IsRefusedBy, asset_named}
@@ -134,8 +134,8 @@ run_cut_none (Relay policy asset port idles log) before place form h = h
 run_cut_none (World seed sessions policy capture out log) before place form h = h
 run_cut_none (Sift policy asset client names) before place form h = h
 
-module _ (c : Command) (before middle : Outside) (failed : Type 0) (status : ℕ) (input : HasInput c before)
-    (reads : ReadFailed before middle → ⊥) (writes : WriteFailed before middle → ⊥) (puts : failed → ⊥) where
+module _ (c : Command) (before middle : Outside) (failed : Type 0) (status : ℕ) (input : HasInput c before middle)
+    (reads : ReadFailed before middle → ⊥) (writes : WriteFailed before middle → ⊥) (links : LinkFails c before middle.pair → ⊥) (puts : failed → ⊥) where
   is_complete : (r : Result Done Stop) → Meets c before middle r → IsOf r failed status → (status ≡ 0) ⊎ (status ≡ 13)
   is_complete (Ok d) meets (inl h) = inl h
   is_complete (Ok d) meets (inr h) = absurd (puts h.1)
@@ -159,12 +159,25 @@ module _ (c : Command) (before middle : Outside) (failed : Type 0) (status : ℕ
   is_complete (Err (stop.CaptureRefused r)) meets h = absurd (refused_none c before r (input.capture) meets.0.0)
   is_complete (Err (stop.CaptureCut place)) meets h = absurd (cut_none c before place (input.capture) meets.0.0)
   is_complete (Err (stop.RunCut place summary)) meets h = absurd (run_cut_none c before place (input.capture) meets.0.0)
+  is_complete (Err stop.LinkFault) meets h = absurd (links meets.0.0)
+  is_complete (Err stop.IdleEnd) meets h = absurd (input.idle meets.0.0)
   is_complete (Err (stop.Cut reason)) meets h = absurd (input.stream reason meets.0.0)
   is_complete (Err stop.Unbuilt) meets h = absurd (input.built meets.0.0)
 
-pub complete_told : {c : Command} {before after : Outside} {status : ℕ} (e : Explains c before after status) → HasInput c before → NothingFails
+-- what the pair gives is the same at the answer and at the end
+at_answer : (c : Command) (before middle after : Outside) → after.pair ≡ middle.pair → HasInput c before after → HasInput c before middle
+at_answer c before middle after same input = record {
+  policy = input.policy;
+  capture = input.capture;
+  stream = λ reason cut. input.stream reason (subst (λ p. CutsStream c before p reason) (sym same) cut);
+  idle = λ ends. input.idle (subst (λ p. EndsIdle c before p) (sym same) ends);
+  built = input.built;
+}
+
+pub complete_told : {c : Command} {before after : Outside} {status : ℕ} (e : Explains c before after status) → HasInput c before after → NothingFails c
     before after →
     (status ≡ 0) ⊎ (status ≡ 13)
-complete_told e input fails =
-    is_complete _ _ e.middle _ _ input (λ rose. fails.reads (read_failed e rose)) (λ rose. fails.writes (write_failed e (inl rose)))
+complete_told {c = c} {before = before} {after = after} e input fails =
+    is_complete c before e.middle _ _ (at_answer c before e.middle after e.reports.pair input) (λ rose. fails.reads (read_failed e rose)) (λ rose. fails.writes (write_failed e (inl rose)))
+    (λ rose. fails.links (subst (λ p. LinkFails c before p) (sym e.reports.pair) rose))
     (λ rose. fails.writes (write_failed e (inr rose))) e.r e.meets (explained e)

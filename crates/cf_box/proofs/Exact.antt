@@ -1,5 +1,14 @@
 -- Causes that stand in the input, where it is told: no other status comes but those to which they yield.
-use Rattle.std.proofs.Common.{◌≡◌, ◌⊎◌, ℕ, List, None, Some, Result, Ok, Err, length, sym, subst, ◌∙◌, ap, inl, inr, arith}
+use Rattle.std.proofs.Common.{◌≡◌, ◌⊎◌, ◌++◌, ◌*◌, ℕ, List, None, Some, Result, Ok, Err, length, sym, subst, ◌∙◌, ap, inl, inr, arith}
+use Rattle.std.proofs.lemmas.List.{append_cancel_left}
+use Rattle.cf_audit.specs.declared.line.CutReason.{CutReason}
+use Rattle.cf_lane.specs.Judged.{Judged}
+use Rattle.cf_lane.specs.Laws.{HasOneJudgement}
+use Rattle.cf_outside.specs.Pair.{Entry}
+use Rattle.cf_relay.specs.Answers.{client_of, history_of, idle_run, with_answers}
+use Rattle.cf_relay.specs.Turn.{AreItemsOf, cut_at}
+use Rattle.cf_relay.specs.declared.done.RelayDone.{RelayDone}
+use Rattle.cf_relay.specs.declared.done.RelayFault.{RelayFault}
 use Rattle.cf_policy.specs.declared.Asset.{Asset}
 use Rattle.cf_policy.specs.declared.Policy.{Policy}
 use Rattle.cf_policylang.specs.Documents.{policy_meaning}
@@ -9,16 +18,18 @@ use Rattle.cf_box.specs.Ending.{stop_status}
 use Rattle.cf_box.specs.Ends.{Does, LacksAsset, Meets, PassesPolicy, RefusesPolicy}
 use Rattle.cf_box.specs.Outside.{Outside, ReadFailed, SinkValue, WriteFailed}
 use Rattle.cf_box.specs.Packets.{ListsFile, TellsLongCapture}
-use Rattle.cf_box.specs.PolicyFile.{HasPolicy, IsRefusedBy}
+use Rattle.cf_box.specs.PolicyFile.{FindsAsset, HasPolicy, IsRefusedBy, StopsPolicy}
 use Rattle.cf_sift.specs.Laws.{HasOneCut}
 use Rattle.cf_sift.specs.Names.{SiftNamesValue}
 use Rattle.cf_sift.specs.Stored.{GoesUpTo, stored_history}
-use Rattle.cf_box.specs.Sift.{FindsAsset, TakesStream, TellsCutStream}
-use Rattle.cf_box.specs.Status.{IsExact, TellsCut, TellsLack, TellsNoAsset, TellsNoPolicy}
+use Rattle.cf_box.specs.Relay.{HasRelayed, RelayLeaves, TellsRelay, relay_answer}
+use Rattle.cf_box.specs.Sift.{TakesStream, TellsCutStream}
+use Rattle.cf_box.specs.Status.{IsExact, TellsCut, TellsIdle, TellsLack, TellsNoAsset, TellsNoPolicy}
 use Rattle.cf_box.specs.declared.ending.Done.{Done}
 use Rattle.cf_box.specs.declared.ending.Stop.{Stop}
 use Rattle.cf_box.specs.declared.ending.Stop.TheVariants as stop
 use Rattle.cf_box.proofs.Complete.{not_refused, same_bytes, same_policy}
+use Rattle.cf_box.proofs.Relaying.{GoesOn, IsUncutEnd, few_by, idle_is_late, link_is_late, relay_passes, uncut_by}
 use Rattle.cf_box.proofs.Sifting.{passes}
 use Rattle.cf_box.proofs.Statuses.{Explains, IsOf, Unprinted, explained, read_failed, stop_is, write_failed}
 
@@ -33,7 +44,8 @@ does_pass before after (Run policy names) d m = record {
   policy = λ file e. let same : policy ≡ file = cc in (m.1.policy, subst (λ f. HasPolicy (before.files.content f) m.1.policy) same m.1.has);
   asset = λ file name e f. cc f;
 }
-does_pass before after (Relay policy asset port idles log) d m = absurd m
+does_pass before after (Relay policy asset port idles log) d m =
+    relay_passes policy asset port idles log before m.1.asset m.1.finds
 does_pass before after (World seed sessions policy capture out log) d m = absurd m
 does_pass before after (Sift policy name client names) d m = passes policy name client names before after m.takes.asset m.takes.finds
 
@@ -66,6 +78,8 @@ module _ (failed : Type 0) (status : ℕ) (before after : Outside) where
     refused_from (Err (stop.CaptureRefused r)) meets h = absurd (not_passed meets.0.1)
     refused_from (Err (stop.CaptureCut place)) meets h = absurd (not_passed meets.0.1)
     refused_from (Err (stop.RunCut place summary)) meets h = absurd (not_passed meets.0.1)
+    refused_from (Err stop.LinkFault) meets h = absurd (not_passed meets.0.1)
+    refused_from (Err stop.IdleEnd) meets h = absurd (not_passed meets.0.1)
     refused_from (Err (stop.Cut reason)) meets h = absurd (not_passed meets.0.1)
     refused_from (Err stop.Unbuilt) meets h = absurd (not_passed meets.0.1)
 
@@ -96,6 +110,8 @@ module _ (failed : Type 0) (status : ℕ) (before after : Outside) where
     unknown_from (Err (stop.CaptureRefused r)) meets h = absurd (not_found meets.0.1)
     unknown_from (Err (stop.CaptureCut place)) meets h = absurd (not_found meets.0.1)
     unknown_from (Err (stop.RunCut place summary)) meets h = absurd (not_found meets.0.1)
+    unknown_from (Err stop.LinkFault) meets h = absurd (not_found meets.0.1)
+    unknown_from (Err stop.IdleEnd) meets h = absurd (not_found meets.0.1)
     unknown_from (Err (stop.Cut reason)) meets h = absurd (not_found meets.0.1)
     unknown_from (Err stop.Unbuilt) meets h = absurd (not_found meets.0.1)
 
@@ -115,12 +131,22 @@ module _ (failed : Type 0) (status : ℕ) (before after : Outside) where
     long_from (Err (stop.CaptureRefused r)) meets h = absurd (not_listed before.sink after.sink (Err (stop.CaptureRefused r)) meets.1.lines)
     long_from (Err (stop.CaptureCut place)) meets h = absurd (not_listed before.sink after.sink (Err (stop.CaptureCut place)) meets.1.lines)
     long_from (Err (stop.RunCut place summary)) meets h = absurd meets.0.0
+    long_from (Err stop.LinkFault) meets h = absurd meets.0.0
+    long_from (Err stop.IdleEnd) meets h = absurd meets.0.0
     long_from (Err (stop.Cut reason)) meets h = absurd meets.0.0
     long_from (Err stop.Unbuilt) meets h = inl (stop_is failed status stop.Unbuilt h)
 
+  -- what is due where a write may have failed before
+  abbrev DueBehind : ℕ → Type 0
+  DueBehind n = (status ≡ n) ⊎ (((status ≡ 4) × (WriteFailed before after ⊎ failed)) ⊎ (((status ≡ 3) × ReadFailed before after) ⊎ (status ≡ 13)))
+
   -- what is due where a stream is cut
   abbrev DueWritten : Type 0
-  DueWritten = (status ≡ 12) ⊎ (((status ≡ 4) × (WriteFailed before after ⊎ failed)) ⊎ (((status ≡ 3) × ReadFailed before after) ⊎ (status ≡ 13)))
+  DueWritten = DueBehind 12
+
+  -- and where the idle answers end the work
+  abbrev DueIdle : Type 0
+  DueIdle = DueBehind 9
 
   module _ (one : HasOneCut) (file name : List ℕ) (client : ℕ) (names : SiftNamesValue) (t : TellsCutStream file name client names before) where
     same_asset : (a : Asset) → FindsAsset (before.files.content file) name a → a ≡ t.asset
@@ -167,25 +193,137 @@ module _ (failed : Type 0) (status : ℕ) (before after : Outside) where
     cut_from (Err (stop.CaptureRefused r)) meets h = absurd meets.0.0
     cut_from (Err (stop.CaptureCut place)) meets h = absurd meets.0.0
     cut_from (Err (stop.RunCut place summary)) meets h = absurd meets.0.0
+    cut_from (Err stop.LinkFault) meets h = absurd meets.0.0
+    cut_from (Err stop.IdleEnd) meets h = absurd meets.0.0
     cut_from (Err (stop.Cut reason)) meets h = inl (stop_is failed status (stop.Cut reason) h)
     cut_from (Err stop.Unbuilt) meets h = absurd meets.0.0
 
+  module _ (law : HasOneJudgement) (file name : List ℕ) (port idles : ℕ) (log : List ℕ) (t : TellsRelay file name before after.pair) where
+    relayed_asset : (a : Asset) → FindsAsset (before.files.content file) name a → a ≡ t.asset
+    relayed_asset a finds =
+        let same : finds.policy ≡ t.policy = same_policy (before.files.content file) t.bytes t.policy finds.policy t.told t.means finds.has in
+        let found = finds.named in
+        let named = t.named in
+        cc
+
+    known_means : (r : PolicyRefusal) → RefusesPolicy (Relay file name port idles log) before r → ⊥
+    known_means r cause =
+        let e = cause.1 in
+        let here : cause.0 ≡ file = cc in
+        not_refused (before.files.content file) t.bytes t.policy r t.told t.means (subst (λ f. IsRefusedBy (before.files.content f) r) here cause.2)
+
+    known_asset : LacksAsset (Relay file name port idles log) before → ⊥
+    known_asset cause =
+        let e = cause.2 in
+        let f = cause.3 in
+        let here : cause.0 ≡ file = cc in
+        let called : cause.1 ≡ name = cc in
+        let has : HasPolicy (before.files.content file) cause.4.0 = subst (λ x. HasPolicy (before.files.content x) cause.4.0) here cause.4.1 in
+        let same : cause.4.0 ≡ t.policy = same_policy (before.files.content file) t.bytes t.policy cause.4.0 t.told t.means has in
+        let none = cause.4.2 in
+        let named = t.named in
+        cc
+
+    -- the answers that are told are the relay's, and so are their items
+    relayed_answers : (es : List Entry) → after.pair.told ≡ with_answers before.pair.told es → es ≡ t.answers
+    relayed_answers es told =
+        let behind : after.pair.told ≡ Some (t.earlier ++ es) = subst (λ earlier. after.pair.told ≡ with_answers earlier es) t.earlier_told told in
+        let all = t.answers_told in
+        let same : t.earlier ++ es ≡ t.earlier ++ t.answers = cc in
+        append_cancel_left t.earlier es t.answers same
+
+    relayed_cut : (a : Asset) (es : List Entry) (js : List Judged) → FindsAsset (before.files.content file) name a → after.pair.told ≡ with_answers before.pair.told es →
+        AreItemsOf a es js → cut_at a es js ≡ cut_at t.asset t.answers t.judged
+    relayed_cut a es js finds told are =
+        let asset : a ≡ t.asset = relayed_asset a finds in
+        let answers : es ≡ t.answers = relayed_answers es told in
+        let here : AreItemsOf t.asset t.answers js = subst (λ x. AreItemsOf x t.answers js) asset (subst (λ l. AreItemsOf a l js) answers are) in
+        let judged : js ≡ t.judged = law t.asset (client_of t.answers).address (history_of t.answers) js t.judged here t.are_items in
+        cc
+
+    -- a relay that answered so was not cut
+    not_cut : (reason : CutReason) → cut_at t.asset t.answers t.judged ≡ Some reason → (r : Result Done Stop) → IsUncutEnd r → (answer : Result RelayDone RelayFault) →
+        HasRelayed file name idles log before after answer → relay_answer answer ≡ r → ⊥
+    not_cut reason cut r kind answer h is =
+        let uncut = uncut_by _ _ _ _ h.answers r kind answer is h.relayed in
+        let same = relayed_cut h.asset h.answers uncut.judged h.finds h.told uncut.are_items in
+        let none = uncut.uncut in
+        cc
+
+    not_cut_stop : (reason : CutReason) → cut_at t.asset t.answers t.judged ≡ Some reason → (s : Stop) → IsUncutEnd (Err s) →
+        (StopsPolicy s ⊎ (s ≡ stop.UnknownAsset) → ⊥) → RelayLeaves file name idles log before after s → ⊥
+    not_cut_stop reason cut s kind late (inl l) = late l.0
+    not_cut_stop reason cut s kind late (inr l) = not_cut reason cut (Err s) kind l.0 l.1 l.2
+
+    relay_cut_from : (reason : CutReason) → cut_at t.asset t.answers t.judged ≡ Some reason → (r : Result Done Stop) →
+        Meets (Relay file name port idles log) before after r → IsOf r failed status → DueWritten
+    relay_cut_from reason cut (Ok d) meets h = absurd (not_cut reason cut (Ok d) tt meets.0 meets.1 meets.2)
+    relay_cut_from reason cut (Err stop.ReadFault) meets h = inr (inr (inl (stop_is failed status stop.ReadFault h, meets.0)))
+    relay_cut_from reason cut (Err stop.NoMemory) meets h = inr (inr (inr (stop_is failed status stop.NoMemory h)))
+    relay_cut_from reason cut (Err (stop.PolicyRefused r)) meets h = absurd (known_means r meets.0)
+    relay_cut_from reason cut (Err stop.UnknownAsset) meets h = absurd (known_asset meets.0)
+    relay_cut_from reason cut (Err stop.WriteFault) meets h = inr (inl (stop_is failed status stop.WriteFault h, inl meets.0.0))
+    relay_cut_from reason cut (Err (stop.CaptureRefused r)) meets h = absurd meets.0.0
+    relay_cut_from reason cut (Err (stop.CaptureCut place)) meets h = absurd meets.0.0
+    relay_cut_from reason cut (Err (stop.RunCut place summary)) meets h = absurd meets.0.0
+    relay_cut_from reason cut (Err stop.LinkFault) meets h = absurd (not_cut_stop reason cut stop.LinkFault tt link_is_late meets.1)
+    relay_cut_from reason cut (Err stop.IdleEnd) meets h = absurd (not_cut_stop reason cut stop.IdleEnd tt idle_is_late meets.1)
+    relay_cut_from reason cut (Err (stop.Cut other)) meets h = inl (stop_is failed status (stop.Cut other) h)
+    relay_cut_from reason cut (Err stop.Unbuilt) meets h = absurd meets.0.0
+
+    -- nor did one go on that answered so
+    not_idle : idle_run t.answers ≡ 2 * idles → (r : Result Done Stop) → GoesOn r → (answer : Result RelayDone RelayFault) →
+        HasRelayed file name idles log before after answer → relay_answer answer ≡ r → ⊥
+    not_idle idle r kind answer h is =
+        let few = few_by _ _ _ _ h.answers r kind answer is h.relayed in
+        let same : h.answers ≡ t.answers = relayed_answers h.answers h.told in
+        omega (arith, few, idle, ap idle_run same)
+
+    relay_idle_from : cut_at t.asset t.answers t.judged ≡ None → idle_run t.answers ≡ 2 * idles → (r : Result Done Stop) →
+        Meets (Relay file name port idles log) before after r → IsOf r failed status → DueIdle
+    relay_idle_from uncut idle (Ok d) meets h = absurd (not_idle idle (Ok d) tt meets.0 meets.1 meets.2)
+    relay_idle_from uncut idle (Err stop.ReadFault) meets h = inr (inr (inl (stop_is failed status stop.ReadFault h, meets.0)))
+    relay_idle_from uncut idle (Err stop.NoMemory) meets h = inr (inr (inr (stop_is failed status stop.NoMemory h)))
+    relay_idle_from uncut idle (Err (stop.PolicyRefused r)) meets h = absurd (known_means r meets.0)
+    relay_idle_from uncut idle (Err stop.UnknownAsset) meets h = absurd (known_asset meets.0)
+    relay_idle_from uncut idle (Err stop.WriteFault) meets h = inr (inl (stop_is failed status stop.WriteFault h, inl meets.0.0))
+    relay_idle_from uncut idle (Err (stop.CaptureRefused r)) meets h = absurd meets.0.0
+    relay_idle_from uncut idle (Err (stop.CaptureCut place)) meets h = absurd meets.0.0
+    relay_idle_from uncut idle (Err (stop.RunCut place summary)) meets h = absurd meets.0.0
+    relay_idle_from uncut idle (Err stop.LinkFault) (cause, inl l) h = absurd (link_is_late l.0)
+    relay_idle_from uncut idle (Err stop.LinkFault) (cause, inr l) h = absurd (not_idle idle (Err stop.LinkFault) tt l.0 l.1 l.2)
+    relay_idle_from uncut idle (Err stop.IdleEnd) meets h = inl (stop_is failed status stop.IdleEnd h)
+    relay_idle_from uncut idle (Err (stop.Cut reason)) meets h =
+        let c = meets.0.0 in
+        let same = relayed_cut c.asset c.answers c.judged c.finds c.told c.are_items in
+        let cuts = c.cuts in
+        absurd (cc)
+    relay_idle_from uncut idle (Err stop.Unbuilt) meets h = absurd meets.0.0
+
+  -- answers that end in too many Idle: a line a command
+  idle_from : HasOneJudgement → (c : Command) → TellsIdle c before after.pair → (r : Result Done Stop) → Meets c before after r → IsOf r failed status → DueIdle
+  idle_from law (Check policy) t r meets h = absurd t
+  idle_from law (Packets capture) t r meets h = absurd t
+  idle_from law (Run policy names) t r meets h = absurd t
+  idle_from law (Relay policy asset port idles log) t r meets h = relay_idle_from law policy asset port idles log t.0 t.1 t.2 r meets h
+  idle_from law (World seed sessions policy capture out log) t r meets h = absurd t
+  idle_from law (Sift policy asset client names) t r meets h = absurd t
+
   -- a stream that is cut: a line a command
-  stream_from : HasOneCut → (c : Command) → TellsCut c before → (r : Result Done Stop) → Meets c before after r → IsOf r failed status → DueWritten
-  stream_from one (Check policy) t r meets h = absurd t
-  stream_from one (Packets capture) t r meets h = absurd t
-  stream_from one (Run policy names) t r meets h = absurd t
-  stream_from one (Relay policy asset port idles log) t r meets h = absurd t
-  stream_from one (World seed sessions policy capture out log) t r meets h = absurd t
-  stream_from one (Sift policy asset client names) t r meets h = cut_from one policy asset client names t r meets h
+  stream_from : HasOneCut → HasOneJudgement → (c : Command) → TellsCut c before after.pair → (r : Result Done Stop) → Meets c before after r → IsOf r failed status → DueWritten
+  stream_from one judgement (Check policy) t r meets h = absurd t
+  stream_from one judgement (Packets capture) t r meets h = absurd t
+  stream_from one judgement (Run policy names) t r meets h = absurd t
+  stream_from one judgement (Relay policy asset port idles log) t r meets h = relay_cut_from judgement policy asset port idles log t.0 t.1.0 t.1.1 r meets h
+  stream_from one judgement (World seed sessions policy capture out log) t r meets h = absurd t
+  stream_from one judgement (Sift policy asset client names) t r meets h = cut_from one policy asset client names t r meets h
 
   -- a part that is not built: a line a command
   unbuilt_from : (c : Command) → TellsLack c before → (r : Result Done Stop) → Meets c before after r → IsOf r failed status → Due 14
   unbuilt_from (Check policy) t r meets h = absurd t
   unbuilt_from (Packets capture) t r meets h = long_from capture t r meets h
   unbuilt_from (Run policy names) t r meets h = absurd t
-  unbuilt_from (Relay policy asset port idles log) t (Ok d) meets h = absurd meets
-  unbuilt_from (Relay policy asset port idles log) t (Err s) meets h = inl (stop_is failed status s h ∙ ap stop_status meets.1.0)
+  unbuilt_from (Relay policy asset port idles log) t r meets h = absurd t
   unbuilt_from (World seed sessions policy capture out log) t (Ok d) meets h = absurd meets
   unbuilt_from (World seed sessions policy capture out log) t (Err s) meets h = inl (stop_is failed status s h ∙ ap stop_status meets.1.0)
   unbuilt_from (Sift policy asset client names) t r meets h = absurd t
@@ -197,28 +335,30 @@ later status n before middle after rise (inl h) = inl h
 later status n before middle after rise (inr (inl h)) = inr (inl (h.0, rise h.1))
 later status n before middle after rise (inr (inr h)) = inr (inr h)
 
-later_written : (status : ℕ) (before middle after : Outside) (failed : Type 0) → (ReadFailed before middle → ReadFailed before after) →
-    (WriteFailed before middle ⊎ failed → WriteFailed before after) → DueWritten failed status before middle → DueWritten ⊥ status before after
-later_written status before middle after failed rise wrote (inl h) = inl h
-later_written status before middle after failed rise wrote (inr (inl h)) = inr (inl (h.0, inl (wrote h.1)))
-later_written status before middle after failed rise wrote (inr (inr (inl h))) = inr (inr (inl (h.0, rise h.1)))
-later_written status before middle after failed rise wrote (inr (inr (inr h))) = inr (inr (inr h))
+later_written : (status n : ℕ) (before middle after : Outside) (failed : Type 0) → (ReadFailed before middle → ReadFailed before after) →
+    (WriteFailed before middle ⊎ failed → WriteFailed before after) → DueBehind failed status before middle n → DueBehind ⊥ status before after n
+later_written status n before middle after failed rise wrote (inl h) = inl h
+later_written status n before middle after failed rise wrote (inr (inl h)) = inr (inl (h.0, inl (wrote h.1)))
+later_written status n before middle after failed rise wrote (inr (inr (inl h))) = inr (inr (inl (h.0, rise h.1)))
+later_written status n before middle after failed rise wrote (inr (inr (inr h))) = inr (inr (inr h))
 
-plain : (status : ℕ) (before after : Outside) → DueWritten ⊥ status before after →
-    (status ≡ 12) ⊎ (((status ≡ 4) × WriteFailed before after) ⊎ (((status ≡ 3) × ReadFailed before after) ⊎ (status ≡ 13)))
-plain status before after (inl h) = inl h
-plain status before after (inr (inl (h, inl w))) = inr (inl (h, w))
-plain status before after (inr (inl (h, inr w))) = absurd w
-plain status before after (inr (inr h)) = inr (inr h)
+plain : (status n : ℕ) (before after : Outside) → DueBehind ⊥ status before after n →
+    (status ≡ n) ⊎ (((status ≡ 4) × WriteFailed before after) ⊎ (((status ≡ 3) × ReadFailed before after) ⊎ (status ≡ 13)))
+plain status n before after (inl h) = inl h
+plain status n before after (inr (inl (h, inl w))) = inr (inl (h, w))
+plain status n before after (inr (inl (h, inr w))) = absurd w
+plain status n before after (inr (inr h)) = inr (inr h)
 
-pub exact_told : HasOneCut → {c : Command} {before after : Outside} {status : ℕ} (e : Explains c before after status) → IsExact c before after status
-exact_told one {c = c} {before = before} {after = after} {status = status} e = record {
+pub exact_told : HasOneCut → HasOneJudgement → {c : Command} {before after : Outside} {status : ℕ} (e : Explains c before after status) → IsExact c before after status
+exact_told one law {c = c} {before = before} {after = after} {status = status} e = record {
   refused = λ t. later status 5 before e.middle after (read_failed e)
       (refused_from (Unprinted e) status before e.middle c t e.r e.meets (explained e));
   unknown = λ t. later status 10 before e.middle after (read_failed e)
       (unknown_from (Unprinted e) status before e.middle c t e.r e.meets (explained e));
   unbuilt = λ t. later status 14 before e.middle after (read_failed e)
       (unbuilt_from (Unprinted e) status before e.middle c t e.r e.meets (explained e));
-  cut = λ t. plain status before after (later_written status before e.middle after (Unprinted e) (read_failed e) (write_failed e)
-      (stream_from (Unprinted e) status before e.middle one c t e.r e.meets (explained e)));
+  cut = λ t. plain status 12 before after (later_written status 12 before e.middle after (Unprinted e) (read_failed e) (write_failed e)
+      (stream_from (Unprinted e) status before e.middle one law c (subst (λ p. TellsCut c before p) e.reports.pair t) e.r e.meets (explained e)));
+  idle = λ t. plain status 9 before after (later_written status 9 before e.middle after (Unprinted e) (read_failed e) (write_failed e)
+      (idle_from (Unprinted e) status before e.middle law c (subst (λ p. TellsIdle c before p) e.reports.pair t) e.r e.meets (explained e)));
 }

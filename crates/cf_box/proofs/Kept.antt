@@ -1,13 +1,19 @@
 -- Which files are as they were.
 use Rattle.std.proofs.Common.{◌≡◌, ◌≢◌, ℕ, List, [], ◌∷◌, Result, Ok, Err, sym, subst, ◌∙◌, ap, inl, inr, arith}
+use Rattle.cf_relay.specs.declared.done.RelayDone.{RelayDone}
+use Rattle.cf_relay.specs.declared.done.RelayEnd.{RelayEnd}
+use Rattle.cf_relay.specs.declared.done.RelayEnd.TheVariants as ends
+use Rattle.cf_relay.specs.declared.done.RelayFault.{RelayFault}
+use Rattle.cf_relay.specs.declared.done.RelayFault.TheVariants as relay_fault
 use Rattle.cf_run.specs.declared.run.RunFault.{RunFault}
 use Rattle.cf_run.specs.declared.run.RunFault.TheVariants as fault
 use Rattle.cf_run.specs.declared.run.RunRefusal.TheVariants as by
 use Rattle.cf_box.specs.Command.{Command, Check, Packets, Run, Relay, World, Sift, output_files}
-use Rattle.cf_box.specs.Ending.{stop_status}
+use Rattle.cf_box.specs.Ending.{status_of, stop_status}
 use Rattle.cf_box.specs.Ends.{Does, Leaves, Meets}
 use Rattle.cf_sift.specs.Outputs.{IsSameBeside, KeepsAllBut}
 use Rattle.cf_box.specs.Outside.{Outside}
+use Rattle.cf_box.specs.Relay.{HasRelayed, end_answer, relay_answer}
 use Rattle.cf_box.specs.Run.{run_stop}
 use Rattle.cf_box.specs.Sift.{SiftLeaves}
 use Rattle.cf_box.specs.Status.{WritesNothing}
@@ -35,6 +41,18 @@ not_of_run (fault.Refused by.Clock) w = none_of 6 w (omega arith) (omega arith) 
 not_of_run (fault.Refused by.Large) w = none_of 6 w (omega arith) (omega arith) (omega arith) (omega arith)
 not_of_run (fault.Cut at summary) w = none_of 7 w (omega arith) (omega arith) (omega arith) (omega arith)
 
+-- nor has the end of a relay
+not_of_end : (admitted refused : ℕ) (end : RelayEnd) (s : Stop) → WritesNothing (stop_status s) → end_answer admitted refused end ≡ Err s → ⊥
+not_of_end admitted refused ends.Done s w is = cc is
+not_of_end admitted refused ends.IdleEnd s w is = none_of 9 (subst (λ r. WritesNothing (status_of r)) (sym is) w) (omega arith) (omega arith) (omega arith) (omega arith)
+not_of_end admitted refused (ends.Cut reason) s w is = none_of 12 (subst (λ r. WritesNothing (status_of r)) (sym is) w) (omega arith) (omega arith) (omega arith) (omega arith)
+
+not_of_relay : (s : Stop) → WritesNothing (stop_status s) → (answer : Result RelayDone RelayFault) → relay_answer answer ≡ Err s → ⊥
+not_of_relay s w (Ok relayed) is = not_of_end relayed.admitted relayed.refused relayed.end s w is
+not_of_relay s w (Err relay_fault.NoMemory) is = none_of 13 (subst (λ r. WritesNothing (status_of r)) (sym is) w) (omega arith) (omega arith) (omega arith) (omega arith)
+not_of_relay s w (Err relay_fault.Link) is = none_of 8 (subst (λ r. WritesNothing (status_of r)) (sym is) w) (omega arith) (omega arith) (omega arith) (omega arith)
+not_of_relay s w (Err relay_fault.Write) is = none_of 4 (subst (λ r. WritesNothing (status_of r)) (sym is) w) (omega arith) (omega arith) (omega arith) (omega arith)
+
 module _ (before after : Outside) where
   all_kept : (names : List (List ℕ)) (other : List ℕ) → after.files.content ≡ before.files.content → IsSameBeside before.files.content after.files.content other names
   all_kept [] other same = ap (λ f. f other) same
@@ -46,12 +64,17 @@ module _ (before after : Outside) where
   nothing_written : (k : Command) → after.files.content ≡ before.files.content → Keeps k
   nothing_written k same = λ other. all_kept (output_files k) other same
 
+  -- a relay writes its log alone
+  relay_keeps : (policy asset : List ℕ) (idles : ℕ) (log : List ℕ) (answer : Result RelayDone RelayFault) → HasRelayed policy asset idles log before after answer →
+      KeepsAllBut before.files.content after.files.content (log ∷ [])
+  relay_keeps policy asset idles log answer relayed = λ other differs. relayed.others other differs
+
   -- what was done keeps every file but the outputs: a line a command
   done_keeps : (k : Command) (d : Done) → Does k before after d → Keeps k
   done_keeps (Check policy) d m = nothing_written (Check policy) m.same.content
   done_keeps (Packets file) d m = nothing_written (Packets file) m.content
   done_keeps (Run policy names) d m = m.1.others
-  done_keeps (Relay policy asset port idles log) d m = absurd m
+  done_keeps (Relay policy asset port idles log) d m = relay_keeps policy asset idles log m.0 m.1
   done_keeps (World seed sessions policy capture out log) d m = absurd m
   done_keeps (Sift policy asset client names) d m = m.takes.sifted.others
 
@@ -68,7 +91,8 @@ module _ (before after : Outside) where
   stop_keeps (Packets file) s l = nothing_written (Packets file) l.content
   stop_keeps (Run policy names) s (inl l) = nothing_written (Run policy names) l.1.content
   stop_keeps (Run policy names) s (inr l) = l.1.others
-  stop_keeps (Relay policy asset port idles log) s l = nothing_written (Relay policy asset port idles log) (ap (λ (o : Outside). o.files.content) l.1)
+  stop_keeps (Relay policy asset port idles log) s (inl l) = nothing_written (Relay policy asset port idles log) l.1.content
+  stop_keeps (Relay policy asset port idles log) s (inr l) = relay_keeps policy asset idles log l.0 l.1
   stop_keeps (World seed sessions policy capture out log) s l = nothing_written (World seed sessions policy capture out log) (ap (λ (o : Outside). o.files.content) l.1)
   stop_keeps (Sift policy asset client names) s l = sift_keeps policy asset client names s l
 
@@ -88,7 +112,8 @@ module _ (before after : Outside) where
   unwritten_by (Packets file) s w l = l.content
   unwritten_by (Run policy names) s w (inl l) = l.1.content
   unwritten_by (Run policy names) s w (inr l) = absurd (not_of_run l.0 (subst (λ t. WritesNothing (stop_status t)) l.2 w))
-  unwritten_by (Relay policy asset port idles log) s w l = ap (λ (o : Outside). o.files.content) l.1
+  unwritten_by (Relay policy asset port idles log) s w (inl l) = l.1.content
+  unwritten_by (Relay policy asset port idles log) s w (inr l) = absurd (not_of_relay s w l.0 l.2)
   unwritten_by (World seed sessions policy capture out log) s w l = ap (λ (o : Outside). o.files.content) l.1
   unwritten_by (Sift policy asset client names) s w l = sift_unwritten policy asset client names s w l
 

@@ -5,6 +5,7 @@ pub mod FileNames
 pub mod Kept
 pub mod Listing
 pub mod Numerals
+pub mod Relaying
 pub mod RunHolds
 pub mod Runs
 pub mod Sifting

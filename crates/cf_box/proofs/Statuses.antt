@@ -15,8 +15,8 @@ use Rattle.cf_pcap.specs.declared.HeaderRefusal.{HeaderRefusal}
 use Rattle.cf_policylang.specs.declared.PolicyRefusal.{PolicyRefusal}
 use Rattle.cf_box.specs.Command.{Command, Check, Packets, Run, Relay, World, Sift}
 use Rattle.cf_box.specs.Ending.{Prints, Reports, end_text, status_of, stop_status, unprinted_status}
-use Rattle.cf_box.specs.Ends.{CutsCapture, CutsRun, CutsStream, LacksAsset, Meets, RefusesCapture, RefusesPolicy}
-use Rattle.cf_box.specs.Outside.{Outside, ReadFailed, SinkValue, WriteFailed}
+use Rattle.cf_box.specs.Ends.{CutsCapture, CutsRun, CutsStream, EndsIdle, LacksAsset, LinkFails, Meets, RefusesCapture, RefusesPolicy}
+use Rattle.cf_box.specs.Outside.{Outside, PairValue, ReadFailed, SinkValue, WriteFailed}
 use Rattle.cf_box.specs.Packets.{Lists, ListsBehind, ListsFile}
 use Rattle.cf_box.specs.Status.{IsStatus, SiftPassesAllowed}
 use Rattle.cf_box.specs.declared.ending.CaptureRefusal.{CaptureRefusal}
@@ -58,10 +58,12 @@ module _ (failed : Type 0) (status : ℕ) where
   is_one (Err (stop.CaptureRefused r)) h = inr (inr (inr (inr (inr (inl (stop_is (stop.CaptureRefused r) h))))))
   is_one (Err (stop.CaptureCut place)) h = inr (inr (inr (inr (inr (inr (inl (stop_is (stop.CaptureCut place) h)))))))
   is_one (Err (stop.RunCut place summary)) h = inr (inr (inr (inr (inr (inr (inl (stop_is (stop.RunCut place summary) h)))))))
-  is_one (Err stop.UnknownAsset) h = inr (inr (inr (inr (inr (inr (inr (inl (stop_is stop.UnknownAsset h))))))))
-  is_one (Err (stop.Cut reason)) h = inr (inr (inr (inr (inr (inr (inr (inr (inl (stop_is (stop.Cut reason) h)))))))))
-  is_one (Err stop.NoMemory) h = inr (inr (inr (inr (inr (inr (inr (inr (inr (inl (stop_is stop.NoMemory h))))))))))
-  is_one (Err stop.Unbuilt) h = inr (inr (inr (inr (inr (inr (inr (inr (inr (inr (stop_is stop.Unbuilt h))))))))))
+  is_one (Err stop.LinkFault) h = inr (inr (inr (inr (inr (inr (inr (inl (stop_is stop.LinkFault h))))))))
+  is_one (Err stop.IdleEnd) h = inr (inr (inr (inr (inr (inr (inr (inr (inl (stop_is stop.IdleEnd h)))))))))
+  is_one (Err stop.UnknownAsset) h = inr (inr (inr (inr (inr (inr (inr (inr (inr (inl (stop_is stop.UnknownAsset h))))))))))
+  is_one (Err (stop.Cut reason)) h = inr (inr (inr (inr (inr (inr (inr (inr (inr (inr (inl (stop_is (stop.Cut reason) h)))))))))))
+  is_one (Err stop.NoMemory) h = inr (inr (inr (inr (inr (inr (inr (inr (inr (inr (inr (inl (stop_is stop.NoMemory h))))))))))))
+  is_one (Err stop.Unbuilt) h = inr (inr (inr (inr (inr (inr (inr (inr (inr (inr (inr (inr (stop_is stop.Unbuilt h))))))))))))
 
   -- another ending's status is another
   other : (r : Result Done Stop) (n : ℕ) → IsOf r failed status → status ≡ n → status_of r ≢ n → unprinted_status r ≢ n → ⊥
@@ -116,7 +118,24 @@ module _ (failed : Type 0) (status : ℕ) where
     lack_from (Err stop.UnknownAsset) meets h is = meets.0
     lack_from r meets h is = absurd (other r 10 h is (omega arith) (omega arith))
 
-    stream_from : (r : Result Done Stop) → Meets c before middle r → IsOf r failed status → status ≡ 12 → (reason : CutReason) × CutsStream c before reason
+    -- a call on the pair failed where the command asks it
+    link_of : (k : Command) (pair : PairValue) → LinkFails k before pair → Rose before.pair.faults pair.faults
+    link_of (Relay policy asset port idles log) pair fails = fails
+    link_of (Check policy) pair fails = absurd fails
+    link_of (Packets capture) pair fails = absurd fails
+    link_of (Run policy names) pair fails = absurd fails
+    link_of (World seed sessions policy capture out log) pair fails = absurd fails
+    link_of (Sift policy asset client names) pair fails = absurd fails
+
+    link_from : (r : Result Done Stop) → Meets c before middle r → IsOf r failed status → status ≡ 8 → Rose before.pair.faults middle.pair.faults
+    link_from (Err stop.LinkFault) meets h is = link_of c middle.pair meets.0.0
+    link_from r meets h is = absurd (other r 8 h is (omega arith) (omega arith))
+
+    idle_from : (r : Result Done Stop) → Meets c before middle r → IsOf r failed status → status ≡ 9 → EndsIdle c before middle.pair
+    idle_from (Err stop.IdleEnd) meets h is = meets.0.0
+    idle_from r meets h is = absurd (other r 9 h is (omega arith) (omega arith))
+
+    stream_from : (r : Result Done Stop) → Meets c before middle r → IsOf r failed status → status ≡ 12 → (reason : CutReason) × CutsStream c before middle.pair reason
     stream_from (Err (stop.Cut reason)) meets h is = (reason, meets.0.0)
     stream_from r meets h is = absurd (other r 12 h is (omega arith) (omega arith))
 
@@ -159,6 +178,8 @@ module _ (failed : Type 0) (status : ℕ) where
   }
   lists_from before middle after file (Ok (done.Sifted admitted refused)) m reports h is =
       cc (listed (done.Sifted admitted refused) (header_of m.lists.capture) m.lists.capture _ _ _ m.lists.lists)
+  lists_from before middle after file (Ok (done.Relayed admitted refused)) m reports h is =
+      cc (listed (done.Relayed admitted refused) (header_of m.lists.capture) m.lists.capture _ _ _ m.lists.lists)
   lists_from before middle after file (Ok (done.Checked assets rules)) m reports h is =
       cc (listed (done.Checked assets rules) (header_of m.lists.capture) m.lists.capture _ _ _ m.lists.lists)
   lists_from before middle after file (Ok (done.Ran summary)) m reports h is =
@@ -206,8 +227,16 @@ module _ {c : Command} {before after : Outside} {status : ℕ} (e : Explains c b
   pub lack_told : status ≡ 10 → LacksAsset c before
   lack_told = lack_from Unprinted status c before e.middle e.r e.meets explained
 
-  pub stream_told : status ≡ 12 → (reason : CutReason) × CutsStream c before reason
-  stream_told = stream_from Unprinted status c before e.middle e.r e.meets explained
+  pub link_told : status ≡ 8 → Rose before.pair.faults after.pair.faults
+  link_told is = subst (λ p. Rose before.pair.faults p.faults) (sym e.reports.pair) (link_from Unprinted status c before e.middle e.r e.meets explained is)
+
+  pub idle_told : status ≡ 9 → EndsIdle c before after.pair
+  idle_told is = subst (λ p. EndsIdle c before p) (sym e.reports.pair) (idle_from Unprinted status c before e.middle e.r e.meets explained is)
+
+  pub stream_told : status ≡ 12 → (reason : CutReason) × CutsStream c before after.pair reason
+  stream_told is =
+      subst (λ p. (reason : CutReason) × CutsStream c before p reason) (sym e.reports.pair)
+      (stream_from Unprinted status c before e.middle e.r e.meets explained is)
 
   pub passes_told : LanePassesAllowed → (policy name : List ℕ) (client : ℕ) (names : SiftNamesValue) → c ≡ Sift policy name client names → status ≡ 0 →
       SiftPassesAllowed policy name client names before after

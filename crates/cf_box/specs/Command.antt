@@ -16,7 +16,7 @@ abbrev pub policy_file : Command → Option (List ℕ)
 policy_file (Check policy) = Some policy
 policy_file (Packets capture) = None
 policy_file (Run policy names) = Some policy
-policy_file (Relay policy asset port idles log) = None
+policy_file (Relay policy asset port idles log) = Some policy
 policy_file (World seed sessions policy capture out log) = None
 policy_file (Sift policy asset client names) = Some policy
 
@@ -25,7 +25,7 @@ abbrev pub asset_name : Command → Option (List ℕ)
 asset_name (Check policy) = None
 asset_name (Packets capture) = None
 asset_name (Run policy names) = None
-asset_name (Relay policy asset port idles log) = None
+asset_name (Relay policy asset port idles log) = Some asset
 asset_name (World seed sessions policy capture out log) = None
 asset_name (Sift policy asset client names) = Some asset
 
@@ -43,6 +43,11 @@ abbrev pub output_files : Command → List (List ℕ)
 output_files (Check policy) = []
 output_files (Packets capture) = []
 output_files (Run policy names) = names.out ∷ names.log ∷ []
-output_files (Relay policy asset port idles log) = []
+output_files (Relay policy asset port idles log) = log ∷ []
 output_files (World seed sessions policy capture out log) = []
 output_files (Sift policy asset client names) = names.out ∷ names.replies ∷ names.log ∷ []
+
+-- it asks the pair of streams for something
+abbrev pub AsksPair : Command → Type 0
+AsksPair (Relay policy asset port idles log) = Unit {0}
+AsksPair _ = ⊥

@@ -21,6 +21,8 @@ stop_status (stop.PolicyRefused r) = 5
 stop_status (stop.CaptureRefused r) = 6
 stop_status (stop.CaptureCut place) = 7
 stop_status (stop.RunCut place summary) = 7
+stop_status stop.LinkFault = 8
+stop_status stop.IdleEnd = 9
 stop_status stop.UnknownAsset = 10
 stop_status (stop.Cut reason) = 12
 stop_status stop.NoMemory = 13
@@ -55,9 +57,14 @@ summary_text s =
     ++ (count_line (codes "full ") s.full ++ (count_line (codes "sessions ") s.sessions ++ (count_line (codes "admitted ") s.admitted
     ++ (count_line (codes "refused ") s.refused ++ count_line (codes "cuts ") s.cuts))))))
 
+-- how many commands were admitted and refused, a line each
+abbrev pub commands_text : (admitted refused : ℕ) → List ℕ
+commands_text admitted refused = codes "admitted " ++ decimal admitted ++ codes "\nrefused " ++ decimal refused ++ codes "\n"
+
 -- what is printed of work that was done; the lines of a listing were printed before
 abbrev pub done_text : Done → Option (List ℕ)
-done_text (done.Sifted admitted refused) = Some (codes "admitted " ++ decimal admitted ++ codes "\nrefused " ++ decimal refused ++ codes "\n")
+done_text (done.Sifted admitted refused) = Some (commands_text admitted refused)
+done_text (done.Relayed admitted refused) = Some (commands_text admitted refused)
 done_text (done.Checked assets rules) = Some (codes "ok " ++ decimal assets ++ codes " " ++ decimal rules ++ codes "\n")
 done_text done.Listed = None
 done_text (done.Ran summary) = Some (summary_text summary)
@@ -70,6 +77,8 @@ stop_text (stop.PolicyRefused r) = Some (codes "policy refused " ++ refusal_text
 stop_text (stop.CaptureRefused r) = Some (codes "capture refused " ++ decimal (capture_number r) ++ codes "\n")
 stop_text (stop.CaptureCut place) = Some (codes "capture cut at " ++ decimal place ++ codes "\n")
 stop_text (stop.RunCut place summary) = Some (codes "capture cut at " ++ decimal place ++ codes "\n" ++ summary_text summary)
+stop_text stop.LinkFault = Some (codes "link fault\n")
+stop_text stop.IdleEnd = Some (codes "idle end\n")
 stop_text stop.UnknownAsset = Some (codes "unknown asset\n")
 stop_text (stop.Cut reason) = Some (codes "cut " ++ cut_text reason ++ codes "\n")
 stop_text stop.NoMemory = None

@@ -1,15 +1,17 @@
 -- How the program ends: `Ends` says it of the words. It is read from the end.
 use Rattle.std.specs.Prelude.{◌≡◌, ℕ, List, Option, None, Some, Result, Ok, Err, codes}
 use Rattle.cf_audit.specs.declared.line.CutReason.{CutReason}
+use Rattle.cf_outside.specs.Faults.{Rose}
 use Rattle.cf_policy.specs.declared.Asset.{Asset}
 use Rattle.cf_policy.specs.declared.Policy.{Policy}
 use Rattle.cf_policylang.specs.declared.PolicyRefusal.{PolicyRefusal}
 use Rattle.cf_box.specs.Check.{CheckLeaves, Checks}
 use Rattle.cf_box.specs.Command.{Command, Check, Packets, Run, Relay, World, Sift, asset_name, policy_file}
 use Rattle.cf_box.specs.Ending.{Puts, Reports}
-use Rattle.cf_box.specs.Outside.{Outside, ReadFailed, WriteFailed}
+use Rattle.cf_box.specs.Outside.{Outside, PairValue, ReadFailed, WriteFailed}
 use Rattle.cf_box.specs.Packets.{LacksPartOfPackets, ListingCuts, ListingRefuses, Lists, PacketsLeaves}
 use Rattle.cf_box.specs.PolicyFile.{HasPolicy, IsRefusedBy, asset_named}
+use Rattle.cf_box.specs.Relay.{CutsRelay, EndsRelayIdle, RelayLeaves, Relays}
 use Rattle.cf_box.specs.Run.{RunCuts, RunLeaves, RunRefuses, Runs}
 use Rattle.cf_box.specs.Sift.{CutsSift, SiftLeaves, Sifts}
 use Rattle.cf_box.specs.declared.ending.CaptureRefusal.{CaptureRefusal}
@@ -50,21 +52,31 @@ abbrev pub CutsRun : Command → Outside → ℕ → Type 0
 CutsRun (Run policy names) before place = RunCuts (before.files.content names.capture) place
 CutsRun _ before place = ⊥
 
--- the stream that a command takes is cut so: a line a command
-abbrev pub CutsStream : Command → Outside → CutReason → Type 0
-CutsStream (Check policy) before reason = ⊥
-CutsStream (Packets capture) before reason = ⊥
-CutsStream (Run policy names) before reason = ⊥
-CutsStream (Relay policy asset port idles log) before reason = ⊥
-CutsStream (World seed sessions policy capture out log) before reason = ⊥
-CutsStream (Sift policy asset client names) before reason = CutsSift policy asset client names before reason
+-- a stream that a command takes is cut so, where the pair then stands so: a line a command
+abbrev pub CutsStream : Command → (before : Outside) → (pair : PairValue) → CutReason → Type 0
+CutsStream (Check policy) before pair reason = ⊥
+CutsStream (Packets capture) before pair reason = ⊥
+CutsStream (Run policy names) before pair reason = ⊥
+CutsStream (Relay policy asset port idles log) before pair reason = CutsRelay policy asset before pair reason
+CutsStream (World seed sessions policy capture out log) before pair reason = ⊥
+CutsStream (Sift policy asset client names) before pair reason = CutsSift policy asset client names before reason
+
+-- the answers Idle of the pair end the work of a command that asks it
+abbrev pub EndsIdle : Command → (before : Outside) → (pair : PairValue) → Type 0
+EndsIdle (Relay policy asset port idles log) before pair = EndsRelayIdle before.pair pair idles
+EndsIdle _ before pair = ⊥
+
+-- a call on the pair failed for a command that asks it
+abbrev pub LinkFails : Command → (before : Outside) → (pair : PairValue) → Type 0
+LinkFails (Relay policy asset port idles log) before pair = Rose before.pair.faults pair.faults
+LinkFails _ before pair = ⊥
 
 -- what a command does, or what of its input, is not built: a line a command
 abbrev pub LacksPart : Command → Outside → Type 0
 LacksPart (Check policy) before = ⊥
 LacksPart (Packets capture) before = LacksPartOfPackets capture before
 LacksPart (Run policy names) before = ⊥
-LacksPart (Relay policy asset port idles log) before = Unit {0}
+LacksPart (Relay policy asset port idles log) before = ⊥
 LacksPart (World seed sessions policy capture out log) before = Unit {0}
 LacksPart (Sift policy asset client names) before = ⊥
 
@@ -77,8 +89,10 @@ StopsFor c before after (stop.PolicyRefused r) = RefusesPolicy c before r
 StopsFor c before after (stop.CaptureRefused r) = RefusesCapture c before r × PassesPolicy c before
 StopsFor c before after (stop.CaptureCut place) = CutsCapture c before place × PassesPolicy c before
 StopsFor c before after (stop.RunCut place summary) = CutsRun c before place × PassesPolicy c before
+StopsFor c before after stop.LinkFault = LinkFails c before after.pair × PassesPolicy c before
+StopsFor c before after stop.IdleEnd = EndsIdle c before after.pair × PassesPolicy c before
 StopsFor c before after stop.UnknownAsset = LacksAsset c before
-StopsFor c before after (stop.Cut reason) = CutsStream c before reason × PassesPolicy c before
+StopsFor c before after (stop.Cut reason) = CutsStream c before after.pair reason × PassesPolicy c before
 StopsFor c before after stop.NoMemory = Unit {0}
 StopsFor c before after stop.Unbuilt = LacksPart c before × PassesPolicy c before
 
@@ -87,7 +101,7 @@ abbrev pub Does : Command → (before after : Outside) → Done → Type 0
 Does (Check policy) before after d = Checks policy before after d
 Does (Packets capture) before after d = Lists capture before after d
 Does (Run policy names) before after d = Runs policy names before after d
-Does (Relay policy asset port idles log) before after d = ⊥
+Does (Relay policy asset port idles log) before after d = Relays policy asset idles log before after d
 Does (World seed sessions policy capture out log) before after d = ⊥
 Does (Sift policy asset client names) before after d = Sifts policy asset client names before after d
 
@@ -96,7 +110,7 @@ abbrev pub Leaves : Command → (before after : Outside) → Stop → Type 0
 Leaves (Check policy) before after s = CheckLeaves before after s
 Leaves (Packets capture) before after s = PacketsLeaves capture before after s
 Leaves (Run policy names) before after s = RunLeaves policy names before after s
-Leaves (Relay policy asset port idles log) before after s = (s ≡ stop.Unbuilt) × (after ≡ before)
+Leaves (Relay policy asset port idles log) before after s = RelayLeaves policy asset idles log before after s
 Leaves (World seed sessions policy capture out log) before after s = (s ≡ stop.Unbuilt) × (after ≡ before)
 Leaves (Sift policy asset client names) before after s = SiftLeaves policy asset client names before after s
 

@@ -1,5 +1,5 @@
 -- The policy that a file holds, and the asset of a name.
-use Rattle.std.specs.Prelude.{◌≡◌, ℕ, List, Option, Ok, Err, length, bytes_eq, find}
+use Rattle.std.specs.Prelude.{◌≡◌, ℕ, List, Option, Some, Ok, Err, length, bytes_eq, find}
 use Rattle.std.specs.List.{sum_by}
 use Rattle.cf_outside.specs.Files.{Content, untold, absent, holds, IsWhole}
 use Rattle.cf_policy.specs.declared.Asset.{Asset}
@@ -31,6 +31,12 @@ StopsPolicy _ = ⊥
 -- the asset of a name
 abbrev pub asset_named : List ℕ → Policy → Option Asset
 asset_named name p = find (λ a. bytes_eq a.name name) p.assets
+
+-- the policy that the file holds has an asset of the name
+pub record FindsAsset (file : Content) (name : List ℕ) (asset : Asset) : Type 0 where
+  pub policy : Policy
+  pub has : HasPolicy file policy
+  pub named : asset_named name policy ≡ Some asset
 
 -- how many rules all assets have
 abbrev pub rule_count : List Asset → ℕ

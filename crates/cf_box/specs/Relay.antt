@@ -1,7 +1,31 @@
--- `relay POLICY ASSET PORT IDLES LOG`: a policy between two streams. It is not built.
-use Rattle.std.specs.Prelude.{ℕ, List, [], ◌∷◌, Option, None, if◌then◌else◌, option_and_then, option_map}
+-- `relay POLICY ASSET PORT IDLES LOG`: a policy between two streams. The main definitions are `HasRelayed`, and `CutsRelay` and
+-- `EndsRelayIdle`, which say it of the pair's answers alone.
+use Rattle.std.specs.Prelude.{◌≡◌, ◌⊎◌, ◌*◌, ℕ, List, [], ◌∷◌, ◌++◌, Option, None, Some, Result, Ok, Err, if◌then◌else◌, option_and_then, option_map}
+use Rattle.cf_audit.specs.declared.line.CutReason.{CutReason}
+use Rattle.cf_lane.specs.Judged.{Judged}
+use Rattle.cf_outside.specs.Files.{KeepsOthers, holds}
+use Rattle.cf_outside.specs.Pair.{Entry}
+use Rattle.cf_policy.specs.declared.Asset.{Asset}
+use Rattle.cf_policy.specs.declared.Policy.{Policy}
+use Rattle.cf_policylang.specs.Documents.{policy_meaning}
+use Rattle.cf_relay.specs.Answers.{idle_run, with_answers}
+use Rattle.cf_relay.specs.Ends.{IdlesRose, RelayEnds, file_log}
+use Rattle.cf_relay.specs.Scene.{RoseBy}
+use Rattle.cf_relay.specs.Turn.{AreItemsOf, cut_at}
+use Rattle.cf_relay.specs.declared.done.RelayDone.{RelayDone}
+use Rattle.cf_relay.specs.declared.done.RelayEnd.{RelayEnd}
+use Rattle.cf_relay.specs.declared.done.RelayEnd.TheVariants as ends
+use Rattle.cf_relay.specs.declared.done.RelayFault.{RelayFault}
+use Rattle.cf_relay.specs.declared.done.RelayFault.TheVariants as fault
+use Rattle.cf_box.specs.Check.{ChangesNothing}
 use Rattle.cf_box.specs.Command.{Command, Relay}
 use Rattle.cf_box.specs.Names.{are_names, printed_number_in}
+use Rattle.cf_box.specs.Outside.{Outside, PairValue}
+use Rattle.cf_box.specs.PolicyFile.{FindsAsset, StopsPolicy, asset_named}
+use Rattle.cf_box.specs.declared.ending.Done.{Done}
+use Rattle.cf_box.specs.declared.ending.Done.TheVariants as done
+use Rattle.cf_box.specs.declared.ending.Stop.{Stop}
+use Rattle.cf_box.specs.declared.ending.Stop.TheVariants as stop
 
 -- the port is from 1 to 65,535, and the number of idle turns from 1 to 1,000,000
 abbrev pub relay_of : List (List ℕ) → Option Command
@@ -10,3 +34,87 @@ relay_of (policy ∷ asset ∷ port ∷ idles ∷ log ∷ []) =
     option_and_then (λ p. option_map (λ n. Relay policy asset p n log) (printed_number_in 1 1000000 idles)) (printed_number_in 1 65535 port)
     else None
 relay_of _ = None
+
+-- ---- what a relay did
+
+-- the answer of the command: a relay that a cut or the idle answers ended has stopped
+abbrev pub end_answer : (admitted refused : ℕ) → RelayEnd → Result Done Stop
+end_answer admitted refused ends.Done = Ok (done.Relayed admitted refused)
+end_answer admitted refused ends.IdleEnd = Err stop.IdleEnd
+end_answer admitted refused (ends.Cut reason) = Err (stop.Cut reason)
+
+abbrev pub relay_answer : Result RelayDone RelayFault → Result Done Stop
+relay_answer (Ok relayed) = end_answer relayed.admitted relayed.refused relayed.end
+relay_answer (Err fault.NoMemory) = Err stop.NoMemory
+relay_answer (Err fault.Link) = Err stop.LinkFault
+relay_answer (Err fault.Write) = Err stop.WriteFault
+
+module _ (policy_file asset_name : List ℕ) (idles : ℕ) (log : List ℕ) (before after : Outside) where
+  -- the asset of the name was found, and the pair's answers were relayed for it up to this answer; every file but the log is as
+  -- it was
+  pub record HasRelayed (answer : Result RelayDone RelayFault) : Type 0 where
+    pub asset : Asset
+    pub finds : FindsAsset (before.files.content policy_file) asset_name asset
+    pub answers : List Entry
+    pub told : after.pair.told ≡ with_answers before.pair.told answers
+    pub relayed :
+        RelayEnds asset (2 * idles) (file_log (before.files.content log) (after.files.content log))
+        (after.files.content log ≡ before.files.content log) answers answer
+    pub idles_rose : IdlesRose (2 * idles) before.pair.idles after.pair.idles answer
+    pub others : KeepsOthers log before.files.content after.files.content
+    pub sink : after.sink ≡ before.sink
+
+  -- both streams came to their ends
+  abbrev pub Relays : Done → Type 0
+  Relays d = (answer : Result RelayDone RelayFault) × HasRelayed answer × (relay_answer answer ≡ Ok d)
+
+  -- the policy was not read or has no such asset, and nothing changed; or the relay stopped
+  abbrev pub RelayLeaves : Stop → Type 0
+  RelayLeaves s =
+      ((StopsPolicy s ⊎ (s ≡ stop.UnknownAsset)) × ChangesNothing before after)
+      ⊎ ((answer : Result RelayDone RelayFault) × HasRelayed answer × (relay_answer answer ≡ Err s))
+
+-- ---- why a relay stops, by the answers of the pair
+
+-- twice the number of idle turns came as answers Idle, with no byte and no end between them: by the pair's list, and by its
+-- count
+pub record EndsRelayIdle (before after : PairValue) (idles : ℕ) : Type 0 where
+  pub answers : List Entry
+  pub told : after.told ≡ with_answers before.told answers
+  pub last : idle_run answers ≡ 2 * idles
+  pub counted : RoseBy (2 * idles) before.idles after.idles
+
+module _ (policy_file asset_name : List ℕ) (before : Outside) (pair : PairValue) where
+  -- the asset was found, and its rules cut the streams that these answers make
+  pub record CutsRelay (reason : CutReason) : Type 0 where
+    pub asset : Asset
+    pub finds : FindsAsset (before.files.content policy_file) asset_name asset
+    pub answers : List Entry
+    pub told : pair.told ≡ with_answers before.pair.told answers
+    pub judged : List Judged
+    pub are_items : AreItemsOf asset answers judged
+    pub cuts : cut_at asset answers judged ≡ Some reason
+
+  -- the policy's bytes and the pair's answers are told: the asset, the answers of this relay, and their items
+  pub record TellsRelay : Type 0 where
+    pub bytes : List ℕ
+    pub policy : Policy
+    pub asset : Asset
+    pub told : before.files.content policy_file ≡ holds bytes
+    pub means : policy_meaning bytes ≡ Ok policy
+    pub named : asset_named asset_name policy ≡ Some asset
+    pub earlier : List Entry
+    pub earlier_told : before.pair.told ≡ Some earlier
+    pub answers : List Entry
+    pub answers_told : pair.told ≡ Some (earlier ++ answers)
+    pub judged : List Judged
+    pub are_items : AreItemsOf asset answers judged
+
+  -- and they are cut
+  abbrev pub TellsCutRelay : Type 0
+  TellsCutRelay = (tells : TellsRelay) × ((reason : CutReason) × (cut_at tells.asset tells.answers tells.judged ≡ Some reason))
+
+  -- and they are not, but end in so many answers Idle
+  abbrev pub TellsIdleRelay : (idles : ℕ) → Type 0
+  TellsIdleRelay idles =
+      (tells : TellsRelay) × (cut_at tells.asset tells.answers tells.judged ≡ None) × (idle_run tells.answers ≡ 2 * idles)

@@ -3,7 +3,7 @@ use Rattle.std.specs.Prelude.{◌≡◌, ◌⊎◌, ℕ, List, ◌∷◌, [], Op
 use Rattle.cf_audit.specs.declared.line.CutReason.{CutReason}
 use Rattle.cf_lane.specs.History.{Element}
 use Rattle.cf_lane.specs.Judged.{Judged}
-use Rattle.cf_outside.specs.Files.{Content, holds, IsWhole}
+use Rattle.cf_outside.specs.Files.{holds, IsWhole}
 use Rattle.cf_policy.specs.declared.Asset.{Asset}
 use Rattle.cf_policy.specs.declared.Policy.{Policy}
 use Rattle.cf_policylang.specs.Documents.{policy_meaning as meaning}
@@ -18,7 +18,7 @@ use Rattle.cf_box.specs.Check.{ChangesNothing}
 use Rattle.cf_box.specs.Command.{Command, Sift}
 use Rattle.cf_box.specs.Names.{are_names}
 use Rattle.cf_box.specs.Outside.{Outside}
-use Rattle.cf_box.specs.PolicyFile.{HasPolicy, asset_named}
+use Rattle.cf_box.specs.PolicyFile.{FindsAsset, asset_named}
 use Rattle.cf_box.specs.declared.ending.Done.{Done}
 use Rattle.cf_box.specs.declared.ending.Done.TheVariants as done
 use Rattle.cf_box.specs.declared.ending.Stop.{Stop}
@@ -44,12 +44,6 @@ abbrev pub sift_stop : SiftFault → Stop
 sift_stop fault.NoMemory = stop.NoMemory
 sift_stop fault.Read = stop.ReadFault
 sift_stop fault.Write = stop.WriteFault
-
--- the policy that the file holds has an asset of the name
-pub record FindsAsset (file : Content) (name : List ℕ) (asset : Asset) : Type 0 where
-  pub policy : Policy
-  pub has : HasPolicy file policy
-  pub named : asset_named name policy ≡ Some asset
 
 module _ (policy_file asset_name : List ℕ) (client : ℕ) (names : SiftNamesValue) (before after : Outside) where
   -- the stream was taken by the asset of the name up to a cut, or to its end, and each output has what its items put out

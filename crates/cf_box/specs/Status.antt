@@ -13,12 +13,13 @@ use Rattle.cf_policy.specs.declared.Asset.{Asset}
 use Rattle.cf_policy.specs.declared.Policy.{Policy}
 use Rattle.cf_policylang.specs.Documents.{policy_meaning}
 use Rattle.cf_policylang.specs.declared.PolicyRefusal.{PolicyRefusal}
-use Rattle.cf_box.specs.Command.{Command, Check, Packets, Run, Relay, World, Sift, asset_name, capture_file, output_files, policy_file}
-use Rattle.cf_box.specs.Ends.{CutsCapture, CutsStream, LacksAsset, LacksPart, RefusesCapture, RefusesPolicy}
-use Rattle.cf_box.specs.Outside.{Outside, ReadFailed, WriteFailed}
+use Rattle.cf_box.specs.Command.{Command, Check, Packets, Run, Relay, World, Sift, AsksPair, asset_name, capture_file, output_files, policy_file}
+use Rattle.cf_box.specs.Ends.{CutsCapture, CutsStream, EndsIdle, LacksAsset, LacksPart, LinkFails, RefusesCapture, RefusesPolicy}
+use Rattle.cf_box.specs.Outside.{Outside, PairValue, ReadFailed, WriteFailed}
 use Rattle.cf_box.specs.Packets.{TellsLongCapture}
-use Rattle.cf_box.specs.PolicyFile.{asset_named}
-use Rattle.cf_box.specs.Sift.{FindsAsset, TellsCutStream}
+use Rattle.cf_box.specs.PolicyFile.{FindsAsset, asset_named}
+use Rattle.cf_box.specs.Relay.{TellsCutRelay, TellsIdleRelay}
+use Rattle.cf_box.specs.Sift.{TellsCutStream}
 use Rattle.cf_box.specs.declared.ending.CaptureRefusal.{CaptureRefusal}
 use Rattle.cf_sift.specs.Names.{SiftNamesValue}
 use Rattle.cf_sift.specs.Stored.{stored_history}
@@ -40,8 +41,14 @@ RefusesItsCapture words before = OfCommand words (λ c. (r : CaptureRefusal) × 
 abbrev pub CutsItsCapture : Option Command → Outside → Type 0
 CutsItsCapture words before = OfCommand words (λ c. (place : ℕ) × CutsCapture c before place)
 
-abbrev pub CutsItsStream : Option Command → Outside → Type 0
-CutsItsStream words before = OfCommand words (λ c. (reason : CutReason) × CutsStream c before reason)
+abbrev pub CutsItsStream : Option Command → (before after : Outside) → Type 0
+CutsItsStream words before after = OfCommand words (λ c. (reason : CutReason) × CutsStream c before after.pair reason)
+
+abbrev pub EndsItsIdles : Option Command → (before after : Outside) → Type 0
+EndsItsIdles words before after = OfCommand words (λ c. EndsIdle c before after.pair)
+
+abbrev pub AsksItsPair : Option Command → Type 0
+AsksItsPair words = OfCommand words AsksPair
 
 -- of the commands in the stream exactly those went to the output that the bytes of the policy allow, in their spelling
 -- and at their place
@@ -74,25 +81,27 @@ EndsWell (Run policy names) bytes = HasTimedRecords bytes
 EndsWell _ bytes = Unit {0}
 
 -- what a command needs is told, and in form: its policy has a meaning and the asset of the name, its capture is one whose
--- records end with the file, its stream is not cut, and nothing of it is not built
-pub record HasInput (c : Command) (before : Outside) : Type 0 where
+-- records end with the file, its streams are not cut, the pair is not idle for too long, and nothing of it is not built
+pub record HasInput (c : Command) (before after : Outside) : Type 0 where
   pub policy :
       (file : List ℕ) → policy_file c ≡ Some file →
       (bytes : List ℕ) × (before.files.content file ≡ holds bytes) × ((p : Policy) × (policy_meaning bytes ≡ Ok p)
       × ((name : List ℕ) → asset_name c ≡ Some name → (a : Asset) × (asset_named name p ≡ Some a)))
   pub capture : (file : List ℕ) → capture_file c ≡ Some file → (bytes : List ℕ) × (before.files.content file ≡ holds bytes) × EndsWell c bytes
-  pub stream : (reason : CutReason) → CutsStream c before reason → ⊥
+  pub stream : (reason : CutReason) → CutsStream c before after.pair reason → ⊥
+  pub idle : EndsIdle c before after.pair → ⊥
   pub built : LacksPart c before → ⊥
 
--- no read failed, and no creation, append or put
-pub record NothingFails (before after : Outside) : Type 0 where
+-- no read failed, no creation, append or put, and no call on the pair of a command that asks it
+pub record NothingFails (c : Command) (before after : Outside) : Type 0 where
   pub reads : ReadFailed before after → ⊥
   pub writes : WriteFailed before after → ⊥
+  pub links : LinkFails c before after.pair → ⊥
 
 -- where all that the words need is in form and nothing fails, the work is done, or memory ran out
 abbrev pub IsComplete : Option Command → (before after : Outside) → (status : ℕ) → Type 0
 IsComplete words before after status =
-    (c : Command) → words ≡ Some c → HasInput c before → NothingFails before after → (status ≡ 0) ⊎ (status ≡ 13)
+    (c : Command) → words ≡ Some c → HasInput c before after → NothingFails c before after → (status ≡ 0) ⊎ (status ≡ 13)
 
 -- what an exact cause yields to: a read that failed, and want of memory
 abbrev pub Yields : (before after : Outside) → (status : ℕ) → Type 0
@@ -124,30 +133,36 @@ abbrev pub TellsLack : Command → Outside → Type 0
 TellsLack (Check file) before = ⊥
 TellsLack (Packets file) before = TellsLongCapture file before
 TellsLack (Run file names) before = ⊥
-TellsLack (Relay file asset port idles log) before = Unit {0}
+TellsLack (Relay file asset port idles log) before = ⊥
 TellsLack (World seed sessions file capture out log) before = Unit {0}
 TellsLack (Sift file asset client names) before = ⊥
 
--- the stream of a command is told, and is cut: a line a command
-abbrev pub TellsCut : Command → Outside → Type 0
-TellsCut (Check file) before = ⊥
-TellsCut (Packets file) before = ⊥
-TellsCut (Run file names) before = ⊥
-TellsCut (Relay file asset port idles log) before = ⊥
-TellsCut (World seed sessions file capture out log) before = ⊥
-TellsCut (Sift file asset client names) before = TellsCutStream file asset client names before
+-- the stream of a command is told, or the answers of its pair are, and is cut: a line a command
+abbrev pub TellsCut : Command → (before : Outside) → (pair : PairValue) → Type 0
+TellsCut (Check file) before pair = ⊥
+TellsCut (Packets file) before pair = ⊥
+TellsCut (Run file names) before pair = ⊥
+TellsCut (Relay file asset port idles log) before pair = TellsCutRelay file asset before pair
+TellsCut (World seed sessions file capture out log) before pair = ⊥
+TellsCut (Sift file asset client names) before pair = TellsCutStream file asset client names before
 
--- what a cut yields to: these, and a write that failed
+-- the answers of a command's pair are told, and end in as many answers Idle as end its work
+abbrev pub TellsIdle : Command → (before : Outside) → (pair : PairValue) → Type 0
+TellsIdle (Relay file asset port idles log) before pair = TellsIdleRelay file asset before pair idles
+TellsIdle _ before pair = ⊥
+
+-- what a cut and the idle answers yield to: these, and a write that failed
 abbrev pub YieldsWritten : (before after : Outside) → (status : ℕ) → Type 0
 YieldsWritten before after status = ((status ≡ 4) × WriteFailed before after) ⊎ Yields before after status
 
--- each of these gives its status, and nothing but a failed read or want of memory comes before it, and before a cut a failed
--- write
+-- each of these gives its status, and nothing but a failed read or want of memory comes before it, and before a cut or an idle
+-- end a failed write
 pub record IsExact (c : Command) (before after : Outside) (status : ℕ) : Type 0 where
   pub refused : TellsNoPolicy c before → (status ≡ 5) ⊎ Yields before after status
   pub unknown : TellsNoAsset c before → (status ≡ 10) ⊎ Yields before after status
   pub unbuilt : TellsLack c before → (status ≡ 14) ⊎ Yields before after status
-  pub cut : TellsCut c before → (status ≡ 12) ⊎ YieldsWritten before after status
+  pub cut : TellsCut c before after.pair → (status ≡ 12) ⊎ YieldsWritten before after status
+  pub idle : TellsIdle c before after.pair → (status ≡ 9) ⊎ YieldsWritten before after status
 
 abbrev pub IsExactly : Option Command → (before after : Outside) → (status : ℕ) → Type 0
 IsExactly words before after status = (c : Command) → words ≡ Some c → IsExact c before after status
@@ -164,4 +179,4 @@ WritesNothing s = (s ≡ 2) ⊎ (s ≡ 5) ⊎ (s ≡ 10) ⊎ (s ≡ 14)
 -- the statuses that there are
 abbrev pub IsStatus : ℕ → Type 0
 IsStatus s =
-    (s ≡ 0) ⊎ (s ≡ 2) ⊎ (s ≡ 3) ⊎ (s ≡ 4) ⊎ (s ≡ 5) ⊎ (s ≡ 6) ⊎ (s ≡ 7) ⊎ (s ≡ 10) ⊎ (s ≡ 12) ⊎ (s ≡ 13) ⊎ (s ≡ 14)
+    (s ≡ 0) ⊎ (s ≡ 2) ⊎ (s ≡ 3) ⊎ (s ≡ 4) ⊎ (s ≡ 5) ⊎ (s ≡ 6) ⊎ (s ≡ 7) ⊎ (s ≡ 8) ⊎ (s ≡ 9) ⊎ (s ≡ 10) ⊎ (s ≡ 12) ⊎ (s ≡ 13) ⊎ (s ≡ 14)

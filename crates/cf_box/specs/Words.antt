@@ -1,5 +1,5 @@
 -- The words that the program takes: `command_of` is the command that they are.
-use Rattle.std.specs.Prelude.{ℕ, List, [], ◌∷◌, Option, None, codes, bytes_eq, if◌then◌else◌}
+use Rattle.std.specs.Prelude.{ℕ, ◌≤◌, List, [], ◌∷◌, Option, None, codes, bytes_eq, if◌then◌else◌}
 use Rattle.cf_box.specs.Command.{Command, Check, Packets, Run, Relay, World, Sift}
 use Rattle.cf_box.specs.Check.{check_of}
 use Rattle.cf_box.specs.Packets.{packets_of}
@@ -33,8 +33,10 @@ command_value (fields.Relay policy asset port idles log) = Relay policy.now asse
 command_value (fields.World seed sessions policy capture out log) = World seed sessions policy.now capture.now out.now log.now
 command_value (fields.Sift policy asset client names) = Sift policy.now asset.now client (sift_names_value names)
 
--- the files of a stored stream are apart, and those of a run
-abbrev pub HasApartFiles : CommandFields → Type 0
-HasApartFiles (fields.Run policy names) = AreRunApart (run_names_value names)
-HasApartFiles (fields.Sift policy asset client names) = AreApart (sift_names_value names)
-HasApartFiles _ = Unit {0}
+-- what the reader of the words has tested: the files of a stored stream are apart, and those of a run, and the numbers of a
+-- relay are in their ranges
+abbrev pub HasFitWords : CommandFields → Type 0
+HasFitWords (fields.Run policy names) = AreRunApart (run_names_value names)
+HasFitWords (fields.Sift policy asset client names) = AreApart (sift_names_value names)
+HasFitWords (fields.Relay policy asset port idles log) = (port ≤ 65535) × (1 ≤ idles) × (idles ≤ 1000000)
+HasFitWords _ = Unit {0}

@@ -4,7 +4,7 @@ ghost use Rattle.cf_box.specs.Check.{check_of};
 ghost use Rattle.cf_box.specs.Command.{Check};
 ghost use Rattle.cf_box.specs.Ends.{Meets};
 ghost use Rattle.cf_box.specs.Outside.{FilesNeverFall, PairValue, SinkValue, files_value, outside};
-ghost use Rattle.cf_box.specs.Words.{HasApartFiles, command_value};
+ghost use Rattle.cf_box.specs.Words.{HasFitWords, command_value};
 
 use crate::command::Command;
 use crate::ending::{Done, Stop};
@@ -16,7 +16,7 @@ use std::alloc::Global;
 /// The word behind `check`.
 pub(crate) fn read_check(words: &[String]) -> Option<Command<'_>>
     ensures command { option_map command_value result ≡ check_of (map string_bytes words.now) }
-    ensures apart { IfSome result HasApartFiles }
+    ensures fit { IfSome result HasFitWords }
 {
     let [policy] = words else {
         return None;

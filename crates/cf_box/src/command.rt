@@ -1,6 +1,6 @@
 //! The words that the program takes.
 ghost use Rattle.std.specs.Prelude.{◌≡◌, IfSome, map, option_map, string_bytes};
-ghost use Rattle.cf_box.specs.Words.{HasApartFiles, command_of, command_value};
+ghost use Rattle.cf_box.specs.Words.{HasFitWords, command_of, command_value};
 
 use crate::check::read_check;
 use crate::packets::read_packets;
@@ -56,7 +56,7 @@ pub enum Command<'a> {
 /// The command that the words are, if they are one: the first names it. Takes no memory.
 pub fn read_words(words: &[String]) -> Option<Command<'_>>
     ensures command { option_map command_value result ≡ command_of (map string_bytes words.now) }
-    ensures apart { IfSome result HasApartFiles }
+    ensures fit { IfSome result HasFitWords }
 {
     let [name, rest @ ..] = words else {
         return None;

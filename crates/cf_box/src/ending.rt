@@ -1,7 +1,7 @@
 //! How the program ends: what was done, or why the work stopped, as a status and a printed text.
 ghost use Rattle.std.specs.Prelude.{◌≡◌, ◌≤◌, ◌+◌, ◌++◌, codes, decimal, length, option_map};
 ghost use Rattle.cf_audit.specs.Text.{cut_text};
-ghost use Rattle.cf_box.specs.Ending.{Prints, Puts, capture_number, count_line, done_text, end_text, status_of, stop_status, stop_text, summary_text, unprinted_status};
+ghost use Rattle.cf_box.specs.Ending.{Prints, Puts, capture_number, commands_text, count_line, done_text, end_text, status_of, stop_status, stop_text, summary_text, unprinted_status};
 ghost use Rattle.cf_box.specs.Outside.{sink_value};
 ghost use Rattle.cf_policylang.specs.Keys.{refusal_text};
 
@@ -18,6 +18,8 @@ use cf_view::push_number;
 pub enum Done {
     /// A stream was filtered, with its numbers of admitted and refused commands.
     Sifted { admitted: u64, refused: u64 },
+    /// Two streams were relayed to their ends, with the same numbers.
+    Relayed { admitted: u64, refused: u64 },
     /// A policy was read, with its numbers of assets and of all rules.
     Checked { assets: u64, rules: u64 },
     /// Each record of a capture has its line.
@@ -41,9 +43,13 @@ pub enum Stop {
     CaptureCut(u64),
     /// The capture of a run does, with what was counted over its whole records.
     RunCut(u64, Summary),
+    /// A call on the pair of streams failed.
+    LinkFault,
+    /// So many answers `Idle` of the pair came, without a byte or an end between them, that the relay ended.
+    IdleEnd,
     /// The policy has no asset of the name.
     UnknownAsset,
-    /// The stream is cut.
+    /// A stream is cut.
     Cut(CutReason),
     /// Memory ran out.
     NoMemory,
@@ -97,6 +103,8 @@ fn stop_status(stop: &Stop) -> u8
         Stop::PolicyRefused(_) => 5,
         Stop::CaptureRefused(_) => 6,
         Stop::CaptureCut(_) | Stop::RunCut(..) => 7,
+        Stop::LinkFault => 8,
+        Stop::IdleEnd => 9,
         Stop::UnknownAsset => 10,
         Stop::Cut(_) => 12,
         Stop::NoMemory => 13,
@@ -126,8 +134,8 @@ fn unprinted_status(ended: &Result<Done, Stop>) -> u8
 /// The text that ends the work: at most nine lines.
 type EndText = ArrayString<384>;
 
-fn sifted_text(admitted: u64, refused: u64) -> EndText
-    ensures { result.bytes ≡ codes "admitted " ++ decimal admitted ++ codes "\nrefused " ++ decimal refused ++ codes "\n" }
+fn commands_text(admitted: u64, refused: u64) -> EndText
+    ensures { result.bytes ≡ commands_text admitted refused }
 {
     let mut text = EndText::new();
     text.push_str("admitted ");
@@ -254,7 +262,9 @@ fn done_text(done: &Done) -> Option<EndText>
     ensures { option_map (λ t. t.bytes) result ≡ done_text done.now }
 {
     match done {
-        Done::Sifted { admitted, refused } => Some(sifted_text(*admitted, *refused)),
+        Done::Sifted { admitted, refused } | Done::Relayed { admitted, refused } => {
+            Some(commands_text(*admitted, *refused))
+        }
         Done::Checked { assets, rules } => Some(checked_text(*assets, *rules)),
         Done::Listed => None,
         Done::Ran(summary) => Some(counted_text(summary)),
@@ -275,6 +285,8 @@ fn stop_text(stop: &Stop) -> Option<EndText>
         )),
         Stop::CaptureCut(place) => Some(numbered_line("capture cut at ", *place)),
         Stop::RunCut(place, summary) => Some(run_cut_text(*place, summary)),
+        Stop::LinkFault => Some(line("link fault\n")),
+        Stop::IdleEnd => Some(line("idle end\n")),
         Stop::UnknownAsset => Some(line("unknown asset\n")),
         Stop::Cut(reason) => Some(cut_line(reason)),
         Stop::Unbuilt => Some(line("unbuilt\n")),

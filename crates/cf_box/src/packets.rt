@@ -4,7 +4,7 @@ ghost use Rattle.cf_box.specs.Command.{Packets};
 ghost use Rattle.cf_box.specs.Ends.{Meets};
 ghost use Rattle.cf_box.specs.Outside.{FilesNeverFall, PairValue, files_value, outside, sink_value};
 ghost use Rattle.cf_box.specs.Packets.{IsListed, ListsCapture, packets_of, record_line};
-ghost use Rattle.cf_box.specs.Words.{HasApartFiles, command_value};
+ghost use Rattle.cf_box.specs.Words.{HasFitWords, command_value};
 ghost use Rattle.cf_outside.specs.Faults.{HasCause, Rose};
 ghost use Rattle.cf_outside.specs.Sink.{Puts};
 ghost use Rattle.cf_pcap.specs.Header.{header_of};
@@ -29,7 +29,7 @@ const RECORDS_AT: usize = 24;
 /// The word behind `packets`.
 pub(crate) fn read_packets(words: &[String]) -> Option<Command<'_>>
     ensures command { option_map command_value result ≡ packets_of (map string_bytes words.now) }
-    ensures apart { IfSome result HasApartFiles }
+    ensures fit { IfSome result HasFitWords }
 {
     let [capture] = words else {
         return None;

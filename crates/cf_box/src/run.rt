@@ -4,7 +4,7 @@ ghost use Rattle.cf_box.specs.Command.{Run};
 ghost use Rattle.cf_box.specs.Ends.{Meets};
 ghost use Rattle.cf_box.specs.Outside.{FilesNeverFall, PairValue, SinkValue, files_value, outside};
 ghost use Rattle.cf_box.specs.Run.{run_command, run_of};
-ghost use Rattle.cf_box.specs.Words.{HasApartFiles, command_value};
+ghost use Rattle.cf_box.specs.Words.{HasFitWords, command_value};
 ghost use Rattle.cf_run.specs.RunCapture.{AreApart, run_names_value};
 
 use crate::command::Command;
@@ -40,7 +40,7 @@ impl From<RunFault> for Stop {
 /// The words behind `run`.
 pub(crate) fn read_run(words: &[String]) -> Option<Command<'_>>
     ensures command { option_map command_value result ≡ run_of (map string_bytes words.now) }
-    ensures apart { IfSome result HasApartFiles }
+    ensures fit { IfSome result HasFitWords }
 {
     let [policy, capture, out, log] = words else {
         return None;
@@ -62,7 +62,7 @@ fn read_with_names<'a>(
     log: &'a str,
 ) -> Option<Command<'a>>
     ensures command { option_map command_value result ≡ run_command policy.now capture.now out.now log.now }
-    ensures apart { IfSome result HasApartFiles }
+    ensures fit { IfSome result HasFitWords }
 {
     if !are_names(&[policy, capture, out, log]) {
         return None;

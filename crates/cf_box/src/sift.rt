@@ -4,7 +4,7 @@ ghost use Rattle.cf_box.specs.Command.{Sift};
 ghost use Rattle.cf_box.specs.Ends.{Meets};
 ghost use Rattle.cf_box.specs.Outside.{FilesNeverFall, PairValue, SinkValue, files_value, outside};
 ghost use Rattle.cf_box.specs.Sift.{sift_command, sift_names_of, sift_of};
-ghost use Rattle.cf_box.specs.Words.{HasApartFiles, command_value};
+ghost use Rattle.cf_box.specs.Words.{HasFitWords, command_value};
 ghost use Rattle.cf_sift.specs.Names.{AreApart, sift_names_value};
 
 use crate::command::Command;
@@ -34,7 +34,7 @@ impl From<SiftFault> for Stop {
 /// The words behind `sift`.
 pub(crate) fn read_sift(words: &[String]) -> Option<Command<'_>>
     ensures command { option_map command_value result ≡ sift_of (map string_bytes words.now) }
-    ensures apart { IfSome result HasApartFiles }
+    ensures fit { IfSome result HasFitWords }
 {
     let [policy, asset, client, files @ ..] = words else {
         return None;
@@ -67,7 +67,7 @@ fn read_with_names<'a>(
     names: SiftNames<'a>,
 ) -> Option<Command<'a>>
     ensures command { option_map command_value result ≡ sift_command policy.now asset.now client.now (sift_names_value names.entry) }
-    ensures apart { IfSome result HasApartFiles }
+    ensures fit { IfSome result HasFitWords }
 {
     if !are_names(&[policy, names.stream, names.out, names.replies, names.log]) {
         return None;

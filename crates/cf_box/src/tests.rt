@@ -8,6 +8,7 @@ use std::test::Fail as TestFail;
 mod captures;
 mod exchange;
 mod hostile;
+mod relays;
 mod requests;
 mod rows;
 mod runs;
@@ -96,13 +97,26 @@ impl Left {
 }
 
 /// Runs words, separated by spaces, over the files `p`, `open`, `rtu` and `sub` and those given, with scripted failures of the files
-/// and of the sink.
+/// and of the sink. The pair has nothing to say.
 fn run(
     alloc: Global,
     words: &str,
     given: &[(&str, &[u8])],
     file_fails: &[Fail],
     put_fails: &[Fail],
+) -> Result<Left, TestFail> {
+    let mut pair = MemoryPair::new(alloc);
+    run_over(alloc, words, given, file_fails, put_fails, &mut pair)
+}
+
+/// The same over a pair.
+fn run_over(
+    alloc: Global,
+    words: &str,
+    given: &[(&str, &[u8])],
+    file_fails: &[Fail],
+    put_fails: &[Fail],
+    pair: &mut MemoryPair,
 ) -> Result<Left, TestFail> {
     let mut files = MemoryFiles::new(alloc);
     for (name, policy) in [("p", PUMP), ("open", OPEN), ("rtu", RTU), ("sub", SUB)] {
@@ -120,8 +134,7 @@ fn run(
     }
     let mut out = MemorySink::new(alloc);
     out.fails.extend_from_slice(put_fails)?;
-    let mut pair = MemoryPair::new(alloc);
-    let status = box_main(alloc, &spelled, &mut files, &mut out, &mut pair);
+    let status = box_main(alloc, &spelled, &mut files, &mut out, pair);
     Ok(Left {
         status,
         printed: out.bytes,

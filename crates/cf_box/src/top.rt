@@ -1,12 +1,12 @@
 //! The top call.
 ghost use Rattle.std.specs.Prelude.{◌≡◌, ◌≤◌, ◌⊎◌, ◌↔◌, IsNone, List, Some, map, string_bytes, ℕ};
-ghost use Rattle.cf_box.specs.Command.{Packets, Run, Sift};
+ghost use Rattle.cf_box.specs.Command.{AsksPair, Packets, Run, Sift};
 ghost use Rattle.cf_box.specs.Ends.{Ends, Meets};
-ghost use Rattle.cf_box.specs.Outside.{FilesNeverFall, PairValue, files_value, outside, outside_value, sink_value};
+ghost use Rattle.cf_box.specs.Outside.{FilesNeverFall, files_value, outside_value};
 ghost use Rattle.cf_box.specs.Packets.{Lists};
 ghost use Rattle.cf_box.specs.RunHolds.{RunHolds};
-ghost use Rattle.cf_box.specs.Status.{CutsItsCapture, CutsItsStream, IsComplete, IsExactly, IsStatus, LacksItsAsset, RefusesItsCapture, RefusesItsPolicy, SiftPassesAllowed, WritesNothing, outputs_of};
-ghost use Rattle.cf_box.specs.Words.{HasApartFiles, command_of, command_value};
+ghost use Rattle.cf_box.specs.Status.{AsksItsPair, CutsItsCapture, CutsItsStream, EndsItsIdles, IsComplete, IsExactly, IsStatus, LacksItsAsset, RefusesItsCapture, RefusesItsPolicy, SiftPassesAllowed, WritesNothing, outputs_of};
+ghost use Rattle.cf_box.specs.Words.{HasFitWords, command_of, command_value};
 ghost use Rattle.cf_outside.specs.Faults.{Rose};
 ghost use Rattle.cf_run.specs.RunCapture.{RunNamesValue};
 ghost use Rattle.cf_sift.specs.Names.{SiftNamesValue};
@@ -16,27 +16,29 @@ use crate::check::check;
 use crate::command::{Command, read_words};
 use crate::ending::{Done, Stop, put_text, report};
 use crate::packets::packets;
+use crate::relay::relay;
 use crate::run::run;
 use crate::sift::sift;
-use cf_lane::lane_passes_allowed;
+use cf_lane::{has_one_judgement, lane_passes_allowed};
 use cf_outside::{Files, Pair, Sink};
 use cf_run::runs_have_headline;
 use cf_sift::has_one_cut;
 use std::alloc::Global;
 
-/// Does what a command asks for. Nothing is asked of the pair yet.
-fn perform<F: Files, O: Sink>(
+/// Does what a command asks for. `relay` alone asks the pair for something.
+fn perform<F: Files, O: Sink, P: Pair>(
     alloc: Global,
     command: Command<'_>,
     files: &mut F,
     out: &mut O,
+    pair: &mut P,
 ) -> Result<Done, Stop>
-    requires { HasApartFiles command }
-    ensures meets { (pair : PairValue) → Meets (command_value command.entry)
-        (outside (files_value F.Files files.old) (sink_value O.Sink out.old) pair)
-        (outside (files_value F.Files files.new) (sink_value O.Sink out.new) pair) result }
+    requires { HasFitWords command }
+    ensures meets { Meets (command_value command.entry) (outside_value F.Files O.Sink P.Pair files.old out.old pair.old)
+        (outside_value F.Files O.Sink P.Pair files.new out.new pair.new) result }
     ensures later { FilesNeverFall (files_value F.Files files.old) (files_value F.Files files.new) }
     ensures puts { O.faults out.old ≤ O.faults out.new }
+    ensures pair { AsksPair (command_value command.entry) ⊎ (pair.new ≡ pair.old) }
 {
     match command {
         Command::Check { policy } => check(alloc, policy, files),
@@ -48,15 +50,23 @@ fn perform<F: Files, O: Sink>(
             names,
         } => sift(alloc, policy, asset, client, &names, files),
         Command::Run { policy, names } => run(alloc, policy, &names, files),
-        Command::Relay { .. } | Command::World { .. } => Err(Stop::Unbuilt),
+        Command::Relay {
+            policy,
+            asset,
+            port,
+            idles,
+            log,
+        } => relay(alloc, policy, asset, port, idles, log, files, pair),
+        Command::World { .. } => Err(Stop::Unbuilt),
     }
 }
 
 /// The program: does what the words ask for, prints how that ended, and answers its status.
 ///
 /// Statuses: 0 done; 2 the words have no form; 3 a read failed; 4 a write failed, or work that was done could not be
-/// printed; 5 the policy's text means none; 6 the capture is refused; 7 it ends inside a record; 10 the policy has no
-/// asset of the name; 12 the stream is cut; 13 memory ran out; 14 the input needs a part that is not built.
+/// printed; 5 the policy's text means none; 6 the capture is refused; 7 it ends inside a record; 8 a call on the pair of
+/// streams failed; 9 it answered `Idle` too often; 10 the policy has no asset of the name; 12 a stream is cut; 13 memory ran
+/// out; 14 the input needs a part that is not built.
 pub fn box_main<F: Files, O: Sink, P: Pair>(
     alloc: Global,
     words: &[String],
@@ -82,8 +92,13 @@ pub fn box_main<F: Files, O: Sink, P: Pair>(
     ensures unknown { result ≡ 10 → LacksItsAsset (command_of (map string_bytes words.now))
         (outside_value F.Files O.Sink P.Pair files.old out.old pair.old) }
 
+    ensures link { result ≡ 8 → Rose (P.faults pair.old) (P.faults pair.new) }
+    ensures idle { result ≡ 9 → EndsItsIdles (command_of (map string_bytes words.now))
+        (outside_value F.Files O.Sink P.Pair files.old out.old pair.old)
+        (outside_value F.Files O.Sink P.Pair files.new out.new pair.new) }
     ensures stream { result ≡ 12 → CutsItsStream (command_of (map string_bytes words.now))
-        (outside_value F.Files O.Sink P.Pair files.old out.old pair.old) }
+        (outside_value F.Files O.Sink P.Pair files.old out.old pair.old)
+        (outside_value F.Files O.Sink P.Pair files.new out.new pair.new) }
 
     // Where the input is told, a cause in it gives its status, whatever stands behind it in the order of the work.
     ensures exact { IsExactly (command_of (map string_bytes words.now)) (outside_value F.Files O.Sink P.Pair files.old out.old pair.old)
@@ -111,19 +126,19 @@ pub fn box_main<F: Files, O: Sink, P: Pair>(
         (outside_value F.Files O.Sink P.Pair files.new out.new pair.new) }
 
     // No file is written but the outputs of the command, and none at all where the words, the policy or the asset are at fault;
-    // and nothing is asked of the pair.
+    // and nothing is asked of the pair but by a relay.
     ensures kept { KeepsAllBut (F.content files.old) (F.content files.new) (outputs_of (command_of (map string_bytes words.now))) }
     ensures unwritten { WritesNothing result → F.content files.new ≡ F.content files.old }
-    ensures pair { pair.new ≡ pair.old }
+    ensures pair { AsksItsPair (command_of (map string_bytes words.now)) ⊎ (pair.new ≡ pair.old) }
 {
     lane_passes_allowed();
     has_one_cut();
+    has_one_judgement();
     runs_have_headline();
-    let _ = pair;
     match read_words(words) {
         None => put_text("usage\n", 2, 2, out),
         Some(command) => {
-            let ended = perform(alloc, command, files, out);
+            let ended = perform(alloc, command, files, out, pair);
             report(&ended, out)
         }
     }

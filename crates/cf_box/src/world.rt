@@ -1,6 +1,6 @@
 //! `world SEED SESSIONS POLICY CAPTURE OUT LOG`: a world is made from a number, and run. It is not built.
 ghost use Rattle.std.specs.Prelude.{◌≡◌, IfSome, map, option_map, string_bytes};
-ghost use Rattle.cf_box.specs.Words.{HasApartFiles, command_value};
+ghost use Rattle.cf_box.specs.Words.{HasFitWords, command_value};
 ghost use Rattle.cf_box.specs.World.{world_of};
 
 use crate::command::Command;
@@ -9,7 +9,7 @@ use crate::names::{are_names, printed_number_in};
 /// The words behind `world`.
 pub(crate) fn read_world(words: &[String]) -> Option<Command<'_>>
     ensures command { option_map command_value result ≡ world_of (map string_bytes words.now) }
-    ensures apart { IfSome result HasApartFiles }
+    ensures fit { IfSome result HasFitWords }
 {
     let [seed, sessions, policy, capture, out, log] = words else {
         return None;

@@ -16,6 +16,9 @@ usage:
       runs a policy over a capture of what reached the box: OUT gets the packets that the
       box sends, LOG a line for each session that begins, ends or is cut, and for each
       refused command
+  cmdwall relay POLICY ASSET PORT IDLES LOG
+      stands between one client, which comes to PORT of this machine, and the controller of
+      ASSET: what the policy refuses is answered and does not go on
   cmdwall check POLICY
       reads a policy, and prints its numbers of assets and of all rules
   cmdwall packets CAPTURE
@@ -40,11 +43,13 @@ status:
       5 a record of more than 262,144 bytes, 6 a moment of 2^32 seconds or more, 7 a byte
       at place 2^40
    7  the capture ends inside the record that begins at the printed place
+   8  the port, the client or the controller of a relay failed
+   9  so many turns of a relay came in which nothing moved that it ended
   10  the policy has no asset of that name
-  12  the stream is cut, for the printed reason
+  12  a stream is cut, for the printed reason
   13  memory ran out
   14  the input needs a part that is not built: a capture of more than 67,108,864 bytes in
-      packets, the commands relay and world
+      packets, the command world
 ";
 
 const SIFT: &str = "\
@@ -123,17 +128,23 @@ example:
 const RELAY: &str = "\
 cmdwall relay POLICY ASSET PORT IDLES LOG
 
-stands between a client and the controller of an asset. It is not built yet: it ends with
-status 14
+stands between a client and the controller of an asset: one client, which comes to PORT of
+127.0.0.1, and one connection to the asset's address and port (docs/RELAY.md)
 
   POLICY   a text in the policy language (docs/POLICY.md)
   ASSET    the name of the asset in it
   PORT     the port at which the client is awaited, 1 to 65535
-  IDLES    how many turns in which nothing comes end the relay, 1 to 1000000
-  LOG      is created, and gets the lines of the log
+  IDLES    how many turns in which nothing moves end the relay, 1 to 1000000. Such a turn lasts
+           5 milliseconds, so 12000 are a minute; once one side has ended, half as many turns
+           have to come again before it ends
+  LOG      is created, and gets a line as the session begins and closes or is cut, and for each
+           refused command; each stands in the file as soon as it is written (docs/LOG.md)
+
+Standard error has where it listens and to whom it connects. When both sides have ended,
+standard output has the numbers of admitted and refused commands.
 
 example:
-  cmdwall relay examples/pump.toml pump 5020 1000 log.txt
+  cmdwall relay examples/pump.toml pump 5020 12000 log.txt
 ";
 
 const WORLD: &str = "\

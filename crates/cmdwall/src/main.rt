@@ -1,18 +1,18 @@
-//! The program `cmdwall`: real files, standard output, and the words that it was given.
+//! The program `cmdwall`: real files, standard output, streams, and the words that it was given.
 #![tactic(auto)]
 
 mod files;
 mod help;
-mod pair;
+mod link;
 mod sink;
 mod why;
 
 use crate::files::{Gather, RealFiles};
 use crate::help::{Asked, print_help, print_topic, print_version, question_of};
-use crate::pair::NoPair;
+use crate::link::LinkPair;
 use crate::sink::RealSink;
 use crate::why::{expect_files, explain};
-use cf_box::{box_main, read_words};
+use cf_box::{Command, box_main, read_words};
 use std::env::Env;
 use std::process::ExitCode;
 use std::{env, io};
@@ -38,18 +38,24 @@ fn main(rt: HostRuntime) -> ExitCode {
         Asked::Version => return printed(print_version(&rt)),
         Asked::Work => {}
     }
-    let mut files = RealFiles::new(&rt, rt.alloc(), Gather::Pieces);
-    if let Some(command) = read_words(&words) {
+    let command = read_words(&words);
+    // People follow the log of a relay.
+    let gather = match command {
+        Some(Command::Relay { .. }) => Gather::Nothing,
+        _ => Gather::Pieces,
+    };
+    let mut files = RealFiles::new(&rt, rt.alloc(), gather);
+    if let Some(command) = command {
         if expect_files(&command, &mut files).is_err() {
             return ExitCode::from(NO_MEMORY);
         }
     }
     let mut out = RealSink::new(io::writer(&rt));
-    let mut pair = NoPair::new();
+    let mut pair = LinkPair::new(&rt);
     let done = box_main(rt.alloc(), &words, &mut files, &mut out, &mut pair);
     // What was gathered is part of the work: where it cannot be written, the work is not done.
     let status = if files.finish() { done } else { WRITE_FAULT };
-    explain(&rt, &words, status, &mut files);
+    explain(&rt, &words, status, &mut files, pair.fault());
     ExitCode::from(status)
 }
 
@@ -69,3 +75,6 @@ fn printed(done: io::Result<()>) -> ExitCode {
         Err(_) => ExitCode::from(4),
     }
 }
+
+#[cfg(test)]
+mod tests;

@@ -1,6 +1,7 @@
 //! What standard error says beside what standard output has. A line that cannot be said changes nothing.
 
 use crate::files::RealFiles;
+use crate::link::{LinkFault, Part};
 use cf_box::{Command, read_words};
 use cf_explain::{
     asset_message, capture_message, outputs_message, policy_message, policy_warnings, words_message,
@@ -21,6 +22,9 @@ const TOO_LONG: PolicyRefusal = PolicyRefusal {
     asset: 0,
     rule: 0,
 };
+
+/// The status of a relay whose streams failed.
+const LINK_FAULT: u8 = 8;
 
 /// Notes which files the names of a command stand for.
 pub fn expect_files<R: FileSystem>(
@@ -64,8 +68,10 @@ pub fn explain<R: FileSystem + Eprint + AllocGlobal>(
     words: &[String],
     status: u8,
     files: &mut RealFiles<'_, R>,
+    link: Option<&LinkFault>,
 ) {
     let _ = match read_words(words) {
+        Some(_) if status == LINK_FAULT => explain_link(rt, link),
         Some(command) => explain_command(rt, &command, status, files),
         None => explain_words(rt, words),
     };
@@ -97,6 +103,9 @@ fn explain_command<R: FileSystem + Eprint + AllocGlobal>(
         (6 | 7, Command::Packets { capture }) | (6 | 7, Command::World { capture, .. }) =>
             explain_capture(rt, capture, files),
         (6 | 7, Command::Run { names, .. }) => explain_capture(rt, names.capture, files),
+        (9, _) => {
+            eprintln!(rt; "cmdwall: nothing came for so long that the relay ended; the log has what came before")
+        }
         (10, Command::Sift { policy, asset, .. }) | (10, Command::Relay { policy, asset, .. }) => {
             explain_asset(rt, policy, asset, files)
         }
@@ -131,6 +140,21 @@ fn explain_fault<R: FileSystem + Eprint>(rt: &R, files: &RealFiles<'_, R>) -> io
         }
         None => eprintln!(rt; "cmdwall: standard output could not be written"),
     }
+}
+
+/// Which of the two streams failed, and what the system said.
+fn explain_link<R: Eprint>(rt: &R, link: Option<&LinkFault>) -> io::Result<()> {
+    let Some(fault) = link else {
+        return Ok(());
+    };
+    let part = match fault.part {
+        Part::Port => "the port and its client",
+        Part::Client => "the client",
+        Part::Controller => "the controller",
+        Part::Clock => "the clock",
+    };
+    let error = &fault.error;
+    eprintln!(rt; "cmdwall: {part}: {error}; the log has what came before")
 }
 
 /// What stands in the files that a command writes.

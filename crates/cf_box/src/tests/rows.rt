@@ -364,7 +364,7 @@ printed: usa
 ";
 
 /// The rest of the first line of a row that begins so.
-fn field<'a>(row: &'a str, key: &str) -> Option<&'a str> {
+pub(super) fn field<'a>(row: &'a str, key: &str) -> Option<&'a str> {
     row.lines().find_map(|line| line.strip_prefix(key))
 }
 
@@ -464,11 +464,8 @@ judge p c o l
 Check p
 ";
 
-/// Words of commands that are not built, at their limits.
+/// Words of a command that is not built, at their limits.
 const UNBUILT: &str = "\
-relay p pump 1 1 l
-relay p pump 65535 1000000 l
-relay p p 1 1 l
 world 0 1 p c o l
 world 18446744073709551615 200 p c o l
 ";

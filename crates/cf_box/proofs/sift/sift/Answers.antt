@@ -1,7 +1,7 @@
 use Rattle.std.proofs.Common.{refl, subst, Err, sym}
 use Rattle.cf_box.specs.Command.{Sift}
 use Rattle.cf_box.specs.Outside.{files_value, outside}
-use Rattle.cf_box.specs.Sift.{FindsAsset}
+use Rattle.cf_box.specs.PolicyFile.{FindsAsset}
 use Rattle.cf_box.proofs.Sifting.{early_leaves, since, sift_cuts, sift_ends, sift_fails}
 use Rattle.cf_sift.specs.Names.{sift_names_value}
 use Rattle.cf_sift.specs.Sifted.{IsSifted, SiftEnds}

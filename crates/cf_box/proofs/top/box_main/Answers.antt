@@ -1,15 +1,15 @@
-use Rattle.std.proofs.Common.{◌≡◌, refl, subst}
+use Rattle.std.proofs.Common.{◌≡◌, ◌⊎◌, refl, subst}
 use Rattle.cf_box.specs.Command.{Command}
 use Rattle.cf_box.specs.Ends.{Ends}
 use Rattle.cf_sift.specs.Outputs.{KeepsAllBut}
-use Rattle.cf_box.specs.Outside.{Outside, outside_value, pair_value}
-use Rattle.cf_box.specs.Status.{CutsItsCapture, CutsItsStream, LacksItsAsset, RefusesItsCapture, RefusesItsPolicy, outputs_of}
+use Rattle.cf_box.specs.Outside.{Outside, outside_value}
+use Rattle.cf_box.specs.Status.{AsksItsPair, CutsItsCapture, CutsItsStream, EndsItsIdles, LacksItsAsset, RefusesItsCapture, RefusesItsPolicy, outputs_of}
 use Rattle.cf_box.specs.Words.{command_value}
 use Rattle.cf_box.proofs.Complete.{complete_told}
 use Rattle.cf_box.proofs.Exact.{exact_told}
 use Rattle.cf_box.proofs.Kept.{kept_told, unwritten_told}
 use Rattle.cf_box.proofs.RunHolds.{run_told}
-use Rattle.cf_box.proofs.Statuses.{Explains, capture_told, cut_told, lack_told, lists_told, passes_told, read_told, refusal_told, stream_told, write_told}
+use Rattle.cf_box.proofs.Statuses.{Explains, capture_told, cut_told, idle_told, lack_told, link_told, lists_told, passes_told, read_told, refusal_told, stream_told, write_told}
 use Rattle.cf_box.proofs.top.box_main.Given.{Over}
 use Rattle.cf_box.proofs.top.box_main.Goals as goal
 
@@ -18,10 +18,10 @@ module _ (g : Over) (c : goal.After-report g) where
   before = outside_value g.F.Files g.O.Sink g.P.Pair c.args.files.now c.args.out.now c.args.pair.now
 
   abbrev middle : Outside
-  middle = outside_value g.F.Files g.O.Sink g.P.Pair c.perform-ended.new.files c.perform-ended.new.out c.args.pair.now
+  middle = outside_value g.F.Files g.O.Sink g.P.Pair c.perform-ended.new.files c.perform-ended.new.out c.perform-ended.new.pair
 
   abbrev after : Outside
-  after = outside_value g.F.Files g.O.Sink g.P.Pair c.perform-ended.new.files c.report.new.out c.args.pair.now
+  after = outside_value g.F.Files g.O.Sink g.P.Pair c.perform-ended.new.files c.report.new.out c.perform-ended.new.pair
 
   abbrev command : Command
   command = command_value c.in-Some.command
@@ -31,7 +31,7 @@ module _ (g : Over) (c : goal.After-report g) where
   explains = record {
     r = c.perform-ended.result;
     middle = middle;
-    meets = c.perform-ended.ensures.meets (pair_value g.P.Pair c.args.pair.now);
+    meets = c.perform-ended.ensures.meets;
     reports = record { prints = c.report.ensures.prints; files = refl; pair = refl };
     early = c.perform-ended.ensures.puts;
     late = c.report.ensures.later;
@@ -65,7 +65,7 @@ returns-in-Some-clause-unknown g c = λ is. subst (λ words. LacksItsAsset words
 pub returns-in-Some-clause-exact : goal.returns-in-Some-clause-exact
 returns-in-Some-clause-exact g c = λ form is.
     let same : command g c ≡ form = let known = c.in-Some.ensures.command in cc in
-    exact_told c.has_one_cut.ensures (subst (λ k. Explains k (before g c) (after g c) c.report.result) same (explains g c))
+    exact_told c.has_one_cut.ensures c.has_one_judgement.ensures (subst (λ k. Explains k (before g c) (after g c) c.report.result) same (explains g c))
 
 pub returns-in-Some-clause-complete : goal.returns-in-Some-clause-complete
 returns-in-Some-clause-complete g c = λ form is input fails.
@@ -91,4 +91,13 @@ returns-in-Some-clause-headline g c = λ policy names is. run_told c.runs_have_h
     (let known = c.in-Some.ensures.command in cc)
 
 pub returns-in-Some-clause-stream : goal.returns-in-Some-clause-stream
-returns-in-Some-clause-stream g c = λ is. subst (λ words. CutsItsStream words (before g c)) c.in-Some.ensures.command (stream_told (explains g c) is)
+returns-in-Some-clause-stream g c = λ is. subst (λ words. CutsItsStream words (before g c) (after g c)) c.in-Some.ensures.command (stream_told (explains g c) is)
+
+pub returns-in-Some-clause-link : goal.returns-in-Some-clause-link
+returns-in-Some-clause-link g c = link_told (explains g c)
+
+pub returns-in-Some-clause-idle : goal.returns-in-Some-clause-idle
+returns-in-Some-clause-idle g c = λ is. subst (λ words. EndsItsIdles words (before g c) (after g c)) c.in-Some.ensures.command (idle_told (explains g c) is)
+
+pub returns-in-Some-clause-pair : goal.returns-in-Some-clause-pair
+returns-in-Some-clause-pair g c = subst (λ words. AsksItsPair words ⊎ (c.perform-ended.new.pair ≡ c.args.pair.now)) c.in-Some.ensures.command c.perform-ended.ensures.pair

@@ -1,14 +1,17 @@
-use Rattle.cf_box.specs.Outside.{sink_value}
+use Rattle.cf_box.specs.Outside.{pair_value, sink_value}
 use Rattle.cf_box.proofs.top.perform.Goals as goal
 
 pub returns-in-Check-clause-meets : goal.returns-in-Check-clause-meets
-returns-in-Check-clause-meets g c = λ pair. rw c.in-Check.is (c.check.ensures.meets (sink_value g.O.Sink c.args.out.now) pair)
+returns-in-Check-clause-meets g c = rw c.in-Check.is (c.check.ensures.meets (sink_value g.O.Sink c.args.out.now) (pair_value g.P.Pair c.args.pair.now))
 
 pub returns-in-Packets-clause-meets : goal.returns-in-Packets-clause-meets
-returns-in-Packets-clause-meets g c = λ pair. rw c.in-Packets.is (c.packets.ensures.meets pair)
+returns-in-Packets-clause-meets g c = rw c.in-Packets.is (c.packets.ensures.meets (pair_value g.P.Pair c.args.pair.now))
 
 pub returns-in-Sift-clause-meets : goal.returns-in-Sift-clause-meets
-returns-in-Sift-clause-meets g c = λ pair. rw c.in-Sift.is (c.sift.ensures.meets (sink_value g.O.Sink c.args.out.now) pair)
+returns-in-Sift-clause-meets g c = rw c.in-Sift.is (c.sift.ensures.meets (sink_value g.O.Sink c.args.out.now) (pair_value g.P.Pair c.args.pair.now))
 
 pub returns-in-Run-clause-meets : goal.returns-in-Run-clause-meets
-returns-in-Run-clause-meets g c = λ pair. rw c.in-Run.is (c.run.ensures.meets (sink_value g.O.Sink c.args.out.now) pair)
+returns-in-Run-clause-meets g c = rw c.in-Run.is (c.run.ensures.meets (sink_value g.O.Sink c.args.out.now) (pair_value g.P.Pair c.args.pair.now))
+
+pub returns-in-Relay-clause-meets : goal.returns-in-Relay-clause-meets
+returns-in-Relay-clause-meets g c = rw c.in-Relay.is (c.relay.ensures.meets (sink_value g.O.Sink c.args.out.now))

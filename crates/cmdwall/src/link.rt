@@ -1,0 +1,312 @@
+//! The pair of streams of a relay: TCP connections, and the clock of the machine.
+ghost use Rattle.std.specs.Prelude.{◌≡◌, ◌≤◌, IfOk, IfSome, None, Ok, length};
+ghost use Rattle.cf_outside.specs.Faults.{Rose};
+
+use cf_outside::{GiveAnswer, MeetAnswer, MomentAnswer, Pair, TakeAnswer, WriteAnswer};
+use cf_view::{Endpoint, Side};
+use std::io;
+use std::io::{Read, Write};
+use std::net::{
+    IpAddr, Ipv4Addr, Net, OpenListener, OpenStream, Shutdown, SocketAddr, TcpListener, TcpStream,
+};
+use std::thread;
+use std::time::{Clock, Duration, SystemTime};
+
+/// How long a turn waits before which nothing came or went.
+const QUIET_WAIT: Duration = Duration::from_millis(5);
+
+/// How long the controller has to take the connection.
+const CONNECT_WAIT: Duration = Duration::from_secs(10);
+
+/// Where a call failed.
+#[derive(Clone, Copy, PartialEq, Eq)]
+pub enum Part {
+    Port,
+    Client,
+    Controller,
+    Clock,
+}
+
+/// A call that failed: where, and what the system said.
+#[derive(Drop)]
+pub struct LinkFault {
+    pub part: Part,
+    pub error: io::Error,
+}
+
+/// A client that comes to a port of this machine's own address 127.0.0.1, and a controller to which a connection is made.
+/// Reads and writes do not wait; a turn does that begins where nothing came or went in the one before. It tells nothing, and
+/// counts failures and answers `Idle`.
+#[derive(Drop)]
+pub struct LinkPair<'a, R: Net + Clock + Eprint> {
+    rt: &'a R,
+    listener: Option<R::Listener>,
+    client: Option<R::Stream>,
+    controller: Option<R::Stream>,
+    is_quiet: bool,
+    fault: Option<LinkFault>,
+    faults: u64,
+    idles: u64,
+}
+
+impl<'a, R: Net + Clock + Eprint> LinkPair<'a, R> {
+    /// A pair that is not connected. Both counts are 0.
+    pub fn new(rt: &'a R) -> Self
+        ensures { (result.faults ≡ 0) × (result.idles ≡ 0) }
+    {
+        LinkPair {
+            rt,
+            listener: None,
+            client: None,
+            controller: None,
+            is_quiet: false,
+            fault: None,
+            faults: 0,
+            idles: 0,
+        }
+    }
+
+    /// The same, where the port is already bound; the one that `meet` is told is then not read.
+    pub fn over(rt: &'a R, listener: R::Listener) -> Self
+        ensures { (result.faults ≡ 0) × (result.idles ≡ 0) }
+    {
+        let mut pair = LinkPair::new(rt);
+        pair.listener = Some(listener);
+        pair
+    }
+
+    /// The last call that failed, if one did.
+    pub fn fault(&self) -> Option<&LinkFault> {
+        self.fault.as_ref()
+    }
+
+    fn fail(&mut self, part: Part, error: io::Error)
+        ensures later { self.old.faults ≤ self.new.faults }
+        ensures rose { Rose self.old.faults self.new.faults }
+        ensures idles { self.new.idles ≡ self.old.idles }
+    {
+        self.fault = Some(LinkFault { part, error });
+        self.faults = self.faults.saturating_add(1);
+    }
+
+    fn count_idle(&mut self)
+        ensures later { self.old.idles ≤ self.new.idles }
+        ensures rose { Rose self.old.idles self.new.idles }
+        ensures faults { self.new.faults ≡ self.old.faults }
+    {
+        self.idles = self.idles.saturating_add(1);
+    }
+
+    /// Binds the port, if it is not bound, says so on standard error, and takes one client.
+    fn take_client(&mut self, port: u16, peer: SocketAddr) -> io::Result<Endpoint>
+        ensures faults { self.new.faults ≡ self.old.faults }
+        ensures idles { self.new.idles ≡ self.old.idles }
+    {
+        let listener = match self.listener.take() {
+            Some(listener) => listener,
+            None => TcpListener::bind(self.rt, address(Ipv4Addr::LOCALHOST, port))?,
+        };
+        let here = listener.local_addr()?;
+        // A line that cannot be said changes nothing.
+        let _ = eprintln!(self.rt; "cmdwall: listens on {here} for one client, and connects to {peer}");
+        let (stream, from) = listener.accept()?;
+        stream.set_nonblocking(true)?;
+        stream.set_nodelay(true)?;
+        self.client = Some(stream);
+        Ok(endpoint_of(from))
+    }
+
+    fn take_controller(&mut self, peer: SocketAddr) -> io::Result<()>
+        ensures faults { self.new.faults ≡ self.old.faults }
+        ensures idles { self.new.idles ≡ self.old.idles }
+    {
+        let stream = TcpStream::connect_timeout(self.rt, &peer, CONNECT_WAIT)?;
+        stream.set_nonblocking(true)?;
+        stream.set_nodelay(true)?;
+        self.controller = Some(stream);
+        Ok(())
+    }
+
+    /// Microseconds since 1970, after a wait where nothing came or went since it was last asked.
+    fn now(&mut self) -> io::Result<u64>
+        ensures faults { self.new.faults ≡ self.old.faults }
+        ensures idles { self.new.idles ≡ self.old.idles }
+    {
+        if self.is_quiet {
+            thread::sleep(self.rt, QUIET_WAIT);
+        }
+        self.is_quiet = true;
+        let since = SystemTime::now(self.rt)?.duration_since(SystemTime::UNIX_EPOCH);
+        match since {
+            Ok(since) => Ok(u64::try_from(since.as_micros()).unwrap_or(u64::MAX)),
+            Err(_) => Err(io::Error::from(io::ErrorKind::InvalidData)),
+        }
+    }
+
+    /// Reads what came from a side; 0 at its end, nothing where none came.
+    fn read(&mut self, side: Side, buf: &mut [u8]) -> io::Result<Option<usize>>
+        ensures inside { IfOk result (λ count. IfSome count (λ n. n ≤ length buf.new)) }
+        ensures faults { self.new.faults ≡ self.old.faults }
+        ensures idles { self.new.idles ≡ self.old.idles }
+    {
+        let stream = match side {
+            Side::Client => self.client.as_mut(),
+            Side::Controller => self.controller.as_mut(),
+        };
+        let Some(stream) = stream else {
+            return Err(not_connected());
+        };
+        let count = unless_waiting(stream.read(buf))?;
+        if count.is_some() {
+            self.is_quiet = false;
+        }
+        Ok(count)
+    }
+
+    /// Writes to a side what it takes now; nothing where it takes none.
+    fn write(&mut self, side: Side, bytes: &[u8]) -> io::Result<Option<usize>>
+        ensures inside { IfOk result (λ count. IfSome count (λ n. n ≤ length bytes.now)) }
+        ensures faults { self.new.faults ≡ self.old.faults }
+        ensures idles { self.new.idles ≡ self.old.idles }
+    {
+        let stream = match side {
+            Side::Client => self.client.as_mut(),
+            Side::Controller => self.controller.as_mut(),
+        };
+        let Some(stream) = stream else {
+            return Err(not_connected());
+        };
+        let count = unless_waiting(stream.write(bytes))?;
+        if count.is_some() {
+            self.is_quiet = false;
+        }
+        Ok(count)
+    }
+
+    /// Ends what is sent to a side, which may send on.
+    fn close(&self, side: Side) -> io::Result<()> {
+        let stream = match side {
+            Side::Client => self.client.as_ref(),
+            Side::Controller => self.controller.as_ref(),
+        };
+        match stream {
+            Some(stream) => stream.shutdown(Shutdown::Write),
+            None => Err(not_connected()),
+        }
+    }
+}
+
+fn not_connected() -> io::Error {
+    io::Error::from(io::ErrorKind::NotConnected)
+}
+
+fn part_of(side: Side) -> Part {
+    match side {
+        Side::Client => Part::Client,
+        Side::Controller => Part::Controller,
+    }
+}
+
+fn address(ip: Ipv4Addr, port: u16) -> SocketAddr {
+    SocketAddr::new(IpAddr::V4(ip), port)
+}
+
+/// The endpoint of an IPv4 address; that of another one, which a listener of IPv4 does not have, is 0.0.0.0.
+fn endpoint_of(address: SocketAddr) -> Endpoint {
+    let bits = match address.ip() {
+        IpAddr::V4(ip) => ip.to_bits(),
+        IpAddr::V6(_) => 0,
+    };
+    Endpoint {
+        address: bits,
+        port: address.port(),
+    }
+}
+
+/// How many bytes moved, or nothing where the call would have to wait.
+fn unless_waiting(moved: io::Result<usize>) -> io::Result<Option<usize>>
+    ensures { IfOk result (λ count. IfSome count (λ n. moved ≡ Ok n)) }
+{
+    match moved {
+        Ok(count) => Ok(Some(count)),
+        Err(error) => match error.kind() {
+            io::ErrorKind::WouldBlock | io::ErrorKind::Interrupted => Ok(None),
+            _ => Err(error),
+        },
+    }
+}
+
+impl<R: Net + Clock + Eprint> Pair for LinkPair<'_, R> {
+    ghost told = { λ _. None };
+
+    ghost faults = { λ p. p.faults };
+
+    ghost idles = { λ p. p.idles };
+
+    fn meet(&mut self, listen: u16, peer: Endpoint) -> MeetAnswer {
+        let peer = address(Ipv4Addr::from_bits(peer.address), peer.port);
+        let client = match self.take_client(listen, peer) {
+            Ok(client) => client,
+            Err(error) => {
+                self.fail(Part::Port, error);
+                return MeetAnswer::Failed;
+            }
+        };
+        match self.take_controller(peer) {
+            Ok(()) => MeetAnswer::Met(client),
+            Err(error) => {
+                self.fail(Part::Controller, error);
+                MeetAnswer::Failed
+            }
+        }
+    }
+
+    fn moment(&mut self) -> MomentAnswer {
+        match self.now() {
+            Ok(moment) => MomentAnswer::Told(moment),
+            Err(error) => {
+                self.fail(Part::Clock, error);
+                MomentAnswer::Failed
+            }
+        }
+    }
+
+    fn take(&mut self, side: Side, buf: &mut [u8]) -> TakeAnswer {
+        match self.read(side, buf) {
+            Ok(Some(0)) => TakeAnswer::End,
+            Ok(Some(count)) => TakeAnswer::Got(count),
+            Ok(None) => {
+                self.count_idle();
+                TakeAnswer::Idle
+            }
+            Err(error) => {
+                self.fail(part_of(side), error);
+                TakeAnswer::Failed
+            }
+        }
+    }
+
+    fn give(&mut self, side: Side, bytes: &[u8]) -> GiveAnswer {
+        match self.write(side, bytes) {
+            Ok(Some(count)) if count > 0 => GiveAnswer::Took(count),
+            Ok(_) => {
+                self.count_idle();
+                GiveAnswer::Idle
+            }
+            Err(error) => {
+                self.fail(part_of(side), error);
+                GiveAnswer::Failed
+            }
+        }
+    }
+
+    fn finish(&mut self, side: Side) -> WriteAnswer {
+        match self.close(side) {
+            Ok(()) => WriteAnswer::Done,
+            Err(error) => {
+                self.fail(part_of(side), error);
+                WriteAnswer::Failed
+            }
+        }
+    }
+}

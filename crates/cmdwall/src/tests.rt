@@ -1,0 +1,62 @@
+//! The pair of streams over the loopback, in one thread: the system holds what a peer would take.
+
+use crate::link::LinkPair;
+use cf_outside::{GiveAnswer, MeetAnswer, Pair, TakeAnswer, WriteAnswer};
+use cf_view::{Endpoint, Side};
+use std::io::{Read, Write};
+use std::net::{Net, TcpListener, TcpStream};
+use std::rt::Clock;
+use std::test::Fail as TestFail;
+
+const HOME: u32 = 0x7F00_0001;
+
+/// What a side sent, asked for so often that the system has brought it.
+fn take<R: Net + Clock + Eprint>(pair: &mut LinkPair<'_, R>, side: Side) -> Option<[u8; 3]> {
+    let mut buf = [0u8; 3];
+    for _ in 0..1_000 {
+        let _ = pair.moment();
+        match pair.take(side, &mut buf) {
+            TakeAnswer::Idle => {}
+            TakeAnswer::Got(_) => return Some(buf),
+            _ => return None,
+        }
+    }
+    None
+}
+
+#[test]
+fn a_pair_moves_bytes_and_ends(rt: HostRuntime) -> Result<(), TestFail> {
+    let listener = TcpListener::bind(&rt, "127.0.0.1:0")?;
+    let far = TcpListener::bind(&rt, "127.0.0.1:0")?;
+    let peer = Endpoint {
+        address: HOME,
+        port: far.local_addr()?.port(),
+    };
+    let mut client = TcpStream::connect(&rt, listener.local_addr()?)?;
+    let mut pair = LinkPair::over(&rt, listener);
+    let from = Endpoint {
+        address: HOME,
+        port: client.local_addr()?.port(),
+    };
+    assert!(rt; pair.meet(1, peer) == MeetAnswer::Met(from));
+    let (mut controller, _) = far.accept()?;
+
+    let mut buf = [0u8; 3];
+    assert!(rt; pair.take(Side::Client, &mut buf) == TakeAnswer::Idle);
+    client.write_all(b"abc")?;
+    assert!(rt; take(&mut pair, Side::Client) == Some(*b"abc"));
+    assert!(rt; pair.give(Side::Controller, b"xyz") == GiveAnswer::Took(3));
+    assert!(rt; controller.read(&mut buf)? == 3);
+    assert!(rt; &buf == b"xyz");
+
+    // A side that was closed for sending may still send.
+    assert!(rt; pair.finish(Side::Client) == WriteAnswer::Done);
+    assert!(rt; client.read(&mut buf)? == 0);
+    client.write_all(b"def")?;
+    assert!(rt; take(&mut pair, Side::Client) == Some(*b"def"));
+    drop(client);
+    assert!(rt; take(&mut pair, Side::Client).is_none());
+    assert!(rt; pair.take(Side::Client, &mut buf) == TakeAnswer::End);
+    assert!(rt; pair.fault().is_none());
+    Ok(())
+}
