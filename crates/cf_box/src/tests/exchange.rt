@@ -31,11 +31,6 @@ const CONTROLLER: Endpoint = Endpoint {
     port: 502,
 };
 
-/// The rest of the first line that begins so.
-pub(super) fn field<'a>(row: &'a str, key: &str) -> Option<&'a str> {
-    row.lines().find_map(|line| line.strip_prefix(key))
-}
-
 /// Who sends and who receives.
 fn ends(who: &str) -> Result<(Endpoint, Endpoint), TestFail> {
     let number = who.trim_start_matches(['c', 'k']);

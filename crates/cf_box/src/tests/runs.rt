@@ -1,6 +1,7 @@
 //! Runs over captures, each as an exchange of packets: what comes, what goes out for it, the log and what is printed.
 
-use super::exchange::{capture, difference, field, log};
+use super::exchange::{capture, difference, log};
+use super::rows::field;
 use super::{Left, octets, run, text};
 use cf_outside::Fail;
 use cf_view::LinkKind;
