@@ -12,11 +12,11 @@ use std::net::{
 use std::thread;
 use std::time::{Clock, Duration, SystemTime};
 
-/// How long a turn waits before which nothing came or went.
-const QUIET_WAIT: Duration = Duration::from_millis(5);
+/// How many milliseconds a turn waits before which nothing came or went.
+const QUIET_MILLIS: u64 = 5;
 
-/// How long the controller has to take the connection.
-const CONNECT_WAIT: Duration = Duration::from_secs(10);
+/// How many seconds the controller has to take the connection.
+const CONNECT_SECONDS: u64 = 10;
 
 /// Where a call failed.
 #[derive(Clone, Copy, PartialEq, Eq)]
@@ -120,7 +120,8 @@ impl<'a, R: Net + Clock + Eprint> LinkPair<'a, R> {
         ensures faults { self.new.faults ≡ self.old.faults }
         ensures idles { self.new.idles ≡ self.old.idles }
     {
-        let stream = TcpStream::connect_timeout(self.rt, &peer, CONNECT_WAIT)?;
+        let wait = Duration::from_secs(CONNECT_SECONDS);
+        let stream = TcpStream::connect_timeout(self.rt, &peer, wait)?;
         stream.set_nonblocking(true)?;
         stream.set_nodelay(true)?;
         self.controller = Some(stream);
@@ -133,7 +134,7 @@ impl<'a, R: Net + Clock + Eprint> LinkPair<'a, R> {
         ensures idles { self.new.idles ≡ self.old.idles }
     {
         if self.is_quiet {
-            thread::sleep(self.rt, QUIET_WAIT);
+            thread::sleep(self.rt, Duration::from_millis(QUIET_MILLIS));
         }
         self.is_quiet = true;
         let since = SystemTime::now(self.rt)?.duration_since(SystemTime::UNIX_EPOCH);
