@@ -4,13 +4,12 @@ ghost use Rattle.cf_outside.specs.Faults.{Rose};
 
 use cf_outside::{GiveAnswer, MeetAnswer, MomentAnswer, Pair, TakeAnswer, WriteAnswer};
 use cf_view::{Endpoint, Side};
-use std::io;
 use std::io::{Read, Write};
 use std::net::{
     IpAddr, Ipv4Addr, Net, OpenListener, OpenStream, Shutdown, SocketAddr, TcpListener, TcpStream,
 };
-use std::thread;
 use std::time::{Clock, Duration, SystemTime};
+use std::{io, thread};
 
 /// How many milliseconds a turn waits before which nothing came or went.
 const QUIET_MILLIS: u64 = 5;
@@ -108,7 +107,9 @@ impl<'a, R: Net + Clock + Eprint> LinkPair<'a, R> {
         };
         let here = listener.local_addr()?;
         // A line that cannot be said changes nothing.
-        let _ = eprintln!(self.rt; "cmdwall: listens on {here} for one client, and connects to {peer}");
+        let _ = eprintln!(self.rt;
+            "cmdwall: listens on {here} for one client, and connects to {peer}"
+        );
         let (stream, from) = listener.accept()?;
         stream.set_nonblocking(true)?;
         stream.set_nodelay(true)?;
