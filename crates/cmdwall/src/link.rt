@@ -151,14 +151,10 @@ impl<'a, R: Net + Clock + Eprint> LinkPair<'a, R> {
         ensures faults { self.new.faults ≡ self.old.faults }
         ensures idles { self.new.idles ≡ self.old.idles }
     {
-        let stream = match side {
-            Side::Client => self.client.as_mut(),
-            Side::Controller => self.controller.as_mut(),
+        let count = match side {
+            Side::Client => read_from(&mut self.client, buf)?,
+            Side::Controller => read_from(&mut self.controller, buf)?,
         };
-        let Some(stream) = stream else {
-            return Err(not_connected());
-        };
-        let count = unless_waiting(stream.read(buf))?;
         if count.is_some() {
             self.is_quiet = false;
         }
@@ -171,14 +167,10 @@ impl<'a, R: Net + Clock + Eprint> LinkPair<'a, R> {
         ensures faults { self.new.faults ≡ self.old.faults }
         ensures idles { self.new.idles ≡ self.old.idles }
     {
-        let stream = match side {
-            Side::Client => self.client.as_mut(),
-            Side::Controller => self.controller.as_mut(),
+        let count = match side {
+            Side::Client => write_to(&mut self.client, bytes)?,
+            Side::Controller => write_to(&mut self.controller, bytes)?,
         };
-        let Some(stream) = stream else {
-            return Err(not_connected());
-        };
-        let count = unless_waiting(stream.write(bytes))?;
         if count.is_some() {
             self.is_quiet = false;
         }
@@ -195,6 +187,26 @@ impl<'a, R: Net + Clock + Eprint> LinkPair<'a, R> {
             Some(stream) => stream.shutdown(Shutdown::Write),
             None => Err(not_connected()),
         }
+    }
+}
+
+/// Reads what came on a stream; 0 at its end, nothing where none came.
+fn read_from<S: Read>(stream: &mut Option<S>, buf: &mut [u8]) -> io::Result<Option<usize>>
+    ensures { IfOk result (λ count. IfSome count (λ n. n ≤ length buf.new)) }
+{
+    match stream {
+        Some(stream) => unless_waiting(stream.read(buf)),
+        None => Err(not_connected()),
+    }
+}
+
+/// Writes to a stream what it takes now; nothing where it takes none.
+fn write_to<S: Write>(stream: &mut Option<S>, bytes: &[u8]) -> io::Result<Option<usize>>
+    ensures { IfOk result (λ count. IfSome count (λ n. n ≤ length bytes.now)) }
+{
+    match stream {
+        Some(stream) => unless_waiting(stream.write(bytes)),
+        None => Err(not_connected()),
     }
 }
 
