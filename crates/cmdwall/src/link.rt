@@ -11,8 +11,9 @@ use std::net::{
 use std::time::{Clock, Duration, SystemTime};
 use std::{io, thread};
 
-/// How many milliseconds a turn waits before which nothing came or went.
-const QUIET_MILLIS: u64 = 5;
+/// How long a turn sleeps, in microseconds, between looks at the streams, where nothing came or went in the turn before: 5
+/// milliseconds in all.
+const NAPS: [u64; 12] = [10, 10, 20, 40, 80, 160, 320, 640, 930, 930, 930, 930];
 
 /// How many seconds the controller has to take the connection.
 const CONNECT_SECONDS: u64 = 10;
@@ -42,7 +43,11 @@ pub struct LinkPair<'a, R: Net + Clock + Eprint> {
     listener: Option<R::Listener>,
     client: Option<R::Stream>,
     controller: Option<R::Stream>,
+    /// Nothing came or went in this turn yet.
     is_quiet: bool,
+    /// The client was asked in this turn and had nothing.
+    awaits_client: bool,
+    awaits_controller: bool,
     fault: Option<LinkFault>,
     faults: u64,
     idles: u64,
@@ -59,6 +64,8 @@ impl<'a, R: Net + Clock + Eprint> LinkPair<'a, R> {
             client: None,
             controller: None,
             is_quiet: false,
+            awaits_client: false,
+            awaits_controller: false,
             fault: None,
             faults: 0,
             idles: 0,
@@ -129,15 +136,32 @@ impl<'a, R: Net + Clock + Eprint> LinkPair<'a, R> {
         Ok(())
     }
 
+    /// Waits until a side that had nothing has something to read, 5 milliseconds at most.
+    fn wait(&self) {
+        for nap in NAPS.iter() {
+            if self.has_come() {
+                return;
+            }
+            thread::sleep(self.rt, Duration::from_micros(*nap));
+        }
+    }
+
+    fn has_come(&self) -> bool {
+        (self.awaits_client && is_ready(&self.client))
+            || (self.awaits_controller && is_ready(&self.controller))
+    }
+
     /// Microseconds since 1970, after a wait where nothing came or went since it was last asked.
     fn now(&mut self) -> io::Result<u64>
         ensures faults { self.new.faults ≡ self.old.faults }
         ensures idles { self.new.idles ≡ self.old.idles }
     {
         if self.is_quiet {
-            thread::sleep(self.rt, Duration::from_millis(QUIET_MILLIS));
+            self.wait();
         }
         self.is_quiet = true;
+        self.awaits_client = false;
+        self.awaits_controller = false;
         let since = SystemTime::now(self.rt)?.duration_since(SystemTime::UNIX_EPOCH);
         match since {
             Ok(since) => Ok(u64::try_from(since.as_micros()).unwrap_or(u64::MAX)),
@@ -157,6 +181,11 @@ impl<'a, R: Net + Clock + Eprint> LinkPair<'a, R> {
         };
         if count.is_some() {
             self.is_quiet = false;
+        } else {
+            match side {
+                Side::Client => self.awaits_client = true,
+                Side::Controller => self.awaits_controller = true,
+            }
         }
         Ok(count)
     }
@@ -197,6 +226,15 @@ fn read_from<S: Read>(stream: &mut Option<S>, buf: &mut [u8]) -> io::Result<Opti
     match stream {
         Some(stream) => unless_waiting(stream.read(buf)),
         None => Err(not_connected()),
+    }
+}
+
+/// Whether a read of a stream would find bytes, its end or a failure.
+fn is_ready<S: OpenStream>(stream: &Option<S>) -> bool {
+    let mut first = [0u8; 1];
+    match stream {
+        Some(stream) => !matches!(unless_waiting(stream.peek(&mut first)), Ok(None)),
+        None => true,
     }
 }
 
