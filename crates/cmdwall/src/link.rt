@@ -4,13 +4,12 @@ ghost use Rattle.cf_outside.specs.Faults.{Rose};
 
 use cf_outside::{GiveAnswer, MeetAnswer, MomentAnswer, Pair, TakeAnswer, WriteAnswer};
 use cf_view::{Endpoint, Side};
-use std::io;
 use std::io::{Read, Write};
 use std::net::{
     IpAddr, Ipv4Addr, Net, OpenListener, OpenStream, Shutdown, SocketAddr, TcpListener, TcpStream,
 };
-use std::thread;
 use std::time::{Clock, Duration, SystemTime};
+use std::{io, thread};
 
 /// How many milliseconds a turn waits before which nothing came or went.
 const QUIET_MILLIS: u64 = 5;
@@ -108,7 +107,9 @@ impl<'a, R: Net + Clock + Eprint> LinkPair<'a, R> {
         };
         let here = listener.local_addr()?;
         // A line that cannot be said changes nothing.
-        let _ = eprintln!(self.rt; "cmdwall: listens on {here} for one client, and connects to {peer}");
+        let _ = eprintln!(self.rt;
+            "cmdwall: listens on {here} for one client, and connects to {peer}"
+        );
         let (stream, from) = listener.accept()?;
         stream.set_nonblocking(true)?;
         stream.set_nodelay(true)?;
@@ -150,14 +151,10 @@ impl<'a, R: Net + Clock + Eprint> LinkPair<'a, R> {
         ensures faults { self.new.faults ≡ self.old.faults }
         ensures idles { self.new.idles ≡ self.old.idles }
     {
-        let stream = match side {
-            Side::Client => self.client.as_mut(),
-            Side::Controller => self.controller.as_mut(),
+        let count = match side {
+            Side::Client => read_now(&mut self.client, buf)?,
+            Side::Controller => read_now(&mut self.controller, buf)?,
         };
-        let Some(stream) = stream else {
-            return Err(not_connected());
-        };
-        let count = unless_waiting(stream.read(buf))?;
         if count.is_some() {
             self.is_quiet = false;
         }
@@ -170,14 +167,10 @@ impl<'a, R: Net + Clock + Eprint> LinkPair<'a, R> {
         ensures faults { self.new.faults ≡ self.old.faults }
         ensures idles { self.new.idles ≡ self.old.idles }
     {
-        let stream = match side {
-            Side::Client => self.client.as_mut(),
-            Side::Controller => self.controller.as_mut(),
+        let count = match side {
+            Side::Client => write_now(&mut self.client, bytes)?,
+            Side::Controller => write_now(&mut self.controller, bytes)?,
         };
-        let Some(stream) = stream else {
-            return Err(not_connected());
-        };
-        let count = unless_waiting(stream.write(bytes))?;
         if count.is_some() {
             self.is_quiet = false;
         }
@@ -199,6 +192,24 @@ impl<'a, R: Net + Clock + Eprint> LinkPair<'a, R> {
 
 fn not_connected() -> io::Error {
     io::Error::from(io::ErrorKind::NotConnected)
+}
+
+fn read_now<S: Read>(stream: &mut Option<S>, buf: &mut [u8]) -> io::Result<Option<usize>>
+    ensures { IfOk result (λ count. IfSome count (λ n. n ≤ length buf.new)) }
+{
+    match stream {
+        Some(stream) => unless_waiting(stream.read(buf)),
+        None => Err(not_connected()),
+    }
+}
+
+fn write_now<S: Write>(stream: &mut Option<S>, bytes: &[u8]) -> io::Result<Option<usize>>
+    ensures { IfOk result (λ count. IfSome count (λ n. n ≤ length bytes.now)) }
+{
+    match stream {
+        Some(stream) => unless_waiting(stream.write(bytes)),
+        None => Err(not_connected()),
+    }
 }
 
 fn part_of(side: Side) -> Part {

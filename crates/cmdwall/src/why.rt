@@ -104,7 +104,9 @@ fn explain_command<R: FileSystem + Eprint + AllocGlobal>(
             explain_capture(rt, capture, files),
         (6 | 7, Command::Run { names, .. }) => explain_capture(rt, names.capture, files),
         (9, _) => {
-            eprintln!(rt; "cmdwall: nothing came for so long that the relay ended; the log has what came before")
+            eprintln!(rt;
+                "cmdwall: nothing came for so long that the relay ended; the log has what came before"
+            )
         }
         (10, Command::Sift { policy, asset, .. }) | (10, Command::Relay { policy, asset, .. }) => {
             explain_asset(rt, policy, asset, files)
