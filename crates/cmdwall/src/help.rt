@@ -135,8 +135,8 @@ stands between a client and the controller of an asset: one client, which comes 
   ASSET    the name of the asset in it
   PORT     the port at which the client is awaited, 1 to 65535
   IDLES    how many turns in which nothing moves end the relay, 1 to 1000000. Such a turn lasts
-           5 milliseconds, so 12000 are a minute; once one side has ended, half as many turns
-           have to come again before it ends
+           5 milliseconds, so 12000 are a minute; it takes twice as many once one side has
+           ended
   LOG      is created, and gets a line as the session begins and closes or is cut, and for each
            refused command; each stands in the file as soon as it is written (docs/LOG.md)
 
