@@ -4,7 +4,7 @@ use Rattle.cf_view.specs.Octets.{IsOctets}
 use Rattle.cf_view.specs.Framing.{IsPrefixFree, HasFront}
 use Rattle.cf_view.specs.Places.{SpellsBy}
 use Rattle.cf_view.proofs.Places.{prefix_free, has_front, free_too, front_too}
-use Rattle.cf_apci.specs.Apdu.{SpellsApdu}
+use Rattle.cf_apci.specs.Apdu.{ApduValue, SpellsApdu}
 use Rattle.cf_apci.specs.Places.{size_of, follows, fields_of}
 use Rattle.cf_apci.proofs.Places.{told, next, goes_on, size_least}
 use Rattle.cf_apci.proofs.Spelled.{to_spelled, from_spelled}
@@ -16,3 +16,7 @@ pub apdu_front : (xs : List ℕ) → IsOctets xs → HasFront SpellsApdu xs
 apdu_front xs o =
     front_too (SpellsBy follows size_of fields_of) SpellsApdu to_spelled from_spelled xs
     (has_front follows size_of told next goes_on fields_of (λ ys. omega (arith, size_least ys)) xs o)
+
+-- what is spelled is octets
+pub apdu_octets : (a : ApduValue) (xs : List ℕ) → SpellsApdu a xs → IsOctets xs
+apdu_octets a xs s = (from_spelled a xs s).unit.octets_are

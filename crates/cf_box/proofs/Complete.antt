@@ -12,13 +12,15 @@ use Rattle.cf_policy.specs.declared.Asset.{Asset}
 use Rattle.cf_policy.specs.declared.Policy.{Policy}
 use Rattle.cf_policylang.specs.Documents.{policy_meaning}
 use Rattle.cf_policylang.specs.declared.PolicyRefusal.{PolicyRefusal}
+use Rattle.cf_run.specs.RunCapture.{HasRecords as HasRunRecords}
+use Rattle.cf_box.specs.Captures.{EndsAt, Refuses}
 use Rattle.cf_box.specs.Command.{Command, Check, Packets, Run, Relay, World, Sift, capture_file}
-use Rattle.cf_box.specs.Ends.{CutsCapture, CutsRun, CutsStream, EndsIdle, LacksAsset, LinkFails, Meets, RefusesCapture, RefusesPolicy}
+use Rattle.cf_box.specs.Ends.{CutsCapture, CutsRun, CutsStream, EndsIdle, LacksAsset, LinkFails, Meets, RefusesCapture, RefusesMadePolicy, RefusesPolicy}
 use Rattle.cf_box.specs.Outside.{Outside, ReadFailed, WriteFailed}
-use Rattle.cf_box.specs.Packets.{IsListed, ListsBehind}
+use Rattle.cf_box.specs.Packets.{HasListedRecords}
 use Rattle.cf_box.specs.PolicyFile.{HasPolicy, IsRefusedBy, asset_named}
-use Rattle.cf_box.specs.Run.{EndsAt, RunCuts, RunRefuses}
-use Rattle.cf_box.specs.Status.{EndsWell, HasInput, HasRecords, HasTimedRecords, NothingFails}
+use Rattle.cf_box.specs.Run.{RunCuts, RunRefuses}
+use Rattle.cf_box.specs.Status.{EndsWell, HasInput, HasRecords, HasTimedRecords, NothingFails, TellsMade}
 use Rattle.cf_box.specs.declared.ending.CaptureRefusal.{CaptureRefusal}
 use Rattle.cf_box.specs.declared.ending.CaptureRefusal.TheVariants as refusal
 use Rattle.cf_box.specs.declared.ending.Done.{Done}
@@ -43,96 +45,99 @@ same_policy file bytes p q told means has =
     let meaning : policy_meaning bytes ≡ Ok q = ap policy_meaning (sym same) ∙ has.means in
     cc
 
--- a capture whose records end with the file is not refused, nor cut
-module _ (bytes : List ℕ) (h : Header) (records : List Record) (place : ℕ)
-    (are : AreRecords (at_place h) 24 (drop 24 bytes) records (record { place = place; found = FileEnd })) where
-  ends_so : (others : List Record) (ending : LastPlace) → AreRecords (at_place h) 24 (drop 24 bytes) others ending → ending ≡ record
-      { place = place; found = FileEnd }
-  ends_so others ending other = (one_list (at_place h) 24 (drop 24 bytes) others records ending (record { place = place; found = FileEnd }) other are).1
-
-  stopped_listing : (answer : Stop) → IsListed h bytes None None ⊥ (Err answer) → ⊥
-  stopped_listing (stop.CaptureCut at) l =
-      let ends = ends_so l.records l.ending l.are in
-      let cuts = l.answers.0 in
-      cc (ap (λ e. e.found) (sym ends ∙ cuts))
-  stopped_listing (stop.CaptureRefused refusal.TooLong) l = cc (ap (λ e. e.found) (sym (ends_so l.records l.ending l.are)) ∙ l.answers.0)
-  stopped_listing (stop.CaptureRefused refusal.Large) l = cc (ap (λ e. e.found) (sym (ends_so l.records l.ending l.are)) ∙ l.answers.0)
-  stopped_listing (stop.CaptureRefused why) l = l.answers
-  stopped_listing stop.WriteFault l = l.answers.0
-  stopped_listing answer l = l.answers
-
-not_ended : (file : Content) (bytes : List ℕ) → file ≡ holds bytes → HasRecords bytes → (capture : List ℕ) → IsWhole file capture → (answer : Stop) →
-    ListsBehind (header_of capture) capture None None ⊥ (Err answer) → ⊥
-not_ended file bytes told has capture whole answer ends =
-    let same : capture ≡ bytes = same_bytes file bytes capture told whole in
-    let behind : ListsBehind (header_of bytes) bytes None None ⊥ (Err answer) = subst (λ b. ListsBehind (header_of b) b None None ⊥ (Err answer))
-    same ends in
-    let listed : ListsBehind (Ok has.0) bytes None None ⊥ (Err answer) = subst (λ h. ListsBehind h bytes None None ⊥ (Err answer)) has.1 behind in
-    stopped_listing bytes has.0 has.2.0 has.2.1 has.2.2 answer listed
-
--- the same of a run, where each record has its moment
-module _ (bytes : List ℕ) (has : HasTimedRecords bytes) where
+-- a capture whose header is read and whose records end with the file is not refused, nor cut
+module _ (Has : Content → Header → List Record → LastPlace → Type 0) (bytes : List ℕ) (h : Header) (read : header_of bytes ≡ Ok h)
+    (ends : (found : AtPlace) (place : ℕ) → EndsAt Has (holds bytes) found place → found ≡ FileEnd) where
   no_refusal : (of : HeaderRefusal) → header_of bytes ≡ Err of → ⊥
-  no_refusal of refused = let read = has.1 in cc
+  no_refusal of refused = let here = read in cc
 
-  no_other_end : (found : AtPlace) (place : ℕ) (h : Header) (records : List Record) → header_of bytes ≡ Ok h → AreTimed h first_moment 24 (drop 24 bytes) records (record { place = place; found = found }) → found ≡ FileEnd
-  no_other_end found place h records read are =
-      let here = has.1 in
-      let same : h ≡ has.0 = cc in
-      let ends : LastPlace = record { place = has.2.1; found = FileEnd } in
-      ap (λ e. e.found) (one_timed_list has.0 first_moment 24 (drop 24 bytes) records has.2.0 (record { place = place; found = found }) ends
-      (subst (λ x. AreTimed x first_moment 24 (drop 24 bytes) records (record { place = place; found = found })) same are) has.2.2).1
+  not_refused_by : (r : CaptureRefusal) → Refuses Has (holds bytes) r → ⊥
+  not_refused_by refusal.Short h = no_refusal header.Short h
+  not_refused_by refusal.Magic h = no_refusal header.Magic h
+  not_refused_by refusal.Version h = no_refusal header.Version h
+  not_refused_by refusal.LinkType h = no_refusal header.LinkType h
+  not_refused_by refusal.TooLong h = cc (ends TooLong h.0 h.1)
+  not_refused_by refusal.Clock h = cc (ends Clock h.0 h.1)
+  not_refused_by refusal.Large h = cc (ends Large h.0 h.1)
 
-  ends_well : (found : AtPlace) (place : ℕ) → EndsAt (holds bytes) found place → found ≡ FileEnd
-  ends_well found place e = no_other_end found place e.header e.records e.has_header e.are_records
+  not_cut_at : (place : ℕ) → EndsAt Has (holds bytes) Cut place → ⊥
+  not_cut_at place h = cc (ends Cut place h)
 
-  not_refused_run : (r : CaptureRefusal) → RunRefuses (holds bytes) r → ⊥
-  not_refused_run refusal.Short h = no_refusal header.Short h
-  not_refused_run refusal.Magic h = no_refusal header.Magic h
-  not_refused_run refusal.Version h = no_refusal header.Version h
-  not_refused_run refusal.LinkType h = no_refusal header.LinkType h
-  not_refused_run refusal.TooLong h = cc (ends_well TooLong h.0 h.1)
-  not_refused_run refusal.Clock h = cc (ends_well Clock h.0 h.1)
-  not_refused_run refusal.Large h = cc (ends_well Large h.0 h.1)
+-- the records of a listing, and those of a run, where each has its moment
+listing_ends : (bytes : List ℕ) (has : HasRecords bytes) (found : AtPlace) (place : ℕ) → EndsAt HasListedRecords (holds bytes) found place → found ≡ FileEnd
+listing_ends bytes has found place e =
+    let here = has.1 in
+    let there = e.has_header in
+    let same : e.header ≡ has.0 = cc in
+    let ends : LastPlace = record { place = has.2.1; found = FileEnd } in
+    ap (λ e. e.found) (one_list (at_place has.0) 24 (drop 24 bytes) e.records has.2.0 (record { place = place; found = found }) ends
+    (subst (λ x. AreRecords (at_place x) 24 (drop 24 bytes) e.records (record { place = place; found = found })) same e.are_records) has.2.2).1
 
-  not_cut_run : (place : ℕ) → RunCuts (holds bytes) place → ⊥
-  not_cut_run place h = cc (ends_well Cut place h)
+run_ends : (bytes : List ℕ) (has : HasTimedRecords bytes) (found : AtPlace) (place : ℕ) → EndsAt HasRunRecords (holds bytes) found place → found ≡ FileEnd
+run_ends bytes has found place e =
+    let here = has.1 in
+    let there = e.has_header in
+    let same : e.header ≡ has.0 = cc in
+    let ends : LastPlace = record { place = has.2.1; found = FileEnd } in
+    ap (λ e. e.found) (one_timed_list has.0 first_moment 24 (drop 24 bytes) e.records has.2.0 (record { place = place; found = found }) ends
+    (subst (λ x. AreTimed x first_moment 24 (drop 24 bytes) e.records (record { place = place; found = found })) same e.are_records) has.2.2).1
+
+pub not_refused_run : (bytes : List ℕ) → HasTimedRecords bytes → (r : CaptureRefusal) → RunRefuses (holds bytes) r → ⊥
+not_refused_run bytes has r h = not_refused_by HasRunRecords bytes has.0 has.1 (run_ends bytes has) r h
+
+pub not_cut_run : (bytes : List ℕ) → HasTimedRecords bytes → (place : ℕ) → RunCuts (holds bytes) place → ⊥
+not_cut_run bytes has place h = not_cut_at HasRunRecords bytes has.0 has.1 (run_ends bytes has) place h
 
 abbrev IsInForm : Command → Outside → Type 0
 IsInForm c before = (file : List ℕ) → capture_file c ≡ Some file → (bytes : List ℕ) × (before.files.content file ≡ holds bytes) × EndsWell c bytes
 
 -- so no command's capture in form is refused, nor cut: a line a command
-refused_none : (c : Command) (before : Outside) (r : CaptureRefusal) → IsInForm c before → RefusesCapture c before r → ⊥
-refused_none (Packets capture) before r form h =
+refused_none : (c : Command) (before : Outside) (r : CaptureRefusal) → IsInForm c before → TellsMade c before → RefusesCapture c before r → ⊥
+refused_none (Packets capture) before r form tells h =
     let here = form capture refl in
-    not_ended (before.files.content capture) here.0 here.1 here.2 h.0 h.1 (stop.CaptureRefused r) h.2
-refused_none (Run policy names) before r form h =
+    not_refused_by HasListedRecords here.0 here.2.0 here.2.1 (listing_ends here.0 here.2) r (subst (λ f. Refuses HasListedRecords f r) here.1 h.0)
+refused_none (Run policy names) before r form tells h =
     let here = form names.capture refl in
     not_refused_run here.0 here.2 r (subst (λ f. RunRefuses f r) here.1 h)
-refused_none (Check policy) before r form h = h
-refused_none (Relay policy asset port idles log) before r form h = h
-refused_none (World seed sessions policy capture out log) before r form h = h
-refused_none (Sift policy asset client names) before r form h = h
+refused_none (Check policy) before r form tells h = h
+refused_none (Relay policy asset port idles log) before r form tells h = h
+refused_none (World seed sessions policy names) before r form tells h = tells.1 h
+refused_none (Sift policy asset client names) before r form tells h = h
 
-cut_none : (c : Command) (before : Outside) (place : ℕ) → IsInForm c before → CutsCapture c before place → ⊥
-cut_none (Packets capture) before place form h =
+cut_none : (c : Command) (before : Outside) (place : ℕ) → IsInForm c before → TellsMade c before → CutsCapture c before place → ⊥
+cut_none (Packets capture) before place form tells h =
     let here = form capture refl in
-    not_ended (before.files.content capture) here.0 here.1 here.2 h.0 h.1 (stop.CaptureCut place) h.2
-cut_none (Run policy names) before place form h =
+    not_cut_at HasListedRecords here.0 here.2.0 here.2.1 (listing_ends here.0 here.2) place (subst (λ f. EndsAt HasListedRecords f Cut place) here.1 h)
+cut_none (Run policy names) before place form tells h =
     let here = form names.capture refl in
     not_cut_run here.0 here.2 place (subst (λ f. RunCuts f place) here.1 h)
-cut_none (Check policy) before place form h = h
-cut_none (Relay policy asset port idles log) before place form h = h
-cut_none (World seed sessions policy capture out log) before place form h = h
-cut_none (Sift policy asset client names) before place form h = h
+cut_none (Check policy) before place form tells h = h
+cut_none (Relay policy asset port idles log) before place form tells h = h
+cut_none (World seed sessions policy names) before place form tells h = tells.1 h
+cut_none (Sift policy asset client names) before place form tells h = h
 
-run_cut_none : (c : Command) (before : Outside) (place : ℕ) → IsInForm c before → CutsRun c before place → ⊥
-run_cut_none (Run policy names) before place form h = cut_none (Run policy names) before place form h
-run_cut_none (Check policy) before place form h = h
-run_cut_none (Packets capture) before place form h = h
-run_cut_none (Relay policy asset port idles log) before place form h = h
-run_cut_none (World seed sessions policy capture out log) before place form h = h
-run_cut_none (Sift policy asset client names) before place form h = h
+run_cut_none : (c : Command) (before : Outside) (place : ℕ) → IsInForm c before → TellsMade c before → CutsRun c before place → ⊥
+run_cut_none (Run policy names) before place form tells h = cut_none (Run policy names) before place form tells h
+run_cut_none (Check policy) before place form tells h = h
+run_cut_none (Packets capture) before place form tells h = h
+run_cut_none (Relay policy asset port idles log) before place form tells h = h
+run_cut_none (World seed sessions policy names) before place form tells h = tells.1 h
+run_cut_none (Sift policy asset client names) before place form tells h = h
+
+-- nor is a policy that has a meaning, or that the command made
+made_none : (c : Command) (before : Outside) → TellsMade c before → RefusesMadePolicy c before → ⊥
+made_none (World seed sessions policy names) before tells made = tells.0 made
+made_none (Check policy) before tells made = made
+made_none (Packets capture) before tells made = made
+made_none (Run policy names) before tells made = made
+made_none (Relay policy asset port idles log) before tells made = made
+made_none (Sift policy asset client names) before tells made = made
+
+refusal_none : (c : Command) (before middle : Outside) (r : PolicyRefusal) → HasInput c before middle → RefusesPolicy c before r → ⊥
+refusal_none c before middle r input (inl cause) =
+    let here = input.policy cause.0 cause.1 in
+    not_refused (before.files.content cause.0) here.0 here.2.0 r here.1 here.2.1 cause.2
+refusal_none c before middle r input (inr made) = made_none c before input.made made
 
 module _ (c : Command) (before middle : Outside) (failed : Type 0) (status : ℕ) (input : HasInput c before middle)
     (reads : ReadFailed before middle → ⊥) (writes : WriteFailed before middle → ⊥) (links : LinkFails c before middle.pair → ⊥) (puts : failed → ⊥) where
@@ -144,9 +149,7 @@ module _ (c : Command) (before middle : Outside) (failed : Type 0) (status : ℕ
   is_complete (Err stop.ReadFault) meets h = absurd (reads meets.0)
   is_complete (Err stop.WriteFault) meets h = absurd (writes meets.0.0)
   is_complete (Err (stop.PolicyRefused r)) meets h =
-      let cause : RefusesPolicy c before r = meets.0 in
-      let here = input.policy cause.0 cause.1 in
-      absurd (not_refused (before.files.content cause.0) here.0 here.2.0 r here.1 here.2.1 cause.2)
+      absurd (refusal_none c before middle r input meets.0)
   is_complete (Err stop.UnknownAsset) meets h =
       let cause : LacksAsset c before = meets.0 in
       let here = input.policy cause.0 cause.2 in
@@ -156,13 +159,12 @@ module _ (c : Command) (before middle : Outside) (failed : Type 0) (status : ℕ
     where
       clash : (name : List ℕ) (p q : Policy) (a : Asset) → p ≡ q → asset_named name p ≡ None → asset_named name q ≡ Some a → ⊥
       clash name p q a same none some = cc
-  is_complete (Err (stop.CaptureRefused r)) meets h = absurd (refused_none c before r (input.capture) meets.0.0)
-  is_complete (Err (stop.CaptureCut place)) meets h = absurd (cut_none c before place (input.capture) meets.0.0)
-  is_complete (Err (stop.RunCut place summary)) meets h = absurd (run_cut_none c before place (input.capture) meets.0.0)
+  is_complete (Err (stop.CaptureRefused r)) meets h = absurd (refused_none c before r input.capture input.made meets.0.0)
+  is_complete (Err (stop.CaptureCut place)) meets h = absurd (cut_none c before place input.capture input.made meets.0.0)
+  is_complete (Err (stop.RunCut place summary)) meets h = absurd (run_cut_none c before place input.capture input.made meets.0.0)
   is_complete (Err stop.LinkFault) meets h = absurd (links meets.0.0)
   is_complete (Err stop.IdleEnd) meets h = absurd (input.idle meets.0.0)
   is_complete (Err (stop.Cut reason)) meets h = absurd (input.stream reason meets.0.0)
-  is_complete (Err stop.Unbuilt) meets h = absurd (input.built meets.0.0)
 
 -- what the pair gives is the same at the answer and at the end
 at_answer : (c : Command) (before middle after : Outside) → after.pair ≡ middle.pair → HasInput c before after → HasInput c before middle
@@ -171,7 +173,7 @@ at_answer c before middle after same input = record {
   capture = input.capture;
   stream = λ reason cut. input.stream reason (subst (λ p. CutsStream c before p reason) (sym same) cut);
   idle = λ ends. input.idle (subst (λ p. EndsIdle c before p) (sym same) ends);
-  built = input.built;
+  made = input.made;
 }
 
 pub complete_told : {c : Command} {before after : Outside} {status : ℕ} (e : Explains c before after status) → HasInput c before after → NothingFails c

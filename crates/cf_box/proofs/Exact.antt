@@ -1,9 +1,10 @@
 -- Causes that stand in the input, where it is told: no other status comes but those to which they yield.
-use Rattle.std.proofs.Common.{◌≡◌, ◌⊎◌, ◌++◌, ◌*◌, ℕ, List, None, Some, Result, Ok, Err, length, sym, subst, ◌∙◌, ap, inl, inr, arith}
+use Rattle.std.proofs.Common.{◌≡◌, ◌⊎◌, ◌++◌, ◌*◌, ℕ, List, None, Some, Result, Ok, Err, length, refl, sym, subst, ◌∙◌, ap, inl, inr, arith}
 use Rattle.std.proofs.lemmas.List.{append_cancel_left}
 use Rattle.cf_audit.specs.declared.line.CutReason.{CutReason}
 use Rattle.cf_lane.specs.Judged.{Judged}
 use Rattle.cf_lane.specs.Laws.{HasOneJudgement}
+use Rattle.cf_outside.specs.Files.{holds}
 use Rattle.cf_outside.specs.Pair.{Entry}
 use Rattle.cf_relay.specs.Answers.{client_of, history_of, idle_run, with_answers}
 use Rattle.cf_relay.specs.Turn.{AreItemsOf, cut_at}
@@ -15,16 +16,15 @@ use Rattle.cf_policylang.specs.Documents.{policy_meaning}
 use Rattle.cf_policylang.specs.declared.PolicyRefusal.{PolicyRefusal}
 use Rattle.cf_box.specs.Command.{Command, Check, Packets, Run, Relay, World, Sift, policy_file}
 use Rattle.cf_box.specs.Ending.{stop_status}
-use Rattle.cf_box.specs.Ends.{Does, LacksAsset, Meets, PassesPolicy, RefusesPolicy}
-use Rattle.cf_box.specs.Outside.{Outside, ReadFailed, SinkValue, WriteFailed}
-use Rattle.cf_box.specs.Packets.{ListsFile, TellsLongCapture}
+use Rattle.cf_box.specs.Ends.{Does, LacksAsset, Meets, PassesPolicy, RefusesMadePolicy, RefusesPolicy}
+use Rattle.cf_box.specs.Outside.{Outside, ReadFailed, WriteFailed}
 use Rattle.cf_box.specs.PolicyFile.{FindsAsset, HasPolicy, IsRefusedBy, StopsPolicy}
 use Rattle.cf_sift.specs.Laws.{HasOneCut}
 use Rattle.cf_sift.specs.Names.{SiftNamesValue}
 use Rattle.cf_sift.specs.Stored.{GoesUpTo, stored_history}
 use Rattle.cf_box.specs.Relay.{HasRelayed, RelayLeaves, TellsRelay, relay_answer}
 use Rattle.cf_box.specs.Sift.{TakesStream, TellsCutStream}
-use Rattle.cf_box.specs.Status.{IsExact, TellsCut, TellsIdle, TellsLack, TellsNoAsset, TellsNoPolicy}
+use Rattle.cf_box.specs.Status.{IsExact, TellsCut, TellsIdle, TellsNoAsset, TellsNoPolicy}
 use Rattle.cf_box.specs.declared.ending.Done.{Done}
 use Rattle.cf_box.specs.declared.ending.Stop.{Stop}
 use Rattle.cf_box.specs.declared.ending.Stop.TheVariants as stop
@@ -46,8 +46,26 @@ does_pass before after (Run policy names) d m = record {
 }
 does_pass before after (Relay policy asset port idles log) d m =
     relay_passes policy asset port idles log before m.1.asset m.1.finds
-does_pass before after (World seed sessions policy capture out log) d m = absurd m
+does_pass before after (World seed sessions policy names) d m = record { policy = λ file e. cc e; asset = λ file name e f. cc e }
 does_pass before after (Sift policy name client names) d m = passes policy name client names before after m.takes.asset m.takes.finds
+
+-- a command that reads a policy file makes none for itself
+made_unread : (c : Command) (before : Outside) (file : List ℕ) → policy_file c ≡ Some file → RefusesMadePolicy c before → ⊥
+made_unread (World seed sessions policy names) before file e made = cc e
+made_unread (Check policy) before file e made = made
+made_unread (Packets capture) before file e made = made
+made_unread (Run policy names) before file e made = made
+made_unread (Relay policy asset port idles log) before file e made = made
+made_unread (Sift policy asset client names) before file e made = made
+
+-- a policy that is told and has a meaning is not refused
+known_unrefused : (c : Command) (before : Outside) (file bytes : List ℕ) (p : Policy) (r : PolicyRefusal) → policy_file c ≡ Some file → before.files.content file ≡ holds bytes →
+    policy_meaning bytes ≡ Ok p → RefusesPolicy c before r → ⊥
+known_unrefused c before file bytes p r needs told means (inl cause) =
+    let e = cause.1 in
+    let here : cause.0 ≡ file = cc in
+    not_refused (before.files.content file) bytes p r told means (subst (λ f. IsRefusedBy (before.files.content f) r) here cause.2)
+known_unrefused c before file bytes p r needs told means (inr made) = made_unread c before file needs made
 
 module _ (failed : Type 0) (status : ℕ) (before after : Outside) where
   -- the status that is due, or one of those to which it yields
@@ -81,7 +99,6 @@ module _ (failed : Type 0) (status : ℕ) (before after : Outside) where
     refused_from (Err stop.LinkFault) meets h = absurd (not_passed meets.0.1)
     refused_from (Err stop.IdleEnd) meets h = absurd (not_passed meets.0.1)
     refused_from (Err (stop.Cut reason)) meets h = absurd (not_passed meets.0.1)
-    refused_from (Err stop.Unbuilt) meets h = absurd (not_passed meets.0.1)
 
   module _ (c : Command) (t : TellsNoAsset c before) where
     not_found : PassesPolicy c before → ⊥
@@ -93,12 +110,7 @@ module _ (failed : Type 0) (status : ℕ) (before after : Outside) where
         cc
 
     known_policy : (r : PolicyRefusal) → RefusesPolicy c before r → ⊥
-    known_policy r cause =
-        let needs = t.needs in
-        let e = cause.1 in
-        let here : cause.0 ≡ t.file = cc in
-        not_refused (before.files.content t.file) t.bytes t.meaning r t.told t.means
-        (subst (λ f. IsRefusedBy (before.files.content f) r) here cause.2)
+    known_policy r cause = known_unrefused c before t.file t.bytes t.meaning r t.needs t.told t.means cause
 
     unknown_from : (r : Result Done Stop) → Meets c before after r → IsOf r failed status → Due 10
     unknown_from (Ok d) meets h = absurd (not_found (does_pass before after c d meets))
@@ -113,28 +125,6 @@ module _ (failed : Type 0) (status : ℕ) (before after : Outside) where
     unknown_from (Err stop.LinkFault) meets h = absurd (not_found meets.0.1)
     unknown_from (Err stop.IdleEnd) meets h = absurd (not_found meets.0.1)
     unknown_from (Err (stop.Cut reason)) meets h = absurd (not_found meets.0.1)
-    unknown_from (Err stop.Unbuilt) meets h = absurd (not_found meets.0.1)
-
-  module _ (capture : List ℕ) (t : TellsLongCapture capture before) where
-    not_listed : (old new : SinkValue) (r : Result Done Stop) → ListsFile (before.files.content capture) old new r → ⊥
-    not_listed old new r l =
-        let same : l.capture ≡ t.0 = same_bytes (before.files.content capture) t.0 l.capture t.1 l.whole in
-        omega (arith, ap length same, l.short, t.2)
-
-    long_from : (r : Result Done Stop) → Meets (Packets capture) before after r → IsOf r failed status → Due 14
-    long_from (Ok d) meets h = absurd (not_listed before.sink after.sink (Ok d) meets.lists)
-    long_from (Err stop.ReadFault) meets h = inr (inl (stop_is failed status stop.ReadFault h, meets.0))
-    long_from (Err stop.NoMemory) meets h = inr (inr (stop_is failed status stop.NoMemory h))
-    long_from (Err (stop.PolicyRefused r)) meets h = cc (meets.0.1)
-    long_from (Err stop.UnknownAsset) meets h = cc (meets.0.2)
-    long_from (Err stop.WriteFault) meets h = absurd (not_listed before.sink after.sink (Err stop.WriteFault) meets.1.lines)
-    long_from (Err (stop.CaptureRefused r)) meets h = absurd (not_listed before.sink after.sink (Err (stop.CaptureRefused r)) meets.1.lines)
-    long_from (Err (stop.CaptureCut place)) meets h = absurd (not_listed before.sink after.sink (Err (stop.CaptureCut place)) meets.1.lines)
-    long_from (Err (stop.RunCut place summary)) meets h = absurd meets.0.0
-    long_from (Err stop.LinkFault) meets h = absurd meets.0.0
-    long_from (Err stop.IdleEnd) meets h = absurd meets.0.0
-    long_from (Err (stop.Cut reason)) meets h = absurd meets.0.0
-    long_from (Err stop.Unbuilt) meets h = inl (stop_is failed status stop.Unbuilt h)
 
   -- what is due where a write may have failed before
   abbrev DueBehind : ℕ → Type 0
@@ -173,11 +163,7 @@ module _ (failed : Type 0) (status : ℕ) (before after : Outside) where
     cut_from (Err stop.ReadFault) meets h = inr (inr (inl (stop_is failed status stop.ReadFault h, meets.0)))
     cut_from (Err stop.NoMemory) meets h = inr (inr (inr (stop_is failed status stop.NoMemory h)))
     cut_from (Err (stop.PolicyRefused r)) meets h =
-        let cause : RefusesPolicy (Sift file name client names) before r = meets.0 in
-        let e = cause.1 in
-        let here : cause.0 ≡ file = cc in
-        absurd (not_refused (before.files.content file) t.bytes t.policy r t.told t.means
-        (subst (λ f. IsRefusedBy (before.files.content f) r) here cause.2))
+        absurd (known_unrefused (Sift file name client names) before file t.bytes t.policy r refl t.told t.means meets.0)
     cut_from (Err stop.UnknownAsset) meets h =
         let cause : LacksAsset (Sift file name client names) before = meets.0 in
         let e = cause.2 in
@@ -196,7 +182,6 @@ module _ (failed : Type 0) (status : ℕ) (before after : Outside) where
     cut_from (Err stop.LinkFault) meets h = absurd meets.0.0
     cut_from (Err stop.IdleEnd) meets h = absurd meets.0.0
     cut_from (Err (stop.Cut reason)) meets h = inl (stop_is failed status (stop.Cut reason) h)
-    cut_from (Err stop.Unbuilt) meets h = absurd meets.0.0
 
   module _ (law : HasOneJudgement) (file name : List ℕ) (port idles : ℕ) (log : List ℕ) (t : TellsRelay file name before after.pair) where
     relayed_asset : (a : Asset) → FindsAsset (before.files.content file) name a → a ≡ t.asset
@@ -207,10 +192,7 @@ module _ (failed : Type 0) (status : ℕ) (before after : Outside) where
         cc
 
     known_means : (r : PolicyRefusal) → RefusesPolicy (Relay file name port idles log) before r → ⊥
-    known_means r cause =
-        let e = cause.1 in
-        let here : cause.0 ≡ file = cc in
-        not_refused (before.files.content file) t.bytes t.policy r t.told t.means (subst (λ f. IsRefusedBy (before.files.content f) r) here cause.2)
+    known_means r cause = known_unrefused (Relay file name port idles log) before file t.bytes t.policy r refl t.told t.means cause
 
     known_asset : LacksAsset (Relay file name port idles log) before → ⊥
     known_asset cause =
@@ -243,15 +225,15 @@ module _ (failed : Type 0) (status : ℕ) (before after : Outside) where
 
     -- a relay that answered so was not cut
     not_cut : (reason : CutReason) → cut_at t.asset t.answers t.judged ≡ Some reason → (r : Result Done Stop) → IsUncutEnd r → (answer : Result RelayDone RelayFault) →
-        HasRelayed file name idles log before after answer → relay_answer answer ≡ r → ⊥
+        HasRelayed file name port idles log before after answer → relay_answer answer ≡ r → ⊥
     not_cut reason cut r kind answer h is =
-        let uncut = uncut_by _ _ _ _ h.answers r kind answer is h.relayed in
+        let uncut = uncut_by _ _ _ _ _ h.answers r kind answer is h.relayed in
         let same = relayed_cut h.asset h.answers uncut.judged h.finds h.told uncut.are_items in
         let none = uncut.uncut in
         cc
 
     not_cut_stop : (reason : CutReason) → cut_at t.asset t.answers t.judged ≡ Some reason → (s : Stop) → IsUncutEnd (Err s) →
-        (StopsPolicy s ⊎ (s ≡ stop.UnknownAsset) → ⊥) → RelayLeaves file name idles log before after s → ⊥
+        (StopsPolicy s ⊎ (s ≡ stop.UnknownAsset) → ⊥) → RelayLeaves file name port idles log before after s → ⊥
     not_cut_stop reason cut s kind late (inl l) = late l.0
     not_cut_stop reason cut s kind late (inr l) = not_cut reason cut (Err s) kind l.0 l.1 l.2
 
@@ -269,13 +251,12 @@ module _ (failed : Type 0) (status : ℕ) (before after : Outside) where
     relay_cut_from reason cut (Err stop.LinkFault) meets h = absurd (not_cut_stop reason cut stop.LinkFault tt link_is_late meets.1)
     relay_cut_from reason cut (Err stop.IdleEnd) meets h = absurd (not_cut_stop reason cut stop.IdleEnd tt idle_is_late meets.1)
     relay_cut_from reason cut (Err (stop.Cut other)) meets h = inl (stop_is failed status (stop.Cut other) h)
-    relay_cut_from reason cut (Err stop.Unbuilt) meets h = absurd meets.0.0
 
     -- nor did one go on that answered so
     not_idle : idle_run t.answers ≡ 2 * idles → (r : Result Done Stop) → GoesOn r → (answer : Result RelayDone RelayFault) →
-        HasRelayed file name idles log before after answer → relay_answer answer ≡ r → ⊥
+        HasRelayed file name port idles log before after answer → relay_answer answer ≡ r → ⊥
     not_idle idle r kind answer h is =
-        let few = few_by _ _ _ _ h.answers r kind answer is h.relayed in
+        let few = few_by _ _ _ _ _ h.answers r kind answer is h.relayed in
         let same : h.answers ≡ t.answers = relayed_answers h.answers h.told in
         omega (arith, few, idle, ap idle_run same)
 
@@ -298,7 +279,6 @@ module _ (failed : Type 0) (status : ℕ) (before after : Outside) where
         let same = relayed_cut c.asset c.answers c.judged c.finds c.told c.are_items in
         let cuts = c.cuts in
         absurd (cc)
-    relay_idle_from uncut idle (Err stop.Unbuilt) meets h = absurd meets.0.0
 
   -- answers that end in too many Idle: a line a command
   idle_from : HasOneJudgement → (c : Command) → TellsIdle c before after.pair → (r : Result Done Stop) → Meets c before after r → IsOf r failed status → DueIdle
@@ -306,7 +286,7 @@ module _ (failed : Type 0) (status : ℕ) (before after : Outside) where
   idle_from law (Packets capture) t r meets h = absurd t
   idle_from law (Run policy names) t r meets h = absurd t
   idle_from law (Relay policy asset port idles log) t r meets h = relay_idle_from law policy asset port idles log t.0 t.1 t.2 r meets h
-  idle_from law (World seed sessions policy capture out log) t r meets h = absurd t
+  idle_from law (World seed sessions policy names) t r meets h = absurd t
   idle_from law (Sift policy asset client names) t r meets h = absurd t
 
   -- a stream that is cut: a line a command
@@ -315,18 +295,8 @@ module _ (failed : Type 0) (status : ℕ) (before after : Outside) where
   stream_from one judgement (Packets capture) t r meets h = absurd t
   stream_from one judgement (Run policy names) t r meets h = absurd t
   stream_from one judgement (Relay policy asset port idles log) t r meets h = relay_cut_from judgement policy asset port idles log t.0 t.1.0 t.1.1 r meets h
-  stream_from one judgement (World seed sessions policy capture out log) t r meets h = absurd t
+  stream_from one judgement (World seed sessions policy names) t r meets h = absurd t
   stream_from one judgement (Sift policy asset client names) t r meets h = cut_from one policy asset client names t r meets h
-
-  -- a part that is not built: a line a command
-  unbuilt_from : (c : Command) → TellsLack c before → (r : Result Done Stop) → Meets c before after r → IsOf r failed status → Due 14
-  unbuilt_from (Check policy) t r meets h = absurd t
-  unbuilt_from (Packets capture) t r meets h = long_from capture t r meets h
-  unbuilt_from (Run policy names) t r meets h = absurd t
-  unbuilt_from (Relay policy asset port idles log) t r meets h = absurd t
-  unbuilt_from (World seed sessions policy capture out log) t (Ok d) meets h = absurd meets
-  unbuilt_from (World seed sessions policy capture out log) t (Err s) meets h = inl (stop_is failed status s h ∙ ap stop_status meets.1.0)
-  unbuilt_from (Sift policy asset client names) t r meets h = absurd t
 
 -- what is due at the answer is due at the end
 later : (status n : ℕ) (before middle after : Outside) → (ReadFailed before middle → ReadFailed before after) → Due ⊥ status before middle n →
@@ -355,8 +325,6 @@ exact_told one law {c = c} {before = before} {after = after} {status = status} e
       (refused_from (Unprinted e) status before e.middle c t e.r e.meets (explained e));
   unknown = λ t. later status 10 before e.middle after (read_failed e)
       (unknown_from (Unprinted e) status before e.middle c t e.r e.meets (explained e));
-  unbuilt = λ t. later status 14 before e.middle after (read_failed e)
-      (unbuilt_from (Unprinted e) status before e.middle c t e.r e.meets (explained e));
   cut = λ t. plain status 12 before after (later_written status 12 before e.middle after (Unprinted e) (read_failed e) (write_failed e)
       (stream_from (Unprinted e) status before e.middle one law c (subst (λ p. TellsCut c before p) e.reports.pair t) e.r e.meets (explained e)));
   idle = λ t. plain status 9 before after (later_written status 9 before e.middle after (Unprinted e) (read_failed e) (write_failed e)

@@ -1,10 +1,11 @@
 -- Names of files that are not empty and differ.
-use Rattle.std.proofs.Common.{◌≡◌, ◌≢◌, ℕ, Bool, true, false, ◌&&◌, List, [], ◌∷◌, map, refl, sym, ap, ◌∙◌, arith, Bor, length, ◌==◌, not}
-use Rattle.std.specs.Prelude.{bytes_eq}
+use Rattle.std.proofs.Common.{◌≡◌, ◌≢◌, ℕ, ◌≤◌, Bool, true, false, ◌&&◌, nat_le, if◌then◌else◌, Option, Some, None, subst, List, [], ◌∷◌, map, refl, sym, ap, ◌∙◌, arith, Bor, length, ◌==◌, not}
+use Rattle.std.specs.Prelude.{bytes_eq, option_and_then}
 use Rattle.std.specs.List.{list_any}
-use Rattle.std.proofs.lemmas.Bool.{and_parts, or_parts, not-true, both_ways}
+use Rattle.std.proofs.lemmas.Bool.{and_parts, or_parts, not-true, both_ways, leb-true}
 use Rattle.std.proofs.lemmas.Slice.Eq.{bytes_eq-Decides}
-use Rattle.cf_box.specs.Names.{are_names}
+use Rattle.cf_box.specs.Names.{are_names, printed_number, printed_number_in}
+use Rattle.cf_box.specs.World.{IsFitWorld}
 use Rattle.cf_run.specs.RunCapture.{AreApart as AreRunApart}
 use Rattle.cf_sift.specs.Names.{AreApart}
 
@@ -62,4 +63,33 @@ run_apart policy capture out log named =
       capture_out = apart capture (out ∷ log ∷ []) out three (λ none. (or_parts _ _ none).0);
       capture_log = apart capture (out ∷ log ∷ []) log three (λ none. (or_parts _ _ (or_parts _ _ none).1).0);
       out_log = apart out (log ∷ []) log two (λ none. (or_parts _ _ none).0);
+    }
+
+-- a number that is read is in its range
+within : (low high m n : ℕ) (passes : Bool) → (nat_le low m && nat_le m high) ≡ passes → (if passes then Some m else None) ≡ Some n → (low ≤ n) × (n ≤ high)
+within low high m n true tests e =
+    let parts = and_parts (nat_le low m) (nat_le m high) tests in
+    let same : m ≡ n = cc in
+    subst (λ k. (low ≤ k) × (k ≤ high)) same (leb-true low m parts.0, leb-true m high parts.1)
+within low high m n false tests e = cc e
+
+in_range_of : (low high n : ℕ) (number : Option ℕ) → option_and_then (λ m. if nat_le low m && nat_le m high then Some m else None) number ≡ Some n → (low ≤ n) × (n ≤ high)
+in_range_of low high n None e = cc e
+in_range_of low high n (Some m) e = within low high m n (nat_le low m && nat_le m high) refl e
+
+in_range : (low high : ℕ) (text : List ℕ) (n : ℕ) → printed_number_in low high text ≡ Some n → (low ≤ n) × (n ≤ high)
+in_range low high text n e = in_range_of low high n (printed_number text) e
+
+-- four names, and a number of sessions in its range
+pub world_fit : (policy capture out log text : List ℕ) (n : ℕ) → are_names (policy ∷ capture ∷ out ∷ log ∷ []) ≡ true → printed_number_in 1 200 text ≡ Some n →
+    IsFitWorld n policy (record { capture = capture; out = out; log = log })
+world_fit policy capture out log text n named number =
+    let range = in_range 1 200 text n number in
+    record {
+      some = range.0;
+      few = range.1;
+      apart = run_apart policy capture out log named;
+      policy_capture = apart policy (capture ∷ out ∷ log ∷ []) capture named (λ none. (or_parts _ _ none).0);
+      policy_out = apart policy (capture ∷ out ∷ log ∷ []) out named (λ none. (or_parts _ _ (or_parts _ _ none).1).0);
+      policy_log = apart policy (capture ∷ out ∷ log ∷ []) log named (λ none. (or_parts _ _ (or_parts _ _ (or_parts _ _ none).1).1).0);
     }

@@ -5,18 +5,19 @@ use Rattle.cf_relay.specs.declared.done.RelayEnd.{RelayEnd}
 use Rattle.cf_relay.specs.declared.done.RelayEnd.TheVariants as ends
 use Rattle.cf_relay.specs.declared.done.RelayFault.{RelayFault}
 use Rattle.cf_relay.specs.declared.done.RelayFault.TheVariants as relay_fault
+use Rattle.cf_run.specs.RunCapture.{RunNamesValue}
 use Rattle.cf_run.specs.declared.run.RunFault.{RunFault}
 use Rattle.cf_run.specs.declared.run.RunFault.TheVariants as fault
 use Rattle.cf_run.specs.declared.run.RunRefusal.TheVariants as by
 use Rattle.cf_box.specs.Command.{Command, Check, Packets, Run, Relay, World, Sift, output_files}
 use Rattle.cf_box.specs.Ending.{status_of, stop_status}
-use Rattle.cf_box.specs.Ends.{Does, Leaves, Meets}
+use Rattle.cf_box.specs.Ends.{Does, Leaves, Meets, StopsFor}
 use Rattle.cf_sift.specs.Outputs.{IsSameBeside, KeepsAllBut}
 use Rattle.cf_box.specs.Outside.{Outside}
 use Rattle.cf_box.specs.Relay.{HasRelayed, end_answer, relay_answer}
-use Rattle.cf_box.specs.Run.{run_stop}
+use Rattle.cf_box.specs.Run.{RunLeaves, run_stop}
 use Rattle.cf_box.specs.Sift.{SiftLeaves}
-use Rattle.cf_box.specs.Status.{WritesNothing}
+use Rattle.cf_box.specs.Status.{TellsMade, WritesNothing}
 use Rattle.cf_box.specs.declared.ending.Done.{Done}
 use Rattle.cf_box.specs.declared.ending.Stop.{Stop}
 use Rattle.cf_box.specs.declared.ending.Stop.TheVariants as stop
@@ -24,34 +25,33 @@ use Rattle.cf_sift.specs.Names.{SiftNamesValue}
 use Rattle.cf_box.proofs.Statuses.{Explains, IsOf, Unprinted, explained, stop_is}
 
 -- a status that is none of those at which nothing is written
-none_of : (n : ℕ) → WritesNothing n → n ≢ 2 → n ≢ 5 → n ≢ 10 → n ≢ 14 → ⊥
-none_of n (inl e) a b c d = a e
-none_of n (inr (inl e)) a b c d = b e
-none_of n (inr (inr (inl e))) a b c d = c e
-none_of n (inr (inr (inr e))) a b c d = d e
+none_of : (n : ℕ) → WritesNothing n → n ≢ 2 → n ≢ 5 → n ≢ 10 → ⊥
+none_of n (inl e) a b c = a e
+none_of n (inr (inl e)) a b c = b e
+none_of n (inr (inr e)) a b c = c e
 
 -- no fault of a run has one
 not_of_run : (f : RunFault) → WritesNothing (stop_status (run_stop f)) → ⊥
-not_of_run fault.NoMemory w = none_of 13 w (omega arith) (omega arith) (omega arith) (omega arith)
-not_of_run fault.Read w = none_of 3 w (omega arith) (omega arith) (omega arith) (omega arith)
-not_of_run fault.Write w = none_of 4 w (omega arith) (omega arith) (omega arith) (omega arith)
-not_of_run (fault.Refused (by.Header of)) w = none_of 6 w (omega arith) (omega arith) (omega arith) (omega arith)
-not_of_run (fault.Refused by.TooLong) w = none_of 6 w (omega arith) (omega arith) (omega arith) (omega arith)
-not_of_run (fault.Refused by.Clock) w = none_of 6 w (omega arith) (omega arith) (omega arith) (omega arith)
-not_of_run (fault.Refused by.Large) w = none_of 6 w (omega arith) (omega arith) (omega arith) (omega arith)
-not_of_run (fault.Cut at summary) w = none_of 7 w (omega arith) (omega arith) (omega arith) (omega arith)
+not_of_run fault.NoMemory w = none_of 13 w (omega arith) (omega arith) (omega arith)
+not_of_run fault.Read w = none_of 3 w (omega arith) (omega arith) (omega arith)
+not_of_run fault.Write w = none_of 4 w (omega arith) (omega arith) (omega arith)
+not_of_run (fault.Refused (by.Header of)) w = none_of 6 w (omega arith) (omega arith) (omega arith)
+not_of_run (fault.Refused by.TooLong) w = none_of 6 w (omega arith) (omega arith) (omega arith)
+not_of_run (fault.Refused by.Clock) w = none_of 6 w (omega arith) (omega arith) (omega arith)
+not_of_run (fault.Refused by.Large) w = none_of 6 w (omega arith) (omega arith) (omega arith)
+not_of_run (fault.Cut at summary) w = none_of 7 w (omega arith) (omega arith) (omega arith)
 
 -- nor has the end of a relay
 not_of_end : (admitted refused : ℕ) (end : RelayEnd) (s : Stop) → WritesNothing (stop_status s) → end_answer admitted refused end ≡ Err s → ⊥
 not_of_end admitted refused ends.Done s w is = cc is
-not_of_end admitted refused ends.IdleEnd s w is = none_of 9 (subst (λ r. WritesNothing (status_of r)) (sym is) w) (omega arith) (omega arith) (omega arith) (omega arith)
-not_of_end admitted refused (ends.Cut reason) s w is = none_of 12 (subst (λ r. WritesNothing (status_of r)) (sym is) w) (omega arith) (omega arith) (omega arith) (omega arith)
+not_of_end admitted refused ends.IdleEnd s w is = none_of 9 (subst (λ r. WritesNothing (status_of r)) (sym is) w) (omega arith) (omega arith) (omega arith)
+not_of_end admitted refused (ends.Cut reason) s w is = none_of 12 (subst (λ r. WritesNothing (status_of r)) (sym is) w) (omega arith) (omega arith) (omega arith)
 
 not_of_relay : (s : Stop) → WritesNothing (stop_status s) → (answer : Result RelayDone RelayFault) → relay_answer answer ≡ Err s → ⊥
 not_of_relay s w (Ok relayed) is = not_of_end relayed.admitted relayed.refused relayed.end s w is
-not_of_relay s w (Err relay_fault.NoMemory) is = none_of 13 (subst (λ r. WritesNothing (status_of r)) (sym is) w) (omega arith) (omega arith) (omega arith) (omega arith)
-not_of_relay s w (Err relay_fault.Link) is = none_of 8 (subst (λ r. WritesNothing (status_of r)) (sym is) w) (omega arith) (omega arith) (omega arith) (omega arith)
-not_of_relay s w (Err relay_fault.Write) is = none_of 4 (subst (λ r. WritesNothing (status_of r)) (sym is) w) (omega arith) (omega arith) (omega arith) (omega arith)
+not_of_relay s w (Err relay_fault.NoMemory) is = none_of 13 (subst (λ r. WritesNothing (status_of r)) (sym is) w) (omega arith) (omega arith) (omega arith)
+not_of_relay s w (Err relay_fault.Link) is = none_of 8 (subst (λ r. WritesNothing (status_of r)) (sym is) w) (omega arith) (omega arith) (omega arith)
+not_of_relay s w (Err relay_fault.Write) is = none_of 4 (subst (λ r. WritesNothing (status_of r)) (sym is) w) (omega arith) (omega arith) (omega arith)
 
 module _ (before after : Outside) where
   all_kept : (names : List (List ℕ)) (other : List ℕ) → after.files.content ≡ before.files.content → IsSameBeside before.files.content after.files.content other names
@@ -65,17 +65,17 @@ module _ (before after : Outside) where
   nothing_written k same = λ other. all_kept (output_files k) other same
 
   -- a relay writes its log alone
-  relay_keeps : (policy asset : List ℕ) (idles : ℕ) (log : List ℕ) (answer : Result RelayDone RelayFault) → HasRelayed policy asset idles log before after answer →
+  relay_keeps : (policy asset : List ℕ) (port idles : ℕ) (log : List ℕ) (answer : Result RelayDone RelayFault) → HasRelayed policy asset port idles log before after answer →
       KeepsAllBut before.files.content after.files.content (log ∷ [])
-  relay_keeps policy asset idles log answer relayed = λ other differs. relayed.others other differs
+  relay_keeps policy asset port idles log answer relayed = λ other differs. relayed.others other differs
 
   -- what was done keeps every file but the outputs: a line a command
   done_keeps : (k : Command) (d : Done) → Does k before after d → Keeps k
   done_keeps (Check policy) d m = nothing_written (Check policy) m.same.content
   done_keeps (Packets file) d m = nothing_written (Packets file) m.content
   done_keeps (Run policy names) d m = m.1.others
-  done_keeps (Relay policy asset port idles log) d m = relay_keeps policy asset idles log m.0 m.1
-  done_keeps (World seed sessions policy capture out log) d m = absurd m
+  done_keeps (Relay policy asset port idles log) d m = relay_keeps policy asset port idles log m.0 m.1
+  done_keeps (World seed sessions policy names) d m = λ other p c out log. m.2.1.others other out log ∙ m.1.others other p c
   done_keeps (Sift policy asset client names) d m = m.takes.sifted.others
 
   sift_keeps : (policy asset : List ℕ) (client : ℕ) (names : SiftNamesValue) (s : Stop) → SiftLeaves policy asset client names before after s → Keeps (Sift policy asset client names)
@@ -85,6 +85,12 @@ module _ (before after : Outside) where
   sift_keeps policy asset client names (stop.Cut reason) l = l.sifted.others
   sift_keeps policy asset client names s l = nothing_written (Sift policy asset client names) l.content
 
+  -- a run that stopped, from another moment on
+  run_stop_keeps : (between : Outside) (policy : List ℕ) (names : RunNamesValue) (s : Stop) → RunLeaves policy names between after s →
+      KeepsAllBut between.files.content after.files.content (names.out ∷ names.log ∷ [])
+  run_stop_keeps between policy names s (inl l) = λ other out log. ap (λ f. f other) l.1.content
+  run_stop_keeps between policy names s (inr l) = l.1.others
+
   -- and so does what stopped: a line a command
   stop_keeps : (k : Command) (s : Stop) → Leaves k before after s → Keeps k
   stop_keeps (Check policy) s l = nothing_written (Check policy) l.same.content
@@ -92,41 +98,58 @@ module _ (before after : Outside) where
   stop_keeps (Run policy names) s (inl l) = nothing_written (Run policy names) l.1.content
   stop_keeps (Run policy names) s (inr l) = l.1.others
   stop_keeps (Relay policy asset port idles log) s (inl l) = nothing_written (Relay policy asset port idles log) l.1.content
-  stop_keeps (Relay policy asset port idles log) s (inr l) = relay_keeps policy asset idles log l.0 l.1
-  stop_keeps (World seed sessions policy capture out log) s l = nothing_written (World seed sessions policy capture out log) (ap (λ (o : Outside). o.files.content) l.1)
+  stop_keeps (Relay policy asset port idles log) s (inr l) = relay_keeps policy asset port idles log l.0 l.1
+  stop_keeps (World seed sessions policy names) s (inl l) = λ other p c out log. l.1.others other p c
+  stop_keeps (World seed sessions policy names) s (inr l) = λ other p c out log. run_stop_keeps l.0 policy names s l.2 other out log ∙ l.1.others other p c
   stop_keeps (Sift policy asset client names) s l = sift_keeps policy asset client names s l
 
-  keeps_from : (c : Command) (r : Result Done Stop) → Meets c before after r → Keeps c
+  pub keeps_from : (c : Command) (r : Result Done Stop) → Meets c before after r → Keeps c
   keeps_from c (Ok d) m = done_keeps c d m
   keeps_from c (Err s) m = stop_keeps c s m.1
 
   sift_unwritten : (policy asset : List ℕ) (client : ℕ) (names : SiftNamesValue) (s : Stop) → WritesNothing (stop_status s) → SiftLeaves policy asset client names before after s → after.files.content ≡ before.files.content
-  sift_unwritten policy asset client names stop.ReadFault w l = absurd (none_of 3 w (omega arith) (omega arith) (omega arith) (omega arith))
-  sift_unwritten policy asset client names stop.WriteFault w l = absurd (none_of 4 w (omega arith) (omega arith) (omega arith) (omega arith))
-  sift_unwritten policy asset client names (stop.Cut reason) w l = absurd (none_of 12 w (omega arith) (omega arith) (omega arith) (omega arith))
+  sift_unwritten policy asset client names stop.ReadFault w l = absurd (none_of 3 w (omega arith) (omega arith) (omega arith))
+  sift_unwritten policy asset client names stop.WriteFault w l = absurd (none_of 4 w (omega arith) (omega arith) (omega arith))
+  sift_unwritten policy asset client names (stop.Cut reason) w l = absurd (none_of 12 w (omega arith) (omega arith) (omega arith))
   sift_unwritten policy asset client names s w l = l.content
 
+  -- no stop of a world whose files tell what they hold has one
+  not_of_world : (seed sessions : ℕ) (policy : List ℕ) (names : RunNamesValue) (s : Stop) → WritesNothing (stop_status s) → TellsMade (World seed sessions policy names) before →
+      StopsFor (World seed sessions policy names) before after s → ⊥
+  not_of_world seed sessions policy names stop.ReadFault w t f = none_of 3 w (omega arith) (omega arith) (omega arith)
+  not_of_world seed sessions policy names stop.WriteFault w t f = none_of 4 w (omega arith) (omega arith) (omega arith)
+  not_of_world seed sessions policy names (stop.PolicyRefused r) w t (inl f) = cc (f.1)
+  not_of_world seed sessions policy names (stop.PolicyRefused r) w t (inr f) = t.0 f
+  not_of_world seed sessions policy names (stop.CaptureRefused r) w t f = t.1 f.0
+  not_of_world seed sessions policy names (stop.CaptureCut place) w t f = t.1 f.0
+  not_of_world seed sessions policy names (stop.RunCut place summary) w t f = t.1 f.0
+  not_of_world seed sessions policy names stop.LinkFault w t f = f.0
+  not_of_world seed sessions policy names stop.IdleEnd w t f = f.0
+  not_of_world seed sessions policy names stop.UnknownAsset w t f = cc (f.3)
+  not_of_world seed sessions policy names (stop.Cut reason) w t f = f.0
+  not_of_world seed sessions policy names stop.NoMemory w t f = none_of 13 w (omega arith) (omega arith) (omega arith)
+
   -- such a status leaves the files as they were: a line a command
-  unwritten_by : (k : Command) (s : Stop) → WritesNothing (stop_status s) → Leaves k before after s → after.files.content ≡ before.files.content
-  unwritten_by (Check policy) s w l = l.same.content
-  unwritten_by (Packets file) s w l = l.content
-  unwritten_by (Run policy names) s w (inl l) = l.1.content
-  unwritten_by (Run policy names) s w (inr l) = absurd (not_of_run l.0 (subst (λ t. WritesNothing (stop_status t)) l.2 w))
-  unwritten_by (Relay policy asset port idles log) s w (inl l) = l.1.content
-  unwritten_by (Relay policy asset port idles log) s w (inr l) = absurd (not_of_relay s w l.0 l.2)
-  unwritten_by (World seed sessions policy capture out log) s w l = ap (λ (o : Outside). o.files.content) l.1
-  unwritten_by (Sift policy asset client names) s w l = sift_unwritten policy asset client names s w l
+  unwritten_by : (k : Command) (s : Stop) → WritesNothing (stop_status s) → TellsMade k before → StopsFor k before after s → Leaves k before after s → after.files.content ≡ before.files.content
+  unwritten_by (Check policy) s w t f l = l.same.content
+  unwritten_by (Packets file) s w t f l = l.content
+  unwritten_by (Run policy names) s w t f (inl l) = l.1.content
+  unwritten_by (Run policy names) s w t f (inr l) = absurd (not_of_run l.0 (subst (λ t. WritesNothing (stop_status t)) l.2 w))
+  unwritten_by (Relay policy asset port idles log) s w t f (inl l) = l.1.content
+  unwritten_by (Relay policy asset port idles log) s w t f (inr l) = absurd (not_of_relay s w l.0 l.2)
+  unwritten_by (World seed sessions policy names) s w t f l = absurd (not_of_world seed sessions policy names s w t f)
+  unwritten_by (Sift policy asset client names) s w t f l = sift_unwritten policy asset client names s w l
 
   module _ (failed : Type 0) (status : ℕ) where
-    unwritten_from : (c : Command) (r : Result Done Stop) → Meets c before after r → IsOf r failed status → WritesNothing status → after.files.content ≡ before.files.content
-    unwritten_from c (Ok d) meets (inl h) w = absurd (none_of 0 (subst WritesNothing h w) (omega arith) (omega arith) (omega arith) (omega arith))
-    unwritten_from c (Ok d) meets (inr h) w = absurd (none_of 4 (subst WritesNothing h.0 w) (omega arith) (omega arith) (omega arith) (omega arith))
-    unwritten_from c (Err s) meets h w = unwritten_by c s (subst WritesNothing (stop_is failed status s h) w) meets.1
+    unwritten_from : (c : Command) (r : Result Done Stop) → Meets c before after r → IsOf r failed status → WritesNothing status → TellsMade c before → after.files.content ≡ before.files.content
+    unwritten_from c (Ok d) meets (inl h) w t = absurd (none_of 0 (subst WritesNothing h w) (omega arith) (omega arith) (omega arith))
+    unwritten_from c (Ok d) meets (inr h) w t = absurd (none_of 4 (subst WritesNothing h.0 w) (omega arith) (omega arith) (omega arith))
+    unwritten_from c (Err s) meets h w t = unwritten_by c s (subst WritesNothing (stop_is failed status s h) w) t meets.0 meets.1
 
 module _ {c : Command} {before after : Outside} {status : ℕ} (e : Explains c before after status) where
   pub kept_told : KeepsAllBut before.files.content after.files.content (output_files c)
   kept_told =
       subst (λ f. KeepsAllBut before.files.content f (output_files c)) (sym (ap (λ f. f.content) e.reports.files)) (keeps_from before e.middle c e.r e.meets)
 
-  pub unwritten_told : WritesNothing status → after.files.content ≡ before.files.content
-  unwritten_told w = ap (λ f. f.content) e.reports.files ∙ unwritten_from before e.middle (Unprinted e) status c e.r e.meets (explained e) w
+  pub unwritten_told : WritesNothing status → TellsMade c before → after.files.content ≡ before.files.content
+  unwritten_told w t = ap (λ f. f.content) e.reports.files ∙ unwritten_from before e.middle (Unprinted e) status c e.r e.meets (explained e) w t

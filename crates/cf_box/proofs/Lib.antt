@@ -9,5 +9,8 @@ pub mod Relaying
 pub mod RunHolds
 pub mod Runs
 pub mod Sifting
+mod Spelled
 pub mod Statuses
 pub mod Texts
+pub mod WorldHolds
+pub mod Worlds

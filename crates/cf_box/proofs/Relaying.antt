@@ -3,7 +3,7 @@ use Rattle.std.proofs.Common.{◌≡◌, ◌<◌, ◌⊎◌, ◌*◌, ℕ, List,
 use Rattle.cf_lane.specs.Judged.{Judged}
 use Rattle.cf_outside.specs.Faults.{HasCause, Rose}
 use Rattle.cf_outside.specs.Files.{KeepsOthers}
-use Rattle.cf_outside.specs.Pair.{Entry}
+use Rattle.cf_outside.specs.Pair.{Entry, FaultsBy}
 use Rattle.cf_policy.specs.declared.Asset.{Asset}
 use Rattle.cf_relay.specs.Answers.{idle_run, with_answers}
 use Rattle.cf_relay.specs.Ends.{EndsAs, IdlesRose, IdlesRoseAt, LogContents, RelayEnds, file_log}
@@ -50,31 +50,31 @@ pub record IsUncut (asset : Asset) (es : List Entry) : Type 0 where
   pub are_items : AreItemsOf asset es judged
   pub uncut : cut_at asset es judged ≡ None
 
-module _ (asset : Asset) (most : ℕ) (log : LogContents) (same : Type 0) (es : List Entry) where
+module _ (asset : Asset) (listen most : ℕ) (log : LogContents) (same : Type 0) (es : List Entry) where
   unstopped : IsUnstopped asset most es → IsUncut asset es
   unstopped goes = record { judged = goes.judged; are_items = goes.are_items; uncut = goes.uncut }
 
   uncut_at : (r : Result Done Stop) → IsUncutEnd r → (relayed : RelayDone) (end : RelayEnd) → end_answer relayed.admitted relayed.refused end ≡ r →
-      EndsAs asset most log es relayed end → IsUncut asset es
+      EndsAs asset listen most log es relayed end → IsUncut asset es
   uncut_at r kind relayed ends.Done is h = unstopped h.goes
   uncut_at r kind relayed ends.IdleEnd is h = record { judged = h.judged; are_items = h.are_items; uncut = h.uncut }
   uncut_at r kind relayed (ends.Cut reason) is h = absurd (subst IsUncutEnd (sym is) kind)
 
   pub uncut_by : (r : Result Done Stop) → IsUncutEnd r → (answer : Result RelayDone RelayFault) → relay_answer answer ≡ r →
-      RelayEnds asset most log same es answer → IsUncut asset es
+      RelayEnds asset listen most log same es answer → IsUncut asset es
   uncut_by r kind (Ok relayed) is h = uncut_at r kind relayed relayed.end is h
   uncut_by r kind (Err fault.Link) is h = unstopped h.goes
   uncut_by r kind (Err fault.Write) is h = absurd (subst IsUncutEnd (sym is) kind)
   uncut_by r kind (Err fault.NoMemory) is h = absurd (subst IsUncutEnd (sym is) kind)
 
   few_at : (r : Result Done Stop) → GoesOn r → (relayed : RelayDone) (end : RelayEnd) → end_answer relayed.admitted relayed.refused end ≡ r →
-      EndsAs asset most log es relayed end → idle_run es < most
+      EndsAs asset listen most log es relayed end → idle_run es < most
   few_at r kind relayed ends.Done is h = h.goes.idle
   few_at r kind relayed ends.IdleEnd is h = absurd (subst GoesOn (sym is) kind)
   few_at r kind relayed (ends.Cut reason) is h = absurd (subst GoesOn (sym is) kind)
 
   pub few_by : (r : Result Done Stop) → GoesOn r → (answer : Result RelayDone RelayFault) → relay_answer answer ≡ r →
-      RelayEnds asset most log same es answer → idle_run es < most
+      RelayEnds asset listen most log same es answer → idle_run es < most
   few_by r kind (Ok relayed) is h = few_at r kind relayed relayed.end is h
   few_by r kind (Err fault.Link) is h = h.goes.idle
   few_by r kind (Err fault.Write) is h = absurd (subst GoesOn (sym is) kind)
@@ -99,22 +99,22 @@ relay_passes policy name port idles log before asset finds = record {
 }
 
 module _ (policy name : List ℕ) (port idles : ℕ) (log : List ℕ) (before after : Outside) where
-  module _ (answer : Result RelayDone RelayFault) (relayed : HasRelayed policy name idles log before after answer) where
+  module _ (answer : Result RelayDone RelayFault) (relayed : HasRelayed policy name port idles log before after answer) where
     passed : PassesPolicy (Relay policy name port idles log) before
     passed = relay_passes policy name port idles log before relayed.asset relayed.finds
 
   -- an end that no fault made
-  ends_so : (done : RelayDone) (relayed : HasRelayed policy name idles log before after (Ok done)) (end : RelayEnd) → done.end ≡ end →
+  ends_so : (done : RelayDone) (relayed : HasRelayed policy name port idles log before after (Ok done)) (end : RelayEnd) → done.end ≡ end →
       Meets (Relay policy name port idles log) before after (end_answer done.admitted done.refused end)
   ends_so done relayed ends.Done is = (Ok done, relayed, ap (end_answer done.admitted done.refused) is)
   ends_so done relayed ends.IdleEnd is =
-      let ended = subst (EndsAs relayed.asset (2 * idles) _ relayed.answers done) is relayed.relayed in
+      let ended = subst (EndsAs relayed.asset port (2 * idles) _ relayed.answers done) is relayed.relayed in
       let rose = subst (IdlesRoseAt (2 * idles) before.pair.idles after.pair.idles) is relayed.idles_rose in (
         (record { answers = relayed.answers; told = relayed.told; last = ended.idle; counted = rose }, passed (Ok done) relayed),
         inr (Ok done, relayed, ap (end_answer done.admitted done.refused) is),
       )
   ends_so done relayed (ends.Cut reason) is =
-      let ended = subst (EndsAs relayed.asset (2 * idles) _ relayed.answers done) is relayed.relayed in (
+      let ended = subst (EndsAs relayed.asset port (2 * idles) _ relayed.answers done) is relayed.relayed in (
         (
           record {
             asset = relayed.asset;
@@ -130,20 +130,20 @@ module _ (policy name : List ℕ) (port idles : ℕ) (log : List ℕ) (before af
         inr (Ok done, relayed, ap (end_answer done.admitted done.refused) is),
       )
 
-  pub relay_meets : (answer : Result RelayDone RelayFault) → HasRelayed policy name idles log before after answer →
-      (answer ≡ Err fault.Link → Rose before.pair.faults after.pair.faults) → (answer ≡ Err fault.Write → Rose before.files.write_faults after.files.write_faults) →
+  pub relay_meets : (answer : Result RelayDone RelayFault) → HasRelayed policy name port idles log before after answer →
+      (answer ≡ Err fault.Write → Rose before.files.write_faults after.files.write_faults) →
       Meets (Relay policy name port idles log) before after (relay_answer answer)
-  relay_meets (Ok done) relayed link write = ends_so done relayed done.end refl
-  relay_meets (Err fault.Link) relayed link write = ((link refl, passed (Err fault.Link) relayed), inr (Err fault.Link, relayed, refl))
-  relay_meets (Err fault.Write) relayed link write = ((inl (write refl), passed (Err fault.Write) relayed), inr (Err fault.Write, relayed, refl))
-  relay_meets (Err fault.NoMemory) relayed link write = (tt, inr (Err fault.NoMemory, relayed, refl))
+  relay_meets (Ok done) relayed write = ends_so done relayed done.end refl
+  relay_meets (Err fault.Link) relayed write = ((relayed.faults.rose refl, passed (Err fault.Link) relayed), inr (Err fault.Link, relayed, refl))
+  relay_meets (Err fault.Write) relayed write = ((inl (write refl), passed (Err fault.Write) relayed), inr (Err fault.Write, relayed, refl))
+  relay_meets (Err fault.NoMemory) relayed write = (tt, inr (Err fault.NoMemory, relayed, refl))
 
 -- the same after files were read, none of which changed
 pub relay_after : (policy name : List ℕ) (port idles : ℕ) (log : List ℕ) (before middle after : Outside) (asset : Asset) → FindsAsset (before.files.content policy) name asset →
     ReadsOnly before.files middle.files → (answer : Result RelayDone RelayFault) (answers : List Entry) → after.pair.told ≡ with_answers before.pair.told answers →
-    RelayEnds asset (2 * idles) (file_log (middle.files.content log) (after.files.content log)) (after.files.content log ≡ middle.files.content log) answers answer →
+    RelayEnds asset port (2 * idles) (file_log (middle.files.content log) (after.files.content log)) (after.files.content log ≡ middle.files.content log) answers answer →
     IdlesRose (2 * idles) before.pair.idles after.pair.idles answer → KeepsOthers log middle.files.content after.files.content →
-    HasCause before.pair.faults after.pair.faults (answer ≡ Err fault.Link) → HasCause middle.files.write_faults after.files.write_faults (answer ≡ Err fault.Write) →
+    FaultsBy before.pair.faults after.pair.faults (answer ≡ Err fault.Link) → HasCause middle.files.write_faults after.files.write_faults (answer ≡ Err fault.Write) →
     after.sink ≡ before.sink → Meets (Relay policy name port idles log) before after (relay_answer answer)
 relay_after policy name port idles log before middle after asset finds only answer answers told ends idles_rose others link write sink =
     relay_meets policy name port idles log before after answer
@@ -152,8 +152,9 @@ relay_after policy name port idles log before middle after asset finds only answ
       finds = finds;
       answers = answers;
       told = told;
-      relayed = subst (λ k. RelayEnds asset (2 * idles) (file_log (k log) (after.files.content log)) (after.files.content log ≡ k log) answers answer) only.content ends;
+      relayed = subst (λ k. RelayEnds asset port (2 * idles) (file_log (k log) (after.files.content log)) (after.files.content log ≡ k log) answers answer) only.content ends;
       idles_rose = idles_rose;
+      faults = link;
       others = λ other differs. others other differs ∙ ap (λ f. f other) only.content;
       sink = sink;
-    }) link.rose (λ is. subst (λ n. Rose n after.files.write_faults) only.writes (write.rose is))
+    }) (λ is. subst (λ n. Rose n after.files.write_faults) only.writes (write.rose is))

@@ -44,7 +44,7 @@ module _ (law : RunsHaveHeadline) (failed : Type 0) (status : ℕ) (policy_name 
         pair = reports.pair ∙ run.pair;
       }
 
-  holds_from : (r : Result Done Stop) → Meets (Run policy_name names) before middle r → Reports r middle after status → IsOf r failed status → status ≡ 0 → RunHolds policy_name names before after
+  pub holds_from : (r : Result Done Stop) → Meets (Run policy_name names) before middle r → Reports r middle after status → IsOf r failed status → status ≡ 0 → RunHolds policy_name names before after
   holds_from (Ok d) m reports h is = holds_by m.0 m.1 (subst (λ x. Reports (Ok x) middle after status) m.2 reports) is
   holds_from (Err s) m reports h is = absurd (not_done failed status s h is)
 

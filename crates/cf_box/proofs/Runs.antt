@@ -6,25 +6,23 @@ use Rattle.cf_outside.specs.Desk.{IsNoneOf}
 use Rattle.cf_outside.specs.Faults.{Rose}
 use Rattle.cf_outside.specs.Files.{Content}
 use Rattle.cf_pcap.specs.Capture.{AtPlace}
-use Rattle.cf_pcap.specs.declared.HeaderRefusal.{HeaderRefusal}
-use Rattle.cf_pcap.specs.declared.HeaderRefusal.TheVariants as header
 use Rattle.cf_policy.specs.declared.Policy.{Policy}
-use Rattle.cf_run.specs.Reader.{HasHeader}
-use Rattle.cf_run.specs.RunCapture.{RunNamesValue, RunsAs, RunsTo}
+use Rattle.cf_run.specs.RunCapture.{HasRecords, RunNamesValue, RunsAs, RunsTo}
 use Rattle.cf_run.specs.declared.run.RunFault.{RunFault}
 use Rattle.cf_run.specs.declared.run.RunFault.TheVariants as fault
 use Rattle.cf_run.specs.declared.run.RunRefusal.TheVariants as by
 use Rattle.cf_run.specs.declared.summary.Summary.{Summary}
+use Rattle.cf_box.specs.Captures.{EndsAt}
 use Rattle.cf_box.specs.Command.{Run}
 use Rattle.cf_box.specs.Ends.{Meets, PassesPolicy, StopsFor}
 use Rattle.cf_sift.specs.Outputs.{KeepsAllBut}
 use Rattle.cf_box.specs.Outside.{Outside, ReadsOnly}
-use Rattle.cf_box.specs.Packets.{header_refusal}
 use Rattle.cf_box.specs.PolicyFile.{HasPolicy}
-use Rattle.cf_box.specs.Run.{EndsAt, HasRun, RunRefuses, run_stop}
+use Rattle.cf_box.specs.Run.{HasRun, run_stop}
 use Rattle.cf_box.specs.declared.ending.Done.{Done}
 use Rattle.cf_box.specs.declared.ending.Done.TheVariants as done
 use Rattle.cf_box.specs.declared.ending.Stop.{Stop}
+use Rattle.cf_box.proofs.CaptureStops.{header_refuses}
 
 -- the answer of the command
 abbrev pub run_answer : Result Summary RunFault → Result Done Stop
@@ -44,14 +42,8 @@ module _ (policy_name : List ℕ) (names : RunNamesValue) (before after : Outsid
   }
 
   -- where the records ended
-  ends_at : (found : AtPlace) (place : ℕ) (summary : Summary) → RunsTo policy.assets LETTER_LIMIT names before.files.content after.files.content found place summary → EndsAt (before.files.content names.capture) found place
+  ends_at : (found : AtPlace) (place : ℕ) (summary : Summary) → RunsTo policy.assets LETTER_LIMIT names before.files.content after.files.content found place summary → EndsAt HasRecords (before.files.content names.capture) found place
   ends_at found place summary r = record { header = r.header; has_header = r.has_header; records = r.records; are_records = r.are_records }
-
-  header_refused : (of : HeaderRefusal) → HasHeader (before.files.content names.capture) (Err of) → RunRefuses (before.files.content names.capture) (header_refusal of)
-  header_refused header.Short h = h
-  header_refused header.Magic h = h
-  header_refused header.Version h = h
-  header_refused header.LinkType h = h
 
   stops : (f : RunFault) → RunsAs policy.assets LETTER_LIMIT names before.files.content after.files.content (Err f) →
       (f ≡ fault.Read → Rose before.files.read_faults after.files.read_faults) → (f ≡ fault.Write → Rose before.files.write_faults after.files.write_faults) →
@@ -59,7 +51,7 @@ module _ (policy_name : List ℕ) (names : RunNamesValue) (before after : Outsid
   stops fault.NoMemory h read write = tt
   stops fault.Read h read write = read refl
   stops fault.Write h read write = (inl (write refl), passes)
-  stops (fault.Refused (by.Header of)) h read write = (header_refused of h.0, passes)
+  stops (fault.Refused (by.Header of)) h read write = (header_refuses HasRecords (before.files.content names.capture) of h.0, passes)
   stops (fault.Refused by.TooLong) h read write = ((h.0, ends_at _ h.0 h.1 h.2), passes)
   stops (fault.Refused by.Clock) h read write = ((h.0, ends_at _ h.0 h.1 h.2), passes)
   stops (fault.Refused by.Large) h read write = ((h.0, ends_at _ h.0 h.1 h.2), passes)

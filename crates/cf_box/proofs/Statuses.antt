@@ -9,15 +9,12 @@ use Rattle.cf_view.specs.declared.Side.TheVariants as side
 use Rattle.cf_sift.specs.Names.{SiftNamesValue}
 use Rattle.cf_sift.specs.Stored.{stored_history}
 use Rattle.cf_outside.specs.Faults.{Rose}
-use Rattle.cf_pcap.specs.Header.{header_of}
-use Rattle.cf_pcap.specs.declared.Header.{Header}
-use Rattle.cf_pcap.specs.declared.HeaderRefusal.{HeaderRefusal}
 use Rattle.cf_policylang.specs.declared.PolicyRefusal.{PolicyRefusal}
 use Rattle.cf_box.specs.Command.{Command, Check, Packets, Run, Relay, World, Sift}
 use Rattle.cf_box.specs.Ending.{Prints, Reports, end_text, status_of, stop_status, unprinted_status}
 use Rattle.cf_box.specs.Ends.{CutsCapture, CutsRun, CutsStream, EndsIdle, LacksAsset, LinkFails, Meets, RefusesCapture, RefusesPolicy}
 use Rattle.cf_box.specs.Outside.{Outside, PairValue, ReadFailed, SinkValue, WriteFailed}
-use Rattle.cf_box.specs.Packets.{Lists, ListsBehind, ListsFile}
+use Rattle.cf_box.specs.Packets.{Lists, ListsFile}
 use Rattle.cf_box.specs.Status.{IsStatus, SiftPassesAllowed}
 use Rattle.cf_box.specs.declared.ending.CaptureRefusal.{CaptureRefusal}
 use Rattle.cf_box.specs.declared.ending.Done.{Done}
@@ -62,8 +59,7 @@ module _ (failed : Type 0) (status : ℕ) where
   is_one (Err stop.IdleEnd) h = inr (inr (inr (inr (inr (inr (inr (inr (inl (stop_is stop.IdleEnd h)))))))))
   is_one (Err stop.UnknownAsset) h = inr (inr (inr (inr (inr (inr (inr (inr (inr (inl (stop_is stop.UnknownAsset h))))))))))
   is_one (Err (stop.Cut reason)) h = inr (inr (inr (inr (inr (inr (inr (inr (inr (inr (inl (stop_is (stop.Cut reason) h)))))))))))
-  is_one (Err stop.NoMemory) h = inr (inr (inr (inr (inr (inr (inr (inr (inr (inr (inr (inl (stop_is stop.NoMemory h))))))))))))
-  is_one (Err stop.Unbuilt) h = inr (inr (inr (inr (inr (inr (inr (inr (inr (inr (inr (inr (stop_is stop.Unbuilt h))))))))))))
+  is_one (Err stop.NoMemory) h = inr (inr (inr (inr (inr (inr (inr (inr (inr (inr (inr (stop_is stop.NoMemory h)))))))))))
 
   -- another ending's status is another
   other : (r : Result Done Stop) (n : ℕ) → IsOf r failed status → status ≡ n → status_of r ≢ n → unprinted_status r ≢ n → ⊥
@@ -106,7 +102,7 @@ module _ (failed : Type 0) (status : ℕ) where
     run_cut (Check policy) place cut = absurd cut
     run_cut (Packets capture) place cut = absurd cut
     run_cut (Relay policy asset port idles log) place cut = absurd cut
-    run_cut (World seed sessions policy capture out log) place cut = absurd cut
+    run_cut (World seed sessions policy names) place cut = cut
     run_cut (Sift policy asset client names) place cut = absurd cut
 
     cut_from : (r : Result Done Stop) → Meets c before middle r → IsOf r failed status → status ≡ 7 → (place : ℕ) × CutsCapture c before place
@@ -124,7 +120,7 @@ module _ (failed : Type 0) (status : ℕ) where
     link_of (Check policy) pair fails = absurd fails
     link_of (Packets capture) pair fails = absurd fails
     link_of (Run policy names) pair fails = absurd fails
-    link_of (World seed sessions policy capture out log) pair fails = absurd fails
+    link_of (World seed sessions policy names) pair fails = absurd fails
     link_of (Sift policy asset client names) pair fails = absurd fails
 
     link_from : (r : Result Done Stop) → Meets c before middle r → IsOf r failed status → status ≡ 8 → Rose before.pair.faults middle.pair.faults
@@ -161,12 +157,6 @@ module _ (failed : Type 0) (status : ℕ) where
       }
   passes_from law before middle after policy name client names same (Err s) m h is = absurd (not_done s h is)
 
-  -- a listing answers so alone
-  listed : (d : Done) (r : Result Header HeaderRefusal) (capture : List ℕ) (old new : Option (List ℕ)) (put_failed : Type 0) →
-      ListsBehind r capture old new put_failed (Ok d) → d ≡ done.Listed
-  listed d (Ok h) capture old new put_failed l = l.answers.0
-  listed d (Err r) capture old new put_failed l = cc (l.0)
-
   -- each record of a capture has its line, and nothing else was told
   lists_from : (before middle after : Outside) (file : List ℕ) (r : Result Done Stop) → Meets (Packets file) before middle r → Reports r middle
       after status →
@@ -176,14 +166,10 @@ module _ (failed : Type 0) (status : ℕ) where
     content = ap (λ f. f.content) reports.files ∙ m.content;
     pair = reports.pair ∙ m.pair;
   }
-  lists_from before middle after file (Ok (done.Sifted admitted refused)) m reports h is =
-      cc (listed (done.Sifted admitted refused) (header_of m.lists.capture) m.lists.capture _ _ _ m.lists.lists)
-  lists_from before middle after file (Ok (done.Relayed admitted refused)) m reports h is =
-      cc (listed (done.Relayed admitted refused) (header_of m.lists.capture) m.lists.capture _ _ _ m.lists.lists)
-  lists_from before middle after file (Ok (done.Checked assets rules)) m reports h is =
-      cc (listed (done.Checked assets rules) (header_of m.lists.capture) m.lists.capture _ _ _ m.lists.lists)
-  lists_from before middle after file (Ok (done.Ran summary)) m reports h is =
-      cc (listed (done.Ran summary) (header_of m.lists.capture) m.lists.capture _ _ _ m.lists.lists)
+  lists_from before middle after file (Ok (done.Sifted admitted refused)) m reports h is = cc (m.lists.answers.0)
+  lists_from before middle after file (Ok (done.Relayed admitted refused)) m reports h is = cc (m.lists.answers.0)
+  lists_from before middle after file (Ok (done.Checked assets rules)) m reports h is = cc (m.lists.answers.0)
+  lists_from before middle after file (Ok (done.Ran summary)) m reports h is = cc (m.lists.answers.0)
   lists_from before middle after file (Err s) m reports h is = absurd (not_done s h is)
 
 module _ {c : Command} {before after : Outside} {status : ℕ} (e : Explains c before after status) where

@@ -8,16 +8,16 @@ pub data Command : Type 0 where
   Packets : (capture : List ℕ) → Command
   Run : (policy : List ℕ) (names : RunNamesValue) → Command
   Relay : (policy asset : List ℕ) (port idles : ℕ) (log : List ℕ) → Command
-  World : (seed sessions : ℕ) (policy capture out log : List ℕ) → Command
+  World : (seed sessions : ℕ) (policy : List ℕ) (names : RunNamesValue) → Command
   Sift : (policy asset : List ℕ) (client : ℕ) (names : SiftNamesValue) → Command
 
--- the file from which a command reads its policy; a command that is not built reads nothing
+-- the file from which a command reads its policy; a world has one that it makes itself
 abbrev pub policy_file : Command → Option (List ℕ)
 policy_file (Check policy) = Some policy
 policy_file (Packets capture) = None
 policy_file (Run policy names) = Some policy
 policy_file (Relay policy asset port idles log) = Some policy
-policy_file (World seed sessions policy capture out log) = None
+policy_file (World seed sessions policy names) = None
 policy_file (Sift policy asset client names) = Some policy
 
 -- the asset that it needs of that policy
@@ -26,16 +26,16 @@ asset_name (Check policy) = None
 asset_name (Packets capture) = None
 asset_name (Run policy names) = None
 asset_name (Relay policy asset port idles log) = Some asset
-asset_name (World seed sessions policy capture out log) = None
+asset_name (World seed sessions policy names) = None
 asset_name (Sift policy asset client names) = Some asset
 
--- the file from which it reads a capture
+-- the file from which it reads a capture; a world has one that it makes itself
 abbrev pub capture_file : Command → Option (List ℕ)
 capture_file (Check policy) = None
 capture_file (Packets capture) = Some capture
 capture_file (Run policy names) = Some names.capture
 capture_file (Relay policy asset port idles log) = None
-capture_file (World seed sessions policy capture out log) = None
+capture_file (World seed sessions policy names) = None
 capture_file (Sift policy asset client names) = None
 
 -- the files that it may write
@@ -44,7 +44,7 @@ output_files (Check policy) = []
 output_files (Packets capture) = []
 output_files (Run policy names) = names.out ∷ names.log ∷ []
 output_files (Relay policy asset port idles log) = log ∷ []
-output_files (World seed sessions policy capture out log) = []
+output_files (World seed sessions policy names) = policy ∷ names.capture ∷ names.out ∷ names.log ∷ []
 output_files (Sift policy asset client names) = names.out ∷ names.replies ∷ names.log ∷ []
 
 -- it asks the pair of streams for something

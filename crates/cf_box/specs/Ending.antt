@@ -26,7 +26,6 @@ stop_status stop.IdleEnd = 9
 stop_status stop.UnknownAsset = 10
 stop_status (stop.Cut reason) = 12
 stop_status stop.NoMemory = 13
-stop_status stop.Unbuilt = 14
 
 abbrev pub status_of : Result Done Stop → ℕ
 status_of (Ok d) = 0
@@ -82,7 +81,6 @@ stop_text stop.IdleEnd = Some (codes "idle end\n")
 stop_text stop.UnknownAsset = Some (codes "unknown asset\n")
 stop_text (stop.Cut reason) = Some (codes "cut " ++ cut_text reason ++ codes "\n")
 stop_text stop.NoMemory = None
-stop_text stop.Unbuilt = Some (codes "unbuilt\n")
 
 abbrev pub end_text : Result Done Stop → Option (List ℕ)
 end_text (Ok d) = done_text d

@@ -1,7 +1,8 @@
 -- How the program ends: `Ends` says it of the words. It is read from the end.
-use Rattle.std.specs.Prelude.{◌≡◌, ℕ, List, Option, None, Some, Result, Ok, Err, codes}
+use Rattle.std.specs.Prelude.{◌≡◌, ◌⊎◌, ℕ, List, Option, None, Some, Result, Ok, Err, codes}
 use Rattle.cf_audit.specs.declared.line.CutReason.{CutReason}
 use Rattle.cf_outside.specs.Faults.{Rose}
+use Rattle.cf_outside.specs.Files.{untold}
 use Rattle.cf_policy.specs.declared.Asset.{Asset}
 use Rattle.cf_policy.specs.declared.Policy.{Policy}
 use Rattle.cf_policylang.specs.declared.PolicyRefusal.{PolicyRefusal}
@@ -9,19 +10,26 @@ use Rattle.cf_box.specs.Check.{CheckLeaves, Checks}
 use Rattle.cf_box.specs.Command.{Command, Check, Packets, Run, Relay, World, Sift, asset_name, policy_file}
 use Rattle.cf_box.specs.Ending.{Puts, Reports}
 use Rattle.cf_box.specs.Outside.{Outside, PairValue, ReadFailed, WriteFailed}
-use Rattle.cf_box.specs.Packets.{LacksPartOfPackets, ListingCuts, ListingRefuses, Lists, PacketsLeaves}
+use Rattle.cf_box.specs.Packets.{ListingCuts, ListingRefuses, Lists, PacketsLeaves}
 use Rattle.cf_box.specs.PolicyFile.{HasPolicy, IsRefusedBy, asset_named}
 use Rattle.cf_box.specs.Relay.{CutsRelay, EndsRelayIdle, RelayLeaves, Relays}
 use Rattle.cf_box.specs.Run.{RunCuts, RunLeaves, RunRefuses, Runs}
 use Rattle.cf_box.specs.Sift.{CutsSift, SiftLeaves, Sifts}
+use Rattle.cf_box.specs.World.{MakesAndRuns, WorldLeaves}
 use Rattle.cf_box.specs.declared.ending.CaptureRefusal.{CaptureRefusal}
 use Rattle.cf_box.specs.declared.ending.Done.{Done}
 use Rattle.cf_box.specs.declared.ending.Stop.{Stop}
 use Rattle.cf_box.specs.declared.ending.Stop.TheVariants as stop
 
+-- the policy that a command makes for itself means one: it can be refused only where its file does not tell what it holds
+abbrev pub RefusesMadePolicy : Command → Outside → Type 0
+RefusesMadePolicy (World seed sessions policy names) before = before.files.content policy ≡ untold
+RefusesMadePolicy _ before = ⊥
+
 -- the file from which a command reads its policy means none
 abbrev pub RefusesPolicy : Command → Outside → PolicyRefusal → Type 0
-RefusesPolicy c before r = (file : List ℕ) × (policy_file c ≡ Some file) × IsRefusedBy (before.files.content file) r
+RefusesPolicy c before r =
+    ((file : List ℕ) × (policy_file c ≡ Some file) × IsRefusedBy (before.files.content file) r) ⊎ RefusesMadePolicy c before
 
 -- the policy of a command means one that has no asset of the name that the command needs
 abbrev pub LacksAsset : Command → Outside → Type 0
@@ -36,20 +44,24 @@ pub record PassesPolicy (c : Command) (before : Outside) : Type 0 where
       (file name : List ℕ) → policy_file c ≡ Some file → asset_name c ≡ Some name →
       (p : Policy) × HasPolicy (before.files.content file) p × ((a : Asset) × (asset_named name p ≡ Some a))
 
--- the capture of a command is refused, or ends inside the record at a place: a line a command that reads one
+-- the capture of a command is refused, or ends inside the record at a place: a line a command that reads one. One that it
+-- makes for itself is in form: so it is only where the file does not tell what it holds
 abbrev pub RefusesCapture : Command → Outside → CaptureRefusal → Type 0
 RefusesCapture (Packets capture) before r = ListingRefuses (before.files.content capture) r
 RefusesCapture (Run policy names) before r = RunRefuses (before.files.content names.capture) r
+RefusesCapture (World seed sessions policy names) before r = before.files.content names.capture ≡ untold
 RefusesCapture _ before r = ⊥
 
 abbrev pub CutsCapture : Command → Outside → ℕ → Type 0
 CutsCapture (Packets capture) before place = ListingCuts (before.files.content capture) place
 CutsCapture (Run policy names) before place = RunCuts (before.files.content names.capture) place
+CutsCapture (World seed sessions policy names) before place = before.files.content names.capture ≡ untold
 CutsCapture _ before place = ⊥
 
 -- a run's does, and what was counted before it is told
 abbrev pub CutsRun : Command → Outside → ℕ → Type 0
 CutsRun (Run policy names) before place = RunCuts (before.files.content names.capture) place
+CutsRun (World seed sessions policy names) before place = before.files.content names.capture ≡ untold
 CutsRun _ before place = ⊥
 
 -- a stream that a command takes is cut so, where the pair then stands so: a line a command
@@ -58,7 +70,7 @@ CutsStream (Check policy) before pair reason = ⊥
 CutsStream (Packets capture) before pair reason = ⊥
 CutsStream (Run policy names) before pair reason = ⊥
 CutsStream (Relay policy asset port idles log) before pair reason = CutsRelay policy asset before pair reason
-CutsStream (World seed sessions policy capture out log) before pair reason = ⊥
+CutsStream (World seed sessions policy names) before pair reason = ⊥
 CutsStream (Sift policy asset client names) before pair reason = CutsSift policy asset client names before reason
 
 -- the answers Idle of the pair end the work of a command that asks it
@@ -70,15 +82,6 @@ EndsIdle _ before pair = ⊥
 abbrev pub LinkFails : Command → (before : Outside) → (pair : PairValue) → Type 0
 LinkFails (Relay policy asset port idles log) before pair = Rose before.pair.faults pair.faults
 LinkFails _ before pair = ⊥
-
--- what a command does, or what of its input, is not built: a line a command
-abbrev pub LacksPart : Command → Outside → Type 0
-LacksPart (Check policy) before = ⊥
-LacksPart (Packets capture) before = LacksPartOfPackets capture before
-LacksPart (Run policy names) before = ⊥
-LacksPart (Relay policy asset port idles log) before = ⊥
-LacksPart (World seed sessions policy capture out log) before = Unit {0}
-LacksPart (Sift policy asset client names) before = ⊥
 
 -- why work stops: a line a cause, the same for every command. What stands later in the order of the work is no cause
 -- where the policy or the asset is one
@@ -94,15 +97,14 @@ StopsFor c before after stop.IdleEnd = EndsIdle c before after.pair × PassesPol
 StopsFor c before after stop.UnknownAsset = LacksAsset c before
 StopsFor c before after (stop.Cut reason) = CutsStream c before after.pair reason × PassesPolicy c before
 StopsFor c before after stop.NoMemory = Unit {0}
-StopsFor c before after stop.Unbuilt = LacksPart c before × PassesPolicy c before
 
 -- what work that was done means: a line a command
 abbrev pub Does : Command → (before after : Outside) → Done → Type 0
 Does (Check policy) before after d = Checks policy before after d
 Does (Packets capture) before after d = Lists capture before after d
 Does (Run policy names) before after d = Runs policy names before after d
-Does (Relay policy asset port idles log) before after d = Relays policy asset idles log before after d
-Does (World seed sessions policy capture out log) before after d = ⊥
+Does (Relay policy asset port idles log) before after d = Relays policy asset port idles log before after d
+Does (World seed sessions policy names) before after d = MakesAndRuns sessions policy names before after d
 Does (Sift policy asset client names) before after d = Sifts policy asset client names before after d
 
 -- what stands after a stop: a line a command
@@ -110,8 +112,8 @@ abbrev pub Leaves : Command → (before after : Outside) → Stop → Type 0
 Leaves (Check policy) before after s = CheckLeaves before after s
 Leaves (Packets capture) before after s = PacketsLeaves capture before after s
 Leaves (Run policy names) before after s = RunLeaves policy names before after s
-Leaves (Relay policy asset port idles log) before after s = RelayLeaves policy asset idles log before after s
-Leaves (World seed sessions policy capture out log) before after s = (s ≡ stop.Unbuilt) × (after ≡ before)
+Leaves (Relay policy asset port idles log) before after s = RelayLeaves policy asset port idles log before after s
+Leaves (World seed sessions policy names) before after s = WorldLeaves sessions policy names before after s
 Leaves (Sift policy asset client names) before after s = SiftLeaves policy asset client names before after s
 
 -- the answer of a command

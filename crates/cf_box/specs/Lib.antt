@@ -1,9 +1,11 @@
+pub mod Captures
 pub mod Check
 pub mod Command
 pub mod Ending
 pub mod Ends
 pub mod Names
 pub mod Outside
+pub mod PacketLine
 pub mod Packets
 pub mod PolicyFile
 pub mod Relay

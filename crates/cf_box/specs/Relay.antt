@@ -4,7 +4,7 @@ use Rattle.std.specs.Prelude.{◌≡◌, ◌⊎◌, ◌*◌, ℕ, List, [], ◌�
 use Rattle.cf_audit.specs.declared.line.CutReason.{CutReason}
 use Rattle.cf_lane.specs.Judged.{Judged}
 use Rattle.cf_outside.specs.Files.{KeepsOthers, holds}
-use Rattle.cf_outside.specs.Pair.{Entry}
+use Rattle.cf_outside.specs.Pair.{Entry, FaultsBy}
 use Rattle.cf_policy.specs.declared.Asset.{Asset}
 use Rattle.cf_policy.specs.declared.Policy.{Policy}
 use Rattle.cf_policylang.specs.Documents.{policy_meaning}
@@ -49,18 +49,19 @@ relay_answer (Err fault.NoMemory) = Err stop.NoMemory
 relay_answer (Err fault.Link) = Err stop.LinkFault
 relay_answer (Err fault.Write) = Err stop.WriteFault
 
-module _ (policy_file asset_name : List ℕ) (idles : ℕ) (log : List ℕ) (before after : Outside) where
-  -- the asset of the name was found, and the pair's answers were relayed for it up to this answer; every file but the log is as
-  -- it was
+module _ (policy_file asset_name : List ℕ) (port idles : ℕ) (log : List ℕ) (before after : Outside) where
+  -- the asset of the name was found, and the pair's answers were relayed for it and the port up to this answer; a call on the pair
+  -- failed exactly where the answer says so; every file but the log is as it was
   pub record HasRelayed (answer : Result RelayDone RelayFault) : Type 0 where
     pub asset : Asset
     pub finds : FindsAsset (before.files.content policy_file) asset_name asset
     pub answers : List Entry
     pub told : after.pair.told ≡ with_answers before.pair.told answers
     pub relayed :
-        RelayEnds asset (2 * idles) (file_log (before.files.content log) (after.files.content log))
+        RelayEnds asset port (2 * idles) (file_log (before.files.content log) (after.files.content log))
         (after.files.content log ≡ before.files.content log) answers answer
     pub idles_rose : IdlesRose (2 * idles) before.pair.idles after.pair.idles answer
+    pub faults : FaultsBy before.pair.faults after.pair.faults (answer ≡ Err fault.Link)
     pub others : KeepsOthers log before.files.content after.files.content
     pub sink : after.sink ≡ before.sink
 

@@ -2,23 +2,19 @@
 use Rattle.std.specs.Prelude.{◌≡◌, ◌⊎◌, ℕ, List, [], ◌∷◌, Option, None, Some, Result, Ok, Err, if◌then◌else◌}
 use Rattle.cf_lane.specs.declared.limit.TheConstants.{LETTER_LIMIT}
 use Rattle.cf_outside.specs.Files.{Content}
-use Rattle.cf_pcap.specs.Capture.{AtPlace, Clock, Cut, Large, TooLong}
-use Rattle.cf_pcap.specs.Record.{Record}
-use Rattle.cf_pcap.specs.declared.Header.{Header}
-use Rattle.cf_pcap.specs.declared.HeaderRefusal.TheVariants as header
+use Rattle.cf_pcap.specs.Capture.{Cut}
 use Rattle.cf_policy.specs.declared.Policy.{Policy}
-use Rattle.cf_run.specs.Reader.{HasHeader}
 use Rattle.cf_run.specs.RunCapture.{HasRecords, RunNamesValue, RunsAs}
 use Rattle.cf_run.specs.declared.run.RunFault.{RunFault}
 use Rattle.cf_run.specs.declared.run.RunFault.TheVariants as fault
 use Rattle.cf_run.specs.declared.run.RunRefusal.TheVariants as by
 use Rattle.cf_run.specs.declared.summary.Summary.{Summary}
+use Rattle.cf_box.specs.Captures.{EndsAt, Refuses, header_refusal}
 use Rattle.cf_box.specs.Check.{ChangesNothing}
 use Rattle.cf_box.specs.Command.{Command, Run}
 use Rattle.cf_box.specs.Names.{are_names}
 use Rattle.cf_sift.specs.Outputs.{KeepsAllBut}
 use Rattle.cf_box.specs.Outside.{Outside}
-use Rattle.cf_box.specs.Packets.{header_refusal}
 use Rattle.cf_box.specs.PolicyFile.{HasPolicy, StopsPolicy}
 use Rattle.cf_box.specs.declared.ending.CaptureRefusal.{CaptureRefusal}
 use Rattle.cf_box.specs.declared.ending.CaptureRefusal.TheVariants as refusal
@@ -37,27 +33,11 @@ run_of _ = None
 
 -- ---- why a capture is no input of a run
 
--- it has a header, and records up to this place, at which this stands
-pub record EndsAt (file : Content) (found : AtPlace) (place : ℕ) : Type 0 where
-  pub header : Header
-  pub has_header : HasHeader file (Ok header)
-  pub records : List Record
-  pub are_records : HasRecords file header records (record { place = place; found = found })
-
-abbrev pub EndsSomewhere : Content → AtPlace → Type 0
-EndsSomewhere file found = (place : ℕ) × EndsAt file found place
-
 abbrev pub RunRefuses : Content → CaptureRefusal → Type 0
-RunRefuses file refusal.Short = HasHeader file (Err header.Short)
-RunRefuses file refusal.Magic = HasHeader file (Err header.Magic)
-RunRefuses file refusal.Version = HasHeader file (Err header.Version)
-RunRefuses file refusal.LinkType = HasHeader file (Err header.LinkType)
-RunRefuses file refusal.TooLong = EndsSomewhere file TooLong
-RunRefuses file refusal.Clock = EndsSomewhere file Clock
-RunRefuses file refusal.Large = EndsSomewhere file Large
+RunRefuses file r = Refuses HasRecords file r
 
 abbrev pub RunCuts : Content → (place : ℕ) → Type 0
-RunCuts file place = EndsAt file Cut place
+RunCuts file place = EndsAt HasRecords file Cut place
 
 -- why the work stops at a fault
 abbrev pub run_stop : RunFault → Stop

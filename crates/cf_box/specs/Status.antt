@@ -1,10 +1,10 @@
 -- What a status tells, each by itself.
-use Rattle.std.specs.Prelude.{◌≡◌, ◌⊎◌, ℕ, List, [], drop, Option, None, Some, Ok, Err}
+use Rattle.std.specs.Prelude.{◌≡◌, ◌≢◌, ◌⊎◌, ℕ, List, [], drop, Option, None, Some, Ok, Err}
 use Rattle.cf_audit.specs.declared.line.CutReason.{CutReason}
 use Rattle.cf_lane.specs.Follows.{AreJudged}
 use Rattle.cf_lane.specs.Judged.{Judged}
 use Rattle.cf_lane.specs.Passes.{Passes}
-use Rattle.cf_outside.specs.Files.{holds, IsWhole, content_after_write}
+use Rattle.cf_outside.specs.Files.{holds, untold, IsWhole, content_after_write}
 use Rattle.cf_pcap.specs.Header.{header_of}
 use Rattle.cf_pcap.specs.Capture.{FileEnd, AreRecords, AreTimed, at_place, first_moment}
 use Rattle.cf_pcap.specs.Record.{Record}
@@ -13,10 +13,10 @@ use Rattle.cf_policy.specs.declared.Asset.{Asset}
 use Rattle.cf_policy.specs.declared.Policy.{Policy}
 use Rattle.cf_policylang.specs.Documents.{policy_meaning}
 use Rattle.cf_policylang.specs.declared.PolicyRefusal.{PolicyRefusal}
+use Rattle.cf_run.specs.RunCapture.{RunNamesValue}
 use Rattle.cf_box.specs.Command.{Command, Check, Packets, Run, Relay, World, Sift, AsksPair, asset_name, capture_file, output_files, policy_file}
-use Rattle.cf_box.specs.Ends.{CutsCapture, CutsStream, EndsIdle, LacksAsset, LacksPart, LinkFails, RefusesCapture, RefusesPolicy}
+use Rattle.cf_box.specs.Ends.{CutsCapture, CutsStream, EndsIdle, LacksAsset, LinkFails, RefusesCapture, RefusesPolicy}
 use Rattle.cf_box.specs.Outside.{Outside, PairValue, ReadFailed, WriteFailed}
-use Rattle.cf_box.specs.Packets.{TellsLongCapture}
 use Rattle.cf_box.specs.PolicyFile.{FindsAsset, asset_named}
 use Rattle.cf_box.specs.Relay.{TellsCutRelay, TellsIdleRelay}
 use Rattle.cf_box.specs.Sift.{TellsCutStream}
@@ -80,8 +80,14 @@ EndsWell (Packets capture) bytes = HasRecords bytes
 EndsWell (Run policy names) bytes = HasTimedRecords bytes
 EndsWell _ bytes = Unit {0}
 
+-- the files that a command makes for itself, to read them, tell what they hold
+abbrev pub TellsMade : Command → Outside → Type 0
+TellsMade (World seed sessions policy names) before = (before.files.content policy ≢ untold) × (before.files.content names.capture ≢ untold)
+TellsMade _ before = Unit {0}
+
 -- what a command needs is told, and in form: its policy has a meaning and the asset of the name, its capture is one whose
--- records end with the file, its streams are not cut, the pair is not idle for too long, and nothing of it is not built
+-- records end with the file, its streams are not cut, the pair is not idle for too long, and what it makes for itself is
+-- told
 pub record HasInput (c : Command) (before after : Outside) : Type 0 where
   pub policy :
       (file : List ℕ) → policy_file c ≡ Some file →
@@ -90,7 +96,7 @@ pub record HasInput (c : Command) (before after : Outside) : Type 0 where
   pub capture : (file : List ℕ) → capture_file c ≡ Some file → (bytes : List ℕ) × (before.files.content file ≡ holds bytes) × EndsWell c bytes
   pub stream : (reason : CutReason) → CutsStream c before after.pair reason → ⊥
   pub idle : EndsIdle c before after.pair → ⊥
-  pub built : LacksPart c before → ⊥
+  pub made : TellsMade c before
 
 -- no read failed, no creation, append or put, and no call on the pair of a command that asks it
 pub record NothingFails (c : Command) (before after : Outside) : Type 0 where
@@ -128,22 +134,13 @@ pub record TellsNoAsset (c : Command) (before : Outside) : Type 0 where
   pub asks : asset_name c ≡ Some name
   pub lacks : asset_named name meaning ≡ None
 
--- what a command needs is told, and is not built: a line a command
-abbrev pub TellsLack : Command → Outside → Type 0
-TellsLack (Check file) before = ⊥
-TellsLack (Packets file) before = TellsLongCapture file before
-TellsLack (Run file names) before = ⊥
-TellsLack (Relay file asset port idles log) before = ⊥
-TellsLack (World seed sessions file capture out log) before = Unit {0}
-TellsLack (Sift file asset client names) before = ⊥
-
 -- the stream of a command is told, or the answers of its pair are, and is cut: a line a command
 abbrev pub TellsCut : Command → (before : Outside) → (pair : PairValue) → Type 0
 TellsCut (Check file) before pair = ⊥
 TellsCut (Packets file) before pair = ⊥
 TellsCut (Run file names) before pair = ⊥
 TellsCut (Relay file asset port idles log) before pair = TellsCutRelay file asset before pair
-TellsCut (World seed sessions file capture out log) before pair = ⊥
+TellsCut (World seed sessions file names) before pair = ⊥
 TellsCut (Sift file asset client names) before pair = TellsCutStream file asset client names before
 
 -- the answers of a command's pair are told, and end in as many answers Idle as end its work
@@ -160,23 +157,32 @@ YieldsWritten before after status = ((status ≡ 4) × WriteFailed before after)
 pub record IsExact (c : Command) (before after : Outside) (status : ℕ) : Type 0 where
   pub refused : TellsNoPolicy c before → (status ≡ 5) ⊎ Yields before after status
   pub unknown : TellsNoAsset c before → (status ≡ 10) ⊎ Yields before after status
-  pub unbuilt : TellsLack c before → (status ≡ 14) ⊎ Yields before after status
   pub cut : TellsCut c before after.pair → (status ≡ 12) ⊎ YieldsWritten before after status
   pub idle : TellsIdle c before after.pair → (status ≡ 9) ⊎ YieldsWritten before after status
 
 abbrev pub IsExactly : Option Command → (before after : Outside) → (status : ℕ) → Type 0
 IsExactly words before after status = (c : Command) → words ≡ Some c → IsExact c before after status
 
+-- a policy and a capture that a world made are neither refused nor cut, where its files tell what they hold
+abbrev pub TakesItsOwn : Option Command → (before : Outside) → (status : ℕ) → Type 0
+TakesItsOwn words before status =
+    (seed sessions : ℕ) (policy : List ℕ) (names : RunNamesValue) → words ≡ Some (World seed sessions policy names) →
+    TellsMade (World seed sessions policy names) before → (status ≢ 5) × (status ≢ 6) × (status ≢ 7)
+
 -- the files that the words may have written
 abbrev pub outputs_of : Option Command → List (List ℕ)
 outputs_of None = []
 outputs_of (Some c) = output_files c
 
--- the statuses at which nothing is written: the words, the policy or the asset are at fault, or something is not built
+-- the statuses at which nothing is written: the words, the policy or the asset are at fault
 abbrev pub WritesNothing : ℕ → Type 0
-WritesNothing s = (s ≡ 2) ⊎ (s ≡ 5) ⊎ (s ≡ 10) ⊎ (s ≡ 14)
+WritesNothing s = (s ≡ 2) ⊎ (s ≡ 5) ⊎ (s ≡ 10)
+
+-- what the words make for themselves is told
+abbrev pub TellsItsOwn : Option Command → Outside → Type 0
+TellsItsOwn words before = (c : Command) → words ≡ Some c → TellsMade c before
 
 -- the statuses that there are
 abbrev pub IsStatus : ℕ → Type 0
 IsStatus s =
-    (s ≡ 0) ⊎ (s ≡ 2) ⊎ (s ≡ 3) ⊎ (s ≡ 4) ⊎ (s ≡ 5) ⊎ (s ≡ 6) ⊎ (s ≡ 7) ⊎ (s ≡ 8) ⊎ (s ≡ 9) ⊎ (s ≡ 10) ⊎ (s ≡ 12) ⊎ (s ≡ 13) ⊎ (s ≡ 14)
+    (s ≡ 0) ⊎ (s ≡ 2) ⊎ (s ≡ 3) ⊎ (s ≡ 4) ⊎ (s ≡ 5) ⊎ (s ≡ 6) ⊎ (s ≡ 7) ⊎ (s ≡ 8) ⊎ (s ≡ 9) ⊎ (s ≡ 10) ⊎ (s ≡ 12) ⊎ (s ≡ 13)

@@ -7,7 +7,7 @@ use Rattle.cf_box.specs.Relay.{relay_of}
 use Rattle.cf_box.specs.Run.{run_of}
 use Rattle.cf_box.specs.Sift.{sift_of}
 use Rattle.cf_run.specs.RunCapture.{AreApart as AreRunApart, run_names_value}
-use Rattle.cf_box.specs.World.{world_of}
+use Rattle.cf_box.specs.World.{IsFitWorld, world_of}
 use Rattle.cf_sift.specs.Names.{AreApart, sift_names_value}
 use Rattle.cf_box.specs.declared.command.Command.{Command as CommandFields}
 use Rattle.cf_box.specs.declared.command.Command.TheVariants as fields
@@ -30,13 +30,14 @@ command_value (fields.Check policy) = Check policy.now
 command_value (fields.Packets capture) = Packets capture.now
 command_value (fields.Run policy names) = Run policy.now (run_names_value names)
 command_value (fields.Relay policy asset port idles log) = Relay policy.now asset.now port idles log.now
-command_value (fields.World seed sessions policy capture out log) = World seed sessions policy.now capture.now out.now log.now
+command_value (fields.World seed sessions policy names) = World seed sessions policy.now (run_names_value names)
 command_value (fields.Sift policy asset client names) = Sift policy.now asset.now client (sift_names_value names)
 
--- what the reader of the words has tested: the files of a stored stream are apart, and those of a run, and the numbers of a
--- relay are in their ranges
+-- what the reader of the words has tested: the files of a stored stream are apart, and those of a run and of a world, and the
+-- numbers of a relay and of a world are in their ranges
 abbrev pub HasFitWords : CommandFields → Type 0
 HasFitWords (fields.Run policy names) = AreRunApart (run_names_value names)
 HasFitWords (fields.Sift policy asset client names) = AreApart (sift_names_value names)
 HasFitWords (fields.Relay policy asset port idles log) = (port ≤ 65535) × (1 ≤ idles) × (idles ≤ 1000000)
+HasFitWords (fields.World seed sessions policy names) = IsFitWorld sessions policy.now (run_names_value names)
 HasFitWords _ = Unit {0}

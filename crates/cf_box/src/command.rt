@@ -35,14 +35,12 @@ pub enum Command<'a> {
         idles: u64,
         log: &'a str,
     },
-    /// Make a world of 1 to 200 sessions from a number, and run it.
+    /// Make a policy and a capture of 1 to 200 sessions from a number, and run the policy over the capture.
     World {
         seed: u64,
         sessions: u64,
         policy: &'a str,
-        capture: &'a str,
-        out: &'a str,
-        log: &'a str,
+        names: RunNames<'a>,
     },
     /// Filter the stored stream of a client with this address, a number of 32 bits whose first octet is the highest.
     Sift {

@@ -53,8 +53,6 @@ pub enum Stop {
     Cut(CutReason),
     /// Memory ran out.
     NoMemory,
-    /// The command, or its input, needs a part that is not built.
-    Unbuilt,
 }
 
 /// Why a capture is refused. The tests stand in this order, those of records at each record.
@@ -70,15 +68,15 @@ pub enum CaptureRefusal {
     LinkType,
     /// A record has more than 262,144 octets.
     TooLong,
-    /// The moment of a record reaches 2^32 seconds.
+    /// The moment of a record reaches 2^32 seconds. A listing tests none.
     Clock,
-    /// An octet of a record stands at place 2^40 or above. A listing never says so, while longer captures are not read.
+    /// An octet of a record stands at place 2^40 or above.
     Large,
 }
 
 impl From<HeaderRefusal> for Stop {
     ghost use Rattle.std.specs.Prelude.{◌≡◌};
-    ghost use Rattle.cf_box.specs.Packets.{header_refusal};
+    ghost use Rattle.cf_box.specs.Captures.{header_refusal};
     ghost use Rattle.cf_box.specs.declared.ending.Stop.TheVariants.{CaptureRefused};
 
     ghost from_gives = { λ r s. s ≡ CaptureRefused (header_refusal r) };
@@ -108,7 +106,6 @@ fn stop_status(stop: &Stop) -> u8
         Stop::UnknownAsset => 10,
         Stop::Cut(_) => 12,
         Stop::NoMemory => 13,
-        Stop::Unbuilt => 14,
     }
 }
 
@@ -289,7 +286,6 @@ fn stop_text(stop: &Stop) -> Option<EndText>
         Stop::IdleEnd => Some(line("idle end\n")),
         Stop::UnknownAsset => Some(line("unknown asset\n")),
         Stop::Cut(reason) => Some(cut_line(reason)),
-        Stop::Unbuilt => Some(line("unbuilt\n")),
     }
 }
 

@@ -11,6 +11,7 @@ mod policy_file;
 mod relay;
 mod run;
 mod sift;
+mod spell;
 mod top;
 mod world;
 

@@ -1,102 +1,119 @@
-//! The line of a record of a capture.
-ghost use Rattle.std.specs.Prelude.{◌≡◌, ◌+◌, ◌<◌, ◌≤◌, ◌++◌, [], Ok, codes, length};
-ghost use Rattle.arrayvec.specs.ArrayString.{array_string_len};
-ghost use Rattle.cf_box.specs.Packets.{fields_text, flag_text, flags_text, packet_text, record_line, refusal_name};
+//! The line of a record of a capture, spelled from its end to its front.
+ghost use Rattle.std.specs.Prelude.{◌≡◌, ◌+◌, ◌<◌, ◌≤◌, ◌∷◌, ◌++◌, [], Ok, codes, drop, length};
+ghost use Rattle.cf_box.specs.PacketLine.{fields_text, flag_text, flags_text, packet_text, record_line, refusal_name};
 ghost use Rattle.cf_packet.specs.Packet.{packet_value, read_record};
 
-use arrayvec::ArrayString;
+use crate::spell::{spell_endpoint, spell_moment, spell_number, spell_text, spell_u16, spell_u32};
 use cf_packet::{ACK, FIN, PSH, Packet, PacketRefusal, RST, SYN, URG, read_packet};
-use cf_view::{LinkKind, push_endpoint, push_moment, push_number, push_u16, push_u32};
+use cf_view::LinkKind;
 
 /// The longest line has fewer octets.
-pub(crate) type RecordLine = ArrayString<192>;
+pub(crate) const LONGEST_LINE: usize = 192;
 
-/// Writes the line of the record of a number, counted from 1, into an empty text.
-pub(crate) fn push_line(out: &mut RecordLine, link: &LinkKind, number: u64, stamp: u64, body: &[u8])
-    requires { out.old.bytes ≡ [] }
-    ensures { out.new.bytes ≡ record_line link.now number (record { stamp = stamp; body = body.now }) }
+/// Spells the line of the record of a number, counted from 1, so that it ends with the octets; answers where it begins.
+#[tactic(auto, using(crate::proofs::Spelled::nothing_behind))]
+pub(crate) fn spell_line(
+    link: &LinkKind,
+    number: u64,
+    stamp: u64,
+    body: &[u8],
+    out: &mut [u8; LONGEST_LINE],
+) -> usize
+    ensures line { drop result out.new ≡ record_line link.now number (record { stamp = stamp; body = body.now }) }
+    ensures inside { result ≤ 192 }
 {
-    push_number(out, number);
-    out.push_str(" ");
-    push_moment(out, stamp);
-    out.push_str(" ");
-    push_body(out, link, body);
-    out.push_str("\n");
+    let at = spell_text("\n", out, LONGEST_LINE);
+    let at = spell_body(link, body, out, at);
+    let at = spell_text(" ", out, at);
+    let at = spell_moment(stamp, out, at);
+    let at = spell_text(" ", out, at);
+    spell_number(number, out, at)
 }
 
-fn push_body(out: &mut RecordLine, link: &LinkKind, body: &[u8])
-    requires { array_string_len out.old + 120 ≤ 192 }
-    ensures bytes { out.new.bytes ≡ out.old.bytes ++ packet_text (read_record link.now body.now) }
-    ensures short { array_string_len out.new ≤ array_string_len out.old + 120 }
+fn spell_body(link: &LinkKind, body: &[u8], out: &mut [u8], end: usize) -> usize
+    requires room { (120 ≤ end) × (end ≤ length out.old) }
+    ensures written { drop result out.new ≡ packet_text (read_record link.now body.now) ++ drop end out.old }
+    ensures near { (result ≤ end) × (end ≤ result + 120) }
+    ensures length { length out.new ≡ length out.old }
 {
     match read_packet(link, body) {
-        Ok(packet) => push_packet(out, &packet),
-        Err(refusal) => push_refusal(out, refusal),
+        Ok(packet) => spell_packet(&packet, out, end),
+        Err(refusal) => spell_refusal(refusal, out, end),
     }
 }
 
-fn push_packet(out: &mut RecordLine, packet: &Packet<'_>)
-    requires { array_string_len out.old + 120 ≤ 192 }
-    ensures bytes { out.new.bytes ≡ out.old.bytes ++ packet_text (Ok (packet_value packet.now)) }
-    ensures short { array_string_len out.new ≤ array_string_len out.old + 120 }
+fn spell_packet(packet: &Packet<'_>, out: &mut [u8], end: usize) -> usize
+    requires room { (120 ≤ end) × (end ≤ length out.old) }
+    ensures written { drop result out.new ≡ packet_text (Ok (packet_value packet.now)) ++ drop end out.old }
+    ensures near { (result ≤ end) × (end ≤ result + 120) }
+    ensures length { length out.new ≡ length out.old }
 {
-    push_endpoint(out, &packet.source);
-    out.push_str(" > ");
-    push_endpoint(out, &packet.dest);
-    out.push_str(" ");
-    push_flags(out, packet.flags);
-    push_fields(out, packet);
+    let at = spell_fields(packet, out, end);
+    let at = spell_flags(packet.flags, out, at);
+    let at = spell_text(" ", out, at);
+    let at = spell_endpoint(&packet.dest, out, at);
+    let at = spell_text(" > ", out, at);
+    spell_endpoint(&packet.source, out, at)
 }
 
-fn push_fields(out: &mut RecordLine, packet: &Packet<'_>)
-    requires { array_string_len out.old + 65 ≤ 192 }
-    ensures bytes { out.new.bytes ≡ out.old.bytes ++ fields_text (packet_value packet.now) }
-    ensures short { array_string_len out.new ≤ array_string_len out.old + 65 }
+fn spell_fields(packet: &Packet<'_>, out: &mut [u8], end: usize) -> usize
+    requires room { (65 ≤ end) × (end ≤ length out.old) }
+    ensures written { drop result out.new ≡ fields_text (packet_value packet.now) ++ drop end out.old }
+    ensures near { (result ≤ end) × (end ≤ result + 65) }
+    ensures length { length out.new ≡ length out.old }
 {
-    out.push_str(" seq ");
-    push_u32(out, packet.seq);
-    out.push_str(" ack ");
-    push_u32(out, packet.ack);
-    out.push_str(" win ");
-    push_u16(out, packet.window);
-    out.push_str(" len ");
-    push_number(out, packet.text.len() as u64);
+    let at = spell_number(packet.text.len() as u64, out, end);
+    let at = spell_text(" len ", out, at);
+    let at = spell_u16(packet.window, out, at);
+    let at = spell_text(" win ", out, at);
+    let at = spell_u32(packet.ack, out, at);
+    let at = spell_text(" ack ", out, at);
+    let at = spell_u32(packet.seq, out, at);
+    spell_text(" seq ", out, at)
 }
 
-/// Appends the letters of the flags that are set, or a hyphen.
-fn push_flags(out: &mut RecordLine, flags: u8)
-    requires { array_string_len out.old + 6 ≤ 192 }
-    ensures bytes { out.new.bytes ≡ out.old.bytes ++ flags_text flags }
-    ensures short { array_string_len out.new ≤ array_string_len out.old + 6 }
+/// Spells the letters of the flags that are set, or a hyphen.
+fn spell_flags(flags: u8, out: &mut [u8], end: usize) -> usize
+    requires room { (6 ≤ end) × (end ≤ length out.old) }
+    ensures written { drop result out.new ≡ flags_text flags ++ drop end out.old }
+    ensures near { (result ≤ end) × (end ≤ result + 6) }
+    ensures length { length out.new ≡ length out.old }
 {
     if flags == 0 {
-        out.push_str("-");
-        return;
+        return spell_text("-", out, end);
     }
-    out.push_str(flag_letter(flags, FIN, "F"));
-    out.push_str(flag_letter(flags, SYN, "S"));
-    out.push_str(flag_letter(flags, RST, "R"));
-    out.push_str(flag_letter(flags, PSH, "P"));
-    out.push_str(flag_letter(flags, ACK, "A"));
-    out.push_str(flag_letter(flags, URG, "U"));
+    let at = spell_flag(flags, URG, "U", out, end);
+    let at = spell_flag(flags, ACK, "A", out, at);
+    let at = spell_flag(flags, PSH, "P", out, at);
+    let at = spell_flag(flags, RST, "R", out, at);
+    let at = spell_flag(flags, SYN, "S", out, at);
+    spell_flag(flags, FIN, "F", out, at)
 }
 
-/// The letter of a flag if it is set.
-fn flag_letter<'a>(flags: u8, flag: u8, letter: &'a str) -> &'a str
-    requires { 0 < flag }
-    ensures text { result.now ≡ flag_text flags flag letter.now }
-    ensures short { length result.now ≤ length letter.now }
+/// Spells the letter of a flag if it is set.
+#[inline]
+fn spell_flag(flags: u8, flag: u8, letter: &str, out: &mut [u8], end: usize) -> usize
+    requires flag { 0 < flag }
+    requires letter { length letter.now ≡ 1 }
+    requires room { (1 ≤ end) × (end ≤ length out.old) }
+    ensures written { drop result out.new ≡ flag_text flags flag letter.now ++ drop end out.old }
+    ensures near { (result ≤ end) × (end ≤ result + 1) }
+    ensures length { length out.new ≡ length out.old }
 {
-    if flags / flag % 2 == 0 { "" } else { letter }
+    if flags / flag % 2 == 0 {
+        return end;
+    }
+    spell_text(letter, out, end)
 }
 
-fn push_refusal(out: &mut RecordLine, refusal: PacketRefusal)
-    requires { array_string_len out.old + 17 ≤ 192 }
-    ensures bytes { out.new.bytes ≡ out.old.bytes ++ codes "dropped " ++ refusal_name refusal }
-    ensures short { array_string_len out.new ≤ array_string_len out.old + 17 }
+fn spell_refusal(refusal: PacketRefusal, out: &mut [u8], end: usize) -> usize
+    requires room { (17 ≤ end) × (end ≤ length out.old) }
+    ensures written { drop result out.new ≡ codes "dropped " ++ refusal_name refusal ++ drop end out.old }
+    ensures near { (result ≤ end) × (end ≤ result + 17) }
+    ensures length { length out.new ≡ length out.old }
 {
-    out.push_str("dropped ");
-    out.push_str(refusal_word(refusal));
+    let at = spell_text(refusal_word(refusal), out, end);
+    spell_text("dropped ", out, at)
 }
 
 fn refusal_word(refusal: PacketRefusal) -> &'static str

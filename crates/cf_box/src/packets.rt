@@ -1,30 +1,43 @@
 //! `packets CAPTURE`: the packets of a capture are listed line by line.
-ghost use Rattle.std.specs.Prelude.{◌≡◌, ◌-◌, ◌<◌, ◌≤◌, IfSome, Ok, drop, length, map, option_map, string_bytes};
+ghost use Rattle.std.specs.Prelude.{◌≡◌, ◌+◌, ◌≤◌, ◌⊎◌, ◌++◌, ℕ, List, IfSome, IsErrOf, Err, Ok, map, option_map, string_bytes, take};
+ghost use Rattle.arrayvec.specs.ArrayVec.{array_vec_len};
 ghost use Rattle.cf_box.specs.Command.{Packets};
 ghost use Rattle.cf_box.specs.Ends.{Meets};
 ghost use Rattle.cf_box.specs.Outside.{FilesNeverFall, PairValue, files_value, outside, sink_value};
-ghost use Rattle.cf_box.specs.Packets.{IsListed, ListsCapture, packets_of, record_line};
+ghost use Rattle.cf_box.specs.PacketLine.{record_line};
+ghost use Rattle.cf_box.specs.Packets.{ListsFile, packets_of};
 ghost use Rattle.cf_box.specs.Words.{HasFitWords, command_value};
 ghost use Rattle.cf_outside.specs.Faults.{HasCause, Rose};
-ghost use Rattle.cf_outside.specs.Sink.{Puts};
-ghost use Rattle.cf_pcap.specs.Header.{header_of};
-ghost use Rattle.cf_pcap.specs.Record.{IsInside, record_answer_value};
-ghost use Rattle.cf_pcap.specs.Capture.{at_place, at_place_by};
+ghost use Rattle.cf_outside.specs.Sink.{Puts, printed_with};
+ghost use Rattle.cf_run.specs.Reader.{HasHeader};
 
 use crate::command::Command;
 use crate::ending::{CaptureRefusal, Done, Stop};
 use crate::names::are_names;
-use crate::packet_line::{RecordLine, push_line};
-use cf_outside::{Files, Sink, WholeFault, WriteAnswer, read_whole};
-use cf_pcap::{Header, RecordAnswer, read_header, read_record};
+use crate::packet_line::{LONGEST_LINE, spell_line};
+use arrayvec::ArrayVec;
+use cf_outside::{Files, Sink, WriteAnswer};
+use cf_run::{NextRecord, OpenFault, RecordReader};
 use cf_view::LinkKind;
 use std::alloc::Global;
 
-/// How many octets a capture has at most that is listed.
-const CAPTURE_LIMIT: u64 = 67_108_864;
+/// Lines that are made and not put yet: at most 32 KiB.
+type Lines = ArrayVec<u8, 32_768>;
 
-/// Where the first record of a capture begins.
-const RECORDS_AT: usize = 24;
+impl From<OpenFault> for Stop {
+    ghost use Rattle.std.specs.Prelude.{◌≡◌};
+    ghost use Rattle.cf_box.specs.Packets.{open_stop};
+
+    ghost from_gives = { λ fault stop. stop ≡ open_stop fault };
+
+    fn from(fault: OpenFault) -> Self {
+        match fault {
+            OpenFault::NoMemory => Stop::NoMemory,
+            OpenFault::Read => Stop::ReadFault,
+            OpenFault::Refused(refusal) => Stop::from(refusal),
+        }
+    }
+}
 
 /// The word behind `packets`.
 pub(crate) fn read_packets(words: &[String]) -> Option<Command<'_>>
@@ -41,7 +54,10 @@ pub(crate) fn read_packets(words: &[String]) -> Option<Command<'_>>
     Some(Command::Packets { capture })
 }
 
-/// Reads a capture whole, and puts a line for each record. Changes no file. This project's own.
+/// Reads a capture record by record, and puts a line for each. Changes no file. This project's own.
+///
+/// The lines are gathered, and put before the buffer is full and at the end, so that what was put before a stop is the lines
+/// of the records before it.
 pub(crate) fn packets<F: Files, O: Sink>(
     alloc: Global,
     name: &str,
@@ -54,76 +70,118 @@ pub(crate) fn packets<F: Files, O: Sink>(
     ensures later { FilesNeverFall (files_value F.Files files.old) (files_value F.Files files.new) }
     ensures puts { O.faults out.old ≤ O.faults out.new }
 {
-    match read_whole(alloc, files, name, CAPTURE_LIMIT) {
-        Ok(capture) => list_capture(&capture, out),
-        Err(WholeFault::Read) => Err(Stop::ReadFault),
-        Err(WholeFault::TooLong) => Err(Stop::Unbuilt),
-        Err(WholeFault::NoMemory) => Err(Stop::NoMemory),
+    match RecordReader::open(alloc, files, name) {
+        Ok(mut reader) => list_records(name, &mut reader, files, out),
+        Err(fault) => Err(Stop::from(fault)),
     }
 }
 
-/// Puts a line for each record of a capture.
-fn list_capture<O: Sink>(capture: &[u8], out: &mut O) -> Result<Done, Stop>
-    requires { length capture.now ≤ 67108864 }
-    ensures lists { ListsCapture capture.now (O.text out.old) (O.text out.new) (Rose (O.faults out.old) (O.faults out.new)) result }
+/// Puts a line for each record from the reader's place on, to the end of the capture or the first that is none.
+fn list_records<F: Files, O: Sink>(
+    name: &str,
+    reader: &mut RecordReader,
+    files: &mut F,
+    out: &mut O,
+) -> Result<Done, Stop>
+    requires header { HasHeader (F.content files.old name.now) (Ok reader.old.header) }
+    requires place { reader.old.place ≡ 24 }
+    ensures lists { ListsFile (F.content files.old name.now) (sink_value O.Sink out.old) (sink_value O.Sink out.new) result }
+    ensures same { F.content files.new ≡ F.content files.old }
+    ensures read { HasCause (F.read_faults files.old) (F.read_faults files.new) (IsErrOf result Stop.ReadFault) }
+    ensures writes { F.write_faults files.new ≡ F.write_faults files.old }
     ensures puts { O.faults out.old ≤ O.faults out.new }
 {
-    match read_header(capture) {
-        Ok(header) => list_records(&header, capture, out),
-        Err(refusal) => Err(Stop::from(refusal)),
-    }
-}
-
-/// Puts a line for each record behind the header of a capture.
-#[tactic(auto, using(crate::proofs::Listing::listing_laws))]
-fn list_records<O: Sink>(header: &Header, capture: &[u8], out: &mut O) -> Result<Done, Stop>
-    requires header { header_of capture.now ≡ Ok header.now }
-    requires short { length capture.now ≤ 67108864 }
-    ensures lists { IsListed header.now capture.now (O.text out.old) (O.text out.new) (Rose (O.faults out.old) (O.faults out.new)) result }
-    ensures puts { O.faults out.old ≤ O.faults out.new }
-{
+    let mut lines = Lines::new();
     let mut number = 1;
-    let mut at = RECORDS_AT;
-    'records: while at < capture.len() {
-        match record_at(header, capture, at) {
-            RecordAnswer::Need(_) => return Err(Stop::CaptureCut(at as u64)),
-            RecordAnswer::TooLong => return Err(Stop::CaptureRefused(CaptureRefusal::TooLong)),
-            RecordAnswer::Whole { stamp, body, used } => {
-                match put_line(&header.link, number, stamp, body, out) {
+    'records: loop {
+        match reader.next(files, name) {
+            NextRecord::Whole(stamp) => {
+                match make_room(&mut lines, out) {
                     WriteAnswer::Failed => return Err(Stop::WriteFault),
                     WriteAnswer::Done => {
+                        let link = &reader.header().link;
+                        gather_line(&mut lines, link, number, stamp, reader.body());
                         number += 1;
-                        at += used;
                     }
                 }
             }
+            NextRecord::End => return finish(Ok(Done::Listed), &lines, out),
+            NextRecord::Cut => {
+                return finish(Err(Stop::CaptureCut(reader.place())), &lines, out);
+            }
+            NextRecord::TooLong => {
+                return finish(
+                    Err(Stop::CaptureRefused(CaptureRefusal::TooLong)),
+                    &lines,
+                    out,
+                );
+            }
+            NextRecord::Large => {
+                return finish(
+                    Err(Stop::CaptureRefused(CaptureRefusal::Large)),
+                    &lines,
+                    out,
+                );
+            }
+            NextRecord::Failed => return finish(Err(Stop::ReadFault), &lines, out),
         }
     }
-    Ok(Done::Listed)
 }
 
-/// What stands at a place of a capture, which is one of its octets.
-fn record_at<'a>(header: &Header, capture: &'a [u8], at: usize) -> RecordAnswer<'a>
-    requires there { at < length capture.now }
-    requires short { length capture.now ≤ 67108864 }
-    ensures front { at_place header.now at (drop at capture.now) ≡ at_place_by (record_answer_value result) }
-    ensures inside { IsInside (record_answer_value result) (length capture.now - at) }
-{
-    read_record(header, &capture[at..])
-}
-
-/// Puts the line of the record of a number.
-fn put_line<O: Sink>(
-    link: &LinkKind,
-    number: u64,
-    stamp: u64,
-    body: &[u8],
-    out: &mut O,
-) -> WriteAnswer
-    ensures puts { Puts (record_line link.now number (record { stamp = stamp; body = body.now })) (O.text out.old) (O.text out.new) result }
+/// Makes room for another line: where there is none, puts the lines that were gathered.
+#[tactic(auto, using(crate::proofs::Listing::with_nothing))]
+fn make_room<O: Sink>(lines: &mut Lines, out: &mut O) -> WriteAnswer
+    ensures room { result ≡ WriteAnswer.Done → array_vec_len lines.new + 192 ≤ 32768 }
+    // Some of what was gathered is put, and the rest is gathered still.
+    ensures kept { result ≡ WriteAnswer.Done → (some : List ℕ) × (lines.old.items ≡ some ++ lines.new.items)
+        × (O.text out.new ≡ printed_with (O.text out.old) some) }
+    ensures partly { result ≡ WriteAnswer.Failed → (k : ℕ) × (O.text out.new ≡ printed_with (O.text out.old) (take k lines.old.items)) }
     ensures cause { HasCause (O.faults out.old) (O.faults out.new) (result ≡ WriteAnswer.Failed) }
 {
-    let mut line = RecordLine::new();
-    push_line(&mut line, link, number, stamp, body);
-    out.put(line.as_str().as_bytes())
+    if lines.remaining_capacity() >= LONGEST_LINE {
+        return WriteAnswer::Done;
+    }
+    match put_lines(lines, out) {
+        WriteAnswer::Done => {
+            lines.clear();
+            WriteAnswer::Done
+        }
+        WriteAnswer::Failed => WriteAnswer::Failed,
+    }
+}
+
+/// Gathers the line of the record of a number.
+fn gather_line(lines: &mut Lines, link: &LinkKind, number: u64, stamp: u64, body: &[u8])
+    requires { array_vec_len lines.old + 192 ≤ 32768 }
+    ensures { lines.new.items ≡ lines.old.items ++ record_line link.now number (record { stamp = stamp; body = body.now }) }
+{
+    let mut line = [0u8; LONGEST_LINE];
+    let start = spell_line(link, number, stamp, body, &mut line);
+    let gathered = lines.try_extend_from_slice(&line[start..]);
+    gathered.unwrap();
+}
+
+/// Puts the lines that were gathered last, and answers how the work ended; or that the put failed.
+fn finish<O: Sink>(ended: Result<Done, Stop>, lines: &Lines, out: &mut O) -> Result<Done, Stop>
+    ensures ends { ((result ≡ ended) × (O.text out.new ≡ printed_with (O.text out.old) lines.now.items))
+        ⊎ ((result ≡ Err Stop.WriteFault) × Rose (O.faults out.old) (O.faults out.new)
+        × ((k : ℕ) × (O.text out.new ≡ printed_with (O.text out.old) (take k lines.now.items)))) }
+    ensures later { O.faults out.old ≤ O.faults out.new }
+{
+    match put_lines(lines, out) {
+        WriteAnswer::Done => ended,
+        WriteAnswer::Failed => Err(Stop::WriteFault),
+    }
+}
+
+/// Puts lines; nothing where there are none.
+#[tactic(auto, using(crate::proofs::Listing::with_nothing))]
+fn put_lines<O: Sink>(lines: &Lines, out: &mut O) -> WriteAnswer
+    ensures puts { Puts lines.now.items (O.text out.old) (O.text out.new) result }
+    ensures cause { HasCause (O.faults out.old) (O.faults out.new) (result ≡ WriteAnswer.Failed) }
+{
+    if lines.is_empty() {
+        return WriteAnswer::Done;
+    }
+    out.put(lines.as_slice())
 }

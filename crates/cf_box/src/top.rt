@@ -1,12 +1,13 @@
 //! The top call.
 ghost use Rattle.std.specs.Prelude.{◌≡◌, ◌≤◌, ◌⊎◌, ◌↔◌, IsNone, List, Some, map, string_bytes, ℕ};
-ghost use Rattle.cf_box.specs.Command.{AsksPair, Packets, Run, Sift};
+ghost use Rattle.cf_box.specs.Command.{AsksPair, Packets, Run, Sift, World};
 ghost use Rattle.cf_box.specs.Ends.{Ends, Meets};
 ghost use Rattle.cf_box.specs.Outside.{FilesNeverFall, files_value, outside_value};
 ghost use Rattle.cf_box.specs.Packets.{Lists};
 ghost use Rattle.cf_box.specs.RunHolds.{RunHolds};
-ghost use Rattle.cf_box.specs.Status.{AsksItsPair, CutsItsCapture, CutsItsStream, EndsItsIdles, IsComplete, IsExactly, IsStatus, LacksItsAsset, RefusesItsCapture, RefusesItsPolicy, SiftPassesAllowed, WritesNothing, outputs_of};
+ghost use Rattle.cf_box.specs.Status.{AsksItsPair, CutsItsCapture, CutsItsStream, EndsItsIdles, IsComplete, IsExactly, IsStatus, LacksItsAsset, RefusesItsCapture, RefusesItsPolicy, SiftPassesAllowed, TakesItsOwn, TellsItsOwn, WritesNothing, outputs_of};
 ghost use Rattle.cf_box.specs.Words.{HasFitWords, command_of, command_value};
+ghost use Rattle.cf_box.specs.World.{WorldHolds};
 ghost use Rattle.cf_outside.specs.Faults.{Rose};
 ghost use Rattle.cf_run.specs.RunCapture.{RunNamesValue};
 ghost use Rattle.cf_sift.specs.Names.{SiftNamesValue};
@@ -19,6 +20,7 @@ use crate::packets::packets;
 use crate::relay::relay;
 use crate::run::run;
 use crate::sift::sift;
+use crate::world::world;
 use cf_lane::{has_one_judgement, lane_passes_allowed};
 use cf_outside::{Files, Pair, Sink};
 use cf_run::runs_have_headline;
@@ -57,7 +59,12 @@ fn perform<F: Files, O: Sink, P: Pair>(
             idles,
             log,
         } => relay(alloc, policy, asset, port, idles, log, files, pair),
-        Command::World { .. } => Err(Stop::Unbuilt),
+        Command::World {
+            seed,
+            sessions,
+            policy,
+            names,
+        } => world(alloc, seed, sessions, policy, &names, files),
     }
 }
 
@@ -66,7 +73,7 @@ fn perform<F: Files, O: Sink, P: Pair>(
 /// Statuses: 0 done; 2 the words have no form; 3 a read failed; 4 a write failed, or work that was done could not be
 /// printed; 5 the policy's text means none; 6 the capture is refused; 7 it ends inside a record; 8 a call on the pair of
 /// streams failed; 9 it answered `Idle` too often; 10 the policy has no asset of the name; 12 a stream is cut; 13 memory ran
-/// out; 14 the input needs a part that is not built.
+/// out.
 pub fn box_main<F: Files, O: Sink, P: Pair>(
     alloc: Global,
     words: &[String],
@@ -125,10 +132,19 @@ pub fn box_main<F: Files, O: Sink, P: Pair>(
         RunHolds policy names (outside_value F.Files O.Sink P.Pair files.old out.old pair.old)
         (outside_value F.Files O.Sink P.Pair files.new out.new pair.new) }
 
+    // A world: what was made, and the headline of its run. What it made is never refused where the files tell what they hold.
+    ensures world { (seed sessions : ℕ) (policy : List ℕ) (names : RunNamesValue) →
+        command_of (map string_bytes words.now) ≡ Some (World seed sessions policy names) → result ≡ 0 →
+        WorldHolds sessions policy names (outside_value F.Files O.Sink P.Pair files.old out.old pair.old)
+        (outside_value F.Files O.Sink P.Pair files.new out.new pair.new) }
+    ensures own { TakesItsOwn (command_of (map string_bytes words.now)) (outside_value F.Files O.Sink P.Pair files.old out.old pair.old) result }
+
     // No file is written but the outputs of the command, and none at all where the words, the policy or the asset are at fault;
     // and nothing is asked of the pair but by a relay.
     ensures kept { KeepsAllBut (F.content files.old) (F.content files.new) (outputs_of (command_of (map string_bytes words.now))) }
-    ensures unwritten { WritesNothing result → F.content files.new ≡ F.content files.old }
+    ensures unwritten { WritesNothing result →
+        TellsItsOwn (command_of (map string_bytes words.now)) (outside_value F.Files O.Sink P.Pair files.old out.old pair.old) →
+        F.content files.new ≡ F.content files.old }
     ensures pair { AsksItsPair (command_of (map string_bytes words.now)) ⊎ (pair.new ≡ pair.old) }
 {
     lane_passes_allowed();

@@ -1,12 +1,38 @@
-//! `world SEED SESSIONS POLICY CAPTURE OUT LOG`: a world is made from a number, and run. It is not built.
+//! `world SEED SESSIONS POLICY CAPTURE OUT LOG`: a policy and a capture are made from a number, and the policy is run over the
+//! capture.
 ghost use Rattle.std.specs.Prelude.{◌≡◌, IfSome, map, option_map, string_bytes};
+ghost use Rattle.cf_box.specs.Command.{World};
+ghost use Rattle.cf_box.specs.Ends.{Meets};
+ghost use Rattle.cf_box.specs.Outside.{FilesNeverFall, PairValue, SinkValue, files_value, outside};
 ghost use Rattle.cf_box.specs.Words.{HasFitWords, command_value};
-ghost use Rattle.cf_box.specs.World.{world_of};
+ghost use Rattle.cf_box.specs.World.{IsFitWorld, world_of};
+ghost use Rattle.cf_run.specs.RunCapture.{run_names_value};
 
 use crate::command::Command;
+use crate::ending::{Done, Stop};
 use crate::names::{are_names, printed_number_in};
+use crate::run::run;
+use cf_outside::Files;
+use cf_run::RunNames;
+use cf_world::{WorldFault, WorldNames, make_world};
+use std::alloc::Global;
+
+impl From<WorldFault> for Stop {
+    ghost use Rattle.std.specs.Prelude.{◌≡◌};
+    ghost use Rattle.cf_box.specs.World.{world_stop};
+
+    ghost from_gives = { λ fault stop. stop ≡ world_stop fault };
+
+    fn from(fault: WorldFault) -> Self {
+        match fault {
+            WorldFault::NoMemory => Stop::NoMemory,
+            WorldFault::Write => Stop::WriteFault,
+        }
+    }
+}
 
 /// The words behind `world`.
+#[tactic(auto, using(crate::proofs::FileNames::world_fit))]
 pub(crate) fn read_world(words: &[String]) -> Option<Command<'_>>
     ensures command { option_map command_value result ≡ world_of (map string_bytes words.now) }
     ensures fit { IfSome result HasFitWords }
@@ -25,8 +51,30 @@ pub(crate) fn read_world(words: &[String]) -> Option<Command<'_>>
         seed,
         sessions,
         policy,
-        capture,
-        out,
-        log,
+        names: RunNames { capture, out, log },
     })
+}
+
+/// Makes the policy and the capture, and runs the one over the other as `run` does.
+pub(crate) fn world<F: Files>(
+    alloc: Global,
+    seed: u64,
+    sessions: u64,
+    policy: &str,
+    names: &RunNames<'_>,
+    files: &mut F,
+) -> Result<Done, Stop>
+    requires { IsFitWorld sessions policy.now (run_names_value names.now) }
+    ensures meets { (sink : SinkValue) (pair : PairValue) → Meets (World seed sessions policy.now (run_names_value names.now))
+        (outside (files_value F.Files files.old) sink pair) (outside (files_value F.Files files.new) sink pair) result }
+    ensures later { FilesNeverFall (files_value F.Files files.old) (files_value F.Files files.new) }
+{
+    let made = WorldNames {
+        policy,
+        capture: names.capture,
+    };
+    match make_world(alloc, seed, sessions as u32, &made, files) {
+        Ok(()) => run(alloc, policy, names, files),
+        Err(fault) => Err(Stop::from(fault)),
+    }
 }

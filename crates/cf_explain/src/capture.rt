@@ -1,10 +1,11 @@
 //! Why a capture was refused or cut, and what to do.
-use cf_pcap::{CAPTURED_LIMIT, Header, HeaderRefusal, RecordAnswer, read_header, read_record};
+ghost use Rattle.std.specs.Prelude.{◌≤◌, ◌^◌};
+
+use cf_outside::{Files, ReadAnswer};
+use cf_pcap::{CAPTURED_LIMIT, HeaderRefusal};
+use cf_run::{NextRecord, OpenFault, RecordReader};
 use std::alloc::{AllocError, Global};
 use std::fmt::Write;
-
-/// Where the first record of a capture begins.
-const RECORDS_AT: usize = 24;
 
 /// The first octets of a pcapng file: the type of its section header. draft-ietf-opsawg-pcapng, section 4.1.
 const PCAPNG: [u8; 4] = [0x0A, 0x0D, 0x0D, 0x0A];
@@ -12,49 +13,36 @@ const PCAPNG: [u8; 4] = [0x0A, 0x0D, 0x0D, 0x0A];
 /// The first octets of a file that gzip made. RFC 1952, section 2.3.1.
 const GZIP: [u8; 2] = [0x1F, 0x8B];
 
-/// What stands at the end of the records that are whole.
-#[derive(Clone, Copy, PartialEq, Eq, Debug)]
-enum Stop {
-    /// The end of the file.
-    End,
-    /// A record inside which the file ends.
-    Cut,
-    /// A record of more octets than are allowed.
-    TooLong,
-}
-
-/// The record at which a listing of a capture ends: its number from 1, and its place in octets from the front.
-#[derive(Clone, Copy, PartialEq, Eq, Debug)]
-struct Ending {
-    number: u64,
-    place: usize,
-    stop: Stop,
-}
-
-/// Why a capture of these octets is refused, or where it is cut, and what to do. Nothing where all of it is read.
-pub fn capture_message(
+/// Why the capture in a file is refused, or where it is cut, and what to do. It is read again, record by record. Nothing where
+/// its records end with the file, and where it cannot be read again, as a pipe.
+pub fn capture_message<F: Files>(
     alloc: Global,
+    files: &mut F,
     file: &str,
-    bytes: &[u8],
 ) -> Result<Option<String>, AllocError> {
     let mut out = String::from_str(alloc, file)?;
     out.push_str(": ")?;
-    match read_header(bytes) {
-        Err(refusal) => push_header(&mut out, refusal, bytes)?,
-        Ok(header) => {
-            if !push_ending(&mut out, ending_of(&header, bytes))? {
-                return Ok(None);
-            }
+    let is_told = match RecordReader::open(alloc, files, file) {
+        Err(OpenFault::Refused(refusal)) => push_header(&mut out, refusal, files, file)?,
+        Err(OpenFault::Read | OpenFault::NoMemory) => false,
+        Ok(mut reader) => {
+            let (number, found) = last_record(&mut reader, files, file);
+            push_record(&mut out, number, reader.place(), found)?
         }
-    }
-    Ok(Some(out))
+    };
+    Ok(if is_told { Some(out) } else { None })
 }
 
-/// Why a header is refused.
-fn push_header(out: &mut String, refusal: HeaderRefusal, bytes: &[u8]) -> Result<(), AllocError> {
+/// Says why a header is refused, and that it did.
+fn push_header<F: Files>(
+    out: &mut String,
+    refusal: HeaderRefusal,
+    files: &mut F,
+    file: &str,
+) -> Result<bool, AllocError> {
     out.push_str(match refusal {
         HeaderRefusal::Short => "it has fewer than 24 bytes, and so is no capture",
-        HeaderRefusal::Magic => magic(bytes),
+        HeaderRefusal::Magic => magic(files, file),
         HeaderRefusal::Version => {
             "its version is not 2.4\n  'editcap -F pcap IN OUT' writes a capture of this version"
         }
@@ -62,61 +50,57 @@ fn push_header(out: &mut String, refusal: HeaderRefusal, bytes: &[u8]) -> Result
             "its link type is neither 1 (Ethernet) nor 101 (raw IP)\n  \
              capture on one interface, as 'tcpdump -i eth0 -w OUT'; '-i any' has another link type"
         }
-    })
+    })?;
+    Ok(true)
 }
 
 /// What a file is that does not begin as a capture.
-fn magic(bytes: &[u8]) -> &'static str {
-    if bytes.starts_with(&PCAPNG) {
-        "it is a pcapng file\n  'editcap -F pcap IN OUT' writes it as pcap"
-    } else if bytes.starts_with(&GZIP) {
-        "it is compressed\n  'gunzip' writes it as it was"
-    } else {
-        "it does not begin as a pcap file\n  'editcap -F pcap IN OUT' writes other captures as pcap"
+fn magic<F: Files>(files: &mut F, file: &str) -> &'static str {
+    let mut first = [0u8; 4];
+    if let ReadAnswer::Got(_) = files.read_at(file, 0, &mut first) {
+        if first == PCAPNG {
+            return "it is a pcapng file\n  'editcap -F pcap IN OUT' writes it as pcap";
+        }
+        if first.starts_with(&GZIP) {
+            return "it is compressed\n  'gunzip' writes it as it was";
+        }
     }
+    "it does not begin as a pcap file\n  'editcap -F pcap IN OUT' writes other captures as pcap"
 }
 
-/// Where the records that are whole end.
-fn ending_of(header: &Header, bytes: &[u8]) -> Ending {
-    let mut place = RECORDS_AT;
+/// What stands behind the whole records of a capture, and the number from 1 that a record there has.
+fn last_record<F: Files>(reader: &mut RecordReader, files: &mut F, file: &str) -> (u64, NextRecord)
+    requires near { reader.old.place ≤ 2 ^ 40 }
+{
     let mut number = 1u64;
-    for _ in 0..bytes.len() {
-        let rest = bytes.get(place..).unwrap_or(b"");
-        let stop = match read_record(header, rest) {
-            RecordAnswer::Whole { used, .. } => {
-                place = place.saturating_add(used);
-                number = number.saturating_add(1);
-                continue;
-            }
-            RecordAnswer::TooLong => Stop::TooLong,
-            RecordAnswer::Need(_) if rest.is_empty() => Stop::End,
-            RecordAnswer::Need(_) => Stop::Cut,
-        };
-        return Ending {
-            number,
-            place,
-            stop,
-        };
-    }
-    Ending {
-        number,
-        place,
-        stop: Stop::End,
+    'records: loop {
+        match reader.next(files, file) {
+            NextRecord::Whole(_) => number = number.saturating_add(1),
+            found => return (number, found),
+        }
     }
 }
 
-/// What is wrong with a record, if something is, and whether it was told.
-fn push_ending(out: &mut String, ending: Ending) -> Result<bool, AllocError> {
-    let (number, place) = (ending.number, ending.place);
-    match ending.stop {
-        Stop::End => return Ok(false),
-        Stop::Cut => write!(
+/// What is wrong with the record at a place, if something is, and whether it was told.
+fn push_record(
+    out: &mut String,
+    number: u64,
+    place: u64,
+    found: NextRecord,
+) -> Result<bool, AllocError> {
+    match found {
+        NextRecord::Whole(_) | NextRecord::End | NextRecord::Failed => return Ok(false),
+        NextRecord::Cut => write!(
             out,
             "the file ends inside record {number}, which begins at byte {place}"
         )?,
-        Stop::TooLong => write!(
+        NextRecord::TooLong => write!(
             out,
             "record {number}, which begins at byte {place}, has more than {CAPTURED_LIMIT} bytes"
+        )?,
+        NextRecord::Large => write!(
+            out,
+            "record {number}, which begins at byte {place}, goes past the first 2^40 bytes of the file"
         )?,
     }
     if number > 1 {

@@ -68,7 +68,7 @@ nothing_dropped (j ∷ js) dropped e g =
     let both = first_none (cut_by j.fate) (cut_of js) e in
     nothing_dropped js dropped both.1 (goes_by (cut_by j.fate) js (GoesOn js dropped) both.0 g)
 
-to_going : (c : Option CutReason) (later : List Judged) (going : Type 0) → c ≡ None → going → GoesOnAfter c later going
+pub to_going : (c : Option CutReason) (later : List Judged) (going : Type 0) → c ≡ None → going → GoesOnAfter c later going
 to_going None later going e g = g
 to_going (Some r) later going e g = cc
 

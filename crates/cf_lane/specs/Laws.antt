@@ -13,6 +13,7 @@ use Rattle.cf_modbus.specs.Adu.{spelling}
 use Rattle.cf_policy.specs.declared.Asset.{Asset}
 use Rattle.cf_policy.specs.declared.Protocol.{Protocol}
 use Rattle.cf_view.specs.Framing.{IsPrefixFree}
+use Rattle.cf_view.specs.Octets.{IsOctets}
 use Rattle.cf_view.specs.declared.Endpoint.{Endpoint}
 use Rattle.cf_view.specs.declared.Side.{Side}
 use Rattle.std.specs.Prelude.{Bool, List, Option, [], length, true, ℕ, ◌*◌, ◌++◌, ◌+◌, ◌∷◌, ◌≡◌, ◌≤◌}
@@ -23,6 +24,13 @@ abbrev pub HasOneJudgement : Type 0
 HasOneJudgement =
     (asset : Asset) (client : ℕ) (h : List Element) (js ks : List Judged) →
     AreJudged asset client h js → AreJudged asset client h ks → js ≡ ks
+
+-- where a history has judged items, it has some with any octets of a side behind it, and with an End behind them. So each
+-- history of octets has judged items
+abbrev pub JudgementsGoOn : Type 0
+JudgementsGoOn =
+    (asset : Asset) (client : ℕ) (h : List Element) (e : Element) (js : List Judged) →
+    AreJudged asset client h js → IsOctets e.letters.bytes → (ks : List Judged) × AreJudged asset client (h ++ e ∷ []) ks
 
 -- an element that is cut in two has the items that it has as a whole, broken or not
 abbrev pub PiecesJoin : Type 0

@@ -1,10 +1,20 @@
 //! Laws of the items of histories: each is the contract of a function that does nothing.
-ghost use Rattle.cf_lane.specs.Laws.{EndJoins, GrowsLittle, HasOneJudgement, JudgedJoin, LanePassesAllowed, NothingTaken, PiecesJoin, QuietBehindEnd, StreamsGoOn, UnitsArePrefixFree};
+ghost use Rattle.cf_lane.specs.Laws.{EndJoins, GrowsLittle, HasOneJudgement, JudgedJoin, JudgementsGoOn, LanePassesAllowed, NothingTaken, PiecesJoin, QuietBehindEnd, StreamsGoOn, UnitsArePrefixFree};
+
+use cf_modbus::each_pdu_has_an_answer;
 
 /// A history has one list of judged items.
 pub fn has_one_judgement()
     ensures { HasOneJudgement }
 {}
+
+/// A history whose items are judged goes on with any octets of a side: those that they complete are judged after the earlier
+/// ones. So each history of octets has a list of judged items.
+pub fn judgements_go_on()
+    ensures { JudgementsGoOn }
+{
+    each_pdu_has_an_answer();
+}
 
 /// However the bytes of a side are cut at one moment, their items are the same, and so are the judged items of each history
 /// with them; bytes without letters change nothing, and an End behind bytes is of their element.

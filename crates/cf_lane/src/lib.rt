@@ -14,7 +14,10 @@ mod wire;
 
 pub use fate::{Fate, Refusal, judge};
 pub use lane::{Fed, Lane};
-pub use laws::{grows_little, has_one_judgement, lane_passes_allowed, pieces_join, streams_go_on};
+pub use laws::{
+    grows_little, has_one_judgement, judgements_go_on, lane_passes_allowed, pieces_join,
+    streams_go_on,
+};
 pub use limit::{LETTER_LIMIT, Lengths, limit_cut};
 pub use log::put_line;
 pub use rows::rows_hold;

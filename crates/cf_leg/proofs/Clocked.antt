@@ -1,7 +1,8 @@
 -- A leg whose clock was called stands for the events with one that has just begun.
-use Rattle.std.proofs.Common.{◌≡◌, ℕ, ◌+◌, ◌%◌, ◌^◌, Bool, true, false, cond, not, ◌&&◌, ◌||◌, List, [], ◌∷◌, length, Option, Some, None, refl, sym, ◌∙◌, ap, subst, arith, inl, inr}
+use Rattle.std.proofs.Common.{◌≡◌, ℕ, ◌+◌, ◌-◌, ◌%◌, ◌^◌, ◌<◌, Bool, true, false, cond, not, ◌&&◌, ◌||◌, List, [], ◌∷◌, length, Option, Some, None, refl, sym, ◌∙◌, ap, subst, arith, inl, inr}
 use Rattle.std.specs.Prelude.{nat_lt, nat_le, ◌==◌}
 use Rattle.std.specs.Option.{option_or, is_some}
+use Rattle.std.proofs.lemmas.Bool.Decides.{nat_tests}
 use Rattle.std.proofs.lemmas.Bool.{cases_Bool, true≢false, false≢true, ltb-true, and_parts}
 use Rattle.cf_outq.specs.SendQueue.{Queue, IsQueue}
 use Rattle.cf_outq.specs.SendQueue.{IsQueueOf}
@@ -12,7 +13,7 @@ use Rattle.cf_stream.specs.Stream.{Stream, letter_count, no_letters}
 use Rattle.cf_leg.proofs.Speech.{told_segment, segment_letters, position_ahead, position_behind, piece_short}
 use Rattle.cf_leg.proofs.Spoken.{parts_told}
 use Rattle.cf_outside.specs.Desk.{DeskValue, SentValue}
-use Rattle.cf_leg.specs.Calls.{AgainBreaks, ClockBreaks, Clocked, SendsAgain, greeting_as, greeting_of, oldest, is_due}
+use Rattle.cf_leg.specs.Calls.{AgainBreaks, AreQuietBeforeDue, ClockBreaks, Clocked, SendsAgain, greeting_as, greeting_of, oldest, is_due}
 use Rattle.cf_leg.specs.Emits.{AllRight, Greets, IsGreeting, fired_at, again, repeats, repeat_open, piece, way_of, send_mss, peer_mss, mss_in, syn, syn_ack_for}
 use Rattle.cf_leg.specs.Emitted.{with_segment}
 use Rattle.cf_leg.specs.Event.{Came, Nothing, Greeting, Packet, Ending, Unspoken, Spoke, Cut, LegEvent, clocked, stream_after, is_settled}
@@ -232,6 +233,13 @@ quiet_of leg q now before k = record {
       (sym (ap (λ (b : Bool). cond (b && nat_lt (tries leg.ends.role es) 6) (repeats leg.ends es) []) (fires_is leg q now es st h [] ∙ k))) refl refl h.of_deadline h.of_fired;
   answer = λ es st h s. sym (ap (λ (b : Bool). cond (not b) answers.Quiet (cond (not (nat_lt (tries leg.ends.role es) 6)) answers.NoAnswer (cond (opened leg.ends.role es && not (nat_lt (acked leg.ends.role es) (letters_sent leg.ends.role es))) answers.Probed answers.Repeated))) (fires_is leg q now es st h [] ∙ k));
 }
+
+not_due : (running : Bool) (deadline now : ℕ) → now < cond running deadline (2 ^ 64 - 1) → (running && nat_le deadline now) ≡ false
+not_due true deadline now h = grind (arith, nat_tests, h)
+not_due false deadline now h = refl
+
+pub quiet_before : AreQuietBeforeDue
+quiet_before leg q now before h = quiet_of leg q now before (not_due leg.running leg.deadline now h)
 
 pub spent_of : (leg : LegValue) (q : Queue) (now : ℕ) (before : Option (List SentValue)) → is_due leg now ≡ true → nat_lt leg.fired 6 ≡ false → Clocked now leg leg q answers.NoAnswer before before
 spent_of leg q now before k m = record {

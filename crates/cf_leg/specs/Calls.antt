@@ -1,5 +1,5 @@
 -- What the calls of a leg do.
-use Rattle.std.specs.Prelude.{◌≡◌, ℕ, ◌+◌, ◌%◌, ◌^◌, nat_lt, nat_le, ◌≤◌, min, max, not, ◌&&◌, ◌||◌, if◌then◌else◌, Bool, true, false, List, [], ◌∷◌, ◌++◌, length, Option, Some, None, ℤ, pos, ◌+ℤ◌}
+use Rattle.std.specs.Prelude.{◌≡◌, ℕ, ◌+◌, ◌%◌, ◌^◌, ◌-◌, ◌<◌, nat_lt, nat_le, ◌≤◌, min, max, not, ◌&&◌, ◌||◌, if◌then◌else◌, Bool, true, false, List, [], ◌∷◌, ◌++◌, length, Option, Some, None, ℤ, pos, ◌+ℤ◌}
 use Rattle.cf_outside.specs.Desk.{DeskValue, SentValue}
 use Rattle.cf_outq.specs.SendQueue.{Queue, carried, queue_length, after_acked, after_shown}
 use Rattle.cf_outq.specs.SendQueue.{IsQueueOf}
@@ -115,12 +115,20 @@ pub record SendsAgain (leg : LegValue) (queue : Queue) (now : ℕ) (given : Cloc
 abbrev pub is_due : LegValue → ℕ → Bool
 is_due leg now = leg.running && nat_le leg.deadline now
 
+-- the moment from which on a clock call does something; the greatest number where none will
+abbrev pub due_of : LegValue → ℕ
+due_of leg = if leg.running then leg.deadline else 2 ^ 64 - 1
+
 -- a clock call at a moment did this; the leg stands for the events with one that has just begun
 pub record Clocked (now : ℕ) (old new : LegValue) (queue : Queue) (given : ClockAnswer) (before after : Option (List SentValue)) : Type 0 where
   pub outs : List PacketValue
   pub packets : after ≡ with_segments before now outs
   pub stands : (es : List LegEvent) → is_settled es ≡ true → IsLegOf old (marks queue) es → IsQueueOf queue (stream_after es) → IsLegOf new (marks queue) (clocked now outs ∷ es)
   pub answer : (es : List LegEvent) → is_settled es ≡ true → IsLegOf old (marks queue) es → IsQueueOf queue (stream_after es) → given ≡ clock_answer old.ends.role es (clocked now outs)
+
+-- before it is due a clock call is quiet, and leaves the leg as it is
+abbrev pub AreQuietBeforeDue : Type 0
+AreQuietBeforeDue = (leg : LegValue) (queue : Queue) (now : ℕ) (before : Option (List SentValue)) → now < due_of leg → Clocked now leg leg queue answers.Quiet before before
 
 -- ---- a packet
 

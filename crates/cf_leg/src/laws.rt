@@ -6,6 +6,7 @@ ghost use Rattle.cf_packet.specs.Packet.{PacketValue};
 ghost use Rattle.cf_stream.specs.Stream.{Stream, Letter, Extends, letter_at, letter_count};
 ghost use Rattle.cf_leg.specs.Emits.{AllRight, IsRight, Pieces, differs, empties, letters_of_all, to_tell};
 ghost use Rattle.cf_leg.specs.Asked.{AllAsked};
+ghost use Rattle.cf_leg.specs.Calls.{AreQuietBeforeDue};
 ghost use Rattle.cf_leg.specs.OneStream.{Grows, IsOneStream, first_carried, first_in};
 ghost use Rattle.cf_leg.specs.LegValue.{Marks, IsLegOf, LegValue, marks};
 ghost use Rattle.cf_rebuild.specs.ReceiveWindow.{base_of};
@@ -19,6 +20,12 @@ ghost use Rattle.cf_leg.specs.Told.{letters_sent, is_greeted, syn_ack, told_by_a
 ghost use Rattle.cf_leg.specs.declared.ends.Ends.{Ends};
 ghost use Rattle.cf_leg.specs.declared.ends.Told.{Told};
 ghost use Rattle.cf_leg.specs.declared.ends.Way.{Way};
+
+/// Before it is due a clock call of a leg is quiet, and leaves the leg as it is.
+#[tactic(auto, using(crate::proofs::Clocked::quiet_before))]
+pub fn clocks_are_quiet_before_due()
+    ensures { AreQuietBeforeDue }
+{}
 
 /// Segments that carry what was not sent are read as that, and as telling one base and edge.
 pub fn pieces_are_read()

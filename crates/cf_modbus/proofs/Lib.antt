@@ -1,4 +1,5 @@
 pub mod ActLists
+mod Answered
 pub mod Framing
 pub mod Fronts
 mod Layouts

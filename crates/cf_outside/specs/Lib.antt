@@ -8,4 +8,5 @@ pub mod MemoryFiles
 pub mod MemoryPair
 pub mod MemorySink
 pub mod Pair
+pub mod Part
 pub mod Sink

@@ -7,7 +7,7 @@ use Rattle.cf_view.specs.declared.Side.{Side}
 use Rattle.cf_view.specs.declared.Side.TheVariants as side
 use Rattle.cf_outside.specs.Faults.{counted}
 use Rattle.cf_outside.specs.Memory.{Counts, next_fail, after_call, after_fault, after_lack, move_limit, names_call, moment_at}
-use Rattle.cf_outside.specs.Pair.{Entry, Met, Moment, Got, Took, Ended, Idle, Finished}
+use Rattle.cf_outside.specs.Pair.{Entry, Met, Moment, Got, Took, Ended, Idle, Finished, met_at}
 use Rattle.cf_outside.specs.declared.files.WriteAnswer.{WriteAnswer}
 use Rattle.cf_outside.specs.declared.files.WriteAnswer.TheVariants as write
 use Rattle.cf_outside.specs.declared.pair.MeetAnswer.{MeetAnswer}
@@ -24,7 +24,7 @@ use Rattle.cf_outside.specs.declared.memory_pair.MemoryPair.{MemoryPair}
 
 -- an answer that was kept, with its bytes as a list
 abbrev pub entry_value : Told → Entry
-entry_value (told.Met client) = Met client
+entry_value (told.Met meeting) = Met meeting
 entry_value (told.Moment now) = Moment now
 entry_value (told.Got side bytes) = Got side bytes.items
 entry_value (told.Took side bytes) = Took side bytes.items
@@ -130,9 +130,10 @@ abbrev pub is_idle : MemoryPairValue → Bool
 is_idle pair = names_call pair.idle (counted pair.counts.calls)
 
 -- the client is met, whatever the port and the peer
-abbrev pub MemoryMeets : MemoryPairValue → MemoryPairValue → MeetAnswer → Type 0
-MemoryMeets old new (met.Met client) = (next_fail old.counts ≡ None) × (client ≡ old.client) × (new ≡ with_answer (Met client) old)
-MemoryMeets old new met.Failed = MemoryFails old new
+abbrev pub MemoryMeets : (listen : ℕ) → (peer : Endpoint) → MemoryPairValue → MemoryPairValue → MeetAnswer → Type 0
+MemoryMeets listen peer old new (met.Met client) =
+    (next_fail old.counts ≡ None) × (client ≡ old.client) × (new ≡ with_answer (met_at listen peer client) old)
+MemoryMeets listen peer old new met.Failed = MemoryFails old new
 
 -- the next moment is told; one that could not be told is told again
 abbrev pub MemoryTellsMoment : MemoryPairValue → MemoryPairValue → MomentAnswer → Type 0

@@ -8,17 +8,18 @@ use Rattle.cf_lane.specs.Limit.{limit_by}
 use Rattle.cf_lane.specs.declared.limit.TheConstants.{LETTER_LIMIT}
 use Rattle.cf_outq.specs.SendQueue.{Queue, queue_length}
 use Rattle.cf_outside.specs.Desk.{DeskValue}
-use Rattle.cf_outside.specs.Faults.{HasCause, Rose}
-use Rattle.cf_outside.specs.Pair.{Entry}
+use Rattle.cf_outside.specs.Faults.{HasCause}
+use Rattle.cf_outside.specs.Pair.{Entry, FaultsBy}
 use Rattle.cf_policy.specs.declared.Asset.{Asset}
 use Rattle.cf_view.specs.declared.Side.{Side}
 use Rattle.cf_view.specs.declared.Side.TheVariants as side
 use Rattle.cf_relay.proofs.Asking.{limit_goes, take_state_of, take_stops}
 use Rattle.cf_relay.proofs.Doing.{by_side}
 use Rattle.cf_relay.proofs.Moving.{ask_moves}
+use Rattle.cf_relay.proofs.Scenes.{faults_of, no_fault, stop_cause}
 use Rattle.cf_relay.proofs.Standing.{TakesTo}
 use Rattle.cf_relay.specs.Relaying.{AsksOrRests, IsShort, RelayingValue, is_closed}
-use Rattle.cf_relay.specs.Scene.{DoesBetween, PairValue, RoseBy, Scene, StopsBetween, StopsBy, scene}
+use Rattle.cf_relay.specs.Scene.{DoesBetween, PairValue, RoseBy, StopsBetween, scene}
 use Rattle.cf_relay.specs.Taken.{LimitBy, TakesBy}
 use Rattle.cf_relay.specs.Turn.{Taking}
 use Rattle.cf_relay.specs.declared.stop.Stop.{Stop}
@@ -48,25 +49,19 @@ takes_controller old lane c k rest letters idle = record {
   closed = by_side (λ t. is_closed t (record old { lane = lane; to_client = c; to_controller = k; controller_rest = rest; controller_letters = letters; idle = idle }) ≡ is_closed t old) refl refl;
 }
 
-take_cause : (why : Stop) (old new : Scene) → (why ≡ stop.Link → Rose old.pair.faults new.pair.faults) → (why ≡ stop.Write → Rose old.desk.faults new.desk.faults) → StopsBy why old new
-take_cause stop.Link old new link write = link refl
-take_cause stop.Idle old new link write = tt
-take_cause stop.Write old new link write = write refl
-take_cause (stop.Cut reason) old new link write = tt
-
 module _ (law : StreamsGoOn) (quiet : QuietBehindEnd) (asset : Asset) (most : ℕ) (s : Side) (old new : RelayingValue) (pair pair' : PairValue) (desk desk' : DeskValue) (few : old.idle < most) (to : TakesTo s old new)
     (idles : (start : ℕ) → RoseBy old.idle start pair.idles → RoseBy new.idle start pair'.idles) (log : WritesLog desk desk')
-    (r : Result (Unit {0}) Stop) (link : HasCause pair.faults pair'.faults (r ≡ Err stop.Link)) (write : HasCause desk.faults desk'.faults (r ≡ Err stop.Write)) where
+    (r : Result (Unit {0}) Stop) (link : FaultsBy pair.faults pair'.faults (r ≡ Err stop.Link)) (write : HasCause desk.faults desk'.faults (r ≡ Err stop.Write)) where
   pub ask_breaks : (why : Stop) → r ≡ Err why → TakesBy asset old.moment most s (take_state_of s old desk.lines pair.told) (take_state_of s new desk'.lines pair'.told) desk' (Err why) →
       StopsBetween asset most (Taking s ∷ []) why (scene old pair desk) (scene new pair' desk')
   ask_breaks why was takes =
       take_stops law quiet asset most s old new pair pair' desk desk' few to link.later idles log why takes
-      (take_cause why (scene old pair desk) (scene new pair' desk') (λ is. link.rose (was ∙ ap Err is)) (λ is. write.rose (was ∙ ap Err is)))
+      (stop_cause why (scene old pair desk) (scene new pair' desk') (faults_of pair.faults pair'.faults r why was link) (λ is. write.rose (was ∙ ap Err is)))
 
-  pub asks : (x : Unit {0}) (full : Result (Unit {0}) Stop) → TakesBy asset old.moment most s (take_state_of s old desk.lines pair.told) (take_state_of s new desk'.lines pair'.told) desk' (Ok x) →
+  pub asks : (x : Unit {0}) → r ≡ Ok x → (full : Result (Unit {0}) Stop) → TakesBy asset old.moment most s (take_state_of s old desk.lines pair.told) (take_state_of s new desk'.lines pair'.told) desk' (Ok x) →
       IsShort old → LimitBy new.client_letters new.controller_letters (queue_length new.to_client) (queue_length new.to_controller) full →
       OnOk full (DoesBetween asset most (Taking s ∷ []) (scene old pair desk) (scene new pair' desk')) × IfErr full (λ why. StopsBetween asset most (Taking s ∷ []) why (scene old pair desk) (scene new pair' desk'))
-  asks x full takes short limit = limit_goes law quiet asset most s old new pair pair' desk desk' few to link.later idles log x full takes (short_none old short) limit
+  asks x was full takes short limit = limit_goes law quiet asset most s old new pair pair' desk desk' few to link.later idles log (no_fault pair.faults pair'.faults r x was link) x full takes (short_none old short) limit
 
 pub asked : (asset : Asset) (most : ℕ) (s : Side) (old new : RelayingValue) (log log' : Option (List (List ℕ))) (told told' : Option (List Entry)) (desk : DeskValue) → old.idle < most → TakesTo s old new → (x : Unit {0}) (full : Result (Unit {0}) Stop) →
     TakesBy asset old.moment most s (take_state_of s old log told) (take_state_of s new log' told') desk (Ok x) → OnOk full (AsksOrRests s most old new)

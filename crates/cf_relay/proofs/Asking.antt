@@ -93,11 +93,12 @@ module _ (law : StreamsGoOn) (quiet : QuietBehindEnd) (asset : Asset) (most : �
   adds_answer answers e = record { tells = e; link = later; idles = idles; log = log }
 
   -- passed over
-  skip_goes : take_state_of s new desk'.lines pair'.told ≡ take_state_of s old desk.lines pair.told → (MayTakeNow s old.to_client old.to_controller → ⊥) →
+  skip_goes : pair'.faults ≡ pair.faults → take_state_of s new desk'.lines pair'.told ≡ take_state_of s old desk.lines pair.told → (MayTakeNow s old.to_client old.to_controller → ⊥) →
       DoesBetween asset most (Taking s ∷ []) (scene old pair desk) (scene new pair' desk')
-  skip_goes same never = record {
+  skip_goes still same never = record {
     answers = [];
     adds = adds_answer [] (ap (λ (x : TakeState). x.told) same ∙ with_none pair.told);
+    still = still;
     does = λ first es st. (
       one_stage asset most (Taking s) es [] (no_take asset most first es old desk.lines st few s never),
       stands_silent asset first es [] old new desk.lines desk'.lines st
@@ -105,11 +106,12 @@ module _ (law : StreamsGoOn) (quiet : QuietBehindEnd) (asset : Asset) (most : �
     );
   }
 
-  take_goes : MayTakeNow s old.to_client old.to_controller → TakesAnswer asset old.moment s None (take_state_of s old desk.lines pair.told) (take_state_of s new desk'.lines pair'.told) →
+  take_goes : pair'.faults ≡ pair.faults → MayTakeNow s old.to_client old.to_controller → TakesAnswer asset old.moment s None (take_state_of s old desk.lines pair.told) (take_state_of s new desk'.lines pair'.told) →
       limit_by LETTER_LIMIT new.client_letters new.controller_letters (queue_length new.to_client) (queue_length new.to_controller) ≡ None → DoesBetween asset most (Taking s ∷ []) (scene old pair desk) (scene new pair' desk')
-  take_goes may takes short = record {
+  take_goes still may takes short = record {
     answers = takes.answer ∷ [];
     adds = adds_answer (takes.answer ∷ []) takes.answers.tells;
+    still = still;
     does = λ first es st. (
       one_stage asset most (Taking s) es (takes.answer ∷ []) (takes_stage asset most first es old desk.lines st few s takes.answer may takes.answers.is_taken),
       stands_heard law asset first es s takes.answer takes.answers.is_taken old desk.lines st new desk'.lines to (open_ended asset most first es old desk.lines st s may.open_still)
@@ -117,12 +119,12 @@ module _ (law : StreamsGoOn) (quiet : QuietBehindEnd) (asset : Asset) (most : �
     );
   }
 
-  full_stops : MayTakeNow s old.to_client old.to_controller → TakesAnswer asset old.moment s None (take_state_of s old desk.lines pair.told) (take_state_of s new desk'.lines pair'.told) → (reason : CutReason) →
+  full_stops : pair'.faults ≡ pair.faults → MayTakeNow s old.to_client old.to_controller → TakesAnswer asset old.moment s None (take_state_of s old desk.lines pair.told) (take_state_of s new desk'.lines pair'.told) → (reason : CutReason) →
       limit_by LETTER_LIMIT new.client_letters new.controller_letters (queue_length new.to_client) (queue_length new.to_controller) ≡ Some reason → StopsBetween asset most (Taking s ∷ []) (stop.Cut reason) (scene old pair desk) (scene new pair' desk')
-  full_stops may takes reason full = record {
+  full_stops still may takes reason full = record {
     answers = takes.answer ∷ [];
     adds = adds_answer (takes.answer ∷ []) takes.answers.tells;
-    cause = tt;
+    cause = still;
     does = λ first es st. (
       one_broken asset most (Taking s) es (takes.answer ∷ []) (takes_stage asset most first es old desk.lines st few s takes.answer may takes.answers.is_taken),
       stands_full law asset first es s takes.answer takes.answers.is_taken old desk.lines st new desk'.lines to (open_ended asset most first es old desk.lines st s may.open_still)
@@ -191,14 +193,14 @@ module _ (law : StreamsGoOn) (quiet : QuietBehindEnd) (asset : Asset) (most : �
       ∙ ap (λ (q : Queue). limit_by LETTER_LIMIT new.client_letters new.controller_letters (queue_length new.to_client) (queue_length q)) (sym (ap (λ (x : TakeState). x.state.to_controller) same))
 
   -- a side that was passed over leaves what it was, which was short
-  pub limit_goes : (x : Unit {0}) (r : Result Unit Stop) → TakesBy asset old.moment most s (take_state_of s old desk.lines pair.told) (take_state_of s new desk'.lines pair'.told) desk' (Ok x) →
+  pub limit_goes : pair'.faults ≡ pair.faults → (x : Unit {0}) (r : Result Unit Stop) → TakesBy asset old.moment most s (take_state_of s old desk.lines pair.told) (take_state_of s new desk'.lines pair'.told) desk' (Ok x) →
       limit_by LETTER_LIMIT old.client_letters old.controller_letters (queue_length old.to_client) (queue_length old.to_controller) ≡ None →
       LimitBy new.client_letters new.controller_letters (queue_length new.to_client) (queue_length new.to_controller) r →
       OnOk r (DoesBetween asset most (Taking s ∷ []) (scene old pair desk) (scene new pair' desk')) × IfErr r (λ why. StopsBetween asset most (Taking s ∷ []) why (scene old pair desk) (scene new pair' desk'))
-  limit_goes x (Ok y) (inl (never, same)) short limit = (skip_goes same never, tt)
-  limit_goes x (Ok y) (inr (may, goes, takes)) short limit = (take_goes may takes limit, tt)
-  limit_goes x (Err stop.Idle) takes short limit = absurd limit
-  limit_goes x (Err stop.Link) takes short limit = absurd limit
-  limit_goes x (Err stop.Write) takes short limit = absurd limit
-  limit_goes x (Err (stop.Cut reason)) (inl (never, same)) short limit = absurd (none_some _ reason (sym (limit_same same) ∙ short) limit)
-  limit_goes x (Err (stop.Cut reason)) (inr (may, goes, takes)) short limit = (tt, full_stops may takes reason limit)
+  limit_goes still x (Ok y) (inl (never, same)) short limit = (skip_goes still same never, tt)
+  limit_goes still x (Ok y) (inr (may, goes, takes)) short limit = (take_goes still may takes limit, tt)
+  limit_goes still x (Err stop.Idle) takes short limit = absurd limit
+  limit_goes still x (Err stop.Link) takes short limit = absurd limit
+  limit_goes still x (Err stop.Write) takes short limit = absurd limit
+  limit_goes still x (Err (stop.Cut reason)) (inl (never, same)) short limit = absurd (none_some _ reason (sym (limit_same same) ∙ short) limit)
+  limit_goes still x (Err (stop.Cut reason)) (inr (may, goes, takes)) short limit = (tt, full_stops still may takes reason limit)

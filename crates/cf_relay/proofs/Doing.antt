@@ -152,11 +152,12 @@ silent_gives s old new log told told' answers is to gave stands = record {
 -- ---- telling
 
 pub tell_goes : (asset : Asset) (most : ℕ) (old : RelayingValue) (pair pair' : PairValue) (desk : DeskValue) (m now : ℕ) → now ≡ max old.moment m → old.idle < most → (AreClosed old → ⊥) → pair'.told ≡ with_entry pair.told (Moment m) →
-    pair.faults ≤ pair'.faults → pair'.idles ≡ pair.idles → DoesBetween asset most (Telling ∷ []) (scene old pair desk) (scene (record old { moment = now }) pair' desk)
-tell_goes asset most old pair pair' desk m now is few still e later same =
+    pair.faults ≤ pair'.faults → pair'.faults ≡ pair.faults → pair'.idles ≡ pair.idles → DoesBetween asset most (Telling ∷ []) (scene old pair desk) (scene (record old { moment = now }) pair' desk)
+tell_goes asset most old pair pair' desk m now is few still e later none same =
     subst (λ n. DoesBetween asset most (Telling ∷ []) (scene old pair desk) (scene (record old { moment = n }) pair' desk)) (sym is) (record {
       answers = Moment m ∷ [];
       adds = record { tells = e; link = later; idles = λ start r. omega (arith, r, same); log = writes_none desk };
+      still = none;
       does = λ first es st. (
         one_stage asset most Telling es (Moment m ∷ []) (tells_stage asset most first es old desk.lines st few still m),
         stands_silent asset first es (Moment m ∷ []) old (record old { moment = max old.moment m }) desk.lines desk.lines st (silent_moment old desk.lines m),
@@ -178,10 +179,11 @@ link_stops asset most ps old pair pair' desk few e rose same later = record {
 module _ (asset : Asset) (most : ℕ) (s : Side) (old new : RelayingValue) (pair pair' : PairValue) (desk : DeskValue) (few : old.idle < most) (to : GivesTo s old new)
     (stands : (w : Stream) → IsQueueOf (queue_to s old) w → IsQueueOf (queue_to s new) w) (later : pair.faults ≤ pair'.faults)
     (idles : (start : ℕ) → RoseBy old.idle start pair.idles → RoseBy new.idle start pair'.idles) where
-  pub give_goes : (x : Unit {0}) → GaveBy s most (queue_to s old) (queue_to s new) pair.told pair'.told old.idle new.idle (Ok x) → DoesBetween asset most (Giving s ∷ []) (scene old pair desk) (scene new pair' desk)
-  give_goes x (answers, gave, gives, goes) = record {
+  pub give_goes : pair'.faults ≡ pair.faults → (x : Unit {0}) → GaveBy s most (queue_to s old) (queue_to s new) pair.told pair'.told old.idle new.idle (Ok x) → DoesBetween asset most (Giving s ∷ []) (scene old pair desk) (scene new pair' desk)
+  give_goes still x (answers, gave, gives, goes) = record {
     answers = answers;
     adds = record { tells = gave.tells; link = later; idles = idles; log = writes_none desk };
+    still = still;
     does = λ first es st. (
       one_stage asset most (Giving s) es answers (gives_stage asset most first es old desk.lines st few s answers gives),
       stands_silent asset first es answers old new desk.lines desk.lines st (silent_gives s old new desk.lines pair.told pair'.told answers (giving_all s (queue_to s old).kept answers gives) to gave stands),
@@ -284,18 +286,20 @@ silent_same s old new log to closed = record {
 
 module _ (asset : Asset) (most : ℕ) (s : Side) (old new : RelayingValue) (pair pair' : PairValue) (desk : DeskValue) (few : old.idle < most) (to : ClosesTo s old new)
     (later : pair.faults ≤ pair'.faults) (same : pair'.idles ≡ pair.idles) where
-  pub finish_goes : (x : Unit {0}) → FinishesBy s (queue_to s old) (is_closed s old) (is_closed s new) pair.told pair'.told (Ok x) → DoesBetween asset most (Finishing s ∷ []) (scene old pair desk) (scene new pair' desk)
-  finish_goes x (inl (last, closed, tells)) = record {
+  pub finish_goes : pair'.faults ≡ pair.faults → (x : Unit {0}) → FinishesBy s (queue_to s old) (is_closed s old) (is_closed s new) pair.told pair'.told (Ok x) → DoesBetween asset most (Finishing s ∷ []) (scene old pair desk) (scene new pair' desk)
+  finish_goes still x (inl (last, closed, tells)) = record {
     answers = Finished s ∷ [];
     adds = record { tells = tells; link = later; idles = λ start r. omega (arith, r, same, to.idle); log = writes_none desk };
+    still = still;
     does = λ first es st. (
       one_stage asset most (Finishing s) es (Finished s ∷ []) (finishes_stage asset most first es old desk.lines st few s last),
       stands_silent asset first es (Finished s ∷ []) old new desk.lines desk.lines st (silent_close s old new desk.lines to closed last),
     );
   }
-  finish_goes x (inr (never, closed, tells)) = record {
+  finish_goes still x (inr (never, closed, tells)) = record {
     answers = [];
     adds = record { tells = tells ∙ with_none pair.told; link = later; idles = λ start r. omega (arith, r, same, to.idle); log = writes_none desk };
+    still = still;
     does = λ first es st. (
       one_stage asset most (Finishing s) es [] (no_finish asset most first es old desk.lines st few s never),
       stands_silent asset first es [] old new desk.lines desk.lines st (silent_same s old new desk.lines to closed),

@@ -1,5 +1,5 @@
 -- What the answers of a relay mean, by what was done and by the last line.
-use Rattle.std.proofs.Common.{Err, List, None, Ok, Option, Result, Some, [], ap, arith, drop, false, inl, inr, length, refl, subst, suc, sym, take, true, ℕ, ◌++◌, ◌<◌, ◌∙◌, ◌∷◌, ◌≡◌}
+use Rattle.std.proofs.Common.{Err, List, None, Ok, Option, Result, Some, [], ap, arith, drop, false, inl, inr, length, refl, subst, suc, sym, take, true, ℕ, ◌++◌, ◌<◌, ◌∙◌, ◌∷◌, ◌≡◌, ◌≤◌}
 use Rattle.std.specs.List.{concat}
 use Rattle.std.specs.Option.{option_or}
 use Rattle.std.proofs.lemmas.List.{append-nil, append_assoc}
@@ -15,7 +15,7 @@ use Rattle.cf_lane.specs.Output.{other, outputs, stream_to}
 use Rattle.cf_lane.specs.declared.limit.TheConstants.{LETTER_LIMIT}
 use Rattle.cf_outq.specs.SendQueue.{IsQueueOf, Queue, empty}
 use Rattle.cf_outside.specs.Desk.{DeskValue}
-use Rattle.cf_outside.specs.Pair.{Entry, Met, Moment, with_entry}
+use Rattle.cf_outside.specs.Pair.{Entry, FaultsBy, Moment, met_at, with_entry}
 use Rattle.cf_policy.specs.declared.Asset.{Asset}
 use Rattle.cf_stream.specs.Stream.{letter_count, no_letters}
 use Rattle.cf_view.specs.declared.Endpoint.{Endpoint}
@@ -29,7 +29,7 @@ use Rattle.cf_relay.specs.Answers.{given, history_of, is_finished, with_answers}
 use Rattle.cf_relay.specs.Closing.{BeginsLines, ClosesWith, StopsWith, desk_log}
 use Rattle.cf_relay.specs.Ends.{EndsAs, GivenAll, IdlesRose, IdlesRoseAt, IsLinkEnd, IsWriteEnd, RelayEnds, close_line, cut_line, log_of}
 use Rattle.cf_relay.specs.Relaying.{RelayingValue, is_closed, letters_from, queue_to}
-use Rattle.cf_relay.specs.Scene.{RoseBy}
+use Rattle.cf_relay.specs.Scene.{RoseBy, Scene, StopsBy}
 use Rattle.cf_relay.specs.Stands.{GivenPrefixes, StandsCut, StandsFor, StandsStopped}
 use Rattle.cf_relay.specs.Taken.{StaysWhole}
 use Rattle.cf_relay.specs.Turn.{AreItemsOf, BeginsStages, IsUnstopped, DoesStages, IsRelayed, Meeting, Telling, cut_at, stages, turns}
@@ -69,57 +69,57 @@ begins_last base log part xs line (inr (added, none)) =
 pub empty_judged : (asset : Asset) (client : ℕ) → AreJudged asset client [] []
 empty_judged asset client = record { items = []; are_items = refl; dropped = []; are_first = refl; goes_on = refl; fates = tt }
 
-module _ (asset : Asset) (most : ℕ) (few : 0 < most) where
+module _ (asset : Asset) (listen most : ℕ) (few : 0 < most) where
   pub goes_first : IsUnstopped asset most []
   goes_first = record { judged = []; are_items = empty_judged asset 0; uncut = refl; idle = few }
 
-  pub goes_met : (client : Endpoint) → IsUnstopped asset most (Met client ∷ [])
+  pub goes_met : (client : Endpoint) → IsUnstopped asset most (met_at listen asset.endpoint client ∷ [])
   goes_met client = record { judged = []; are_items = empty_judged asset client.address; uncut = refl; idle = few }
 
-  pub start_does : (client : Endpoint) (m : ℕ) → DoesStages asset most (Meeting ∷ Telling ∷ []) [] (Met client ∷ Moment m ∷ [])
-  start_does client m = (Met client ∷ [], Moment m ∷ [], refl, (goes_first, (client, refl)), (Moment m ∷ [], [], refl, (goes_met client, (refl, (m, refl))), refl))
+  pub start_does : (client : Endpoint) (m : ℕ) → DoesStages asset most (Meeting listen ∷ Telling ∷ []) [] (met_at listen asset.endpoint client ∷ Moment m ∷ [])
+  start_does client m = (met_at listen asset.endpoint client ∷ [], Moment m ∷ [], refl, (goes_first, (client, refl)), (Moment m ∷ [], [], refl, (goes_met client, (refl, (m, refl))), refl))
 
-  pub relayed_none : IsRelayed asset most []
-  relayed_none = (0, breaks_nothing asset most (stages 0) [])
+  pub relayed_none : IsRelayed asset listen most []
+  relayed_none = (0, breaks_nothing asset most (stages listen 0) [])
 
-  pub relayed_met : (client : Endpoint) → IsRelayed asset most (Met client ∷ [])
-  relayed_met client = (0, inr (Met client ∷ [], [], refl, (goes_first, (client, refl)), breaks_nothing asset most (Telling ∷ []) (Met client ∷ [])))
+  pub relayed_met : (client : Endpoint) → IsRelayed asset listen most (met_at listen asset.endpoint client ∷ [])
+  relayed_met client = (0, inr (met_at listen asset.endpoint client ∷ [], [], refl, (goes_first, (client, refl)), breaks_nothing asset most (Telling ∷ []) (met_at listen asset.endpoint client ∷ [])))
 
-  pub relayed_told : (client : Endpoint) (m : ℕ) → IsRelayed asset most (Met client ∷ Moment m ∷ [])
-  relayed_told client m = (0, does_broken asset most (Meeting ∷ Telling ∷ []) [] [] (Met client ∷ Moment m ∷ []) [] (start_does client m) refl)
+  pub relayed_told : (client : Endpoint) (m : ℕ) → IsRelayed asset listen most (met_at listen asset.endpoint client ∷ Moment m ∷ [])
+  relayed_told client m = (0, does_broken asset most (Meeting listen ∷ Telling ∷ []) [] [] (met_at listen asset.endpoint client ∷ Moment m ∷ []) [] (start_does client m) refl)
 
 -- ---- the ends before the first turn
 
 no_prefixes : (asset : Asset) (es : List Entry) → ((s : Side) → given s es ≡ []) → GivenPrefixes asset es []
 no_prefixes asset es none s = ([], sym (append-nil (given s es) ∙ none s))
 
-module _ (asset : Asset) (most : ℕ) (few : 0 < most) (base : Option (List (List ℕ))) (desk : DeskValue) where
-  pub link_first : desk.lines ≡ base → desk.whole ≡ true → IsLinkEnd asset most (desk_log base desk) []
+module _ (asset : Asset) (listen most : ℕ) (few : 0 < most) (base : Option (List (List ℕ))) (desk : DeskValue) where
+  pub link_first : desk.lines ≡ base → desk.whole ≡ true → IsLinkEnd asset listen most (desk_log base desk) []
   unfolding goes_first
   link_first same whole = record {
-    relayed = relayed_none asset most few;
-    goes = goes_first asset most few;
+    relayed = relayed_none asset listen most few;
+    goes = goes_first asset listen most few;
     prefixes = no_prefixes asset [] (λ s. refl);
     holds_log = (same ∙ with_no_lines base, whole);
   }
 
-  pub link_met : (client : Endpoint) → desk.lines ≡ base → desk.whole ≡ true → IsLinkEnd asset most (desk_log base desk) (Met client ∷ [])
+  pub link_met : (client : Endpoint) → desk.lines ≡ base → desk.whole ≡ true → IsLinkEnd asset listen most (desk_log base desk) (met_at listen asset.endpoint client ∷ [])
   unfolding goes_met
   link_met client same whole = record {
-    relayed = relayed_met asset most few client;
-    goes = goes_met asset most few client;
-    prefixes = no_prefixes asset (Met client ∷ []) (λ s. refl);
+    relayed = relayed_met asset listen most few client;
+    goes = goes_met asset listen most few client;
+    prefixes = no_prefixes asset (met_at listen asset.endpoint client ∷ []) (λ s. refl);
     holds_log = (same ∙ with_no_lines base, whole);
   }
 
-  pub write_told : (client : Endpoint) (m : ℕ) → MayHaveMore (line_about asset client m Begun ∷ []) base desk.lines desk.line_part → IsWriteEnd asset most (desk_log base desk) (Met client ∷ Moment m ∷ [])
+  pub write_told : (client : Endpoint) (m : ℕ) → MayHaveMore (line_about asset client m Begun ∷ []) base desk.lines desk.line_part → IsWriteEnd asset listen most (desk_log base desk) (met_at listen asset.endpoint client ∷ Moment m ∷ [])
   write_told client m may = record {
-    relayed = relayed_told asset most few client m;
+    relayed = relayed_told asset listen most few client m;
     history = [];
     is_short = inl refl;
     judged = [];
     are_judged = empty_judged asset client.address;
-    prefixes = no_prefixes asset (Met client ∷ Moment m ∷ []) (λ s. refl);
+    prefixes = no_prefixes asset (met_at listen asset.endpoint client ∷ Moment m ∷ []) (λ s. refl);
     last = [];
     is_last = inl refl;
     begins = begins_last base desk.lines desk.line_part [] (line_about asset client m Begun) (subst (λ x. MayHaveMore (line_about asset client m Begun ∷ []) x desk.lines desk.line_part) (with_no_lines base) may);
@@ -127,89 +127,89 @@ module _ (asset : Asset) (most : ℕ) (few : 0 < most) (base : Option (List (Lis
 
 -- ---- the ends of the turns
 
-module _ (asset : Asset) (most : ℕ) (few : 0 < most) (client : Endpoint) (m : ℕ) (base : Option (List (List ℕ))) (v : RelayingValue) (desk : DeskValue)
-    (st : StandsFor asset (with_lines base (line_about asset client m Begun ∷ [])) (Met client ∷ Moment m ∷ []) v desk.lines) where
-  does_all : (n : ℕ) (answers : List Entry) → DoesStages asset most (turns n) (Met client ∷ Moment m ∷ []) answers → DoesStages asset most (stages n) [] (Met client ∷ Moment m ∷ answers)
-  does_all n answers d = does_then asset most (Meeting ∷ Telling ∷ []) (turns n) [] (Met client ∷ Moment m ∷ []) answers (start_does asset most few client m) d
+module _ (asset : Asset) (listen most : ℕ) (few : 0 < most) (client : Endpoint) (m : ℕ) (base : Option (List (List ℕ))) (v : RelayingValue) (desk : DeskValue)
+    (st : StandsFor asset (with_lines base (line_about asset client m Begun ∷ [])) (met_at listen asset.endpoint client ∷ Moment m ∷ []) v desk.lines) where
+  does_all : (n : ℕ) (answers : List Entry) → DoesStages asset most (turns n) (met_at listen asset.endpoint client ∷ Moment m ∷ []) answers → DoesStages asset most (stages listen n) [] (met_at listen asset.endpoint client ∷ Moment m ∷ answers)
+  does_all n answers d = does_then asset most (Meeting listen ∷ Telling ∷ []) (turns n) [] (met_at listen asset.endpoint client ∷ Moment m ∷ []) answers (start_does asset listen most few client m) d
 
-  breaks_all : (n : ℕ) (answers : List Entry) → BeginsStages asset most (turns n) (Met client ∷ Moment m ∷ []) answers → IsRelayed asset most (Met client ∷ Moment m ∷ answers)
-  breaks_all n answers b = (n, does_broken asset most (Meeting ∷ Telling ∷ []) (turns n) [] (Met client ∷ Moment m ∷ []) answers (start_does asset most few client m) b)
+  breaks_all : (n : ℕ) (answers : List Entry) → BeginsStages asset most (turns n) (met_at listen asset.endpoint client ∷ Moment m ∷ []) answers → IsRelayed asset listen most (met_at listen asset.endpoint client ∷ Moment m ∷ answers)
+  breaks_all n answers b = (n, does_broken asset most (Meeting listen ∷ Telling ∷ []) (turns n) [] (met_at listen asset.endpoint client ∷ Moment m ∷ []) answers (start_does asset listen most few client m) b)
 
   -- the lines behind the open line
   lines_all : (log : Option (List (List ℕ))) (answers : List Entry) (js : List Judged) → log ≡ with_lines (with_lines base (line_about asset client m Begun ∷ [])) (lines asset client [] js) →
-      log ≡ with_lines base (log_of asset (Met client ∷ Moment m ∷ answers) js)
+      log ≡ with_lines base (log_of asset (met_at listen asset.endpoint client ∷ Moment m ∷ answers) js)
   lines_all log answers js e = e ∙ with_both base (line_about asset client m Begun ∷ []) (lines asset client [] js)
 
-  stands_lines : (answers : List Entry) (now : RelayingValue) (log : Option (List (List ℕ))) (s2 : StandsFor asset (with_lines base (line_about asset client m Begun ∷ [])) (Met client ∷ Moment m ∷ answers) now log) →
-      log ≡ with_lines base (log_of asset (Met client ∷ Moment m ∷ answers) s2.follows.judged)
+  stands_lines : (answers : List Entry) (now : RelayingValue) (log : Option (List (List ℕ))) (s2 : StandsFor asset (with_lines base (line_about asset client m Begun ∷ [])) (met_at listen asset.endpoint client ∷ Moment m ∷ answers) now log) →
+      log ≡ with_lines base (log_of asset (met_at listen asset.endpoint client ∷ Moment m ∷ answers) s2.follows.judged)
   stands_lines answers now log s2 =
       lines_all log answers s2.follows.judged (s2.follows.of_lines ∙ ap (λ c. with_lines (with_lines base (line_about asset client m Begun ∷ [])) (lines asset c [] s2.follows.judged)) s2.client)
 
-  stands_prefixes : (answers : List Entry) (now : RelayingValue) (log : Option (List (List ℕ))) (s2 : StandsFor asset (with_lines base (line_about asset client m Begun ∷ [])) (Met client ∷ Moment m ∷ answers) now log) →
-      GivenPrefixes asset (Met client ∷ Moment m ∷ answers) s2.follows.judged
+  stands_prefixes : (answers : List Entry) (now : RelayingValue) (log : Option (List (List ℕ))) (s2 : StandsFor asset (with_lines base (line_about asset client m Begun ∷ [])) (met_at listen asset.endpoint client ∷ Moment m ∷ answers) now log) →
+      GivenPrefixes asset (met_at listen asset.endpoint client ∷ Moment m ∷ answers) s2.follows.judged
   stands_prefixes answers now log s2 s = ((queue_to s now).kept, s2.front s)
 
-  stands_items : (answers : List Entry) (now : RelayingValue) (log : Option (List (List ℕ))) (s2 : StandsFor asset (with_lines base (line_about asset client m Begun ∷ [])) (Met client ∷ Moment m ∷ answers) now log) →
-      AreItemsOf asset (Met client ∷ Moment m ∷ answers) s2.follows.judged
-  stands_items answers now log s2 = subst (λ (c : Endpoint). AreJudged asset c.address (history_of (Met client ∷ Moment m ∷ answers)) s2.follows.judged) s2.client s2.follows.are_judged
+  stands_items : (answers : List Entry) (now : RelayingValue) (log : Option (List (List ℕ))) (s2 : StandsFor asset (with_lines base (line_about asset client m Begun ∷ [])) (met_at listen asset.endpoint client ∷ Moment m ∷ answers) now log) →
+      AreItemsOf asset (met_at listen asset.endpoint client ∷ Moment m ∷ answers) s2.follows.judged
+  stands_items answers now log s2 = subst (λ (c : Endpoint). AreJudged asset c.address (history_of (met_at listen asset.endpoint client ∷ Moment m ∷ answers)) s2.follows.judged) s2.client s2.follows.are_judged
 
-  stands_uncut : (answers : List Entry) (now : RelayingValue) (log : Option (List (List ℕ))) (s2 : StandsFor asset (with_lines base (line_about asset client m Begun ∷ [])) (Met client ∷ Moment m ∷ answers) now log) →
-      cut_at asset (Met client ∷ Moment m ∷ answers) s2.follows.judged ≡ None
+  stands_uncut : (answers : List Entry) (now : RelayingValue) (log : Option (List (List ℕ))) (s2 : StandsFor asset (with_lines base (line_about asset client m Begun ∷ [])) (met_at listen asset.endpoint client ∷ Moment m ∷ answers) now log) →
+      cut_at asset (met_at listen asset.endpoint client ∷ Moment m ∷ answers) s2.follows.judged ≡ None
   stands_uncut answers now log s2 =
-      ap (λ c. option_or c (limit_cut LETTER_LIMIT (history_of (Met client ∷ Moment m ∷ answers)) (stream_to asset side.Client s2.follows.judged) (stream_to asset side.Controller s2.follows.judged))) s2.follows.is_cut ∙ s2.uncut
+      ap (λ c. option_or c (limit_cut LETTER_LIMIT (history_of (met_at listen asset.endpoint client ∷ Moment m ∷ answers)) (stream_to asset side.Client s2.follows.judged) (stream_to asset side.Controller s2.follows.judged))) s2.follows.is_cut ∙ s2.uncut
 
-  all_given : (answers : List Entry) (now : RelayingValue) (log : Option (List (List ℕ))) (s2 : StandsFor asset (with_lines base (line_about asset client m Begun ∷ [])) (Met client ∷ Moment m ∷ answers) now log) →
-      ((s : Side) → is_closed s now ≡ true) → GivenAll asset (Met client ∷ Moment m ∷ answers) s2.follows.judged
+  all_given : (answers : List Entry) (now : RelayingValue) (log : Option (List (List ℕ))) (s2 : StandsFor asset (with_lines base (line_about asset client m Begun ∷ [])) (met_at listen asset.endpoint client ∷ Moment m ∷ answers) now log) →
+      ((s : Side) → is_closed s now ≡ true) → GivenAll asset (met_at listen asset.endpoint client ∷ Moment m ∷ answers) s2.follows.judged
   all_given answers now log s2 closed = record {
-    bytes = λ s. sym (s2.front s ∙ ap (λ xs. given s (Met client ∷ Moment m ∷ answers) ++ xs) (s2.done s (closed s)).0 ∙ append-nil (given s (Met client ∷ Moment m ∷ answers)));
+    bytes = λ s. sym (s2.front s ∙ ap (λ xs. given s (met_at listen asset.endpoint client ∷ Moment m ∷ answers) ++ xs) (s2.done s (closed s)).0 ∙ append-nil (given s (met_at listen asset.endpoint client ∷ Moment m ∷ answers)));
     closed = λ s. sym (s2.closed s) ∙ closed s;
   }
 
   module _ (answers : List Entry) (now : RelayingValue) (d1 d2 : DeskValue)
-      (s2 : StandsFor asset (with_lines base (line_about asset client m Begun ∷ [])) (Met client ∷ Moment m ∷ answers) now d1.lines) where
+      (s2 : StandsFor asset (with_lines base (line_about asset client m Begun ∷ [])) (met_at listen asset.endpoint client ∷ Moment m ∷ answers) now d1.lines) where
     -- stages that are done break off behind the last
-    breaks_of : (n : ℕ) → DoesStages asset most (turns n) (Met client ∷ Moment m ∷ []) answers → BeginsStages asset most (turns n) (Met client ∷ Moment m ∷ []) answers
+    breaks_of : (n : ℕ) → DoesStages asset most (turns n) (met_at listen asset.endpoint client ∷ Moment m ∷ []) answers → BeginsStages asset most (turns n) (met_at listen asset.endpoint client ∷ Moment m ∷ []) answers
     breaks_of n does =
-        subst (λ ps. BeginsStages asset most ps (Met client ∷ Moment m ∷ []) answers) (append-nil (turns n))
-        (subst (λ (xs : List Entry). BeginsStages asset most (turns n ++ []) (Met client ∷ Moment m ∷ []) xs) (append-nil answers)
-        (does_broken asset most (turns n) [] (Met client ∷ Moment m ∷ []) answers [] does refl))
+        subst (λ ps. BeginsStages asset most ps (met_at listen asset.endpoint client ∷ Moment m ∷ []) answers) (append-nil (turns n))
+        (subst (λ (xs : List Entry). BeginsStages asset most (turns n ++ []) (met_at listen asset.endpoint client ∷ Moment m ∷ []) xs) (append-nil answers)
+        (does_broken asset most (turns n) [] (met_at listen asset.endpoint client ∷ Moment m ∷ []) answers [] does refl))
 
     -- both sides are closed, and the close line is put, or fails
-    pub done_ends : (n : ℕ) → DoesStages asset most (turns n) (Met client ∷ Moment m ∷ []) answers → ((s : Side) → is_closed s now ≡ true) → now.idle < most → (r : Result RelayDone RelayFault) → ClosesWith asset client now d1 d2 r →
-        RelayEnds asset most (desk_log base d2) ⊥ (Met client ∷ Moment m ∷ answers) r
+    pub done_ends : (n : ℕ) → DoesStages asset most (turns n) (met_at listen asset.endpoint client ∷ Moment m ∷ []) answers → ((s : Side) → is_closed s now ≡ true) → now.idle < most → (r : Result RelayDone RelayFault) → ClosesWith asset client now d1 d2 r →
+        RelayEnds asset listen most (desk_log base d2) ⊥ (met_at listen asset.endpoint client ∷ Moment m ∷ answers) r
     unfolding goes_on
     done_ends n does closed idle (Ok d) (is, added, whole) =
-        subst (λ (x : RelayDone). EndsAs asset most (desk_log base d2) (Met client ∷ Moment m ∷ answers) x x.end) (sym is) (record {
+        subst (λ (x : RelayDone). EndsAs asset listen most (desk_log base d2) (met_at listen asset.endpoint client ∷ Moment m ∷ answers) x x.end) (sym is) (record {
           turns = n;
           does = does_all n answers does;
-          goes = goes_on asset most (with_lines base (line_about asset client m Begun ∷ [])) (Met client ∷ Moment m ∷ answers) now d1.lines s2 idle;
+          goes = goes_on asset most (with_lines base (line_about asset client m Begun ∷ [])) (met_at listen asset.endpoint client ∷ Moment m ∷ answers) now d1.lines s2 idle;
           all = all_given answers now d1.lines s2 closed;
           counts = record { admitted = s2.follows.knows.admitted; refused = s2.follows.knows.refused };
           holds_log = (
             added ∙ ap (λ x. with_lines x (line_about asset client now.moment (Close now.lane.admitted now.lane.refused) ∷ [])) (stands_lines answers now d1.lines s2)
-                ∙ with_both base (log_of asset (Met client ∷ Moment m ∷ answers) s2.follows.judged) (line_about asset client now.moment (Close now.lane.admitted now.lane.refused) ∷ [])
-                ∙ ap (λ k. with_lines base (log_of asset (Met client ∷ Moment m ∷ answers) s2.follows.judged ++ line_about asset client k (Close now.lane.admitted now.lane.refused) ∷ [])) s2.moment,
+                ∙ with_both base (log_of asset (met_at listen asset.endpoint client ∷ Moment m ∷ answers) s2.follows.judged) (line_about asset client now.moment (Close now.lane.admitted now.lane.refused) ∷ [])
+                ∙ ap (λ k. with_lines base (log_of asset (met_at listen asset.endpoint client ∷ Moment m ∷ answers) s2.follows.judged ++ line_about asset client k (Close now.lane.admitted now.lane.refused) ∷ [])) s2.moment,
             whole,
           );
         })
     done_ends n does closed idle (Err fault.Write) may = record {
       relayed = breaks_all n answers (breaks_of n does);
-      history = history_of (Met client ∷ Moment m ∷ answers);
+      history = history_of (met_at listen asset.endpoint client ∷ Moment m ∷ answers);
       is_short = inl refl;
       judged = s2.follows.judged;
       are_judged = stands_items answers now d1.lines s2;
       prefixes = stands_prefixes answers now d1.lines s2;
-      last = close_line asset (Met client ∷ Moment m ∷ answers) now.lane.admitted now.lane.refused ∷ [];
+      last = close_line asset (met_at listen asset.endpoint client ∷ Moment m ∷ answers) now.lane.admitted now.lane.refused ∷ [];
       is_last = inr (inr (all_given answers now d1.lines s2 closed, (now.lane.admitted, now.lane.refused, record { admitted = s2.follows.knows.admitted; refused = s2.follows.knows.refused }, refl)));
-      begins = begins_last base d2.lines d2.line_part (log_of asset (Met client ∷ Moment m ∷ answers) s2.follows.judged) (close_line asset (Met client ∷ Moment m ∷ answers) now.lane.admitted now.lane.refused)
-          (subst (λ x. MayHaveMore (close_line asset (Met client ∷ Moment m ∷ answers) now.lane.admitted now.lane.refused ∷ []) x d2.lines d2.line_part) (stands_lines answers now d1.lines s2)
+      begins = begins_last base d2.lines d2.line_part (log_of asset (met_at listen asset.endpoint client ∷ Moment m ∷ answers) s2.follows.judged) (close_line asset (met_at listen asset.endpoint client ∷ Moment m ∷ answers) now.lane.admitted now.lane.refused)
+          (subst (λ x. MayHaveMore (close_line asset (met_at listen asset.endpoint client ∷ Moment m ∷ answers) now.lane.admitted now.lane.refused ∷ []) x d2.lines d2.line_part) (stands_lines answers now d1.lines s2)
           (subst (λ k. MayHaveMore (line_about asset client k (Close now.lane.admitted now.lane.refused) ∷ []) d1.lines d2.lines d2.line_part) s2.moment may));
     }
     done_ends n does closed idle (Err fault.Link) none = absurd none
     done_ends n does closed idle (Err fault.NoMemory) none = absurd none
 
   cut_lines : (answers : List Entry) (now : RelayingValue) (log : Option (List (List ℕ))) (reason : CutReason)
-      (s2 : StandsCut asset (with_lines base (line_about asset client m Begun ∷ [])) (Met client ∷ Moment m ∷ answers) now log reason) → log ≡ with_lines base (log_of asset (Met client ∷ Moment m ∷ answers) s2.judged)
+      (s2 : StandsCut asset (with_lines base (line_about asset client m Begun ∷ [])) (met_at listen asset.endpoint client ∷ Moment m ∷ answers) now log reason) → log ≡ with_lines base (log_of asset (met_at listen asset.endpoint client ∷ Moment m ∷ answers) s2.judged)
   cut_lines answers now log reason s2 = lines_all log answers s2.judged s2.of_lines
 
   begun_lines : (desk : DeskValue) (ls : List (List ℕ)) (count some : ℕ) → desk.lines ≡ with_lines (with_lines base (line_about asset client m Begun ∷ [])) (take count ls) → desk.line_part ≡ take some (concat (drop count ls)) →
@@ -219,12 +219,12 @@ module _ (asset : Asset) (most : ℕ) (few : 0 < most) (client : Endpoint) (m : 
       (suc count, some, e ∙ with_both base (line_about asset client m Begun ∷ []) (take count ls), d)
 
   -- the relay stopped within its turns
-  pub stop_ends : (n : ℕ) (answers : List Entry) (now : RelayingValue) (d1 d2 : DeskValue) (why : Stop) → BeginsStages asset most (turns n) (Met client ∷ Moment m ∷ []) answers →
-      StandsStopped asset most (with_lines base (line_about asset client m Begun ∷ [])) (Met client ∷ Moment m ∷ answers) why now d1 → StaysWhole (Err why) d1 →
-      (r : Result RelayDone RelayFault) → StopsWith asset client now why d1 d2 r → RelayEnds asset most (desk_log base d2) ⊥ (Met client ∷ Moment m ∷ answers) r
+  pub stop_ends : (n : ℕ) (answers : List Entry) (now : RelayingValue) (d1 d2 : DeskValue) (why : Stop) → BeginsStages asset most (turns n) (met_at listen asset.endpoint client ∷ Moment m ∷ []) answers →
+      StandsStopped asset most (with_lines base (line_about asset client m Begun ∷ [])) (met_at listen asset.endpoint client ∷ Moment m ∷ answers) why now d1 → StaysWhole (Err why) d1 →
+      (r : Result RelayDone RelayFault) → StopsWith asset client now why d1 d2 r → RelayEnds asset listen most (desk_log base d2) ⊥ (met_at listen asset.endpoint client ∷ Moment m ∷ answers) r
   unfolding goes_on
   stop_ends n answers now d1 d2 stop.Idle breaks (s2, full) stays r (is, same) =
-      subst (RelayEnds asset most (desk_log base d2) ⊥ (Met client ∷ Moment m ∷ answers)) (sym is) (record {
+      subst (RelayEnds asset listen most (desk_log base d2) ⊥ (met_at listen asset.endpoint client ∷ Moment m ∷ answers)) (sym is) (record {
         judged = s2.follows.judged;
         relayed = breaks_all n answers breaks;
         are_items = stands_items answers now d1.lines s2;
@@ -235,14 +235,14 @@ module _ (asset : Asset) (most : ℕ) (few : 0 < most) (client : Endpoint) (m : 
         holds_log = (ap (λ (d : DeskValue). d.lines) same ∙ stands_lines answers now d1.lines s2, ap (λ (d : DeskValue). d.whole) same ∙ stays);
       })
   stop_ends n answers now d1 d2 stop.Link breaks (s2, fewer) stays r (is, same) =
-      subst (RelayEnds asset most (desk_log base d2) ⊥ (Met client ∷ Moment m ∷ answers)) (sym is) (record {
+      subst (RelayEnds asset listen most (desk_log base d2) ⊥ (met_at listen asset.endpoint client ∷ Moment m ∷ answers)) (sym is) (record {
         relayed = breaks_all n answers breaks;
-        goes = goes_on asset most (with_lines base (line_about asset client m Begun ∷ [])) (Met client ∷ Moment m ∷ answers) now d1.lines s2 fewer;
+        goes = goes_on asset most (with_lines base (line_about asset client m Begun ∷ [])) (met_at listen asset.endpoint client ∷ Moment m ∷ answers) now d1.lines s2 fewer;
         prefixes = stands_prefixes answers now d1.lines s2;
         holds_log = (ap (λ (d : DeskValue). d.lines) same ∙ stands_lines answers now d1.lines s2, ap (λ (d : DeskValue). d.whole) same ∙ stays);
       })
   stop_ends n answers now d1 d2 stop.Write breaks missed stays r (is, same) =
-      subst (RelayEnds asset most (desk_log base d2) ⊥ (Met client ∷ Moment m ∷ answers)) (sym is) (record {
+      subst (RelayEnds asset listen most (desk_log base d2) ⊥ (met_at listen asset.endpoint client ∷ Moment m ∷ answers)) (sym is) (record {
         relayed = breaks_all n answers breaks;
         history = missed.history;
         is_short = missed.is_short;
@@ -251,11 +251,11 @@ module _ (asset : Asset) (most : ℕ) (few : 0 < most) (client : Endpoint) (m : 
         prefixes = missed.prefixes;
         last = [];
         is_last = inl refl;
-        begins = subst (λ (d : DeskValue). BeginsLines base d.lines d.line_part (log_of asset (Met client ∷ Moment m ∷ answers) missed.began.judged ++ [])) (sym same)
+        begins = subst (λ (d : DeskValue). BeginsLines base d.lines d.line_part (log_of asset (met_at listen asset.endpoint client ∷ Moment m ∷ answers) missed.began.judged ++ [])) (sym same)
             (begun_lines d1 (lines asset client [] missed.began.judged) missed.began.count missed.began.some missed.began.of_lines missed.began.of_part);
       })
   stop_ends n answers now d1 d2 (stop.Cut reason) breaks s2 stays (Ok d) (is, added, whole) =
-      subst (λ (x : RelayDone). EndsAs asset most (desk_log base d2) (Met client ∷ Moment m ∷ answers) x x.end) (sym is) (record {
+      subst (λ (x : RelayDone). EndsAs asset listen most (desk_log base d2) (met_at listen asset.endpoint client ∷ Moment m ∷ answers) x x.end) (sym is) (record {
         judged = s2.judged;
         relayed = breaks_all n answers breaks;
         are_items = s2.are_items;
@@ -264,22 +264,22 @@ module _ (asset : Asset) (most : ℕ) (few : 0 < most) (client : Endpoint) (m : 
         counts = s2.counts;
         holds_log = (
           added ∙ ap (λ x. with_lines x (line_about asset client now.moment (Cut reason) ∷ [])) (cut_lines answers now d1.lines reason s2)
-              ∙ with_both base (log_of asset (Met client ∷ Moment m ∷ answers) s2.judged) (line_about asset client now.moment (Cut reason) ∷ [])
-              ∙ ap (λ k. with_lines base (log_of asset (Met client ∷ Moment m ∷ answers) s2.judged ++ line_about asset client k (Cut reason) ∷ [])) s2.moment,
+              ∙ with_both base (log_of asset (met_at listen asset.endpoint client ∷ Moment m ∷ answers) s2.judged) (line_about asset client now.moment (Cut reason) ∷ [])
+              ∙ ap (λ k. with_lines base (log_of asset (met_at listen asset.endpoint client ∷ Moment m ∷ answers) s2.judged ++ line_about asset client k (Cut reason) ∷ [])) s2.moment,
           whole,
         );
       })
   stop_ends n answers now d1 d2 (stop.Cut reason) breaks s2 stays (Err fault.Write) may = record {
     relayed = breaks_all n answers breaks;
-    history = history_of (Met client ∷ Moment m ∷ answers);
+    history = history_of (met_at listen asset.endpoint client ∷ Moment m ∷ answers);
     is_short = inl refl;
     judged = s2.judged;
     are_judged = s2.are_items;
     prefixes = s2.prefixes;
-    last = cut_line asset (Met client ∷ Moment m ∷ answers) reason ∷ [];
+    last = cut_line asset (met_at listen asset.endpoint client ∷ Moment m ∷ answers) reason ∷ [];
     is_last = inr (inl (reason, s2.is_cut, refl));
-    begins = begins_last base d2.lines d2.line_part (log_of asset (Met client ∷ Moment m ∷ answers) s2.judged) (cut_line asset (Met client ∷ Moment m ∷ answers) reason)
-        (subst (λ x. MayHaveMore (cut_line asset (Met client ∷ Moment m ∷ answers) reason ∷ []) x d2.lines d2.line_part) (cut_lines answers now d1.lines reason s2)
+    begins = begins_last base d2.lines d2.line_part (log_of asset (met_at listen asset.endpoint client ∷ Moment m ∷ answers) s2.judged) (cut_line asset (met_at listen asset.endpoint client ∷ Moment m ∷ answers) reason)
+        (subst (λ x. MayHaveMore (cut_line asset (met_at listen asset.endpoint client ∷ Moment m ∷ answers) reason ∷ []) x d2.lines d2.line_part) (cut_lines answers now d1.lines reason s2)
         (subst (λ k. MayHaveMore (line_about asset client k (Cut reason) ∷ []) d1.lines d2.lines d2.line_part) s2.moment may));
   }
   stop_ends n answers now d1 d2 (stop.Cut reason) breaks s2 stays (Err fault.Link) none = absurd none
@@ -308,6 +308,24 @@ stop_idles asset most first es client now d1 d2 start idles stop.Write r st (is,
 stop_idles asset most first es client now d1 d2 start idles (stop.Cut reason) (Ok d) st (is, added, whole) rose = subst (λ (x : RelayDone). IdlesRoseAt most start idles x.end) (sym is) tt
 stop_idles asset most first es client now d1 d2 start idles (stop.Cut reason) (Err e) st h rose = tt
 
+-- the count of the pair's faults rose exactly at Link
+pub close_faults : (asset : Asset) (client : Endpoint) (now : RelayingValue) (d1 d2 : DeskValue) (before after : ℕ) (r : Result RelayDone RelayFault) → ClosesWith asset client now d1 d2 r → after ≡ before →
+    FaultsBy before after (r ≡ Err fault.Link)
+close_faults asset client now d1 d2 before after (Ok d) h same = record { later = omega (arith, same); rose = λ is. cc; still = λ never. same }
+close_faults asset client now d1 d2 before after (Err fault.Write) h same = record { later = omega (arith, same); rose = λ is. cc; still = λ never. same }
+close_faults asset client now d1 d2 before after (Err fault.Link) h same = absurd h
+close_faults asset client now d1 d2 before after (Err fault.NoMemory) h same = absurd h
+
+pub stop_faults : (asset : Asset) (client : Endpoint) (now : RelayingValue) (d1 d2 : DeskValue) (old new : Scene) (why : Stop) (r : Result RelayDone RelayFault) → StopsWith asset client now why d1 d2 r →
+    old.pair.faults ≤ new.pair.faults → StopsBy why old new → FaultsBy old.pair.faults new.pair.faults (r ≡ Err fault.Link)
+stop_faults asset client now d1 d2 old new stop.Idle r (is, same) later cause = record { later = later; rose = λ e. cc; still = λ never. cause }
+stop_faults asset client now d1 d2 old new stop.Link r (is, same) later cause = record { later = later; rose = λ e. cause; still = λ never. absurd (never is) }
+stop_faults asset client now d1 d2 old new stop.Write r (is, same) later cause = record { later = later; rose = λ e. cc; still = λ never. cause.0 }
+stop_faults asset client now d1 d2 old new (stop.Cut reason) (Ok d) h later cause = record { later = later; rose = λ e. cc; still = λ never. cause }
+stop_faults asset client now d1 d2 old new (stop.Cut reason) (Err fault.Write) h later cause = record { later = later; rose = λ e. cc; still = λ never. cause }
+stop_faults asset client now d1 d2 old new (stop.Cut reason) (Err fault.Link) h later cause = absurd h
+stop_faults asset client now d1 d2 old new (stop.Cut reason) (Err fault.NoMemory) h later cause = absurd h
+
 pub some_idle : (idle most : ℕ) → idle < most → 0 < most
 some_idle idle most h = omega (arith, h)
 
@@ -332,34 +350,34 @@ first_value lane m = record {
   idle = 0;
 }
 
-first_by : (asset : Asset) (client : Endpoint) (m : ℕ) (first : Option (List (List ℕ))) (lane : LaneValue) → lane.client ≡ client → Follows asset [] no_rests None first (state lane empty empty first) →
-    StandsFor asset first (Met client ∷ Moment m ∷ []) (first_value lane m) first
-first_by asset client m first lane is f = record {
+first_by : (asset : Asset) (listen : ℕ) (client : Endpoint) (m : ℕ) (first : Option (List (List ℕ))) (lane : LaneValue) → lane.client ≡ client → Follows asset [] no_rests None first (state lane empty empty first) →
+    StandsFor asset first (met_at listen asset.endpoint client ∷ Moment m ∷ []) (first_value lane m) first
+first_by asset listen client m first lane is f = record {
   follows = f;
   uncut = sym (limit_is asset [] f.judged 0 0 empty empty refl refl f.client_stream f.controller_stream);
   client = is;
-  acked = by_side (λ s. (queue_to s (first_value lane m)).acked ≡ length (given s (Met client ∷ Moment m ∷ []))) refl refl;
-  front = by_side (λ s. outputs asset s [] f.judged ≡ given s (Met client ∷ Moment m ∷ []) ++ (queue_to s (first_value lane m)).kept) (sym f.client_stream.kept) (sym f.controller_stream.kept);
-  ended = by_side (λ s. (queue_to s (first_value lane m)).ended ≡ ended_of (other s) (history_of (Met client ∷ Moment m ∷ []))) refl refl;
-  letters = by_side (λ s. letters_from s (first_value lane m) ≡ letter_count (taken s (history_of (Met client ∷ Moment m ∷ [])))) refl refl;
-  closed = by_side (λ s. is_closed s (first_value lane m) ≡ is_finished s (Met client ∷ Moment m ∷ [])) refl refl;
+  acked = by_side (λ s. (queue_to s (first_value lane m)).acked ≡ length (given s (met_at listen asset.endpoint client ∷ Moment m ∷ []))) refl refl;
+  front = by_side (λ s. outputs asset s [] f.judged ≡ given s (met_at listen asset.endpoint client ∷ Moment m ∷ []) ++ (queue_to s (first_value lane m)).kept) (sym f.client_stream.kept) (sym f.controller_stream.kept);
+  ended = by_side (λ s. (queue_to s (first_value lane m)).ended ≡ ended_of (other s) (history_of (met_at listen asset.endpoint client ∷ Moment m ∷ []))) refl refl;
+  letters = by_side (λ s. letters_from s (first_value lane m) ≡ letter_count (taken s (history_of (met_at listen asset.endpoint client ∷ Moment m ∷ [])))) refl refl;
+  closed = by_side (λ s. is_closed s (first_value lane m) ≡ is_finished s (met_at listen asset.endpoint client ∷ Moment m ∷ [])) refl refl;
   done = by_side (λ s. is_closed s (first_value lane m) ≡ true → ((queue_to s (first_value lane m)).kept ≡ []) × ((queue_to s (first_value lane m)).ended ≡ true)) (λ e. cc) (λ e. cc);
   moment = omega arith;
   idle = refl;
 }
 
-pub first_stands : (asset : Asset) (client : Endpoint) (m : ℕ) (first log : Option (List (List ℕ))) (lane : LaneValue) (c k : Queue) (v : RelayingValue) → lane.client ≡ client →
+pub first_stands : (asset : Asset) (listen : ℕ) (client : Endpoint) (m : ℕ) (first log : Option (List (List ℕ))) (lane : LaneValue) (c k : Queue) (v : RelayingValue) → lane.client ≡ client →
     ((c k : Queue) (x : Option (List (List ℕ))) → IsQueueOf c no_letters → IsQueueOf k no_letters → Follows asset [] no_rests None x (state lane c k x)) →
     log ≡ first → c ≡ empty → k ≡ empty →
     v ≡ record { lane = lane; to_client = c; to_controller = k; client_rest = []; controller_rest = []; client_letters = 0; controller_letters = 0; client_finished = false; controller_finished = false; moment = m; idle = 0 } →
-    StandsFor asset first (Met client ∷ Moment m ∷ []) v log
-first_stands asset client m first log lane c k v is follows same qc qk value =
+    StandsFor asset first (met_at listen asset.endpoint client ∷ Moment m ∷ []) v log
+first_stands asset listen client m first log lane c k v is follows same qc qk value =
     let v0 : v ≡ first_value lane m =
     value ∙ ap (λ (q : Queue). record { lane = lane; to_client = q; to_controller = k; client_rest = []; controller_rest = []; client_letters = 0; controller_letters = 0; client_finished = false; controller_finished = false; moment = m; idle = 0 }) qc
     ∙ ap (λ (q : Queue). record { lane = lane; to_client = empty; to_controller = q; client_rest = []; controller_rest = []; client_letters = 0; controller_letters = 0; client_finished = false; controller_finished = false; moment = m; idle = 0 }) qk in
-    subst (λ (x : Option (List (List ℕ))). StandsFor asset first (Met client ∷ Moment m ∷ []) v x) (sym same)
-    (subst (λ (x : RelayingValue). StandsFor asset first (Met client ∷ Moment m ∷ []) x first) (sym v0)
-    (first_by asset client m first lane is (follows empty empty first empty_stands empty_stands)))
+    subst (λ (x : Option (List (List ℕ))). StandsFor asset first (met_at listen asset.endpoint client ∷ Moment m ∷ []) v x) (sym same)
+    (subst (λ (x : RelayingValue). StandsFor asset first (met_at listen asset.endpoint client ∷ Moment m ∷ []) x first) (sym v0)
+    (first_by asset listen client m first lane is (follows empty empty first empty_stands empty_stands)))
 
 pub told_two : (told a b c : Option (List Entry)) (e f : Entry) (xs : List Entry) → a ≡ with_entry told e → b ≡ with_entry a f → c ≡ with_answers b xs → c ≡ with_answers told (e ∷ f ∷ xs)
 told_two told a b c e f xs p q r =

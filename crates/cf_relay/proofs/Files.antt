@@ -20,8 +20,8 @@ use Rattle.cf_relay.specs.declared.done.RelayFault.TheVariants as fault
 
 -- ---- another log
 
-module _ (asset : Asset) (most : ℕ) (P Q : LogContents) (es : List Entry) (all : (ls : List (List ℕ)) → P.Holds ls → Q.Holds ls) (some : (ls : List (List ℕ)) → P.Begins ls → Q.Begins ls) where
-  end_over : (done : RelayDone) (end : RelayEnd) → EndsAs asset most P es done end → EndsAs asset most Q es done end
+module _ (asset : Asset) (listen most : ℕ) (P Q : LogContents) (es : List Entry) (all : (ls : List (List ℕ)) → P.Holds ls → Q.Holds ls) (some : (ls : List (List ℕ)) → P.Begins ls → Q.Begins ls) where
+  end_over : (done : RelayDone) (end : RelayEnd) → EndsAs asset listen most P es done end → EndsAs asset listen most Q es done end
   end_over done ends.Done h = record { turns = h.turns; does = h.does; goes = h.goes; all = h.all; counts = h.counts; holds_log = all _ h.holds_log }
   end_over done ends.IdleEnd h = record {
     judged = h.judged;
@@ -43,11 +43,11 @@ module _ (asset : Asset) (most : ℕ) (P Q : LogContents) (es : List Entry) (all
     holds_log = all _ h.holds_log;
   }
 
-  memory_over : (same : Type 0) → IsMemoryEnd (P.Holds []) ⊥ es → IsMemoryEnd (Q.Holds []) same es
+  memory_over : (same : Type 0) → IsMemoryEnd asset listen (P.Holds []) ⊥ es → IsMemoryEnd asset listen (Q.Holds []) same es
   memory_over same (inl none) = absurd none.1
   memory_over same (inr (met, created)) = inr (met, all [] created)
 
-  pub ends_over : (same : Type 0) (r : Result RelayDone RelayFault) → RelayEnds asset most P ⊥ es r → RelayEnds asset most Q same es r
+  pub ends_over : (same : Type 0) (r : Result RelayDone RelayFault) → RelayEnds asset listen most P ⊥ es r → RelayEnds asset listen most Q same es r
   ends_over same (Ok done) h = end_over done done.end h
   ends_over same (Err fault.Link) h = record { relayed = h.relayed; goes = h.goes; prefixes = h.prefixes; holds_log = all _ h.holds_log }
   ends_over same (Err fault.Write) h = record {
@@ -127,9 +127,9 @@ created_empty untold = refl
 created_empty absent = refl
 created_empty (holds all) = refl
 
-pub write_first : (asset : Asset) (most : ℕ) (first new : Content) → 0 < most → (new ≡ first) ⊎ (new ≡ content_after_create first) → IsWriteEnd asset most (file_log first new) []
-write_first asset most first new few (inl same) = record {
-  relayed = relayed_none asset most few;
+pub write_first : (asset : Asset) (listen most : ℕ) (first new : Content) → 0 < most → (new ≡ first) ⊎ (new ≡ content_after_create first) → IsWriteEnd asset listen most (file_log first new) []
+write_first asset listen most first new few (inl same) = record {
+  relayed = relayed_none asset listen most few;
   history = [];
   is_short = inl refl;
   judged = [];
@@ -139,8 +139,8 @@ write_first asset most first new few (inl same) = record {
   is_last = inl refl;
   begins = λ told. inl same;
 }
-write_first asset most first new few (inr created) = record {
-  relayed = relayed_none asset most few;
+write_first asset listen most first new few (inr created) = record {
+  relayed = relayed_none asset listen most few;
   history = [];
   is_short = inl refl;
   judged = [];
@@ -152,5 +152,5 @@ write_first asset most first new few (inr created) = record {
 }
 
 -- the same log, and nothing is known of want of memory
-pub ends_same : (asset : Asset) (m n : ℕ) (log : LogContents) (es : List Entry) (same : Type 0) (r : Result RelayDone RelayFault) → m ≡ n → RelayEnds asset m log ⊥ es r → RelayEnds asset n log same es r
-ends_same asset m n log es same r e h = subst (λ (k : ℕ). RelayEnds asset k log same es r) e (ends_over asset m log log es (λ ls h. h) (λ ls h. h) same r h)
+pub ends_same : (asset : Asset) (listen m n : ℕ) (log : LogContents) (es : List Entry) (same : Type 0) (r : Result RelayDone RelayFault) → m ≡ n → RelayEnds asset listen m log ⊥ es r → RelayEnds asset listen n log same es r
+ends_same asset listen m n log es same r e h = subst (λ (k : ℕ). RelayEnds asset listen k log same es r) e (ends_over asset listen m log log es (λ ls h. h) (λ ls h. h) same r h)

@@ -1,7 +1,7 @@
 -- Pieces given one after the other.
 use Rattle.std.proofs.Common.{◌≡◌, ◌≤◌, ◌+◌, ℕ, zero, suc, true, List, [], ◌∷◌, ◌++◌, if◌then◌else◌, length, map, take, drop, refl, sym, ap, ◌∙◌, subst, arith, Option, None, Some}
 use Rattle.std.specs.List.{AllByRecursion, concat}
-use Rattle.std.proofs.lemmas.List.{length-append, append_assoc, append-nil, length-take}
+use Rattle.std.proofs.lemmas.List.{length-append, append_assoc, append-nil, length-take, length-take-le}
 use Rattle.cf_outside.specs.Pair.{Entry, Took, with_entry}
 use Rattle.cf_view.specs.declared.Side.{Side}
 use Rattle.cf_view.specs.declared.Side.TheVariants as side
@@ -68,11 +68,6 @@ take_within (suc k) zero xs h = absurd (omega (arith, h))
 take_within (suc k) (suc n) [] h = refl
 take_within (suc k) (suc n) (x ∷ xs) h = ap (λ ys. x ∷ ys) (take_within k n xs (omega (arith, h)))
 
-pub length_take : (k : ℕ) (xs : List ℕ) → k ≤ length xs → length (take k xs) ≡ k
-length_take zero xs h = refl
-length_take (suc k) [] h = absurd (omega (arith, h))
-length_take (suc k) (x ∷ xs) h = ap suc (length_take k xs (omega (arith, h)))
-
 split_at : (k : ℕ) (xs : List ℕ) → xs ≡ take k xs ++ drop k xs
 split_at zero xs = refl
 split_at (suc k) [] = refl
@@ -85,11 +80,11 @@ took_step s queued rest rest' front pieces n k took e most some inside left =
     let same : take k front ≡ take k rest = ap (take k) e ∙ take_within k n rest within in
     took_more s queued pieces rest (take k front) rest' took
     (split_at k rest ∙ ap (λ xs. xs ++ drop k rest) (sym same) ∙ ap (λ xs. take k front ++ xs) (sym left))
-    (omega (arith, some, length_take k front inside), omega (arith, most, inside, length_take k front inside, ap length e, length-take n rest))
+    (omega (arith, some, length-take-le k front inside), omega (arith, most, inside, length-take-le k front inside, ap length e, length-take n rest))
 
 pub acked_step : (a b k : ℕ) (front : List ℕ) (pieces : List (List ℕ)) → b ≡ a + length (concat pieces) → k ≤ length front → b + k ≡ a + length (concat (pieces ++ take k front ∷ []))
 acked_step a b k front pieces e inside =
-    omega (arith, e, ap length (flat_more pieces (take k front)), length-append (concat pieces) (take k front), length_take k front inside)
+    omega (arith, e, ap length (flat_more pieces (take k front)), length-append (concat pieces) (take k front), length-take-le k front inside)
 
 pub tells_step : (s : Side) (told told' told'' : Option (List Entry)) (pieces : List (List ℕ)) (piece : List ℕ) → told' ≡ with_answers told (map (Took s) pieces) → told'' ≡ with_entry told' (Took s piece) →
     told'' ≡ with_answers told (map (Took s) (pieces ++ piece ∷ []))

@@ -5,7 +5,8 @@ use Rattle.std.proofs.lemmas.List.{append-nil}
 use Rattle.cf_lane.specs.Handled.{WritesLog}
 use Rattle.cf_outside.proofs.Desks.{keeps_both, keeps_none}
 use Rattle.cf_outside.specs.Desk.{DeskValue}
-use Rattle.cf_outside.specs.Pair.{Entry}
+use Rattle.cf_outside.specs.Faults.{Rose}
+use Rattle.cf_outside.specs.Pair.{Entry, FaultsBy}
 use Rattle.cf_policy.specs.declared.Asset.{Asset}
 use Rattle.cf_relay.proofs.Giving.{with_more, with_none}
 use Rattle.cf_relay.proofs.Stages.{breaks_more, does_broken, does_then}
@@ -40,6 +41,7 @@ pub goes_none : (asset : Asset) (most : ℕ) (now : Scene) → DoesBetween asset
 goes_none asset most now = record {
   answers = [];
   adds = record { tells = with_none now.pair.told; link = omega arith; idles = λ start r. r; log = writes_none now.desk };
+  still = refl;
   does = λ first es st. (refl, subst (λ (x : List Entry). StandsFor asset first x now.relaying now.desk.lines) (sym (append-nil es)) st);
 }
 
@@ -47,6 +49,7 @@ pub goes_then : (asset : Asset) (most : ℕ) (ps qs : List Stage) (old mid new :
 goes_then asset most ps qs old mid new h g = record {
   answers = h.answers ++ g.answers;
   adds = adds_both old mid new h.answers g.answers h.adds g.adds;
+  still = g.still ∙ h.still;
   does = λ first es st.
       let a = h.does first es st in
       let b = g.does first (es ++ h.answers) a.1 in (
@@ -59,17 +62,17 @@ stopped_at : (asset : Asset) (most : ℕ) (first : Option (List (List ℕ))) (es
     StandsStopped asset most first es why now.relaying now.desk → StandsStopped asset most first fs why now.relaying now.desk
 stopped_at asset most first es fs why now e st = subst (λ (x : List Entry). StandsStopped asset most first x why now.relaying now.desk) e st
 
-cause_later : (why : Stop) (old mid new : Scene) (xs : List Entry) → AddsAnswers old mid xs → StopsBy why mid new → StopsBy why old new
-cause_later stop.Idle old mid new xs h c = tt
-cause_later (stop.Cut reason) old mid new xs h c = tt
-cause_later stop.Link old mid new xs h c = omega (arith, h.link, c)
-cause_later stop.Write old mid new xs h c = omega (arith, h.log.keeps.later, c)
+cause_later : (why : Stop) (old mid new : Scene) (xs : List Entry) → AddsAnswers old mid xs → mid.pair.faults ≡ old.pair.faults → StopsBy why mid new → StopsBy why old new
+cause_later stop.Idle old mid new xs h still c = c ∙ still
+cause_later (stop.Cut reason) old mid new xs h still c = c ∙ still
+cause_later stop.Link old mid new xs h still c = omega (arith, h.link, c)
+cause_later stop.Write old mid new xs h still c = (c.0 ∙ still, omega (arith, h.log.keeps.later, c.1))
 
 pub goes_stops : (asset : Asset) (most : ℕ) (ps qs : List Stage) (why : Stop) (old mid new : Scene) → DoesBetween asset most ps old mid → StopsBetween asset most qs why mid new → StopsBetween asset most (ps ++ qs) why old new
 goes_stops asset most ps qs why old mid new h g = record {
   answers = h.answers ++ g.answers;
   adds = adds_both old mid new h.answers g.answers h.adds g.adds;
-  cause = cause_later why old mid new h.answers h.adds g.cause;
+  cause = cause_later why old mid new h.answers h.adds h.still g.cause;
   does = λ first es st.
       let a = h.does first es st in
       let b = g.does first (es ++ h.answers) a.1 in (
@@ -93,3 +96,22 @@ on_ok (Err e) P Q f p = tt
 pub if_err : {T : Type 0} (r : Result T Stop) (P Q : Stop → Type 0) → ((e : Stop) → P e → Q e) → IfErr r P → IfErr r Q
 if_err (Ok x) P Q f p = tt
 if_err (Err e) P Q f p = f e p
+
+-- ---- the count of faults of a pair
+
+-- no call on the pair failed
+pub no_fault : {T : Type 0} (before now : ℕ) (r : Result T Stop) (x : T) → r ≡ Ok x → FaultsBy before now (r ≡ Err stop.Link) → now ≡ before
+no_fault before now r x was link = link.still (λ is. cc)
+
+pub faults_of : {T : Type 0} (before now : ℕ) (r : Result T Stop) (why : Stop) → r ≡ Err why → FaultsBy before now (r ≡ Err stop.Link) → FaultsBy before now (why ≡ stop.Link)
+faults_of before now r why was link = record {
+  later = link.later;
+  rose = λ is. link.rose (was ∙ ap Err is);
+  still = λ never. link.still (λ is. never cc);
+}
+
+pub stop_cause : (why : Stop) (old new : Scene) → FaultsBy old.pair.faults new.pair.faults (why ≡ stop.Link) → (why ≡ stop.Write → Rose old.desk.faults new.desk.faults) → StopsBy why old new
+stop_cause stop.Link old new link write = link.rose refl
+stop_cause stop.Idle old new link write = link.still (λ is. cc)
+stop_cause stop.Write old new link write = (link.still (λ is. cc), write refl)
+stop_cause (stop.Cut reason) old new link write = link.still (λ is. cc)

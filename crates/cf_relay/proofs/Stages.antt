@@ -136,7 +136,7 @@ does_broken asset most (p ∷ ps) qs a xs ys (now, next, e, whole, later) breaks
 
 -- nothing of them
 begins_nothing : (asset : Asset) (most : ℕ) (p : Stage) (a : List Entry) → BeginsStage asset most p a []
-begins_nothing asset most Meeting a = refl
+begins_nothing asset most (Meeting listen) a = refl
 begins_nothing asset most Telling a = refl
 begins_nothing asset most (Taking s) a = refl
 begins_nothing asset most (Giving s) a = inl refl

@@ -1,7 +1,7 @@
 -- An answer to a side that was asked for bytes.
 use Rattle.std.proofs.Common.{Err, List, None, Ok, Option, Result, [], arith, inr, length, refl, sym, ap, subst, take, ℕ, ◌++◌, ◌+◌, ◌<◌, ◌∙◌, ◌≡◌, ◌≤◌}
 use Rattle.std.specs.Prelude.{OnErr, OnOk}
-use Rattle.std.proofs.lemmas.List.{append-nil}
+use Rattle.std.proofs.lemmas.List.{append-nil, length-take-le}
 use Rattle.cf_lane.specs.Follows.{Follows, with_rest}
 use Rattle.cf_lane.specs.Handled.{IsLaneOf, State, debt}
 use Rattle.cf_lane.specs.History.{Element}
@@ -9,7 +9,6 @@ use Rattle.cf_outside.specs.Desk.{DeskValue}
 use Rattle.cf_outside.specs.Pair.{Ended, Entry, Got, Idle, with_entry}
 use Rattle.cf_policy.specs.declared.Asset.{Asset}
 use Rattle.cf_view.specs.declared.Side.{Side}
-use Rattle.cf_relay.proofs.Giving.{length_take}
 use Rattle.cf_relay.proofs.Hearing.{same_pushed, same_rest}
 use Rattle.cf_relay.specs.Taken.{AnswersTo, IsHeard, MayTakeNow, TakesAnswer, TakesBy, take_state}
 use Rattle.cf_relay.specs.declared.stop.Stop.{Stop}
@@ -50,7 +49,7 @@ module _ (asset : Asset) (moment most : ℕ) (s : Side) (rest : List ℕ) (lette
       (may, stops, ap (λ n. take_state now rest letters n told') i ∙ ap (λ t. take_state now rest letters (idle + 1) t) e)
 
 pub got_size : (n : ℕ) (buf : List ℕ) → 1 ≤ n → n ≤ length buf → length buf ≡ 4096 → (1 ≤ length (take n buf)) × (length (take n buf) ≤ 4096)
-got_size n buf some inside size = (omega (arith, some, length_take n buf inside), omega (arith, inside, size, length_take n buf inside))
+got_size n buf some inside size = (omega (arith, some, length-take-le n buf inside), omega (arith, inside, size, length-take-le n buf inside))
 
 pub got_answers : (s : Side) (bytes : List ℕ) (told told' : Option (List Entry)) (idle letters letters' : ℕ) → 1 ≤ length bytes → length bytes ≤ 4096 → told' ≡ with_entry told (Got s bytes) → letters' ≡ letters + length bytes →
     AnswersTo s (Got s bytes) told told' idle 0 letters letters'

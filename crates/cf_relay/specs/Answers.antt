@@ -14,7 +14,7 @@ with_answers told answers = option_map (λ entries. entries ++ answers) told
 
 -- the clients met
 abbrev pub met_in : Entry → List Endpoint
-met_in (Met client) = client ∷ []
+met_in (Met meeting) = meeting.client ∷ []
 met_in (Moment moment) = []
 met_in (Got s bytes) = []
 met_in (Took s bytes) = []
@@ -32,7 +32,7 @@ client_of es = first_of (flat_map met_in es)
 
 -- the moments told, in microseconds
 abbrev pub told_in : Entry → List ℕ
-told_in (Met client) = []
+told_in (Met meeting) = []
 told_in (Moment moment) = moment ∷ []
 told_in (Got s bytes) = []
 told_in (Took s bytes) = []
@@ -53,7 +53,7 @@ moment_of es = greatest (moments es)
 
 -- the history: one element for each Got and each End, at the greatest moment told before it
 abbrev pub element_of : (moment : ℕ) → Entry → List Element
-element_of moment (Met client) = []
+element_of moment (Met meeting) = []
 element_of moment (Moment other) = []
 element_of moment (Got s bytes) = bytes_at moment s bytes ∷ []
 element_of moment (Took s bytes) = []
@@ -70,7 +70,7 @@ history_of es = history_after [] es
 
 -- the bytes given to a side
 abbrev pub given_in : Side → Entry → List ℕ
-given_in s (Met client) = []
+given_in s (Met meeting) = []
 given_in s (Moment moment) = []
 given_in s (Got of bytes) = []
 given_in s (Took of bytes) = if is_side s of then bytes else []
@@ -83,7 +83,7 @@ given s es = flat_map (given_in s) es
 
 -- the side was closed for sending
 abbrev pub closes : Side → Entry → Bool
-closes s (Met client) = false
+closes s (Met meeting) = false
 closes s (Moment moment) = false
 closes s (Got of bytes) = false
 closes s (Took of bytes) = false
@@ -100,7 +100,7 @@ are_finished es = is_finished side.Client es && is_finished side.Controller es
 
 -- how many answers Idle there are since the last Got, Took or End
 abbrev pub idle_after : ℕ → Entry → ℕ
-idle_after run (Met client) = run
+idle_after run (Met meeting) = run
 idle_after run (Moment moment) = run
 idle_after run (Got of bytes) = 0
 idle_after run (Took of bytes) = 0

@@ -7,7 +7,7 @@ use Rattle.cf_lane.specs.Judged.{Judged}
 use Rattle.cf_lane.specs.Log.{line_about, lines}
 use Rattle.cf_lane.specs.Output.{outputs}
 use Rattle.cf_outside.specs.Files.{Content, IsPartly, absent, content_after_write, holds, untold}
-use Rattle.cf_outside.specs.Pair.{Entry, Met}
+use Rattle.cf_outside.specs.Pair.{Entry, met_at}
 use Rattle.cf_policy.specs.declared.Asset.{Asset}
 use Rattle.cf_view.specs.declared.Endpoint.{Endpoint}
 use Rattle.cf_view.specs.declared.Side.{Side}
@@ -49,18 +49,18 @@ pub record GivenAll (asset : Asset) (es : List Entry) (js : List Judged) : Type 
   pub closed : (s : Side) → is_finished s es ≡ true
 
 -- both sides were given all that was for them, in so many turns, and a close line is the log's last
-pub record IsDone (asset : Asset) (most : ℕ) (log : LogContents) (es : List Entry) (done : RelayDone) : Type 0 where
+pub record IsDone (asset : Asset) (listen most : ℕ) (log : LogContents) (es : List Entry) (done : RelayDone) : Type 0 where
   pub turns : ℕ
-  pub does : DoesStages asset most (stages turns) [] es
+  pub does : DoesStages asset most (stages listen turns) [] es
   pub goes : IsUnstopped asset most es
   pub all : GivenAll asset es goes.judged
   pub counts : IsCounted goes.judged done.admitted done.refused
   pub holds_log : log.Holds (log_of asset es goes.judged ++ close_line asset es done.admitted done.refused ∷ [])
 
 -- the last answer is the Idle that completes their number; nothing cuts
-pub record IsIdleEnd (asset : Asset) (most : ℕ) (log : LogContents) (es : List Entry) (done : RelayDone) : Type 0 where
+pub record IsIdleEnd (asset : Asset) (listen most : ℕ) (log : LogContents) (es : List Entry) (done : RelayDone) : Type 0 where
   pub judged : List Judged
-  pub relayed : IsRelayed asset most es
+  pub relayed : IsRelayed asset listen most es
   pub are_items : AreItemsOf asset es judged
   pub uncut : cut_at asset es judged ≡ None
   pub idle : idle_run es ≡ most
@@ -69,10 +69,10 @@ pub record IsIdleEnd (asset : Asset) (most : ℕ) (log : LogContents) (es : List
   pub holds_log : log.Holds (log_of asset es judged)
 
 -- the list is cut, for this reason, and the cut line is the log's last
-pub record IsCutEnd (asset : Asset) (most : ℕ) (log : LogContents) (es : List Entry) (done : RelayDone)
+pub record IsCutEnd (asset : Asset) (listen most : ℕ) (log : LogContents) (es : List Entry) (done : RelayDone)
     (reason : CutReason) : Type 0 where
   pub judged : List Judged
-  pub relayed : IsRelayed asset most es
+  pub relayed : IsRelayed asset listen most es
   pub are_items : AreItemsOf asset es judged
   pub is_cut : cut_at asset es judged ≡ Some reason
   pub prefixes : GivenPrefixes asset es judged
@@ -80,8 +80,8 @@ pub record IsCutEnd (asset : Asset) (most : ℕ) (log : LogContents) (es : List 
   pub holds_log : log.Holds (log_of asset es judged ++ cut_line asset es reason ∷ [])
 
 -- a call on the pair failed, which adds nothing to the list
-pub record IsLinkEnd (asset : Asset) (most : ℕ) (log : LogContents) (es : List Entry) : Type 0 where
-  pub relayed : IsRelayed asset most es
+pub record IsLinkEnd (asset : Asset) (listen most : ℕ) (log : LogContents) (es : List Entry) : Type 0 where
+  pub relayed : IsRelayed asset listen most es
   pub goes : IsUnstopped asset most es
   pub prefixes : GivenPrefixes asset es goes.judged
   pub holds_log : log.Holds (log_of asset es goes.judged)
@@ -94,8 +94,8 @@ IsLastLine asset es js last =
     (last ≡ close_line asset es admitted refused ∷ []))))
 
 -- a write to the log failed: it has a beginning of the lines, those of an element up to the unit whose line failed
-pub record IsWriteEnd (asset : Asset) (most : ℕ) (log : LogContents) (es : List Entry) : Type 0 where
-  pub relayed : IsRelayed asset most es
+pub record IsWriteEnd (asset : Asset) (listen most : ℕ) (log : LogContents) (es : List Entry) : Type 0 where
+  pub relayed : IsRelayed asset listen most es
   pub history : List Element
   pub is_short : IsCutShort history (history_of es)
   pub judged : List Judged
@@ -106,21 +106,22 @@ pub record IsWriteEnd (asset : Asset) (most : ℕ) (log : LogContents) (es : Lis
   pub begins : log.Begins (log_of asset es judged ++ last)
 
 -- memory was wanting: before the log was created, or behind the meeting, where the log is empty
-abbrev pub IsMemoryEnd : (created same : Type 0) → List Entry → Type 0
-IsMemoryEnd created same es = ((es ≡ []) × same) ⊎ (((client : Endpoint) × (es ≡ Met client ∷ [])) × created)
+abbrev pub IsMemoryEnd : Asset → (listen : ℕ) → (created same : Type 0) → List Entry → Type 0
+IsMemoryEnd asset listen created same es =
+    ((es ≡ []) × same) ⊎ (((client : Endpoint) × (es ≡ met_at listen asset.endpoint client ∷ [])) × created)
 
 -- how a relay ended that no fault stopped
-abbrev pub EndsAs : Asset → (most : ℕ) → LogContents → List Entry → RelayDone → RelayEnd → Type 0
-EndsAs asset most log es done ends.Done = IsDone asset most log es done
-EndsAs asset most log es done ends.IdleEnd = IsIdleEnd asset most log es done
-EndsAs asset most log es done (ends.Cut reason) = IsCutEnd asset most log es done reason
+abbrev pub EndsAs : Asset → (listen most : ℕ) → LogContents → List Entry → RelayDone → RelayEnd → Type 0
+EndsAs asset listen most log es done ends.Done = IsDone asset listen most log es done
+EndsAs asset listen most log es done ends.IdleEnd = IsIdleEnd asset listen most log es done
+EndsAs asset listen most log es done (ends.Cut reason) = IsCutEnd asset listen most log es done reason
 
--- what each answer means
-abbrev pub RelayEnds : Asset → (most : ℕ) → LogContents → (same : Type 0) → List Entry → Result RelayDone RelayFault → Type 0
-RelayEnds asset most log same es (Ok done) = EndsAs asset most log es done done.end
-RelayEnds asset most log same es (Err fault.Link) = IsLinkEnd asset most log es
-RelayEnds asset most log same es (Err fault.Write) = IsWriteEnd asset most log es
-RelayEnds asset most log same es (Err fault.NoMemory) = IsMemoryEnd (log.Holds []) same es
+-- what each answer means, of a relay of a port
+abbrev pub RelayEnds : Asset → (listen most : ℕ) → LogContents → (same : Type 0) → List Entry → Result RelayDone RelayFault → Type 0
+RelayEnds asset listen most log same es (Ok done) = EndsAs asset listen most log es done done.end
+RelayEnds asset listen most log same es (Err fault.Link) = IsLinkEnd asset listen most log es
+RelayEnds asset listen most log same es (Err fault.Write) = IsWriteEnd asset listen most log es
+RelayEnds asset listen most log same es (Err fault.NoMemory) = IsMemoryEnd asset listen (log.Holds []) same es
 
 -- a file is told
 abbrev pub IsFileTold : Content → Type 0

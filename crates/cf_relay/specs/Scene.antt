@@ -48,19 +48,20 @@ pub record AddsAnswers (old new : Scene) (answers : List Entry) : Type 0 where
   pub idles : (start : ℕ) → RoseBy old.relaying.idle start old.pair.idles → RoseBy new.relaying.idle start new.pair.idles
   pub log : WritesLog old.desk new.desk
 
--- the stages are done, whatever list came before
+-- the stages are done, whatever list came before; no call on the pair failed
 pub record DoesBetween (asset : Asset) (most : ℕ) (stages : List Stage) (old new : Scene) : Type 0 where
   pub answers : List Entry
   pub adds : AddsAnswers old new answers
+  pub still : new.pair.faults ≡ old.pair.faults
   pub does : (first : Option (List (List ℕ))) (es : List Entry) → StandsFor asset first es old.relaying old.desk.lines →
       DoesStages asset most stages es answers × StandsFor asset first (es ++ answers) new.relaying new.desk.lines
 
--- a stop has its cause
+-- a stop has its cause; a call on the pair failed in one of them alone
 abbrev pub StopsBy : Stop → (old new : Scene) → Type 0
-StopsBy stop.Idle old new = Unit {0}
-StopsBy (stop.Cut reason) old new = Unit {0}
+StopsBy stop.Idle old new = new.pair.faults ≡ old.pair.faults
+StopsBy (stop.Cut reason) old new = new.pair.faults ≡ old.pair.faults
 StopsBy stop.Link old new = Rose old.pair.faults new.pair.faults
-StopsBy stop.Write old new = Rose old.desk.faults new.desk.faults
+StopsBy stop.Write old new = (new.pair.faults ≡ old.pair.faults) × Rose old.desk.faults new.desk.faults
 
 -- the stages break off, whatever list came before
 pub record StopsBetween (asset : Asset) (most : ℕ) (stages : List Stage) (stop : Stop) (old new : Scene) : Type 0 where

@@ -29,7 +29,7 @@ pub record MayTakeNow (s : Side) (to_client to_controller : Queue) : Type 0 wher
 
 -- how many letters an answer brings
 abbrev pub letters_brought : Entry → ℕ
-letters_brought (Met client) = 0
+letters_brought (Met meeting) = 0
 letters_brought (Moment moment) = 0
 letters_brought (Got s bytes) = length bytes
 letters_brought (Took s bytes) = 0
@@ -45,7 +45,7 @@ pub record OnlyPushed (old new : Queue) : Type 0 where
 
 -- whether a side has ended, behind an answer
 abbrev pub ended_after : Side → Entry → Bool → Bool
-ended_after s (Met client) ended = ended
+ended_after s (Met meeting) ended = ended
 ended_after s (Moment moment) ended = ended
 ended_after s (Got of bytes) ended = ended
 ended_after s (Took of bytes) ended = ended
@@ -73,7 +73,7 @@ pub record IsHeard (asset : Asset) (moment : ℕ) (s : Side) (answer : Entry) (c
 
 -- a line of what came failed, whatever history came before: the log has a beginning of the lines of what was handled
 abbrev pub MissesLine : Asset → (moment : ℕ) → Side → Entry → (rest : List ℕ) → (old : State) → DeskValue → Type 0
-MissesLine asset moment s (Met client) rest old desk = ⊥
+MissesLine asset moment s (Met meeting) rest old desk = ⊥
 MissesLine asset moment s (Moment other) rest old desk = ⊥
 MissesLine asset moment s (Got of bytes) rest old desk =
     (h : List Element) (rests : Rests) (first : Option (List (List ℕ))) → rest ≡ rest_of s rests

@@ -11,7 +11,7 @@ use Rattle.cf_lane.specs.Judged.{Judged, cut_of, has_ended}
 use Rattle.cf_lane.specs.Limit.{limit_cut}
 use Rattle.cf_lane.specs.Output.{other, outputs, stream_to}
 use Rattle.cf_lane.specs.declared.limit.TheConstants.{LETTER_LIMIT}
-use Rattle.cf_outside.specs.Pair.{Ended, Entry, Finished, Got, Idle, Met, Moment, Took}
+use Rattle.cf_outside.specs.Pair.{Ended, Entry, Finished, Got, Idle, Met, Moment, Took, met_at}
 use Rattle.cf_policy.specs.declared.Asset.{Asset}
 use Rattle.cf_stream.specs.Stream.{Stream, letter_count}
 use Rattle.cf_view.specs.declared.Endpoint.{Endpoint}
@@ -51,7 +51,7 @@ pub record MayTake (asset : Asset) (s : Side) (es : List Entry) (js : List Judge
 
 -- an answer to that: one to 4,096 bytes, End, or Idle
 abbrev pub IsTakeAnswer : Side → Entry → Type 0
-IsTakeAnswer s (Met client) = ⊥
+IsTakeAnswer s (Met meeting) = ⊥
 IsTakeAnswer s (Moment moment) = ⊥
 IsTakeAnswer s (Got of bytes) = (of ≡ s) × (1 ≤ length bytes) × (length bytes ≤ 4096)
 IsTakeAnswer s (Took of bytes) = ⊥
@@ -94,7 +94,8 @@ pub record MayFinish (asset : Asset) (s : Side) (es : List Entry) (js : List Jud
   pub first : is_finished s es ≡ false
 
 pub data Stage : Type 0 where
-  Meeting : Stage
+  -- at a port
+  Meeting : ℕ → Stage
   Telling : Stage
   Taking : Side → Stage
   Giving : Side → Stage
@@ -111,13 +112,13 @@ abbrev pub turns : ℕ → List Stage
 turns zero = []
 turns (suc n) = turns n ++ turn
 
--- the meeting, one moment, and then so many turns
-abbrev pub stages : ℕ → List Stage
-stages n = Meeting ∷ Telling ∷ turns n
+-- the meeting at a port, one moment, and then so many turns
+abbrev pub stages : (listen : ℕ) → ℕ → List Stage
+stages listen n = Meeting listen ∷ Telling ∷ turns n
 
--- what a stage adds to the list; no turn begins once both sides are closed
+-- what a stage adds to the list: a client is met beside the controller of the asset; no turn begins once both sides are closed
 abbrev pub HasAnswers : Asset → Stage → (before : List Entry) → List Judged → (answers : List Entry) → Type 0
-HasAnswers asset Meeting before js answers = (client : Endpoint) × (answers ≡ Met client ∷ [])
+HasAnswers asset (Meeting listen) before js answers = (client : Endpoint) × (answers ≡ met_at listen asset.endpoint client ∷ [])
 HasAnswers asset Telling before js answers = (are_finished before ≡ false) × ((moment : ℕ) × (answers ≡ Moment moment ∷ []))
 HasAnswers asset (Taking s) before js answers =
     (MayTake asset s before js × ((answer : Entry) × IsTakeAnswer s answer × (answers ≡ answer ∷ []))) ⊎
@@ -133,7 +134,7 @@ IsStage asset most stage before answers = (goes : IsUnstopped asset most before)
 
 -- a stage that breaks off: nothing of it, or the first of its gives
 abbrev pub BeginsStage : Asset → (most : ℕ) → Stage → (before answers : List Entry) → Type 0
-BeginsStage asset most Meeting before answers = answers ≡ []
+BeginsStage asset most (Meeting listen) before answers = answers ≡ []
 BeginsStage asset most Telling before answers = answers ≡ []
 BeginsStage asset most (Taking s) before answers = answers ≡ []
 BeginsStage asset most (Giving s) before answers =
@@ -155,6 +156,6 @@ BeginsStages asset most (stage ∷ later) before answers =
     ⊎ ((now next : List Entry) × (answers ≡ now ++ next) × IsStage asset most stage before now × BeginsStages asset most later
     (before ++ now) next)
 
--- the list of a relay that stops
-abbrev pub IsRelayed : Asset → (most : ℕ) → List Entry → Type 0
-IsRelayed asset most es = (n : ℕ) × BeginsStages asset most (stages n) [] es
+-- the list of a relay that stops, of a port
+abbrev pub IsRelayed : Asset → (listen most : ℕ) → List Entry → Type 0
+IsRelayed asset listen most es = (n : ℕ) × BeginsStages asset most (stages listen n) [] es

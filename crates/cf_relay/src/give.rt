@@ -1,7 +1,7 @@
 //! A queue's bytes, given to its side of a pair.
 ghost use Rattle.std.specs.Prelude.{◌≡◌, ℕ, ◌+◌, ◌-◌, ◌^◌, ◌<◌, ◌≤◌, Err, min, take, drop, length, pos, true, false};
 ghost use Rattle.cf_outq.specs.SendQueue.{Queue, IsQueue, IsQueueOf, queue_length, after_sent, after_shown, after_acked};
-ghost use Rattle.cf_outside.specs.Faults.{HasCause};
+ghost use Rattle.cf_outside.specs.Pair.{FaultsBy};
 ghost use Rattle.cf_stream.specs.Stream.{Stream};
 ghost use Rattle.cf_relay.specs.Gave.{GaveBy, FinishesBy};
 ghost use Rattle.cf_relay.specs.Scene.{RoseBy};
@@ -72,7 +72,7 @@ pub(crate) fn give_to<P: Pair>(
     requires buffer { length buf.old ≡ 4096 }
     ensures gave { GaveBy side most queue.old queue.new (P.told pair.old) (P.told pair.new) idle.old idle.new result }
     ensures stands { (whole : Stream) → IsQueueOf queue.old whole → IsQueueOf queue.new whole }
-    ensures cause { HasCause (P.faults pair.old) (P.faults pair.new) (result ≡ Err Stop.Link) }
+    ensures cause { FaultsBy (P.faults pair.old) (P.faults pair.new) (result ≡ Err Stop.Link) }
     ensures idles { (start : ℕ) → RoseBy idle.old start (P.idles pair.old) → RoseBy idle.new start (P.idles pair.new) }
     ensures buffer { length buf.new ≡ 4096 }
 {
@@ -100,7 +100,7 @@ pub(crate) fn finish_to<P: Pair>(
     pair: &mut P,
 ) -> Result<(), Stop>
     ensures finishes { FinishesBy side queue.now finished.old finished.new (P.told pair.old) (P.told pair.new) result }
-    ensures cause { HasCause (P.faults pair.old) (P.faults pair.new) (result ≡ Err Stop.Link) }
+    ensures cause { FaultsBy (P.faults pair.old) (P.faults pair.new) (result ≡ Err Stop.Link) }
     ensures idles { P.idles pair.new ≡ P.idles pair.old }
 {
     if *finished || !queue.is_ended() || waiting(queue) > 0 {

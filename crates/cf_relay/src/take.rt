@@ -3,7 +3,7 @@ ghost use Rattle.std.specs.Prelude.{◌≡◌, ◌+◌, ◌*◌, ◌-◌, ◌^�
 ghost use Rattle.cf_outq.specs.SendQueue.{IsQueue, queue_length};
 ghost use Rattle.cf_outside.specs.Desk.{DeskValue};
 ghost use Rattle.cf_outside.specs.Faults.{HasCause};
-ghost use Rattle.cf_outside.specs.Pair.{Ended, Got};
+ghost use Rattle.cf_outside.specs.Pair.{Ended, FaultsBy, Got};
 ghost use Rattle.cf_policy.specs.Within.{IsAssetWithin};
 ghost use Rattle.cf_lane.specs.Handled.{HasRoom, IsLaneOf, IsOpen, WritesLog, debt, state};
 ghost use Rattle.cf_relay.specs.Scene.{RoseBy};
@@ -172,7 +172,7 @@ pub(crate) fn take_from<P: Pair, D: Desk>(
     ensures log { WritesLog (D.value desk.old) (D.value desk.new) }
     ensures write { HasCause (DeskValue.faults (D.value desk.old)) (DeskValue.faults (D.value desk.new))
         (result ≡ Err Stop.Write) }
-    ensures link { HasCause (P.faults pair.old) (P.faults pair.new) (result ≡ Err Stop.Link) }
+    ensures link { FaultsBy (P.faults pair.old) (P.faults pair.new) (result ≡ Err Stop.Link) }
     ensures idles { (start : ℕ) → RoseBy idle.old start (P.idles pair.old) → RoseBy idle.new start (P.idles pair.new) }
     ensures buffer { length buf.new ≡ 4096 }
 {

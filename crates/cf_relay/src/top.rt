@@ -7,7 +7,7 @@ ghost use Rattle.cf_outq.specs.SendQueue.{IsQueueOf, Queue, empty};
 ghost use Rattle.cf_outside.specs.Desk.{DeskValue};
 ghost use Rattle.cf_outside.specs.Faults.{HasCause};
 ghost use Rattle.cf_outside.specs.Files.{Content, KeepsOthers, content_after_create};
-ghost use Rattle.cf_outside.specs.Pair.{Entry, Met, Moment};
+ghost use Rattle.cf_outside.specs.Pair.{Entry, FaultsBy, Moment, met_at};
 ghost use Rattle.cf_policy.specs.Within.{IsAssetWithin};
 ghost use Rattle.cf_relay.specs.Answers.{with_answers};
 ghost use Rattle.cf_relay.specs.Closing.{ClosesWith, IsCutLost, StopsWith, desk_log};
@@ -32,7 +32,7 @@ use cf_policy::Asset;
 use cf_view::Endpoint;
 use std::alloc::Global;
 
-/// Relays between a client, for which it waits on a port, and the controller of an asset, until both sides have ended and
+/// Relays between a client, for which it waits on the port `listen`, and the controller of an asset, until both sides have ended and
 /// were given all, or the session is cut, or twice `idles` answers `Idle` came with no answer between them that moves a
 /// letter. `idles` is from 1 to 1,000,000. The log is created before the client is met. It gets a line as the session begins,
 /// one for each command that is refused and each stray or partial item, and one as the session closes or is cut, each with
@@ -53,10 +53,10 @@ pub fn relay<P: Pair, F: Files>(
     requires within { IsAssetWithin asset.now }
     requires idles { (1 ≤ idles) × (idles ≤ 1000000) }
     ensures ends { (answers : List Entry) × (P.told pair.new ≡ with_answers (P.told pair.old) answers)
-        × RelayEnds asset.now (2 * idles) (file_log (F.content files.old log.now) (F.content files.new log.now))
+        × RelayEnds asset.now listen (2 * idles) (file_log (F.content files.old log.now) (F.content files.new log.now))
         (F.content files.new log.now ≡ F.content files.old log.now) answers result }
     ensures idle { IdlesRose (2 * idles) (P.idles pair.old) (P.idles pair.new) result }
-    ensures link { HasCause (P.faults pair.old) (P.faults pair.new) (result ≡ Err RelayFault.Link) }
+    ensures link { FaultsBy (P.faults pair.old) (P.faults pair.new) (result ≡ Err RelayFault.Link) }
     ensures write { HasCause (F.write_faults files.old) (F.write_faults files.new) (result ≡ Err RelayFault.Write) }
     ensures reads { F.read_faults files.new ≡ F.read_faults files.old }
     ensures others { KeepsOthers log.now (F.content files.old) (F.content files.new) }
@@ -106,9 +106,9 @@ fn relay_logged<P: Pair, F: Files>(
     requires created { (first : Content) × (F.content files.old log.now ≡ content_after_create first) }
     ensures ends { (first : Content) → F.content files.old log.now ≡ content_after_create first → (answers : List Entry) ×
         (P.told pair.new ≡ with_answers (P.told pair.old) answers)
-        × RelayEnds asset.now most (file_log first (F.content files.new log.now)) ⊥ answers result }
+        × RelayEnds asset.now listen most (file_log first (F.content files.new log.now)) ⊥ answers result }
     ensures idle { IdlesRose most (P.idles pair.old) (P.idles pair.new) result }
-    ensures link { HasCause (P.faults pair.old) (P.faults pair.new) (result ≡ Err RelayFault.Link) }
+    ensures link { FaultsBy (P.faults pair.old) (P.faults pair.new) (result ≡ Err RelayFault.Link) }
     ensures write { HasCause (F.write_faults files.old) (F.write_faults files.new) (result ≡ Err RelayFault.Write) }
     ensures reads { F.read_faults files.new ≡ F.read_faults files.old }
     ensures others { KeepsOthers log.now (F.content files.old) (F.content files.new) }
@@ -149,9 +149,9 @@ fn relay_desk<P: Pair, D: Desk>(
     requires client_stands { IsQueueOf to_client no_letters }
     requires controller_stands { IsQueueOf to_controller no_letters }
     ensures ends { (answers : List Entry) × (P.told pair.new ≡ with_answers (P.told pair.old) answers)
-        × RelayEnds asset.now most (desk_log (DeskValue.lines (D.value desk.old)) (D.value desk.new)) ⊥ answers result }
+        × RelayEnds asset.now listen most (desk_log (DeskValue.lines (D.value desk.old)) (D.value desk.new)) ⊥ answers result }
     ensures idle { IdlesRose most (P.idles pair.old) (P.idles pair.new) result }
-    ensures link { HasCause (P.faults pair.old) (P.faults pair.new) (result ≡ Err RelayFault.Link) }
+    ensures link { FaultsBy (P.faults pair.old) (P.faults pair.new) (result ≡ Err RelayFault.Link) }
     ensures write { HasCause (DeskValue.faults (D.value desk.old)) (DeskValue.faults (D.value desk.new))
         (result ≡ Err RelayFault.Write) }
     ensures log { WritesLog (D.value desk.old) (D.value desk.new) }
@@ -224,16 +224,17 @@ fn relay_turns<P: Pair, D: Desk>(
     requires sound { IsSound asset.now most (relaying_value relaying) }
     requires still { AreClosed (relaying_value relaying) → ⊥ }
     requires whole { DeskValue.whole (D.value desk.old) ≡ true }
-    ensures ends { (base : Option (List (List ℕ))) (m : ℕ)
-        → StandsFor asset.now (with_lines base (line_about asset.now client m Begun ∷ [])) (Met client ∷ Moment m ∷ [])
+    ensures ends { (base : Option (List (List ℕ))) (listen m : ℕ)
+        → StandsFor asset.now (with_lines base (line_about asset.now client m Begun ∷ [])) (met_at listen asset.now.endpoint client ∷ Moment m ∷ [])
         (relaying_value relaying) (DeskValue.lines (D.value desk.old))
         → (answers : List Entry) × (P.told pair.new ≡ with_answers (P.told pair.old) answers)
-        × RelayEnds asset.now most (desk_log base (D.value desk.new)) ⊥ (Met client ∷ Moment m ∷ answers) result }
-    ensures idle { (base : Option (List (List ℕ))) (m : ℕ)
-        → StandsFor asset.now (with_lines base (line_about asset.now client m Begun ∷ [])) (Met client ∷ Moment m ∷ [])
+        × RelayEnds asset.now listen most (desk_log base (D.value desk.new)) ⊥
+        (met_at listen asset.now.endpoint client ∷ Moment m ∷ answers) result }
+    ensures idle { (base : Option (List (List ℕ))) (listen m : ℕ)
+        → StandsFor asset.now (with_lines base (line_about asset.now client m Begun ∷ [])) (met_at listen asset.now.endpoint client ∷ Moment m ∷ [])
         (relaying_value relaying) (DeskValue.lines (D.value desk.old))
         → (start : ℕ) → RoseBy relaying.idle start (P.idles pair.old) → IdlesRose most start (P.idles pair.new) result }
-    ensures link { HasCause (P.faults pair.old) (P.faults pair.new) (result ≡ Err RelayFault.Link) }
+    ensures link { FaultsBy (P.faults pair.old) (P.faults pair.new) (result ≡ Err RelayFault.Link) }
     ensures write { HasCause (DeskValue.faults (D.value desk.old)) (DeskValue.faults (D.value desk.new))
         (result ≡ Err RelayFault.Write) }
     ensures log { WritesLog (D.value desk.old) (D.value desk.new) }

@@ -47,14 +47,14 @@ length_without xs None inside = refl
 length_without xs (Some place) inside = omega (arith, length-remove xs place (inside place refl))
 
 -- the session that began stands last
-pub begun_last : (assets : List Asset) (now place : ℕ) (closed : Option ℕ) (flow : Flow) (table : List Session) (entries : List Entry) (old new : Told) (s : SessionValue) →
+pub begun_last : (assets : List Asset) (now place : ℕ) (closed : Option ℕ) (flow : Flow) (table : List Session) (entries : List Entry) (old new : Told) (s : SessionValue) (due : ℕ) →
     1 ≤ now → AreAll assets now entries table → slice_get assets place ≡ Some flow.asset → closed ≡ place_of (client_of flow) flow.asset.endpoint table →
     Begins flow (now - 1) s old new →
-    (event : SessionEvent) × Beginning assets now flow table (without_at entries closed ++ record { session = s; asset = place } ∷ []) old new event
-begun_last assets now place closed flow table entries old new s some all at is b =
+    (event : SessionEvent) × Beginning assets now flow table (without_at entries closed ++ record { session = s; asset = place; due = due } ∷ []) old new event
+begun_last assets now place closed flow table entries old new s due some all at is b =
     let e = b.event in
     let tick : e.client.tick ≡ now - 1 = ap (λ (l : LegEvent). l.tick) b.is_beginning.client in
-    let one : IsOneBy assets now (record { session = s; asset = place }) flow [] e =
+    let one : IsOneBy assets now (record { session = s; asset = place; due = due }) flow [] e =
     record { stands = b.stands; asset = at; last_moment = omega (arith, tick, some) } in
     let rest : AreAll assets now (without_at entries closed) (without (client_of flow) flow.asset.endpoint table) =
     subst (λ o. AreAll assets now (without_at entries closed) (elim o [ Some place ↦ remove table place | None ↦ table ])) is (all_without assets now entries table closed all) in (
@@ -62,6 +62,6 @@ begun_last assets now place closed flow table entries old new s some all at is b
       record {
         is = b.is_beginning;
         told = b.told;
-        all = all-one assets now (without_at entries closed) (without (client_of flow) flow.asset.endpoint table) (record { session = s; asset = place }) (record { flow = flow; events = e ∷ [] }) rest one;
+        all = all-one assets now (without_at entries closed) (without (client_of flow) flow.asset.endpoint table) (record { session = s; asset = place; due = due }) (record { flow = flow; events = e ∷ [] }) rest one;
       },
     )

@@ -1,5 +1,5 @@
 -- A run whose two outputs were created.
-use Rattle.std.proofs.Common.{◌≡◌, ℕ, List, [], Ok, Err, Result, refl, subst, inr}
+use Rattle.std.proofs.Common.{◌≡◌, ℕ, List, [], ◌∷◌, ◌++◌, Ok, Err, Result, refl, subst, inr}
 use Rattle.cf_outside.specs.Files.{Content, untold, absent, holds, IsWhole, content_after_create, content_after_write}
 use Rattle.cf_pcap.specs.Capture.{AtPlace}
 use Rattle.cf_pcap.specs.Header.{output_octets}
@@ -7,7 +7,8 @@ use Rattle.cf_pcap.specs.Record.{Record}
 use Rattle.cf_pcap.specs.declared.header.Header.{Header}
 use Rattle.cf_policy.specs.declared.Asset.{Asset}
 use Rattle.cf_run.specs.Reader.{HasHeader}
-use Rattle.cf_run.specs.RunCapture.{BeginsWithRecords, HasRecords, HoldsOctets, LeavesRun, RunNamesValue, RunsAs, RunsPartly, RunsRecords, RunsTo}
+use Rattle.cf_run.specs.RunCapture.{BeginsWithRecords, BreaksOff, HasRecords, HoldsOctets, LeavesRun, RunNamesValue, RunsAs, RunsPartly, RunsRecords, RunsTo, StopsBetween, StopsIn}
+use Rattle.cf_run.specs.Trace.{Event, Input}
 use Rattle.cf_run.specs.declared.run.RunFault.{RunFault}
 use Rattle.cf_run.specs.declared.run.RunFault.TheVariants as fault
 use Rattle.cf_run.specs.declared.run.RunRefusal.TheVariants as refusal
@@ -37,14 +38,20 @@ held_created (holds all) after octets h = h
 
 module _ (assets : List Asset) (limit : ℕ) (names : RunNamesValue) (before created after : List ℕ → Content) (capture : created names.capture ≡ before names.capture)
     (out : created names.out ≡ content_after_write (before names.out) output_octets) (log : created names.log ≡ content_after_create (before names.log)) where
+  out_held : (octets : List ℕ) → HoldsOctets (created names.out) (after names.out) octets → HoldsOctets (before names.out) (after names.out) octets
+  out_held octets h = held_written (before names.out) (after names.out) output_octets octets (subst (λ f. HoldsOctets f (after names.out) octets) out h)
+
+  log_held : (octets : List ℕ) → HoldsOctets (created names.log) (after names.log) octets → HoldsOctets (before names.log) (after names.log) octets
+  log_held octets h = held_created (before names.log) (after names.log) octets (subst (λ f. HoldsOctets f (after names.log) octets) log h)
+
   leaves : (header : Header) (records : List Record) (summary : Summary) → LeavesRun assets limit names created after header records summary →
       LeavesRun assets limit names before after header records summary
   leaves header records summary l = record {
     out = l.out;
     log = l.log;
     is_run = l.is_run;
-    in_out = held_written (before names.out) (after names.out) output_octets l.out (subst (λ f. HoldsOctets f (after names.out) l.out) out l.in_out);
-    in_log = held_created (before names.log) (after names.log) l.log (subst (λ f. HoldsOctets f (after names.log) l.log) log l.in_log);
+    in_out = out_held l.out l.in_out;
+    in_log = log_held l.log l.in_log;
   }
 
   runs_to : (found : AtPlace) (place : ℕ) (summary : Summary) → RunsTo assets limit names created after found place summary → RunsTo assets limit names before after found place summary
@@ -66,12 +73,48 @@ module _ (assets : List Asset) (limit : ℕ) (names : RunNamesValue) (before cre
     leaves = leaves r.header r.records r.summary r.leaves;
   }
 
+  stops_in : (events : List Event) (input : Input) → StopsIn assets limit names created after events input → StopsIn assets limit names before after events input
+  stops_in events input s = record {
+    header = s.header;
+    has_header = subst (λ f. HasHeader f (Ok s.header)) capture s.has_header;
+    records = s.records;
+    next = s.next;
+    are_first = subst (λ f. BeginsWithRecords f s.header (s.records ++ s.next ∷ [])) capture s.are_first;
+    are = s.are;
+    rises = s.rises;
+    are_inputs = s.are_inputs;
+  }
+
+  breaks_off : BreaksOff assets limit names created after → BreaksOff assets limit names before after
+  breaks_off b = record {
+    events = b.events;
+    input = b.input;
+    stops = stops_in b.events b.input b.stops;
+    half = b.half;
+    is_half = b.is_half;
+    octets_out = b.octets_out;
+    in_out = out_held _ b.in_out;
+    octets_log = b.octets_log;
+    in_log = log_held _ b.in_log;
+  }
+
+  stops_between : StopsBetween assets limit names created after → StopsBetween assets limit names before after
+  stops_between b = record {
+    events = b.events;
+    input = b.input;
+    stops = stops_in b.events b.input b.stops;
+    half = b.half;
+    is_half = b.is_half;
+    in_out = out_held _ b.in_out;
+    in_log = log_held _ b.in_log;
+  }
+
   -- the run over the records is the run
   pub runs_as : (result : Result Summary RunFault) → RunsRecords assets limit names created after result → RunsAs assets limit names before after result
   runs_as (Ok summary) (place, r) = (place, runs_to _ place summary r)
-  runs_as (Err fault.NoMemory) r = tt
+  runs_as (Err fault.NoMemory) r = inr (stops_between r)
   runs_as (Err fault.Read) r = inr (runs_partly r)
-  runs_as (Err fault.Write) r = tt
+  runs_as (Err fault.Write) r = inr (breaks_off r)
   runs_as (Err (fault.Refused (refusal.Header of))) r = absurd r
   runs_as (Err (fault.Refused refusal.TooLong)) (place, summary, r) = (place, summary, runs_to _ place summary r)
   runs_as (Err (fault.Refused refusal.Clock)) (place, summary, r) = (place, summary, runs_to _ place summary r)

@@ -1,5 +1,5 @@
 -- A desk over two files.
-use Rattle.std.proofs.Common.{◌≡◌, ◌≢◌, ◌&&◌, not, ℕ, Bool, true, false, List, take, bytes_eq, refl, sym, ap, ◌∙◌, inl, inr}
+use Rattle.std.proofs.Common.{◌≡◌, ◌≢◌, ◌&&◌, not, ℕ, Bool, true, false, List, [], ◌∷◌, take, bytes_eq, refl, sym, ap, ◌∙◌, subst, inl, inr}
 use Rattle.std.specs.Borrow.{GName}
 use Rattle.std.proofs.lemmas.Slice.Eq.{bytes_eq-Decides}
 use Rattle.cf_outside.specs.Faults.{HasCause}
@@ -9,7 +9,7 @@ use Rattle.cf_outside.specs.Lines.{is_line, file_lines, file_part, ends_with_lin
 use Rattle.cf_outside.specs.declared.files.WriteAnswer.TheVariants as write
 use Rattle.cf_outside.proofs.Lines.{file_lines-line, ends_with_line-line, file_lines-part, file_part-line}
 use Rattle.cf_run.specs.OutputFile.{IsRecord, file_packets, packet_part, record_octets, ends_with_record}
-use Rattle.cf_run.specs.FileDesk.{file_desk}
+use Rattle.cf_run.specs.FileDesk.{are_whole, file_desk}
 use Rattle.cf_run.proofs.OutputFiles.{both, file_packets-record, packet_part-record, ends_with_record-record, file_packets-part}
 
 module _ (l : GName) (failed : Bool) (f f' r r' : ℕ) (out log : List ℕ) (old new : List ℕ → Content)
@@ -93,3 +93,17 @@ module _ (l : GName) (failed : Bool) (f f' r r' : ℕ) (out log : List ℕ) (old
         }
 
 pub ruleset file_desk_laws = (emitted, emit_failed, put, put_failed)
+
+-- a whole desk over two files has both whole
+last_two : (a b c d : Bool) → (a && b && c && d) ≡ true → (c && d) ≡ true
+last_two true true c d h = h
+last_two true false c d h = cc
+last_two false b c d h = cc
+
+pub whole_files : (failed : Bool) (out log out' log' : List ℕ) (content : List ℕ → Content) → (out' ∷ log' ∷ []) ≡ out ∷ log ∷ [] →
+    (not failed && not (bytes_eq out' log') && ends_with_record (content out') && ends_with_line (content log')) ≡ true → are_whole out log content ≡ true
+whole_files failed out log out' log' content names h =
+    let o : out' ≡ out = cc in
+    let n : log' ≡ log = cc in
+    subst (λ x. are_whole x log content ≡ true) o (subst (λ x. are_whole out' x content ≡ true) n
+    (last_two (not failed) (not (bytes_eq out' log')) (ends_with_record (content out')) (ends_with_line (content log')) h))

@@ -100,7 +100,7 @@ data Found (assets : List Asset) (endpoint : Endpoint) : Type 0 where
   some : (place : ℕ) (asset : Asset) → asset_place assets endpoint ≡ Some place → asset_at assets endpoint ≡ Some asset → slice_get assets place ≡ Some asset →
       same_endpoint asset.endpoint endpoint ≡ true → Found assets endpoint
 
-place_by : {A : Type 0} (p : A → Bool) (x : A) (xs : List A) (b : Bool) → p x ≡ b → position p (x ∷ xs) ≡ cond b (Some 0) (option_map suc (position p xs))
+pub place_by : {A : Type 0} (p : A → Bool) (x : A) (xs : List A) (b : Bool) → p x ≡ b → position p (x ∷ xs) ≡ cond b (Some 0) (option_map suc (position p xs))
 place_by p x xs true e =
     let inside : nat_lt 0 (length (x ∷ xs)) ≡ true = grind (arith, nat_tests) in
     rw (prefix_by p x xs true e, inside) refl
@@ -139,7 +139,7 @@ found [] endpoint = none refl refl
 found (a ∷ later) endpoint = found_more a later endpoint (same_endpoint a.endpoint endpoint) refl (found later endpoint)
 
 -- two endpoints that test as the same are the same
-same_is : (a b : Endpoint) → same_endpoint a b ≡ true → a ≡ b
+pub same_is : (a b : Endpoint) → same_endpoint a b ≡ true → a ≡ b
 same_is a b e =
     let p : a.address ≡ b.address = grind (arith, nat_tests, e) in
     let q : a.port ≡ b.port = grind (arith, nat_tests, e) in

@@ -33,7 +33,7 @@ spelled_by octets packet (Need size) e = cc
 spelled_by octets packet TooLong e = cc
 
 -- the octets of a packet are its record
-packet_in-spelled : (octets : List ℕ) (packet : SentValue) → packet_in octets ≡ Some packet → octets ≡ record_octets packet
+pub packet_in-spelled : (octets : List ℕ) (packet : SentValue) → packet_in octets ≡ Some packet → octets ≡ record_octets packet
 packet_in-spelled octets packet e = spelled_by octets packet (record_of output_header octets) e
 
 -- octets that end inside the head of a record, or behind it, are none

@@ -9,7 +9,8 @@ use Rattle.cf_pcap.specs.Capture.{AtPlace, FileEnd, Fits, Cut, TooLong, Large, a
 use Rattle.cf_pcap.specs.Header.{fields_of, header_of, u16_at, u32_at}
 use Rattle.cf_pcap.specs.Record.{captured_at, stamp_at}
 use Rattle.cf_outside.specs.Files.{Content, untold, absent, holds}
-use Rattle.cf_run.specs.Reader.{HasHeader, head_at, body_at, IsFilled, StandsAt, ReaderValue, FindsBody, FindsRecord}
+use Rattle.cf_outside.specs.Part.{IsFilled}
+use Rattle.cf_run.specs.Reader.{HasHeader, head_at, body_at, StandsAt, ReaderValue, FindsBody, FindsRecord}
 use Rattle.cf_run.specs.declared.record_reader.HeadAnswer.{HeadAnswer}
 use Rattle.cf_run.specs.declared.record_reader.HeadAnswer.TheVariants as head
 use Rattle.cf_run.specs.declared.record_reader.NextRecord.{NextRecord}

@@ -91,12 +91,12 @@ one_at assets last tick (y ∷ xs) (s ∷ ss) (suc i) x all ticked at =
 -- ---- a session hears a packet
 
 module _ (assets : List Asset) (limit now place : ℕ) (from : Side) (packet : PacketValue) (entries : List Entry) (table : List Session) (old new : Told)
-    (x : Entry) (y : SessionValue) (asset : Asset) (at : slice_get entries place ≡ Some x) (asset_at : slice_get assets x.asset ≡ Some asset)
+    (x : Entry) (y : SessionValue) (due : ℕ) (asset : Asset) (at : slice_get entries place ≡ Some x) (asset_at : slice_get assets x.asset ≡ Some asset)
     (all : AreAll assets now entries table) (ticked : AreTicked (now - 1) table) (some : 1 ≤ now) (admitted refused : ℕ)
     (counts_admitted : (flow : Flow) (earlier : List SessionEvent) (event : SessionEvent) → IsSessionOf flow earlier event x.session → admitted ≡ event.work.admitted)
     (counts_refused : (flow : Flow) (earlier : List SessionEvent) (event : SessionEvent) → IsSessionOf flow earlier event x.session → refused ≡ event.work.refused) where
   abbrev pub after : Entry
-  after = record { session = y; asset = x.asset }
+  after = record { session = y; asset = x.asset; due = due }
 
   -- the entries behind the call, by whether the session stays
   abbrev pub entries_by : Bool → List Entry

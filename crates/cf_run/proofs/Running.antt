@@ -1,12 +1,12 @@
 -- The records of a capture that were run over so far.
-use Rattle.std.proofs.Common.{◌≡◌, ◌+◌, ◌*◌, ◌^◌, ◌<◌, ◌≤◌, max, ℕ, true, List, [], ◌∷◌, ◌++◌, map, drop, length, Some, Ok, refl, sym, ap, ◌∙◌, subst, append_assoc, arith}
+use Rattle.std.proofs.Common.{◌≡◌, ◌+◌, ◌*◌, ◌^◌, ◌<◌, ◌≤◌, max, ℕ, true, List, [], ◌∷◌, ◌++◌, map, drop, take, length, Some, Ok, Err, refl, sym, ap, ◌∙◌, subst, append_assoc, arith, Result, IsErrAnd}
 use Rattle.std.specs.List.{concat}
 use Rattle.std.proofs.lemmas.List.{append-nil, drop-drop}
 use Rattle.std.proofs.lemmas.List.Folds.{flat_map-map}
 use Rattle.std.proofs.lemmas.Bool.Decides.{nat_tests}
 use Rattle.cf_outside.proofs.Lines.{file_lines-whole}
 use Rattle.cf_outside.specs.Files.{Content, untold, absent, holds, IsWhole}
-use Rattle.cf_outside.specs.Lines.{ends_with_line, file_lines}
+use Rattle.cf_outside.specs.Lines.{ends_with_line, file_lines, file_part}
 use Rattle.cf_packet.specs.Packet.{read_record}
 use Rattle.cf_pcap.proofs.Capture.{have_timed_records}
 use Rattle.cf_pcap.specs.Capture.{AreTimed, AtPlace, Clock, FileEnd, Fits, IsLast, LastPlace, first_moment, moment_from, timed}
@@ -14,17 +14,23 @@ use Rattle.cf_pcap.specs.Header.{output_octets}
 use Rattle.cf_pcap.specs.Record.{Record}
 use Rattle.cf_pcap.specs.declared.header.Header.{Header}
 use Rattle.cf_policy.specs.declared.Asset.{Asset}
+use Rattle.cf_session.specs.Broken.{octets_of}
 use Rattle.cf_session.specs.Sent.{Sent}
 use Rattle.cf_session.specs.Told.{emitted, with_both, with_more}
-use Rattle.cf_run.specs.FileDesk.{are_whole, files_told}
-use Rattle.cf_run.specs.OutputFile.{ends_with_record, file_packets, record_octets}
+use Rattle.cf_run.specs.FileDesk.{are_whole, files_desk, files_told}
+use Rattle.cf_run.specs.Half.{StepBreaks, StepStops}
+use Rattle.cf_run.specs.OutputFile.{ends_with_record, file_packets, packet_part, record_octets}
 use Rattle.cf_run.specs.Reader.{FindsRecord, HasHeader, ReaderValue, StandsAt}
 use Rattle.cf_run.specs.Run.{capture_of, input_of, inputs, inputs_from, inputs_of}
-use Rattle.cf_run.specs.RunCapture.{BeginsWithRecords, HasRecords, HoldsOctets, LeavesRun, RunNamesValue, RunsPartly, RunsTo}
+use Rattle.cf_run.specs.RunCapture.{BeginsWithRecords, BreaksOff, HasRecords, HoldsOctets, LeavesRun, RunNamesValue, RunsPartly, RunsRecords, RunsTo, StopsBetween, StopsIn, step_fault}
 use Rattle.cf_run.specs.Step.{EngineValue, IsEngineOf, StepsOn}
-use Rattle.cf_run.specs.Trace.{AreEvents, Event, logged, logged_in_first, logged_in_second, sent, sent_in_first, sent_in_second, table_after}
+use Rattle.cf_run.specs.Trace.{AreEvents, Event, Input, logged, logged_in_first, logged_in_second, sent, sent_in_first, sent_in_second, table_after}
+use Rattle.cf_run.specs.declared.engine.StepFault.{StepFault}
+use Rattle.cf_run.specs.declared.engine.StepFault.TheVariants as stepped
 use Rattle.cf_run.specs.declared.record_reader.NextRecord.TheVariants as answer
+use Rattle.cf_run.specs.declared.run.RunFault.{RunFault}
 use Rattle.cf_run.specs.declared.summary.Summary.{Summary}
+use Rattle.cf_run.proofs.HalfFiles.{capture_amid, log_amid, no_line_part, no_packet_part}
 use Rattle.cf_run.proofs.OutputFiles.{both, file_packets-whole}
 use Rattle.cf_run.proofs.Timers.{both_both, both_nothing}
 
@@ -186,6 +192,80 @@ module _ {assets : List Asset} {limit : ℕ} {names : RunNamesValue} {before now
             ∙ both_both (files_told names.out names.log before) (sent a.events) packets (logged a.events) lines;
       }
 
+  -- ---- the next record is read, and its event stopped
+
+  module _ (stamp : ℕ) (next : ReaderValue) (moment : ℕ) (files after : List ℕ → Content) (read : FindsRecord (now names.capture) reader next (answer.Whole stamp))
+      (still : files ≡ now) (is : moment ≡ max stamp least) (early : moment < 2 ^ 32 * 1000000) where
+    abbrev input : Input
+    input = record { moment = moment; packet = read_record next.header.link next.body }
+
+    stops_in : StopsIn assets limit names before after a.events input
+    stops_in =
+        let (found, same, place) = read in
+        let r : Record = record { stamp = stamp; body = next.body } in
+        let used : ℕ = 16 + length next.body in
+        let stands : StandsAt (before names.capture) header reader.place (Fits r used) =
+        found_before (now names.capture) (before names.capture) a.capture reader.header header a.reads_on reader.place (Fits r used) found in
+        let on : Leads (before names.capture) header (moment_from least r + 2) (reader.place + used) (a.records ++ r ∷ []) =
+        leads_on (before names.capture) header least reader.place used a.records r a.leads stands (omega (arith, is, early)) in
+        let given : ℕ → Header → Input = λ n h. record { moment = n; packet = read_record h.link next.body } in
+        let same_input : input ≡ input_of header.link least r = ap (λ n. given n next.header) is ∙ ap (given (max stamp least)) (same ∙ a.reads_on) in
+        record {
+          header = header;
+          has_header = a.has_header;
+          records = a.records;
+          next = r;
+          are_first = leads_somewhere (before names.capture) header (moment_from least r + 2) (reader.place + used) (a.records ++ r ∷ []) on;
+          are = subst (λ n. AreEvents assets n a.events) a.limited a.stands.are;
+          rises = a.stands.rises;
+          are_inputs = ap (λ i. inputs_of a.events ++ i ∷ []) same_input ∙ sym (a.given (r ∷ []));
+        }
+
+    -- what is told of the files, behind the events so far
+    told_behind : (packets : List Sent) (lines : List (List ℕ)) → files_told names.out names.log after ≡ with_both (files_told names.out names.log files) packets lines →
+        files_told names.out names.log after ≡ with_both (files_told names.out names.log before) (sent a.events ++ packets) (logged a.events ++ lines)
+    told_behind packets lines h =
+        h ∙ ap (λ (f : List ℕ → Content). with_both (files_told names.out names.log f) packets lines) still ∙ ap (λ t. with_both t packets lines) a.told
+        ∙ both_both (files_told names.out names.log before) (sent a.events) packets (logged a.events) lines
+
+    -- a write failed amid a half of it
+    pub breaks_off : are_whole names.out names.log files ≡ true → StepBreaks assets limit (table_after a.events) input (files_desk names.out names.log files) (files_desk names.out names.log after) →
+        BreaksOff assets limit names before after
+    breaks_off whole (half, is_half, b) =
+        let (record_end, line_end) = both _ _ whole in
+        let told = told_behind (half.sent_before ++ b.gone) (half.logged_before ++ b.put) b.is_told in
+        let packets = ap (λ t. t.packets) told ∙ ap (λ xs. with_more (file_packets (before names.out)) (map emitted xs)) (sym (append_assoc (sent a.events) half.sent_before b.gone)) in
+        let lines = ap (λ t. t.lines) told ∙ ap (λ xs. with_more (file_lines (before names.log)) xs) (sym (append_assoc (logged a.events) half.logged_before b.put)) in
+        let out = capture_amid (before names.out) (after names.out) (sent a.events ++ half.sent_before) b.gone b.left (packet_part (files names.out)) a.out packets (no_packet_part (files names.out) record_end) b.packet_part in
+        let log = log_amid (before names.log) (after names.log) (logged a.events ++ half.logged_before) b.put b.missing (file_part (files names.log)) a.log lines (no_line_part (files names.log) line_end) b.line_part in
+        record {
+          events = a.events;
+          input = input;
+          stops = stops_in;
+          half = half;
+          is_half = is_half;
+          octets_out = out.0;
+          in_out = subst (λ xs. HoldsOctets (before names.out) (after names.out) (capture_of (sent a.events ++ half.sent_before) ++ take out.0 (octets_of record_octets xs))) (sym b.are_sent) out.1;
+          octets_log = log.0;
+          in_log = subst (λ xs. HoldsOctets (before names.log) (after names.log) (concat (logged a.events ++ half.logged_before) ++ take log.0 (concat xs))) (sym b.are_lines) log.1;
+        }
+
+    -- memory ran out between its halves
+    pub stops_between : are_whole names.out names.log after ≡ true → StepStops (table_after a.events) input (files_told names.out names.log files) (files_told names.out names.log after) →
+        StopsBetween assets limit names before after
+    stops_between whole (half, is_half, h) =
+        let (record_end, line_end) = both _ _ whole in
+        let told = told_behind half.sent half.logged h in
+        record {
+          events = a.events;
+          input = input;
+          stops = stops_in;
+          half = half;
+          is_half = is_half;
+          in_out = capture_told (before names.out) (after names.out) (sent a.events ++ half.sent) a.out (ap (λ t. t.packets) told) record_end;
+          in_log = log_told (before names.log) (after names.log) (logged a.events ++ half.logged) a.log (ap (λ t. t.lines) told) line_end;
+        }
+
   module _ (whole : are_whole names.out names.log now ≡ true) where
     -- the two files are those of a run over the records so far
     leaves : {files : List ℕ → Content} → files ≡ now → LeavesRun assets limit names before files header a.records engine.summary
@@ -232,3 +312,15 @@ module _ {assets : List Asset} {limit : ℕ} {names : RunNamesValue} {before now
       summary = engine.summary;
       leaves = leaves still;
     }
+
+-- why an event stopped, as the run has it
+pub stopped : (assets : List Asset) (limit : ℕ) (names : RunNamesValue) (before after : List ℕ → Content) (f : StepFault) → (f ≡ stepped.Write → BreaksOff assets limit names before after) →
+    (f ≡ stepped.NoMemory → StopsBetween assets limit names before after) → RunsRecords assets limit names before after (Err (step_fault f))
+stopped assets limit names before after stepped.NoMemory write memory = memory refl
+stopped assets limit names before after stepped.Write write memory = write refl
+
+-- and told on
+pub told_on : (assets : List Asset) (limit : ℕ) (names : RunNamesValue) (before after : List ℕ → Content) (f : StepFault) (r : Result Summary RunFault) → IsErrAnd r (λ told. told ≡ step_fault f) →
+    RunsRecords assets limit names before after (Err (step_fault f)) → RunsRecords assets limit names before after r
+told_on assets limit names before after f (Ok x) is h = absurd is
+told_on assets limit names before after f (Err told) is h = subst (λ t. RunsRecords assets limit names before after (Err t)) (sym is) h

@@ -19,11 +19,11 @@ use Rattle.cf_run.proofs.Timers.{removed_is}
 
 -- ---- of each session of a list
 
-each-append : (P : Session → Type 0) (xs ys : List Session) → Each P xs → Each P ys → Each P (xs ++ ys)
+pub each-append : (P : Session → Type 0) (xs ys : List Session) → Each P xs → Each P ys → Each P (xs ++ ys)
 each-append P [] ys h g = g
 each-append P (x ∷ xs) ys h g = (h.0, each-append P xs ys h.1 g)
 
-each-filter : (P : Session → Type 0) (p : Session → Bool) (xs : List Session) → Each P xs → Each P (filter p xs)
+pub each-filter : (P : Session → Type 0) (p : Session → Bool) (xs : List Session) → Each P xs → Each P (filter p xs)
 each-filter P p [] h = tt
 each-filter P p (x ∷ xs) h = elim (p x) as (λ b. Each P (cond b (x ∷ filter p xs) (filter p xs))) [ true ↦ (h.0, each-filter P p xs h.1) | false ↦ each-filter P p xs h.1 ]
 
@@ -61,18 +61,18 @@ each-map P Q f (x ∷ xs) h = (f x h.0, each-map P Q f xs h.1)
 
 -- ---- the sessions of the table, none of whose events cut it; and those whose newest event is the first half of one
 
-abbrev HasGone : ℕ → Flow → List SessionEvent → Type 0
+abbrev pub HasGone : ℕ → Flow → List SessionEvent → Type 0
 HasGone limit f [] = ⊥
 HasGone limit f (e ∷ es) = AreSessionEvents f limit (e ∷ es) × AreUncut (e ∷ es)
 
-abbrev IsGoing : ℕ → Session → Type 0
+abbrev pub IsGoing : ℕ → Session → Type 0
 IsGoing limit s = HasGone limit s.flow s.events
 
-abbrev HasTick : ℕ → Flow → List SessionEvent → Type 0
+abbrev pub HasTick : ℕ → Flow → List SessionEvent → Type 0
 HasTick limit f [] = ⊥
 HasTick limit f (t ∷ es) = IsTick f es t.client.tick t × (t.cut ≡ None) × HasGone limit f es
 
-abbrev IsTicked : ℕ → Session → Type 0
+abbrev pub IsTicked : ℕ → Session → Type 0
 IsTicked limit s = HasTick limit s.flow s.events
 
 right_by : (limit : ℕ) (f : Flow) (es : List SessionEvent) → HasGone limit f es → HasEvents limit f es
@@ -113,7 +113,7 @@ each-stays limit (s ∷ ss) h =
 tick_one : (limit : ℕ) (f : Flow) (es : List SessionEvent) (tick : ℕ) (t : SessionEvent) → HasGone limit f es → IsTick f es tick t → t.cut ≡ None → HasTick limit f (t ∷ es)
 tick_one limit f es tick t h is none = (subst (λ n. IsTick f es n t) (sym is.client_tick) is, none, h)
 
-each-ticked : (limit tick : ℕ) (ss : List Session) (ts : List SessionEvent) → Each (IsGoing limit) ss → AreTicks tick ss ts → Each (IsTicked limit) (filter stays (with_events ss ts))
+pub each-ticked : (limit tick : ℕ) (ss : List Session) (ts : List SessionEvent) → Each (IsGoing limit) ss → AreTicks tick ss ts → Each (IsTicked limit) (filter stays (with_events ss ts))
 each-ticked limit tick [] ts h are = tt
 each-ticked limit tick (s ∷ ss) [] h are = absurd are
 each-ticked limit tick (s ∷ ss) (t ∷ ts) h are =
@@ -198,11 +198,11 @@ each-record assets limit tick table (Ok p) r h is = each-received limit tick tab
 
 -- ---- the whole run
 
-record OfRun (limit : ℕ) (events : List Event) : Type 0 where
-  gone : Each (IsRight limit) (gone_after events)
-  here : Each (IsGoing limit) (table_after events)
+pub record OfRun (limit : ℕ) (events : List Event) : Type 0 where
+  pub gone : Each (IsRight limit) (gone_after events)
+  pub here : Each (IsGoing limit) (table_after events)
 
-of_run : (assets : List Asset) (limit : ℕ) (es : List Event) → AreEvents assets limit es → OfRun limit es
+pub of_run : (assets : List Asset) (limit : ℕ) (es : List Event) → AreEvents assets limit es → OfRun limit es
 of_run assets limit [] h = record { gone = tt; here = tt }
 of_run assets limit (e ∷ es) h =
     let before = of_run assets limit es h.1 in

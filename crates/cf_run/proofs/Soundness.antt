@@ -7,7 +7,7 @@ use Rattle.std.proofs.lemmas.List.{take_more}
 use Rattle.std.proofs.Math.Seq.{drop-cons}
 use Rattle.cf_policy.specs.declared.Asset.{Asset}
 use Rattle.cf_session.specs.Parts.{SessionValue}
-use Rattle.cf_session.specs.Stands.{IsLife, IsSound}
+use Rattle.cf_session.specs.Stands.{IsLife, IsSound, due_of}
 use Rattle.cf_session.specs.declared.life.Life.{Life}
 use Rattle.cf_session.specs.declared.life.Life.TheVariants as life
 use Rattle.cf_run.specs.Entries.{cuts_by, number_if, stays_by}
@@ -44,8 +44,8 @@ same_asset assets place a b p q = let e : Some a ≡ Some b = sym p ∙ q in cc
 
 -- the state of a session after a call, where its asset and its limit are as they were
 pub sound_after : (assets : List Asset) (limit : ℕ) (entry : Entry) (asset : Asset) (s : SessionValue) → IsSoundEntry assets limit entry → slice_get assets entry.asset ≡ Some asset →
-    IsSound asset s → s.limit ≡ SessionValue.limit entry.session → IsSoundEntry assets limit (record { session = s; asset = entry.asset })
-sound_after assets limit entry asset s one at sound same = record { asset = asset; at = at; sound = sound; limit_is = same ∙ one.limit_is }
+    IsSound asset s → s.limit ≡ SessionValue.limit entry.session → (due : ℕ) → due ≡ due_of s → IsSoundEntry assets limit (record { session = s; asset = entry.asset; due = due })
+sound_after assets limit entry asset s one at sound same due due_is = record { asset = asset; at = at; sound = sound; limit_is = same ∙ one.limit_is; due_is = due_is }
 
 -- a session that stays is one of those that live on
 pub lives : (l : Life) → stays_by l ≡ true → IsLife l

@@ -15,7 +15,7 @@ use Rattle.cf_session.specs.Event.{IsTick}
 use Rattle.cf_session.specs.Parts.{SessionValue}
 use Rattle.cf_session.specs.Sent.{Sent, logged_first, sent_first}
 use Rattle.cf_session.specs.Session.{Flow, SessionEvent, is_expired}
-use Rattle.cf_session.specs.Stands.{Ticks, TicksBy}
+use Rattle.cf_session.specs.Stands.{Ticks, TicksBy, life_by}
 use Rattle.cf_session.specs.Told.{Told, emitted, with_both, with_more}
 use Rattle.cf_run.specs.Engine.{AreAll, IsOne, TickAll, TickAs, TickAt, TickSome}
 use Rattle.cf_run.specs.Entries.{cuts_by, number_if, stays_by}
@@ -51,6 +51,16 @@ by_life flow events tick s old new life.Live h = (h.0, h.1, h.2.stands.going, h.
 by_life flow events tick s old new life.Closed h = (h.0, h.1, h.2.stands.going, h.2.stands)
 by_life flow events tick s old new life.Expired h = h
 by_life flow events tick s old new (life.Cut r) h = (h.0, h.1, ap is_cut h.2)
+
+quiet_by : (flow : Flow) (events : List SessionEvent) (tick : ℕ) (s : SessionValue) (desk : Told) (closed : Option ℕ) → TicksBy flow events tick s desk desk (life_by closed) →
+    TickAs flow events tick s desk desk true false
+quiet_by flow events tick s desk None h = by_life flow events tick s desk desk life.Live h
+quiet_by flow events tick s desk (Some moment) h = by_life flow events tick s desk desk life.Closed h
+
+-- before it is due a session stays, whether it is closed or not
+pub quiet_as : (flow : Flow) (events : List SessionEvent) (tick : ℕ) (s : SessionValue) (desk : Told) → TicksBy flow events tick s desk desk (life_by s.closed) →
+    TickAs flow events tick s desk desk true false
+quiet_as flow events tick s desk h = quiet_by flow events tick s desk s.closed h
 
 -- ---- lists of sessions with one more
 

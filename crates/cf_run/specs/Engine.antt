@@ -6,7 +6,7 @@ use Rattle.cf_policy.specs.declared.Asset.{Asset}
 use Rattle.cf_session.specs.Parts.{SessionValue}
 use Rattle.cf_session.specs.Sent.{sent_first}
 use Rattle.cf_session.specs.Session.{Flow, SessionEvent, is_expired}
-use Rattle.cf_session.specs.Stands.{IsSessionOf, IsSound, Ticks}
+use Rattle.cf_session.specs.Stands.{IsSessionOf, IsSound, Ticks, due_of}
 use Rattle.cf_session.specs.Told.{Told, with_both}
 use Rattle.cf_run.specs.Table.{Session}
 use Rattle.cf_run.specs.Trace.{AreTicks, is_cut, kept, logged_ticks, ticked}
@@ -14,12 +14,13 @@ use Rattle.cf_run.specs.declared.entry.Entry.{Entry}
 
 -- ---- what holds whatever happened
 
--- a session in memory serves the asset at its place
+-- a session in memory serves the asset at its place, and has the moment at which it is due beside it
 pub record IsSoundEntry (assets : List Asset) (limit : ℕ) (entry : Entry) : Type 0 where
   pub asset : Asset
   pub at : slice_get assets entry.asset ≡ Some asset
   pub sound : IsSound asset entry.session
   pub limit_is : SessionValue.limit entry.session ≡ limit
+  pub due_is : entry.due ≡ due_of entry.session
 
 abbrev pub AreSound : List Asset → (limit : ℕ) → List Entry → Type 0
 AreSound assets limit [] = Unit {0}

@@ -1,5 +1,5 @@
 -- What a desk over two files tells: file_desk. This project's own.
-use Rattle.std.specs.Prelude.{ℕ, ◌&&◌, not, Bool, Some, List, [], ◌∷◌, bytes_eq}
+use Rattle.std.specs.Prelude.{ℕ, ◌&&◌, not, Bool, true, None, Some, List, [], ◌∷◌, bytes_eq}
 use Rattle.std.specs.Borrow.{GName}
 use Rattle.cf_outside.specs.Desk.{DeskValue}
 use Rattle.cf_outside.specs.Files.{Content}
@@ -27,6 +27,22 @@ file_desk failed lender faults reads out log content = record {
 -- what it tells of its two files
 abbrev pub files_told : (out log : List ℕ) → (List ℕ → Content) → Told
 files_told out log content = record { packets = file_packets (content out); lines = file_lines (content log) }
+
+-- a desk over them, whatever was called
+abbrev pub files_desk : (out log : List ℕ) → (List ℕ → Content) → DeskValue
+files_desk out log content = record {
+  packets = file_packets (content out);
+  lines = file_lines (content log);
+  packet_part = packet_part (content out);
+  line_part = file_part (content log);
+  octets = record_octets;
+  whole = true;
+  faults = 0;
+  lender = None;
+  reads = 0;
+  names = out ∷ log ∷ [];
+  content = content;
+}
 
 -- the next record and the next line stand alone
 abbrev pub are_whole : (out log : List ℕ) → (List ℕ → Content) → Bool

@@ -2,7 +2,9 @@ pub mod Counted
 pub mod Engine
 pub mod Entries
 pub mod FileDesk
+pub mod Half
 pub mod Headline
+pub mod Isolation
 pub mod Items
 pub mod OutputFile
 pub mod Reader

@@ -1,6 +1,7 @@
 -- What a reader of a capture file finds: OpensAs, and FindsRecord for the record at its place.
 use Rattle.std.specs.Prelude.{◌≡◌, ℕ, ◌+◌, ◌^◌, ◌==◌, nat_lt, if◌then◌else◌, List, length, take, drop, Result, Ok, Err}
 use Rattle.cf_outside.specs.Files.{Content, untold, absent, holds}
+use Rattle.cf_outside.specs.Part.{IsFilled}
 use Rattle.cf_pcap.specs.declared.header.Header.{Header}
 use Rattle.cf_pcap.specs.declared.header.HeaderRefusal.{HeaderRefusal}
 use Rattle.cf_pcap.specs.declared.record.TheConstants.{CAPTURED_LIMIT}
@@ -61,18 +62,6 @@ FindsRecord file old new next.Cut = StandsAt file old.header old.place Cut × St
 FindsRecord file old new next.TooLong = StandsAt file old.header old.place TooLong × StaysAt old new
 FindsRecord file old new next.Large = StandsAt file old.header old.place Large × StaysAt old new
 FindsRecord file old new next.Failed = StaysAt old new
-
--- these octets, if there are any, were read at a place of a file
-abbrev pub HasRead : Content → ℕ → List ℕ → Type 0
-HasRead untold place octets = Unit {0}
-HasRead absent place octets = length octets ≡ 0
-HasRead (holds all) place octets = take (length octets) (drop place all) ≡ octets
-
--- these octets are the first of those at a place of a file, so many or all, as far as it is told
-abbrev pub IsFilled : Content → (place size : ℕ) → List ℕ → Type 0
-IsFilled untold place size octets = Unit {0}
-IsFilled absent place size octets = ⊥
-IsFilled (holds all) place size octets = octets ≡ take size (drop place all)
 
 -- what the octets of a record's head say
 abbrev pub head_at : Header → ℕ → List ℕ → HeadAnswer

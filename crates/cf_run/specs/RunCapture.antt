@@ -1,13 +1,21 @@
 -- A run over a capture file: RunsAs says what its answer means, and what then stands in the files. This project's own.
-use Rattle.std.specs.Prelude.{◌≡◌, ◌≢◌, ◌⊎◌, ℕ, List, [], ◌∷◌, ◌++◌, drop, Result, Ok, Err}
+use Rattle.std.specs.Prelude.{◌≡◌, ◌≢◌, ◌⊎◌, ℕ, List, [], ◌∷◌, ◌++◌, drop, take, Result, Ok, Err}
+use Rattle.std.specs.List.{concat}
 use Rattle.cf_outside.specs.Desk.{IsNoneOf}
-use Rattle.cf_outside.specs.Files.{Content, untold, absent, holds}
+use Rattle.cf_outside.specs.Files.{Appends, Content, Creates, absent, content_after_create, holds, untold}
+use Rattle.cf_outside.specs.declared.files.WriteAnswer.TheVariants as write
 use Rattle.cf_pcap.specs.Capture.{AreTimed, AtPlace, Clock, Cut, FileEnd, Large, LastPlace, TooLong, first_moment}
+use Rattle.cf_pcap.specs.Header.{output_octets}
 use Rattle.cf_pcap.specs.Record.{Record}
 use Rattle.cf_pcap.specs.declared.header.Header.{Header}
 use Rattle.cf_policy.specs.declared.Asset.{Asset}
+use Rattle.cf_session.specs.Broken.{octets_of}
+use Rattle.cf_run.specs.Half.{Half, IsFirstHalf, IsHalfOf}
+use Rattle.cf_run.specs.OutputFile.{record_octets}
 use Rattle.cf_run.specs.Reader.{HasHeader}
-use Rattle.cf_run.specs.Run.{IsRun, inputs}
+use Rattle.cf_run.specs.Run.{IsRun, capture_of, inputs, inputs_of}
+use Rattle.cf_run.specs.Selected.{Rises}
+use Rattle.cf_run.specs.Trace.{AreEvents, Event, Input, logged, sent, table_after}
 use Rattle.cf_run.specs.declared.engine.StepFault.{StepFault}
 use Rattle.cf_run.specs.declared.engine.StepFault.TheVariants as stepped
 use Rattle.cf_run.specs.declared.record_reader.OpenFault.{OpenFault}
@@ -57,6 +65,13 @@ HasRecords (holds all) header records last = AreTimed header first_moment 24 (dr
 abbrev pub BeginsWithRecords : Content → Header → List Record → Type 0
 BeginsWithRecords file header records = (more : List Record) × (last : LastPlace) × HasRecords file header (records ++ more) last
 
+-- a creation failed, or the append of the header: OUT is created first, then LOG, and then OUT gets its header
+pub data IsCreatedInPart (names : RunNamesValue) (before after : List ℕ → Content) : Type 0 where
+  out_failed : Creates (before names.out) (after names.out) write.Failed → after names.log ≡ before names.log → IsCreatedInPart names before after
+  log_failed : after names.out ≡ content_after_create (before names.out) → Creates (before names.log) (after names.log) write.Failed → IsCreatedInPart names before after
+  header_failed : Appends output_octets (content_after_create (before names.out)) (after names.out) write.Failed →
+      after names.log ≡ content_after_create (before names.log) → IsCreatedInPart names before after
+
 -- a file that was told holds these octets
 abbrev pub HoldsOctets : (before after : Content) → List ℕ → Type 0
 HoldsOctets untold after octets = Unit {0}
@@ -89,6 +104,40 @@ module _ (assets : List Asset) (limit : ℕ) (names : RunNamesValue) (before aft
     pub summary : Summary
     pub leaves : LeavesRun header records summary
 
+  -- these first records were run over, and the run stopped in the event of the next one
+  pub record StopsIn (events : List Event) (input : Input) : Type 0 where
+    pub header : Header
+    pub has_header : HasHeader (before names.capture) (Ok header)
+    pub records : List Record
+    pub next : Record
+    pub are_first : BeginsWithRecords (before names.capture) header (records ++ next ∷ [])
+    pub are : AreEvents assets limit events
+    pub rises : Rises events
+    pub are_inputs : inputs_of events ++ input ∷ [] ≡ inputs header.link (records ++ next ∷ [])
+
+  -- a write failed amid a half of that event: the two files have what the events and the event before that half gave, and a
+  -- beginning of what is right in that half
+  pub record BreaksOff : Type 0 where
+    pub events : List Event
+    pub input : Input
+    pub stops : StopsIn events input
+    pub half : Half
+    pub is_half : IsHalfOf assets limit (table_after events) input half
+    pub octets_out : ℕ
+    pub in_out : HoldsOctets (before names.out) (after names.out) (capture_of (sent events ++ half.sent_before) ++ take octets_out (octets_of record_octets half.sent))
+    pub octets_log : ℕ
+    pub in_log : HoldsOctets (before names.log) (after names.log) (concat (logged events ++ half.logged_before) ++ take octets_log (concat half.logged))
+
+  -- memory ran out behind the first half of that event, whose packet would have begun a session
+  pub record StopsBetween : Type 0 where
+    pub events : List Event
+    pub input : Input
+    pub stops : StopsIn events input
+    pub half : Half
+    pub is_half : IsFirstHalf (table_after events) input half
+    pub in_out : HoldsOctets (before names.out) (after names.out) (capture_of (sent events ++ half.sent))
+    pub in_log : HoldsOctets (before names.log) (after names.log) (concat (logged events ++ half.logged))
+
   -- the record at a place is refused by its length, its moment or its place
   abbrev pub RunsToRefusal : AtPlace → Type 0
   RunsToRefusal found = (place : ℕ) × (summary : Summary) × RunsTo found place summary
@@ -102,12 +151,14 @@ module _ (assets : List Asset) (limit : ℕ) (names : RunNamesValue) (before aft
   RunsRecords (Err (fault.Refused refusal.Large)) = RunsToRefusal Large
   RunsRecords (Err (fault.Refused (refusal.Header of))) = ⊥
   RunsRecords (Err fault.Read) = RunsPartly
-  RunsRecords (Err fault.Write) = Unit {0}
-  RunsRecords (Err fault.NoMemory) = Unit {0}
+  RunsRecords (Err fault.Write) = BreaksOff
+  RunsRecords (Err fault.NoMemory) = StopsBetween
 
-  -- what an answer means, and what then stands in the two files: before they are created the header can be refused, and a read
-  -- can fail
+  -- what an answer means, and what then stands in the two files: before they are created the header can be refused, a read can
+  -- fail, and memory can run out; and their creation can fail
   abbrev pub RunsAs : Result Summary RunFault → Type 0
   RunsAs (Err (fault.Refused (refusal.Header of))) = HasHeader (before names.capture) (Err of) × (after ≡ before)
   RunsAs (Err fault.Read) = (after ≡ before) ⊎ RunsPartly
+  RunsAs (Err fault.NoMemory) = (after ≡ before) ⊎ StopsBetween
+  RunsAs (Err fault.Write) = IsCreatedInPart names before after ⊎ BreaksOff
   RunsAs answer = RunsRecords answer

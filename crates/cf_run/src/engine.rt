@@ -1,16 +1,18 @@
 //! The engine: the table of sessions, one event at a time.
-ghost use Rattle.std.specs.Prelude.{◌≡◌, ℕ, ◌+◌, ◌*◌, ◌^◌, ◌<◌, ◌≤◌, true, [], ◌∷◌, List, IfOk, IsErrOf, OnOk, length, pos};
+ghost use Rattle.std.specs.Prelude.{◌≡◌, ℕ, ◌+◌, ◌-◌, ◌*◌, ◌^◌, ◌<◌, ◌≤◌, true, [], ◌∷◌, List, IfOk, IsErrOf, OnOk, length, pos};
 ghost use Rattle.std.specs.Prelude.{◌≤ℤ◌};
 ghost use Rattle.cf_outside.specs.Desk.{DeskValue, KeepsDesk};
 ghost use Rattle.cf_outside.specs.Faults.{HasCause};
 ghost use Rattle.cf_packet.specs.Packet.{read_record};
 ghost use Rattle.cf_policy.specs.Within.{AreAssetsWithin};
+ghost use Rattle.cf_session.specs.Broken.{KeepsParts};
 ghost use Rattle.cf_session.specs.Told.{told};
 ghost use Rattle.cf_run.specs.Engine.{AreAll, AreSound};
+ghost use Rattle.cf_run.specs.Half.{ReceiveRecordBreaks, StepBreaks, StepStops};
 ghost use Rattle.cf_run.specs.Receiving.{IsSized, MayBegin};
 ghost use Rattle.cf_run.specs.Step.{EngineValue, IsEngineOf, IsSoundEngine, ReceivesRecordOne, Steps, StepsOn};
 ghost use Rattle.cf_run.specs.Table.{Session as Known};
-ghost use Rattle.cf_run.specs.Trace.{Event};
+ghost use Rattle.cf_run.specs.Trace.{Event, table_after};
 
 use crate::entry::Entry;
 use crate::first_half::tick_all;
@@ -95,6 +97,14 @@ impl Engine {
         ensures steps { OnOk result ((events : List Event) → IsEngineOf policy.now.assets self.old events →
             (event : Event) × StepsOn policy.now.assets moment (read_record link.now bytes.now) events self.new
             (told (D.value desk.old)) (told (D.value desk.new)) event) }
+        ensures broken { IsErrOf result StepFault.Write → (events : List Event) → IsEngineOf policy.now.assets self.old events
+            → StepBreaks policy.now.assets self.old.limit (table_after events) (record { moment = moment; packet = read_record link.now bytes.now })
+            (D.value desk.old) (D.value desk.new) }
+        ensures stops { IsErrOf result StepFault.NoMemory → (events : List Event) → IsEngineOf policy.now.assets self.old events
+            → StepStops (table_after events) (record { moment = moment; packet = read_record link.now bytes.now })
+            (told (D.value desk.old)) (told (D.value desk.new)) }
+        ensures stops_whole { IsErrOf result StepFault.NoMemory → DeskValue.whole (D.value desk.new) ≡ true }
+        ensures parts { OnOk result (KeepsParts (D.value desk.old) (D.value desk.new)) }
         ensures sound { OnOk result (IsSoundEngine policy.now.assets self.new) }
         ensures last { OnOk result (self.new.last ≡ moment) }
         ensures limit { self.new.limit ≡ self.old.limit }
@@ -149,6 +159,12 @@ fn step_table<D: Desk>(
     ensures steps { IfOk result (λ happened. (before : List Known) (last : ℕ) → last + 1 ≤ now → AreAll assets.now last table.old.items before →
         (event : Event) × Steps assets.now limit now (read_record link.now bytes.now) before table.new.items
         (told (D.value desk.old)) (told (D.value desk.new)) happened event) }
+    ensures broken { IsErrOf result StepFault.Write → (before : List Known) (last : ℕ) → last + 1 ≤ now → AreAll assets.now last table.old.items before
+        → StepBreaks assets.now limit before (record { moment = now; packet = read_record link.now bytes.now }) (D.value desk.old) (D.value desk.new) }
+    ensures stops { IsErrOf result StepFault.NoMemory → (before : List Known) (last : ℕ) → last + 1 ≤ now → AreAll assets.now last table.old.items before
+        → StepStops before (record { moment = now; packet = read_record link.now bytes.now }) (told (D.value desk.old)) (told (D.value desk.new)) }
+    ensures stops_whole { IsErrOf result StepFault.NoMemory → DeskValue.whole (D.value desk.new) ≡ true }
+    ensures parts { OnOk result (KeepsParts (D.value desk.old) (D.value desk.new)) }
     ensures sound { OnOk result (AreSound assets.now limit table.new.items) }
     ensures size { OnOk result (length table.new.items ≤ 256) }
     ensures memory { IsErrOf result StepFault.NoMemory → MayBegin assets.now (read_record link.now bytes.now) }
@@ -156,8 +172,9 @@ fn step_table<D: Desk>(
     ensures whole { OnOk result (DeskValue.whole (D.value desk.new) ≡ true) }
     ensures cause { HasCause (DeskValue.faults (D.value desk.old)) (DeskValue.faults (D.value desk.new)) (IsErrOf result StepFault.Write) }
 {
-    let Ok(cuts) = tick_all(table, assets, limit, now - 1, desk) else {
-        return Err(StepFault::Write);
+    let cuts = match tick_all(table, assets, limit, now - 1, desk) {
+        Ok(cuts) => cuts,
+        Err(_) => return Err(StepFault::Write),
     };
     match receive_record(table, alloc, assets, limit, now, link, bytes, desk) {
         Ok(outcome) => Ok(Happened { cuts, outcome }),
@@ -184,6 +201,10 @@ fn receive_record<D: Desk>(
     requires whole { DeskValue.whole (D.value desk.old) ≡ true }
     ensures received { IfOk result (λ outcome. ReceivesRecordOne assets.now limit now (read_record link.now bytes.now) table.old.items table.new.items
         (told (D.value desk.old)) (told (D.value desk.new)) outcome) }
+    ensures broken { IsErrOf result StepFault.Write
+        → ReceiveRecordBreaks assets.now limit now (read_record link.now bytes.now) table.old.items (D.value desk.old) (D.value desk.new) }
+    ensures nothing { IsErrOf result StepFault.NoMemory → desk.new ≡ desk.old }
+    ensures parts { OnOk result (KeepsParts (D.value desk.old) (D.value desk.new)) }
     ensures sound { OnOk result (AreSound assets.now limit table.new.items) }
     ensures size { IfOk result (λ outcome. IsSized outcome (length table.old.items) (length table.new.items)) }
     ensures memory { IsErrOf result StepFault.NoMemory → MayBegin assets.now (read_record link.now bytes.now) }

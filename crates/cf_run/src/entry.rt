@@ -14,6 +14,8 @@ pub struct Entry {
     pub session: Session,
     /// The place of the asset that it serves.
     pub asset: usize,
+    /// Before this moment in microseconds the first half of an event does nothing to it.
+    pub due: u64,
 }
 
 /// The asset at a place of a policy.

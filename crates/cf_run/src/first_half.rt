@@ -1,20 +1,24 @@
 //! The first half of an event: the clock calls of all sessions.
-ghost use Rattle.std.specs.Prelude.{◌≡◌, ◌+◌, ◌*◌, ◌^◌, ◌<◌, ◌≤◌, List, Some, true, IfOk, IsErr, OnOk, drop, length, slice_get, take};
+ghost use Rattle.std.specs.Prelude.{◌≡◌, ◌+◌, ◌*◌, ◌^◌, ◌<◌, ◌≤◌, List, Some, true, IfOk, IsErr, OnErr, OnOk, ◌∷◌, drop, length, slice_get, take};
 ghost use Rattle.cf_outside.specs.Desk.{DeskValue, KeepsDesk};
 ghost use Rattle.cf_outside.specs.Faults.{HasCause};
+ghost use Rattle.cf_session.specs.Broken.{BreaksTick, KeepsParts};
+ghost use Rattle.cf_session.specs.Session.{Flow, SessionEvent};
+ghost use Rattle.cf_session.specs.Stands.{IsSessionOf};
 ghost use Rattle.cf_session.specs.Told.{told};
 ghost use Rattle.cf_run.specs.Engine.{AreAll, AreSound, TickAll, TickAt};
 ghost use Rattle.cf_run.specs.Entries.{cuts_by, stays_by};
+ghost use Rattle.cf_run.specs.Half.{TicksBreak};
 ghost use Rattle.cf_run.specs.Table.{Session as Known};
 ghost use Rattle.cf_run.specs.declared.entry.Entry.{Entry as KnownEntry};
 
 use crate::entry::{Entry, asset_of, cuts, stays};
 use cf_outside::Desk;
 use cf_policy::Asset;
-use cf_session::Life;
+use cf_session::{Life, each_session_has_a_tick, sessions_are_quiet_before_due};
 use cf_view::WriteFault;
 
-/// The clock call of the session at a place.
+/// The clock call of the session at a place. Before the session is due it does nothing, and is not made.
 fn tick_at<D: Desk>(
     table: &mut Vec<Entry>,
     place: usize,
@@ -34,13 +38,22 @@ fn tick_at<D: Desk>(
     ensures ticks { IfOk result (λ life. (before after : KnownEntry) → slice_get table.old.items place ≡ Some before
         → slice_get table.new.items place ≡ Some after
         → TickAt assets.now now before after (told (D.value desk.old)) (told (D.value desk.new)) (stays_by life) (cuts_by life)) }
+    ensures broken { OnErr result ((before : KnownEntry) → slice_get table.old.items place ≡ Some before
+        → (flow : Flow) (earlier : List SessionEvent) (event : SessionEvent) → IsSessionOf flow earlier event before.session
+        → slice_get assets.now before.asset ≡ Some flow.asset → BreaksTick flow (event ∷ earlier) now (D.value desk.old) (D.value desk.new)) }
+    ensures parts { OnOk result (KeepsParts (D.value desk.old) (D.value desk.new)) }
     ensures keeps { KeepsDesk (D.value desk.old) (D.value desk.new) }
     ensures whole { OnOk result (DeskValue.whole (D.value desk.new) ≡ true) }
     ensures cause { HasCause (DeskValue.faults (D.value desk.old)) (DeskValue.faults (D.value desk.new)) (IsErr result) }
 {
     let entry = &mut table[place];
+    if now < entry.due {
+        sessions_are_quiet_before_due();
+        return Ok(Life::Live);
+    }
     let asset = asset_of(assets, entry.asset);
     let life = entry.session.on_clock(asset, now, desk)?;
+    entry.due = entry.session.due();
     Ok(life)
 }
 
@@ -58,12 +71,16 @@ pub fn tick_all<D: Desk>(
     requires whole { DeskValue.whole (D.value desk.old) ≡ true }
     ensures ticks { IfOk result (λ cuts. (known : List Known) → AreAll assets.now now table.old.items known →
         TickAll assets.now now known table.new.items (told (D.value desk.old)) (told (D.value desk.new)) cuts) }
+    ensures broken { OnErr result ((known : List Known) → AreAll assets.now now table.old.items known
+        → TicksBreak now known (D.value desk.old) (D.value desk.new)) }
+    ensures parts { OnOk result (KeepsParts (D.value desk.old) (D.value desk.new)) }
     ensures sound { OnOk result (AreSound assets.now limit table.new.items) }
     ensures fewer { IfOk result (λ cuts. cuts + length table.new.items ≤ length table.old.items) }
     ensures keeps { KeepsDesk (D.value desk.old) (D.value desk.new) }
     ensures whole { OnOk result (DeskValue.whole (D.value desk.new) ≡ true) }
     ensures cause { HasCause (DeskValue.faults (D.value desk.old)) (DeskValue.faults (D.value desk.new)) (IsErr result) }
 {
+    each_session_has_a_tick();
     let mut count = 0;
     let mut place = 0;
     'sessions: while place < table.len() {

@@ -1,5 +1,6 @@
 //! Laws of a run: each is the contract of a function that does nothing.
 ghost use Rattle.cf_run.specs.Headline.{RunsHaveHeadline};
+ghost use Rattle.cf_run.specs.Isolation.{RunsIsolateSessions};
 ghost use Rattle.cf_run.specs.Selected.{SelectsByMoment};
 ghost use Rattle.cf_run.specs.Sessions.{SessionsAreIsolated, SessionsAreRight, SessionsHaveOneStream};
 
@@ -32,6 +33,15 @@ pub fn sessions_have_one_stream()
 #[tactic(auto, using(crate::proofs::Isolation::isolated))]
 pub fn sessions_are_isolated()
     ensures { SessionsAreIsolated }
+{
+    events_are_fixed();
+}
+
+/// Isolation: a session of one run and one of another run of the same policy with equal moments, which have one client and asset
+/// and began in the same event by the same packet, send the same records at the same moments and log the same lines, over the
+/// events in which the same packets are matched to them, whatever else the two captures hold.
+pub fn runs_isolate_sessions()
+    ensures { RunsIsolateSessions }
 {
     events_are_fixed();
 }

@@ -18,8 +18,8 @@ pub use entry::Entry;
 pub use file_desk::FileDesk;
 pub use first_half::tick_all;
 pub use laws::{
-    runs_have_headline, selects_by_moment, sessions_are_isolated, sessions_are_right,
-    sessions_have_one_stream,
+    runs_have_headline, runs_isolate_sessions, selects_by_moment, sessions_are_isolated,
+    sessions_are_right, sessions_have_one_stream,
 };
 pub use matching::{Match, TABLE_SIZE, match_packet};
 pub use record_reader::{NextRecord, OpenFault, RecordReader};

@@ -2,11 +2,11 @@
 ghost use Rattle.std.specs.Prelude.{◌≡◌, ◌+◌, ◌^◌, ◌<◌, ◌≤◌, IfSome, IsErrOf, None, length, take};
 ghost use Rattle.cf_outside.specs.Faults.{HasCause};
 ghost use Rattle.cf_pcap.specs.Record.{captured_at};
-ghost use Rattle.cf_run.specs.Reader.{FindsBody, FindsHead, FindsHeader, FindsRecord, HasRead, IsFilled, OpensAs, body_at, head_at};
+ghost use Rattle.cf_run.specs.Reader.{FindsBody, FindsHead, FindsHeader, FindsRecord, OpensAs, body_at, head_at};
 ghost use Rattle.cf_run.specs.declared.record_reader.HeadAnswer.TheVariants as head;
 ghost use Rattle.cf_run.specs.declared.record_reader.NextRecord.TheVariants as next;
 
-use cf_outside::{Files, ReadAnswer};
+use cf_outside::{Files, fill};
 use cf_pcap::{CAPTURED_LIMIT, Header, HeaderRefusal, RecordAnswer, read_header, read_record};
 use std::alloc::Global;
 use std::marker::Model;
@@ -273,41 +273,4 @@ fn body_at(header: &Header, place: u64, octets: &[u8], size: usize) -> NextRecor
         RecordAnswer::Whole { stamp, .. } => NextRecord::Whole(stamp),
         RecordAnswer::Need(_) | RecordAnswer::TooLong => NextRecord::Cut,
     }
-}
-
-/// Reads octets of a file from a place on into the buffer until so many stand there or the file ends, where some of the
-/// first stand there already. Answers how many stand there then, or that a read failed.
-fn fill<F: Files>(
-    files: &mut F,
-    name: &str,
-    place: u64,
-    buffer: &mut [u8],
-    before: usize,
-    size: usize,
-) -> Option<usize>
-    requires inside { before ≤ size }
-    requires some { 0 < size }
-    requires room { size ≤ length buffer.old }
-    requires near { place ≤ 2 ^ 40 }
-    requires short { length buffer.old ≡ 262160 }
-    requires begun { HasRead (F.content files.old name.now) place (take before buffer.old) }
-    ensures inside { IfSome result (λ have. have ≤ size) }
-    ensures filled { IfSome result (λ have. IsFilled (F.content files.old name.now) place size (take have buffer.new)) }
-    // What stood there stays.
-    ensures front { take before buffer.new ≡ take before buffer.old }
-    ensures some { IfSome result (λ have. before ≤ have) }
-    ensures length { length buffer.new ≡ length buffer.old }
-    ensures same { F.content files.new ≡ F.content files.old }
-    ensures cause { HasCause (F.read_faults files.old) (F.read_faults files.new) (result ≡ None) }
-    ensures writes { F.write_faults files.new ≡ F.write_faults files.old }
-{
-    let mut have = before;
-    'pieces: while have < size {
-        match files.read_at(name, place + have as u64, &mut buffer[have..size]) {
-            ReadAnswer::Got(n) => have += n,
-            ReadAnswer::End => return Some(have),
-            ReadAnswer::Failed => return None,
-        }
-    }
-    Some(have)
 }

@@ -6,11 +6,12 @@ ghost use Rattle.cf_outside.specs.Files.{IsWhole, content_after_create, content_
 ghost use Rattle.cf_packet.specs.Packet.{read_record};
 ghost use Rattle.cf_pcap.specs.Header.{output_octets};
 ghost use Rattle.cf_policy.specs.Within.{AreAssetsWithin};
-ghost use Rattle.cf_run.specs.FileDesk.{are_whole, files_told};
+ghost use Rattle.cf_run.specs.FileDesk.{are_whole, files_desk, files_told};
+ghost use Rattle.cf_run.specs.Half.{StepBreaks, StepStops};
 ghost use Rattle.cf_run.specs.Reader.{HasHeader, ReaderValue};
-ghost use Rattle.cf_run.specs.RunCapture.{AreApart, KeepsOtherFiles, RunsAs, RunsRecords, open_fault, run_names_value, step_fault};
+ghost use Rattle.cf_run.specs.RunCapture.{AreApart, IsCreatedInPart, KeepsOtherFiles, RunsAs, RunsRecords, open_fault, run_names_value, step_fault};
 ghost use Rattle.cf_run.specs.Step.{EngineValue, IsEngineOf, IsSoundEngine, StepsOn};
-ghost use Rattle.cf_run.specs.Trace.{Event};
+ghost use Rattle.cf_run.specs.Trace.{Event, table_after};
 
 use crate::engine::{Engine, StepFault};
 use crate::file_desk::FileDesk;
@@ -91,8 +92,10 @@ impl From<StepFault> for RunFault {
 /// file of packets first. The policy is one that `read_policy` gives.
 ///
 /// After `Refused` by the header no file is changed. After `Read` no file is changed, or the two files have what the records
-/// that were read give. After every other answer but `NoMemory` and `Write` they have what the whole records before the place
-/// give: `NoMemory` and `Write` leave them as they are, perhaps in the middle of an event.
+/// that were read give. After `NoMemory` no file is changed, or they have what these records give and the first half of the next
+/// event, whose packet would have begun a session. After `Write` a creation or the append of the header was not done, or they
+/// have what the records before give, what comes of the next event before one of its halves, and of that half a beginning:
+/// nothing is written behind the fault. After every other answer they have what the whole records before the place give.
 pub fn run_capture<F: Files>(
     alloc: Global,
     policy: &Policy,
@@ -123,6 +126,7 @@ fn create_outputs<F: Files>(names: &RunNames<'_>, files: &mut F) -> WriteAnswer
         F.content files.new names.now.out.now ≡ content_after_write (F.content files.old names.now.out.now) output_octets }
     ensures log { result ≡ WriteAnswer.Done →
         F.content files.new names.now.log.now ≡ content_after_create (F.content files.old names.now.log.now) }
+    ensures failed { result ≡ WriteAnswer.Failed → IsCreatedInPart (run_names_value names.now) (F.content files.old) (F.content files.new) }
     ensures others { KeepsOtherFiles (run_names_value names.now) (F.content files.old) (F.content files.new) }
     ensures cause { HasCause (F.write_faults files.old) (F.write_faults files.new) (result ≡ WriteAnswer.Failed) }
     ensures reads { F.read_faults files.new ≡ F.read_faults files.old }
@@ -206,6 +210,14 @@ fn run_record<F: Files>(
         (event : Event) × StepsOn policy.now.assets moment (read_record reader.now.header.link reader.now.body) events engine.new
         (files_told names.now.out.now names.now.log.now (F.content files.old))
         (files_told names.now.out.now names.now.log.now (F.content files.new)) event) }
+    ensures broken { IsErrOf result StepFault.Write → (events : List Event) → IsEngineOf policy.now.assets engine.old events
+        → StepBreaks policy.now.assets engine.old.limit (table_after events)
+        (record { moment = moment; packet = read_record reader.now.header.link reader.now.body })
+        (files_desk names.now.out.now names.now.log.now (F.content files.old)) (files_desk names.now.out.now names.now.log.now (F.content files.new)) }
+    ensures stops { IsErrOf result StepFault.NoMemory → (events : List Event) → IsEngineOf policy.now.assets engine.old events
+        → StepStops (table_after events) (record { moment = moment; packet = read_record reader.now.header.link reader.now.body })
+        (files_told names.now.out.now names.now.log.now (F.content files.old)) (files_told names.now.out.now names.now.log.now (F.content files.new)) }
+    ensures stops_whole { IsErrOf result StepFault.NoMemory → are_whole names.now.out.now names.now.log.now (F.content files.new) ≡ true }
     ensures sound { OnOk result (IsSoundEngine policy.now.assets engine.new) }
     ensures last { OnOk result (engine.new.last ≡ moment) }
     ensures limit { engine.new.limit ≡ engine.old.limit }

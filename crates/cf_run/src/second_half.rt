@@ -1,12 +1,15 @@
 //! The second half of an event: the packet.
-ghost use Rattle.std.specs.Prelude.{◌≡◌, ◌+◌, ◌*◌, ◌^◌, ◌<◌, ◌≤◌, true, IfOk, IfSome, IsErrOf, OnOk, length, pos};
+ghost use Rattle.std.specs.Prelude.{◌≡◌, ◌+◌, ◌-◌, ◌*◌, ◌^◌, ◌<◌, ◌≤◌, true, IfOk, IfSome, IsErrOf, OnErr, OnOk, Some, length, pos, slice_get, vec_capacity, vec_len};
 ghost use Rattle.cf_outside.specs.Desk.{DeskValue, KeepsDesk};
 ghost use Rattle.cf_outside.specs.Faults.{HasCause};
 ghost use Rattle.cf_packet.specs.Packet.{packet_value};
 ghost use Rattle.cf_policy.specs.Within.{AreAssetsWithin};
+ghost use Rattle.cf_session.specs.Broken.{BreaksBeginning, KeepsParts};
+ghost use Rattle.cf_session.specs.Session.{Flow};
 ghost use Rattle.cf_session.specs.Told.{told};
 ghost use Rattle.cf_run.specs.Engine.{AreSound};
 ghost use Rattle.cf_run.specs.Entries.{others, without_at};
+ghost use Rattle.cf_run.specs.Half.{GoBreaks, ReceiveBreaks};
 ghost use Rattle.cf_run.specs.Receiving.{BeginsOne, GoesOne, IsSized, ReceivesOne, may_begin_one};
 
 use crate::engine::StepFault;
@@ -60,6 +63,9 @@ pub fn receive<D: Desk>(
     requires whole { DeskValue.whole (D.value desk.old) ≡ true }
     ensures received { IfOk result (λ outcome. ReceivesOne assets.now limit now (packet_value packet.now) table.old.items table.new.items
         (told (D.value desk.old)) (told (D.value desk.new)) outcome) }
+    ensures broken { IsErrOf result StepFault.Write → ReceiveBreaks assets.now limit now (packet_value packet.now) table.old.items (D.value desk.old) (D.value desk.new) }
+    ensures nothing { IsErrOf result StepFault.NoMemory → desk.new ≡ desk.old }
+    ensures parts { OnOk result (KeepsParts (D.value desk.old) (D.value desk.new)) }
     ensures sound { OnOk result (AreSound assets.now limit table.new.items) }
     ensures size { IfOk result (λ outcome. IsSized outcome (length table.old.items) (length table.new.items)) }
     ensures memory { IsErrOf result StepFault.NoMemory → may_begin_one assets.now (packet_value packet.now) ≡ true }
@@ -109,6 +115,10 @@ fn begin<D: Desk>(
     requires whole { DeskValue.whole (D.value desk.old) ≡ true }
     ensures begins { OnOk result (BeginsOne assets.now now asset closed (packet_value packet.now) table.old.items table.new.items
         (told (D.value desk.old)) (told (D.value desk.new))) }
+    ensures broken { IsErrOf result StepFault.Write → (flow : Flow) → slice_get assets.now asset ≡ Some flow.asset
+        → flow.syn ≡ packet_value packet.now → BreaksBeginning flow (now - 1) (D.value desk.old) (D.value desk.new) }
+    ensures nothing { IsErrOf result StepFault.NoMemory → desk.new ≡ desk.old }
+    ensures parts { OnOk result (KeepsParts (D.value desk.old) (D.value desk.new)) }
     ensures sound { OnOk result (AreSound assets.now limit table.new.items) }
     ensures size { OnOk result ((length table.new.items ≤ length table.old.items + 1) × (length table.new.items ≤ 256)) }
     ensures keeps { KeepsDesk (D.value desk.old) (D.value desk.new) }
@@ -116,13 +126,34 @@ fn begin<D: Desk>(
     ensures cause { HasCause (DeskValue.faults (D.value desk.old)) (DeskValue.faults (D.value desk.new)) (IsErrOf result StepFault.Write) }
 {
     make_way(table, closed);
+    make_room(table)?;
     let served = asset_of(assets, asset);
     let session = match Session::begin(alloc, served, now, signed(limit), packet, desk) {
         Ok(session) => session,
         Err(BeginFault::NoMemory) => return Err(StepFault::NoMemory),
         Err(BeginFault::Write) => return Err(StepFault::Write),
     };
-    if table.push(Entry { session, asset }).is_err() {
+    let due = session.due();
+    if table
+        .push(Entry {
+            session,
+            asset,
+            due,
+        })
+        .is_err()
+    {
+        return Err(StepFault::NoMemory);
+    }
+    Ok(())
+}
+
+/// Room for one more session is taken, before anything is sent.
+fn make_room(table: &mut Vec<Entry>) -> Result<(), StepFault>
+    ensures same { table.new.items ≡ table.old.items }
+    ensures room { OnOk result (vec_len table.new < vec_capacity table.new) }
+    ensures memory { OnErr result (IsErrOf result StepFault.NoMemory) }
+{
+    if table.try_reserve(1).is_err() {
         return Err(StepFault::NoMemory);
     }
     Ok(())
@@ -164,6 +195,8 @@ fn go_on<D: Desk>(
     requires whole { DeskValue.whole (D.value desk.old) ≡ true }
     ensures goes { IfOk result (λ outcome. GoesOne assets.now limit now place side (packet_value packet.now) table.old.items table.new.items
         (told (D.value desk.old)) (told (D.value desk.new)) outcome) }
+    ensures broken { IsErrOf result StepFault.Write → GoBreaks assets.now limit now place side (packet_value packet.now) table.old.items (D.value desk.old) (D.value desk.new) }
+    ensures parts { OnOk result (KeepsParts (D.value desk.old) (D.value desk.new)) }
     ensures sound { OnOk result (AreSound assets.now limit table.new.items) }
     ensures size { IfOk result (λ outcome. IsSized outcome (length table.old.items) (length table.new.items)) }
     ensures memory { IsErrOf result StepFault.NoMemory → ⊥ }
@@ -175,14 +208,16 @@ fn go_on<D: Desk>(
     let asset = asset_of(assets, entry.asset);
     let admitted = entry.session.admitted();
     let refused = entry.session.refused();
-    let Ok(life) = entry.session.on_packet(asset, now, side, packet, desk) else {
-        return Err(StepFault::Write);
+    let life = match entry.session.on_packet(asset, now, side, packet, desk) {
+        Ok(life) => life,
+        Err(_) => return Err(StepFault::Write),
     };
     let outcome = Outcome::Went {
         admitted: entry.session.admitted().saturating_sub(admitted),
         refused: entry.session.refused().saturating_sub(refused),
         cuts: cuts(&life),
     };
+    entry.due = entry.session.due();
     if !stays(&life) {
         table.remove(place);
     }

@@ -39,7 +39,7 @@ use Rattle.cf_session.specs.Work.{Work, Works}
 abbrev pub BaseCounts : Type 0
 BaseCounts = (leg : LegValue) (m : Marks) (xs : List LegEvent) (st : Stream) → IsLegOf leg m xs → IsTaken (first_copy (offers leg.ends.role xs)) st → base_of leg.window ≡ letter_count st
 
-works_of : (asset : Asset) (client : Endpoint) (lane : LaneValue) (r : _) (h : _) (w : Work) → IsLaneAfter asset client lane r h w → Works asset client h w
+pub works_of : (asset : Asset) (client : Endpoint) (lane : LaneValue) (r : _) (h : _) (w : Work) → IsLaneAfter asset client lane r h w → Works asset client h w
 works_of asset client lane r h w l = record { judged = l.judged; are_judged = l.are_judged; is_work = l.is_work }
 
 abbrev quiet : Bool → Came → PacketValue → List PacketValue
@@ -55,13 +55,13 @@ module _ (f : Flow) (es : List SessionEvent) (t : SessionEvent) (s0 : SessionVal
   closed_before : s1.closed ≡ closed_at f es
   closed_before = was_closing ∙ stands.closed ∙ tick_closed f es t tick
 
-  was : is_some s1.closed ≡ was_closed f es
+  pub was : is_some s1.closed ≡ was_closed f es
   was = ap is_some closed_before
 
   greeted_early : is_greeted (clients es) ≡ opened (controller_ends f).role (controllers es)
   greeted_early = greeted_before f es t (is_half f es t s0 stands tick) stands.greeted
 
-  lines_are : (e : SessionEvent) → e.work ≡ h.work → first_line f es e ++ new_lines es e ≡ h.lines
+  pub lines_are : (e : SessionEvent) → e.work ≡ h.work → first_line f es e ++ new_lines es e ≡ h.lines
   lines_are e same =
       ap (λ xs. xs ++ new_lines es e) (later_line f s0.limit es t e stands.events tick)
       ∙ ap (λ (w : Work). drop (length (work_of es).log) w.log) same
@@ -80,16 +80,16 @@ module _ (f : Flow) (es : List SessionEvent) (t : SessionEvent) (s0 : SessionVal
     cut_here = because ∙ cut_is f es t s p s1 given cut t0 t1 h (Some r) None (inl refl) (Cut cuts.to_controller) (Cut cuts.to_client) law s1.limit (is_some s1.closed) was
         ∙ ap (λ n. packet_cut f n es cut_event) was_limit
 
-    cut_packet : IsPacket f s0.limit es t s p cut_event
+    pub cut_packet : IsPacket f s0.limit es t s p cut_event
     cut_packet = heard_is_packet f s0.limit es t tick.fed s p h.letters h.work (Some r) (came_controller s p) (came_first s p) (Cut cuts.to_controller) (Cut cuts.to_client)
         refl (came_cut f es t s p (Cut cuts.to_controller)) cuts.controller_right cuts.client_right
         (are_taken f es t s p s1 given cut t0 t1 h (Some r) None (inl refl) (Cut cuts.to_controller) (Cut cuts.to_client)) h.unended
         (works_of f.asset (client_of f) s1.lane _ _ h.work h.parts.lane) cut_here (cuts.to_controller, refl) (cuts.to_client, refl)
 
-    last_cut : last_line f es cut_event (Some r) ≡ line f now (CutLine r) ∷ []
+    pub last_cut : last_line f es cut_event (Some r) ≡ line f now (CutLine r) ∷ []
     last_cut = ap (λ b. cond b [] (line f (moment t.client) (CutLine r) ∷ [])) loud ∙ ap (λ n. line f n (CutLine r) ∷ []) is_now
 
-    sent_cut : at now (cuts.to_controller ∷ cuts.to_client ∷ []) ≡ sent_second cut_event
+    pub sent_cut : at now (cuts.to_controller ∷ cuts.to_client ∷ []) ≡ sent_second cut_event
     sent_cut =
         ap (λ n. at n (cuts.to_controller ∷ cuts.to_client ∷ [])) (sym is_now)
         ∙ ap (λ xs. at (moment t.client) xs) (sym (rsts_are t s p cuts.to_controller cuts.to_client))
@@ -133,7 +133,7 @@ module _ (f : Flow) (es : List SessionEvent) (t : SessionEvent) (s0 : SessionVal
     has_room_is : roomy ≡ has_room f (live_event ∷ es)
     has_room_is = room_is f es t s p s1 given cut t0 t1 h None number fits (Spoke h.work.to_controller roomy says.outs_c) (Spoke h.work.to_client roomy says.outs_d)
 
-    live_packet : IsPacket f s0.limit es t s p live_event
+    pub live_packet : IsPacket f s0.limit es t s p live_event
     live_packet = heard_is_packet f s0.limit es t tick.fed s p h.letters h.work None (came_controller s p) (came_greeted f number (came_first s p)) (Spoke h.work.to_controller roomy says.outs_c) (Spoke h.work.to_client roomy says.outs_d)
         refl (came_due f es t s p given (Spoke h.work.to_controller roomy says.outs_c) h.answer_is)
         (right_of (controller_ends f) s2.controller s2.to_controller live_event.controller (controllers es) says.controller_stands)
@@ -169,7 +169,7 @@ module _ (f : Flow) (es : List SessionEvent) (t : SessionEvent) (s0 : SessionVal
     lane_two : s2.lane ≡ s1.lane
     lane_two = ap (λ (x : SessionValue). x.lane) only.rest
 
-    close_line : closing_lines asset s2 now ≡ last_line f es live_event None
+    pub close_line : closing_lines asset s2 now ≡ last_line f es live_event None
     close_line =
         ap (λ b. cond (b && not (is_some s2.closed)) (line_about asset s2.source now (Close s2.lane.admitted s2.lane.refused) ∷ []) []) done_closed
         ∙ ap (λ o. cond (is_closed f (live_event ∷ es) && not (is_some o)) (line_about asset s2.source now (Close s2.lane.admitted s2.lane.refused) ∷ []) []) closed_two
@@ -186,7 +186,7 @@ module _ (f : Flow) (es : List SessionEvent) (t : SessionEvent) (s0 : SessionVal
     abbrev outs : List PacketValue
     outs = says.outs_c ++ (greetings f number ++ says.outs_d)
 
-    sent_live : at now outs ≡ sent_second live_event
+    pub sent_live : at now outs ≡ sent_second live_event
     sent_live =
         ap (λ n. at n outs) (sym is_now) ∙ ap (at (moment t.client)) (sent_is f t s p given h.work.to_client h.work.to_controller roomy says.outs_c says.outs_d)
         ∙ ap (λ b. at (moment t.client) (late b live_event.controller ++ late b live_event.client)) (sym (has_packet f s p number))

@@ -47,7 +47,7 @@ hello_same F f side.Controller p answer.Reset n h = refl
 abbrev pub Suits : Side → LegAnswer → ℕ → Option ℕ → Type 0
 Suits s given n number = (number ≡ None) ⊎ (number ≡ number_by s given n)
 
-hello_any : {X : Type 0} (F : Came → X) (f : Flow) (s : Side) (p : PacketValue) (given : LegAnswer) (n : ℕ) (number : Option ℕ) → Suits s given n number → ((q : PacketValue) → F (Greeting q) ≡ F Nothing) → F (came_greeted f number (came_first s p)) ≡ F (came_first s p)
+pub hello_any : {X : Type 0} (F : Came → X) (f : Flow) (s : Side) (p : PacketValue) (given : LegAnswer) (n : ℕ) (number : Option ℕ) → Suits s given n number → ((q : PacketValue) → F (Greeting q) ≡ F Nothing) → F (came_greeted f number (came_first s p)) ≡ F (came_first s p)
 hello_any F f s p given n number (inl e) h = ap (λ m. F (came_greeted f m (came_first s p))) e
 hello_any F f s p given n number (inr e) h = ap (λ m. F (came_greeted f m (came_first s p))) e ∙ hello_same F f s p given n h
 
@@ -138,7 +138,7 @@ reset_client : (b : Bool) → cond b (Some reason.ResetByClient) (cond false (So
 reset_client true = refl
 reset_client false = refl
 
-resets_is : (f : Flow) (es : List SessionEvent) (t : SessionEvent) (s : Side) (p : PacketValue) (letters : Stream) (w : Work) (given : LegAnswer) (why : Option CutReason) (number : Option ℕ) → Suits s given p.seq number → (x y : Ending) →
+pub resets_is : (f : Flow) (es : List SessionEvent) (t : SessionEvent) (s : Side) (p : PacketValue) (letters : Stream) (w : Work) (given : LegAnswer) (why : Option CutReason) (number : Option ℕ) → Suits s given p.seq number → (x y : Ending) →
     given ≡ answer_to (end_state (ends_of f s).role (legs_of s es) (leg_in s t)) p →
     reset_cut f es (heard_event t s letters w why (came_controller s p) (came_greeted f number (came_first s p)) x y) ≡ cond (is_reset given) (Some (reset_by s)) None
 resets_is f es t side.Client p letters w given why number suits x y e =

@@ -26,7 +26,7 @@ use Rattle.cf_session.specs.Work.{Work, fed_at, work_by}
 
 -- ---- histories
 
-some_letters : (b : ℕ) (bytes : List ℕ) (ended : Bool) → (letter_count (record { bytes = b ∷ bytes; ended = ended }) == 0) ≡ false
+pub some_letters : (b : ℕ) (bytes : List ℕ) (ended : Bool) → (letter_count (record { bytes = b ∷ bytes; ended = ended }) == 0) ≡ false
 some_letters b bytes ended = grind arith
 
 nothing_in : (s t : Side) (m : ℕ) → bytes_in t (bytes_at m s []) ≡ []

@@ -41,6 +41,12 @@ told_sent a b now ps e d =
     ap (λ x. let r : Told = record { packets = x; lines = b.lines } in r) (e ∙ segments-more a.packets now ps)
     ∙ ap (λ x. let r : Told = record { packets = with_more a.packets (map emitted (at now ps)); lines = x } in r) (d ∙ more-none a.lines)
 
+-- nothing happened, which is what segments of nothing say
+pub told_same : (t : Told) (now : ℕ) (ps : List PacketValue) → t.packets ≡ with_segments t.packets now ps → t ≡ with_both t (at now ps) []
+told_same t now ps e =
+    ap (λ x. let r : Told = record { packets = x; lines = t.lines } in r) (e ∙ segments-more t.packets now ps)
+    ∙ ap (λ x. let r : Told = record { packets = with_more t.packets (map emitted (at now ps)); lines = x } in r) (more-none t.lines)
+
 -- a call that put lines, and sent no segment
 pub told_lines : (a b : DeskValue) (ls : List (List ℕ)) → b.packets ≡ a.packets → b.lines ≡ with_more a.lines ls → told b ≡ with_both (told a) [] ls
 told_lines a b ls e d =

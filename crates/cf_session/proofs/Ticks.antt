@@ -43,7 +43,7 @@ later_closed None true m n = refl
 later_closed None false m n = refl
 
 module _ (f : Flow) (es : List SessionEvent) (e : SessionEvent) (now : ℕ) where
-  abbrev ticking_at : List PacketValue → List PacketValue → SessionEvent
+  abbrev pub ticking_at : List PacketValue → List PacketValue → SessionEvent
   ticking_at fc fd = record { controller = clocked now fc; client = clocked now fd; fed = []; work = e.work; cut = None }
 
   same_history : (fc fd : List PacketValue) → history (ticking_at fc fd ∷ e ∷ es) ≡ history (e ∷ es)
@@ -184,7 +184,7 @@ none_fires true false ps e = refl
 none_fires false b ps e = absurd (false≢true e)
 
 -- a leg that gives up sends nothing again
-silent_fires : (ends : Ends) (es : List LegEvent) (now : ℕ) → gives_up ends.role es (clocked now []) ≡ true → fired_at ends es (clocked now []) ≡ []
+pub silent_fires : (ends : Ends) (es : List LegEvent) (now : ℕ) → gives_up ends.role es (clocked now []) ≡ true → fired_at ends es (clocked now []) ≡ []
 silent_fires ends es now e = none_fires (fires ends.role es (clocked now [])) (nat_lt (tries ends.role es) 6) (repeats ends es) e
 
 module _ (f : Flow) (es : List SessionEvent) (e : SessionEvent) (now : ℕ) (early : is_expired f (e ∷ es) now ≡ false) where

@@ -1,6 +1,6 @@
 -- What holds over every list of right events of a session. The main definitions are `EventsAreFixed`,
 -- `WorkIsOfTheTaken` and `HasOneStream`. This project's own.
-use Rattle.std.specs.Prelude.{◌≡◌, ℕ, ◌+◌, ◌^◌, ◌≤◌, List, [], ◌∷◌, ◌++◌, length, map, slice_get, Option, None, Some, ℤ}
+use Rattle.std.specs.Prelude.{◌≡◌, ℕ, ◌+◌, ◌^◌, ◌≤◌, false, List, [], ◌∷◌, ◌++◌, length, map, slice_get, Option, None, Some, ℤ}
 use Rattle.cf_leg.specs.Event.{Came, Greeting, LegEvent, Nothing, Packet, sent_in}
 use Rattle.cf_leg.specs.Segment.{letters_in}
 use Rattle.cf_leg.specs.Told.{letters_sent, letters_sent_at, letters_sent_by, own_number}
@@ -8,8 +8,10 @@ use Rattle.cf_leg.specs.declared.Role.{Role}
 use Rattle.cf_packet.specs.Packet.{PacketValue}
 use Rattle.cf_stream.specs.Position.{position}
 use Rattle.cf_stream.specs.Stream.{End, Letter, Stream, letter_from, letters}
-use Rattle.cf_session.specs.Event.{AreEvents}
-use Rattle.cf_session.specs.Session.{Flow, SessionEvent, client_ends, client_of, clients, controller_ends, controllers, history, work_of}
+use Rattle.cf_session.specs.Event.{AreEvents, IsTick}
+use Rattle.cf_session.specs.Parts.{SessionValue}
+use Rattle.cf_session.specs.Session.{Flow, SessionEvent, client_ends, client_of, clients, controller_ends, controllers, history, is_expired, work_of}
+use Rattle.cf_session.specs.Stands.{IsSessionOf}
 use Rattle.cf_session.specs.Work.{Works}
 
 -- ---- isolation: a session's packets and their moments fix all that it sends and logs
@@ -33,6 +35,13 @@ given event = record { tick = event.client.tick; from_client = packet_in event.c
 abbrev pub EventsAreFixed : Type 0
 EventsAreFixed =
     (flow : Flow) (limit : ℕ) (xs ys : List SessionEvent) → AreEvents flow limit xs → AreEvents flow limit ys → map given xs ≡ map given ys → xs ≡ ys
+
+-- ---- each session has a first half of its next event
+
+abbrev pub EachSessionHasATick : Type 0
+EachSessionHasATick =
+    (flow : Flow) (earlier : List SessionEvent) (event : SessionEvent) (s : SessionValue) (tick : ℕ) → IsSessionOf flow earlier event s →
+    is_expired flow (event ∷ earlier) tick ≡ false → (next : SessionEvent) × IsTick flow (event ∷ earlier) tick next
 
 -- ---- what a lane made of a session is of all that was taken of both sides, by first copies
 

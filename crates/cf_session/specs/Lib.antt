@@ -1,5 +1,6 @@
 pub mod Work
 pub mod Session
+pub mod Broken
 pub mod Cuts
 pub mod Event
 pub mod Sent

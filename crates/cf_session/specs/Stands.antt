@@ -1,7 +1,8 @@
 -- What a session in memory stands for, and what its calls do. The main definitions are `IsSessionOf` and `IsSound`, and
 -- `Begins`, `TicksBy` and `HearsBy`, one for each call. This project's own.
-use Rattle.std.specs.Prelude.{◌≡◌, ◌≢◌, ℕ, ◌+◌, ◌*◌, ◌^◌, ◌<◌, ◌≤◌, Bool, true, false, List, [], ◌∷◌, length, Option, None, Some}
+use Rattle.std.specs.Prelude.{◌≡◌, ◌≢◌, ℕ, ◌+◌, ◌-◌, ◌*◌, ◌^◌, min, ◌<◌, ◌≤◌, Bool, true, false, List, [], ◌∷◌, length, Option, None, Some}
 use Rattle.cf_lane.specs.Handled.{IsLaneOf, debt}
+use Rattle.cf_leg.specs.Calls.{due_of as leg_due}
 use Rattle.cf_leg.specs.Event.{is_settled, stream_after}
 use Rattle.cf_leg.specs.Heard.{opened}
 use Rattle.cf_leg.specs.Told.{is_greeted}
@@ -68,7 +69,7 @@ pub record IsSound (asset : Asset) (s : SessionValue) : Type 0 where
   pub client_room : HasRoomFor s.to_client s
   pub controller_room : HasRoomFor s.to_controller s
 
--- ---- what the calls do. Nothing is said here after a fault
+-- ---- what the calls do. What stands after a fault is in `Broken`
 
 -- what a session answers that stays in the table
 abbrev pub IsLife : Life → Type 0
@@ -106,6 +107,21 @@ TicksBy flow earlier tick s old new life.Expired = (is_expired flow earlier tick
 TicksBy flow earlier tick s old new (life.Cut because) = (event : SessionEvent) × Ticks flow earlier tick old new event × (event.cut ≡ Some because)
 TicksBy flow earlier tick s old new life.Live = (event : SessionEvent) × Ticks flow earlier tick old new event × Lives flow earlier event false s
 TicksBy flow earlier tick s old new life.Closed = (event : SessionEvent) × Ticks flow earlier tick old new event × Lives flow earlier event true s
+
+-- the moment at which a session expires
+abbrev pub expiry_of : (closed : Option ℕ) → ℕ
+expiry_of None = 2 ^ 64 - 1
+expiry_of (Some moment) = min (moment + 60000000) (2 ^ 64 - 1)
+
+-- the moment from which on the first half of an event does something: the timer of an end is due, or the session expires
+abbrev pub due_of : SessionValue → ℕ
+due_of s = min (expiry_of s.closed) (min (leg_due s.controller) (leg_due s.client))
+
+-- before it is due the first half of an event sends and logs nothing, and the session as it is stands for the longer list of events
+abbrev pub AreQuietBeforeDue : Type 0
+AreQuietBeforeDue =
+    (flow : Flow) (earlier : List SessionEvent) (event : SessionEvent) (s : SessionValue) (now : ℕ) (desk : Told) → IsSessionOf flow earlier event s → now < due_of s →
+    TicksBy flow (event ∷ earlier) now s desk desk (life_by s.closed)
 
 -- the second half, with a packet of a side
 pub record Hears (flow : Flow) (limit : ℕ) (earlier : List SessionEvent) (half : SessionEvent) (from : Side) (packet : PacketValue) (old new : Told) (event : SessionEvent) : Type 0 where

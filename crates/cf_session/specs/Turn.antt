@@ -13,6 +13,7 @@ use Rattle.cf_leg.specs.declared.Ends.{Ends}
 use Rattle.cf_leg.specs.declared.LegAnswer.{LegAnswer}
 use Rattle.cf_leg.specs.declared.Phase.TheVariants as phase
 use Rattle.cf_outq.specs.SendQueue.{IsQueueOf, Queue, empty, queue_length}
+use Rattle.cf_outside.specs.Desk.{DeskValue}
 use Rattle.cf_packet.specs.Packet.{PacketValue}
 use Rattle.cf_rebuild.specs.ReceiveWindow.{Window, base_of}
 use Rattle.cf_stream.specs.FirstCopy.{IsTaken, first_copy}
@@ -25,13 +26,14 @@ use Rattle.cf_policy.specs.declared.Asset.{Asset}
 use Rattle.cf_view.specs.declared.Endpoint.{Endpoint}
 use Rattle.cf_view.specs.declared.Side.{Side}
 use Rattle.cf_view.specs.declared.Side.TheVariants as side
-use Rattle.cf_session.specs.Event.{came_controller}
+use Rattle.cf_session.specs.Broken.{BreaksAmid}
+use Rattle.cf_session.specs.Event.{AreTaken, came_controller}
 use Rattle.cf_session.specs.Stands.{HasRoomFor}
 use Rattle.cf_session.specs.Parts.{AreParts, IsLaneAfter, IsPassive, IsLegBetween, SessionValue, open_places, other_queue, own_queue}
 use Rattle.cf_session.specs.Sent.{at, line}
 use Rattle.cf_session.specs.Session.{Flow, SessionEvent, client_ends, client_of, clients, controller_ends, controllers, history}
 use Rattle.cf_session.specs.Told.{Told, with_both}
-use Rattle.cf_session.specs.Work.{Work, fed_at, no_work}
+use Rattle.cf_session.specs.Work.{Work, Works, fed_at, no_work}
 
 -- both sides have their RST, and the log its line
 pub record CutsBoth (flow : Flow) (controllers clients : List LegEvent) (controller client : LegEvent) (now : ℕ) (because : CutReason) (old new : Told) : Type 0 where
@@ -277,3 +279,49 @@ is_done_now s = (s.client.window.ended && s.controller.window.ended) && (is_ackn
 abbrev pub closing_lines : Asset → SessionValue → (now : ℕ) → List (List ℕ)
 closing_lines asset s now =
     if is_done_now s && not (is_some s.closed) then line_about asset s.source now (Close s.lane.admitted s.lane.refused) ∷ [] else []
+
+-- ---- the same where the desk failed amid it: what is right to send and to log, of which the desk got a beginning
+
+-- the RSTs of both sides, and the line
+pub record CutsAmid (flow : Flow) (controllers clients : List LegEvent) (controller client : LegEvent) (now : ℕ) (because : CutReason) (old new : DeskValue) : Type 0 where
+  pub to_controller : PacketValue
+  pub controller_right : IsRight (controller_ends flow) controllers (record controller { ending = LegCut to_controller })
+  pub to_client : PacketValue
+  pub client_right : IsRight (client_ends flow) clients (record client { ending = LegCut to_client })
+  pub amid : BreaksAmid (at now (to_controller ∷ to_client ∷ [])) (line flow now (CutLine because) ∷ []) old new
+
+-- letters that are handed to the lane: the lines by which its work goes on
+pub record FollowsAmid (asset : Asset) (client : Endpoint) (now : ℕ) (s : Side) (earlier : List Element) (before : Work) (letters : Stream) (old new : DeskValue) : Type 0 where
+  pub work : Work
+  pub works : Works asset client (earlier ++ fed_at now s letters) work
+  pub lines : List (List ℕ)
+  pub log_is : work.log ≡ before.log ++ lines
+  pub amid : BreaksAmid [] lines old new
+
+-- a packet of a side that is heard: its letters are taken, and handed over
+pub record HearingAmid (s : Side) (ends : Ends) (asset : Asset) (client : Endpoint) (now : ℕ) (e : LegEvent) (es : List LegEvent) (packet : PacketValue) (earlier : List Element) (before : Work)
+    (old new : DeskValue) : Type 0 where
+  pub letters : Stream
+  pub taken_is : IsTaken (first_copy (offers ends.role (record e { came = Packet packet; ending = Unspoken } ∷ es))) (with_letters (taken s earlier) letters)
+  pub unended : ended_of s earlier ≡ true → letter_count letters ≡ 0
+  pub follows : FollowsAmid asset client now s earlier before letters old new
+
+-- the same for a session
+pub record HeardAmid (flow : Flow) (earlier : List SessionEvent) (half : SessionEvent) (from : Side) (packet : PacketValue) (old new : DeskValue) : Type 0 where
+  pub letters : Stream
+  pub work : Work
+  pub are_taken : AreTaken flow (heard_half half from packet letters work ∷ earlier)
+  pub unended : ended_of from (history earlier) ≡ true → letter_count letters ≡ 0
+  pub works : Works flow.asset (client_of flow) (history (heard_half half from packet letters work ∷ earlier)) work
+  pub lines : List (List ℕ)
+  pub log_is : work.log ≡ half.work.log ++ lines
+  pub amid : BreaksAmid [] lines old new
+
+-- the speeches of both legs, and the greeting of the client in between
+pub record SaysAmid (flow : Flow) (now : ℕ) (number : Option ℕ) (controller : LegEvent) (controllers : List LegEvent) (client : LegEvent) (clients : List LegEvent)
+    (to_client to_controller : Stream) (roomy : Bool) (old new : DeskValue) : Type 0 where
+  pub outs_c : List PacketValue
+  pub outs_d : List PacketValue
+  pub controller_right : IsRight (controller_ends flow) controllers (record controller { ending = Spoke to_controller roomy outs_c })
+  pub client_right : IsRight (client_ends flow) clients (record client { came = came_greeted flow number client.came; ending = Spoke to_client roomy outs_d })
+  pub amid : BreaksAmid (at now (outs_c ++ (greetings flow number ++ outs_d))) [] old new

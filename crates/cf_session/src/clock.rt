@@ -1,11 +1,12 @@
 //! The first half of an event: the clock calls.
-ghost use Rattle.std.specs.Prelude.{◌≡◌, ℕ, ◌+◌, ◌-◌, ◌*◌, ◌^◌, ◌<◌, ◌≤◌, true, List, [], ◌∷◌, length, IfOk, IsErr, OnOk};
+ghost use Rattle.std.specs.Prelude.{◌≡◌, ℕ, ◌+◌, ◌-◌, ◌*◌, ◌^◌, ◌<◌, ◌≤◌, true, List, [], ◌∷◌, length, IfOk, IsErr, OnErr, OnOk};
 ghost use Rattle.cf_outside.specs.Desk.{DeskValue, KeepsDesk};
 ghost use Rattle.cf_outside.specs.Faults.{HasCause};
+ghost use Rattle.cf_session.specs.Broken.{BreaksTick, KeepsParts};
 ghost use Rattle.cf_session.specs.Cuts.{is_no_answer};
 ghost use Rattle.cf_session.specs.Parts.{SessionValue};
 ghost use Rattle.cf_session.specs.Session.{Flow, SessionEvent, is_past};
-ghost use Rattle.cf_session.specs.Stands.{IsLife, IsSessionOf, IsSound, TicksBy, life_by};
+ghost use Rattle.cf_session.specs.Stands.{IsLife, IsSessionOf, IsSound, TicksBy, due_of, expiry_of, life_by};
 ghost use Rattle.cf_session.specs.Told.{told};
 
 use crate::life::Life;
@@ -34,6 +35,10 @@ impl Session {
         ensures ticks { IfOk result (λ life. (flow : Flow) (earlier : List SessionEvent) (last : SessionEvent) → flow.asset ≡ asset.now
             → IsSessionOf flow earlier last self.old
             → TicksBy flow (last ∷ earlier) now self.new (told (D.value desk.old)) (told (D.value desk.new)) life) }
+        ensures broken { OnErr result ((flow : Flow) (earlier : List SessionEvent) (last : SessionEvent) → flow.asset ≡ asset.now
+            → IsSessionOf flow earlier last self.old
+            → BreaksTick flow (last ∷ earlier) now (D.value desk.old) (D.value desk.new)) }
+        ensures parts { OnOk result (KeepsParts (D.value desk.old) (D.value desk.new)) }
         ensures sound { IfOk result (λ life. IsLife life → IsSound asset.now self.new) }
         ensures same { (SessionValue.limit self.new ≡ SessionValue.limit self.old) × (SessionValue.source self.new ≡ SessionValue.source self.old) }
         ensures keeps { KeepsDesk (D.value desk.old) (D.value desk.new) }
@@ -54,6 +59,25 @@ impl Session {
             return self.cut_at(asset, now, CutReason::NoAnswer(Side::Client), desk);
         }
         Ok(life_of(self.closed))
+    }
+}
+
+impl Session {
+    /// The moment in microseconds from which on the first half of an event does something; the greatest number where none will.
+    pub fn due(&self) -> u64
+        ensures { result ≡ due_of self.now }
+    {
+        expiry_of(self.closed).min(self.controller.due().min(self.client.due()))
+    }
+}
+
+/// The moment at which a session expires.
+fn expiry_of(closed: Option<u64>) -> u64
+    ensures { result ≡ expiry_of closed }
+{
+    match closed {
+        None => u64::MAX,
+        Some(moment) => moment.saturating_add(KEPT),
     }
 }
 

@@ -1,5 +1,5 @@
 //! The bytes that a side's window has taken are handed to the lane.
-ghost use Rattle.std.specs.Prelude.{◌≡◌, ℕ, ◌+◌, ◌*◌, ◌^◌, ◌<◌, ◌≤◌, Bool, true, false, List, ◌++◌, length, drop, IfOk, IsErr, OnOk, None};
+ghost use Rattle.std.specs.Prelude.{◌≡◌, ℕ, ◌+◌, ◌*◌, ◌^◌, ◌<◌, ◌≤◌, Bool, true, false, List, ◌++◌, length, drop, IfOk, IsErr, OnErr, OnOk, None};
 ghost use Rattle.cf_lane.specs.Follows.{IsEndBehindCut, Rests, rest_of, with_rest};
 ghost use Rattle.cf_lane.specs.Handled.{CountsBy, EndsOther, Grows, HasRoom, IsLaneOf, IsOpen, MayEnd, debt};
 ghost use Rattle.cf_lane.specs.History.{Element};
@@ -11,13 +11,14 @@ ghost use Rattle.cf_outside.specs.Faults.{HasCause};
 ghost use Rattle.cf_policy.specs.Within.{IsAssetWithin};
 ghost use Rattle.cf_rebuild.specs.ReceiveWindow.{IsWindow};
 ghost use Rattle.cf_view.specs.declared.Endpoint.{Endpoint as EndpointOf};
+ghost use Rattle.cf_session.specs.Broken.{KeepsParts};
 ghost use Rattle.cf_session.specs.Parts.{IsLaneAfter};
 ghost use Rattle.cf_session.specs.Told.{told};
-ghost use Rattle.cf_session.specs.Turn.{FollowsMore, HandsOver};
+ghost use Rattle.cf_session.specs.Turn.{FollowsAmid, FollowsMore, HandsOver};
 ghost use Rattle.cf_session.specs.Work.{Work, fed_at};
 
 use cf_audit::CutReason;
-use cf_lane::{Fed, Lane, pieces_join};
+use cf_lane::{Fed, Lane, judgements_go_on, pieces_join, streams_go_on};
 use cf_leg::Leg;
 use cf_outq::Outq;
 use cf_outside::Desk;
@@ -49,6 +50,11 @@ fn feed_lane<D: Desk>(
         → bytes.entry.bytes ≡ rest_of side rests ++ piece → IsQueueOf to_client.old before.to_client → IsQueueOf to_controller.old before.to_controller
         → FollowsMore asset.now client now side (with_rest side rests (drop fed.used bytes.entry.bytes)) earlier before (record { bytes = piece; ended = ended })
         lane.new to_client.new to_controller.new fed.cut (told (D.value desk.old)) (told (D.value desk.new))) }
+    ensures broken { OnErr result ((client : EndpointOf) (rests : Rests) (earlier : List Element) (before : Work) (piece : List ℕ) (ended : Bool)
+        → IsLaneAfter asset.now client lane.old rests earlier before → before.cut ≡ None
+        → bytes.entry.bytes ≡ rest_of side rests ++ piece → IsQueueOf to_client.old before.to_client → IsQueueOf to_controller.old before.to_controller
+        → FollowsAmid asset.now client now side earlier before (record { bytes = piece; ended = ended }) (D.value desk.old) (D.value desk.new)) }
+    ensures parts { OnOk result (KeepsParts (D.value desk.old) (D.value desk.new)) }
     ensures serves { OnOk result (IsLaneOf asset.now lane.new) }
     ensures client_grows { IfOk result (λ fed. Grows (2 * fed.used) (debt lane.old) (debt lane.new) to_client.old to_client.new) }
     ensures controller_grows { IfOk result (λ fed. Grows (2 * fed.used) (debt lane.old) (debt lane.new) to_controller.old to_controller.new) }
@@ -60,6 +66,9 @@ fn feed_lane<D: Desk>(
     ensures cause { HasCause (DeskValue.faults (D.value desk.old)) (DeskValue.faults (D.value desk.new)) (IsErr result) }
 {
     pieces_join();
+    streams_go_on();
+    judgements_go_on();
+    let _len = bytes.len();
     let fed = lane.feed(asset, now, side, bytes, to_client, to_controller, desk)?;
     Ok(fed)
 }
@@ -85,6 +94,11 @@ fn end_lane<D: Desk>(
         → rest ≡ length (rest_of side rests) → IsQueueOf to_client.old middle.to_client → IsQueueOf to_controller.old middle.to_controller
         → FollowsMore asset.now client now side rests earlier middle (record { bytes = piece; ended = true })
         lane.new to_client.new to_controller.new None (told (D.value desk.old)) (told (D.value desk.new))) }
+    ensures broken { OnErr result ((client : EndpointOf) (rests : Rests) (earlier : List Element) (before : Work) (piece : List ℕ) (middle : Work)
+        → IsLaneAfter asset.now client lane.old rests (earlier ++ fed_at now side (record { bytes = piece; ended = false })) middle → middle.cut ≡ None
+        → rest ≡ length (rest_of side rests) → IsQueueOf to_client.old middle.to_client → IsQueueOf to_controller.old middle.to_controller
+        → FollowsAmid asset.now client now side earlier middle (record { bytes = piece; ended = true }) (D.value desk.old) (D.value desk.new)) }
+    ensures parts { OnOk result (KeepsParts (D.value desk.old) (D.value desk.new)) }
     ensures queues { OnOk result (EndsOther side to_client.old to_controller.old to_client.new to_controller.new) }
     ensures lane { lane.new ≡ lane.old }
     ensures packets { DeskValue.packets (D.value desk.new) ≡ DeskValue.packets (D.value desk.old) }
@@ -93,6 +107,7 @@ fn end_lane<D: Desk>(
     ensures cause { HasCause (DeskValue.faults (D.value desk.old)) (DeskValue.faults (D.value desk.new)) (IsErr result) }
 {
     pieces_join();
+    streams_go_on();
     lane.ended(asset, now, side, rest, to_client, to_controller, desk)?;
     Ok(())
 }
@@ -138,6 +153,11 @@ pub(crate) fn hand_over<D: Desk>(
         → leg.old.window.pending ≡ rest_of side rests ++ piece → IsQueueOf to_client.old before.to_client → IsQueueOf to_controller.old before.to_controller
         → FollowsMore asset.now client now side (with_rest side rests leg.new.window.pending) earlier before (record { bytes = piece; ended = leg.old.window.ended })
         lane.new to_client.new to_controller.new cut (told (D.value desk.old)) (told (D.value desk.new))) }
+    ensures broken { OnErr result ((client : EndpointOf) (rests : Rests) (earlier : List Element) (before : Work) (piece : List ℕ)
+        → IsLaneAfter asset.now client lane.old rests earlier before → before.cut ≡ None
+        → leg.old.window.pending ≡ rest_of side rests ++ piece → IsQueueOf to_client.old before.to_client → IsQueueOf to_controller.old before.to_controller
+        → FollowsAmid asset.now client now side earlier before (record { bytes = piece; ended = leg.old.window.ended }) (D.value desk.old) (D.value desk.new)) }
+    ensures parts { OnOk result (KeepsParts (D.value desk.old) (D.value desk.new)) }
     ensures serves { OnOk result (IsLaneOf asset.now lane.new) }
     ensures rest { IfOk result (λ cut. cut ≡ None → length leg.new.window.pending < 300) }
     ensures leg { OnOk result (leg.new ≡ record leg.old { window = leg.new.window }) }

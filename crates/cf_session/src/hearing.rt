@@ -1,5 +1,5 @@
 //! A packet of a side is heard: its leg takes it in, and what it brings is handed over.
-ghost use Rattle.std.specs.Prelude.{◌≡◌, ℕ, ◌+◌, ◌*◌, ◌^◌, ◌<◌, ◌≤◌, true, List, ◌∷◌, length, IfOk, IsErr, OnOk, None};
+ghost use Rattle.std.specs.Prelude.{◌≡◌, ℕ, ◌+◌, ◌*◌, ◌^◌, ◌<◌, ◌≤◌, true, List, ◌∷◌, length, IfOk, IsErr, OnErr, OnOk, None};
 ghost use Rattle.cf_lane.specs.Follows.{Rests, rest_of};
 ghost use Rattle.cf_lane.specs.Handled.{IsLaneOf};
 ghost use Rattle.cf_lane.specs.History.{Element, taken};
@@ -16,9 +16,10 @@ ghost use Rattle.cf_rebuild.specs.ReceiveWindow.{base_of};
 ghost use Rattle.cf_stream.specs.FirstCopy.{IsTaken, first_copy};
 ghost use Rattle.cf_stream.specs.Stream.{Stream};
 ghost use Rattle.cf_view.specs.declared.Endpoint.{Endpoint as EndpointOf};
+ghost use Rattle.cf_session.specs.Broken.{KeepsParts};
 ghost use Rattle.cf_session.specs.Parts.{IsLaneAfter, IsLegBetween, other_queue, own_queue};
 ghost use Rattle.cf_session.specs.Told.{told};
-ghost use Rattle.cf_session.specs.Turn.{Hearing, KeepsRoom, MayHear};
+ghost use Rattle.cf_session.specs.Turn.{Hearing, HearingAmid, KeepsRoom, MayHear};
 ghost use Rattle.cf_session.specs.Work.{Work};
 
 use crate::handing::{hand_over, has_ended};
@@ -93,6 +94,13 @@ pub(crate) fn hear<D: Desk>(
         → IsTaken (first_copy (offers ends.role es)) (taken side earlier)
         → Hearing side ends asset.now client now e es (packet_value packet.now) rests earlier before leg.new lane.new to_client.new to_controller.new heard.answer heard.cut
         (told (D.value desk.old)) (told (D.value desk.new))) }
+    ensures broken { OnErr result ((ends : Ends) (client : EndpointOf) (e : LegEvent) (es : List LegEvent) (rests : Rests) (earlier : List Element) (before : Work)
+        → now ≡ moment e → IsLegBetween ends leg.old (own_queue side to_client.old to_controller.old) (record e { came = Nothing; ending = Unspoken } ∷ es)
+        → IsLaneAfter asset.now client lane.old rests earlier before → before.cut ≡ None → rest_of side rests ≡ leg.old.window.pending
+        → IsQueueOf to_client.old before.to_client → IsQueueOf to_controller.old before.to_controller
+        → IsTaken (first_copy (offers ends.role es)) (taken side earlier)
+        → HearingAmid side ends asset.now client now e es (packet_value packet.now) earlier before (D.value desk.old) (D.value desk.new)) }
+    ensures parts { OnOk result (KeepsParts (D.value desk.old) (D.value desk.new)) }
     ensures ends { OnOk result (leg.new.ends ≡ leg.old.ends) }
     ensures serves { OnOk result (IsLaneOf asset.now lane.new) }
     ensures room { IfOk result (λ heard. KeepsRoom side leg.old.window leg.new.window lane.old lane.new to_client.old to_client.new to_controller.old to_controller.new heard.cut) }

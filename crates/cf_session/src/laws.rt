@@ -1,8 +1,9 @@
 //! Laws over every list of right events of a session: each is the contract of a function that does nothing.
-ghost use Rattle.cf_session.specs.Laws.{EventsAreFixed, HasOneStream, WorkIsOfTheTaken};
+ghost use Rattle.cf_session.specs.Laws.{EachSessionHasATick, EventsAreFixed, HasOneStream, WorkIsOfTheTaken};
+ghost use Rattle.cf_session.specs.Stands.{AreQuietBeforeDue};
 
 use cf_lane::{has_one_judgement, streams_go_on};
-use cf_leg::{events_fix_what_is_sent, segments_carry_one_stream};
+use cf_leg::{clocks_are_quiet_before_due, events_fix_what_is_sent, segments_carry_one_stream};
 
 /// Isolation: what is given to a session, its packets and their moments, fixes all its events, so all that it sends and logs,
 /// whatever else the box does.
@@ -11,6 +12,19 @@ pub fn events_are_fixed()
 {
     events_fix_what_is_sent();
     has_one_judgement();
+}
+
+/// A session that has not expired has a first half of its next event, at whatever moment its timers are looked at.
+pub fn each_session_has_a_tick()
+    ensures { EachSessionHasATick }
+{}
+
+/// Before a session is due the first half of an event sends and logs nothing, and the session as it is stands for the longer list
+/// of events.
+pub fn sessions_are_quiet_before_due()
+    ensures { AreQuietBeforeDue }
+{
+    clocks_are_quiet_before_due();
 }
 
 /// The streams, the log and the counts of a session are what a lane makes of all letters that were taken of both sides so far.

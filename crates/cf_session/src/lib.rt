@@ -12,7 +12,10 @@ mod packet;
 mod session;
 mod speaking;
 
-pub use laws::{events_are_fixed, has_one_stream, work_is_of_what_was_taken};
+pub use laws::{
+    each_session_has_a_tick, events_are_fixed, has_one_stream, sessions_are_quiet_before_due,
+    work_is_of_what_was_taken,
+};
 pub use life::Life;
 pub use session::{BeginFault, Session};
 

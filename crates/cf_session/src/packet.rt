@@ -1,16 +1,17 @@
 //! The second half of an event: a packet.
-ghost use Rattle.std.specs.Prelude.{◌≡◌, ℕ, ◌+◌, ◌-◌, ◌*◌, ◌^◌, ◌<◌, ◌≤◌, true, List, [], ◌∷◌, length, IfOk, IsErr, OnOk};
+ghost use Rattle.std.specs.Prelude.{◌≡◌, ℕ, ◌+◌, ◌-◌, ◌*◌, ◌^◌, ◌<◌, ◌≤◌, true, List, [], ◌∷◌, length, IfOk, IsErr, OnErr, OnOk};
 ghost use Rattle.cf_outside.specs.Desk.{DeskValue, KeepsDesk};
 ghost use Rattle.cf_outside.specs.Faults.{HasCause};
 ghost use Rattle.cf_lane.specs.Handled.{CountsBy, IsLaneOf};
 ghost use Rattle.cf_leg.specs.Event.{moment};
 ghost use Rattle.cf_packet.specs.Packet.{packet_value};
+ghost use Rattle.cf_session.specs.Broken.{BreaksPacket, KeepsParts};
 ghost use Rattle.cf_session.specs.Event.{IsTick};
 ghost use Rattle.cf_session.specs.Parts.{AreParts, SessionValue};
 ghost use Rattle.cf_session.specs.Session.{Flow, SessionEvent};
 ghost use Rattle.cf_session.specs.Stands.{HearsBy, IsLife, IsSessionOf, IsSound};
 ghost use Rattle.cf_session.specs.Told.{told};
-ghost use Rattle.cf_session.specs.Turn.{HeardBy, IsHalf, IsSteady};
+ghost use Rattle.cf_session.specs.Turn.{HeardAmid, HeardBy, IsHalf, IsSteady};
 
 use crate::clock::life_of;
 use crate::deciding::{greeting_number, is_reset, why};
@@ -41,6 +42,10 @@ impl Session {
         ensures hears { IfOk result (λ life. (flow : Flow) (earlier : List SessionEvent) (half : SessionEvent) → flow.asset ≡ asset.now
             → IsSessionOf flow earlier half self.old → IsTick flow earlier half.client.tick half → moment half.client ≡ now
             → HearsBy flow (SessionValue.limit self.old) earlier half side (packet_value packet.now) self.new (told (D.value desk.old)) (told (D.value desk.new)) life) }
+        ensures broken { OnErr result ((flow : Flow) (earlier : List SessionEvent) (half : SessionEvent) → flow.asset ≡ asset.now
+            → IsSessionOf flow earlier half self.old → IsTick flow earlier half.client.tick half → moment half.client ≡ now
+            → BreaksPacket flow (SessionValue.limit self.old) earlier half side (packet_value packet.now) (D.value desk.old) (D.value desk.new)) }
+        ensures parts { OnOk result (KeepsParts (D.value desk.old) (D.value desk.new)) }
         ensures sound { IfOk result (λ life. IsLife life → IsSound asset.now self.new) }
         ensures few { OnOk result (CountsBy 32768 (SessionValue.lane self.old) (SessionValue.lane self.new)) }
         ensures same { (SessionValue.limit self.new ≡ SessionValue.limit self.old) × (SessionValue.source self.new ≡ SessionValue.source self.old) }
@@ -81,6 +86,10 @@ impl Session {
         ensures hears { IfOk result (λ heard. (flow : Flow) (earlier : List SessionEvent) (half : SessionEvent) → flow.asset ≡ asset.now
             → IsHalf half → moment half.client ≡ now → AreParts flow earlier half self.old
             → HeardBy flow earlier half side (packet_value packet.now) self.new heard.answer heard.cut (told (D.value desk.old)) (told (D.value desk.new))) }
+        ensures broken { OnErr result ((flow : Flow) (earlier : List SessionEvent) (half : SessionEvent) → flow.asset ≡ asset.now
+            → IsHalf half → moment half.client ≡ now → AreParts flow earlier half self.old
+            → HeardAmid flow earlier half side (packet_value packet.now) (D.value desk.old) (D.value desk.new)) }
+        ensures parts { OnOk result (KeepsParts (D.value desk.old) (D.value desk.new)) }
         ensures steady { IfOk result (λ heard. IsSteady self.new heard.cut) }
         ensures serves { OnOk result (IsLaneOf asset.now (SessionValue.lane self.new)) }
         ensures few { OnOk result (CountsBy 32768 (SessionValue.lane self.old) (SessionValue.lane self.new)) }

@@ -1,15 +1,17 @@
 //! Both ends speak, that of the controller first, and the client is greeted where the controller's end has opened.
-ghost use Rattle.std.specs.Prelude.{◌≡◌, ℕ, ◌+◌, ◌-◌, ◌*◌, ◌^◌, ◌<◌, ◌≤◌, true, nat_le, ◌&&◌, List, ◌∷◌, length, IsErr, OnOk, None};
+ghost use Rattle.std.specs.Prelude.{◌≡◌, ℕ, ◌+◌, ◌-◌, ◌*◌, ◌^◌, ◌<◌, ◌≤◌, true, nat_le, ◌&&◌, List, ◌∷◌, [], length, IsErr, OnErr, OnOk, None};
 ghost use Rattle.cf_leg.specs.Event.{LegEvent, Unspoken, moment};
 ghost use Rattle.cf_outq.specs.SendQueue.{IsQueueOf, queue_length};
 ghost use Rattle.cf_outside.specs.Desk.{DeskValue, KeepsDesk};
 ghost use Rattle.cf_outside.specs.Faults.{HasCause};
 ghost use Rattle.cf_rebuild.specs.ReceiveWindow.{base_of};
 ghost use Rattle.cf_stream.specs.Stream.{Stream};
+ghost use Rattle.cf_session.specs.Broken.{BreaksAmid, KeepsParts};
 ghost use Rattle.cf_session.specs.Parts.{IsLegBetween, SessionValue};
+ghost use Rattle.cf_session.specs.Sent.{at};
 ghost use Rattle.cf_session.specs.Session.{Flow, client_ends, controller_ends};
 ghost use Rattle.cf_session.specs.Told.{told};
-ghost use Rattle.cf_session.specs.Turn.{GreetsClient, IsSteady, MayGreet, OnlySpeaks, SaysBoth, roomy_by};
+ghost use Rattle.cf_session.specs.Turn.{GreetsClient, IsSteady, MayGreet, OnlySpeaks, SaysAmid, SaysBoth, greetings, roomy_by};
 
 use crate::handing::has_ended;
 use crate::session::Session;
@@ -50,6 +52,10 @@ impl Session {
         ensures greets { OnOk result ((flow : Flow) (d : LegEvent) (ds : List LegEvent) → now ≡ moment d → MayGreet number d ds
             → IsLegBetween (client_ends flow) (SessionValue.client self.old) (SessionValue.to_client self.old) (record d { ending = Unspoken } ∷ ds)
             → GreetsClient flow now number d ds self.new (told (D.value desk.old)) (told (D.value desk.new))) }
+        ensures broken { OnErr result ((flow : Flow) (d : LegEvent) (ds : List LegEvent) → now ≡ moment d → MayGreet number d ds
+            → IsLegBetween (client_ends flow) (SessionValue.client self.old) (SessionValue.to_client self.old) (record d { ending = Unspoken } ∷ ds)
+            → BreaksAmid (at now (greetings flow number)) [] (D.value desk.old) (D.value desk.new)) }
+        ensures parts { OnOk result (KeepsParts (D.value desk.old) (D.value desk.new)) }
         ensures steady { OnOk result (IsSteady self.new None) }
         ensures window { OnOk result ((SessionValue.client self.new).window ≡ record (SessionValue.client self.old).window { edge = (SessionValue.client self.new).window.edge }) }
         ensures same { self.new ≡ record self.old { client = SessionValue.client self.new } }
@@ -84,6 +90,12 @@ impl Session {
             → IsLegBetween (client_ends flow) (SessionValue.client self.old) (SessionValue.to_client self.old) (record d { ending = Unspoken } ∷ ds)
             → IsQueueOf (SessionValue.to_client self.old) w → IsQueueOf (SessionValue.to_controller self.old) v
             → SaysBoth flow now number c cs d ds w v (roomy_by (SessionValue.to_client self.old) (SessionValue.to_controller self.old)) self.new (told (D.value desk.old)) (told (D.value desk.new))) }
+        ensures broken { OnErr result ((flow : Flow) (c d : LegEvent) (cs ds : List LegEvent) (w v : Stream) → now ≡ moment c → now ≡ moment d → MayGreet number d ds
+            → IsLegBetween (controller_ends flow) (SessionValue.controller self.old) (SessionValue.to_controller self.old) (record c { ending = Unspoken } ∷ cs)
+            → IsLegBetween (client_ends flow) (SessionValue.client self.old) (SessionValue.to_client self.old) (record d { ending = Unspoken } ∷ ds)
+            → IsQueueOf (SessionValue.to_client self.old) w → IsQueueOf (SessionValue.to_controller self.old) v
+            → SaysAmid flow now number c cs d ds w v (roomy_by (SessionValue.to_client self.old) (SessionValue.to_controller self.old)) (D.value desk.old) (D.value desk.new)) }
+        ensures parts { OnOk result (KeepsParts (D.value desk.old) (D.value desk.new)) }
         ensures client_stands { OnOk result ((w : Stream) → IsQueueOf (SessionValue.to_client self.old) w → IsQueueOf (SessionValue.to_client self.new) w) }
         ensures controller_stands { OnOk result ((w : Stream) → IsQueueOf (SessionValue.to_controller self.old) w → IsQueueOf (SessionValue.to_controller self.new) w) }
         ensures steady { OnOk result (IsSteady self.new None) }

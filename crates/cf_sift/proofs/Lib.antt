@@ -3,7 +3,6 @@ mod Elements
 mod Ends
 mod Feeding
 mod Logs
-mod Pieces
 mod Sifting
 mod Stored
 mod Streams

@@ -14,6 +14,7 @@ use Rattle.cf_lane.specs.Log.{lines, with_lines}
 use Rattle.cf_lane.specs.declared.limit.TheConstants.{LETTER_LIMIT}
 use Rattle.cf_outq.specs.SendQueue.{queue_length}
 use Rattle.cf_outside.specs.Files.{BeginsWith, Content, HasAt, IsWhole, absent, holds, untold}
+use Rattle.cf_outside.specs.Part.{IsFilled}
 use Rattle.cf_outside.specs.Lines.{file_lines}
 use Rattle.cf_outside.proofs.Content.{begins_more}
 use Rattle.cf_policy.specs.declared.Asset.{Asset}
@@ -23,7 +24,7 @@ use Rattle.cf_sift.specs.Flow.{IsFlowAfter, IsFlowOf, IsReady, rests_of}
 use Rattle.cf_sift.specs.Names.{SiftNamesValue}
 use Rattle.cf_sift.specs.Sifted.{ElementFails, HasLines, HaveOutput}
 use Rattle.cf_sift.specs.Stored.{IsUncut, cut_behind, stored_history}
-use Rattle.cf_sift.specs.Stream.{HasStream, IsFilled}
+use Rattle.cf_sift.specs.Stream.{HasStream}
 use Rattle.cf_sift.specs.Taken.{IsTakenTo, IsTakenWhole, ReadStops, WriteStops}
 use Rattle.cf_sift.specs.declared.flow.Flow.{Flow}
 use Rattle.cf_sift.proofs.Elements.{cut_known}

@@ -1,5 +1,5 @@
 -- What is read of a stored stream, piece by piece.
-use Rattle.std.specs.Prelude.{◌≡◌, ℕ, List, [], length, take, drop}
+use Rattle.std.specs.Prelude.{◌≡◌, ℕ, List, []}
 use Rattle.cf_outside.specs.Files.{Content, untold, absent, holds}
 
 -- the stream in a file is these bytes, as far as it is told; a file that is not there has none
@@ -7,15 +7,3 @@ abbrev pub HasStream : Content → List ℕ → Type 0
 HasStream untold bytes = Unit {0}
 HasStream absent bytes = bytes ≡ []
 HasStream (holds all) bytes = bytes ≡ all
-
--- these octets, if there are any, were read at a place of a file
-abbrev pub HasRead : Content → ℕ → List ℕ → Type 0
-HasRead untold place octets = Unit {0}
-HasRead absent place octets = length octets ≡ 0
-HasRead (holds all) place octets = take (length octets) (drop place all) ≡ octets
-
--- these octets are the first of those at a place of a file, so many or all, as far as it is told
-abbrev pub IsFilled : Content → (place size : ℕ) → List ℕ → Type 0
-IsFilled untold place size octets = Unit {0}
-IsFilled absent place size octets = ⊥
-IsFilled (holds all) place size octets = octets ≡ take size (drop place all)

@@ -2,7 +2,6 @@
 //! file.
 #![tactic(auto)]
 
-mod fill;
 mod flow;
 mod laws;
 mod names;

@@ -12,13 +12,12 @@ ghost use Rattle.cf_sift.specs.Outputs.{KeepsAllBut};
 ghost use Rattle.cf_sift.specs.Sifted.{ElementFails};
 ghost use Rattle.cf_sift.specs.Taken.{IsTakenWhole, OfEachFlow, ReadStops, WriteStops};
 
-use crate::fill::fill;
 use crate::flow::Flow;
 use crate::names::SiftNames;
 use crate::sift::SiftFault;
 use cf_audit::CutReason;
 use cf_lane::{has_one_judgement, streams_go_on};
-use cf_outside::Files;
+use cf_outside::{Files, fill};
 use cf_policy::Asset;
 use cf_view::{Side, WriteFault};
 
@@ -57,7 +56,7 @@ pub(crate) fn take_stream<F: Files>(
     has_one_judgement();
     let mut at = 0;
     'pieces: loop {
-        let Some(count) = fill(files, names.stream, at, piece) else {
+        let Some(count) = fill(files, names.stream, at, piece, 0, PIECE) else {
             return Err(SiftFault::Read);
         };
         if count == 0 {

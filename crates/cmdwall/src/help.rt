@@ -19,6 +19,9 @@ usage:
   cmdwall relay POLICY ASSET PORT IDLES LOG
       stands between one client, which comes to PORT of this machine, and the controller of
       ASSET: what the policy refuses is answered and does not go on
+  cmdwall world SEED SESSIONS POLICY CAPTURE OUT LOG
+      makes a policy and a capture of many sessions from a number, and runs the one over the
+      other
   cmdwall check POLICY
       reads a policy, and prints its numbers of assets and of all rules
   cmdwall packets CAPTURE
@@ -31,7 +34,7 @@ usage:
 
 CLIENT is an IPv4 address, as 10.0.0.5. POLICY is a text in the policy language
 (docs/POLICY.md). CAPTURE is a classic pcap file, of Ethernet or raw IP. OUT, REPLIES and
-LOG are created; all names of files differ.
+LOG are created, by world POLICY and CAPTURE too; all names of files differ.
 
 status:
    0  the work was done to the end of its input
@@ -48,8 +51,6 @@ status:
   10  the policy has no asset of that name
   12  a stream is cut, for the printed reason
   13  memory ran out
-  14  the input needs a part that is not built: a capture of more than 67,108,864 bytes in
-      packets, the command world
 ";
 
 const SIFT: &str = "\
@@ -150,18 +151,23 @@ example:
 const WORLD: &str = "\
 cmdwall world SEED SESSIONS POLICY CAPTURE OUT LOG
 
-makes a capture of sessions from a number, and runs a policy over it. It is not built yet:
-it ends with status 14
+makes a large valid input from a number, and runs it: a policy of three assets, one of each
+protocol, and a capture of sessions with them, in which segments come late, twice, in pieces,
+out of order or changed
 
-  SEED     a number of 64 bits, from which the sessions are made
-  SESSIONS how many there are, 1 to 200
-  POLICY   a text in the policy language (docs/POLICY.md)
+  SEED     a number of 64 bits, which decides what becomes of the segments
+  SESSIONS how many there are, 1 to 200; each sends fifteen commands, of which the policy
+           allows ten
+  POLICY   is created, and gets the policy
   CAPTURE  is created, and gets the capture
   OUT      is created, and gets the packets that the box sends, as a capture
-  LOG      is created, and gets the lines of the log
+  LOG      is created, and gets the lines of the log (docs/LOG.md)
+
+All names of files differ. The same numbers make the same files. Standard output is that of
+run.
 
 example:
-  cmdwall world 1 10 examples/waterworks.toml in.pcap out.pcap log.txt
+  cmdwall world 7 30 policy.toml in.pcap out.pcap log.txt
 ";
 
 /// What the words ask of `main` itself.

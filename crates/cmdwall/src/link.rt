@@ -1,19 +1,13 @@
 //! The pair of streams of a relay: TCP connections, and the clock of the machine.
-ghost use Rattle.std.specs.Prelude.{◌≡◌, ◌≤◌, IfOk, IfSome, None, Ok, length};
+ghost use Rattle.std.specs.Prelude.{◌≡◌, ◌≤◌, IfOk, IfSome, None, length};
 ghost use Rattle.cf_outside.specs.Faults.{Rose};
 
+use crate::streams::Streams;
 use cf_outside::{GiveAnswer, MeetAnswer, MomentAnswer, Pair, TakeAnswer, WriteAnswer};
 use cf_view::{Endpoint, Side};
-use std::io::{Read, Write};
-use std::net::{
-    IpAddr, Ipv4Addr, Net, OpenListener, OpenStream, Shutdown, SocketAddr, TcpListener, TcpStream,
-};
+use std::io;
+use std::net::{IpAddr, Ipv4Addr, Net, OpenListener, SocketAddr, TcpListener, TcpStream};
 use std::time::{Clock, Duration, SystemTime};
-use std::{io, thread};
-
-/// How long a turn sleeps, in microseconds, between looks at the streams, where nothing came or went in the turn before: 5
-/// milliseconds in all.
-const NAPS: [u64; 12] = [10, 10, 20, 40, 80, 160, 320, 640, 930, 930, 930, 930];
 
 /// How many seconds the controller has to take the connection.
 const CONNECT_SECONDS: u64 = 10;
@@ -35,25 +29,18 @@ pub struct LinkFault {
 }
 
 /// A client that comes to a port of this machine's own address 127.0.0.1, and a controller to which a connection is made.
-/// Reads and writes do not wait; a turn does that begins where nothing came or went in the one before. It tells nothing, and
-/// counts failures and answers `Idle`.
+/// It tells nothing, and counts failures and answers `Idle`.
 #[derive(Drop)]
-pub struct LinkPair<'a, R: Net + Clock + Eprint> {
+pub struct LinkPair<'a, R: Net + Clock + Eprint + AllocGlobal> {
     rt: &'a R,
     listener: Option<R::Listener>,
-    client: Option<R::Stream>,
-    controller: Option<R::Stream>,
-    /// Nothing came or went in this turn yet.
-    is_quiet: bool,
-    /// The client was asked in this turn and had nothing.
-    awaits_client: bool,
-    awaits_controller: bool,
+    streams: Option<Streams<R::Stream>>,
     fault: Option<LinkFault>,
     faults: u64,
     idles: u64,
 }
 
-impl<'a, R: Net + Clock + Eprint> LinkPair<'a, R> {
+impl<'a, R: Net + Clock + Eprint + AllocGlobal> LinkPair<'a, R> {
     /// A pair that is not connected. Both counts are 0.
     pub fn new(rt: &'a R) -> Self
         ensures { (result.faults ≡ 0) × (result.idles ≡ 0) }
@@ -61,11 +48,7 @@ impl<'a, R: Net + Clock + Eprint> LinkPair<'a, R> {
         LinkPair {
             rt,
             listener: None,
-            client: None,
-            controller: None,
-            is_quiet: false,
-            awaits_client: false,
-            awaits_controller: false,
+            streams: None,
             fault: None,
             faults: 0,
             idles: 0,
@@ -86,6 +69,13 @@ impl<'a, R: Net + Clock + Eprint> LinkPair<'a, R> {
         self.fault.as_ref()
     }
 
+    /// Leaves both sides, behind the last call; what was given to them gets there.
+    pub fn leave(&mut self) {
+        if let Some(streams) = &mut self.streams {
+            streams.leave();
+        }
+    }
+
     fn fail(&mut self, part: Part, error: io::Error)
         ensures later { self.old.faults ≤ self.new.faults }
         ensures rose { Rose self.old.faults self.new.faults }
@@ -104,7 +94,7 @@ impl<'a, R: Net + Clock + Eprint> LinkPair<'a, R> {
     }
 
     /// Binds the port, if it is not bound, says so on standard error, and takes one client.
-    fn take_client(&mut self, port: u16, peer: SocketAddr) -> io::Result<Endpoint>
+    fn take_client(&mut self, port: u16, peer: SocketAddr) -> io::Result<(R::Stream, Endpoint)>
         ensures faults { self.new.faults ≡ self.old.faults }
         ensures idles { self.new.idles ≡ self.old.idles }
     {
@@ -118,50 +108,28 @@ impl<'a, R: Net + Clock + Eprint> LinkPair<'a, R> {
             "cmdwall: listens on {here} for one client, and connects to {peer}"
         );
         let (stream, from) = listener.accept()?;
-        stream.set_nonblocking(true)?;
-        stream.set_nodelay(true)?;
-        self.client = Some(stream);
-        Ok(endpoint_of(from))
+        Ok((stream, endpoint_of(from)))
     }
 
-    fn take_controller(&mut self, peer: SocketAddr) -> io::Result<()>
+    /// Connects to the controller, and keeps both streams.
+    fn take_controller(&mut self, client: R::Stream, peer: SocketAddr) -> io::Result<()>
         ensures faults { self.new.faults ≡ self.old.faults }
         ensures idles { self.new.idles ≡ self.old.idles }
     {
         let wait = Duration::from_secs(CONNECT_SECONDS);
-        let stream = TcpStream::connect_timeout(self.rt, &peer, wait)?;
-        stream.set_nonblocking(true)?;
-        stream.set_nodelay(true)?;
-        self.controller = Some(stream);
+        let controller = TcpStream::connect_timeout(self.rt, &peer, wait)?;
+        self.streams = Some(Streams::new(self.rt, self.rt.alloc(), client, controller)?);
         Ok(())
     }
 
-    /// Waits until a side that had nothing has something to read, 5 milliseconds at most.
-    fn wait(&self) {
-        for nap in NAPS.iter() {
-            if self.has_come() {
-                return;
-            }
-            thread::sleep(self.rt, Duration::from_micros(*nap));
-        }
-    }
-
-    fn has_come(&self) -> bool {
-        (self.awaits_client && is_ready(&self.client))
-            || (self.awaits_controller && is_ready(&self.controller))
-    }
-
-    /// Microseconds since 1970, after a wait where nothing came or went since it was last asked.
+    /// Microseconds since 1970, as a turn begins.
     fn now(&mut self) -> io::Result<u64>
         ensures faults { self.new.faults ≡ self.old.faults }
         ensures idles { self.new.idles ≡ self.old.idles }
     {
-        if self.is_quiet {
-            self.wait();
+        if let Some(streams) = &mut self.streams {
+            streams.begin_turn(self.rt)?;
         }
-        self.is_quiet = true;
-        self.awaits_client = false;
-        self.awaits_controller = false;
         let since = SystemTime::now(self.rt)?.duration_since(SystemTime::UNIX_EPOCH);
         match since {
             Ok(since) => Ok(u64::try_from(since.as_micros()).unwrap_or(u64::MAX)),
@@ -175,19 +143,10 @@ impl<'a, R: Net + Clock + Eprint> LinkPair<'a, R> {
         ensures faults { self.new.faults ≡ self.old.faults }
         ensures idles { self.new.idles ≡ self.old.idles }
     {
-        let count = match side {
-            Side::Client => read_from(&mut self.client, buf)?,
-            Side::Controller => read_from(&mut self.controller, buf)?,
-        };
-        if count.is_some() {
-            self.is_quiet = false;
-        } else {
-            match side {
-                Side::Client => self.awaits_client = true,
-                Side::Controller => self.awaits_controller = true,
-            }
+        match &mut self.streams {
+            Some(streams) => streams.read(side, buf),
+            None => Err(not_connected()),
         }
-        Ok(count)
     }
 
     /// Writes to a side what it takes now; nothing where it takes none.
@@ -196,55 +155,18 @@ impl<'a, R: Net + Clock + Eprint> LinkPair<'a, R> {
         ensures faults { self.new.faults ≡ self.old.faults }
         ensures idles { self.new.idles ≡ self.old.idles }
     {
-        let count = match side {
-            Side::Client => write_to(&mut self.client, bytes)?,
-            Side::Controller => write_to(&mut self.controller, bytes)?,
-        };
-        if count.is_some() {
-            self.is_quiet = false;
+        match &mut self.streams {
+            Some(streams) => streams.write(side, bytes),
+            None => Err(not_connected()),
         }
-        Ok(count)
     }
 
     /// Ends what is sent to a side, which may send on.
     fn close(&self, side: Side) -> io::Result<()> {
-        let stream = match side {
-            Side::Client => self.client.as_ref(),
-            Side::Controller => self.controller.as_ref(),
-        };
-        match stream {
-            Some(stream) => stream.shutdown(Shutdown::Write),
+        match &self.streams {
+            Some(streams) => streams.close(side),
             None => Err(not_connected()),
         }
-    }
-}
-
-/// Reads what came on a stream; 0 at its end, nothing where none came.
-fn read_from<S: Read>(stream: &mut Option<S>, buf: &mut [u8]) -> io::Result<Option<usize>>
-    ensures { IfOk result (λ count. IfSome count (λ n. n ≤ length buf.new)) }
-{
-    match stream {
-        Some(stream) => unless_waiting(stream.read(buf)),
-        None => Err(not_connected()),
-    }
-}
-
-/// Whether a read of a stream would find bytes, its end or a failure.
-fn is_ready<S: OpenStream>(stream: &Option<S>) -> bool {
-    let mut first = [0u8; 1];
-    match stream {
-        Some(stream) => !matches!(unless_waiting(stream.peek(&mut first)), Ok(None)),
-        None => true,
-    }
-}
-
-/// Writes to a stream what it takes now; nothing where it takes none.
-fn write_to<S: Write>(stream: &mut Option<S>, bytes: &[u8]) -> io::Result<Option<usize>>
-    ensures { IfOk result (λ count. IfSome count (λ n. n ≤ length bytes.now)) }
-{
-    match stream {
-        Some(stream) => unless_waiting(stream.write(bytes)),
-        None => Err(not_connected()),
     }
 }
 
@@ -275,20 +197,7 @@ fn endpoint_of(address: SocketAddr) -> Endpoint {
     }
 }
 
-/// How many bytes moved, or nothing where the call would have to wait.
-fn unless_waiting(moved: io::Result<usize>) -> io::Result<Option<usize>>
-    ensures { IfOk result (λ count. IfSome count (λ n. moved ≡ Ok n)) }
-{
-    match moved {
-        Ok(count) => Ok(Some(count)),
-        Err(error) => match error.kind() {
-            io::ErrorKind::WouldBlock | io::ErrorKind::Interrupted => Ok(None),
-            _ => Err(error),
-        },
-    }
-}
-
-impl<R: Net + Clock + Eprint> Pair for LinkPair<'_, R> {
+impl<R: Net + Clock + Eprint + AllocGlobal> Pair for LinkPair<'_, R> {
     ghost told = { λ _. None };
 
     ghost faults = { λ p. p.faults };
@@ -297,14 +206,14 @@ impl<R: Net + Clock + Eprint> Pair for LinkPair<'_, R> {
 
     fn meet(&mut self, listen: u16, peer: Endpoint) -> MeetAnswer {
         let peer = address(Ipv4Addr::from_bits(peer.address), peer.port);
-        let client = match self.take_client(listen, peer) {
-            Ok(client) => client,
+        let (stream, client) = match self.take_client(listen, peer) {
+            Ok(taken) => taken,
             Err(error) => {
                 self.fail(Part::Port, error);
                 return MeetAnswer::Failed;
             }
         };
-        match self.take_controller(peer) {
+        match self.take_controller(stream, peer) {
             Ok(()) => MeetAnswer::Met(client),
             Err(error) => {
                 self.fail(Part::Controller, error);

@@ -4,7 +4,9 @@
 mod files;
 mod help;
 mod link;
+mod peer;
 mod sink;
+mod streams;
 mod why;
 
 use crate::files::{Gather, RealFiles};
@@ -53,6 +55,7 @@ fn main(rt: HostRuntime) -> ExitCode {
     let mut out = RealSink::new(io::writer(&rt));
     let mut pair = LinkPair::new(&rt);
     let done = box_main(rt.alloc(), &words, &mut files, &mut out, &mut pair);
+    pair.leave();
     // What was gathered is part of the work: where it cannot be written, the work is not done.
     let status = if files.finish() { done } else { WRITE_FAULT };
     explain(&rt, &words, status, &mut files, pair.fault());

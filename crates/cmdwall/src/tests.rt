@@ -11,7 +11,10 @@ use std::test::Fail as TestFail;
 const HOME: u32 = 0x7F00_0001;
 
 /// What a side sent, asked for so often that the system has brought it.
-fn take<R: Net + Clock + Eprint>(pair: &mut LinkPair<'_, R>, side: Side) -> Option<[u8; 3]> {
+fn take<R: Net + Clock + Eprint + AllocGlobal>(
+    pair: &mut LinkPair<'_, R>,
+    side: Side,
+) -> Option<[u8; 3]> {
     let mut buf = [0u8; 3];
     for _ in 0..1_000 {
         let _ = pair.moment();

@@ -12,9 +12,6 @@ use cf_policylang::{Cause, Key, LONGEST_TEXT, PolicyFault, PolicyRefusal, read_p
 use std::io;
 use std::rt::Files as FileSystem;
 
-/// How many bytes of a capture are read again: as many as `packets` lists.
-const CAPTURE_LIMIT: u64 = 67_108_864;
-
 /// The refusal of a policy's file for its size.
 const TOO_LONG: PolicyRefusal = PolicyRefusal {
     number: Cause::TooMany as u8,
@@ -34,16 +31,9 @@ pub fn expect_files<R: FileSystem>(
     match command {
         Command::Check { policy } => files.expect(policy),
         Command::Packets { capture } => files.expect(capture),
-        Command::Run { policy, names } => {
+        Command::Run { policy, names } | Command::World { policy, names, .. } => {
             expect_four(files, [policy, names.capture, names.out, names.log])
         }
-        Command::World {
-            policy,
-            capture,
-            out,
-            log,
-            ..
-        } => expect_four(files, [policy, capture, out, log]),
         Command::Relay { policy, log, .. } => {
             files.expect(policy)?;
             files.expect(log)
@@ -100,9 +90,10 @@ fn explain_command<R: FileSystem + Eprint + AllocGlobal>(
             Some(policy) => explain_policy(rt, policy, files),
             None => Ok(()),
         },
-        (6 | 7, Command::Packets { capture }) | (6 | 7, Command::World { capture, .. }) =>
-            explain_capture(rt, capture, files),
-        (6 | 7, Command::Run { names, .. }) => explain_capture(rt, names.capture, files),
+        (6 | 7, Command::Packets { capture }) => explain_capture(rt, capture, files),
+        (6 | 7, Command::Run { names, .. }) | (6 | 7, Command::World { names, .. }) => {
+            explain_capture(rt, names.capture, files)
+        }
         (9, _) => {
             eprintln!(rt;
                 "cmdwall: nothing came for so long that the relay ended; the log has what came before"
@@ -117,11 +108,6 @@ fn explain_command<R: FileSystem + Eprint + AllocGlobal>(
         (13, _) => {
             eprintln!(rt; "cmdwall: memory ran out")?;
             explain_outputs(rt, command)
-        }
-        (14, _) => {
-            eprintln!(rt;
-                "cmdwall: the input needs a part that is not built; 'cmdwall --help' says which"
-            )
         }
         _ => Ok(()),
     }
@@ -153,7 +139,7 @@ fn explain_link<R: Eprint>(rt: &R, link: Option<&LinkFault>) -> io::Result<()> {
         Part::Port => "the port and its client",
         Part::Client => "the client",
         Part::Controller => "the controller",
-        Part::Clock => "the clock",
+        Part::Clock => "the clock, or the wait for both sides",
     };
     let error = &fault.error;
     eprintln!(rt; "cmdwall: {part}: {error}; the log has what came before")
@@ -164,12 +150,10 @@ fn explain_outputs<R: Eprint + AllocGlobal>(rt: &R, command: &Command<'_>) -> io
     let message = match command {
         Command::Check { .. } | Command::Packets { .. } => outputs_message(rt.alloc(), &[])?,
         Command::Run { names, .. } => outputs_message(rt.alloc(), &[names.out, names.log])?,
-        Command::World {
-            capture,
-            out,
-            log,
-            ..
-        } => outputs_message(rt.alloc(), &[capture, out, log])?,
+        Command::World { policy, names, .. } => outputs_message(
+            rt.alloc(),
+            &[policy, names.capture, names.out, names.log],
+        )?,
         Command::Relay { log, .. } => outputs_message(rt.alloc(), &[log])?,
         Command::Sift { names, .. } => {
             outputs_message(rt.alloc(), &[names.out, names.replies, names.log])?
@@ -258,10 +242,7 @@ fn explain_capture<R: FileSystem + Eprint + AllocGlobal>(
     name: &str,
     files: &mut RealFiles<'_, R>,
 ) -> io::Result<()> {
-    let Ok(octets) = read_whole(rt.alloc(), files, name, CAPTURE_LIMIT) else {
-        return Ok(());
-    };
-    match capture_message(rt.alloc(), name, &octets)? {
+    match capture_message(rt.alloc(), files, name)? {
         Some(message) => eprintln!(rt; "cmdwall: {message}"),
         None => Ok(()),
     }

@@ -1,5 +1,6 @@
 //! What is said of words, captures, outputs and assets.
 use crate::{asset_message, capture_message, outputs_message, words_message};
+use cf_outside::MemoryFiles;
 use cf_policylang::read_policy;
 use std::alloc::{AllocError, Global};
 use std::test::Fail;
@@ -147,12 +148,17 @@ fn says_why_a_capture_is_refused(rt: HostRuntime) -> Result<(), Fail> {
     let alloc = rt.alloc();
     for row in CAPTURES.split("\n\n") {
         let (line, want) = row.split_once("\n").unwrap_or((row, ""));
-        let octets = octets_of(alloc, line)?;
-        match capture_message(alloc, "c", &octets)? {
+        let mut files = MemoryFiles::new(alloc);
+        let name = String::from_str(alloc, "c")?;
+        files.files.insert(name, octets_of(alloc, line)?)?;
+        match capture_message(alloc, &mut files, "c")? {
             Some(got) => assert!(rt; got.as_str() == want, "{row}\n{got}"),
             None => assert!(rt; want == "", "{row}"),
         }
     }
+    // Nothing is said of a file that cannot be read again.
+    let mut none = MemoryFiles::new(alloc);
+    assert!(rt; capture_message(alloc, &mut none, "c")?.is_none());
     Ok(())
 }
 

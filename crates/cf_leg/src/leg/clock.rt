@@ -9,7 +9,7 @@ ghost use Rattle.cf_rebuild.specs.ReceiveWindow.{IsWindowOf};
 ghost use Rattle.cf_stream.specs.FirstCopy.{Offer};
 ghost use Rattle.cf_leg.specs.Segment.{letters_in};
 ghost use Rattle.cf_stream.specs.Stream.{Stream, letter_count};
-ghost use Rattle.cf_leg.specs.Calls.{AgainBreaks, ClockBreaks, OldestBreaks, KeepsList, Widens, window_by, Continues, IsTold, CutOff, origin_as, rst_of, Greeted, IsMade, IsOwn, greeted_as, no_marks, Addressed, Clocked, Counts, Heard, SendsAgain, SendsOldest, Spoken, greeting_of, is_due, is_greeted_phase, leg_opened, end_state_of, queue_counted, queue_opened, rearmed, rises_by};
+ghost use Rattle.cf_leg.specs.Calls.{AgainBreaks, ClockBreaks, OldestBreaks, KeepsList, Widens, window_by, Continues, IsTold, CutOff, origin_as, rst_of, Greeted, IsMade, IsOwn, greeted_as, no_marks, Addressed, Clocked, Counts, Heard, SendsAgain, SendsOldest, Spoken, due_of, greeting_of, is_due, is_greeted_phase, leg_opened, end_state_of, queue_counted, queue_opened, rearmed, rises_by};
 ghost use Rattle.cf_leg.specs.Emits.{differs, rst, send_mss, to_tell};
 ghost use Rattle.cf_leg.specs.Heard.{ack_place, text_place};
 ghost use Rattle.cf_stream.specs.Position.{place_or_zero};
@@ -98,6 +98,17 @@ impl Leg {
         ensures { result ≡ is_due self.now now }
     {
         self.running && self.deadline <= now
+    }
+
+    /// The moment in microseconds from which on a clock call does something; the greatest number where none will.
+    pub fn due(&self) -> u64
+        ensures { result ≡ due_of self.now }
+    {
+        if self.running {
+            self.deadline
+        } else {
+            u64::MAX
+        }
     }
 
     /// Whether it expired as often as it may.

@@ -1,14 +1,19 @@
-use Rattle.std.proofs.Common.{◌-◌, ◌≤◌, length}
+use Rattle.std.proofs.Common.{◌≡◌, ◌-◌, ◌^◌, ◌≤◌}
 use Rattle.cf_box.proofs.Listing.{AreListed}
 use Rattle.cf_box.proofs.packets.list_records.Given as goal
 
 abbrev pub invariant-records : goal.invariant-records
-invariant-records g l = record {
-  inside : l.at ≤ length l.capture;
-  few : l.number ≤ l.at;
-  listed : AreListed l.header l.capture l.at l.number (g.O.Sink.text l.fn.out) (g.O.Sink.text l.out);
-  puts : g.O.Sink.faults l.fn.out ≤ g.O.Sink.faults l.out;
-}
+invariant-records g l =
+    let content = g.F.Files.content in
+    record {
+      listed : AreListed (content l.fn.files l.name) l.reader.header l.reader.place l.number (g.O.Sink.text l.fn.out) (g.O.Sink.text l.out) l.lines.items;
+      near : l.reader.place ≤ 2 ^ 40;
+      few : l.number ≤ l.reader.place;
+      same : content l.files ≡ content l.fn.files;
+      reads : g.F.Files.read_faults l.fn.files ≤ g.F.Files.read_faults l.files;
+      writes : g.F.Files.write_faults l.files ≡ g.F.Files.write_faults l.fn.files;
+      puts : g.O.Sink.faults l.fn.out ≤ g.O.Sink.faults l.out;
+    }
 
 abbrev pub decreases-records : goal.decreases-records
-decreases-records g l = length l.capture - l.at
+decreases-records g l = 2 ^ 40 - l.reader.place

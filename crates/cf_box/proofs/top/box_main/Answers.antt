@@ -1,5 +1,5 @@
 use Rattle.std.proofs.Common.{◌≡◌, ◌⊎◌, refl, subst}
-use Rattle.cf_box.specs.Command.{Command}
+use Rattle.cf_box.specs.Command.{Command, World}
 use Rattle.cf_box.specs.Ends.{Ends}
 use Rattle.cf_sift.specs.Outputs.{KeepsAllBut}
 use Rattle.cf_box.specs.Outside.{Outside, outside_value}
@@ -10,6 +10,7 @@ use Rattle.cf_box.proofs.Exact.{exact_told}
 use Rattle.cf_box.proofs.Kept.{kept_told, unwritten_told}
 use Rattle.cf_box.proofs.RunHolds.{run_told}
 use Rattle.cf_box.proofs.Statuses.{Explains, capture_told, cut_told, idle_told, lack_told, link_told, lists_told, passes_told, read_told, refusal_told, stream_told, write_told}
+use Rattle.cf_box.proofs.WorldHolds.{own_told, world_told}
 use Rattle.cf_box.proofs.top.box_main.Given.{Over}
 use Rattle.cf_box.proofs.top.box_main.Goals as goal
 
@@ -84,11 +85,20 @@ returns-in-Some-clause-kept g c =
     subst (λ words. KeepsAllBut (before g c).files.content (after g c).files.content (outputs_of words)) c.in-Some.ensures.command (kept_told (explains g c))
 
 pub returns-in-Some-clause-unwritten : goal.returns-in-Some-clause-unwritten
-returns-in-Some-clause-unwritten g c = unwritten_told (explains g c)
+returns-in-Some-clause-unwritten g c = λ w own. unwritten_told (explains g c) w (own (command g c) (let known = c.in-Some.ensures.command in cc))
 
 pub returns-in-Some-clause-headline : goal.returns-in-Some-clause-headline
 returns-in-Some-clause-headline g c = λ policy names is. run_told c.runs_have_headline.ensures (explains g c) policy names
     (let known = c.in-Some.ensures.command in cc)
+
+pub returns-in-Some-clause-world : goal.returns-in-Some-clause-world
+returns-in-Some-clause-world g c = λ seed sessions policy names is. world_told (explains g c) c.runs_have_headline.ensures seed sessions policy names
+    (let known = c.in-Some.ensures.command in cc)
+
+pub returns-in-Some-clause-own : goal.returns-in-Some-clause-own
+returns-in-Some-clause-own g c = λ seed sessions policy names is.
+    let same : command g c ≡ World seed sessions policy names = let known = c.in-Some.ensures.command in cc in
+    own_told seed sessions policy names (subst (λ k. Explains k (before g c) (after g c) c.report.result) same (explains g c))
 
 pub returns-in-Some-clause-stream : goal.returns-in-Some-clause-stream
 returns-in-Some-clause-stream g c = λ is. subst (λ words. CutsItsStream words (before g c) (after g c)) c.in-Some.ensures.command (stream_told (explains g c) is)

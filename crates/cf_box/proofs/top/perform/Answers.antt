@@ -15,3 +15,6 @@ returns-in-Run-clause-meets g c = rw c.in-Run.is (c.run.ensures.meets (sink_valu
 
 pub returns-in-Relay-clause-meets : goal.returns-in-Relay-clause-meets
 returns-in-Relay-clause-meets g c = rw c.in-Relay.is (c.relay.ensures.meets (sink_value g.O.Sink c.args.out.now))
+
+pub returns-in-World-clause-meets : goal.returns-in-World-clause-meets
+returns-in-World-clause-meets g c = rw c.in-World.is (c.world.ensures.meets (sink_value g.O.Sink c.args.out.now) (pair_value g.P.Pair c.args.pair.now))

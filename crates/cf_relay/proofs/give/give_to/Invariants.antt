@@ -1,4 +1,4 @@
-use Rattle.std.proofs.Common.{◌≡◌, ◌+◌, ◌<◌, ◌≤◌, ℕ, List, length, map}
+use Rattle.std.proofs.Common.{◌≡◌, ◌+◌, ◌<◌, ℕ, List, length, map}
 use Rattle.std.specs.List.{concat}
 use Rattle.cf_outq.specs.SendQueue.{IsQueueOf}
 use Rattle.cf_outside.specs.Pair.{Took}
@@ -21,7 +21,7 @@ invariant-gives g l =
       few : l.idle < l.most;
       stands : (whole : Stream) → IsQueueOf l.fn.queue whole → IsQueueOf l.queue whole;
       idles : (start : ℕ) → RoseBy l.fn.idle start (g.P.Pair.idles l.fn.pair) → RoseBy l.idle start (g.P.Pair.idles l.pair);
-      faults : g.P.Pair.faults l.fn.pair ≤ g.P.Pair.faults l.pair;
+      still : g.P.Pair.faults l.pair ≡ g.P.Pair.faults l.fn.pair;
       buffer : length l.buf ≡ 4096;
     }
 

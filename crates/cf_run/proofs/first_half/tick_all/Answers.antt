@@ -7,6 +7,8 @@ use Rattle.cf_run.specs.Engine.{AreSound, TickSome}
 use Rattle.cf_run.specs.Entries.{number_if, stays_by, cuts_by}
 use Rattle.cf_run.proofs.Soundness.{first_of, sound_removed, cuts_stay, cuts_gone, one_less}
 use Rattle.cf_run.proofs.Timers.{some_first, some_more, some_all, take-removed, drop-removed, removed_same}
+use Rattle.cf_session.proofs.Amid.{parts_both, parts_none, on_err}
+use Rattle.cf_run.proofs.TimersAmid.{ticks_break}
 use Rattle.cf_run.proofs.first_half.tick_all.Goals as goal
 
 pub sessions-init : goal.sessions-init
@@ -16,6 +18,7 @@ sessions-init g c = record {
   fewer = omega arith;
   ticked = λ known all. some_first c.args.assets.now c.args.now known c.args.table.now.items _ all;
   keeps = keeps_none _;
+  parts = parts_none _;
   whole = c.requires.whole;
 }
 
@@ -42,6 +45,7 @@ sessions-preserved-then-stays g c =
           (c.sessions.invariant.ticked known all) x.2 (c.in_ok-life.ensures.ticks x.0 y.0 x.1 y.1) c.in_ok-life.ensures.after
           (y.3 ∙ ap (λ zs. zs ++ y.0 ∷ []) c.in_ok-life.ensures.before ∙ ap (λ (b : Bool). take place before ++ cond b (y.0 ∷ []) []) (sym stay)));
       keeps = keeps_both _ _ _ c.sessions.invariant.keeps c.in_ok-life.ensures.keeps;
+      parts = parts_both _ _ _ c.sessions.invariant.parts c.in_ok-life.ensures.parts;
       whole = c.in_ok-life.ensures.whole;
     }
 
@@ -74,9 +78,21 @@ sessions-preserved g c =
           (c.sessions.invariant.ticked known all) x.2 (c.in_ok-life.ensures.ticks x.0 y.0 x.1 y.1) (back ∙ c.in_ok-life.ensures.after)
           (front ∙ c.in_ok-life.ensures.before ∙ sym (append-nil (take place before)) ∙ ap (λ (b : Bool). take place before ++ cond b (y.0 ∷ []) []) (sym gone)));
       keeps = keeps_both _ _ _ c.sessions.invariant.keeps c.in_ok-life.ensures.keeps;
+      parts = parts_both _ _ _ c.sessions.invariant.parts c.in_ok-life.ensures.parts;
       whole = c.in_ok-life.ensures.whole;
     }
 
 pub returns-clause-ticks : goal.returns-clause-ticks
 returns-clause-ticks g c = λ known all.
     some_all c.args.assets.now c.args.now known c.sessions.table.items c.sessions.place _ _ c.sessions.count (c.sessions.invariant.ticked known all) (omega (arith, c.sessions-test.false, c.len.ensures))
+
+pub returns-in_err-life-clause-broken : goal.returns-in_err-life-clause-broken
+returns-in_err-life-clause-broken g c =
+    on_err c.from_residual.result (λ known all.
+    let value = g.D.Desk.value in
+    let place = c.sessions.place in
+    let before = c.sessions.table.items in
+    let within : place < length before = omega (arith, c.sessions-test.true, c.len.ensures) in
+    let x = first_of before place within in
+    ticks_break c.each_session_has_a_tick.ensures c.args.assets.now c.args.now known before place (value c.args.desk.now) (value c.sessions.desk) (value c.tick_at.new.desk) c.sessions.count
+    (c.sessions.invariant.ticked known all) c.sessions.invariant.parts c.sessions.invariant.keeps.octets x.0 (drop (place + 1) before) (c.in_err-life.ensures.broken x.0 x.1) x.2)

@@ -1,5 +1,6 @@
 use Rattle.std.proofs.Common.{◌≡◌, ◌+◌, ◌-◌, ◌≤◌, true, length, List}
 use Rattle.cf_outside.specs.Desk.{DeskValue, KeepsDesk}
+use Rattle.cf_session.specs.Broken.{KeepsParts}
 use Rattle.cf_session.specs.Told.{told}
 use Rattle.cf_run.specs.Engine.{AreAll, AreSound, TickSome}
 use Rattle.cf_run.specs.Table.{Session}
@@ -15,6 +16,7 @@ invariant-sessions g l =
       ticked : (known : List Session) → AreAll l.assets l.now l.fn.table.items known →
           TickSome l.assets l.now known l.table.items l.place (told (value l.fn.desk)) (told (value l.desk)) l.count;
       keeps : KeepsDesk (value l.fn.desk) (value l.desk);
+      parts : KeepsParts (value l.fn.desk) (value l.desk);
       whole : DeskValue.whole (value l.desk) ≡ true;
     }
 

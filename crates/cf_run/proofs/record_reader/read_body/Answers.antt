@@ -1,6 +1,6 @@
 use Rattle.std.proofs.Common.{length, take, ◌≡◌, arith}
 use Rattle.std.proofs.lemmas.List.{length-take}
-use Rattle.cf_run.proofs.Pieces.{read_filled}
+use Rattle.cf_outside.proofs.Pieces.{read_filled}
 use Rattle.cf_run.proofs.record_reader.read_body.Goals as goal
 
 pub fill-requires-clause-begun : goal.fill-requires-clause-begun

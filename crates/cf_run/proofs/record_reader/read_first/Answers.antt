@@ -1,5 +1,5 @@
 use Rattle.std.proofs.Common.{Ok, Err, take, ◌∙◌, sym}
-use Rattle.cf_run.proofs.Pieces.{none_read}
+use Rattle.cf_outside.proofs.Pieces.{none_read}
 use Rattle.cf_run.proofs.Places.{has_header_of}
 use Rattle.cf_run.proofs.record_reader.read_first.Goals as goal
 

@@ -1,4 +1,4 @@
-use Rattle.cf_run.proofs.Pieces.{none_read}
+use Rattle.cf_outside.proofs.Pieces.{none_read}
 use Rattle.cf_run.proofs.record_reader.read_head.Goals as goal
 
 pub fill-requires-clause-begun : goal.fill-requires-clause-begun

@@ -1,7 +1,7 @@
-use Rattle.std.proofs.Common.{◌≡◌, ℕ, List, pos, refl, ap, ◌∙◌, subst}
+use Rattle.std.proofs.Common.{◌≡◌, ℕ, List, pos, refl, ap, ◌∙◌, subst, inl}
 use Rattle.cf_outside.specs.Files.{Content, content_after_create, content_after_write}
 use Rattle.cf_pcap.specs.Header.{output_octets}
-use Rattle.cf_run.specs.RunCapture.{RunNamesValue, RunsRecords, run_names_value}
+use Rattle.cf_run.specs.RunCapture.{IsCreatedInPart, RunNamesValue, RunsRecords, run_names_value}
 use Rattle.cf_run.proofs.Created.{runs_as}
 use Rattle.cf_run.proofs.run.run_capture.Goals as goal
 
@@ -29,3 +29,7 @@ returns-in-Done-clause-runs g c =
     (made.out refl ∙ ap (λ (f : List ℕ → Content). content_after_write (f names.out) output_octets) opened)
     (made.log refl ∙ ap (λ (f : List ℕ → Content). content_after_create (f names.log)) opened)
     c.run_records.result (subst (λ n. RunsRecords assets n names created after c.run_records.result) limit c.run_records.ensures.runs)
+
+pub returns-clause-runs : goal.returns-clause-runs
+returns-clause-runs g c =
+    inl (subst (λ (f : List ℕ → Content). IsCreatedInPart (run_names_value c.args.names.now) f (g.F.Files.content c.create_outputs.new.files)) c.in_ok-reader.ensures.same (c.in-Failed.ensures.failed refl))

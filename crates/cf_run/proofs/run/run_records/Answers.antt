@@ -1,7 +1,13 @@
-use Rattle.std.proofs.Common.{List, ℕ, refl, ap, ◌∙◌, arith}
+use Rattle.std.proofs.Common.{List, ℕ, ◌≡◌, ◌<◌, ◌*◌, ◌^◌, true, Err, refl, sym, ap, ◌∙◌, subst, arith}
 use Rattle.cf_outside.specs.Files.{Content}
 use Rattle.cf_pcap.specs.Capture.{Cut, FileEnd, Large, TooLong}
-use Rattle.cf_run.proofs.Running.{nothing_so_far, one_so_far, runs_partly, runs_to, too_late, whole_first}
+use Rattle.cf_packet.specs.Packet.{read_record}
+use Rattle.cf_run.specs.FileDesk.{are_whole, files_desk}
+use Rattle.cf_run.specs.Half.{StepBreaks}
+use Rattle.cf_run.specs.Reader.{ReaderValue}
+use Rattle.cf_run.specs.RunCapture.{RunNamesValue, run_names_value}
+use Rattle.cf_run.specs.Trace.{Input, table_after}
+use Rattle.cf_run.proofs.Running.{breaks_off, nothing_so_far, one_so_far, runs_partly, runs_to, stopped, stops_between, told_on, too_late, whole_first}
 use Rattle.cf_run.proofs.run.run_records.Goals as goal
 
 pub records-init : goal.records-init
@@ -70,3 +76,29 @@ pub returns-in-Failed-clause-runs : goal.returns-in-Failed-clause-runs
 returns-in-Failed-clause-runs g c =
     let before = c.records.invariant in
     runs_partly before.so_far before.whole c.in-Failed.ensures.same
+
+pub returns-in_err-run_record-in-Whole-clause-runs : goal.returns-in_err-run_record-in-Whole-clause-runs
+returns-in_err-run_record-in-Whole-clause-runs g c =
+    let before = c.records.invariant in
+    let so_far = before.so_far in
+    let read = c.in-Whole.ensures in
+    let failed = c.in_err-run_record-in-Whole.ensures in
+    let fault = c.in_err-run_record-in-Whole.field-0.0 in
+    let content = g.F.Files.content in
+    let assets = c.args.policy.now.assets in
+    let limit = c.args.engine.now.limit in
+    let names : RunNamesValue = run_names_value c.args.names.now in
+    let first = content c.args.files.now in
+    let files = content c.next.new.files in
+    let after = content c.run_record.new.files in
+    let next : ReaderValue = c.next.new.self in
+    let moment = c.max-moment.result in
+    let given : Input = record { moment = moment; packet = read_record next.header.link next.body } in
+    let early : moment < 2 ^ 32 * 1000000 = omega (arith, c.if-moment-ge-MOMENT_LIMIT.false) in
+    let whole : are_whole names.out names.log files ≡ true = subst (λ (f : List ℕ → Content). are_whole names.out names.log f ≡ true) (sym read.same) before.whole in
+    told_on assets limit names first after fault c.from_residual.result c.from_residual.ensures.1
+    (stopped assets limit names first after fault
+    (λ e. breaks_off so_far c.in-Whole.stamp next moment files after read.found read.same c.max-moment.ensures early whole
+    (subst (λ n. StepBreaks assets n (table_after so_far.events) given (files_desk names.out names.log files) (files_desk names.out names.log after)) so_far.limited
+    (failed.broken (ap Err e) so_far.events so_far.stands)))
+    (λ e. stops_between so_far c.in-Whole.stamp next moment files after read.found read.same c.max-moment.ensures early (failed.stops_whole (ap Err e)) (failed.stops (ap Err e) so_far.events so_far.stands)))

@@ -12,6 +12,8 @@ use Rattle.cf_run.specs.declared.entry.Entry.{Entry}
 use Rattle.cf_run.proofs.Soundness.{sound_at, sound_set, sound_removed, same_asset, sound_after, lives}
 use Rattle.cf_run.proofs.Timers.{removed_same}
 use Rattle.cf_run.proofs.Received.{heard_as}
+use Rattle.cf_session.specs.Broken.{BreaksPacket}
+use Rattle.cf_run.proofs.ReceivedAmid.{going_breaks}
 use Rattle.cf_run.proofs.second_half.go_on.Goals as goal
 
 removed_set : (items : List Entry) (place : ℕ) (y : Entry) → remove (slice_set items place y) place ≡ remove items place
@@ -43,12 +45,12 @@ returns-else-not-stays-clause-sound g c =
     let one = sound_at c.args.assets.now c.args.limit items c.args.place x c.requires.sound at in
     sound_set c.args.assets.now c.args.limit items c.args.place _ c.requires.sound
     (sound_after c.args.assets.now c.args.limit x c.asset_of-asset.result.now c.on_packet.new.self one c.asset_of-asset.ensures
-    (c.in-Ok.ensures.sound (lives c.in-Ok.life (sym c.stays.ensures ∙ c.if-not-stays.false))) c.in-Ok.ensures.same.0)
+    (c.in-Ok.ensures.sound (lives c.in-Ok.life (sym c.stays.ensures ∙ c.if-not-stays.false))) c.in-Ok.ensures.same.0 c.due-entry.result c.due-entry.ensures)
 
 pub returns-then-not-stays-clause-sound : goal.returns-then-not-stays-clause-sound
 returns-then-not-stays-clause-sound g c =
     let items = c.args.table.now.items in
-    let y : Entry = record { session = c.on_packet.new.self; asset = c.index_mut-entry.result.now.asset } in
+    let y : Entry = record { session = c.on_packet.new.self; asset = c.index_mut-entry.result.now.asset; due = c.due-entry.result } in
     subst (AreSound c.args.assets.now c.args.limit) (sym (c.remove.ensures.items ∙ removed_set items c.args.place y))
     (sound_removed c.args.assets.now c.args.limit items c.args.place c.requires.sound)
 
@@ -59,7 +61,7 @@ returns-else-not-stays-clause-goes g c = λ table ticked all.
     let at : slice_get items c.args.place ≡ Some x = slice_get_read items (length items) c.args.place x refl c.requires.inside c.index_mut-entry.ensures.value in
     let one = sound_at c.args.assets.now c.args.limit items c.args.place x c.requires.sound at in
     heard_as c.args.assets.now c.args.limit c.args.now c.args.place c.args.side (packet_value c.args.packet.now) items table
-    (told (g.D.Desk.value c.args.desk.now)) (told (g.D.Desk.value c.on_packet.new.desk)) x c.on_packet.new.self c.asset_of-asset.result.now at c.asset_of-asset.ensures
+    (told (g.D.Desk.value c.args.desk.now)) (told (g.D.Desk.value c.on_packet.new.desk)) x c.on_packet.new.self c.due-entry.result c.asset_of-asset.result.now at c.asset_of-asset.ensures
     all ticked c.requires.moment.0 c.admitted-admitted.result c.refused-refused.result c.admitted-admitted.ensures.counts c.refused-refused.ensures.counts
     c.in-Ok.life (λ flow earlier half served stands tick now.
     subst (λ n. HearsBy flow n earlier half c.args.side (packet_value c.args.packet.now) c.on_packet.new.self (told (g.D.Desk.value c.args.desk.now)) (told (g.D.Desk.value c.on_packet.new.desk)) c.in-Ok.life)
@@ -72,12 +74,12 @@ pub returns-then-not-stays-clause-goes : goal.returns-then-not-stays-clause-goes
 returns-then-not-stays-clause-goes g c = λ table ticked all.
     let items = c.args.table.now.items in
     let x = c.index_mut-entry.result.now in
-    let y : Entry = record { session = c.on_packet.new.self; asset = x.asset } in
+    let y : Entry = record { session = c.on_packet.new.self; asset = x.asset; due = c.due-entry.result } in
     let at : slice_get items c.args.place ≡ Some x = slice_get_read items (length items) c.args.place x refl c.requires.inside c.index_mut-entry.ensures.value in
     let one = sound_at c.args.assets.now c.args.limit items c.args.place x c.requires.sound at in
     rw (c.remove.ensures.items, removed_set items c.args.place y)
     (heard_as c.args.assets.now c.args.limit c.args.now c.args.place c.args.side (packet_value c.args.packet.now) items table
-    (told (g.D.Desk.value c.args.desk.now)) (told (g.D.Desk.value c.on_packet.new.desk)) x c.on_packet.new.self c.asset_of-asset.result.now at c.asset_of-asset.ensures
+    (told (g.D.Desk.value c.args.desk.now)) (told (g.D.Desk.value c.on_packet.new.desk)) x c.on_packet.new.self c.due-entry.result c.asset_of-asset.result.now at c.asset_of-asset.ensures
     all ticked c.requires.moment.0 c.admitted-admitted.result c.refused-refused.result c.admitted-admitted.ensures.counts c.refused-refused.ensures.counts
     c.in-Ok.life (λ flow earlier half served stands tick now.
     subst (λ n. HearsBy flow n earlier half c.args.side (packet_value c.args.packet.now) c.on_packet.new.self (told (g.D.Desk.value c.args.desk.now)) (told (g.D.Desk.value c.on_packet.new.desk)) c.in-Ok.life)
@@ -85,3 +87,16 @@ returns-then-not-stays-clause-goes g c = λ table ticked all.
     (λ flow earlier event s. sym c.admitted.ensures.value ∙ c.admitted.ensures.counts flow earlier event s) (λ flow earlier event s. sym c.refused.ensures.value ∙ c.refused.ensures.counts flow earlier event s)
     false (sym c.stays.ensures ∙ c.if-not-stays.true) c.saturating_sub.result c.saturating_sub-2.result c.cuts.result
     (c.saturating_sub.ensures ∙ ap (λ n. n - c.admitted-admitted.result) c.admitted.ensures.value) (c.saturating_sub-2.ensures ∙ ap (λ n. n - c.refused-refused.result) c.refused.ensures.value) c.cuts.ensures)
+
+pub returns-in-Err-clause-broken : goal.returns-in-Err-clause-broken
+returns-in-Err-clause-broken g c = λ e.
+    let items = c.args.table.now.items in
+    let x = c.index_mut-entry.result.now in
+    let d0 = g.D.Desk.value c.args.desk.now in
+    let d1 = g.D.Desk.value c.on_packet.new.desk in
+    let p = packet_value c.args.packet.now in
+    let at : slice_get items c.args.place ≡ Some x = slice_get_read items (length items) c.args.place x refl c.requires.inside c.index_mut-entry.ensures.value in
+    let one = sound_at c.args.assets.now c.args.limit items c.args.place x c.requires.sound at in
+    going_breaks c.args.assets.now c.args.limit c.args.now c.args.place c.args.side p items d0 d1 x c.asset_of-asset.result.now at c.asset_of-asset.ensures c.requires.moment.0
+    (λ flow earlier half served stands tick now.
+    subst (λ n. BreaksPacket flow n earlier half c.args.side p d0 d1) one.limit_is (c.in-Err.ensures.broken flow earlier half served stands tick now))

@@ -1,9 +1,12 @@
-use Rattle.std.proofs.Common.{sym, ap, ◌∙◌, refl}
+use Rattle.std.proofs.Common.{sym, ap, ◌∙◌, refl, Err}
 use Rattle.cf_packet.specs.Packet.{packet_value}
 use Rattle.cf_session.specs.Told.{told}
 use Rattle.cf_run.specs.Entries.{entry_match}
 use Rattle.cf_run.proofs.Matched.{begins_means}
 use Rattle.cf_run.proofs.Packets.{begun, full, outside, went}
+use Rattle.cf_run.proofs.Faults.{same_fault}
+use Rattle.cf_run.proofs.ReceivedAmid.{begun_breaks, went_breaks}
+use Rattle.cf_run.specs.declared.engine.StepFault.TheVariants as stepped
 use Rattle.cf_run.proofs.second_half.receive.Goals as goal
 
 pub returns-in-Full-clause-received : goal.returns-in-Full-clause-received
@@ -30,3 +33,13 @@ pub returns-in-Err-clause-memory : goal.returns-in-Err-clause-memory
 returns-in-Err-clause-memory g c = λ _.
     begins_means c.args.assets.now c.args.table.now.items (packet_value c.args.packet.now) c.in-Begins.asset c.in-Begins.closed
     (ap (λ xs. entry_match c.args.assets.now xs (packet_value c.args.packet.now)) (sym c.deref.ensures.value) ∙ sym c.match_packet.ensures ∙ c.in-Begins.is)
+
+pub returns-in-Err-clause-broken : goal.returns-in-Err-clause-broken
+returns-in-Err-clause-broken g c = λ e table ticked all.
+    begun_breaks c.args.assets.now c.args.limit c.args.now (packet_value c.args.packet.now) c.args.table.now.items (g.D.Desk.value c.args.desk.now) (g.D.Desk.value c.begin.new.desk) table ticked all
+    c.in-Begins.asset c.in-Begins.closed (ap (λ xs. entry_match c.args.assets.now xs (packet_value c.args.packet.now)) (sym c.deref.ensures.value) ∙ sym c.match_packet.ensures ∙ c.in-Begins.is) (c.in-Err.ensures.broken (ap Err (same_fault c.in-Err.fault stepped.Write e)))
+
+pub returns-in-Err-go_on-clause-broken : goal.returns-in-Err-go_on-clause-broken
+returns-in-Err-go_on-clause-broken g c = λ e table ticked all.
+    went_breaks c.args.assets.now c.args.limit c.args.now (packet_value c.args.packet.now) c.args.table.now.items (g.D.Desk.value c.args.desk.now) (g.D.Desk.value c.go_on.new.desk) table ticked all
+    c.in-Goes.place c.in-Goes.side (ap (λ xs. entry_match c.args.assets.now xs (packet_value c.args.packet.now)) (sym c.deref.ensures.value) ∙ sym c.match_packet.ensures ∙ c.in-Goes.is) (c.in-Err-go_on.ensures.broken e)

@@ -14,6 +14,7 @@ use Rattle.cf_session.proofs.Hearings.{newly_none, newly_open, own_pushed, stand
 use Rattle.cf_session.proofs.Telling.{both_nothing}
 use Rattle.cf_session.specs.Parts.{IsLaneAfter, own_queue}
 use Rattle.cf_session.specs.Told.{told}
+use Rattle.cf_session.proofs.Amid.{parts_none, on_err}
 use Rattle.cf_session.proofs.hearing.hear.Goals as goal
 
 pub returns-clause-hears : goal.returns-clause-hears
@@ -64,3 +65,25 @@ returns-then-had_ended-clause-hears g c = λ ends client e es r h w at legs lane
         told = sym (both_nothing (told (g.D.Desk.value c.args.desk.now)));
       };
     }
+
+pub returns-in_err-cut-clause-broken : goal.returns-in_err-cut-clause-broken
+returns-in_err-cut-clause-broken g c =
+    on_err c.from_residual.result (λ ends client e es r h w at legs lane uncut pend cs ks tk.
+    let seg = c.take_in-answer.ensures in
+    let s = c.args.side in
+    let n = seg.newly in
+    let window = c.take_in-answer.new.leg.window in
+    let x = took ends c.args.leg.now c.take_in-answer.new.leg (own_queue s c.args.to_client.now c.args.to_controller.now) (own_queue s c.take_in-answer.new.to_client c.take_in-answer.new.to_controller) c.take_in-answer.result c.args.now e es (packet_value c.args.packet.now) seg.heard n seg.ends at legs in
+    let open_ = sym c.has_ended-had_ended.ensures.value ∙ c.if-had_ended.false in
+    let piece = n.letters.bytes in
+    let pending = n.pending ∙ ap (λ (xs : List ℕ). xs ++ piece) (sym pend) in
+    let same = newly_open n.letters c.args.leg.now.window.ended window.ended open_ n.ended in
+    record {
+      letters = record { bytes = piece; ended = window.ended };
+      taken_is = subst (λ (l : Stream). IsTaken (first_copy (offers ends.role (record e { came = Packet (packet_value c.args.packet.now); ending = Unspoken } ∷ es))) (with_letters (taken s h) l)) same (x.on (taken s h) tk);
+      unended = λ en. absurd (true≢false (sym en ∙ sym (x.ended_same (taken s h) tk) ∙ open_));
+      follows = c.in_err-cut.ensures.broken client r h w piece lane uncut pending (seg.client_stands w.to_client cs) (seg.controller_stands w.to_controller ks);
+    })
+
+pub returns-then-had_ended-clause-parts : goal.returns-then-had_ended-clause-parts
+returns-then-had_ended-clause-parts g c = parts_none _

@@ -1,6 +1,7 @@
 use Rattle.std.proofs.Common.{◌≡◌, ◌+◌, ℕ, List, [], ◌++◌, ◌∷◌, length, take, refl, sym, ap, ◌∙◌, subst, arith}
 use Rattle.std.proofs.lemmas.List.{length-take-le}
 use Rattle.cf_lane.specs.History.{bytes_at}
+use Rattle.cf_outside.proofs.Pieces.{none_read}
 use Rattle.cf_outside.specs.Files.{Content}
 use Rattle.cf_view.specs.declared.Side.TheVariants as side
 use Rattle.cf_sift.specs.Flow.{IsFlowAfter}
@@ -23,6 +24,9 @@ pieces-init g c = record {
   writes = omega arith;
 }
 
+pub fill-requires-clause-begun : goal.fill-requires-clause-begun
+fill-requires-clause-begun g c = none_read (g.F.Files.content c.pieces.files c.args.names.now.stream.now) c.pieces.at
+
 pub returns-in_default-clause-read : goal.returns-in_default-clause-read
 returns-in_default-clause-read g c = λ is client first flow.
     let content = g.F.Files.content in
@@ -44,9 +48,9 @@ returns-in_err-take_end-clause-write g c = λ is client first flow.
     let inv = c.pieces.invariant in
     let t = subst (λ f. IsTakenTo asset client names first old f c.pieces.at c.pieces.flow) (sym c.fill.ensures.same) (inv.taken client first flow) in
     let p = take c.in-Some.count c.fill.new.buffer in
-    let size : length p ≡ c.in-Some.count = length-take-le c.in-Some.count c.fill.new.buffer c.in-Some.ensures.inside in
-    let filled = filled_at (old names.stream) (content c.pieces.files names.stream) c.pieces.at (length t.bytes) (length c.pieces.piece) p
-    (inv.others names.stream c.requires.apart.stream_out c.requires.apart.stream_replies c.requires.apart.stream_log) t.size inv.piece c.in-Some.ensures.filled in
+    let size : length p ≡ c.in-Some.count = length-take-le c.in-Some.count c.fill.new.buffer (omega (arith, c.in-Some.ensures.inside, c.fill.ensures.length, inv.piece)) in
+    let filled = filled_at (old names.stream) (content c.pieces.files names.stream) c.pieces.at (length t.bytes) 4096 p
+    (inv.others names.stream c.requires.apart.stream_out c.requires.apart.stream_replies c.requires.apart.stream_log) t.size refl c.in-Some.ensures.filled in
     let one = c.has_one_judgement.ensures in
     end_stops asset client names first one old now c.pieces.flow (t.bytes ++ p) t.history
     (read_all asset client names first one old now c.pieces.at c.pieces.flow t p filled (omega (arith, size, c.if-count-eq0.true)))
@@ -63,9 +67,9 @@ returns-then-count-eq0-clause-taken g c = λ client first flow.
     let inv = c.pieces.invariant in
     let t = subst (λ f. IsTakenTo asset client names first old f c.pieces.at c.pieces.flow) (sym c.fill.ensures.same) (inv.taken client first flow) in
     let p = take c.in-Some.count c.fill.new.buffer in
-    let size : length p ≡ c.in-Some.count = length-take-le c.in-Some.count c.fill.new.buffer c.in-Some.ensures.inside in
-    let filled = filled_at (old names.stream) (content c.pieces.files names.stream) c.pieces.at (length t.bytes) (length c.pieces.piece) p
-    (inv.others names.stream c.requires.apart.stream_out c.requires.apart.stream_replies c.requires.apart.stream_log) t.size inv.piece c.in-Some.ensures.filled in
+    let size : length p ≡ c.in-Some.count = length-take-le c.in-Some.count c.fill.new.buffer (omega (arith, c.in-Some.ensures.inside, c.fill.ensures.length, inv.piece)) in
+    let filled = filled_at (old names.stream) (content c.pieces.files names.stream) c.pieces.at (length t.bytes) 4096 p
+    (inv.others names.stream c.requires.apart.stream_out c.requires.apart.stream_replies c.requires.apart.stream_log) t.size refl c.in-Some.ensures.filled in
     let one = c.has_one_judgement.ensures in
     end_taken asset client names first one old now c.pieces.flow (t.bytes ++ p) t.history
     (read_all asset client names first one old now c.pieces.at c.pieces.flow t p filled (omega (arith, size, c.if-count-eq0.true)))
@@ -82,9 +86,9 @@ returns-in_err-reason-clause-write g c = λ is client first flow.
     let inv = c.pieces.invariant in
     let t = subst (λ f. IsTakenTo asset client names first old f c.pieces.at c.pieces.flow) (sym c.fill.ensures.same) (inv.taken client first flow) in
     let p = take c.in-Some.count c.fill.new.buffer in
-    let size : length p ≡ c.in-Some.count = length-take-le c.in-Some.count c.fill.new.buffer c.in-Some.ensures.inside in
-    let filled = filled_at (old names.stream) (content c.pieces.files names.stream) c.pieces.at (length t.bytes) (length c.pieces.piece) p
-    (inv.others names.stream c.requires.apart.stream_out c.requires.apart.stream_replies c.requires.apart.stream_log) t.size inv.piece c.in-Some.ensures.filled in
+    let size : length p ≡ c.in-Some.count = length-take-le c.in-Some.count c.fill.new.buffer (omega (arith, c.in-Some.ensures.inside, c.fill.ensures.length, inv.piece)) in
+    let filled = filled_at (old names.stream) (content c.pieces.files names.stream) c.pieces.at (length t.bytes) 4096 p
+    (inv.others names.stream c.requires.apart.stream_out c.requires.apart.stream_replies c.requires.apart.stream_log) t.size refl c.in-Some.ensures.filled in
     piece_stops asset client names first c.has_one_judgement.ensures old now c.pieces.at c.pieces.flow t p filled (content c.take_piece.new.files)
     (omega (arith, size, c.if-count-eq0.false)) (omega (arith, size, c.in-Some.ensures.inside, c.fill.ensures.length, inv.piece))
     (c.in_err-reason.ensures.fails client first t.history t.flow_of)
@@ -99,9 +103,9 @@ returns-in-Some-2-clause-taken g c = λ client first flow.
     let inv = c.pieces.invariant in
     let t = subst (λ f. IsTakenTo asset client names first old f c.pieces.at c.pieces.flow) (sym c.fill.ensures.same) (inv.taken client first flow) in
     let p = take c.in-Some.count c.fill.new.buffer in
-    let size : length p ≡ c.in-Some.count = length-take-le c.in-Some.count c.fill.new.buffer c.in-Some.ensures.inside in
-    let filled = filled_at (old names.stream) (content c.pieces.files names.stream) c.pieces.at (length t.bytes) (length c.pieces.piece) p
-    (inv.others names.stream c.requires.apart.stream_out c.requires.apart.stream_replies c.requires.apart.stream_log) t.size inv.piece c.in-Some.ensures.filled in
+    let size : length p ≡ c.in-Some.count = length-take-le c.in-Some.count c.fill.new.buffer (omega (arith, c.in-Some.ensures.inside, c.fill.ensures.length, inv.piece)) in
+    let filled = filled_at (old names.stream) (content c.pieces.files names.stream) c.pieces.at (length t.bytes) 4096 p
+    (inv.others names.stream c.requires.apart.stream_out c.requires.apart.stream_replies c.requires.apart.stream_log) t.size refl c.in-Some.ensures.filled in
     let after = subst (λ k. IsFlowAfter asset client names first (content c.take_piece.new.files) (t.history ++ bytes_at 0 side.Client p ∷ []) k c.take_piece.new.flow) c.in-Some-2.is
     (c.in_ok-reason.ensures.taken client first t.history t.flow_of) in
     piece_cuts asset client names first c.has_one_judgement.ensures old now c.pieces.at c.pieces.flow t p filled (content c.take_piece.new.files)
@@ -118,9 +122,9 @@ returns-in_err-take_end-2-clause-write g c = λ is client first flow.
     let inv = c.pieces.invariant in
     let t = subst (λ f. IsTakenTo asset client names first old f c.pieces.at c.pieces.flow) (sym c.fill.ensures.same) (inv.taken client first flow) in
     let p = take c.in-Some.count c.fill.new.buffer in
-    let size : length p ≡ c.in-Some.count = length-take-le c.in-Some.count c.fill.new.buffer c.in-Some.ensures.inside in
-    let filled = filled_at (old names.stream) (content c.pieces.files names.stream) c.pieces.at (length t.bytes) (length c.pieces.piece) p
-    (inv.others names.stream c.requires.apart.stream_out c.requires.apart.stream_replies c.requires.apart.stream_log) t.size inv.piece c.in-Some.ensures.filled in
+    let size : length p ≡ c.in-Some.count = length-take-le c.in-Some.count c.fill.new.buffer (omega (arith, c.in-Some.ensures.inside, c.fill.ensures.length, inv.piece)) in
+    let filled = filled_at (old names.stream) (content c.pieces.files names.stream) c.pieces.at (length t.bytes) 4096 p
+    (inv.others names.stream c.requires.apart.stream_out c.requires.apart.stream_replies c.requires.apart.stream_log) t.size refl c.in-Some.ensures.filled in
     let after = subst (λ k. IsFlowAfter asset client names first (content c.take_piece.new.files) (t.history ++ bytes_at 0 side.Client p ∷ []) k c.take_piece.new.flow) c.in_default-2.is
     (c.in_ok-reason.ensures.taken client first t.history t.flow_of) in
     let one = c.has_one_judgement.ensures in
@@ -143,9 +147,9 @@ returns-then-count-lt-PIECE-clause-taken g c = λ client first flow.
     let inv = c.pieces.invariant in
     let t = subst (λ f. IsTakenTo asset client names first old f c.pieces.at c.pieces.flow) (sym c.fill.ensures.same) (inv.taken client first flow) in
     let p = take c.in-Some.count c.fill.new.buffer in
-    let size : length p ≡ c.in-Some.count = length-take-le c.in-Some.count c.fill.new.buffer c.in-Some.ensures.inside in
-    let filled = filled_at (old names.stream) (content c.pieces.files names.stream) c.pieces.at (length t.bytes) (length c.pieces.piece) p
-    (inv.others names.stream c.requires.apart.stream_out c.requires.apart.stream_replies c.requires.apart.stream_log) t.size inv.piece c.in-Some.ensures.filled in
+    let size : length p ≡ c.in-Some.count = length-take-le c.in-Some.count c.fill.new.buffer (omega (arith, c.in-Some.ensures.inside, c.fill.ensures.length, inv.piece)) in
+    let filled = filled_at (old names.stream) (content c.pieces.files names.stream) c.pieces.at (length t.bytes) 4096 p
+    (inv.others names.stream c.requires.apart.stream_out c.requires.apart.stream_replies c.requires.apart.stream_log) t.size refl c.in-Some.ensures.filled in
     let after = subst (λ k. IsFlowAfter asset client names first (content c.take_piece.new.files) (t.history ++ bytes_at 0 side.Client p ∷ []) k c.take_piece.new.flow) c.in_default-2.is
     (c.in_ok-reason.ensures.taken client first t.history t.flow_of) in
     let one = c.has_one_judgement.ensures in
@@ -163,7 +167,7 @@ pub pieces-preserved : goal.pieces-preserved
 pieces-preserved g c =
     let inv = c.pieces.invariant in
     let f = c.in_ok-reason.ensures in
-    let count : length (take c.in-Some.count c.fill.new.buffer) ≡ c.in-Some.count = length-take-le c.in-Some.count c.fill.new.buffer c.in-Some.ensures.inside in
+    let count : length (take c.in-Some.count c.fill.new.buffer) ≡ c.in-Some.count = length-take-le c.in-Some.count c.fill.new.buffer (omega (arith, c.in-Some.ensures.inside, c.fill.ensures.length, inv.piece)) in
     record {
       taken = λ client first flow.
           let content = g.F.Files.content in
@@ -173,9 +177,9 @@ pieces-preserved g c =
           let now = content c.fill.new.files in
           let t = subst (λ f. IsTakenTo asset client names first old f c.pieces.at c.pieces.flow) (sym c.fill.ensures.same) (inv.taken client first flow) in
           let p = take c.in-Some.count c.fill.new.buffer in
-          let size : length p ≡ c.in-Some.count = length-take-le c.in-Some.count c.fill.new.buffer c.in-Some.ensures.inside in
-          let filled = filled_at (old names.stream) (content c.pieces.files names.stream) c.pieces.at (length t.bytes) (length c.pieces.piece) p
-          (inv.others names.stream c.requires.apart.stream_out c.requires.apart.stream_replies c.requires.apart.stream_log) t.size inv.piece c.in-Some.ensures.filled in
+          let size : length p ≡ c.in-Some.count = length-take-le c.in-Some.count c.fill.new.buffer (omega (arith, c.in-Some.ensures.inside, c.fill.ensures.length, inv.piece)) in
+          let filled = filled_at (old names.stream) (content c.pieces.files names.stream) c.pieces.at (length t.bytes) 4096 p
+          (inv.others names.stream c.requires.apart.stream_out c.requires.apart.stream_replies c.requires.apart.stream_log) t.size refl c.in-Some.ensures.filled in
           let after = subst (λ k. IsFlowAfter asset client names first (content c.take_piece.new.files) (t.history ++ bytes_at 0 side.Client p ∷ []) k c.take_piece.new.flow) c.in_default-2.is
           (c.in_ok-reason.ensures.taken client first t.history t.flow_of) in
           subst (λ n. IsTakenTo asset client names first old (content c.take_piece.new.files) (c.pieces.at + n) c.take_piece.new.flow) size

@@ -20,7 +20,7 @@ returns-clause-goes g c =
     let pairm = pair_value g.P.Pair c.give_to.new.pair in
     let pairn = pair_value g.P.Pair c.finish_to.new.pair in
     serve_goes c.args.most side.Client old mid (record mid { client_finished = c.finish_to.new.finished }) pair pairm pairn c.in_ok-give_to.ensures.gave.3 (closes_client mid c.finish_to.new.finished)
-    (λ asset desk. give_goes asset c.args.most side.Client old mid pair pairm desk c.requires.few (gives_client old c.give_to.new.queue c.give_to.new.idle) c.give_to.ensures.stands c.give_to.ensures.cause.later c.give_to.ensures.idles c.in_ok-give_to.field-0 c.in_ok-give_to.ensures.gave)
+    (λ asset desk. give_goes asset c.args.most side.Client old mid pair pairm desk c.requires.few (gives_client old c.give_to.new.queue c.give_to.new.idle) c.give_to.ensures.stands c.give_to.ensures.cause.later c.give_to.ensures.idles (c.in_ok-give_to.ensures.cause.still (λ is. cc)) c.in_ok-give_to.field-0 c.in_ok-give_to.ensures.gave)
     c.finish_to.ensures.idles c.finish_to.result c.finish_to.ensures.finishes c.finish_to.ensures.cause
 
 pub returns-clause-stops : goal.returns-clause-stops
@@ -31,7 +31,7 @@ returns-clause-stops g c =
     let pairm = pair_value g.P.Pair c.give_to.new.pair in
     let pairn = pair_value g.P.Pair c.finish_to.new.pair in
     serve_stops c.args.most side.Client old mid (record mid { client_finished = c.finish_to.new.finished }) pair pairm pairn c.in_ok-give_to.ensures.gave.3 (closes_client mid c.finish_to.new.finished)
-    (λ asset desk. give_goes asset c.args.most side.Client old mid pair pairm desk c.requires.few (gives_client old c.give_to.new.queue c.give_to.new.idle) c.give_to.ensures.stands c.give_to.ensures.cause.later c.give_to.ensures.idles c.in_ok-give_to.field-0 c.in_ok-give_to.ensures.gave)
+    (λ asset desk. give_goes asset c.args.most side.Client old mid pair pairm desk c.requires.few (gives_client old c.give_to.new.queue c.give_to.new.idle) c.give_to.ensures.stands c.give_to.ensures.cause.later c.give_to.ensures.idles (c.in_ok-give_to.ensures.cause.still (λ is. cc)) c.in_ok-give_to.field-0 c.in_ok-give_to.ensures.gave)
     c.finish_to.ensures.idles c.finish_to.result c.finish_to.ensures.finishes c.finish_to.ensures.cause
 
 pub returns-clause-moves : goal.returns-clause-moves

@@ -24,7 +24,7 @@ returns-clause-goes g c =
     (asks c.streams_go_on.ensures.go_on c.streams_go_on.ensures.quiet c.args.asset.now c.args.most side.Controller old new (pair_value g.P.Pair c.args.pair.now)
     (pair_value g.P.Pair n.pair) (g.D.Desk.value c.args.desk.now) (g.D.Desk.value n.desk) c.requires.sound.few
     (takes_controller old n.lane n.to_client n.to_controller n.heard.rest.items n.heard.letters n.idle) c.take_from.ensures.idles c.take_from.ensures.log c.take_from.result c.take_from.ensures.link c.take_from.ensures.write
-    c.in_ok-take_from.field-0 c.check_limit.result c.in_ok-take_from.ensures.takes c.requires.sound.short c.check_limit.ensures.limit).0
+    c.in_ok-take_from.field-0 c.in_ok-take_from.was c.check_limit.result c.in_ok-take_from.ensures.takes c.requires.sound.short c.check_limit.ensures.limit).0
 
 pub returns-clause-stops : goal.returns-clause-stops
 returns-clause-stops g c =
@@ -34,7 +34,7 @@ returns-clause-stops g c =
     (asks c.streams_go_on.ensures.go_on c.streams_go_on.ensures.quiet c.args.asset.now c.args.most side.Controller old new (pair_value g.P.Pair c.args.pair.now)
     (pair_value g.P.Pair n.pair) (g.D.Desk.value c.args.desk.now) (g.D.Desk.value n.desk) c.requires.sound.few
     (takes_controller old n.lane n.to_client n.to_controller n.heard.rest.items n.heard.letters n.idle) c.take_from.ensures.idles c.take_from.ensures.log c.take_from.result c.take_from.ensures.link c.take_from.ensures.write
-    c.in_ok-take_from.field-0 c.check_limit.result c.in_ok-take_from.ensures.takes c.requires.sound.short c.check_limit.ensures.limit).1
+    c.in_ok-take_from.field-0 c.in_ok-take_from.was c.check_limit.result c.in_ok-take_from.ensures.takes c.requires.sound.short c.check_limit.ensures.limit).1
 
 pub returns-clause-moves : goal.returns-clause-moves
 returns-clause-moves g c =

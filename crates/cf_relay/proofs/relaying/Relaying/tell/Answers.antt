@@ -4,7 +4,7 @@ use Rattle.cf_relay.proofs.relaying.Relaying.tell.Goals as goal
 
 pub returns-in-Told-clause-goes : goal.returns-in-Told-clause-goes
 returns-in-Told-clause-goes g c = λ asset most desk few.
-    tell_goes asset most _ _ _ desk c.in-Told.now _ c.max-self.ensures few c.requires.still c.in-Told.ensures.entry c.moment.ensures.cause.later c.moment.ensures.idle
+    tell_goes asset most _ _ _ desk c.in-Told.now _ c.max-self.ensures few c.requires.still c.in-Told.ensures.entry c.moment.ensures.cause.later (c.in-Told.ensures.cause.still (λ is. cc)) c.moment.ensures.idle
 
 pub returns-in-Failed-clause-stops : goal.returns-in-Failed-clause-stops
 returns-in-Failed-clause-stops g c = λ asset most desk few.

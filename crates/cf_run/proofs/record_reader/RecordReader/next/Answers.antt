@@ -3,7 +3,8 @@ use Rattle.std.specs.Vec.{with_items}
 use Rattle.std.proofs.lemmas.List.{with_items_is}
 use Rattle.cf_outside.specs.Faults.{Rose}
 use Rattle.cf_outside.specs.Files.{Content}
-use Rattle.cf_run.specs.Reader.{ReaderValue, IsFilled, FindsBody}
+use Rattle.cf_outside.specs.Part.{IsFilled}
+use Rattle.cf_run.specs.Reader.{ReaderValue, FindsBody}
 use Rattle.cf_run.proofs.Places.{head_ends, head_is_cut, head_is_large, head_is_long, body_is_whole, body_rest}
 use Rattle.cf_run.proofs.record_reader.RecordReader.next.Goals as goal
 

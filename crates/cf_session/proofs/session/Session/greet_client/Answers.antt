@@ -8,6 +8,16 @@ use Rattle.cf_session.specs.Parts.{IsLegBetween, SessionValue}
 use Rattle.cf_session.specs.Session.{client_ends}
 use Rattle.cf_session.specs.Told.{told}
 use Rattle.cf_session.specs.Turn.{GreetsClient, IsSteady, MayGreet}
+use Rattle.cf_leg.specs.Calls.{greeting_as}
+use Rattle.cf_leg.specs.Emits.{IsGreeting}
+use Rattle.cf_leg.specs.Emitted.{BreaksOff}
+use Rattle.cf_leg.specs.LegValue.{marks}
+use Rattle.cf_leg.specs.declared.Ends.{Ends}
+use Rattle.cf_session.proofs.Amid.{amid_sent, parts_none, on_err}
+use Rattle.cf_session.proofs.Greeting.{nothing_came}
+use Rattle.cf_session.specs.Broken.{BreaksAmid}
+use Rattle.cf_session.specs.Sent.{at}
+use Rattle.cf_session.specs.Turn.{greetings}
 use Rattle.cf_session.proofs.session.Session.greet_client.Goals as goal
 
 pub greet-requires-clause-number : goal.greet-requires-clause-number
@@ -37,3 +47,21 @@ returns-clause-greets g c = λ flow d ds at may legs.
       told = told_sent d0 d1 now (syn_ack_for (client_ends flow) flow.syn.seq n ∷ [])
           (greeted_packets law (client_ends flow) c.self.inside.client c.self.inside.to_client d ds may'.0 may'.1 s flow refl n now c.greet.new.self _ _ e.greeted e.ends e.number at) e.lines;
     })
+
+pub returns-in_err-greet-clause-broken : goal.returns-in_err-greet-clause-broken
+returns-in_err-greet-clause-broken g c =
+    on_err c.from_residual.result (λ flow d ds moment may legs.
+    let may' = subst (λ n. MayGreet n d ds) c.in-Some.is may in
+    let s = subst (λ (s : SessionValue). IsLegBetween (client_ends flow) s.client s.to_client (record d { ending = Unspoken } ∷ ds)) (sym c.self.view_is) legs in
+    let n = c.in-Some.number in
+    let now = c.args.now in
+    let leg = c.self.inside.client in
+    let h = c.in_err-greet.ensures.broken in
+    let d0 = g.D.Desk.value c.args.desk.now in
+    let d1 = g.D.Desk.value c.greet.new.desk in
+    let first = nothing_came (client_ends flow) leg c.self.inside.to_client d ds may'.0 s in
+    let right = h.right (marks c.self.inside.to_client) d ds moment first.stands in
+    let out = subst (λ (e : Ends). IsGreeting e e.role (greeting_as e n leg.other e.role)) s.is right.came.0 in
+    let breaks = subst (λ p. BreaksOff now (p ∷ []) d0 d1) (ap (λ (e : Ends). greeting_as e n leg.other e.role) s.is ∙ out) h.breaks in
+    subst (λ x. BreaksAmid (at now (greetings flow x)) [] d0 d1) (sym c.in-Some.is)
+    (amid_sent now (syn_ack_for (client_ends flow) flow.syn.seq n ∷ []) d0 d1 breaks c.greet.ensures.lines c.greet.ensures.line_part))

@@ -1,4 +1,4 @@
-use Rattle.std.proofs.Common.{◌≡◌, ◌∷◌, ◌++◌, length, sym, ap, ◌∙◌, subst, arith}
+use Rattle.std.proofs.Common.{◌≡◌, [], ◌∷◌, ◌++◌, length, refl, sym, ap, ◌∙◌, subst, arith}
 use Rattle.cf_leg.specs.Event.{Spoke, Unspoken}
 use Rattle.cf_outq.specs.SendQueue.{IsQueueOf, Queue}
 use Rattle.cf_rebuild.specs.ReceiveWindow.{Window, base_of}
@@ -9,6 +9,14 @@ use Rattle.cf_session.specs.Parts.{IsLegBetween, SessionValue}
 use Rattle.cf_session.specs.Session.{client_ends, controller_ends}
 use Rattle.cf_session.specs.Told.{told}
 use Rattle.cf_session.specs.Turn.{IsSteady, OnlySpeaks, SaysBoth, came_greeted, greetings, roomy_by}
+use Rattle.cf_leg.specs.Emits.{IsRight}
+use Rattle.cf_leg.specs.declared.Ends.{Ends}
+use Rattle.cf_session.proofs.Able.{can_hello, can_speak, hello_taken, taken_of}
+use Rattle.cf_session.proofs.Amid.{amid_after, amid_as, amid_before, amid_sent, parts_both, on_err}
+use Rattle.cf_session.proofs.Legs.{right_of}
+use Rattle.cf_session.proofs.Telling.{at-append}
+use Rattle.cf_session.specs.Sent.{at}
+use Rattle.cf_session.specs.Turn.{SaysAmid}
 use Rattle.cf_session.proofs.session.Session.speak.Goals as goal
 
 pub returns-clause-says : goal.returns-clause-says
@@ -85,3 +93,107 @@ greet_client-requires-clause-steady g c =
     let steady = subst (λ s. IsSteady s _) (sym c.self.view_is) c.requires.steady in
     steady_first s c.speak.new.self c.speak.new.queue c.is_roomy-roomy.result steady c.in_ok-speak.ensures.window c.in_ok-speak.ensures.queue
     (λ e. (c.is_roomy-roomy.ensures.kept e).0) (λ e. (c.is_roomy-roomy.ensures.kept e).1) c.has_ended.ensures.bounds.near
+
+pub returns-in_err-speak-clause-broken : goal.returns-in_err-speak-clause-broken
+returns-in_err-speak-clause-broken g c =
+    on_err c.from_residual.result (λ flow x y cs ds w v at_c at_d may lc ld qw qv.
+    let now = c.args.now in
+    let roomy = c.is_roomy-roomy.result in
+    let mc = subst (λ (s : SessionValue). IsLegBetween (controller_ends flow) s.controller s.to_controller (record x { ending = Unspoken } ∷ cs)) (sym c.self.view_is) lc in
+    let md = subst (λ (s : SessionValue). IsLegBetween (client_ends flow) s.client s.to_client (record y { ending = Unspoken } ∷ ds)) (sym c.self.view_is) ld in
+    let mv = subst (λ (s : SessionValue). IsQueueOf s.to_controller v) (sym c.self.view_is) qv in
+    let d0 = g.D.Desk.value c.args.desk.now in
+    let d1 = g.D.Desk.value c.speak.new.desk in
+    let a = c.in_err-speak.ensures.broken x cs v at_c mc.stands mv in
+    let t = taken_of (client_ends flow) _ _ (record y { ending = Unspoken } ∷ ds) md in
+    let hello = record y { came = came_greeted flow c.args.number y.came } in
+    let b = can_speak (client_ends flow).own (client_ends flow).peer ds hello t.0 w roomy (client_ends flow).role
+    (can_hello flow c.args.number y ds may (right_of (client_ends flow) _ _ (record y { ending = Unspoken }) ds md)) (hello_taken flow (client_ends flow).role c.args.number y ds t.0 may t.1) in
+    let rest = greetings flow c.args.number ++ b.0 in
+    let is_roomy : roomy ≡ roomy_by (SessionValue.to_client c.args.self.now) (SessionValue.to_controller c.args.self.now) =
+    c.is_roomy-roomy.ensures.value ∙ ap (λ (s : SessionValue). roomy_by s.to_client s.to_controller) c.self.view_is in
+    subst (λ r. SaysAmid flow now c.args.number x cs y ds w v r d0 d1) is_roomy
+    (record {
+      outs_c = a.outs;
+      outs_d = b.0;
+      controller_right = subst (λ (n : Ends). IsRight n cs (record x { ending = Spoke v roomy a.outs })) mc.is a.right;
+      client_right = b.1;
+      amid = amid_as (at now a.outs ++ at now rest) _ [] [] d0 d1 (sym (at-append now a.outs rest)) refl
+          (amid_before (at now a.outs) (at now rest) [] [] d0 d1 (amid_sent now a.outs d0 d1 a.breaks c.speak.ensures.lines c.speak.ensures.line_part));
+    }))
+
+pub returns-in_err-greet_client-clause-broken : goal.returns-in_err-greet_client-clause-broken
+returns-in_err-greet_client-clause-broken g c =
+    on_err c.from_residual-in_err-greet_client.result (λ flow x y cs ds w v at_c at_d may lc ld qw qv.
+    let now = c.args.now in
+    let roomy = c.is_roomy-roomy.result in
+    let mc = subst (λ (s : SessionValue). IsLegBetween (controller_ends flow) s.controller s.to_controller (record x { ending = Unspoken } ∷ cs)) (sym c.self.view_is) lc in
+    let md = subst (λ (s : SessionValue). IsLegBetween (client_ends flow) s.client s.to_client (record y { ending = Unspoken } ∷ ds)) (sym c.self.view_is) ld in
+    let mv = subst (λ (s : SessionValue). IsQueueOf s.to_controller v) (sym c.self.view_is) qv in
+    let d0 = g.D.Desk.value c.args.desk.now in
+    let d1 = g.D.Desk.value c.speak.new.desk in
+    let d2 = g.D.Desk.value c.greet_client.new.desk in
+    let a = c.in_ok-speak.ensures.spoken in
+    let t = taken_of (client_ends flow) _ _ (record y { ending = Unspoken } ∷ ds) md in
+    let hello = record y { came = came_greeted flow c.args.number y.came } in
+    let b = can_speak (client_ends flow).own (client_ends flow).peer ds hello t.0 w roomy (client_ends flow).role
+    (can_hello flow c.args.number y ds may (right_of (client_ends flow) _ _ (record y { ending = Unspoken }) ds md)) (hello_taken flow (client_ends flow).role c.args.number y ds t.0 may t.1) in
+    let said = spoken_of (controller_ends flow) roomy now c.self.inside.controller c.speak.new.self c.self.inside.to_controller c.speak.new.queue _ _ x cs v a c.in_ok-speak.ensures.ends at_c mc mv in
+    let one = told_sent d0 d1 now a.outs a.packets c.speak.ensures.lines in
+    let greets = c.in_err-greet_client.ensures.broken flow y ds at_d may md in
+    let hi = greetings flow c.args.number in
+    let is_roomy : roomy ≡ roomy_by (SessionValue.to_client c.args.self.now) (SessionValue.to_controller c.args.self.now) =
+    c.is_roomy-roomy.ensures.value ∙ ap (λ (s : SessionValue). roomy_by s.to_client s.to_controller) c.self.view_is in
+    subst (λ r. SaysAmid flow now c.args.number x cs y ds w v r d0 d2) is_roomy
+    (record {
+      outs_c = a.outs;
+      outs_d = b.0;
+      controller_right = right_of (controller_ends flow) _ _ (record x { ending = Spoke v roomy a.outs }) cs said;
+      client_right = b.1;
+      amid = amid_as (at now a.outs ++ (at now hi ++ at now b.0)) _ [] [] d0 d2 (ap (λ xs. at now a.outs ++ xs) (sym (at-append now hi b.0)) ∙ sym (at-append now a.outs (hi ++ b.0))) refl
+          (amid_after (at now a.outs) (at now hi ++ at now b.0) [] [] d0 d1 d2 one (record { packet_part = c.in_ok-speak.ensures.packet_part; line_part = c.speak.ensures.line_part }) c.speak.ensures.keeps.octets
+          (amid_before (at now hi) (at now b.0) [] [] d1 d2 greets));
+    }))
+
+pub returns-in_err-speak-2-clause-broken : goal.returns-in_err-speak-2-clause-broken
+returns-in_err-speak-2-clause-broken g c =
+    on_err c.from_residual-in_err-speak-2.result (λ flow x y cs ds w v at_c at_d may lc ld qw qv.
+    let now = c.args.now in
+    let roomy = c.is_roomy-roomy.result in
+    let first : SessionValue = record { client = c.self.inside.client; controller = c.speak.new.self; lane = c.self.inside.lane; to_client = c.self.inside.to_client; to_controller = c.speak.new.queue; closed = c.self.inside.closed; limit = c.self.inside.limit; source = c.self.inside.source } in
+    let middle : SessionValue = record { client = c.self-2.inside.client; controller = c.self-2.inside.controller; lane = c.self-2.inside.lane; to_client = c.self-2.inside.to_client; to_controller = c.self-2.inside.to_controller; closed = c.self-2.inside.closed; limit = c.self-2.inside.limit; source = c.self-2.inside.source } in
+    let path : middle ≡ record first { client = c.greet_client.new.self.client } = c.self-2.view_is ∙ c.greet_client.ensures.same in
+    let mc = subst (λ (s : SessionValue). IsLegBetween (controller_ends flow) s.controller s.to_controller (record x { ending = Unspoken } ∷ cs)) (sym c.self.view_is) lc in
+    let md = subst (λ (s : SessionValue). IsLegBetween (client_ends flow) s.client s.to_client (record y { ending = Unspoken } ∷ ds)) (sym c.self.view_is) ld in
+    let mw = subst (λ (s : SessionValue). IsQueueOf s.to_client w) (sym c.self.view_is) qw in
+    let mv = subst (λ (s : SessionValue). IsQueueOf s.to_controller v) (sym c.self.view_is) qv in
+    let d0 = g.D.Desk.value c.args.desk.now in
+    let d1 = g.D.Desk.value c.speak.new.desk in
+    let d2 = g.D.Desk.value c.greet_client.new.desk in
+    let d3 = g.D.Desk.value c.speak-2.new.desk in
+    let a = c.in_ok-speak.ensures.spoken in
+    let said = spoken_of (controller_ends flow) roomy now c.self.inside.controller c.speak.new.self c.self.inside.to_controller c.speak.new.queue _ _ x cs v a c.in_ok-speak.ensures.ends at_c mc mv in
+    let greeted = c.in_ok-greet_client.ensures.greets flow y ds at_d may md in
+    let hi = greetings flow c.args.number in
+    let hello = record y { came = came_greeted flow c.args.number y.came } in
+    let legs = subst (λ (s : SessionValue). IsLegBetween (client_ends flow) s.client s.to_client (record hello { ending = Unspoken } ∷ ds)) (sym c.self-2.view_is) greeted.stands in
+    let b = c.in_err-speak-2.ensures.broken hello ds w at_d legs.stands (subst (λ (s : SessionValue). IsQueueOf s.to_client w) (sym path) mw) in
+    let one = told_sent d0 d1 now a.outs a.packets c.speak.ensures.lines in
+    let is_roomy : roomy ≡ roomy_by (SessionValue.to_client c.args.self.now) (SessionValue.to_controller c.args.self.now) =
+    c.is_roomy-roomy.ensures.value ∙ ap (λ (s : SessionValue). roomy_by s.to_client s.to_controller) c.self.view_is in
+    subst (λ r. SaysAmid flow now c.args.number x cs y ds w v r d0 d3) is_roomy
+    (record {
+      outs_c = a.outs;
+      outs_d = b.outs;
+      controller_right = right_of (controller_ends flow) _ _ (record x { ending = Spoke v roomy a.outs }) cs said;
+      client_right = subst (λ (n : Ends). IsRight n ds (record hello { ending = Spoke w roomy b.outs })) legs.is b.right;
+      amid = amid_as (at now a.outs ++ (at now hi ++ at now b.outs)) _ [] [] d0 d3 (ap (λ xs. at now a.outs ++ xs) (sym (at-append now hi b.outs)) ∙ sym (at-append now a.outs (hi ++ b.outs))) refl
+          (amid_after (at now a.outs) (at now hi ++ at now b.outs) [] [] d0 d1 d3 one (record { packet_part = c.in_ok-speak.ensures.packet_part; line_part = c.speak.ensures.line_part }) c.speak.ensures.keeps.octets
+          (amid_after (at now hi) (at now b.outs) [] [] d1 d2 d3 greeted.told c.in_ok-greet_client.ensures.parts c.greet_client.ensures.keeps.octets
+          (amid_sent now b.outs d2 d3 b.breaks c.speak-2.ensures.lines c.speak-2.ensures.line_part)));
+    }))
+
+pub returns-clause-parts : goal.returns-clause-parts
+returns-clause-parts g c =
+    parts_both (g.D.Desk.value c.args.desk.now) (g.D.Desk.value c.speak.new.desk) (g.D.Desk.value c.speak-2.new.desk) (record { packet_part = c.in_ok-speak.ensures.packet_part; line_part = c.speak.ensures.line_part })
+    (parts_both (g.D.Desk.value c.speak.new.desk) (g.D.Desk.value c.greet_client.new.desk) (g.D.Desk.value c.speak-2.new.desk) c.in_ok-greet_client.ensures.parts (record { packet_part = c.in_ok-speak-2.ensures.packet_part; line_part = c.speak-2.ensures.line_part }))

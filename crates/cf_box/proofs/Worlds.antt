@@ -1,0 +1,131 @@
+-- A run of a world, as the answer of `world`.
+use Rattle.std.proofs.Common.{◌≡◌, ◌≢◌, ◌⊎◌, ℕ, ◌≤◌, nat_lt, true, false, List, [], ◌∷◌, ◌++◌, length, take, drop, Result, Ok, Err, refl, sym, ap, ◌∙◌, subst, arith, inl, inr}
+use Rattle.std.proofs.lemmas.Bool.Decides.{nat_tests}
+use Rattle.std.proofs.lemmas.List.{take-append-drop}
+use Rattle.cf_outside.specs.Desk.{IsNoneOf}
+use Rattle.cf_outside.specs.Faults.{Rose}
+use Rattle.cf_outside.specs.Files.{Content, untold, absent, holds}
+use Rattle.cf_pcap.specs.Header.{header_of, output_header, output_octets}
+use Rattle.cf_policylang.specs.declared.PolicyRefusal.{PolicyRefusal}
+use Rattle.cf_run.specs.RunCapture.{RunNamesValue}
+use Rattle.cf_sift.specs.Outputs.{KeepsAllBut}
+use Rattle.cf_world.specs.Document.{made_policy}
+use Rattle.cf_world.specs.World.{HoldsCapture, HoldsPolicy, LeavesWorld, MakesWorld}
+use Rattle.cf_world.specs.declared.WorldFault.{WorldFault}
+use Rattle.cf_world.specs.declared.WorldFault.TheVariants as fault
+use Rattle.cf_box.specs.Command.{Command, Run, World}
+use Rattle.cf_box.specs.Ends.{LacksAsset, Meets, PassesPolicy, RefusesPolicy, StopsFor}
+use Rattle.cf_box.specs.Outside.{Outside}
+use Rattle.cf_box.specs.PolicyFile.{IsRefusedBy}
+use Rattle.cf_box.specs.Run.{RunCuts, RunRefuses}
+use Rattle.cf_box.specs.Status.{HasTimedRecords}
+use Rattle.cf_box.specs.World.{HasMade, HasNotMade, IsFitWorld, made_names, world_stop}
+use Rattle.cf_box.specs.declared.ending.CaptureRefusal.{CaptureRefusal}
+use Rattle.cf_box.specs.declared.ending.Done.{Done}
+use Rattle.cf_box.specs.declared.ending.Stop.{Stop}
+use Rattle.cf_box.specs.declared.ending.Stop.TheVariants as stop
+use Rattle.cf_box.proofs.Complete.{not_cut_run, not_refused, not_refused_run}
+use Rattle.cf_box.proofs.Kept.{keeps_from}
+
+-- ---- what was made is in form where the files tell
+
+long : (rest : List ℕ) → nat_lt (length (output_octets ++ rest)) 24 ≡ false
+long rest = grind (arith, nat_tests)
+
+header_read : (rest : List ℕ) → header_of (output_octets ++ rest) ≡ Ok output_header
+header_read rest = rw (long rest) refl
+
+pub header_told : (octets : List ℕ) → take 24 octets ≡ output_octets → header_of octets ≡ Ok output_header
+header_told octets first =
+    let whole : output_octets ++ drop 24 octets ≡ octets = ap (λ (l : List ℕ). l ++ drop 24 octets) (sym first) ∙ take-append-drop 24 octets in
+    subst (λ o. header_of o ≡ Ok output_header) whole (header_read (drop 24 octets))
+
+untold_policy : (old new : Content) (r : PolicyRefusal) → HoldsPolicy old new → IsRefusedBy new r → old ≡ untold
+untold_policy untold new r h refused = refl
+untold_policy absent new r h refused = absurd (not_refused new h.text made_policy r h.in_file h.means refused)
+untold_policy (holds all) new r h refused = absurd (not_refused new h.text made_policy r h.in_file h.means refused)
+
+in_form : (sessions : ℕ) (old new : Content) (h : HoldsCapture sessions old new) → HasTimedRecords h.octets
+in_form sessions old new h = (output_header, header_told h.octets h.is_capture.header, (h.records, length h.octets, h.is_capture.timed))
+
+untold_refused : (sessions : ℕ) (old new : Content) (r : CaptureRefusal) → HoldsCapture sessions old new → RunRefuses new r → old ≡ untold
+untold_refused sessions untold new r h refused = refl
+untold_refused sessions absent new r h refused = absurd (not_refused_run h.octets (in_form sessions absent new h) r (subst (λ f. RunRefuses f r) h.in_file refused))
+untold_refused sessions (holds all) new r h refused = absurd (not_refused_run h.octets (in_form sessions (holds all) new h) r (subst (λ f. RunRefuses f r) h.in_file refused))
+
+untold_cut : (sessions : ℕ) (old new : Content) (place : ℕ) → HoldsCapture sessions old new → RunCuts new place → old ≡ untold
+untold_cut sessions untold new place h cut = refl
+untold_cut sessions absent new place h cut = absurd (not_cut_run h.octets (in_form sessions absent new h) place (subst (λ f. RunCuts f place) h.in_file cut))
+untold_cut sessions (holds all) new place h cut = absurd (not_cut_run h.octets (in_form sessions (holds all) new h) place (subst (λ f. RunCuts f place) h.in_file cut))
+
+-- ---- the answer
+
+module _ (seed sessions : ℕ) (policy : List ℕ) (names : RunNamesValue) where
+  abbrev Own : Command
+  Own = World seed sessions policy names
+
+  -- it reads no policy and no asset but its own
+  pub passes_own : (before : Outside) → PassesPolicy Own before
+  passes_own before = record { policy = λ file e. cc e; asset = λ file name e f. cc e }
+
+  -- a world that was not made
+  pub not_made : (before after : Outside) (why : WorldFault) → MakesWorld sessions (made_names policy names) before.files.content after.files.content (Err why) →
+      ((other : List ℕ) → IsNoneOf (policy ∷ names.capture ∷ []) other → after.files.content other ≡ before.files.content other) →
+      (why ≡ fault.Write → Rose before.files.write_faults after.files.write_faults) → after.sink ≡ before.sink → after.pair ≡ before.pair →
+      Meets Own before after (Err (world_stop why))
+  not_made before after fault.NoMemory leaves others rose sink pair =
+      (tt, inl (fault.NoMemory, record { leaves = leaves; others = λ other p c. others other (p, (c, tt)); sink = sink; pair = pair }, refl))
+  not_made before after fault.Write leaves others rose sink pair =
+      ((inl (rose refl), passes_own before), inl (fault.Write, record { leaves = leaves; others = λ other p c. others other (p, (c, tt)); sink = sink; pair = pair }, refl))
+
+  module _ (before between after : Outside) (fit : IsFitWorld sessions policy names)
+      (made : LeavesWorld sessions (made_names policy names) before.files.content between.files.content)
+      (others : (other : List ℕ) → IsNoneOf (policy ∷ names.capture ∷ []) other → between.files.content other ≡ before.files.content other)
+      (reads : between.files.read_faults ≡ before.files.read_faults) (writes : before.files.write_faults ≤ between.files.write_faults)
+      (sink : between.sink ≡ before.sink) (pair : between.pair ≡ before.pair) where
+    has_made : KeepsAllBut between.files.content after.files.content (names.out ∷ names.log ∷ []) → HasMade sessions policy names before after between
+    has_made kept =
+        let same_policy : after.files.content policy ≡ between.files.content policy = kept policy fit.policy_out fit.policy_log in
+        let same_capture : after.files.content names.capture ≡ between.files.content names.capture =
+        kept names.capture fit.apart.capture_out fit.apart.capture_log in
+        record {
+          leaves = record {
+            policy = subst (HoldsPolicy (before.files.content policy)) (sym same_policy) made.policy;
+            capture = subst (HoldsCapture sessions (before.files.content names.capture)) (sym same_capture) made.capture;
+          };
+          same_policy = same_policy;
+          same_capture = same_capture;
+          others = λ other p c. others other (p, (c, tt));
+          sink = sink;
+          pair = pair;
+        }
+
+    own_refused : (r : PolicyRefusal) → RefusesPolicy (Run policy names) between r → RefusesPolicy Own before r
+    own_refused r (inl cause) =
+        let e = cause.1 in
+        let same : cause.0 ≡ policy = cc in
+        inr (untold_policy (before.files.content policy) (between.files.content policy) r made.policy
+        (subst (λ f. IsRefusedBy (between.files.content f) r) same cause.2))
+    own_refused r (inr cause) = absurd cause
+
+    -- why the run stopped is why the world did
+    stops : (s : Stop) → StopsFor (Run policy names) between after s → StopsFor Own before after s
+    stops stop.ReadFault h = omega (arith, h, reads)
+    stops stop.WriteFault h = (wrote h.0, passes_own before)
+      where
+        wrote : Rose between.files.write_faults after.files.write_faults ⊎ Rose between.sink.faults after.sink.faults → Rose before.files.write_faults after.files.write_faults ⊎ Rose before.sink.faults after.sink.faults
+        wrote (inl rose) = inl (omega (arith, rose, writes))
+        wrote (inr rose) = inr (subst (λ s. Rose s.faults after.sink.faults) sink rose)
+    stops (stop.PolicyRefused r) h = own_refused r h
+    stops (stop.CaptureRefused r) h = (untold_refused sessions (before.files.content names.capture) (between.files.content names.capture) r made.capture h.0, passes_own before)
+    stops (stop.CaptureCut place) h = (untold_cut sessions (before.files.content names.capture) (between.files.content names.capture) place made.capture h.0, passes_own before)
+    stops (stop.RunCut place summary) h = (untold_cut sessions (before.files.content names.capture) (between.files.content names.capture) place made.capture h.0, passes_own before)
+    stops stop.LinkFault h = absurd h.0
+    stops stop.IdleEnd h = absurd h.0
+    stops stop.UnknownAsset h = let cause : LacksAsset (Run policy names) between = h in cc (cause.3)
+    stops (stop.Cut reason) h = absurd h.0
+    stops stop.NoMemory h = tt
+
+    pub world_meets : (r : Result Done Stop) → Meets (Run policy names) between after r → Meets Own before after r
+    world_meets (Ok d) m = (between, has_made (keeps_from between after (Run policy names) (Ok d) m), m)
+    world_meets (Err s) m = (stops s m.0, inr (between, has_made (keeps_from between after (Run policy names) (Err s) m), m.1))

@@ -1,0 +1,287 @@
+-- Each history of octets has judged items: a history goes on with any octets.
+use Rattle.cf_apci.proofs.Fronts.{apdu_octets}
+use Rattle.cf_audit.specs.declared.line.CutReason.{CutReason}
+use Rattle.cf_dnplink.proofs.Frames.{to_places}
+use Rattle.cf_lane.proofs.Handling.{fates-append}
+use Rattle.cf_lane.proofs.Histories.{bytes_of-append, goes_more, items_more, nothing_dropped, to_going}
+use Rattle.cf_lane.proofs.Pieces.{units_pieces, units_stay}
+use Rattle.cf_lane.proofs.Units.{nothing_unit, units_of_octets}
+use Rattle.cf_lane.specs.Acts.{fate_of_acts}
+use Rattle.cf_lane.specs.Dnp3.{fate_of_frame, stray_of}
+use Rattle.cf_lane.specs.Fate.{HasItemFate, HasUnitFate, HaveFates}
+use Rattle.cf_lane.specs.Follows.{AreJudged, GoesOn, GoesOnAfter}
+use Rattle.cf_lane.specs.History.{Element, bytes_in, bytes_of, is_side}
+use Rattle.cf_lane.specs.Iec104.{fate_of_apdu}
+use Rattle.cf_lane.specs.Item.{AreItems, Broke, Completes, Ended, Item, Placed, Took, last_items, placed}
+use Rattle.cf_lane.specs.Judged.{Judged, cut_by, cut_of, place_of}
+use Rattle.cf_lane.specs.Laws.{JudgementsGoOn}
+use Rattle.cf_lane.specs.Modbus.{HasAduFate, HasCommandFate, form_refusal, of_its_acts, of_no_form, of_other_station, station_refusal}
+use Rattle.cf_lane.specs.Unit.{Adu, Apdu, AreUnits, Frame, Left, SpellsUnit, Tail, UnitValue, Wrong}
+use Rattle.cf_lane.specs.declared.fate.Fate.{Fate}
+use Rattle.cf_modbus.specs.Acts.{acts}
+use Rattle.cf_modbus.specs.Adu.{AduValue, SpellsAdu}
+use Rattle.cf_modbus.specs.Request.{Reads, RequestValue}
+use Rattle.cf_modbus.specs.declared.RequestRefusal.{RequestRefusal}
+use Rattle.cf_policy.specs.declared.Asset.{Asset}
+use Rattle.cf_policy.specs.declared.Protocol.{Protocol}
+use Rattle.cf_view.proofs.OctetLists.{IsOctets-append, IsOctets-take}
+use Rattle.cf_view.specs.Framing.{IsPartial}
+use Rattle.cf_view.specs.Octets.{IsOctets, u16_be_octets}
+use Rattle.cf_view.specs.Units.{BeginsWithUnits}
+use Rattle.cf_view.specs.declared.Break.{Break}
+use Rattle.cf_view.specs.declared.Side.{Side}
+use Rattle.std.proofs.Common.{Bool, Err, List, None, Ok, Option, Result, Some, [], ap, append_assoc, arith, cond, false, inl, inr, length, map, refl, subst, suc, sym, take, true, zero, ℕ, ◌++◌, ◌+◌, ◌/◌, ◌%◌, ◌<◌, ◌^◌, ◌∙◌, ◌∷◌, ◌≡◌, ◌≤◌, ◌⊎◌}
+use Rattle.std.proofs.Math.Seq.{take-append_seam}
+use Rattle.std.proofs.lemmas.Bool.{cases_lt}
+use Rattle.std.proofs.lemmas.List.{append-nil, map-append}
+use Rattle.std.specs.Option.{option_or}
+use Rattle.cf_lane.specs.declared.fate.Fate.TheVariants as fate
+use Rattle.cf_policy.specs.declared.Protocol.TheVariants as protocol
+use Rattle.cf_view.specs.declared.Side.TheVariants as side
+
+-- about each PDU some answer is true
+abbrev pub EachPduHasAnAnswer : Type 0
+EachPduHasAnAnswer = (pdu : List ℕ) → IsOctets pdu → (answer : Result RequestValue RequestRefusal) × Reads answer pdu
+
+-- ---- the octets of units
+
+octets_cons : (x : ℕ) (xs : List ℕ) → x < 256 → IsOctets xs → IsOctets (x ∷ xs)
+octets_cons x xs h o zero = h
+octets_cons x xs h o (suc i) = o i
+
+two_octets : (n : ℕ) → n < 2 ^ 16 → IsOctets (u16_be_octets n)
+two_octets n h = octets_cons (n / 256) (n % 256 ∷ []) (omega (arith, h)) (octets_cons (n % 256) [] (omega arith) (λ i. omega arith))
+
+adu_octets : (a : AduValue) (xs : List ℕ) → SpellsAdu a xs → IsOctets xs
+adu_octets a xs s =
+    subst IsOctets (sym s.spelled)
+    (IsOctets-append (u16_be_octets a.transaction ++ u16_be_octets 0 ++ u16_be_octets (length a.pdu + 1)) (a.unit ∷ a.pdu)
+    (IsOctets-append (u16_be_octets a.transaction ++ u16_be_octets 0) (u16_be_octets (length a.pdu + 1))
+    (IsOctets-append (u16_be_octets a.transaction) (u16_be_octets 0) (two_octets a.transaction s.transaction) (two_octets 0 (omega arith))) (two_octets (length a.pdu + 1) (let most = s.at_most in omega (arith, most))))
+    (octets_cons a.unit a.pdu s.unit s.pdu))
+
+unit_octets : (p : Protocol) (u : UnitValue) (xs : List ℕ) → SpellsUnit p u xs → IsOctets xs
+unit_octets protocol.Modbus (Adu a) xs s = adu_octets a xs s
+unit_octets protocol.Modbus (Frame f) xs s = absurd s
+unit_octets protocol.Modbus (Apdu a) xs s = absurd s
+unit_octets protocol.Dnp3 (Adu a) xs s = absurd s
+unit_octets protocol.Dnp3 (Frame f) xs s = (to_places f xs s).unit.octets_are
+unit_octets protocol.Dnp3 (Apdu a) xs s = absurd s
+unit_octets protocol.Iec104 (Adu a) xs s = absurd s
+unit_octets protocol.Iec104 (Frame f) xs s = absurd s
+unit_octets protocol.Iec104 (Apdu a) xs s = apdu_octets a xs s
+
+left_octets : (p : Protocol) (xs : List ℕ) → IsPartial (SpellsUnit p) xs → IsOctets xs
+left_octets p xs b =
+    subst IsOctets (take-append_seam xs b.more) (IsOctets-take (xs ++ b.more) (length xs) (unit_octets p b.whole (xs ++ b.more) b.spells))
+
+pdu_octets : (p : Protocol) (a : AduValue) (xs : List ℕ) → SpellsUnit p (Adu a) xs → IsOctets a.pdu
+pdu_octets protocol.Modbus a xs s = s.pdu
+pdu_octets protocol.Dnp3 a xs s = absurd s
+pdu_octets protocol.Iec104 a xs s = absurd s
+
+-- ---- items that can be judged
+
+-- some octets are the unit
+abbrev IsSpelled : Protocol → UnitValue → Type 0
+IsSpelled p u = (xs : List ℕ) × SpellsUnit p u xs
+
+abbrev AreSpelled : Protocol → List UnitValue → Type 0
+AreSpelled p [] = Unit {0}
+AreSpelled p (u ∷ us) = IsSpelled p u × AreSpelled p us
+
+starts_spelled : (p : Protocol) (us : List UnitValue) (xs rest : List ℕ) → BeginsWithUnits (SpellsUnit p) us xs rest → AreSpelled p us
+starts_spelled p [] xs rest s = tt
+starts_spelled p (u ∷ us) xs rest s = ((take s.0 xs, s.1.spells), starts_spelled p us _ rest s.2)
+
+units_spelled : (p : Protocol) (us : List UnitValue) (xs : List ℕ) (t : Tail) → AreUnits p xs us t → AreSpelled p us
+units_spelled p us xs (Left rest) a = starts_spelled p us xs rest a.starts
+units_spelled p us xs (Wrong reason) a = starts_spelled p us xs a.1.rest a.1.starts
+
+abbrev IsItem : Protocol → Item → Type 0
+IsItem p (Took s u) = IsSpelled p u
+IsItem p (Ended s rest) = Unit {0}
+IsItem p (Broke s because) = Unit {0}
+
+abbrev AreAll : Protocol → List Placed → Type 0
+AreAll p [] = Unit {0}
+AreAll p (x ∷ xs) = IsItem p x.item × AreAll p xs
+
+last_all : (p : Protocol) (m : ℕ) (s : Side) (ended : Bool) (t : Tail) → AreAll p (map (placed m) (last_items s ended t))
+last_all p m s ended (Wrong reason) = (tt, tt)
+last_all p m s true (Left rest) = (tt, tt)
+last_all p m s false (Left rest) = tt
+
+now_all : (p : Protocol) (m : ℕ) (s : Side) (ended : Bool) (us : List UnitValue) (t : Tail) → AreSpelled p us → AreAll p (map (placed m) (map (Took s) us ++ last_items s ended t))
+now_all p m s ended [] t a = last_all p m s ended t
+now_all p m s ended (u ∷ us) t a = (a.0, now_all p m s ended us t a.1)
+
+module _ (each : EachPduHasAnAnswer) (asset : Asset) (client : ℕ) where
+  same_or_not : (m n : ℕ) → (m ≡ n) ⊎ (m ≡ n → ⊥)
+  same_or_not m n =
+      elim (cases_lt m n) [
+        | inl below ↦ inr (λ e. omega (arith, below, e))
+        | inr least ↦ elim (cases_lt n m) [ inl above ↦ inr (λ e. omega (arith, above, e)) | inr most ↦ inl (omega (arith, least, most)) ]
+      ]
+
+  read_fate : (a : AduValue) → a.unit ≡ asset.station → (answer : Result RequestValue RequestRefusal) → Reads answer a.pdu → (f : Fate) × HasCommandFate asset client a f
+  read_fate a own (Ok r) reads = (fate_of_acts asset client (acts r), of_its_acts own r reads refl)
+  read_fate a own (Err refusal) reads = (fate.Refused (form_refusal a refusal), of_no_form own refusal reads refl)
+
+  command_fate : (a : AduValue) → IsOctets a.pdu → (f : Fate) × HasCommandFate asset client a f
+  command_fate a o =
+      elim (same_or_not a.unit asset.station) [
+        | inl own ↦ (let r = each a.pdu o in read_fate a own r.0 r.1)
+        | inr other ↦ (fate.Refused (station_refusal a), of_other_station other refl)
+      ]
+
+  adu_fate : (s : Side) (a : AduValue) → IsOctets a.pdu → (f : Fate) × HasAduFate asset client s a f
+  adu_fate side.Client a o = command_fate a o
+  adu_fate side.Controller a o = (fate.Carried, refl)
+
+  unit_fate : (earlier : List Judged) (s : Side) (u : UnitValue) → IsSpelled asset.protocol u → (f : Fate) × HasUnitFate asset client earlier s u f
+  unit_fate earlier s (Adu a) is = adu_fate s a (pdu_octets asset.protocol a is.0 is.1)
+  unit_fate earlier s (Frame x) is = (fate_of_frame asset client s earlier x (stray_of asset s x), refl)
+  unit_fate earlier s (Apdu x) is = (fate_of_apdu asset client s earlier x, refl)
+
+  item_fate : (earlier : List Judged) (i : Item) → IsItem asset.protocol i → (f : Fate) × HasItemFate asset client earlier i f
+  item_fate earlier (Took s u) is = unit_fate earlier s u is
+  item_fate earlier (Ended s rest) is = (fate.Carried, refl)
+  item_fate earlier (Broke s because) is = (_, refl)
+
+  -- items judged up to the first that cuts
+  record JudgesAll (earlier : List Judged) (places : List Placed) : Type 0 where
+    js : List Judged
+    dropped : List Placed
+    are : places ≡ map place_of js ++ dropped
+    goes : GoesOn js dropped
+    fates : HaveFates asset client earlier js
+
+  cut_here : (c : Option CutReason) (going : Type 0) (r : CutReason) → c ≡ Some r → GoesOnAfter c [] going
+  cut_here None going r e = cc
+  cut_here (Some x) going r e = refl
+
+  judge_one : (earlier : List Judged) (x : Placed) (xs : List Placed) (f : Fate) → HasItemFate asset client earlier x.item f →
+      ((j : Judged) → JudgesAll (earlier ++ j ∷ []) xs) → (c : Option CutReason) → cut_by f ≡ c → JudgesAll earlier (x ∷ xs)
+  judge_one earlier x xs f has rest None e =
+      let j : Judged = record { moment = x.moment; item = x.item; fate = f } in
+      let r = rest j in
+      record { js = j ∷ r.js; dropped = r.dropped; are = ap (λ ys. x ∷ ys) r.are; goes = to_going (cut_by f) r.js (GoesOn r.js r.dropped) e r.goes; fates = (has, r.fates) }
+  judge_one earlier x xs f has rest (Some c) e =
+      let j : Judged = record { moment = x.moment; item = x.item; fate = f } in
+      record { js = j ∷ []; dropped = xs; are = refl; goes = cut_here (cut_by f) _ c e; fates = (has, tt) }
+
+  judge_all : (xs : List Placed) (earlier : List Judged) → AreAll asset.protocol xs → JudgesAll earlier xs
+  judge_all [] earlier a = record { js = []; dropped = []; are = refl; goes = refl; fates = tt }
+  judge_all (x ∷ xs) earlier a =
+      let f = item_fate earlier x.item a.0 in
+      judge_one earlier x xs f.0 f.1 (λ j. judge_all xs (earlier ++ j ∷ []) a.1) (cut_by f.0) refl
+
+-- ---- a side's bytes are units and a tail
+
+abbrev HasTail : Protocol → List ℕ → Type 0
+HasTail p xs = (us : List UnitValue) × (t : Tail) × AreUnits p xs us t
+
+module _ (p : Protocol) where
+  own_by : (s : Side) (xs : List ℕ) → cond (is_side s s) xs [] ≡ xs
+  own_by side.Client xs = refl
+  own_by side.Controller xs = refl
+
+  tail_by : (h : List Element) (e : Element) → HasTail p (bytes_of e.side (h ++ e ∷ [])) → (s t : Side) → e.side ≡ t → HasTail p (bytes_of s h) → HasTail p (bytes_of s (h ++ e ∷ []))
+  tail_by h e now side.Client side.Client is before = subst (λ s. HasTail p (bytes_of s (h ++ e ∷ []))) is now
+  tail_by h e now side.Controller side.Controller is before = subst (λ s. HasTail p (bytes_of s (h ++ e ∷ []))) is now
+  tail_by h e now side.Client side.Controller is before =
+      subst (HasTail p) (sym (bytes_of-append side.Client h e ∙ ap (λ s. bytes_of side.Client h ++ cond (is_side side.Client s) e.letters.bytes []) is ∙ append-nil (bytes_of side.Client h))) before
+  tail_by h e now side.Controller side.Client is before =
+      subst (HasTail p) (sym (bytes_of-append side.Controller h e ∙ ap (λ s. bytes_of side.Controller h ++ cond (is_side side.Controller s) e.letters.bytes []) is ∙ append-nil (bytes_of side.Controller h))) before
+
+  tails_of : (later earlier : List Element) (items : List Placed) → ((s : Side) → HasTail p (bytes_of s earlier)) → AreItems p earlier later items → (s : Side) → HasTail p (bytes_of s (earlier ++ later))
+  tails_of [] earlier items before a s = subst (λ h. HasTail p (bytes_of s h)) (sym (append-nil earlier)) (before s)
+  tails_of (e ∷ later) earlier items before a s =
+      let c = a.2 in
+      subst (λ h. HasTail p (bytes_of s h)) (append_assoc earlier (e ∷ []) later)
+      (tails_of later (earlier ++ e ∷ []) a.1 (λ t. tail_by earlier e (c.before ++ c.more, c.tail, c.are) t e.side refl (before t)) a.3 s)
+
+  nothing_tail : HasTail p []
+  nothing_tail = ([], Left [], record { starts = refl; partial = nothing_unit p })
+
+  -- an element completes items behind any history
+  complete : (h : List Element) (e : Element) (us : List UnitValue) (t : Tail) → AreUnits p (bytes_of e.side h) us t → IsOctets e.letters.bytes → (now : List Placed) × Completes p h e now × AreAll p now
+  complete h e us (Wrong reason) a o =
+      let stays = subst (λ vs. AreUnits p (bytes_of e.side h ++ bytes_in e.side e) vs (Wrong reason)) (sym (append-nil us)) (units_stay p us (bytes_of e.side h) (bytes_in e.side e) reason a) in
+      let c : Completes p h e [] = record {
+        before = us;
+        was = Wrong reason;
+        more = [];
+        tail = Wrong reason;
+        were = a;
+        are = subst (λ xs. AreUnits p xs (us ++ []) (Wrong reason)) (sym (bytes_of-append e.side h e)) stays;
+        is_items = refl;
+      } in
+      ([], c, tt)
+  complete h e us (Left rest) a o =
+      let more = units_of_octets p (rest ++ e.letters.bytes) (IsOctets-append rest e.letters.bytes (left_octets p rest a.partial) o) in
+      let all = units_pieces p us more.0 (bytes_of e.side h) rest e.letters.bytes more.1 a more.2 in
+      let bytes : bytes_of e.side (h ++ e ∷ []) ≡ bytes_of e.side h ++ e.letters.bytes = bytes_of-append e.side h e ∙ ap (λ xs. bytes_of e.side h ++ xs) (own_by e.side e.letters.bytes) in
+      let now = map (placed e.moment) (map (Took e.side) more.0 ++ last_items e.side e.letters.ended more.1) in
+      let c : Completes p h e now = record {
+        before = us;
+        was = Left rest;
+        more = more.0;
+        tail = more.1;
+        were = a;
+        are = subst (λ xs. AreUnits p xs (us ++ more.0) more.1) (sym bytes) all;
+        is_items = refl;
+      } in
+      (now, c, now_all p e.moment e.side e.letters.ended more.0 more.1 (units_spelled p more.0 (rest ++ e.letters.bytes) more.1 more.2))
+
+-- ---- behind a cut nothing is judged
+
+cut_step : (c : Option CutReason) (js : List Judged) (P Q : Type 0) (r : CutReason) → (cut_of js ≡ Some r → P → Q) → option_or c (cut_of js) ≡ Some r → GoesOnAfter c js P → GoesOnAfter c js Q
+cut_step None js P Q r on e g = on e g
+cut_step (Some x) js P Q r on e g = g
+
+goes_cut : (js : List Judged) (ds es : List Placed) (r : CutReason) → cut_of js ≡ Some r → GoesOn js ds → GoesOn js es
+goes_cut [] ds es r e g = cc
+goes_cut (j ∷ js) ds es r e g = cut_step (cut_by j.fate) js (GoesOn js ds) (GoesOn js es) r (λ e g. goes_cut js ds es r e g) e g
+
+module _ (each : EachPduHasAnAnswer) (asset : Asset) (client : ℕ) (h : List Element) (e : Element) (js : List Judged) (a : AreJudged asset client h js)
+    (now : List Placed) (c : Completes asset.protocol h e now) (all : AreAll asset.protocol now) where
+  items_now : AreItems asset.protocol [] (h ++ e ∷ []) (a.items ++ now)
+  items_now = items_more asset.protocol [] h e a.items now a.are_items c
+
+  on_by : (cut : Option CutReason) → cut_of js ≡ cut → (ks : List Judged) × AreJudged asset client (h ++ e ∷ []) ks
+  on_by None uncut =
+      let r = judge_all each asset client now js all in
+      let items_before : a.items ≡ map place_of js = a.are_first ∙ ap (λ xs. map place_of js ++ xs) (nothing_dropped js a.dropped uncut a.goes_on) ∙ append-nil (map place_of js) in
+      let first : a.items ++ now ≡ map place_of (js ++ r.js) ++ r.dropped =
+      ap (λ xs. xs ++ now) items_before ∙ ap (λ xs. map place_of js ++ xs) r.are
+      ∙ sym (append_assoc (map place_of js) (map place_of r.js) r.dropped) ∙ ap (λ xs. xs ++ r.dropped) (sym (map-append place_of js r.js)) in (
+        js ++ r.js,
+        record {
+          items = a.items ++ now;
+          are_items = items_now;
+          dropped = r.dropped;
+          are_first = first;
+          goes_on = goes_more js r.js r.dropped uncut r.goes;
+          fates = fates-append asset client [] js r.js a.fates r.fates;
+        },
+      )
+  on_by (Some r) cuts = (
+    js,
+    record {
+      items = a.items ++ now;
+      are_items = items_now;
+      dropped = a.dropped ++ now;
+      are_first = ap (λ xs. xs ++ now) a.are_first ∙ append_assoc (map place_of js) a.dropped now;
+      goes_on = goes_cut js a.dropped (a.dropped ++ now) r cuts a.goes_on;
+      fates = a.fates;
+    },
+  )
+
+pub judgements_go_on : EachPduHasAnAnswer → JudgementsGoOn
+judgements_go_on each asset client h e js a o =
+    let p = asset.protocol in
+    let t = tails_of p h [] a.items (λ s. nothing_tail p) a.are_items e.side in
+    let c = complete p h e t.0 t.1 t.2 o in
+    on_by each asset client h e js a c.0 c.1 c.2 (cut_of js) refl

@@ -1,0 +1,58 @@
+//! Octets, as a line spells them.
+
+use crate::book::Book;
+use crate::fault::{Fault, Wanted};
+
+/// The octets that hexadecimal digits or the names of units spell, with spaces between them; `0001*3` is three times
+/// `0001`, and `W*3@12..36` the octets 12 to 35 of three times the unit `W`.
+pub fn octets(book: &Book, spelled: &str) -> Result<Vec<u8>, Fault> {
+    let mut all = Vec::new(book.alloc);
+    push_octets(book, spelled, &mut all)?;
+    Ok(all)
+}
+
+/// Puts the octets of a text behind others.
+pub fn push_octets(book: &Book, spelled: &str, all: &mut Vec<u8>) -> Result<(), Fault> {
+    for token in spelled.split(' ') {
+        match token.split_once('@') {
+            None => push_token(book, token, all)?,
+            Some((whole, part)) => push_part(book, whole, part, all)?,
+        }
+    }
+    Ok(())
+}
+
+/// A number of octets, copies or calls.
+pub fn size(spelled: &str) -> Result<usize, Fault> {
+    spelled
+        .parse::<usize>()
+        .map_err(|_| Fault::Wanted(Wanted::Number))
+}
+
+fn push_part(book: &Book, whole: &str, part: &str, all: &mut Vec<u8>) -> Result<(), Fault> {
+    let (from, to) = part.split_once("..").ok_or(Fault::Wanted(Wanted::Part))?;
+    let (from, to) = (size(from)?, size(to)?);
+    let mut octets = Vec::new(book.alloc);
+    push_token(book, whole, &mut octets)?;
+    all.extend_from_slice(octets.get(from..to).ok_or(Fault::Wanted(Wanted::Part))?)?;
+    Ok(())
+}
+
+fn push_token(book: &Book, token: &str, all: &mut Vec<u8>) -> Result<(), Fault> {
+    let (unit, times) = token.split_once('*').unwrap_or((token, "1"));
+    let times = size(times)?;
+    if let Some(bytes) = book.units.get(unit) {
+        return push_copies(bytes.as_slice(), times, all);
+    }
+    let bytes = hex::decode(book.alloc, unit.as_bytes()).map_err(|_| Fault::Wanted(
+        Wanted::Octets,
+    ))?;
+    push_copies(bytes.as_slice(), times, all)
+}
+
+fn push_copies(bytes: &[u8], times: usize, all: &mut Vec<u8>) -> Result<(), Fault> {
+    for _ in 0..times {
+        all.extend_from_slice(bytes)?;
+    }
+    Ok(())
+}

@@ -1,0 +1,443 @@
+-- What is matched to a session fixes all that it sends and logs, in two runs.
+use Rattle.std.proofs.Common.{◌≡◌, ℕ, zero, suc, ◌+◌, ◌-◌, ◌≤◌, ◌&&◌, inl, inr, Bool, true, false, not, List, [], ◌∷◌, ◌++◌, length, cond, if◌then◌else◌, map, Option, Some, None, Result, Ok, Err, refl, sym, ap, ◌∙◌, subst, arith}
+use Rattle.std.specs.Prelude.{filter, slice_get}
+use Rattle.std.specs.List.{flat_map}
+use Rattle.std.proofs.lemmas.Bool.{cases_Bool, true≢false}
+use Rattle.std.proofs.lemmas.List.{append_assoc, length-append, map-append}
+use Rattle.std.proofs.lemmas.List.Elements.{filter-append}
+use Rattle.std.proofs.lemmas.Option.{same_Some}
+use Rattle.cf_packet.specs.Packet.{PacketValue}
+use Rattle.cf_packet.specs.declared.packet.PacketRefusal.{PacketRefusal}
+use Rattle.cf_policy.specs.declared.Asset.{Asset}
+use Rattle.cf_view.specs.declared.Endpoint.{Endpoint}
+use Rattle.cf_view.specs.declared.Side.{Side}
+use Rattle.cf_view.specs.declared.Side.TheVariants as side
+use Rattle.cf_session.specs.Event.{AreEvents as AreSessionEvents, IsBeginning, IsPacket, IsTick, came_client}
+use Rattle.cf_session.specs.Laws.{EventsAreFixed, Given, given, packet_in}
+use Rattle.cf_session.specs.Session.{Flow, SessionEvent, client_of, is_expired}
+use Rattle.cf_session.specs.Sent.{Sent, logged_second, sent_first, sent_second}
+use Rattle.cf_run.specs.Isolation.{AreMatched, DoTheSame, HasSession, NoneBegins, RunsIsolateSessions, begins_theirs, goes_to_theirs, is_flow_of, logged_by, logged_over, matched_in, matched_to, moments_of, sent_by, sent_over, ticks_of}
+use Rattle.cf_run.specs.Run.{IsRun, inputs_of}
+use Rattle.cf_run.specs.Sessions.{Each}
+use Rattle.cf_run.specs.Summary.{found}
+use Rattle.cf_run.specs.Table.{Begins, Full, Goes, Match, Outside, Session, is_between, match_of, same_endpoint, without}
+use Rattle.cf_run.specs.Trace.{AreEvents, AreTicks, Begun, Dropped, Event, GoesOnWith, Input, IsEvent, NoRoom, NoSession, Received, Receives, ReceivesRecord, Went, after_received, behind, kept, logged_received, logged_ticks, replaced, sent_received, stays, table_after, tick_of, ticked, with_events}
+use Rattle.cf_run.proofs.Matched.{same_is}
+use Rattle.cf_run.proofs.Pairs.{and_first, and_second, filter_at_most, filter_keeps, filter_swap, next_are, ticks_are, without_theirs}
+use Rattle.cf_run.proofs.Sessions.{HasGone, HasTick, IsGoing, IsTicked, OfRun, each-filter, each-ticked, of_run}
+use Rattle.cf_run.proofs.Shares.{HasNothing, HasPacket, Share, endpoint_same, share, side_of, with_nothing, with_packet}
+
+-- at each place both have the same moment
+abbrev pub SameMoments : List Event → List Event → Type 0
+SameMoments [] [] = Unit {0}
+SameMoments [] (y ∷ ys) = ⊥
+SameMoments (x ∷ xs) [] = ⊥
+SameMoments (x ∷ xs) (y ∷ ys) = (x.input.moment ≡ y.input.moment) × SameMoments xs ys
+
+never_dropped : (g : Flow) (e : SessionEvent) → Begun g e ≡ Dropped → ⊥
+never_dropped g e h = cc
+
+-- ---- what is given to an event of a session fixes it
+
+abbrev given_by : ℕ → Option PacketValue → Option PacketValue → Given
+given_by tick client controller = record { tick = tick; from_client = client; from_controller = controller }
+
+given_tick : (f : Flow) (es : List SessionEvent) (tick : ℕ) (t : SessionEvent) → IsTick f es tick t → given t ≡ given_by tick None None
+given_tick f es tick t h = rw (h.client_tick, h.client_came, h.controller_came) refl
+
+none_greeting : (f : Flow) (p : PacketValue) (b : Bool) → packet_in (came_client f side.Controller p b) ≡ None
+none_greeting f p true = refl
+none_greeting f p false = refl
+
+abbrev given_packet : Side → PacketValue → ℕ → Given
+given_packet side.Client p tick = given_by tick (Some p) None
+given_packet side.Controller p tick = given_by tick None (Some p)
+
+given_one : (f : Flow) (limit : ℕ) (es : List SessionEvent) (half : SessionEvent) (s : Side) (p : PacketValue) (e : SessionEvent) → IsPacket f limit es half s p e →
+    given e ≡ given_packet s p half.client.tick
+given_one f limit es half side.Client p e h = rw (h.client_on.0, h.client_came, h.controller_came) refl
+given_one f limit es half side.Controller p e h =
+    let a : packet_in e.client.came ≡ None = ap packet_in h.client_came ∙ none_greeting f p _ in
+    let b : packet_in e.controller.came ≡ Some p = ap packet_in h.controller_came in
+    rw (h.client_on.0, a, b) refl
+
+given_beginning : (f : Flow) (tick : ℕ) (e : SessionEvent) → IsBeginning f tick e → given e ≡ given_by tick None None
+given_beginning f tick e h = rw (h.client, h.controller) refl
+
+same_head : {A : Type 0} (x y : A) (xs ys : List A) → x ∷ xs ≡ y ∷ ys → x ≡ y
+same_head x y xs ys h = cc
+
+same_tail : {A : Type 0} (x y : A) (xs ys : List A) → x ∷ xs ≡ y ∷ ys → xs ≡ ys
+same_tail x y xs ys h = cc
+
+module _ (law : EventsAreFixed) (limit : ℕ) where
+  same_next : (f : Flow) (es : List SessionEvent) (e d : SessionEvent) → AreSessionEvents f limit (e ∷ es) → AreSessionEvents f limit (d ∷ es) → given e ≡ given d → e ≡ d
+  same_next f es e d a b same = same_head e d es es (law f limit (e ∷ es) (d ∷ es) a b (ap (λ g. g ∷ map given es) same))
+
+  tick_fixed : (f : Flow) (es : List SessionEvent) (tick : ℕ) (t u : SessionEvent) → HasGone limit f es → IsTick f es tick t → IsTick f es tick u → t ≡ u
+  tick_fixed f [] tick t u going h g = absurd going
+  tick_fixed f (e ∷ es) tick t u going h g =
+      same_next f (e ∷ es) t u
+      (inl (subst (λ n. IsTick f (e ∷ es) n t) (sym h.client_tick) h), going.0) (inl (subst (λ n. IsTick f (e ∷ es) n u) (sym g.client_tick) g), going.0)
+      (given_tick f (e ∷ es) tick t h ∙ sym (given_tick f (e ∷ es) tick u g))
+
+  ticks_fixed : (tick : ℕ) (ss : List Session) (ts us : List SessionEvent) → Each (IsGoing limit) ss → AreTicks tick ss ts → AreTicks tick ss us → ts ≡ us
+  ticks_fixed tick [] ts us going h g = h ∙ sym g
+  ticks_fixed tick (s ∷ ss) [] us going h g = absurd h
+  ticks_fixed tick (s ∷ ss) (t ∷ ts) [] going h g = absurd g
+  ticks_fixed tick (s ∷ ss) (t ∷ ts) (u ∷ us) going h g =
+      ap (λ x. x ∷ ts) (tick_fixed s.flow s.events tick t u going.0 h.0 g.0) ∙ ap (λ xs. u ∷ xs) (ticks_fixed tick ss ts us going.1 h.1 g.1)
+
+  packet_fixed : (f : Flow) (es : List SessionEvent) (s : Side) (p : PacketValue) (e d : SessionEvent) → HasTick limit f es → GoesOnWith limit s p e f es → GoesOnWith limit s p d f es → e ≡ d
+  packet_fixed f [] s p e d has h g = absurd has
+  packet_fixed f (t ∷ []) s p e d has h g = absurd has.2
+  packet_fixed f (t ∷ (x ∷ es)) s p e d has h g =
+      same_next f (x ∷ es) e d (inr (t, s, p, has.0, has.1, h), has.2.0) (inr (t, s, p, has.0, has.1, g), has.2.0)
+      (given_one f limit (x ∷ es) t s p e h ∙ sym (given_one f limit (x ∷ es) t s p d g))
+
+  begun_first : (f : Flow) (tick : ℕ) (e : SessionEvent) → IsBeginning f tick e → AreSessionEvents f limit (e ∷ [])
+  begun_first f tick e h = (subst (λ n. IsBeginning f n e) (sym (ap (λ x. x.tick) h.client)) h, tt)
+
+  beginning_fixed : (f : Flow) (tick : ℕ) (e d : SessionEvent) → IsBeginning f tick e → IsBeginning f tick d → e ≡ d
+  beginning_fixed f tick e d h g =
+      same_next f [] e d (begun_first f tick e h) (begun_first f tick d g) (given_beginning f tick e h ∙ sym (given_beginning f tick d g))
+
+  -- ---- their session in one event
+
+  module _ (client asset : Endpoint) where
+    abbrev theirs : List Session → List Session
+    theirs table = filter (is_between client asset) table
+
+    kept_theirs : (tick : ℕ) (ss : List Session) → theirs (kept tick ss) ≡ kept tick (theirs ss)
+    kept_theirs tick ss = filter_swap (is_between client asset) (λ s. not (is_expired s.flow s.events tick)) ss
+
+    found_theirs : (tick : ℕ) (ss : List Session) (ts : List SessionEvent) → AreTicks tick (kept tick ss) ts →
+        theirs (ticked ts tick ss) ≡ filter stays (with_events (kept tick (theirs ss)) (ticks_of client asset (kept tick ss) ts))
+    found_theirs tick ss ts are =
+        filter_swap (is_between client asset) stays (with_events (kept tick ss) ts)
+        ∙ ap (filter stays) (next_are client asset tick (kept tick ss) ts are ∙ ap (λ l. with_events l (ticks_of client asset (kept tick ss) ts)) (kept_theirs tick ss))
+
+    -- the second half, of two tables in which theirs is the same
+    record SecondSame (here there : List Session) (received other : Received) : Type 0 where
+      table : theirs (after_received received here) ≡ theirs (after_received other there)
+      sent : (if goes_to_theirs client asset here received then sent_received received else []) ≡ (if goes_to_theirs client asset there other then sent_received other else [])
+      logged : (if goes_to_theirs client asset here received then logged_received here received else [])
+          ≡ (if goes_to_theirs client asset there other then logged_received there other else [])
+
+    second_nothing : (here there : List Session) (m k : Option PacketValue) (r q : Received) → theirs here ≡ theirs there →
+        HasNothing limit client asset here m r → HasNothing limit client asset there k q → SecondSame here there r q
+    second_nothing here there m k r q same h g = record {
+      table = h.same ∙ same ∙ sym g.same;
+      sent = ap (λ b. cond b (sent_received r) []) h.not_theirs ∙ sym (ap (λ b. cond b (sent_received q) []) g.not_theirs);
+      logged = ap (λ b. cond b (logged_received here r) []) h.not_theirs ∙ sym (ap (λ b. cond b (logged_received there q) []) g.not_theirs);
+    }
+
+    second_packet : (here there : List Session) (m k : Option PacketValue) (r q : Received) → Each (IsTicked limit) here → theirs here ≡ theirs there → m ≡ k →
+        HasPacket limit client asset here m r → HasPacket limit client asset there k q → SecondSame here there r q
+    second_packet here there m k r q ticked same matched h g =
+        let one_packet : g.packet ≡ h.packet = same_Some g.packet h.packet (sym g.one ∙ sym matched ∙ h.one) in
+        let lists : g.session ∷ g.more ≡ h.session ∷ h.more = sym g.is ∙ sym same ∙ h.is in
+        let one_session : g.session ≡ h.session = same_head g.session h.session g.more h.more lists in
+        let more : g.more ≡ h.more = same_tail g.session h.session g.more h.more lists in
+        let has : IsTicked limit h.session = (subst (Each (IsTicked limit)) h.is (each-filter (IsTicked limit) (is_between client asset) here ticked)).0 in
+        let on : GoesOnWith limit (side_of client asset h.packet) h.packet g.event h.session.flow h.session.events =
+        subst (λ s. GoesOnWith limit (side_of client asset h.packet) h.packet g.event s.flow s.events) one_session
+        (subst (λ p. GoesOnWith limit (side_of client asset p) p g.event g.session.flow g.session.events) one_packet g.goes_on) in
+        let event : h.event ≡ g.event = packet_fixed h.session.flow h.session.events (side_of client asset h.packet) h.packet h.event g.event has h.goes_on on in
+        record {
+          table = h.after ∙ ap (λ e. filter stays (record h.session { events = replaced e h.session.events } ∷ h.more)) event
+              ∙ ap (λ (s : Session). filter stays (record s { events = replaced g.event s.events } ∷ h.more)) (sym one_session)
+              ∙ ap (λ l. filter stays (record g.session { events = replaced g.event g.session.events } ∷ l)) (sym more) ∙ sym g.after;
+          sent = ap (λ b. cond b (sent_received r) []) h.theirs ∙ h.sent ∙ ap sent_second event ∙ sym g.sent ∙ sym (ap (λ b. cond b (sent_received q) []) g.theirs);
+          logged = ap (λ b. cond b (logged_received here r) []) h.theirs ∙ h.logged ∙ ap (logged_second h.session.flow (behind h.session.events)) event
+              ∙ ap (λ (s : Session). logged_second s.flow (behind s.events) g.event) (sym one_session) ∙ sym g.logged
+              ∙ sym (ap (λ b. cond b (logged_received there q) []) g.theirs);
+        }
+
+    never_both : (m k : Option PacketValue) (p : PacketValue) → m ≡ None → m ≡ k → k ≡ Some p → ⊥
+    never_both m k p e f g = cc
+
+    second : (here there : List Session) (m k : Option PacketValue) (r q : Received) → Each (IsTicked limit) here → theirs here ≡ theirs there → m ≡ k →
+        Share limit client asset here m r → Share limit client asset there k q → SecondSame here there r q
+    second here there m k r q ticked same matched (with_nothing h) (with_nothing g) = second_nothing here there m k r q same h g
+    second here there m k r q ticked same matched (with_packet h) (with_packet g) = second_packet here there m k r q ticked same matched h g
+    second here there m k r q ticked same matched (with_nothing h) (with_packet g) = absurd (never_both m k g.packet h.none matched g.one)
+    second here there m k r q ticked same matched (with_packet h) (with_nothing g) = absurd (never_both k m h.packet g.none (sym matched) h.one)
+
+    -- a whole event, of two tables in which theirs is the same
+    abbrev sent_parts : ℕ → List Session → List SessionEvent → Received → List Sent
+    sent_parts tick before ts r =
+        flat_map sent_first (ticks_of client asset (kept tick before) ts)
+        ++ (if goes_to_theirs client asset (ticked ts tick before) r then sent_received r else [])
+
+    abbrev logged_parts : ℕ → List Session → List SessionEvent → Received → List (List ℕ)
+    logged_parts tick before ts r =
+        logged_ticks (theirs (kept tick before)) (ticks_of client asset (kept tick before) ts)
+        ++ (if goes_to_theirs client asset (ticked ts tick before) r then logged_received (ticked ts tick before) r else [])
+
+    record EventSame (n m : ℕ) (here there : List Session) (ts us : List SessionEvent) (r q : Received) : Type 0 where
+      table : theirs (after_received r (ticked ts n here)) ≡ theirs (after_received q (ticked us m there))
+      sent : sent_parts n here ts r ≡ sent_parts m there us q
+      logged : logged_parts n here ts r ≡ logged_parts m there us q
+
+    module _ (assets : List Asset) (tick : ℕ) (here there : List Session) (ts us : List SessionEvent) (same : theirs here ≡ theirs there)
+        (going : Each (IsGoing limit) here) (others_going : Each (IsGoing limit) there)
+        (are : AreTicks tick (kept tick here) ts) (others_are : AreTicks tick (kept tick there) us) where
+      kept_same : theirs (kept tick here) ≡ theirs (kept tick there)
+      kept_same = kept_theirs tick here ∙ ap (kept tick) same ∙ sym (kept_theirs tick there)
+
+      keeps : Each (IsGoing limit) (kept tick here)
+      keeps = each-filter (IsGoing limit) (λ s. not (is_expired s.flow s.events tick)) here going
+
+      others_keep : Each (IsGoing limit) (kept tick there)
+      others_keep = each-filter (IsGoing limit) (λ s. not (is_expired s.flow s.events tick)) there others_going
+
+      ticks_same : ticks_of client asset (kept tick here) ts ≡ ticks_of client asset (kept tick there) us
+      ticks_same =
+          ticks_fixed tick (theirs (kept tick here)) (ticks_of client asset (kept tick here) ts) (ticks_of client asset (kept tick there) us)
+          (each-filter (IsGoing limit) (is_between client asset) (kept tick here) keeps) (ticks_are client asset tick (kept tick here) ts are)
+          (subst (λ l. AreTicks tick l (ticks_of client asset (kept tick there) us)) (sym kept_same) (ticks_are client asset tick (kept tick there) us others_are))
+
+      found_same : theirs (ticked ts tick here) ≡ theirs (ticked us tick there)
+      found_same =
+          found_theirs tick here ts are ∙ ap (λ l. filter stays (with_events (kept tick l) (ticks_of client asset (kept tick here) ts))) same
+          ∙ ap (λ l. filter stays (with_events (kept tick (theirs there)) l)) ticks_same ∙ sym (found_theirs tick there us others_are)
+
+      event_same : (p q : Result PacketValue PacketRefusal) (r o : Received) → ReceivesRecord assets limit tick (ticked ts tick here) p r → ReceivesRecord assets limit tick (ticked us tick there) q o →
+          begins_theirs client asset r ≡ false → begins_theirs client asset o ≡ false →
+          matched_in assets client asset (ticked ts tick here) p ≡ matched_in assets client asset (ticked us tick there) q → EventSame tick tick here there ts us r o
+      event_same p q r o h g none others_none matched =
+          let has_ticked = each-ticked limit tick (kept tick here) ts keeps are in
+          let others_ticked = each-ticked limit tick (kept tick there) us others_keep others_are in
+          let two = second (ticked ts tick here) (ticked us tick there) (matched_in assets client asset (ticked ts tick here) p) (matched_in assets client asset (ticked us tick there) q) r o
+          has_ticked found_same matched
+          (share limit client asset assets tick (ticked ts tick here) has_ticked p r h none) (share limit client asset assets tick (ticked us tick there) others_ticked q o g others_none) in
+          record {
+            table = two.table;
+            sent = ap (λ l. flat_map sent_first l ++ (if goes_to_theirs client asset (ticked ts tick here) r then sent_received r else [])) ticks_same
+                ∙ ap (λ l. flat_map sent_first (ticks_of client asset (kept tick there) us) ++ l) two.sent;
+            logged = ap (λ l. logged_ticks l (ticks_of client asset (kept tick here) ts) ++ (if goes_to_theirs client asset (ticked ts tick here) r then logged_received (ticked ts tick here) r else [])) kept_same
+                ∙ ap (λ l. logged_ticks (theirs (kept tick there)) l ++ (if goes_to_theirs client asset (ticked ts tick here) r then logged_received (ticked ts tick here) r else [])) ticks_same
+                ∙ ap (λ l. logged_ticks (theirs (kept tick there)) (ticks_of client asset (kept tick there) us) ++ l) two.logged;
+          }
+
+    module _ (assets : List Asset) where
+      -- an event of each run, after tables in which theirs is the same
+      next_same : (e d : Event) (here there : List Session) → theirs here ≡ theirs there → Each (IsGoing limit) here → Each (IsGoing limit) there →
+          e.input.moment ≡ d.input.moment → IsEvent assets limit here e → IsEvent assets limit there d → begins_theirs client asset e.received ≡ false → begins_theirs client asset d.received ≡ false →
+          matched_to assets client asset here e ≡ matched_to assets client asset there d → EventSame (tick_of e.input) (tick_of d.input) here there e.ticks d.ticks e.received d.received
+      next_same e d here there same going others_going moment h g none others_none matched =
+          let tick : tick_of d.input ≡ tick_of e.input = ap (λ n. n - 1) (sym moment) in
+          let n = tick_of e.input in
+          subst (λ m. EventSame n m here there e.ticks d.ticks e.received d.received) (sym tick)
+          (event_same assets n here there e.ticks d.ticks same going others_going h.ticks (subst (λ m. AreTicks m (kept m there) d.ticks) tick g.ticks)
+          e.input.packet d.input.packet e.received d.received h.received
+          (subst (λ m. ReceivesRecord assets limit m (ticked d.ticks m there) d.input.packet d.received) tick g.received) none others_none
+          (matched ∙ ap (λ m. matched_in assets client asset (ticked d.ticks m there) d.input.packet) tick))
+
+      -- ---- a table has at most one of theirs
+
+      with_events_length : (ss : List Session) (ts : List SessionEvent) → length (with_events ss ts) ≡ length ss
+      with_events_length [] ts = refl
+      with_events_length (s ∷ ss) [] = refl
+      with_events_length (s ∷ ss) (t ∷ ts) = ap suc (with_events_length ss ts)
+
+      found_one : (tick : ℕ) (ss : List Session) (ts : List SessionEvent) → AreTicks tick (kept tick ss) ts → length (theirs ss) ≤ 1 → length (theirs (ticked ts tick ss)) ≤ 1
+      found_one tick ss ts are h =
+          let T = ticks_of client asset (kept tick ss) ts in
+          let a = filter_at_most stays (with_events (kept tick (theirs ss)) T) in
+          let b = with_events_length (kept tick (theirs ss)) T in
+          let c = filter_at_most (λ s. not (is_expired s.flow s.events tick)) (theirs ss) in
+          let d = ap length (found_theirs tick ss ts are) in
+          omega (arith, h, a, b, c, d)
+
+      share_one : (table : List Session) (m : Option PacketValue) (r : Received) → length (theirs table) ≤ 1 → Share limit client asset table m r → length (theirs (after_received r table)) ≤ 1
+      share_one table m r h (with_nothing n) = let a = ap length n.same in omega (arith, h, a)
+      share_one table m r h (with_packet p) =
+          let a = ap length p.after in
+          let b = ap length p.is in
+          let c = filter_at_most stays (record p.session { events = replaced p.event p.session.events } ∷ p.more) in
+          omega (arith, h, a, b, c)
+
+      begun_one : (g : Flow) (e : SessionEvent) (table : List Session) → length (theirs table) ≤ 1 → is_flow_of client asset g ≡ true → theirs (after_received (Begun g e) table) ≡ record { flow = g; events = e ∷ [] } ∷ []
+      begun_one g e table h is =
+          let c : client_of g ≡ client = same_is (client_of g) client (and_first _ _ is) in
+          let a : g.asset.endpoint ≡ asset = same_is g.asset.endpoint asset (and_second _ _ is) in
+          let new : Session = record { flow = g; events = e ∷ [] } in
+          let rest : theirs (without (client_of g) g.asset.endpoint table) ≡ [] =
+          ap (λ x. theirs (without x g.asset.endpoint table)) c ∙ ap (λ x. theirs (without client x table)) a ∙ without_theirs client asset table h in
+          filter-append (is_between client asset) (without (client_of g) g.asset.endpoint table) (new ∷ []) ∙ ap (λ l. l ++ theirs (new ∷ [])) rest
+          ∙ filter_keeps (is_between client asset) new [] is
+
+      one_by : (tick : ℕ) (table : List Session) (p : Result PacketValue PacketRefusal) (r : Received) (b : Bool) → begins_theirs client asset r ≡ b → Each (IsTicked limit) table → ReceivesRecord assets limit tick table p r →
+          length (theirs table) ≤ 1 → length (theirs (after_received r table)) ≤ 1
+      one_by tick table p r false none ticked h small = share_one table (matched_in assets client asset table p) r small (share limit client asset assets tick table ticked p r h none)
+      one_by tick table p (Begun g e) true begins ticked h small = let a = ap length (begun_one g e table small begins) in omega (arith, a)
+      one_by tick table p Dropped true begins ticked h small = absurd (true≢false (sym begins))
+      one_by tick table p NoRoom true begins ticked h small = absurd (true≢false (sym begins))
+      one_by tick table p NoSession true begins ticked h small = absurd (true≢false (sym begins))
+      one_by tick table p (Went i e) true begins ticked h small = absurd (true≢false (sym begins))
+
+      found_ticked : (e : Event) (es : List Event) → AreEvents assets limit (e ∷ es) → Each (IsTicked limit) (found (table_after es) e)
+      found_ticked e es h =
+          let tick = tick_of e.input in
+          let going = of_run assets limit es h.1 in
+          each-ticked limit tick (kept tick (table_after es)) e.ticks (each-filter (IsGoing limit) (λ s. not (is_expired s.flow s.events tick)) (table_after es) going.here) h.0.ticks
+
+      at_most_one : (es : List Event) → AreEvents assets limit es → length (theirs (table_after es)) ≤ 1
+      at_most_one [] h = omega arith
+      at_most_one (e ∷ es) h =
+          one_by (tick_of e.input) (found (table_after es) e) e.input.packet e.received (begins_theirs client asset e.received) refl (found_ticked e es h) h.0.received
+          (found_one (tick_of e.input) (table_after es) e.ticks h.0.ticks (at_most_one es h.1))
+
+      -- ---- the events in which they begin
+
+      begun_by : (tick : ℕ) (table : List Session) (p : PacketValue) (m : Match) (g : Flow) (e : SessionEvent) → Receives limit tick table p m (Begun g e) → IsBeginning g tick e
+      begun_by tick table p (Begins f) g e h = subst (λ x. IsBeginning x tick e) (sym h.0) h.1
+      begun_by tick table p Full g e h = absurd h
+      begun_by tick table p (Goes i s) g e h = absurd h
+      begun_by tick table p Outside g e h = absurd h
+
+      begun_is : (tick : ℕ) (table : List Session) (p : Result PacketValue PacketRefusal) (g : Flow) (e : SessionEvent) → ReceivesRecord assets limit tick table p (Begun g e) → IsBeginning g tick e
+      begun_is tick table (Err refusal) g e h = absurd (never_dropped g e h)
+      begun_is tick table (Ok p) g e h = begun_by tick table p (match_of assets table p) g e h
+
+      begin_same : (flow : Flow) (e d : Event) (es ds : List Event) (b c : SessionEvent) → is_flow_of client asset flow ≡ true → AreEvents assets limit (e ∷ es) → AreEvents assets limit (d ∷ ds) →
+          e.input.moment ≡ d.input.moment → e.received ≡ Begun flow b → d.received ≡ Begun flow c → (b ≡ c) × (theirs (table_after (e ∷ es)) ≡ theirs (table_after (d ∷ ds)))
+      begin_same flow e d es ds b c is h g moment begins others_begin =
+          let tick : tick_of d.input ≡ tick_of e.input = ap (λ n. n - 1) (sym moment) in
+          let x = begun_is (tick_of e.input) (found (table_after es) e) e.input.packet flow b (subst (ReceivesRecord assets limit (tick_of e.input) (found (table_after es) e) e.input.packet) begins h.0.received) in
+          let y = begun_is (tick_of d.input) (found (table_after ds) d) d.input.packet flow c (subst (ReceivesRecord assets limit (tick_of d.input) (found (table_after ds) d) d.input.packet) others_begin g.0.received) in
+          let same = beginning_fixed flow (tick_of e.input) b c x (subst (λ n. IsBeginning flow n c) tick y) in
+          let one = begun_one flow b (found (table_after es) e) (found_one (tick_of e.input) (table_after es) e.ticks h.0.ticks (at_most_one es h.1)) is in
+          let other = begun_one flow c (found (table_after ds) d) (found_one (tick_of d.input) (table_after ds) d.ticks g.0.ticks (at_most_one ds g.1)) is in (
+            same,
+            ap (λ r. theirs (after_received r (found (table_after es) e))) begins ∙ one ∙ ap (λ x. let s : Session = record { flow = flow; events = x ∷ [] } in s ∷ []) same
+                ∙ sym (ap (λ r. theirs (after_received r (found (table_after ds) d))) others_begin ∙ other),
+          )
+
+      -- ---- all events that are considered
+
+      pub record StretchSame (first other_first : Event) (earlier other_earlier later other_later : List Event) : Type 0 where
+        pub table : theirs (table_after (later ++ first ∷ earlier)) ≡ theirs (table_after (other_later ++ other_first ∷ other_earlier))
+        pub sent : sent_over client asset first earlier later ≡ sent_over client asset other_first other_earlier other_later
+        pub logged : logged_over client asset first earlier later ≡ logged_over client asset other_first other_earlier other_later
+
+      module _ (e d : Event) (es ds : List Event) (starts : StretchSame e d es ds [] []) where
+        stretch : (xs ys : List Event) → AreEvents assets limit (xs ++ e ∷ es) → AreEvents assets limit (ys ++ d ∷ ds) → SameMoments xs ys →
+            NoneBegins client asset xs → NoneBegins client asset ys → AreMatched assets client asset (e ∷ es) (d ∷ ds) xs ys → StretchSame e d es ds xs ys
+        stretch [] [] h g moments none others_none matched = starts
+        stretch [] (y ∷ ys) h g moments none others_none matched = absurd matched
+        stretch (x ∷ xs) [] h g moments none others_none matched = absurd matched
+        stretch (x ∷ xs) (y ∷ ys) h g moments none others_none matched =
+            let before = stretch xs ys h.1 g.1 moments.1 none.1 others_none.1 matched.1 in
+            let next = next_same x y (table_after (xs ++ e ∷ es)) (table_after (ys ++ d ∷ ds)) before.table (of_run assets limit (xs ++ e ∷ es) h.1).here (of_run assets limit (ys ++ d ∷ ds) g.1).here
+            moments.0 h.0 g.0 none.0 others_none.0 matched.0 in
+            record {
+              table = next.table;
+              sent = ap (λ l. l ++ sent_by client asset (table_after (xs ++ e ∷ es)) x) before.sent ∙ ap (λ l. sent_over client asset d ds ys ++ l) next.sent;
+              logged = ap (λ l. l ++ logged_by client asset (table_after (xs ++ e ∷ es)) x) before.logged ∙ ap (λ l. logged_over client asset d ds ys ++ l) next.logged;
+            }
+
+-- ---- moments
+
+-- the moments of events, the oldest first
+abbrev times : List Event → List ℕ
+times [] = []
+times (e ∷ es) = times es ++ e.input.moment ∷ []
+
+times_are : (es : List Event) → moments_of (inputs_of es) ≡ times es
+times_are [] = refl
+times_are (e ∷ es) = map-append (λ (i : Input). i.moment) (inputs_of es) (e.input ∷ []) ∙ ap (λ l. l ++ e.input.moment ∷ []) (times_are es)
+
+no_more : (xs : List ℕ) → xs ≡ xs ++ []
+no_more [] = refl
+no_more (x ∷ xs) = ap (λ l. x ∷ l) (no_more xs)
+
+times_append : (xs ys : List Event) → times (xs ++ ys) ≡ times ys ++ times xs
+times_append [] ys = no_more (times ys)
+times_append (x ∷ xs) ys = ap (λ l. l ++ x.input.moment ∷ []) (times_append xs ys) ∙ append_assoc (times ys) (times xs) (x.input.moment ∷ [])
+
+times_length : (es : List Event) → length (times es) ≡ length es
+times_length [] = refl
+times_length (e ∷ es) = let a = length-append (times es) (e.input.moment ∷ []) in let b = times_length es in omega (arith, a, b)
+
+same_parts : {A : Type 0} (xs ys us vs : List A) → length xs ≡ length us → xs ++ ys ≡ us ++ vs → (xs ≡ us) × (ys ≡ vs)
+same_parts [] ys [] vs n h = (refl, h)
+same_parts [] ys (u ∷ us) vs n h = absurd (omega (arith, n))
+same_parts (x ∷ xs) ys [] vs n h = absurd (omega (arith, n))
+same_parts (x ∷ xs) ys (u ∷ us) vs n h =
+    let rest = same_parts xs ys us vs (omega (arith, n)) (same_tail x u (xs ++ ys) (us ++ vs) h) in
+    (ap (λ z. z ∷ xs) (same_head x u (xs ++ ys) (us ++ vs) h) ∙ ap (λ l. u ∷ l) rest.0, rest.1)
+
+same_moments : (xs ys : List Event) → length xs ≡ length ys → times xs ≡ times ys → SameMoments xs ys
+same_moments [] [] n h = tt
+same_moments [] (y ∷ ys) n h = absurd (omega (arith, n))
+same_moments (x ∷ xs) [] n h = absurd (omega (arith, n))
+same_moments (x ∷ xs) (y ∷ ys) n h =
+    let shorter : length xs ≡ length ys = omega (arith, n) in
+    let parts = same_parts (times xs) (x.input.moment ∷ []) (times ys) (y.input.moment ∷ []) (times_length xs ∙ shorter ∙ sym (times_length ys)) h in
+    (same_head x.input.moment y.input.moment [] [] parts.1, same_moments xs ys shorter parts.0)
+
+matched_length : (assets : List Asset) (client asset : Endpoint) (here there xs ys : List Event) → AreMatched assets client asset here there xs ys → length xs ≡ length ys
+matched_length assets client asset here there [] [] h = refl
+matched_length assets client asset here there [] (y ∷ ys) h = absurd h
+matched_length assets client asset here there (x ∷ xs) [] h = absurd h
+matched_length assets client asset here there (x ∷ xs) (y ∷ ys) h = ap suc (matched_length assets client asset here there xs ys h.1)
+
+-- the events of two runs with equal moments, in parts of equal lengths
+pub record PartsSame (e d : Event) (xs ys : List Event) : Type 0 where
+  pub first : e.input.moment ≡ d.input.moment
+  pub later : SameMoments xs ys
+
+parts_same : (after others_after xs ys : List Event) (e d : Event) (es ds : List Event) → length es ≡ length ds → length xs ≡ length ys →
+    times (after ++ (xs ++ e ∷ es)) ≡ times (others_after ++ (ys ++ d ∷ ds)) → PartsSame e d xs ys
+parts_same after others_after xs ys e d es ds earlier later h =
+    let whole : times (xs ++ e ∷ es) ++ times after ≡ times (ys ++ d ∷ ds) ++ times others_after = sym (times_append after (xs ++ e ∷ es)) ∙ h ∙ times_append others_after (ys ++ d ∷ ds) in
+    let n : length (times (xs ++ e ∷ es)) ≡ length (times (ys ++ d ∷ ds)) =
+    times_length (xs ++ e ∷ es) ∙ length-append xs (e ∷ es) ∙ (let x : length xs + length (e ∷ es) ≡ length ys + length (d ∷ ds) = omega (arith, earlier, later) in x)
+    ∙ sym (times_length (ys ++ d ∷ ds) ∙ length-append ys (d ∷ ds)) in
+    let front = (same_parts (times (xs ++ e ∷ es)) (times after) (times (ys ++ d ∷ ds)) (times others_after) n whole).0 in
+    let split : times (e ∷ es) ++ times xs ≡ times (d ∷ ds) ++ times ys = sym (times_append xs (e ∷ es)) ∙ front ∙ times_append ys (d ∷ ds) in
+    let k : length (times (e ∷ es)) ≡ length (times (d ∷ ds)) = times_length (e ∷ es) ∙ ap suc earlier ∙ sym (times_length (d ∷ ds)) in
+    let two = same_parts (times (e ∷ es)) (times xs) (times (d ∷ ds)) (times ys) k split in
+    let j : length (times es) ≡ length (times ds) = times_length es ∙ earlier ∙ sym (times_length ds) in
+    let one = same_parts (times es) (e.input.moment ∷ []) (times ds) (d.input.moment ∷ []) j two.0 in
+    record { first = same_head e.input.moment d.input.moment [] [] one.1; later = same_moments xs ys later two.1 }
+
+-- ---- two runs
+
+events_behind : (assets : List Asset) (limit : ℕ) (after es : List Event) → AreEvents assets limit (after ++ es) → AreEvents assets limit es
+events_behind assets limit [] es h = h
+events_behind assets limit (x ∷ after) es h = events_behind assets limit after es h.1
+
+module _ (law : EventsAreFixed) (assets : List Asset) (limit : ℕ) (flow : Flow) (e d : Event) (es ds xs ys : List Event) (b c : SessionEvent)
+    (are : AreEvents assets limit (xs ++ e ∷ es)) (others_are : AreEvents assets limit (ys ++ d ∷ ds)) (moments : PartsSame e d xs ys)
+    (begins : e.received ≡ Begun flow b) (others_begin : d.received ≡ Begun flow c) where
+  pub stretch_same : NoneBegins (client_of flow) flow.asset.endpoint xs → NoneBegins (client_of flow) flow.asset.endpoint ys →
+      AreMatched assets (client_of flow) flow.asset.endpoint (e ∷ es) (d ∷ ds) xs ys → StretchSame law limit (client_of flow) flow.asset.endpoint assets e d es ds xs ys
+  stretch_same none others_none matched =
+      let client = client_of flow in
+      let asset = flow.asset.endpoint in
+      let x : same_endpoint client client ≡ true = endpoint_same client in
+      let y : same_endpoint asset asset ≡ true = endpoint_same asset in
+      let is : is_flow_of client asset flow ≡ true = ap (λ b. b && same_endpoint asset asset) x ∙ y in
+      let start = begin_same law limit client asset assets flow e d es ds b c is (events_behind assets limit xs (e ∷ es) are) (events_behind assets limit ys (d ∷ ds) others_are) moments.first begins others_begin in
+      let starts : StretchSame law limit client asset assets e d es ds [] [] = record {
+        table = start.1;
+        sent = ap sent_received begins ∙ ap sent_second start.0 ∙ sym (ap sent_received others_begin);
+        logged = ap (logged_received (found (table_after es) e)) begins ∙ ap (logged_second flow []) start.0 ∙ sym (ap (logged_received (found (table_after ds) d)) others_begin);
+      } in
+      stretch law limit client asset assets e d es ds starts xs ys are others_are moments.later none others_none matched
+
+pub isolates : EventsAreFixed → RunsIsolateSessions
+isolates law assets limit given other_given out other_out log other_log summary other_summary run other_run moments flow one other earlier matched =
+    let all : times run.events ≡ times other_run.events =
+    sym (times_are run.events) ∙ ap moments_of run.are_inputs ∙ moments ∙ sym (sym (times_are other_run.events) ∙ ap moments_of other_run.are_inputs) in
+    let later = matched_length assets (client_of flow) flow.asset.endpoint (one.first ∷ one.earlier) (other.first ∷ other.earlier) one.later other.later matched in
+    let parts = parts_same one.after other.after one.later other.later one.first other.first one.earlier other.earlier earlier later (sym (ap times one.are) ∙ all ∙ ap times other.are) in
+    let are = events_behind assets limit one.after (one.later ++ one.first ∷ one.earlier) (subst (AreEvents assets limit) one.are run.are) in
+    let others_are = events_behind assets limit other.after (other.later ++ other.first ∷ other.earlier) (subst (AreEvents assets limit) other.are other_run.are) in
+    let same = stretch_same law assets limit flow one.first other.first one.earlier other.earlier one.later other.later one.begun other.begun are others_are parts one.begins other.begins
+    one.none other.none matched in
+    record { sent = same.sent; logged = same.logged }

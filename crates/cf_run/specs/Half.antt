@@ -1,0 +1,107 @@
+-- A half of an event, and what the desk has that failed amid it: IsHalfOf and BreaksHalf. This project's own.
+use Rattle.std.specs.Prelude.{◌≡◌, ◌⊎◌, ◌-◌, ℕ, List, [], ◌++◌, slice_get, Result}
+use Rattle.std.specs.List.{concat, flat_map}
+use Rattle.cf_outside.specs.Desk.{DeskValue}
+use Rattle.cf_packet.specs.Packet.{PacketValue}
+use Rattle.cf_packet.specs.declared.packet.PacketRefusal.{PacketRefusal}
+use Rattle.cf_policy.specs.declared.Asset.{Asset}
+use Rattle.cf_view.specs.declared.Side.{Side}
+use Rattle.cf_session.specs.Broken.{BreaksAmid, IsPartOf, octets_of}
+use Rattle.cf_session.specs.Sent.{Sent, sent_first, sent_second}
+use Rattle.cf_session.specs.Session.{SessionEvent}
+use Rattle.cf_session.specs.Told.{Told, told, with_both}
+use Rattle.cf_run.specs.Engine.{AreAll}
+use Rattle.cf_run.specs.Receiving.{AreTicked}
+use Rattle.cf_run.specs.Table.{Session, match_of}
+use Rattle.cf_run.specs.Trace.{AreTicks, Event, GoesOnAt, Input, IsEvent, Received, Receives, ReceivesRecord, kept, logged_at, logged_in_first, logged_in_second, logged_received, logged_ticks, sent_in_first, sent_in_second, sent_received, tick_of}
+use Rattle.cf_run.specs.declared.entry.Entry.{Entry}
+
+-- what an event sent and logged before one of its halves, and what it sends and logs in it
+pub record Half : Type 0 where
+  pub sent_before : List Sent
+  pub logged_before : List (List ℕ)
+  pub sent : List Sent
+  pub logged : List (List ℕ)
+
+-- the first half, in which each session that has not expired has its tick
+abbrev pub first_half : (tick : ℕ) → List Session → List SessionEvent → Half
+first_half tick before ticks = record { sent_before = []; logged_before = []; sent = flat_map sent_first ticks; logged = logged_ticks (kept tick before) ticks }
+
+-- the second half
+abbrev pub second_half : List Session → Event → Half
+second_half before event = record {
+  sent_before = sent_in_first event;
+  logged_before = logged_in_first before event;
+  sent = sent_in_second event;
+  logged = logged_in_second before event;
+}
+
+-- each session that has not expired has a first half that is right after its earlier events
+abbrev pub IsFirstHalf : List Session → Input → Half → Type 0
+IsFirstHalf before input half = (ticks : List SessionEvent) × AreTicks (tick_of input) (kept (tick_of input) before) ticks × (half ≡ first_half (tick_of input) before ticks)
+
+-- there is an event with the record that is right after this table
+abbrev pub IsSecondHalf : List Asset → (limit : ℕ) → List Session → Input → Half → Type 0
+IsSecondHalf assets limit before input half = (event : Event) × (event.input ≡ input) × IsEvent assets limit before event × (half ≡ second_half before event)
+
+abbrev pub IsHalfOf : List Asset → (limit : ℕ) → List Session → Input → Half → Type 0
+IsHalfOf assets limit before input half = IsFirstHalf before input half ⊎ IsSecondHalf assets limit before input half
+
+-- the desk failed amid the half: it got all that went before it in the event, the first packets and lines of the half whole, and
+-- of the next ones a beginning
+pub record BreaksHalf (half : Half) (old new : DeskValue) : Type 0 where
+  pub gone : List Sent
+  pub left : List Sent
+  pub are_sent : half.sent ≡ gone ++ left
+  pub put : List (List ℕ)
+  pub missing : List (List ℕ)
+  pub are_lines : half.logged ≡ put ++ missing
+  pub is_told : told new ≡ with_both (told old) (half.sent_before ++ gone) (half.logged_before ++ put)
+  pub packet_part : IsPartOf (octets_of old.octets left) old.packet_part new.packet_part
+  pub line_part : IsPartOf (concat missing) old.line_part new.line_part
+
+-- an event was broken off in one of its halves
+abbrev pub StepBreaks : List Asset → (limit : ℕ) → List Session → Input → (old new : DeskValue) → Type 0
+StepBreaks assets limit before input old new = (half : Half) × IsHalfOf assets limit before input half × BreaksHalf half old new
+
+-- an event stopped between its halves: the desk got all of the first, and nothing of the second
+abbrev pub StepStops : List Session → Input → (old new : Told) → Type 0
+StepStops before input old new = (half : Half) × IsFirstHalf before input half × (new ≡ with_both old half.sent half.logged)
+
+-- ---- the parts of a step
+
+-- the first half was broken off
+pub record TicksBreak (tick : ℕ) (table : List Session) (old new : DeskValue) : Type 0 where
+  pub ticks : List SessionEvent
+  pub are : AreTicks tick (kept tick table) ticks
+  pub amid : BreaksAmid (flat_map sent_first ticks) (logged_ticks (kept tick table) ticks) old new
+
+-- the second half was, with a packet
+pub record ReceivingBreaks (assets : List Asset) (limit now : ℕ) (packet : PacketValue) (table : List Session) (old new : DeskValue) : Type 0 where
+  pub received : Received
+  pub receives : Receives limit (now - 1) table packet (match_of assets table packet) received
+  pub amid : BreaksAmid (sent_received received) (logged_received table received) old new
+
+abbrev pub ReceiveBreaks : List Asset → (limit now : ℕ) → PacketValue → List Entry → (old new : DeskValue) → Type 0
+ReceiveBreaks assets limit now packet entries old new =
+    (table : List Session) → AreTicked (now - 1) table → AreAll assets now entries table → ReceivingBreaks assets limit now packet table old new
+
+-- a session's event was, as it went on
+pub record GoingBreaks (limit place : ℕ) (from : Side) (packet : PacketValue) (table : List Session) (old new : DeskValue) : Type 0 where
+  pub event : SessionEvent
+  pub goes_on : GoesOnAt limit from packet event (slice_get table place)
+  pub amid : BreaksAmid (sent_second event) (logged_at (slice_get table place) event) old new
+
+abbrev pub GoBreaks : List Asset → (limit now place : ℕ) → Side → PacketValue → List Entry → (old new : DeskValue) → Type 0
+GoBreaks assets limit now place from packet entries old new =
+    (table : List Session) → AreTicked (now - 1) table → AreAll assets now entries table → GoingBreaks limit place from packet table old new
+
+-- the second half was, with a record that is a packet or none
+pub record ReceivingRecordBreaks (assets : List Asset) (limit now : ℕ) (packet : Result PacketValue PacketRefusal) (table : List Session) (old new : DeskValue) : Type 0 where
+  pub received : Received
+  pub receives : ReceivesRecord assets limit (now - 1) table packet received
+  pub amid : BreaksAmid (sent_received received) (logged_received table received) old new
+
+abbrev pub ReceiveRecordBreaks : List Asset → (limit now : ℕ) → Result PacketValue PacketRefusal → List Entry → (old new : DeskValue) → Type 0
+ReceiveRecordBreaks assets limit now packet entries old new =
+    (table : List Session) → AreTicked (now - 1) table → AreAll assets now entries table → ReceivingRecordBreaks assets limit now packet table old new

@@ -1,0 +1,149 @@
+-- Isolation: what is matched to a session fixes all that it sends and logs, whatever else the capture holds. The main definition
+-- is RunsIsolateSessions, read from the end. This project's own.
+--
+-- A session is named by its client and its asset's endpoint: a table has at most one of them. Lists of events have the newest one
+-- first.
+use Rattle.std.specs.Prelude.{◌≡◌, ℕ, Bool, false, ◌&&◌, if◌then◌else◌, List, [], ◌∷◌, ◌++◌, filter, length, map, slice_get, Option, Some, None, Result, Ok, Err}
+use Rattle.std.specs.List.{flat_map}
+use Rattle.cf_packet.specs.Packet.{PacketValue}
+use Rattle.cf_packet.specs.declared.packet.PacketRefusal.{PacketRefusal}
+use Rattle.cf_policy.specs.declared.Asset.{Asset}
+use Rattle.cf_session.specs.Sent.{Sent, sent_first}
+use Rattle.cf_session.specs.Session.{Flow, SessionEvent, client_of}
+use Rattle.cf_view.specs.declared.Endpoint.{Endpoint}
+use Rattle.cf_run.specs.Run.{IsRun}
+use Rattle.cf_run.specs.Summary.{found}
+use Rattle.cf_run.specs.Table.{Begins, Full, Goes, Match, Outside, Session, is_between, match_of, same_endpoint}
+use Rattle.cf_run.specs.Trace.{Begun, Event, Input, Received, Went, kept, logged_in_second, logged_received, logged_ticks, sent_in_second, sent_received, table_after, tick_of}
+use Rattle.cf_run.specs.declared.summary.Summary.{Summary}
+
+-- ---- what one event is to the session of a client and an asset
+
+-- a flow is between them
+abbrev pub is_flow_of : (client asset : Endpoint) → Flow → Bool
+is_flow_of client asset flow = same_endpoint (client_of flow) client && same_endpoint flow.asset.endpoint asset
+
+-- the session at a place is theirs
+abbrev pub is_theirs : (client asset : Endpoint) → Option Session → Bool
+is_theirs client asset None = false
+is_theirs client asset (Some session) = is_between client asset session
+
+-- the packet, where it goes to their session
+abbrev pub matched_by : (client asset : Endpoint) → List Session → PacketValue → Match → Option PacketValue
+matched_by client asset table packet (Goes place from) = if is_theirs client asset (slice_get table place) then Some packet else None
+matched_by client asset table packet (Begins flow) = None
+matched_by client asset table packet Full = None
+matched_by client asset table packet Outside = None
+
+abbrev pub matched_in : List Asset → (client asset : Endpoint) → List Session → Result PacketValue PacketRefusal → Option PacketValue
+matched_in assets client asset table (Err refusal) = None
+matched_in assets client asset table (Ok packet) = matched_by client asset table packet (match_of assets table packet)
+
+-- the input packet of an event that is matched to their session, if one is
+abbrev pub matched_to : List Asset → (client asset : Endpoint) → (before : List Session) → Event → Option PacketValue
+matched_to assets client asset before event = matched_in assets client asset (found before event) event.input.packet
+
+-- a session of theirs begins
+abbrev pub begins_theirs : (client asset : Endpoint) → Received → Bool
+begins_theirs client asset (Begun flow event) = is_flow_of client asset flow
+begins_theirs client asset _ = false
+
+-- ---- what their session sends and logs in an event after the one in which it began
+
+-- its first half, among those of all sessions
+abbrev pub ticks_of : (client asset : Endpoint) → (table : List Session) → (ticks : List SessionEvent) → List SessionEvent
+ticks_of client asset [] ticks = []
+ticks_of client asset (session ∷ table) [] = []
+ticks_of client asset (session ∷ table) (tick ∷ ticks) =
+    if is_between client asset session then tick ∷ ticks_of client asset table ticks else ticks_of client asset table ticks
+
+-- the packet went to it
+abbrev pub goes_to_theirs : (client asset : Endpoint) → List Session → Received → Bool
+goes_to_theirs client asset table (Went place event) = is_theirs client asset (slice_get table place)
+goes_to_theirs client asset table _ = false
+
+-- its output records, each with its moment
+abbrev pub sent_by : (client asset : Endpoint) → (before : List Session) → Event → List Sent
+sent_by client asset before event =
+    flat_map sent_first (ticks_of client asset (kept (tick_of event.input) before) event.ticks)
+    ++ (if goes_to_theirs client asset (found before event) event.received then sent_received event.received else [])
+
+-- its lines of the log
+abbrev pub logged_by : (client asset : Endpoint) → (before : List Session) → Event → List (List ℕ)
+logged_by client asset before event =
+    logged_ticks (filter (is_between client asset) (kept (tick_of event.input) before)) (ticks_of client asset (kept (tick_of event.input) before) event.ticks)
+    ++ (if goes_to_theirs client asset (found before event) event.received then logged_received (found before event) event.received else [])
+
+-- ---- a session of a run, over the events that are considered
+
+-- none of these events begins a session of theirs
+abbrev pub NoneBegins : (client asset : Endpoint) → List Event → Type 0
+NoneBegins client asset [] = Unit {0}
+NoneBegins client asset (event ∷ earlier) = (begins_theirs client asset event.received ≡ false) × NoneBegins client asset earlier
+
+-- in one of the events a session of this flow begins: of its asset and client, by its SYN. The events from that one on are considered
+-- up to any one, if no other session of that client and asset begins in those after it
+pub record HasSession (flow : Flow) (events : List Event) : Type 0 where
+  -- the events after those that are considered
+  pub after : List Event
+  -- those that are considered, behind the one in which it begins
+  pub later : List Event
+  pub first : Event
+  -- the events before it begins
+  pub earlier : List Event
+  pub are : events ≡ after ++ (later ++ first ∷ earlier)
+  pub begun : SessionEvent
+  pub begins : first.received ≡ Begun flow begun
+  pub none : NoneBegins (client_of flow) flow.asset.endpoint later
+
+-- all that it sends from its beginning on, in its order
+abbrev pub sent_over : (client asset : Endpoint) → (first : Event) → (earlier later : List Event) → List Sent
+sent_over client asset first earlier [] = sent_in_second first
+sent_over client asset first earlier (event ∷ later) =
+    sent_over client asset first earlier later ++ sent_by client asset (table_after (later ++ first ∷ earlier)) event
+
+abbrev pub session_sent : {events : List Event} → (flow : Flow) → HasSession flow events → List Sent
+session_sent flow has = sent_over (client_of flow) flow.asset.endpoint has.first has.earlier has.later
+
+-- all that it logs from its beginning on, in its order
+abbrev pub logged_over : (client asset : Endpoint) → (first : Event) → (earlier later : List Event) → List (List ℕ)
+logged_over client asset first earlier [] = logged_in_second (table_after earlier) first
+logged_over client asset first earlier (event ∷ later) =
+    logged_over client asset first earlier later ++ logged_by client asset (table_after (later ++ first ∷ earlier)) event
+
+abbrev pub session_logged : {events : List Event} → (flow : Flow) → HasSession flow events → List (List ℕ)
+session_logged flow has = logged_over (client_of flow) flow.asset.endpoint has.first has.earlier has.later
+
+-- ---- two runs
+
+-- at each of the events behind the beginning the same packet is matched to both sessions, or none to either
+abbrev pub AreMatched : List Asset → (client asset : Endpoint) → (here there : List Event) → (events others : List Event) → Type 0
+AreMatched assets client asset here there [] [] = Unit {0}
+AreMatched assets client asset here there [] (other ∷ others) = ⊥
+AreMatched assets client asset here there (event ∷ events) [] = ⊥
+AreMatched assets client asset here there (event ∷ events) (other ∷ others) =
+    (matched_to assets client asset (table_after (events ++ here)) event ≡ matched_to assets client asset (table_after (others ++ there)) other)
+    × AreMatched assets client asset here there events others
+
+abbrev pub AreMatchedAlike : {events others : List Event} → List Asset → (flow : Flow) → HasSession flow events → HasSession flow others → Type 0
+AreMatchedAlike assets flow one other =
+    AreMatched assets (client_of flow) flow.asset.endpoint (one.first ∷ one.earlier) (other.first ∷ other.earlier) one.later other.later
+
+abbrev pub moments_of : List Input → List ℕ
+moments_of inputs = map (λ i. i.moment) inputs
+
+-- two sessions have the same output records at the same moments, and the same lines in the same order
+pub record DoTheSame {events others : List Event} (flow : Flow) (one : HasSession flow events) (other : HasSession flow others) : Type 0 where
+  pub sent : session_sent flow one ≡ session_sent flow other
+  pub logged : session_logged flow one ≡ session_logged flow other
+
+-- two runs of one policy with equal moments: a session of the one and a session of the other, of the same client and asset, which
+-- began in the same event by the same packet, do the same over the events in which they are matched alike. The rest of the two
+-- captures may differ in every way
+abbrev pub RunsIsolateSessions : Type 0
+RunsIsolateSessions =
+    (assets : List Asset) (limit : ℕ) (given other_given : List Input) (out other_out log other_log : List ℕ) (summary other_summary : Summary)
+    (run : IsRun assets limit given out log summary) (other_run : IsRun assets limit other_given other_out other_log other_summary) →
+    moments_of given ≡ moments_of other_given →
+    (flow : Flow) (one : HasSession flow run.events) (other : HasSession flow other_run.events) →
+    length one.earlier ≡ length other.earlier → AreMatchedAlike assets flow one other → DoTheSame flow one other

@@ -1,0 +1,98 @@
+-- The beginning of a session, where the desk failed amid it.
+use Rattle.std.proofs.Common.{◌≡◌, ℕ, ◌+◌, true, List, [], ◌∷◌, Option, None, refl, ap, ◌∙◌, subst}
+use Rattle.cf_audit.specs.Line.{Begun}
+use Rattle.cf_lane.specs.Handled.{MayHaveAdded, WritesLog}
+use Rattle.cf_leg.specs.Calls.{Greeted, GreetingBreaks, SpeakingBreaks, greeting_as}
+use Rattle.cf_leg.specs.Emits.{IsGreeting, syn}
+use Rattle.cf_leg.specs.Emitted.{BreaksOff, with_segments}
+use Rattle.cf_leg.specs.Event.{Greeting, begun}
+use Rattle.cf_leg.specs.LegValue.{LegValue, marks}
+use Rattle.cf_leg.specs.declared.Ends.{Ends}
+use Rattle.cf_leg.specs.declared.Role.TheVariants as role
+use Rattle.cf_outq.specs.SendQueue.{IsQueueOf, Queue}
+use Rattle.cf_outside.specs.Desk.{DeskValue, SentValue}
+use Rattle.cf_packet.specs.Packet.{PacketValue}
+use Rattle.cf_stream.specs.Stream.{no_letters}
+use Rattle.cf_session.proofs.Amid.{amid_after, amid_before, amid_lines, amid_sent}
+use Rattle.cf_session.proofs.Beginning.{EventsBegin, first_event}
+use Rattle.cf_session.specs.Broken.{BreaksBeginning, KeepsParts}
+use Rattle.cf_session.specs.Event.{IsBeginning}
+use Rattle.cf_session.specs.Parts.{IsLegBetween}
+use Rattle.cf_session.specs.Sent.{at, line}
+use Rattle.cf_session.specs.Session.{Flow, SessionEvent, controller_ends}
+use Rattle.cf_session.specs.Told.{told, with_both}
+use Rattle.cf_session.specs.Work.{no_work}
+
+-- the SYN failed
+pub greeting_amid : (begin : EventsBegin) (ends : Ends) (number tick : ℕ) (leg : LegValue) (q : Queue) (old new : DeskValue) → ends.role ≡ role.Active number → IsLegBetween ends leg q [] →
+    GreetingBreaks (tick + 1) number leg old new → BreaksOff (tick + 1) (syn ends number ∷ []) old new
+greeting_amid begin ends number tick leg q old new r s h =
+    let own = greeting_as leg.ends number leg.other leg.ends.role in
+    let right = h.right (marks q) (begun tick) [] refl (begin leg (marks q) tick [] refl s.stands) in
+    let out : own ≡ syn ends number =
+    subst (λ (n : Ends). own ≡ syn n number) s.is (subst (λ r. IsGreeting leg.ends r own) (ap (λ (n : Ends). n.role) s.is ∙ r) right.came.0) in
+    subst (λ p. BreaksOff (tick + 1) (p ∷ []) old new) out h.breaks
+
+-- the SYN went out
+pub greeted_syn : (begin : EventsBegin) (ends : Ends) (number tick : ℕ) (leg next : LegValue) (q : Queue) (b a : Option (List SentValue)) → ends.role ≡ role.Active number → IsLegBetween ends leg q [] →
+    next.ends ≡ leg.ends → Greeted (tick + 1) leg next b a → a ≡ with_segments b (tick + 1) (syn ends number ∷ [])
+greeted_syn begin ends number tick leg next q b a r s same g =
+    let first = g.stands (marks q) (begun tick) [] refl (begin leg (marks q) tick [] refl s.stands) in
+    let greeting = subst (λ (n : Ends). IsGreeting n n.role g.out) (same ∙ s.is) first.of_right.0.came.0 in
+    let out : g.out ≡ syn ends number = subst (λ r. IsGreeting ends r g.out) r greeting in
+    g.packets ∙ ap (λ p. with_segments b (tick + 1) (p ∷ [])) out
+
+-- the speech, which says nothing, did not fail amid a packet
+pub speech_amid : (begin : EventsBegin) (ends : Ends) (tick : ℕ) (leg next : LegValue) (q : Queue) (b a : Option (List SentValue)) (mid new : DeskValue) → IsLegBetween ends leg q [] → IsQueueOf q no_letters →
+    Greeted (tick + 1) leg next b a → SpeakingBreaks true (tick + 1) next q mid new → BreaksOff (tick + 1) [] mid new
+speech_amid begin ends tick leg next q b a mid new s queue g h =
+    let first = g.stands (marks q) (begun tick) [] refl (begin leg (marks q) tick [] refl s.stands) in
+    let x = h (record (begun tick) { came = Greeting g.out }) [] no_letters refl first queue in
+    let none : x.outs ≡ [] = x.right.ending in
+    subst (λ ps. BreaksOff (tick + 1) ps mid new) none x.breaks
+
+module _ (f : Flow) (tick : ℕ) where
+  abbrev the_first : SessionEvent
+  the_first = record { controller = first_event (controller_ends f) f.syn.seq tick; client = begun tick; fed = []; work = no_work; cut = None }
+
+  is_first : IsBeginning f tick the_first
+  is_first = record {
+    right = record {
+      controller = record { over = refl; fired = refl; came = (refl, refl); ending = refl };
+      client = record { over = refl; fired = refl; came = tt; ending = tt };
+    };
+    controller = refl;
+    client = refl;
+    fed = refl;
+    work = refl;
+    cut = refl;
+  }
+
+  abbrev syns : List PacketValue
+  syns = syn (controller_ends f) f.syn.seq ∷ []
+
+  abbrev begun_line : List (List ℕ)
+  begun_line = line f (tick + 1) Begun ∷ []
+
+  module _ (old mid new : DeskValue) where
+    pub syn_failed : BreaksOff (tick + 1) syns old new → new.lines ≡ old.lines → new.line_part ≡ old.line_part → BreaksBeginning f tick old new
+    syn_failed h lines part = record {
+      event = the_first;
+      is_beginning = is_first;
+      amid = amid_before (at (tick + 1) syns) [] [] begun_line old new (amid_sent (tick + 1) syns old new h lines part);
+    }
+
+    module _ (sent : told mid ≡ with_both (told old) (at (tick + 1) syns) []) (parts : KeepsParts old mid) (octets : mid.octets ≡ old.octets) where
+      pub speech_failed : BreaksOff (tick + 1) [] mid new → new.lines ≡ mid.lines → new.line_part ≡ mid.line_part → BreaksBeginning f tick old new
+      speech_failed h lines part = record {
+        event = the_first;
+        is_beginning = is_first;
+        amid = amid_before (at (tick + 1) syns) [] [] begun_line old new (amid_after (at (tick + 1) syns) [] [] [] old mid new sent parts octets (amid_sent (tick + 1) [] mid new h lines part));
+      }
+
+      pub line_failed : MayHaveAdded begun_line mid new → WritesLog mid new → BreaksBeginning f tick old new
+      line_failed h log = record {
+        event = the_first;
+        is_beginning = is_first;
+        amid = amid_after (at (tick + 1) syns) [] [] begun_line old mid new sent parts octets (amid_lines begun_line mid new h log);
+      }

@@ -1,0 +1,6 @@
+mod Begun
+mod Lengths
+mod Meaning
+mod Members
+mod Records
+mod SoFar

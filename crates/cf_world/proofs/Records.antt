@@ -1,0 +1,113 @@
+-- The octets of records that are made are a capture.
+use Rattle.std.proofs.Common.{◌≡◌, ℕ, ◌+◌, ◌*◌, ◌^◌, ◌<◌, ◌≤◌, max, nat_lt, true, false, Ok, List, [], ◌∷◌, ◌++◌, length, take, drop, refl, sym, ap, ◌∙◌, subst, arith, append_assoc}
+use Rattle.std.specs.List.{AllByRecursion, flat_map}
+use Rattle.std.proofs.lemmas.Grind.{flat_map-append}
+use Rattle.std.proofs.lemmas.List.{append-nil, length-append}
+use Rattle.std.proofs.lemmas.List.Concat.{flat_map-cons}
+use Rattle.std.proofs.Math.Seq.{take-append_seam, drop-append_seam}
+use Rattle.std.proofs.lemmas.Bool.Decides.{nat_tests}
+use Rattle.cf_pcap.specs.Capture.{AreTimed, AtPlace, FileEnd, Fits, LastPlace, at_place, at_place_by, first_moment, moment_from, moment_limit, timed}
+use Rattle.cf_pcap.specs.Header.{header_of, output_header, output_octets}
+use Rattle.cf_pcap.specs.Record.{Record, Whole, record_of}
+use Rattle.cf_pcap.proofs.Capture.{at_near_place}
+use Rattle.cf_world.specs.Capture.{AreApart, HasPacket, IsCaptureOf}
+use Rattle.cf_world.specs.Making.{AreMade, IsMade, least_after, record_octets, records_octets}
+
+-- one more record behind the others
+pub made_more : (least : ℕ) (rs : List Record) (r : Record) → AreMade least rs → least_after least rs ≤ r.stamp → IsMade r → AreMade least (rs ++ r ∷ [])
+made_more least [] r made later is = (later, is, tt)
+made_more least (q ∷ rs) r (a, b, made) later is = (a, b, made_more (q.stamp + 2000) rs r made later is)
+
+pub after_more : (least : ℕ) (rs : List Record) (r : Record) → least_after least (rs ++ r ∷ []) ≡ r.stamp + 2000
+after_more least [] r = refl
+after_more least (q ∷ rs) r = after_more (q.stamp + 2000) rs r
+
+pub octets_more : (rs : List Record) (r : Record) → records_octets (rs ++ r ∷ []) ≡ records_octets rs ++ record_octets r
+octets_more rs r =
+    let one : flat_map record_octets (r ∷ []) ≡ record_octets r = flat_map-cons record_octets r [] ∙ append-nil (record_octets r) in
+    flat_map-append record_octets rs (r ∷ []) ∙ ap (λ xs. records_octets rs ++ xs) one
+
+-- a smaller least stamp
+made_earlier : (least less : ℕ) (rs : List Record) → less ≤ least → AreMade least rs → AreMade less rs
+made_earlier least less [] below made = tt
+made_earlier least less (r ∷ rs) below (a, b, made) = (omega (arith, a), b, made)
+
+record_long : (r : Record) → length (record_octets r) ≡ 16 + length r.body
+record_long r = omega arith
+
+octets_first : (r : Record) (rs : List Record) → records_octets (r ∷ rs) ≡ record_octets r ++ records_octets rs
+octets_first r rs = flat_map-cons record_octets r rs
+
+pub octets_short : (least : ℕ) (rs : List Record) → AreMade least rs → length (records_octets rs) ≤ 1516 * length rs
+octets_short least [] made = omega arith
+octets_short least (r ∷ rs) (a, b, made) =
+    let all : length (records_octets (r ∷ rs)) ≡ length (record_octets r) + length (records_octets rs) =
+    ap length (octets_first r rs) ∙ length-append (record_octets r) (records_octets rs) in
+    omega (arith, all, record_long r, b.short, octets_short (r.stamp + 2000) rs made)
+
+-- what stands at the place of the first of them
+fits_here : (place : ℕ) (r : Record) (rest : List ℕ) → IsMade r → place + length (record_octets r ++ rest) ≤ 2 ^ 40 →
+    at_place output_header place (record_octets r ++ rest) ≡ Fits r (16 + length r.body)
+fits_here place r rest is near =
+    let long : length (record_octets r ++ rest) ≡ 16 + length r.body + length rest = length-append (record_octets r) rest ∙ ap (λ n. n + length rest) (record_long r) in
+    at_near_place output_header (record_octets r ++ rest) place (omega (arith, long)) near ∙ ap at_place_by (is.again rest)
+
+timed_here : (least place : ℕ) (r : Record) (rest : List ℕ) → least ≤ r.stamp → IsMade r → place + length (record_octets r ++ rest) ≤ 2 ^ 40 →
+    timed least (at_place output_header place (record_octets r ++ rest)) ≡ Fits r (16 + length r.body)
+timed_here least place r rest later is near =
+    let below : nat_lt (moment_from least r) moment_limit ≡ true = grind (arith, nat_tests, is.below) in
+    rw (fits_here place r rest is near, below) refl
+
+pub are_timed : (least place : ℕ) (rs : List Record) → AreMade least rs → place + length (records_octets rs) ≤ 2 ^ 40 →
+    AreTimed output_header least place (records_octets rs) rs (record { place = place + length (records_octets rs); found = FileEnd })
+are_timed least place [] made near = (omega arith, refl, tt)
+are_timed least place (r ∷ rs) (a, b, made) near =
+    let rest = records_octets rs in
+    let first = octets_first r rs in
+    let used : length (record_octets r) ≡ 16 + length r.body = record_long r in
+    let all : length (records_octets (r ∷ rs)) ≡ 16 + length r.body + length rest =
+    ap length first ∙ length-append (record_octets r) rest ∙ ap (λ n. n + length rest) used in
+    let here : timed least (at_place output_header place (records_octets (r ∷ rs))) ≡ Fits r (16 + length r.body) =
+    subst (λ xs. timed least (at_place output_header place xs) ≡ Fits r (16 + length r.body)) (sym first)
+    (timed_here least place r rest a b (omega (arith, near, all, ap length first))) in
+    let behind : drop (16 + length r.body) (records_octets (r ∷ rs)) ≡ rest =
+    ap (λ xs. drop (16 + length r.body) xs) first ∙ ap (λ n. drop n (record_octets r ++ rest)) (sym used) ∙ drop-append_seam (record_octets r) rest in
+    let same : place + (16 + length r.body) + length rest ≡ place + length (records_octets (r ∷ rs)) = omega (arith, all) in
+    let moment : moment_from least r ≡ r.stamp = omega (arith, a) in
+    let later = made_earlier (r.stamp + 2000) (moment_from least r + 2) rs (omega (arith, moment)) made in
+    let more = are_timed (moment_from least r + 2) (place + (16 + length r.body)) rs later (omega (arith, near, same)) in
+    let there = subst (λ n. AreTimed output_header (moment_from least r + 2) (place + (16 + length r.body)) rest rs (record { place = n; found = FileEnd })) same more in (
+      16 + length r.body,
+      here,
+      subst (λ xs. AreTimed output_header (moment_from least r + 2) (place + (16 + length r.body)) xs rs
+          (record { place = place + length (records_octets (r ∷ rs)); found = FileEnd })) (sym behind) there,
+    )
+
+are_packets : (least : ℕ) (rs : List Record) → AreMade least rs → AllByRecursion HasPacket rs
+are_packets least [] made = tt
+are_packets least (r ∷ rs) (a, b, made) = (b.packet, are_packets (r.stamp + 2000) rs made)
+
+are_apart : (least : ℕ) (rs : List Record) → AreMade least rs → AreApart least rs
+are_apart least [] made = tt
+are_apart least (r ∷ rs) (a, b, made) = (a, are_apart (r.stamp + 2000) rs made)
+
+-- the header and the octets of records that are made, of which there are not too many
+
+header_read : (xs : List ℕ) → header_of (output_octets ++ xs) ≡ Ok output_header
+header_read xs =
+    let long : nat_lt (length (output_octets ++ xs)) 24 ≡ false = grind (arith, nat_tests) in
+    rw long refl
+
+pub is_capture : (rs : List Record) → AreMade first_moment rs → length rs ≤ 1000000 → IsCaptureOf rs (output_octets ++ records_octets rs)
+is_capture rs made few =
+    let xs = records_octets rs in
+    let behind : drop 24 (output_octets ++ xs) ≡ xs = drop-append_seam output_octets xs in
+    let size : 24 + length xs ≡ length (output_octets ++ xs) = sym (length-append output_octets xs) in
+    let timed = are_timed first_moment 24 rs made (omega (arith, octets_short first_moment rs made)) in
+    record {
+      header = take-append_seam output_octets xs;
+      read = header_read xs;
+      timed = rw behind (subst (λ n. AreTimed output_header first_moment 24 xs rs (record { place = n; found = FileEnd })) size timed);
+      packets = are_packets first_moment rs made;
+      apart = are_apart first_moment rs made;
+    }

@@ -1,0 +1,44 @@
+-- The capture of a world: IsCaptureOf says of which records its octets are, and BeginsEach that each session begins in them.
+-- draft-ietf-opsawg-pcap; the settings are this project's own.
+use Rattle.std.specs.Prelude.{◌≡◌, ◌≤◌, ◌<◌, ℕ, ◌+◌, List, [], ◌∷◌, Ok, true, length, take, drop}
+use Rattle.std.specs.List.{AllByRecursion, Contains}
+use Rattle.cf_packet.specs.Packet.{PacketValue, read_record}
+use Rattle.cf_pcap.specs.Capture.{AreTimed, FileEnd, first_moment}
+use Rattle.cf_pcap.specs.Header.{header_of, output_header, output_octets}
+use Rattle.cf_pcap.specs.Record.{Record}
+use Rattle.cf_run.specs.Table.{is_opening}
+use Rattle.cf_world.specs.Flows.{client_endpoint, controller_endpoint}
+
+-- the octets of a record are this packet
+abbrev pub Has : Record → PacketValue → Type 0
+Has r packet = read_record output_header.link r.body ≡ Ok packet
+
+-- they are a packet
+abbrev pub HasPacket : Record → Type 0
+HasPacket r = (packet : PacketValue) × Has r packet
+
+-- the first record's stamp is at least so much, and that of each other one at least 2 milliseconds later than the one before
+abbrev pub AreApart : (least : ℕ) → List Record → Type 0
+AreApart least [] = Unit {0}
+AreApart least (r ∷ rs) = (least ≤ r.stamp) × AreApart (r.stamp + 2000) rs
+
+-- a capture file of these records alone: its header is the one that is written, each record is allowed and has its moment, each
+-- is a packet, and the file ends behind the last one
+pub record IsCaptureOf (records : List Record) (octets : List ℕ) : Type 0 where
+  pub header : take 24 octets ≡ output_octets
+  pub read : header_of octets ≡ Ok output_header
+  pub timed : AreTimed output_header first_moment 24 (drop 24 octets) records (record { place = length octets; found = FileEnd })
+  pub packets : AllByRecursion HasPacket records
+  pub apart : AreApart first_moment records
+
+-- a record is a SYN with which a session may begin: from its client to its controller, without ACK, RST and FIN
+pub record IsSyn (session : ℕ) (r : Record) : Type 0 where
+  pub packet : PacketValue
+  pub has : Has r packet
+  pub opening : is_opening packet ≡ true
+  pub source : packet.source ≡ client_endpoint session
+  pub dest : packet.dest ≡ controller_endpoint session
+
+-- each of so many sessions has one among the records
+abbrev pub BeginsEach : (sessions : ℕ) → List Record → Type 0
+BeginsEach sessions records = (session : ℕ) → session < sessions → (r : Record) × Contains records r × IsSyn session r

@@ -1,0 +1,20 @@
+-- What the hosts tell as a desk: nothing. silent_desk. This project's own.
+use Rattle.std.specs.Prelude.{true, [], None}
+use Rattle.cf_outside.specs.Desk.{DeskValue}
+use Rattle.cf_outside.specs.Files.{untold}
+
+-- no packets, no lines, and no call that fails
+abbrev pub silent_desk : DeskValue
+silent_desk = record {
+  packets = None;
+  lines = None;
+  packet_part = [];
+  line_part = [];
+  octets = λ sent. [];
+  whole = true;
+  faults = 0;
+  lender = None;
+  reads = 0;
+  names = [];
+  content = λ name. untold;
+}

@@ -1,0 +1,81 @@
+//! The hosts that speak Modbus: a master that writes single registers, and a device that echoes.
+
+use crate::commands::{Commands, point_of};
+use crate::message::{Message, message};
+use crate::speaker::Reaction;
+use arrayvec::ArrayVec;
+use cf_modbus::{Adu, next_adu, write_adu};
+use cf_view::{Framed, View};
+
+/// The station of the asset.
+const STATION: u8 = 1;
+
+/// Write single register. MODBUS Application Protocol Specification V1.1b3, section 6.6.
+const WRITE_REGISTER: u8 = 6;
+
+/// Sends its commands one after the other: command j has transaction j and writes value j.
+#[derive(Drop)]
+pub(crate) struct ModbusMaster {
+    commands: Commands,
+}
+
+impl ModbusMaster {
+    /// A master that has sent nothing.
+    pub(crate) fn new() -> Self {
+        ModbusMaster {
+            commands: Commands::new(),
+        }
+    }
+
+    /// The first command.
+    pub(crate) fn greet(&mut self) -> Option<Message> {
+        Some(write_register(self.commands.next()?))
+    }
+
+    /// The next command behind an answer.
+    pub(crate) fn hear(&mut self, heard: &[u8]) -> Reaction {
+        let used = match next_adu(View::one(heard)) {
+            Framed::Unit { used, .. } => used,
+            Framed::More => return Reaction::Waits,
+            Framed::Broken(_) => return Reaction::Passes { used: heard.len() },
+        };
+        match self.commands.next() {
+            Some(number) => Reaction::Says {
+                used,
+                message: write_register(number),
+            },
+            None => Reaction::Closes { used },
+        }
+    }
+}
+
+/// The command of a number.
+fn write_register(number: u8) -> Message {
+    let pdu = [WRITE_REGISTER, 0, point_of(number), 0, number];
+    let adu = Adu {
+        transaction: u16::from(number),
+        unit: STATION,
+        pdu: View::one(&pdu),
+    };
+    let mut octets = ArrayVec::new();
+    write_adu(&adu, &mut octets);
+    message(&octets)
+}
+
+/// Echoes each ADU.
+#[derive(Drop)]
+pub(crate) struct ModbusDevice;
+
+impl ModbusDevice {
+    /// The same ADU.
+    pub(crate) fn hear(&mut self, heard: &[u8]) -> Reaction {
+        match next_adu(View::one(heard)) {
+            Framed::Unit { used, .. } => Reaction::Says {
+                used,
+                message: message(&heard[..used.min(heard.len())]),
+            },
+            Framed::More => Reaction::Waits,
+            Framed::Broken(_) => Reaction::Passes { used: heard.len() },
+        }
+    }
+}

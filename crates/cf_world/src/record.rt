@@ -1,0 +1,46 @@
+//! The records of the capture, and their file.
+ghost use Rattle.std.specs.Prelude.{◌≡◌, ◌<◌, ◌≤◌, length};
+ghost use Rattle.cf_outside.specs.Faults.{HasCause};
+ghost use Rattle.cf_outside.specs.Files.{Appends, KeepsOthers};
+ghost use Rattle.cf_pcap.specs.Capture.{moment_limit};
+ghost use Rattle.cf_world.specs.Making.{IsReadAgain, record_octets};
+
+use arrayvec::ArrayVec;
+use cf_outside::{Files, WriteAnswer};
+use cf_pcap::write_record_head;
+use cf_view::push_bytes;
+
+/// Appends the record of a packet of at most 1,500 octets, at a moment in microseconds.
+pub(crate) fn append_record<F: Files>(
+    files: &mut F,
+    name: &str,
+    moment: u64,
+    packet: &[u8],
+) -> WriteAnswer
+    requires moment { moment < moment_limit }
+    requires packet { length packet.now ≤ 1500 }
+    ensures file { Appends (record_octets (record { stamp = moment; body = packet.now }))
+        (F.content files.old name.now) (F.content files.new name.now) result }
+    ensures again { IsReadAgain (record { stamp = moment; body = packet.now }) }
+    ensures others { KeepsOthers name.now (F.content files.old) (F.content files.new) }
+    ensures cause { HasCause (F.write_faults files.old) (F.write_faults files.new) (result ≡ WriteAnswer.Failed) }
+    ensures reads { F.read_faults files.new ≡ F.read_faults files.old }
+{
+    let record = record_of(moment, packet);
+    files.append(name, &record)
+}
+
+/// The octets of the record of a packet.
+fn record_of(moment: u64, packet: &[u8]) -> ArrayVec<u8, 1516>
+    requires moment { moment < moment_limit }
+    requires packet { length packet.now ≤ 1500 }
+    ensures octets { result.items ≡ record_octets (record { stamp = moment; body = packet.now }) }
+    ensures again { IsReadAgain (record { stamp = moment; body = packet.now }) }
+{
+    let mut head = [0u8; 16];
+    write_record_head(moment, packet.len() as u32, &mut head);
+    let mut record = ArrayVec::new();
+    push_bytes(&mut record, &head);
+    push_bytes(&mut record, packet);
+    record
+}

@@ -1,0 +1,155 @@
+//! The making of a world: its policy and its capture.
+ghost use Rattle.std.specs.Prelude.{◌≡◌, ◌≢◌, ◌≤◌, IsErr, IsErrOf, OnErr, OnOk};
+ghost use Rattle.cf_outside.specs.Faults.{HasCause};
+ghost use Rattle.cf_outside.specs.Files.{IsPartly, KeepsOthers, content_after_write};
+ghost use Rattle.cf_policy.specs.Within.{AreAssetsWithin};
+ghost use Rattle.cf_run.specs.Step.{IsSoundEngine};
+ghost use Rattle.cf_world.specs.World.{KeepsOtherFiles, MakesCapture, MakesWorld, world_names_value};
+
+use crate::document::make_document;
+use crate::hosts::Hosts;
+use crate::making::make_records;
+use cf_lane::LETTER_LIMIT;
+use cf_outside::{Files, WriteAnswer, append_all};
+use cf_pcap::write_header;
+use cf_policy::Policy;
+use cf_run::Engine;
+use cf_view::{NoMemory, WriteFault};
+use std::alloc::{AllocError, Global};
+use thiserror::Error;
+
+/// How many records a capture has at most. This project's own.
+pub const RECORD_LIMIT: u32 = 1_000_000;
+
+/// The files of a world, both written. The two names differ.
+#[derive(Clone, Copy, Debug)]
+pub struct WorldNames<'a> {
+    /// The text of the policy.
+    pub policy: &'a str,
+    /// The capture.
+    pub capture: &'a str,
+}
+
+/// Why a world was not made.
+#[derive(Clone, Copy, PartialEq, Eq, Debug, Error)]
+pub enum WorldFault {
+    /// Memory ran out.
+    #[error("out of memory")]
+    NoMemory,
+    /// A creation or an append failed.
+    #[error("a creation or an append failed")]
+    Write,
+}
+
+impl From<AllocError> for WorldFault {
+    ghost use Rattle.std.specs.Prelude.{◌≡◌};
+    ghost use Rattle.cf_world.specs.declared.world.WorldFault.TheVariants.{NoMemory};
+
+    ghost from_gives = { λ _ fault. fault ≡ NoMemory };
+
+    fn from(_: AllocError) -> Self {
+        WorldFault::NoMemory
+    }
+}
+
+impl From<NoMemory> for WorldFault {
+    ghost use Rattle.std.specs.Prelude.{◌≡◌};
+    ghost use Rattle.cf_world.specs.declared.world.WorldFault.TheVariants.{NoMemory};
+
+    ghost from_gives = { λ _ fault. fault ≡ NoMemory };
+
+    fn from(_: NoMemory) -> Self {
+        WorldFault::NoMemory
+    }
+}
+
+impl From<WriteFault> for WorldFault {
+    ghost use Rattle.std.specs.Prelude.{◌≡◌};
+    ghost use Rattle.cf_world.specs.declared.world.WorldFault.TheVariants.{Write};
+
+    ghost from_gives = { λ _ fault. fault ≡ Write };
+
+    fn from(_: WriteFault) -> Self {
+        WorldFault::Write
+    }
+}
+
+/// Makes a policy of three assets, one of each protocol, and a capture of so many sessions, from 1 to 200, which hosts made
+/// against the engine under that policy. Session i, from 0, is between the client 10.1.0.(i+1), port 40,000 + i, and asset i
+/// mod 3. The same seed and number give the same two files. The policy is created first, and nothing is written behind a
+/// fault. This project's own.
+pub fn make_world<F: Files>(
+    alloc: Global,
+    seed: u64,
+    sessions: u32,
+    names: &WorldNames<'_>,
+    files: &mut F,
+) -> Result<(), WorldFault>
+    requires some { 1 ≤ sessions }
+    requires few { sessions ≤ 200 }
+    requires apart { names.now.policy.now ≢ names.now.capture.now }
+    ensures makes { MakesWorld sessions (world_names_value names.now) (F.content files.old) (F.content files.new) result }
+    ensures others { KeepsOtherFiles (world_names_value names.now) (F.content files.old) (F.content files.new) }
+    ensures write { HasCause (F.write_faults files.old) (F.write_faults files.new) (IsErrOf result WorldFault.Write) }
+    ensures reads { F.read_faults files.new ≡ F.read_faults files.old }
+{
+    let document = make_document(alloc)?;
+    let Ok(mut engine) = Engine::new(alloc, LETTER_LIMIT as i64) else {
+        return Err(WorldFault::NoMemory);
+    };
+    let mut hosts = Hosts::new(alloc, seed, sessions)?;
+    write_policy(files, names.policy, document.text.as_str())?;
+    make_capture(
+        alloc,
+        &document.policy,
+        sessions,
+        names.capture,
+        &mut engine,
+        &mut hosts,
+        files,
+    )
+}
+
+/// Creates the policy's file, and writes its text.
+fn write_policy<F: Files>(files: &mut F, name: &str, text: &str) -> Result<(), WriteFault>
+    ensures done { OnOk result (F.content files.new name.now ≡ content_after_write (F.content files.old name.now) text.now) }
+    ensures partly { OnErr result (IsPartly text.now (F.content files.old name.now) (F.content files.new name.now)) }
+    ensures others { KeepsOthers name.now (F.content files.old) (F.content files.new) }
+    ensures cause { HasCause (F.write_faults files.old) (F.write_faults files.new) (IsErr result) }
+    ensures reads { F.read_faults files.new ≡ F.read_faults files.old }
+{
+    match files.create(name) {
+        WriteAnswer::Done => append_all(files, name, text.as_bytes()),
+        WriteAnswer::Failed => Err(WriteFault),
+    }
+}
+
+/// Creates the capture's file, and writes its header and its records.
+fn make_capture<F: Files>(
+    alloc: Global,
+    policy: &Policy,
+    sessions: u32,
+    capture: &str,
+    engine: &mut Engine,
+    hosts: &mut Hosts,
+    files: &mut F,
+) -> Result<(), WorldFault>
+    requires within { AreAssetsWithin policy.now.assets }
+    requires few { sessions ≤ 200 }
+    requires sound { IsSoundEngine policy.now.assets engine.old }
+    requires first { engine.old.last ≡ 0 }
+    ensures made { MakesCapture sessions (F.content files.old capture.now) (F.content files.new capture.now) result }
+    ensures others { KeepsOthers capture.now (F.content files.old) (F.content files.new) }
+    ensures cause { HasCause (F.write_faults files.old) (F.write_faults files.new) (IsErrOf result WorldFault.Write) }
+    ensures reads { F.read_faults files.new ≡ F.read_faults files.old }
+{
+    if let WriteAnswer::Failed = files.create(capture) {
+        return Err(WorldFault::Write);
+    }
+    let mut header = [0u8; 24];
+    write_header(&mut header);
+    if let WriteAnswer::Failed = files.append(capture, &header) {
+        return Err(WorldFault::Write);
+    }
+    make_records(alloc, policy, sessions, capture, engine, hosts, files)
+}

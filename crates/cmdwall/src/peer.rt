@@ -1,0 +1,135 @@
+//! One TCP connection of a relay, and what is known of what it has and takes.
+ghost use Rattle.std.specs.Prelude.{◌≡◌, ◌≤◌, IfOk, IfSome, Ok, length};
+
+use mio::event::Event;
+use mio::unix::SourceFd;
+use mio::{Interest, Registry, Token};
+use std::io;
+use std::io::{Read, Write};
+use std::net::{OpenStream, Shutdown};
+use std::os::fd::AsRawFd;
+
+/// How often a connection that is left is read at most: what the system keeps for it is less.
+const LAST_READS: u32 = 4096;
+
+/// A connection whose reads and writes do not wait.
+#[derive(Drop)]
+pub struct Peer<S: Read + Write + OpenStream + AsRawFd + Drop> {
+    stream: S,
+    /// A read may find bytes, the end or a failure; else the system says when it will.
+    may_read: bool,
+    /// What comes has ended or failed, be it behind bytes that were not read.
+    is_ending: bool,
+    /// It was asked for bytes in this turn.
+    is_asked: bool,
+    /// What comes is waited for.
+    is_watched: bool,
+    /// It took no bytes when it was last given some.
+    is_full: bool,
+    /// The system has said that it takes bytes again.
+    takes_again: bool,
+}
+
+impl<S: Read + Write + OpenStream + AsRawFd + Drop> Peer<S> {
+    /// Over a connection that was just made, whose reads and writes it keeps from waiting. What becomes ready is reported to the
+    /// registry under the token.
+    pub fn new(stream: S, registry: &Registry, token: Token) -> io::Result<Self> {
+        stream.set_nonblocking(true)?;
+        stream.set_nodelay(true)?;
+        let both = Interest::READABLE | Interest::WRITABLE;
+        registry.register(&mut SourceFd(&stream.as_raw_fd()), token, both)?;
+        Ok(Peer {
+            stream,
+            may_read: false,
+            is_ending: false,
+            is_asked: false,
+            is_watched: false,
+            is_full: false,
+            takes_again: false,
+        })
+    }
+
+    /// Begins a turn. Where the turn before moved nothing, one that was not asked in it will not be in this one.
+    pub fn begin_turn(&mut self, moved: bool) {
+        self.is_watched = moved || self.is_asked;
+        self.is_asked = false;
+        self.takes_again = false;
+    }
+
+    /// Whether the turn can move something.
+    pub fn has_news(&self) -> bool {
+        (self.is_watched && self.may_read) || self.takes_again
+    }
+
+    /// Notes what the system says of it.
+    pub fn note(&mut self, event: &Event) {
+        self.is_ending = self.is_ending || event.is_read_closed() || event.is_error();
+        self.may_read = self.may_read || event.is_readable() || self.is_ending;
+        if self.is_full && event.is_writable() {
+            self.is_full = false;
+            self.takes_again = true;
+        }
+    }
+
+    /// Has the next read ask the system, whatever it said.
+    pub fn look_again(&mut self) {
+        self.may_read = true;
+    }
+
+    /// Reads what came; 0 at its end, nothing where none came. A read that does not fill the buffer has all that came but the
+    /// end.
+    pub fn read(&mut self, buf: &mut [u8]) -> io::Result<Option<usize>>
+        ensures { IfOk result (λ count. IfSome count (λ n. n ≤ length buf.new)) }
+    {
+        self.is_asked = true;
+        if !self.may_read {
+            return Ok(None);
+        }
+        let size = buf.len();
+        let count = unless_waiting(self.stream.read(buf))?;
+        self.may_read = match count {
+            Some(count) => count == 0 || count == size || self.is_ending,
+            None => false,
+        };
+        Ok(count)
+    }
+
+    /// Writes what it takes now; nothing where it takes none.
+    pub fn write(&mut self, bytes: &[u8]) -> io::Result<Option<usize>>
+        ensures { IfOk result (λ count. IfSome count (λ n. n ≤ length bytes.now)) }
+    {
+        let count = unless_waiting(self.stream.write(bytes))?;
+        self.is_full = count.is_none();
+        Ok(count)
+    }
+
+    /// Ends what is sent to it; it may send on.
+    pub fn close(&self) -> io::Result<()> {
+        self.stream.shutdown(Shutdown::Write)
+    }
+
+    /// Leaves it: what was sent to it gets there, which the system would drop where something that came was not read.
+    pub fn leave(&mut self) {
+        let mut rest = [0u8; 4096];
+        let _ = self.close();
+        for _ in 0..LAST_READS {
+            match self.stream.read(&mut rest) {
+                Ok(count) if count > 0 => {}
+                _ => return,
+            }
+        }
+    }
+}
+
+/// How many bytes moved, or nothing where the call would have to wait.
+fn unless_waiting(moved: io::Result<usize>) -> io::Result<Option<usize>>
+    ensures { IfOk result (λ count. IfSome count (λ n. moved ≡ Ok n)) }
+{
+    match moved {
+        Ok(count) => Ok(Some(count)),
+        Err(error) => match error.kind() {
+            io::ErrorKind::WouldBlock | io::ErrorKind::Interrupted => Ok(None),
+            _ => Err(error),
+        },
+    }
+}
