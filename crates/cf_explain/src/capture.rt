@@ -3,7 +3,7 @@ ghost use Rattle.std.specs.Prelude.{◌≤◌, ◌^◌};
 
 use cf_outside::{Files, ReadAnswer};
 use cf_pcap::{CAPTURED_LIMIT, HeaderRefusal};
-use cf_run::{NextRecord, OpenFault, RecordReader};
+use cf_run::{MOMENT_LIMIT, NextRecord, OpenFault, RecordReader};
 use std::alloc::{AllocError, Global};
 use std::fmt::Write;
 
@@ -13,12 +13,22 @@ const PCAPNG: [u8; 4] = [0x0A, 0x0D, 0x0D, 0x0A];
 /// The first octets of a file that gzip made. RFC 1952, section 2.3.1.
 const GZIP: [u8; 2] = [0x1F, 0x8B];
 
-/// Why the capture in a file is refused, or where it is cut, and what to do. It is read again, record by record. Nothing where
-/// its records end with the file, and where it cannot be read again, as a pipe.
+/// What ended the records of a capture.
+enum Last {
+    /// This stands behind them.
+    Found(NextRecord),
+    /// One comes at a moment that no capture can have.
+    TooLate,
+}
+
+/// Why the capture in a file is refused, or where it is cut, and what to do. It is read again, record by record. A command that
+/// gives each record a moment refuses one that comes too late (`has_moments`). Nothing where the records end with the file, and
+/// where it cannot be read again, as a pipe.
 pub fn capture_message<F: Files>(
     alloc: Global,
     files: &mut F,
     file: &str,
+    has_moments: bool,
 ) -> Result<Option<String>, AllocError> {
     let mut out = String::from_str(alloc, file)?;
     out.push_str(": ")?;
@@ -26,8 +36,8 @@ pub fn capture_message<F: Files>(
         Err(OpenFault::Refused(refusal)) => push_header(&mut out, refusal, files, file)?,
         Err(OpenFault::Read | OpenFault::NoMemory) => false,
         Ok(mut reader) => {
-            let (number, found) = last_record(&mut reader, files, file);
-            push_record(&mut out, number, reader.place(), found)?
+            let (number, place, last) = last_record(&mut reader, files, file, has_moments);
+            push_record(&mut out, number, place, last)?
         }
     };
     Ok(if is_told { Some(out) } else { None })
@@ -68,40 +78,60 @@ fn magic<F: Files>(files: &mut F, file: &str) -> &'static str {
     "it does not begin as a pcap file\n  'editcap -F pcap IN OUT' writes other captures as pcap"
 }
 
-/// What stands behind the whole records of a capture, and the number from 1 that a record there has.
-fn last_record<F: Files>(reader: &mut RecordReader, files: &mut F, file: &str) -> (u64, NextRecord)
+/// What ended the records of a capture, with the number from 1 that a record there has, and its place.
+fn last_record<F: Files>(
+    reader: &mut RecordReader,
+    files: &mut F,
+    file: &str,
+    has_moments: bool,
+) -> (u64, u64, Last)
     requires near { reader.old.place ≤ 2 ^ 40 }
 {
     let mut number = 1u64;
+    let mut least = 2u64;
     'records: loop {
+        let place = reader.place();
         match reader.next(files, file) {
-            NextRecord::Whole(_) => number = number.saturating_add(1),
-            found => return (number, found),
+            NextRecord::Whole(stamp) => {
+                let moment = stamp.max(least);
+                if has_moments && moment >= MOMENT_LIMIT {
+                    return (number, place, Last::TooLate);
+                }
+                least = moment.saturating_add(2);
+                number = number.saturating_add(1);
+            }
+            found => return (number, place, Last::Found(found)),
         }
     }
 }
 
 /// What is wrong with the record at a place, if something is, and whether it was told.
-fn push_record(
-    out: &mut String,
-    number: u64,
-    place: u64,
-    found: NextRecord,
-) -> Result<bool, AllocError> {
-    match found {
-        NextRecord::Whole(_) | NextRecord::End | NextRecord::Failed => return Ok(false),
-        NextRecord::Cut => write!(
+fn push_record(out: &mut String, number: u64, place: u64, last: Last) -> Result<bool, AllocError> {
+    match last {
+        Last::Found(NextRecord::Whole(_) | NextRecord::End | NextRecord::Failed) => {
+            return Ok(false);
+        }
+        Last::Found(NextRecord::Cut) => write!(
             out,
             "the file ends inside record {number}, which begins at byte {place}"
         )?,
-        NextRecord::TooLong => write!(
+        Last::Found(NextRecord::TooLong) => write!(
             out,
             "record {number}, which begins at byte {place}, has more than {CAPTURED_LIMIT} bytes"
         )?,
-        NextRecord::Large => write!(
+        Last::Found(NextRecord::Large) => write!(
             out,
             "record {number}, which begins at byte {place}, goes past the first 2^40 bytes of the file"
         )?,
+        Last::TooLate => {
+            write!(
+                out,
+                "record {number}, which begins at byte {place}, comes at a moment past 4294967295.999999, \
+                 the last that a capture can have\n  \
+                 'editcap -F pcap -t -SECONDS IN OUT' sets the moments of all records back"
+            )?;
+            return Ok(true);
+        }
     }
     if number > 1 {
         out.push_str("\n  'editcap -F pcap IN OUT' writes the records before it")?;

@@ -23,7 +23,7 @@ pub use laws::{
 };
 pub use matching::{Match, TABLE_SIZE, match_packet};
 pub use record_reader::{NextRecord, OpenFault, RecordReader};
-pub use run::{RunFault, RunNames, RunRefusal, run_capture};
+pub use run::{MOMENT_LIMIT, RunFault, RunNames, RunRefusal, run_capture};
 pub use second_half::{Outcome, receive};
 pub use summary::{Happened, Summary};
 

@@ -25,7 +25,7 @@ use std::alloc::Global;
 use thiserror::Error;
 
 /// The moment from which on no record is taken, in microseconds: 2^32 seconds. This project's own.
-const MOMENT_LIMIT: u64 = 4_294_967_296_000_000;
+pub const MOMENT_LIMIT: u64 = 4_294_967_296_000_000;
 
 /// The files of a run: the capture that is read, and the capture and the log that are written. All three names differ.
 #[derive(Clone, Copy, Debug)]

@@ -124,3 +124,10 @@ amid_lines lines old new (inr (added, none)) log = record {
   packet_part = inl log.packet_part;
   line_part = inr (0, none);
 }
+
+-- and they leave none of the packets that went before them
+pub lines_leave_none : (a : List Sent) (x lines : List (List ℕ)) (old mid new : DeskValue) (first : told mid ≡ with_both (told old) a x) (parts : KeepsParts old mid) (octets : mid.octets ≡ old.octets)
+    (h : MayHaveAdded lines mid new) (log : WritesLog mid new) → (amid_after a [] x lines old mid new first parts octets (amid_lines lines mid new h log)).left ≡ []
+unfolding amid_after amid_lines
+lines_leave_none a x lines old mid new first parts octets (inl h) log = refl
+lines_leave_none a x lines old mid new first parts octets (inr h) log = refl

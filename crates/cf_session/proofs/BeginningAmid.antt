@@ -1,5 +1,5 @@
 -- The beginning of a session, where the desk failed amid it.
-use Rattle.std.proofs.Common.{◌≡◌, ℕ, ◌+◌, true, List, [], ◌∷◌, Option, None, refl, ap, ◌∙◌, subst}
+use Rattle.std.proofs.Common.{◌≡◌, ℕ, ◌+◌, true, List, [], ◌∷◌, Option, None, refl, ap, ◌∙◌, subst, inl, inr}
 use Rattle.cf_audit.specs.Line.{Begun}
 use Rattle.cf_lane.specs.Handled.{MayHaveAdded, WritesLog}
 use Rattle.cf_leg.specs.Calls.{Greeted, GreetingBreaks, SpeakingBreaks, greeting_as}
@@ -13,9 +13,9 @@ use Rattle.cf_outq.specs.SendQueue.{IsQueueOf, Queue}
 use Rattle.cf_outside.specs.Desk.{DeskValue, SentValue}
 use Rattle.cf_packet.specs.Packet.{PacketValue}
 use Rattle.cf_stream.specs.Stream.{no_letters}
-use Rattle.cf_session.proofs.Amid.{amid_after, amid_before, amid_lines, amid_sent}
+use Rattle.cf_session.proofs.Amid.{amid_after, amid_before, amid_lines, amid_sent, lines_leave_none}
 use Rattle.cf_session.proofs.Beginning.{EventsBegin, first_event}
-use Rattle.cf_session.specs.Broken.{BreaksBeginning, KeepsParts}
+use Rattle.cf_session.specs.Broken.{BreaksBeginning, KeepsLines, KeepsParts}
 use Rattle.cf_session.specs.Event.{IsBeginning}
 use Rattle.cf_session.specs.Parts.{IsLegBetween}
 use Rattle.cf_session.specs.Sent.{at, line}
@@ -80,14 +80,16 @@ module _ (f : Flow) (tick : ℕ) where
       event = the_first;
       is_beginning = is_first;
       amid = amid_before (at (tick + 1) syns) [] [] begun_line old new (amid_sent (tick + 1) syns old new h lines part);
+      order = inr (record { lines = lines; line_part = part });
     }
 
     module _ (sent : told mid ≡ with_both (told old) (at (tick + 1) syns) []) (parts : KeepsParts old mid) (octets : mid.octets ≡ old.octets) where
-      pub speech_failed : BreaksOff (tick + 1) [] mid new → new.lines ≡ mid.lines → new.line_part ≡ mid.line_part → BreaksBeginning f tick old new
-      speech_failed h lines part = record {
+      pub speech_failed : BreaksOff (tick + 1) [] mid new → new.lines ≡ mid.lines → new.line_part ≡ mid.line_part → KeepsLines old new → BreaksBeginning f tick old new
+      speech_failed h lines part keeps = record {
         event = the_first;
         is_beginning = is_first;
         amid = amid_before (at (tick + 1) syns) [] [] begun_line old new (amid_after (at (tick + 1) syns) [] [] [] old mid new sent parts octets (amid_sent (tick + 1) [] mid new h lines part));
+        order = inr keeps;
       }
 
       pub line_failed : MayHaveAdded begun_line mid new → WritesLog mid new → BreaksBeginning f tick old new
@@ -95,4 +97,5 @@ module _ (f : Flow) (tick : ℕ) where
         event = the_first;
         is_beginning = is_first;
         amid = amid_after (at (tick + 1) syns) [] [] begun_line old mid new sent parts octets (amid_lines begun_line mid new h log);
+        order = inl (lines_leave_none (at (tick + 1) syns) [] begun_line old mid new sent parts octets h log);
       }

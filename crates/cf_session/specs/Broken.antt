@@ -37,11 +37,17 @@ pub record KeepsParts (old new : DeskValue) : Type 0 where
 
 -- ---- each call
 
--- the beginning of a session
+-- no line was written, not even in part
+pub record KeepsLines (old new : DeskValue) : Type 0 where
+  pub lines : new.lines ≡ old.lines
+  pub line_part : new.line_part ≡ old.line_part
+
+-- the beginning of a session. Of its line nothing stands where its SYN did not go out whole
 pub record BreaksBeginning (flow : Flow) (tick : ℕ) (old new : DeskValue) : Type 0 where
   pub event : SessionEvent
   pub is_beginning : IsBeginning flow tick event
   pub amid : BreaksAmid (sent_second event) (logged_second flow [] event) old new
+  pub order : (amid.left ≡ []) ⊎ KeepsLines old new
 
 -- the first half of an event
 pub record BreaksTick (flow : Flow) (earlier : List SessionEvent) (tick : ℕ) (old new : DeskValue) : Type 0 where

@@ -90,9 +90,9 @@ fn explain_command<R: FileSystem + Eprint + AllocGlobal>(
             Some(policy) => explain_policy(rt, policy, files),
             None => Ok(()),
         },
-        (6 | 7, Command::Packets { capture }) => explain_capture(rt, capture, files),
+        (6 | 7, Command::Packets { capture }) => explain_capture(rt, capture, false, files),
         (6 | 7, Command::Run { names, .. }) | (6 | 7, Command::World { names, .. }) => {
-            explain_capture(rt, names.capture, files)
+            explain_capture(rt, names.capture, true, files)
         }
         (9, _) => {
             eprintln!(rt;
@@ -236,13 +236,14 @@ fn explain_asset<R: FileSystem + Eprint + AllocGlobal>(
     eprintln!(rt; "cmdwall: {message}")
 }
 
-/// Why a capture is refused, or where it is cut.
+/// Why a capture is refused, or where it is cut. `has_moments`: the command gives each record a moment.
 fn explain_capture<R: FileSystem + Eprint + AllocGlobal>(
     rt: &R,
     name: &str,
+    has_moments: bool,
     files: &mut RealFiles<'_, R>,
 ) -> io::Result<()> {
-    match capture_message(rt.alloc(), files, name)? {
+    match capture_message(rt.alloc(), files, name, has_moments)? {
         Some(message) => eprintln!(rt; "cmdwall: {message}"),
         None => Ok(()),
     }

@@ -122,7 +122,13 @@ c: the file ends inside record 1, which begins at byte 24
 
 d4c3b2a1 02000400 0000000000000000ffff0000 01000000 0000000000000000 02000000 02000000 abcd 0000000000000000 01000400 01000400
 c: record 2, which begins at byte 42, has more than 262144 bytes
-  'editcap -F pcap IN OUT' writes the records before it"#;
+  'editcap -F pcap IN OUT' writes the records before it
+
+d4c3b2a1 02000400 0000000000000000ffff0000 01000000 ffffffff3f420f00 02000000 02000000 abcd
+
+d4c3b2a1 02000400 0000000000000000ffff0000 01000000 ffffffff3f420f00 02000000 02000000 abcd 0000000000000000 00000000 00000000
+c: record 2, which begins at byte 42, comes at a moment past 4294967295.999999, the last that a capture can have
+  'editcap -F pcap -t -SECONDS IN OUT' sets the moments of all records back"#;
 
 fn octets_of(alloc: Global, line: &str) -> Result<Vec<u8>, AllocError> {
     let mut octets = Vec::new(alloc);
@@ -151,14 +157,21 @@ fn says_why_a_capture_is_refused(rt: HostRuntime) -> Result<(), Fail> {
         let mut files = MemoryFiles::new(alloc);
         let name = String::from_str(alloc, "c")?;
         files.files.insert(name, octets_of(alloc, line)?)?;
-        match capture_message(alloc, &mut files, "c")? {
+        match capture_message(alloc, &mut files, "c", true)? {
             Some(got) => assert!(rt; got.as_str() == want, "{row}\n{got}"),
             None => assert!(rt; want == "", "{row}"),
         }
     }
+    // A command that gives the records no moments refuses none for its own.
+    let (line, _) = CAPTURES.rsplit_once("\nc: ").unwrap_or((CAPTURES, ""));
+    let (_, line) = line.rsplit_once("\n").unwrap_or(("", line));
+    let mut late = MemoryFiles::new(alloc);
+    let name = String::from_str(alloc, "c")?;
+    late.files.insert(name, octets_of(alloc, line)?)?;
+    assert!(rt; capture_message(alloc, &mut late, "c", false)?.is_none());
     // Nothing is said of a file that cannot be read again.
     let mut none = MemoryFiles::new(alloc);
-    assert!(rt; capture_message(alloc, &mut none, "c")?.is_none());
+    assert!(rt; capture_message(alloc, &mut none, "c", true)?.is_none());
     Ok(())
 }
 

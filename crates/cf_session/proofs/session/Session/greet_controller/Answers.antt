@@ -64,7 +64,8 @@ returns-in_err-speak-clause-broken g c =
     (greeted_syn begin (controller_ends f) f.syn.seq tick c.self.inside.controller c.greet.new.self c.self.inside.to_controller (DeskValue.packets d0) (DeskValue.packets d1) refl m.controller c.in_ok-greet.ensures.ends greeted) c.greet.ensures.lines in
     let h = subst (λ n. SpeakingBreaks true n c.greet.new.self c.self.inside.to_controller d1 d2) later c.in_err-speak.ensures.broken in
     speech_failed f tick d0 d1 d2 sent (record { packet_part = c.in_ok-greet.ensures.packet_part; line_part = c.greet.ensures.line_part }) c.greet.ensures.keeps.octets
-    (speech_amid begin (controller_ends f) tick c.self.inside.controller c.greet.new.self c.self.inside.to_controller _ _ d1 d2 m.controller m.controller_list greeted h) c.speak.ensures.lines c.speak.ensures.line_part)
+    (speech_amid begin (controller_ends f) tick c.self.inside.controller c.greet.new.self c.self.inside.to_controller _ _ d1 d2 m.controller m.controller_list greeted h) c.speak.ensures.lines c.speak.ensures.line_part
+    (record { lines = c.speak.ensures.lines ∙ c.greet.ensures.lines; line_part = c.speak.ensures.line_part ∙ c.greet.ensures.line_part }))
 
 pub returns-in_err-log_line-clause-broken : goal.returns-in_err-log_line-clause-broken
 returns-in_err-log_line-clause-broken g c =
