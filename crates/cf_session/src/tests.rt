@@ -5,10 +5,12 @@ ghost use Rattle.cf_session.specs.Stands.{IsSound};
 
 use crate::{Life, Session};
 use cf_audit::CutReason;
+use cf_modbus::next_adu;
 use cf_outside::MemoryDesk;
 use cf_packet::{ACK, FIN, PSH, Packet, RST, SYN};
 use cf_policy::{Action, Asset, Items, Name, Protocol, Rule, Span};
-use cf_view::{Endpoint, Side};
+use cf_rebuild::Rebuild;
+use cf_view::{Endpoint, Framed, Side};
 use std::alloc::{AllocError, Global};
 use std::process::Abort;
 use std::rt::HostRuntime;
@@ -313,5 +315,36 @@ fn limit_of_letters(rt: HostRuntime) -> Result<(), Fail> {
     assert!(rt; desk.packets.len() == 7 && session.admitted() == 2);
     assert!(rt; desk.lines.len() == 2);
     assert!(rt; desk.lines[1].as_str() == "1.040000 10.0.0.5:49152 pump cut client long\n");
+    Ok(())
+}
+
+/// A window whose base is below its edge takes bytes there, and lets go of them.
+fn moves_on(rt: &impl Abort, window: &mut Rebuild, bytes: &[u8]) {
+    let edge = window.base() + 16_384;
+    assert!(rt; window.edge() <= edge && edge <= 1 << 31 && window.pending().is_empty());
+    window.open_to(edge);
+    assert!(rt; bytes.len() <= 65_535);
+    window.offer(window.base(), bytes, false);
+    let count = window.pending().len();
+    assert_eq!(rt; count, bytes.len());
+    window.consume(count);
+}
+
+/// A write lies across the end of the window's ring, four of its octets before it: it is read out of both slices.
+#[test]
+fn reads_a_write_across_the_end_of_the_ring(rt: HostRuntime) -> Result<(), Fail> {
+    let mut window = Rebuild::new(rt.alloc())?;
+    let bytes = [7; 16_384];
+    moves_on(&rt, &mut window, &bytes);
+    moves_on(&rt, &mut window, &bytes[..16_380]);
+    assert!(rt; window.edge() <= 32_776 && window.base() == 32_764 && window.pending().is_empty());
+    window.open_to(32_776);
+    window.offer(32_764, WRITE, false);
+    let pending = window.pending();
+    assert_eq!(rt; (pending.len(), pending.split()), (12, 4));
+    match next_adu(pending) {
+        Framed::Unit { unit, used } => assert_eq!(rt; (unit.pdu.len(), used), (5, 12)),
+        _ => panic!(rt; "no unit"),
+    }
     Ok(())
 }
