@@ -1,6 +1,7 @@
 mod Begun
 mod Counting
 mod Created
+mod Due
 mod Faults
 mod FileDesks
 mod HalfFiles

@@ -1,6 +1,6 @@
 -- What the sessions in memory stand for: AreAll; and what the first half of an event does to them: TickAll. This project's own.
 use Rattle.std.specs.Prelude.{◌≡◌, ℕ, Bool, true, false, ◌+◌, ◌≤◌, List, [], ◌∷◌, ◌++◌, take, drop, count_by, slice_get, None, Some}
-use Rattle.std.specs.List.{flat_map}
+use Rattle.std.specs.List.{All, flat_map}
 use Rattle.cf_leg.specs.Event.{moment}
 use Rattle.cf_policy.specs.declared.Asset.{Asset}
 use Rattle.cf_session.specs.Parts.{SessionValue}
@@ -25,6 +25,10 @@ pub record IsSoundEntry (assets : List Asset) (limit : ℕ) (entry : Entry) : Ty
 abbrev pub AreSound : List Asset → (limit : ℕ) → List Entry → Type 0
 AreSound assets limit [] = Unit {0}
 AreSound assets limit (entry ∷ table) = IsSoundEntry assets limit entry × AreSound assets limit table
+
+-- none of these sessions is due before a moment
+abbrev pub AreDueFrom : (moment : ℕ) → List Entry → Type 0
+AreDueFrom moment table = All (λ entry. moment ≤ entry.due) table
 
 -- ---- what it stands for
 

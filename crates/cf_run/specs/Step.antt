@@ -4,7 +4,7 @@ use Rattle.cf_packet.specs.Packet.{PacketValue}
 use Rattle.cf_packet.specs.declared.packet.PacketRefusal.{PacketRefusal}
 use Rattle.cf_policy.specs.declared.Asset.{Asset}
 use Rattle.cf_session.specs.Told.{Told, with_both}
-use Rattle.cf_run.specs.Engine.{AreAll, AreSound}
+use Rattle.cf_run.specs.Engine.{AreAll, AreDueFrom, AreSound}
 use Rattle.cf_run.specs.Receiving.{AreTicked, IsOutcome}
 use Rattle.cf_run.specs.Selected.{Rises, last_moment}
 use Rattle.cf_run.specs.Summary.{found, summary_of}
@@ -42,17 +42,19 @@ pub record Steps (assets : List Asset) (limit now : ℕ) (packet : Result Packet
   pub all : AreAll assets now entries (after_received event.received (found before event))
   pub counts : IsCounted before happened event
 
--- what a contract sees of an `Engine`: the sessions in memory, how many letters a stream has at most, the moment of the last
--- event, and the counts
+-- what a contract sees of an `Engine`: the sessions in memory, a moment before which none of them is due, how many letters a
+-- stream has at most, the moment of the last event, and the counts
 pub record EngineValue : Type 0 where
   pub table : List Entry
+  pub due : ℕ
   pub limit : ℕ
   pub last : ℕ
   pub summary : Summary
 
--- whatever happened, each session can take what comes
+-- whatever happened, each session can take what comes, and is passed by only before it is due
 pub record IsSoundEngine (assets : List Asset) (engine : EngineValue) : Type 0 where
   pub sessions : AreSound assets engine.limit engine.table
+  pub due : AreDueFrom engine.due engine.table
   pub size : length engine.table ≤ 256
   pub some : 1 ≤ engine.limit
   pub limit : engine.limit ≤ 2 ^ 30

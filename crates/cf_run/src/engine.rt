@@ -7,14 +7,14 @@ ghost use Rattle.cf_packet.specs.Packet.{read_record};
 ghost use Rattle.cf_policy.specs.Within.{AreAssetsWithin};
 ghost use Rattle.cf_session.specs.Broken.{KeepsParts};
 ghost use Rattle.cf_session.specs.Told.{told};
-ghost use Rattle.cf_run.specs.Engine.{AreAll, AreSound};
+ghost use Rattle.cf_run.specs.Engine.{AreAll, AreDueFrom, AreSound};
 ghost use Rattle.cf_run.specs.Half.{ReceiveRecordBreaks, StepBreaks, StepStops};
 ghost use Rattle.cf_run.specs.Receiving.{IsSized, MayBegin};
 ghost use Rattle.cf_run.specs.Step.{EngineValue, IsEngineOf, IsSoundEngine, ReceivesRecordOne, Steps, StepsOn};
 ghost use Rattle.cf_run.specs.Table.{Session as Known};
 ghost use Rattle.cf_run.specs.Trace.{Event, table_after};
 
-use crate::entry::Entry;
+use crate::entry::Table;
 use crate::first_half::tick_all;
 use crate::matching::TABLE_SIZE;
 use crate::second_half::{Outcome, receive};
@@ -41,7 +41,7 @@ pub enum StepFault {
 /// The table of sessions, and what was counted.
 #[derive(Drop)]
 pub struct Engine {
-    table: Vec<Entry>,
+    table: Table,
     limit: u64,
     last: u64,
     summary: Summary,
@@ -52,7 +52,7 @@ impl Model for Engine {
 
     ghost Value = { EngineValue };
 
-    ghost view = { λ e. record { table = e.table.items; limit = e.limit; last = e.last; summary = e.summary } };
+    ghost view = { λ e. record { table = e.table.sessions.items; due = e.table.due; limit = e.limit; last = e.last; summary = e.summary } };
 }
 
 impl Engine {
@@ -65,11 +65,14 @@ impl Engine {
         ensures limit { IfOk result (λ engine. limit ≡ pos (EngineValue.limit engine)) }
         ensures last { IfOk result (λ engine. EngineValue.last engine ≡ 0) }
     {
-        let Ok(table) = Vec::with_capacity(alloc, TABLE_SIZE) else {
+        let Ok(sessions) = Vec::with_capacity(alloc, TABLE_SIZE) else {
             return Err(NoMemory);
         };
         Ok(Engine {
-            table,
+            table: Table {
+                sessions,
+                due: u64::MAX,
+            },
             limit: limit as u64,
             last: 0,
             summary: Summary::default(),
@@ -141,7 +144,7 @@ impl Engine {
 
 /// One event over the table.
 fn step_table<D: Desk>(
-    table: &mut Vec<Entry>,
+    table: &mut Table,
     alloc: Global,
     assets: &[Asset],
     limit: u64,
@@ -151,22 +154,24 @@ fn step_table<D: Desk>(
     desk: &mut D,
 ) -> Result<Happened, StepFault>
     requires within { AreAssetsWithin assets.now }
-    requires sound { AreSound assets.now limit table.old.items }
-    requires size { length table.old.items ≤ 256 }
+    requires sound { AreSound assets.now limit table.old.sessions.items }
+    requires due { AreDueFrom table.old.due table.old.sessions.items }
+    requires size { length table.old.sessions.items ≤ 256 }
     requires limit { (1 ≤ limit) × (limit ≤ 2 ^ 30) }
     requires moment { (2 ≤ now) × (now < 2 ^ 32 * 1000000) }
     requires whole { DeskValue.whole (D.value desk.old) ≡ true }
-    ensures steps { IfOk result (λ happened. (before : List Known) (last : ℕ) → last + 1 ≤ now → AreAll assets.now last table.old.items before →
-        (event : Event) × Steps assets.now limit now (read_record link.now bytes.now) before table.new.items
+    ensures steps { IfOk result (λ happened. (before : List Known) (last : ℕ) → last + 1 ≤ now → AreAll assets.now last table.old.sessions.items before →
+        (event : Event) × Steps assets.now limit now (read_record link.now bytes.now) before table.new.sessions.items
         (told (D.value desk.old)) (told (D.value desk.new)) happened event) }
-    ensures broken { IsErrOf result StepFault.Write → (before : List Known) (last : ℕ) → last + 1 ≤ now → AreAll assets.now last table.old.items before
+    ensures broken { IsErrOf result StepFault.Write → (before : List Known) (last : ℕ) → last + 1 ≤ now → AreAll assets.now last table.old.sessions.items before
         → StepBreaks assets.now limit before (record { moment = now; packet = read_record link.now bytes.now }) (D.value desk.old) (D.value desk.new) }
-    ensures stops { IsErrOf result StepFault.NoMemory → (before : List Known) (last : ℕ) → last + 1 ≤ now → AreAll assets.now last table.old.items before
+    ensures stops { IsErrOf result StepFault.NoMemory → (before : List Known) (last : ℕ) → last + 1 ≤ now → AreAll assets.now last table.old.sessions.items before
         → StepStops before (record { moment = now; packet = read_record link.now bytes.now }) (told (D.value desk.old)) (told (D.value desk.new)) }
     ensures stops_whole { IsErrOf result StepFault.NoMemory → DeskValue.whole (D.value desk.new) ≡ true }
     ensures parts { OnOk result (KeepsParts (D.value desk.old) (D.value desk.new)) }
-    ensures sound { OnOk result (AreSound assets.now limit table.new.items) }
-    ensures size { OnOk result (length table.new.items ≤ 256) }
+    ensures sound { OnOk result (AreSound assets.now limit table.new.sessions.items) }
+    ensures due { OnOk result (AreDueFrom table.new.due table.new.sessions.items) }
+    ensures size { OnOk result (length table.new.sessions.items ≤ 256) }
     ensures memory { IsErrOf result StepFault.NoMemory → MayBegin assets.now (read_record link.now bytes.now) }
     ensures keeps { KeepsDesk (D.value desk.old) (D.value desk.new) }
     ensures whole { OnOk result (DeskValue.whole (D.value desk.new) ≡ true) }
@@ -184,7 +189,7 @@ fn step_table<D: Desk>(
 
 /// The second half of an event, with the octets of a record.
 fn receive_record<D: Desk>(
-    table: &mut Vec<Entry>,
+    table: &mut Table,
     alloc: Global,
     assets: &[Asset],
     limit: u64,
@@ -194,19 +199,21 @@ fn receive_record<D: Desk>(
     desk: &mut D,
 ) -> Result<Outcome, StepFault>
     requires within { AreAssetsWithin assets.now }
-    requires sound { AreSound assets.now limit table.old.items }
-    requires size { length table.old.items ≤ 256 }
+    requires sound { AreSound assets.now limit table.old.sessions.items }
+    requires due { AreDueFrom table.old.due table.old.sessions.items }
+    requires size { length table.old.sessions.items ≤ 256 }
     requires limit { (1 ≤ limit) × (limit ≤ 2 ^ 30) }
     requires moment { (1 ≤ now) × (now < 2 ^ 32 * 1000000) }
     requires whole { DeskValue.whole (D.value desk.old) ≡ true }
-    ensures received { IfOk result (λ outcome. ReceivesRecordOne assets.now limit now (read_record link.now bytes.now) table.old.items table.new.items
+    ensures received { IfOk result (λ outcome. ReceivesRecordOne assets.now limit now (read_record link.now bytes.now) table.old.sessions.items table.new.sessions.items
         (told (D.value desk.old)) (told (D.value desk.new)) outcome) }
     ensures broken { IsErrOf result StepFault.Write
-        → ReceiveRecordBreaks assets.now limit now (read_record link.now bytes.now) table.old.items (D.value desk.old) (D.value desk.new) }
+        → ReceiveRecordBreaks assets.now limit now (read_record link.now bytes.now) table.old.sessions.items (D.value desk.old) (D.value desk.new) }
     ensures nothing { IsErrOf result StepFault.NoMemory → desk.new ≡ desk.old }
     ensures parts { OnOk result (KeepsParts (D.value desk.old) (D.value desk.new)) }
-    ensures sound { OnOk result (AreSound assets.now limit table.new.items) }
-    ensures size { IfOk result (λ outcome. IsSized outcome (length table.old.items) (length table.new.items)) }
+    ensures sound { OnOk result (AreSound assets.now limit table.new.sessions.items) }
+    ensures due { OnOk result (AreDueFrom table.new.due table.new.sessions.items) }
+    ensures size { IfOk result (λ outcome. IsSized outcome (length table.old.sessions.items) (length table.new.sessions.items)) }
     ensures memory { IsErrOf result StepFault.NoMemory → MayBegin assets.now (read_record link.now bytes.now) }
     ensures keeps { KeepsDesk (D.value desk.old) (D.value desk.new) }
     ensures whole { OnOk result (DeskValue.whole (D.value desk.new) ≡ true) }

@@ -18,6 +18,15 @@ pub struct Entry {
     pub due: u64,
 }
 
+/// The sessions in memory.
+#[derive(Drop)]
+pub struct Table {
+    /// The sessions, in the order of their beginning.
+    pub sessions: Vec<Entry>,
+    /// Before this moment in microseconds the first half of an event does nothing to any of them.
+    pub due: u64,
+}
+
 /// The asset at a place of a policy.
 pub(crate) fn asset_of<'a>(assets: &'a [Asset], place: usize) -> &'a Asset
     requires { place < length assets.now }

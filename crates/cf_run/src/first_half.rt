@@ -6,19 +6,19 @@ ghost use Rattle.cf_session.specs.Broken.{BreaksTick, KeepsParts};
 ghost use Rattle.cf_session.specs.Session.{Flow, SessionEvent};
 ghost use Rattle.cf_session.specs.Stands.{IsSessionOf};
 ghost use Rattle.cf_session.specs.Told.{told};
-ghost use Rattle.cf_run.specs.Engine.{AreAll, AreSound, TickAll, TickAt};
+ghost use Rattle.cf_run.specs.Engine.{AreAll, AreDueFrom, AreSound, TickAll, TickAt};
 ghost use Rattle.cf_run.specs.Entries.{cuts_by, stays_by};
 ghost use Rattle.cf_run.specs.Half.{TicksBreak};
 ghost use Rattle.cf_run.specs.Table.{Session as Known};
 ghost use Rattle.cf_run.specs.declared.entry.Entry.{Entry as KnownEntry};
 
-use crate::entry::{Entry, asset_of, cuts, stays};
+use crate::entry::{Entry, Table, asset_of, cuts, stays};
 use cf_outside::Desk;
 use cf_policy::Asset;
 use cf_session::{Life, each_session_has_a_tick, sessions_are_quiet_before_due};
 use cf_view::WriteFault;
 
-/// The clock call of the session at a place. Before the session is due it does nothing, and is not made.
+/// The clock call of the session at a place.
 fn tick_at<D: Desk>(
     table: &mut Vec<Entry>,
     place: usize,
@@ -47,50 +47,62 @@ fn tick_at<D: Desk>(
     ensures cause { HasCause (DeskValue.faults (D.value desk.old)) (DeskValue.faults (D.value desk.new)) (IsErr result) }
 {
     let entry = &mut table[place];
-    if now < entry.due {
-        sessions_are_quiet_before_due();
-        return Ok(Life::Live);
-    }
     let asset = asset_of(assets, entry.asset);
     let life = entry.session.on_clock(asset, now, desk)?;
     entry.due = entry.session.due();
     Ok(life)
 }
 
-/// The first half of an event: those that have expired and those that are cut leave the table. Answers how many were cut.
+/// The first half of an event: those that have expired and those that are cut leave the table. Answers how many were cut. Before a
+/// session is due its clock call does nothing, and is not made; before any is due the table is not looked at.
 pub fn tick_all<D: Desk>(
-    table: &mut Vec<Entry>,
+    table: &mut Table,
     assets: &[Asset],
     limit: u64,
     now: u64,
     desk: &mut D,
 ) -> Result<u64, WriteFault>
-    requires sound { AreSound assets.now limit table.old.items }
-    requires size { length table.old.items ≤ 256 }
+    requires sound { AreSound assets.now limit table.old.sessions.items }
+    requires due { AreDueFrom table.old.due table.old.sessions.items }
+    requires size { length table.old.sessions.items ≤ 256 }
     requires moment { now < 2 ^ 32 * 1000000 }
     requires whole { DeskValue.whole (D.value desk.old) ≡ true }
-    ensures ticks { IfOk result (λ cuts. (known : List Known) → AreAll assets.now now table.old.items known →
-        TickAll assets.now now known table.new.items (told (D.value desk.old)) (told (D.value desk.new)) cuts) }
-    ensures broken { OnErr result ((known : List Known) → AreAll assets.now now table.old.items known
+    ensures ticks { IfOk result (λ cuts. (known : List Known) → AreAll assets.now now table.old.sessions.items known →
+        TickAll assets.now now known table.new.sessions.items (told (D.value desk.old)) (told (D.value desk.new)) cuts) }
+    ensures broken { OnErr result ((known : List Known) → AreAll assets.now now table.old.sessions.items known
         → TicksBreak now known (D.value desk.old) (D.value desk.new)) }
     ensures parts { OnOk result (KeepsParts (D.value desk.old) (D.value desk.new)) }
-    ensures sound { OnOk result (AreSound assets.now limit table.new.items) }
-    ensures fewer { IfOk result (λ cuts. cuts + length table.new.items ≤ length table.old.items) }
+    ensures sound { OnOk result (AreSound assets.now limit table.new.sessions.items) }
+    ensures due { OnOk result (AreDueFrom table.new.due table.new.sessions.items) }
+    ensures fewer { IfOk result (λ cuts. cuts + length table.new.sessions.items ≤ length table.old.sessions.items) }
     ensures keeps { KeepsDesk (D.value desk.old) (D.value desk.new) }
     ensures whole { OnOk result (DeskValue.whole (D.value desk.new) ≡ true) }
     ensures cause { HasCause (DeskValue.faults (D.value desk.old)) (DeskValue.faults (D.value desk.new)) (IsErr result) }
 {
+    sessions_are_quiet_before_due();
+    if now < table.due {
+        return Ok(0);
+    }
     each_session_has_a_tick();
+    let mut due = u64::MAX;
     let mut count = 0;
     let mut place = 0;
-    'sessions: while place < table.len() {
-        let life = tick_at(table, place, assets, limit, now, desk)?;
-        count += cuts(&life);
-        if stays(&life) {
+    'sessions: while place < table.sessions.len() {
+        let next = table.sessions[place].due;
+        if now < next {
+            due = due.min(next);
             place += 1;
         } else {
-            table.remove(place);
+            let life = tick_at(&mut table.sessions, place, assets, limit, now, desk)?;
+            count += cuts(&life);
+            if stays(&life) {
+                due = due.min(table.sessions[place].due);
+                place += 1;
+            } else {
+                table.sessions.remove(place);
+            }
         }
     }
+    table.due = due;
     Ok(count)
 }

@@ -14,7 +14,7 @@ mod second_half;
 mod summary;
 
 pub use engine::{Engine, StepFault};
-pub use entry::Entry;
+pub use entry::{Entry, Table};
 pub use file_desk::FileDesk;
 pub use first_half::tick_all;
 pub use laws::{

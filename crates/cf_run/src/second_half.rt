@@ -7,13 +7,13 @@ ghost use Rattle.cf_policy.specs.Within.{AreAssetsWithin};
 ghost use Rattle.cf_session.specs.Broken.{BreaksBeginning, KeepsParts};
 ghost use Rattle.cf_session.specs.Session.{Flow};
 ghost use Rattle.cf_session.specs.Told.{told};
-ghost use Rattle.cf_run.specs.Engine.{AreSound};
+ghost use Rattle.cf_run.specs.Engine.{AreDueFrom, AreSound};
 ghost use Rattle.cf_run.specs.Entries.{others, without_at};
 ghost use Rattle.cf_run.specs.Half.{GoBreaks, ReceiveBreaks};
 ghost use Rattle.cf_run.specs.Receiving.{BeginsOne, GoesOne, IsSized, ReceivesOne, may_begin_one};
 
 use crate::engine::StepFault;
-use crate::entry::{Entry, asset_of, cuts, stays};
+use crate::entry::{Entry, Table, asset_of, cuts, stays};
 use crate::matching::{Match, match_packet};
 use cf_outside::Desk;
 use cf_packet::Packet;
@@ -46,7 +46,7 @@ pub enum Outcome {
 
 /// The second half of an event.
 pub fn receive<D: Desk>(
-    table: &mut Vec<Entry>,
+    table: &mut Table,
     alloc: Global,
     assets: &[Asset],
     limit: u64,
@@ -55,25 +55,27 @@ pub fn receive<D: Desk>(
     desk: &mut D,
 ) -> Result<Outcome, StepFault>
     requires within { AreAssetsWithin assets.now }
-    requires sound { AreSound assets.now limit table.old.items }
-    requires size { length table.old.items ≤ 256 }
+    requires sound { AreSound assets.now limit table.old.sessions.items }
+    requires due { AreDueFrom table.old.due table.old.sessions.items }
+    requires size { length table.old.sessions.items ≤ 256 }
     requires limit { (1 ≤ limit) × (limit ≤ 2 ^ 30) }
     requires moment { (1 ≤ now) × (now < 2 ^ 32 * 1000000) }
     requires text { length packet.now.text.now ≤ 65535 }
     requires whole { DeskValue.whole (D.value desk.old) ≡ true }
-    ensures received { IfOk result (λ outcome. ReceivesOne assets.now limit now (packet_value packet.now) table.old.items table.new.items
+    ensures received { IfOk result (λ outcome. ReceivesOne assets.now limit now (packet_value packet.now) table.old.sessions.items table.new.sessions.items
         (told (D.value desk.old)) (told (D.value desk.new)) outcome) }
-    ensures broken { IsErrOf result StepFault.Write → ReceiveBreaks assets.now limit now (packet_value packet.now) table.old.items (D.value desk.old) (D.value desk.new) }
+    ensures broken { IsErrOf result StepFault.Write → ReceiveBreaks assets.now limit now (packet_value packet.now) table.old.sessions.items (D.value desk.old) (D.value desk.new) }
     ensures nothing { IsErrOf result StepFault.NoMemory → desk.new ≡ desk.old }
     ensures parts { OnOk result (KeepsParts (D.value desk.old) (D.value desk.new)) }
-    ensures sound { OnOk result (AreSound assets.now limit table.new.items) }
-    ensures size { IfOk result (λ outcome. IsSized outcome (length table.old.items) (length table.new.items)) }
+    ensures sound { OnOk result (AreSound assets.now limit table.new.sessions.items) }
+    ensures due { OnOk result (AreDueFrom table.new.due table.new.sessions.items) }
+    ensures size { IfOk result (λ outcome. IsSized outcome (length table.old.sessions.items) (length table.new.sessions.items)) }
     ensures memory { IsErrOf result StepFault.NoMemory → may_begin_one assets.now (packet_value packet.now) ≡ true }
     ensures keeps { KeepsDesk (D.value desk.old) (D.value desk.new) }
     ensures whole { OnOk result (DeskValue.whole (D.value desk.new) ≡ true) }
     ensures cause { HasCause (DeskValue.faults (D.value desk.old)) (DeskValue.faults (D.value desk.new)) (IsErrOf result StepFault.Write) }
 {
-    match match_packet(table, assets, packet) {
+    match match_packet(&table.sessions, assets, packet) {
         Match::Begins { asset, closed } => {
             match begin(
                 table, alloc, assets, asset, closed, limit, now, packet, desk,
@@ -95,7 +97,7 @@ pub fn receive<D: Desk>(
 
 /// A session begins with the asset at a place, and stands last; the closed one of its flow leaves the table.
 fn begin<D: Desk>(
-    table: &mut Vec<Entry>,
+    table: &mut Table,
     alloc: Global,
     assets: &[Asset],
     asset: usize,
@@ -106,27 +108,29 @@ fn begin<D: Desk>(
     desk: &mut D,
 ) -> Result<(), StepFault>
     requires within { AreAssetsWithin assets.now }
-    requires sound { AreSound assets.now limit table.old.items }
+    requires sound { AreSound assets.now limit table.old.sessions.items }
+    requires due { AreDueFrom table.old.due table.old.sessions.items }
     requires inside { asset < length assets.now }
-    requires closed { IfSome closed (λ place. place < length table.old.items) }
-    requires room { others (length table.old.items) closed < 256 }
+    requires closed { IfSome closed (λ place. place < length table.old.sessions.items) }
+    requires room { others (length table.old.sessions.items) closed < 256 }
     requires limit { (1 ≤ limit) × (limit ≤ 2 ^ 30) }
     requires moment { (1 ≤ now) × (now < 2 ^ 32 * 1000000) }
     requires whole { DeskValue.whole (D.value desk.old) ≡ true }
-    ensures begins { OnOk result (BeginsOne assets.now now asset closed (packet_value packet.now) table.old.items table.new.items
+    ensures begins { OnOk result (BeginsOne assets.now now asset closed (packet_value packet.now) table.old.sessions.items table.new.sessions.items
         (told (D.value desk.old)) (told (D.value desk.new))) }
     ensures broken { IsErrOf result StepFault.Write → (flow : Flow) → slice_get assets.now asset ≡ Some flow.asset
         → flow.syn ≡ packet_value packet.now → BreaksBeginning flow (now - 1) (D.value desk.old) (D.value desk.new) }
     ensures nothing { IsErrOf result StepFault.NoMemory → desk.new ≡ desk.old }
     ensures parts { OnOk result (KeepsParts (D.value desk.old) (D.value desk.new)) }
-    ensures sound { OnOk result (AreSound assets.now limit table.new.items) }
-    ensures size { OnOk result ((length table.new.items ≤ length table.old.items + 1) × (length table.new.items ≤ 256)) }
+    ensures sound { OnOk result (AreSound assets.now limit table.new.sessions.items) }
+    ensures due { OnOk result (AreDueFrom table.new.due table.new.sessions.items) }
+    ensures size { OnOk result ((length table.new.sessions.items ≤ length table.old.sessions.items + 1) × (length table.new.sessions.items ≤ 256)) }
     ensures keeps { KeepsDesk (D.value desk.old) (D.value desk.new) }
     ensures whole { OnOk result (DeskValue.whole (D.value desk.new) ≡ true) }
     ensures cause { HasCause (DeskValue.faults (D.value desk.old)) (DeskValue.faults (D.value desk.new)) (IsErrOf result StepFault.Write) }
 {
-    make_way(table, closed);
-    make_room(table)?;
+    make_way(&mut table.sessions, closed);
+    make_room(&mut table.sessions)?;
     let served = asset_of(assets, asset);
     let session = match Session::begin(alloc, served, now, signed(limit), packet, desk) {
         Ok(session) => session,
@@ -135,6 +139,7 @@ fn begin<D: Desk>(
     };
     let due = session.due();
     if table
+        .sessions
         .push(Entry {
             session,
             asset,
@@ -144,6 +149,7 @@ fn begin<D: Desk>(
     {
         return Err(StepFault::NoMemory);
     }
+    table.due = table.due.min(due);
     Ok(())
 }
 
@@ -179,7 +185,7 @@ fn make_way(table: &mut Vec<Entry>, closed: Option<usize>)
 
 /// The event of the session at a place goes on with a packet from a side; a session that is cut leaves the table.
 fn go_on<D: Desk>(
-    table: &mut Vec<Entry>,
+    table: &mut Table,
     assets: &[Asset],
     place: usize,
     side: Side,
@@ -188,23 +194,25 @@ fn go_on<D: Desk>(
     packet: &Packet<'_>,
     desk: &mut D,
 ) -> Result<Outcome, StepFault>
-    requires sound { AreSound assets.now limit table.old.items }
-    requires inside { place < length table.old.items }
+    requires sound { AreSound assets.now limit table.old.sessions.items }
+    requires due { AreDueFrom table.old.due table.old.sessions.items }
+    requires inside { place < length table.old.sessions.items }
     requires moment { (1 ≤ now) × (now < 2 ^ 32 * 1000000) }
     requires text { length packet.now.text.now ≤ 65535 }
     requires whole { DeskValue.whole (D.value desk.old) ≡ true }
-    ensures goes { IfOk result (λ outcome. GoesOne assets.now limit now place side (packet_value packet.now) table.old.items table.new.items
+    ensures goes { IfOk result (λ outcome. GoesOne assets.now limit now place side (packet_value packet.now) table.old.sessions.items table.new.sessions.items
         (told (D.value desk.old)) (told (D.value desk.new)) outcome) }
-    ensures broken { IsErrOf result StepFault.Write → GoBreaks assets.now limit now place side (packet_value packet.now) table.old.items (D.value desk.old) (D.value desk.new) }
+    ensures broken { IsErrOf result StepFault.Write → GoBreaks assets.now limit now place side (packet_value packet.now) table.old.sessions.items (D.value desk.old) (D.value desk.new) }
     ensures parts { OnOk result (KeepsParts (D.value desk.old) (D.value desk.new)) }
-    ensures sound { OnOk result (AreSound assets.now limit table.new.items) }
-    ensures size { IfOk result (λ outcome. IsSized outcome (length table.old.items) (length table.new.items)) }
+    ensures sound { OnOk result (AreSound assets.now limit table.new.sessions.items) }
+    ensures due { OnOk result (AreDueFrom table.new.due table.new.sessions.items) }
+    ensures size { IfOk result (λ outcome. IsSized outcome (length table.old.sessions.items) (length table.new.sessions.items)) }
     ensures memory { IsErrOf result StepFault.NoMemory → ⊥ }
     ensures keeps { KeepsDesk (D.value desk.old) (D.value desk.new) }
     ensures whole { OnOk result (DeskValue.whole (D.value desk.new) ≡ true) }
     ensures cause { HasCause (DeskValue.faults (D.value desk.old)) (DeskValue.faults (D.value desk.new)) (IsErrOf result StepFault.Write) }
 {
-    let entry = &mut table[place];
+    let entry = &mut table.sessions[place];
     let asset = asset_of(assets, entry.asset);
     let admitted = entry.session.admitted();
     let refused = entry.session.refused();
@@ -217,9 +225,11 @@ fn go_on<D: Desk>(
         refused: entry.session.refused().saturating_sub(refused),
         cuts: cuts(&life),
     };
-    entry.due = entry.session.due();
+    let due = entry.session.due();
+    entry.due = due;
+    table.due = table.due.min(due);
     if !stays(&life) {
-        table.remove(place);
+        table.sessions.remove(place);
     }
     Ok(outcome)
 }

@@ -3,8 +3,8 @@ ghost use Rattle.std.specs.Prelude.{◌≡◌, ◌∷◌, [], IfOk};
 ghost use Rattle.cf_policy.specs.Within.{AreAssetsWithin, IsAssetWithin};
 
 use crate::{
-    Engine, Entry, NextRecord, OpenFault, Outcome, RecordReader, RunFault, RunNames, RunRefusal,
-    Summary, receive, run_capture,
+    Engine, NextRecord, OpenFault, Outcome, RecordReader, RunFault, RunNames, RunRefusal, Summary,
+    Table, receive, run_capture,
 };
 use cf_outside::{MemoryDesk, MemoryFiles};
 use cf_packet::{Packet, SYN};
@@ -153,7 +153,10 @@ fn records_one_after_the_other(rt: HostRuntime) -> Result<(), Fail> {
 fn sessions_begin(rt: HostRuntime) -> Result<(), Fail> {
     let alloc = rt.alloc();
     let assets = [pump(alloc)?];
-    let mut table: Vec<Entry> = Vec::new(alloc);
+    let mut table = Table {
+        sessions: Vec::new(alloc),
+        due: u64::MAX,
+    };
     let mut desk = MemoryDesk::new(alloc);
     let packet = Packet {
         source: CLIENT,
@@ -176,7 +179,7 @@ fn sessions_begin(rt: HostRuntime) -> Result<(), Fail> {
         &mut desk,
     );
     assert!(rt; begun == Ok(Outcome::Begun));
-    assert!(rt; table.len() == 1 && desk.packets.len() == 1 && desk.lines.len() == 1);
+    assert!(rt; table.sessions.len() == 1 && desk.packets.len() == 1 && desk.lines.len() == 1);
     Ok(())
 }
 

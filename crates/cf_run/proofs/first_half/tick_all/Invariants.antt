@@ -1,8 +1,8 @@
-use Rattle.std.proofs.Common.{◌≡◌, ◌+◌, ◌-◌, ◌≤◌, true, length, List}
+use Rattle.std.proofs.Common.{◌≡◌, ◌+◌, ◌-◌, ◌≤◌, true, length, take, List}
 use Rattle.cf_outside.specs.Desk.{DeskValue, KeepsDesk}
 use Rattle.cf_session.specs.Broken.{KeepsParts}
 use Rattle.cf_session.specs.Told.{told}
-use Rattle.cf_run.specs.Engine.{AreAll, AreSound, TickSome}
+use Rattle.cf_run.specs.Engine.{AreAll, AreDueFrom, AreSound, TickSome}
 use Rattle.cf_run.specs.Table.{Session}
 use Rattle.cf_run.proofs.first_half.tick_all.Given as goal
 
@@ -10,15 +10,16 @@ abbrev pub invariant-sessions : goal.invariant-sessions
 invariant-sessions g l =
     let value = g.D.Desk.value in
     record {
-      inside : l.place ≤ length l.table.items;
-      sound : AreSound l.assets l.limit l.table.items;
-      fewer : l.count + length l.table.items ≤ length l.fn.table.items;
-      ticked : (known : List Session) → AreAll l.assets l.now l.fn.table.items known →
-          TickSome l.assets l.now known l.table.items l.place (told (value l.fn.desk)) (told (value l.desk)) l.count;
+      inside : l.place ≤ length l.table.sessions.items;
+      sound : AreSound l.assets l.limit l.table.sessions.items;
+      least : AreDueFrom l.due (take l.place l.table.sessions.items);
+      fewer : l.count + length l.table.sessions.items ≤ length l.fn.table.sessions.items;
+      ticked : (known : List Session) → AreAll l.assets l.now l.fn.table.sessions.items known →
+          TickSome l.assets l.now known l.table.sessions.items l.place (told (value l.fn.desk)) (told (value l.desk)) l.count;
       keeps : KeepsDesk (value l.fn.desk) (value l.desk);
       parts : KeepsParts (value l.fn.desk) (value l.desk);
       whole : DeskValue.whole (value l.desk) ≡ true;
     }
 
 abbrev pub decreases-sessions : goal.decreases-sessions
-decreases-sessions g l = length l.table.items - l.place
+decreases-sessions g l = length l.table.sessions.items - l.place

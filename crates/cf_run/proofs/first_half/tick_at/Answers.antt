@@ -1,16 +1,15 @@
-use Rattle.std.proofs.Common.{◌≡◌, ◌<◌, ◌∷◌, true, false, arith, length, sym, ap, ◌∙◌, refl, subst, Some}
+use Rattle.std.proofs.Common.{◌≡◌, ◌∷◌, length, sym, ap, ◌∙◌, refl, subst, Some}
 use Rattle.std.specs.Prelude.{slice_get, slice_set}
 use Rattle.std.proofs.lemmas.Option.{slice_get_within, slice_get_read, get_or_from_slice_get}
 use Rattle.std.proofs.lemmas.List.{get_or-set_same}
 use Rattle.cf_policy.specs.declared.Asset.{Asset}
-use Rattle.std.proofs.lemmas.Bool.Decides.{nat_tests}
-use Rattle.cf_session.specs.Stands.{IsSessionOf, IsSound, due_of}
+use Rattle.cf_session.specs.Stands.{IsSessionOf, IsSound}
 use Rattle.cf_session.specs.Told.{told}
 use Rattle.cf_run.specs.Engine.{TickAs}
 use Rattle.cf_run.specs.Entries.{cuts_by, stays_by}
 use Rattle.cf_run.specs.declared.entry.Entry.{Entry}
 use Rattle.cf_run.proofs.Soundness.{sound_at, sound_set, same_asset, sound_after, lives}
-use Rattle.cf_run.proofs.Timers.{by_life, quiet_as}
+use Rattle.cf_run.proofs.Timers.{by_life}
 use Rattle.cf_session.proofs.Amid.{on_err}
 use Rattle.cf_run.proofs.first_half.tick_at.Goals as goal
 
@@ -66,19 +65,3 @@ returns-in_err-life-clause-broken g c =
     let here : slice_get c.args.assets.now x.asset ≡ Some flow.asset = ap (λ (e : Entry). slice_get c.args.assets.now e.asset) was ∙ asset in
     let found : flow.asset ≡ c.asset_of-asset.result.now = same_asset c.args.assets.now x.asset flow.asset c.asset_of-asset.result.now here c.asset_of-asset.ensures in
     c.in_err-life.ensures.broken flow earlier event found (subst (λ (e : Entry). IsSessionOf flow earlier event e.session) (sym was) stands))
-
-pub returns-then-now-entry-clause-ticks : goal.returns-then-now-entry-clause-ticks
-returns-then-now-entry-clause-ticks g c = λ before after at_before at_after.
-    let items = c.args.table.now.items in
-    let x = c.index_mut-entry.result.now in
-    let was : x ≡ before = c.index_mut-entry.ensures.value ∙ get_or_from_slice_get items c.args.place before x at_before in
-    let is : x ≡ after = sym (get_or-set_same items c.args.place x x c.requires.inside) ∙ get_or_from_slice_get (slice_set items c.args.place x) c.args.place after x at_after in
-    let at : slice_get items c.args.place ≡ Some x = slice_get_read items (length items) c.args.place x refl c.requires.inside c.index_mut-entry.ensures.value in
-    let one = sound_at c.args.assets.now c.args.limit items c.args.place x c.requires.sound at in
-    let early : c.args.now < due_of x.session = subst (λ n. c.args.now < n) one.due_is (grind (arith, nat_tests, c.if-now-entry.true)) in (
-      ap (λ (e : Entry). e.asset) (sym is) ∙ ap (λ (e : Entry). e.asset) was,
-      λ flow earlier event stands asset.
-          subst (λ (e : Entry). TickAs flow (event ∷ earlier) c.args.now e.session (told (g.D.Desk.value c.args.desk.now)) (told (g.D.Desk.value c.args.desk.now)) true false) is
-          (quiet_as flow (event ∷ earlier) c.args.now x.session _ (c.sessions_are_quiet_before_due.ensures flow earlier event x.session c.args.now (told (g.D.Desk.value c.args.desk.now))
-          (subst (λ (e : Entry). IsSessionOf flow earlier event e.session) (sym was) stands) early)),
-    )

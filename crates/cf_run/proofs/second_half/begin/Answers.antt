@@ -11,6 +11,7 @@ use Rattle.cf_session.specs.Session.{Flow}
 use Rattle.cf_session.specs.Stands.{Begins}
 use Rattle.cf_session.specs.Told.{told}
 use Rattle.cf_run.proofs.Begun.{begun_last, within_at, sound_without, length_without}
+use Rattle.cf_run.proofs.Due.{due_more, due_without}
 use Rattle.cf_run.proofs.Soundness.{same_asset, sound_pushed}
 use Rattle.cf_session.specs.Broken.{BreaksBeginning}
 use Rattle.cf_run.proofs.second_half.begin.Goals as goal
@@ -30,7 +31,7 @@ pub returns-clause-begins : goal.returns-clause-begins
 returns-clause-begins g c = λ table flow all at syn is.
     let e : Entry = record { session = c.in-Ok.session; asset = c.args.asset; due = c.due-due.result } in
     let ok : is_ok c.push.result ≡ true = c.is_err.ensures.negation ∙ ap not c.if-is_err.false in
-    let items : c.push.new.self.items ≡ without_at c.args.table.now.items c.args.closed ++ e ∷ [] =
+    let items : c.push.new.self.items ≡ without_at c.args.table.now.sessions.items c.args.closed ++ e ∷ [] =
     c.push.ensures.items ∙ ap (λ b. cond b (c.make_room.new.table.items ++ e ∷ []) c.make_room.new.table.items) ok ∙ ap (λ xs. xs ++ e ∷ []) (c.make_room.ensures.same ∙ c.make_way.ensures) in
     let old = told (g.D.Desk.value c.args.desk.now) in
     let new = told (g.D.Desk.value c.begin.new.desk) in
@@ -40,31 +41,40 @@ returns-clause-begins g c = λ table flow all at syn is.
     ap (λ (a : Asset). let f : Flow = record { asset = a; syn = packet_value c.args.packet.now } in f) same
     ∙ ap (λ (p : PacketValue). let f : Flow = record { asset = flow.asset; syn = p } in f) (sym syn) in
     let begun : Begins flow (c.args.now - 1) c.in-Ok.session old new = subst (λ (f : Flow). Begins f (c.args.now - 1) c.in-Ok.session old new) path c.in-Ok.ensures.begins in
-    let h = begun_last c.args.assets.now c.args.now c.args.asset c.args.closed flow table c.args.table.now.items old new c.in-Ok.session c.due-due.result c.requires.moment.0 all at is begun in
+    let h = begun_last c.args.assets.now c.args.now c.args.asset c.args.closed flow table c.args.table.now.sessions.items old new c.in-Ok.session c.due-due.result c.requires.moment.0 all at is begun in
     (h.0, rw items h.1)
 
 pub returns-clause-sound : goal.returns-clause-sound
 returns-clause-sound g c =
     let e : Entry = record { session = c.in-Ok.session; asset = c.args.asset; due = c.due-due.result } in
     let ok : is_ok c.push.result ≡ true = c.is_err.ensures.negation ∙ ap not c.if-is_err.false in
-    let items : c.push.new.self.items ≡ without_at c.args.table.now.items c.args.closed ++ e ∷ [] =
+    let items : c.push.new.self.items ≡ without_at c.args.table.now.sessions.items c.args.closed ++ e ∷ [] =
     c.push.ensures.items ∙ ap (λ b. cond b (c.make_room.new.table.items ++ e ∷ []) c.make_room.new.table.items) ok ∙ ap (λ xs. xs ++ e ∷ []) (c.make_room.ensures.same ∙ c.make_way.ensures) in
     let one : IsSoundEntry c.args.assets.now c.args.limit e =
     record { asset = c.asset_of-served.result.now; at = c.asset_of-served.ensures; sound = c.in-Ok.ensures.sound; limit_is = grind (arith, c.in-Ok.ensures.limit, c.signed.ensures, c.requires.limit); due_is = c.due-due.ensures } in
-    rw items (sound_pushed c.args.assets.now c.args.limit (without_at c.args.table.now.items c.args.closed) e
-    (sound_without c.args.assets.now c.args.limit c.args.table.now.items c.args.closed c.requires.sound) one)
+    rw items (sound_pushed c.args.assets.now c.args.limit (without_at c.args.table.now.sessions.items c.args.closed) e
+    (sound_without c.args.assets.now c.args.limit c.args.table.now.sessions.items c.args.closed c.requires.sound) one)
+
+pub returns-clause-due : goal.returns-clause-due
+returns-clause-due g c =
+    let e : Entry = record { session = c.in-Ok.session; asset = c.args.asset; due = c.due-due.result } in
+    let ok : is_ok c.push.result ≡ true = c.is_err.ensures.negation ∙ ap not c.if-is_err.false in
+    let items : c.push.new.self.items ≡ without_at c.args.table.now.sessions.items c.args.closed ++ e ∷ [] =
+    c.push.ensures.items ∙ ap (λ b. cond b (c.make_room.new.table.items ++ e ∷ []) c.make_room.new.table.items) ok ∙ ap (λ xs. xs ++ e ∷ []) (c.make_room.ensures.same ∙ c.make_way.ensures) in
+    rw items (due_more c.args.table.now.due c.min-table.result (without_at c.args.table.now.sessions.items c.args.closed) e
+    (due_without c.args.table.now.due c.args.table.now.sessions.items c.args.closed c.requires.due) (omega (arith, c.min-table.ensures)) (omega (arith, c.min-table.ensures)))
 
 pub returns-clause-size : goal.returns-clause-size
 returns-clause-size g c =
     let e : Entry = record { session = c.in-Ok.session; asset = c.args.asset; due = c.due-due.result } in
     let ok : is_ok c.push.result ≡ true = c.is_err.ensures.negation ∙ ap not c.if-is_err.false in
-    let items : c.push.new.self.items ≡ without_at c.args.table.now.items c.args.closed ++ e ∷ [] =
+    let items : c.push.new.self.items ≡ without_at c.args.table.now.sessions.items c.args.closed ++ e ∷ [] =
     c.push.ensures.items ∙ ap (λ b. cond b (c.make_room.new.table.items ++ e ∷ []) c.make_room.new.table.items) ok ∙ ap (λ xs. xs ++ e ∷ []) (c.make_room.ensures.same ∙ c.make_way.ensures) in
-    let rest : length (without_at c.args.table.now.items c.args.closed) ≡ others (length c.args.table.now.items) c.args.closed =
-    length_without c.args.table.now.items c.args.closed (inside_by c.args.table.now.items c.args.closed c.requires.closed) in
-    let size : length c.push.new.self.items ≡ others (length c.args.table.now.items) c.args.closed + 1 =
-    ap length items ∙ length-append (without_at c.args.table.now.items c.args.closed) (e ∷ []) ∙ ap (λ n. n + 1) rest in
-    (omega (arith, size, fewer_others (length c.args.table.now.items) c.args.closed), omega (arith, size, c.requires.room))
+    let rest : length (without_at c.args.table.now.sessions.items c.args.closed) ≡ others (length c.args.table.now.sessions.items) c.args.closed =
+    length_without c.args.table.now.sessions.items c.args.closed (inside_by c.args.table.now.sessions.items c.args.closed c.requires.closed) in
+    let size : length c.push.new.self.items ≡ others (length c.args.table.now.sessions.items) c.args.closed + 1 =
+    ap length items ∙ length-append (without_at c.args.table.now.sessions.items c.args.closed) (e ∷ []) ∙ ap (λ n. n + 1) rest in
+    (omega (arith, size, fewer_others (length c.args.table.now.sessions.items) c.args.closed), omega (arith, size, c.requires.room))
 
 pub returns-in-Err-Write-clause-broken : goal.returns-in-Err-Write-clause-broken
 returns-in-Err-Write-clause-broken g c = λ e flow at syn.

@@ -7,8 +7,9 @@ use Rattle.cf_policy.specs.declared.Asset.{Asset}
 use Rattle.cf_packet.specs.Packet.{packet_value}
 use Rattle.cf_session.specs.Told.{told}
 use Rattle.cf_session.specs.Stands.{HearsBy, IsSound}
-use Rattle.cf_run.specs.Engine.{AreSound}
+use Rattle.cf_run.specs.Engine.{AreDueFrom, AreSound}
 use Rattle.cf_run.specs.declared.entry.Entry.{Entry}
+use Rattle.cf_run.proofs.Due.{due_removed, due_set, due_sooner}
 use Rattle.cf_run.proofs.Soundness.{sound_at, sound_set, sound_removed, same_asset, sound_after, lives}
 use Rattle.cf_run.proofs.Timers.{removed_same}
 use Rattle.cf_run.proofs.Received.{heard_as}
@@ -22,7 +23,7 @@ removed_set items place y =
 
 pub asset_of-asset-requires : goal.asset_of-asset-requires
 asset_of-asset-requires g c =
-    let items = c.args.table.now.items in
+    let items = c.args.table.now.sessions.items in
     let x = c.index_mut-entry.result.now in
     let at : slice_get items c.args.place ≡ Some x = slice_get_read items (length items) c.args.place x refl c.requires.inside c.index_mut-entry.ensures.value in
     let one = sound_at c.args.assets.now c.args.limit items c.args.place x c.requires.sound at in
@@ -30,7 +31,7 @@ asset_of-asset-requires g c =
 
 pub on_packet-requires-clause-sound : goal.on_packet-requires-clause-sound
 on_packet-requires-clause-sound g c =
-    let items = c.args.table.now.items in
+    let items = c.args.table.now.sessions.items in
     let x = c.index_mut-entry.result.now in
     let at : slice_get items c.args.place ≡ Some x = slice_get_read items (length items) c.args.place x refl c.requires.inside c.index_mut-entry.ensures.value in
     let one = sound_at c.args.assets.now c.args.limit items c.args.place x c.requires.sound at in
@@ -39,29 +40,41 @@ on_packet-requires-clause-sound g c =
 
 pub returns-else-not-stays-clause-sound : goal.returns-else-not-stays-clause-sound
 returns-else-not-stays-clause-sound g c =
-    let items = c.args.table.now.items in
+    let items = c.args.table.now.sessions.items in
     let x = c.index_mut-entry.result.now in
     let at : slice_get items c.args.place ≡ Some x = slice_get_read items (length items) c.args.place x refl c.requires.inside c.index_mut-entry.ensures.value in
     let one = sound_at c.args.assets.now c.args.limit items c.args.place x c.requires.sound at in
     sound_set c.args.assets.now c.args.limit items c.args.place _ c.requires.sound
     (sound_after c.args.assets.now c.args.limit x c.asset_of-asset.result.now c.on_packet.new.self one c.asset_of-asset.ensures
-    (c.in-Ok.ensures.sound (lives c.in-Ok.life (sym c.stays.ensures ∙ c.if-not-stays.false))) c.in-Ok.ensures.same.0 c.due-entry.result c.due-entry.ensures)
+    (c.in-Ok.ensures.sound (lives c.in-Ok.life (sym c.stays.ensures ∙ c.if-not-stays.false))) c.in-Ok.ensures.same.0 c.due-due.result c.due-due.ensures)
 
 pub returns-then-not-stays-clause-sound : goal.returns-then-not-stays-clause-sound
 returns-then-not-stays-clause-sound g c =
-    let items = c.args.table.now.items in
-    let y : Entry = record { session = c.on_packet.new.self; asset = c.index_mut-entry.result.now.asset; due = c.due-entry.result } in
+    let items = c.args.table.now.sessions.items in
+    let y : Entry = record { session = c.on_packet.new.self; asset = c.index_mut-entry.result.now.asset; due = c.due-due.result } in
     subst (AreSound c.args.assets.now c.args.limit) (sym (c.remove.ensures.items ∙ removed_set items c.args.place y))
     (sound_removed c.args.assets.now c.args.limit items c.args.place c.requires.sound)
 
+pub returns-else-not-stays-clause-due : goal.returns-else-not-stays-clause-due
+returns-else-not-stays-clause-due g c =
+    let items = c.args.table.now.sessions.items in
+    due_set c.min-table.result items c.args.place _ (due_sooner c.args.table.now.due c.min-table.result items (omega (arith, c.min-table.ensures)) c.requires.due) (omega (arith, c.min-table.ensures))
+
+pub returns-then-not-stays-clause-due : goal.returns-then-not-stays-clause-due
+returns-then-not-stays-clause-due g c =
+    let items = c.args.table.now.sessions.items in
+    let y : Entry = record { session = c.on_packet.new.self; asset = c.index_mut-entry.result.now.asset; due = c.due-due.result } in
+    subst (AreDueFrom c.min-table.result) (sym (c.remove.ensures.items ∙ removed_set items c.args.place y))
+    (due_removed c.min-table.result items c.args.place (due_sooner c.args.table.now.due c.min-table.result items (omega (arith, c.min-table.ensures)) c.requires.due))
+
 pub returns-else-not-stays-clause-goes : goal.returns-else-not-stays-clause-goes
 returns-else-not-stays-clause-goes g c = λ table ticked all.
-    let items = c.args.table.now.items in
+    let items = c.args.table.now.sessions.items in
     let x = c.index_mut-entry.result.now in
     let at : slice_get items c.args.place ≡ Some x = slice_get_read items (length items) c.args.place x refl c.requires.inside c.index_mut-entry.ensures.value in
     let one = sound_at c.args.assets.now c.args.limit items c.args.place x c.requires.sound at in
     heard_as c.args.assets.now c.args.limit c.args.now c.args.place c.args.side (packet_value c.args.packet.now) items table
-    (told (g.D.Desk.value c.args.desk.now)) (told (g.D.Desk.value c.on_packet.new.desk)) x c.on_packet.new.self c.due-entry.result c.asset_of-asset.result.now at c.asset_of-asset.ensures
+    (told (g.D.Desk.value c.args.desk.now)) (told (g.D.Desk.value c.on_packet.new.desk)) x c.on_packet.new.self c.due-due.result c.asset_of-asset.result.now at c.asset_of-asset.ensures
     all ticked c.requires.moment.0 c.admitted-admitted.result c.refused-refused.result c.admitted-admitted.ensures.counts c.refused-refused.ensures.counts
     c.in-Ok.life (λ flow earlier half served stands tick now.
     subst (λ n. HearsBy flow n earlier half c.args.side (packet_value c.args.packet.now) c.on_packet.new.self (told (g.D.Desk.value c.args.desk.now)) (told (g.D.Desk.value c.on_packet.new.desk)) c.in-Ok.life)
@@ -72,14 +85,14 @@ returns-else-not-stays-clause-goes g c = λ table ticked all.
 
 pub returns-then-not-stays-clause-goes : goal.returns-then-not-stays-clause-goes
 returns-then-not-stays-clause-goes g c = λ table ticked all.
-    let items = c.args.table.now.items in
+    let items = c.args.table.now.sessions.items in
     let x = c.index_mut-entry.result.now in
-    let y : Entry = record { session = c.on_packet.new.self; asset = x.asset; due = c.due-entry.result } in
+    let y : Entry = record { session = c.on_packet.new.self; asset = x.asset; due = c.due-due.result } in
     let at : slice_get items c.args.place ≡ Some x = slice_get_read items (length items) c.args.place x refl c.requires.inside c.index_mut-entry.ensures.value in
     let one = sound_at c.args.assets.now c.args.limit items c.args.place x c.requires.sound at in
     rw (c.remove.ensures.items, removed_set items c.args.place y)
     (heard_as c.args.assets.now c.args.limit c.args.now c.args.place c.args.side (packet_value c.args.packet.now) items table
-    (told (g.D.Desk.value c.args.desk.now)) (told (g.D.Desk.value c.on_packet.new.desk)) x c.on_packet.new.self c.due-entry.result c.asset_of-asset.result.now at c.asset_of-asset.ensures
+    (told (g.D.Desk.value c.args.desk.now)) (told (g.D.Desk.value c.on_packet.new.desk)) x c.on_packet.new.self c.due-due.result c.asset_of-asset.result.now at c.asset_of-asset.ensures
     all ticked c.requires.moment.0 c.admitted-admitted.result c.refused-refused.result c.admitted-admitted.ensures.counts c.refused-refused.ensures.counts
     c.in-Ok.life (λ flow earlier half served stands tick now.
     subst (λ n. HearsBy flow n earlier half c.args.side (packet_value c.args.packet.now) c.on_packet.new.self (told (g.D.Desk.value c.args.desk.now)) (told (g.D.Desk.value c.on_packet.new.desk)) c.in-Ok.life)
@@ -90,7 +103,7 @@ returns-then-not-stays-clause-goes g c = λ table ticked all.
 
 pub returns-in-Err-clause-broken : goal.returns-in-Err-clause-broken
 returns-in-Err-clause-broken g c = λ e.
-    let items = c.args.table.now.items in
+    let items = c.args.table.now.sessions.items in
     let x = c.index_mut-entry.result.now in
     let d0 = g.D.Desk.value c.args.desk.now in
     let d1 = g.D.Desk.value c.on_packet.new.desk in

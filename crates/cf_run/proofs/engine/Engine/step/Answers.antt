@@ -16,8 +16,8 @@ use Rattle.cf_run.proofs.engine.Engine.step.Goals as goal
 
 pub returns-clause-steps : goal.returns-clause-steps
 returns-clause-steps g c =
-    let before : EngineValue = record { table = c.self.inside.table.items; limit = c.self.inside.limit; last = c.self.inside.last; summary = c.self.inside.summary } in
-    let after : EngineValue = record { table = c.step_table.new.table.items; limit = c.self.inside.limit; last = c.args.moment; summary = c.count.new.self } in
+    let before : EngineValue = record { table = c.self.inside.table.sessions.items; due = c.self.inside.table.due; limit = c.self.inside.limit; last = c.self.inside.last; summary = c.self.inside.summary } in
+    let after : EngineValue = record { table = c.step_table.new.table.sessions.items; due = c.step_table.new.table.due; limit = c.self.inside.limit; last = c.args.moment; summary = c.count.new.self } in
     let assets : List Asset = c.args.policy.now.assets in
     let now = c.args.moment in
     let packet = read_record c.args.link.now c.args.bytes.now in
@@ -32,7 +32,7 @@ returns-clause-steps g c =
 
 pub returns-in-Err-clause-broken : goal.returns-in-Err-clause-broken
 returns-in-Err-clause-broken g c = λ e.
-    let before : EngineValue = record { table = c.self.inside.table.items; limit = c.self.inside.limit; last = c.self.inside.last; summary = c.self.inside.summary } in
+    let before : EngineValue = record { table = c.self.inside.table.sessions.items; due = c.self.inside.table.due; limit = c.self.inside.limit; last = c.self.inside.last; summary = c.self.inside.summary } in
     let assets : List Asset = c.args.policy.now.assets in
     let now = c.args.moment in
     let input : Input = record { moment = now; packet = read_record c.args.link.now c.args.bytes.now } in
@@ -46,7 +46,7 @@ returns-in-Err-clause-broken g c = λ e.
 
 pub returns-in-Err-clause-stops : goal.returns-in-Err-clause-stops
 returns-in-Err-clause-stops g c = λ e.
-    let before : EngineValue = record { table = c.self.inside.table.items; limit = c.self.inside.limit; last = c.self.inside.last; summary = c.self.inside.summary } in
+    let before : EngineValue = record { table = c.self.inside.table.sessions.items; due = c.self.inside.table.due; limit = c.self.inside.limit; last = c.self.inside.last; summary = c.self.inside.summary } in
     let assets : List Asset = c.args.policy.now.assets in
     let now = c.args.moment in
     let input : Input = record { moment = now; packet = read_record c.args.link.now c.args.bytes.now } in
