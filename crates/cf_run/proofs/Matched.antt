@@ -1,5 +1,5 @@
 -- What a packet is to the sessions in memory is what it is to those of the table.
-use Rattle.std.proofs.Common.{◌≡◌, ℕ, zero, suc, ◌+◌, ◌<◌, ◌&&◌, nat_lt, inl, inr, Bool, true, false, List, [], ◌∷◌, length, cond, if◌then◌else◌, Option, option_map, Some, None, refl, sym, ap, ◌∙◌, subst, arith}
+use Rattle.std.proofs.Common.{◌≡◌, ℕ, zero, suc, ◌+◌, ◌<◌, ◌&&◌, ◌||◌, nat_lt, inl, inr, Bool, true, false, List, [], ◌∷◌, length, cond, if◌then◌else◌, Option, option_map, Some, None, refl, sym, ap, ◌∙◌, subst, arith}
 use Rattle.std.specs.Prelude.{find, position, slice_get}
 use Rattle.std.specs.List.{position_or_len, remove}
 use Rattle.std.specs.Option.{is_some}
@@ -13,7 +13,7 @@ use Rattle.cf_view.specs.declared.Endpoint.{Endpoint}
 use Rattle.cf_run.specs.Engine.{AreAll, IsOneWith}
 use Rattle.cf_run.specs.Entries.{asset_place, goes_in_client, begins_at, begins_in, entry_between, entry_match, goes_in, is_at, is_closed_in, others, place_in}
 use Rattle.cf_run.specs.Receiving.{may_begin_one}
-use Rattle.cf_run.specs.Table.{Begins, Full, Goes, Match, Outside, Session, asset_at, begins, begins_or_full, goes, goes_from_client, is_between, is_closed_at, match_of, may_begin, place_of, same_endpoint, table_size, without}
+use Rattle.cf_run.specs.Table.{Begins, Full, Goes, Match, Outside, Session, asset_at, begins, begins_or_full, goes, goes_from_client, has_asset_at, is_between, is_closed_at, match_of, may_begin, place_of, same_endpoint, table_size, without}
 use Rattle.cf_run.specs.declared.entry.Entry.{Entry}
 use Rattle.cf_run.specs.declared.matching.Match.{Match as EntryMatch}
 use Rattle.cf_run.specs.declared.matching.Match.TheVariants as match
@@ -115,6 +115,28 @@ place_by p x xs false e =
           let past : nat_lt (1 + n) (length (x ∷ xs)) ≡ false = grind (arith, nat_tests, gone) in
           rw (prefix_by p x xs false e, past, gone) refl
     ]
+
+first_false : (a b : Bool) → (a || b) ≡ false → (a ≡ false) × (b ≡ false)
+first_false true b e = cc
+first_false false b e = (refl, e)
+
+-- where no asset stands at an endpoint, that of no place does
+none_is_at : (assets : List Asset) (endpoint : Endpoint) (place : ℕ) → has_asset_at assets endpoint ≡ false → is_at endpoint (slice_get assets place) ≡ false
+none_is_at [] endpoint place free = refl
+none_is_at (a ∷ assets) endpoint zero free = (first_false (same_endpoint a.endpoint endpoint) (has_asset_at assets endpoint) free).0
+none_is_at (a ∷ assets) endpoint (suc place) free = none_is_at assets endpoint place (first_false (same_endpoint a.endpoint endpoint) (has_asset_at assets endpoint) free).1
+
+both_false : (a b : Bool) → b ≡ false → (a && b) ≡ false
+both_false true b e = e
+both_false false b e = refl
+
+-- and no session is with it
+pub place_in_none : (assets : List Asset) (client endpoint : Endpoint) (table : List Entry) → has_asset_at assets endpoint ≡ false → place_in assets client endpoint table ≡ None
+place_in_none assets client endpoint [] free = refl
+place_in_none assets client endpoint (x ∷ table) free =
+    place_by (entry_between assets client endpoint) x table false
+    (both_false (same_endpoint x.session.source client) (is_at endpoint (slice_get assets x.asset)) (none_is_at assets endpoint x.asset free))
+    ∙ ap (option_map suc) (place_in_none assets client endpoint table free)
 
 position_inside : {A : Type 0} (p : A → Bool) (xs : List A) (i : ℕ) → position p xs ≡ Some i → i < length xs
 position_inside p xs i e =

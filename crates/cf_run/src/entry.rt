@@ -1,7 +1,7 @@
 //! The sessions of the table in memory.
 ghost use Rattle.std.specs.Prelude.{◌≡◌, ◌<◌, Some, length, slice_get};
 ghost use Rattle.cf_run.specs.Entries.{cuts_by, entry_between, number_if, place_in, stays_by};
-ghost use Rattle.cf_run.specs.Table.{same_endpoint};
+ghost use Rattle.cf_run.specs.Table.{has_asset_at, same_endpoint};
 
 use cf_policy::Asset;
 use cf_session::{Life, Session};
@@ -42,6 +42,15 @@ pub(crate) fn is_same(a: &Endpoint, b: &Endpoint) -> bool
     a.address == b.address && a.port == b.port
 }
 
+/// Whether an asset stands at an endpoint.
+pub(crate) fn has_asset_at(assets: &[Asset], endpoint: &Endpoint) -> bool
+    ensures { result ≡ has_asset_at assets.now endpoint.now }
+{
+    assets
+        .iter()
+        .any(|asset| is_same(&asset.endpoint, endpoint))
+}
+
 /// Whether a session is between this client and the asset at this endpoint.
 fn is_between(entry: &Entry, assets: &[Asset], client: &Endpoint, endpoint: &Endpoint) -> bool
     ensures { result ≡ entry_between assets.now client.now endpoint.now entry.now }
@@ -53,7 +62,9 @@ fn is_between(entry: &Entry, assets: &[Asset], client: &Endpoint, endpoint: &End
         }
 }
 
-/// The place in the table of the session between this client and the asset at this endpoint.
+/// The place in the table of the session between this client and the asset at this endpoint. Where no asset stands there the
+/// table is not walked.
+#[tactic(auto, using(crate::proofs::Matched::place_in_none))]
 pub(crate) fn place_in(
     table: &[Entry],
     assets: &[Asset],
@@ -62,6 +73,9 @@ pub(crate) fn place_in(
 ) -> Option<usize>
     ensures { result ≡ place_in assets.now client.now endpoint.now table.now }
 {
+    if !has_asset_at(assets, endpoint) {
+        return None;
+    }
     table
         .iter()
         .position(|entry| is_between(entry, assets, client, endpoint))

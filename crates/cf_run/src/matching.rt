@@ -2,9 +2,9 @@
 ghost use Rattle.std.specs.Prelude.{◌≡◌, ◌<◌, ◌/◌, ◌%◌, ◌==◌};
 ghost use Rattle.cf_packet.specs.Packet.{packet_value};
 ghost use Rattle.cf_run.specs.Entries.{asset_place, begins_in, entry_match, goes_in, is_closed_in};
-ghost use Rattle.cf_run.specs.Table.{has_asset_at, is_opening, may_begin};
+ghost use Rattle.cf_run.specs.Table.{is_opening, may_begin};
 
-use crate::entry::{Entry, is_same, place_in};
+use crate::entry::{Entry, has_asset_at, is_same, place_in};
 use cf_packet::{ACK, FIN, Packet, RST, SYN};
 use cf_policy::Asset;
 use cf_view::{Endpoint, Side};
@@ -46,15 +46,6 @@ fn may_begin(assets: &[Asset], packet: &Packet<'_>) -> bool
     ensures { result ≡ may_begin assets.now (packet_value packet.now) }
 {
     is_opening(packet) && !has_asset_at(assets, &packet.source)
-}
-
-/// Whether an asset stands at an endpoint.
-fn has_asset_at(assets: &[Asset], endpoint: &Endpoint) -> bool
-    ensures { result ≡ has_asset_at assets.now endpoint.now }
-{
-    assets
-        .iter()
-        .any(|asset| is_same(&asset.endpoint, endpoint))
 }
 
 /// Whether a packet has SYN without ACK, RST and FIN.
