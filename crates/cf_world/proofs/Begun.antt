@@ -1,21 +1,21 @@
 -- A session that begins next.
 use Rattle.std.proofs.Common.{◌≡◌, ℕ, ◌+◌, ◌<◌, ◌≤◌, List, length, inl, inr, sym, subst, arith}
 use Rattle.std.proofs.lemmas.Bool.{cases_lt}
-use Rattle.cf_pcap.specs.Record.{Record}
 use Rattle.cf_world.specs.Capture.{IsSyn}
 use Rattle.cf_world.specs.Making.{IsNext, IsSent}
 use Rattle.cf_world.specs.declared.next.Next.{Next}
 use Rattle.cf_world.specs.declared.next.Next.TheVariants as next
 
 module _ (begun sessions last losses moment : ℕ) (packet : List ℕ) where
-  is_sent : begun < sessions → last + 2000 ≤ moment → moment ≤ last + 10000000 → length packet ≤ 1500 → IsSyn begun (record { stamp = moment; body = packet }) →
-      IsSent begun sessions last moment (begun + 1) packet
-  is_sent fewer later soon short syn = record {
+  is_sent : begun < sessions → sessions ≤ 200 → last + 2000 ≤ moment → moment ≤ last + 10000000 → length packet ≤ 1500 →
+      IsSyn begun (record { stamp = moment; body = packet }) → IsSent begun sessions last moment (begun + 1) packet
+  is_sent fewer few later soon short syn = record {
     later = later;
     soon = soon;
     short = short;
-    has = (syn.packet, syn.has);
+    has = record { packet = syn.packet; has = syn.has; session = begun; below = omega (arith, fewer, few); between = inl (syn.source, syn.dest) };
     few = omega (arith, fewer);
+    near = omega (arith, syn.moment);
     begins = λ session below. elim (cases_lt session begun) [
       | inl earlier ↦ inl earlier
       | inr now ↦
@@ -24,6 +24,6 @@ module _ (begun sessions last losses moment : ℕ) (packet : List ℕ) where
     ];
   }
 
-  pub begins_next : (found : Next) → found ≡ next.Sends moment (begun + 1) → begun < sessions → last + 2000 ≤ moment → moment ≤ last + 10000000 →
+  pub begins_next : (found : Next) → found ≡ next.Sends moment (begun + 1) → begun < sessions → sessions ≤ 200 → last + 2000 ≤ moment → moment ≤ last + 10000000 →
       length packet ≤ 1500 → IsSyn begun (record { stamp = moment; body = packet }) → IsNext begun sessions last losses packet found
-  begins_next found is fewer later soon short syn = subst (λ f. IsNext begun sessions last losses packet f) (sym is) (is_sent fewer later soon short syn)
+  begins_next found is fewer few later soon short syn = subst (λ f. IsNext begun sessions last losses packet f) (sym is) (is_sent fewer few later soon short syn)

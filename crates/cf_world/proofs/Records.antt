@@ -1,14 +1,14 @@
 -- The octets of records that are made are a capture.
-use Rattle.std.proofs.Common.{◌≡◌, ℕ, ◌+◌, ◌*◌, ◌^◌, ◌<◌, ◌≤◌, max, nat_lt, true, false, Ok, List, [], ◌∷◌, ◌++◌, length, take, drop, refl, sym, ap, ◌∙◌, subst, arith, append_assoc}
+use Rattle.std.proofs.Common.{◌≡◌, ℕ, ◌+◌, ◌*◌, ◌^◌, ◌≤◌, nat_lt, true, false, Ok, List, [], ◌∷◌, ◌++◌, length, drop, refl, sym, ap, ◌∙◌, subst, arith}
 use Rattle.std.specs.List.{AllByRecursion, flat_map}
 use Rattle.std.proofs.lemmas.Grind.{flat_map-append}
 use Rattle.std.proofs.lemmas.List.{append-nil, length-append}
 use Rattle.std.proofs.lemmas.List.Concat.{flat_map-cons}
 use Rattle.std.proofs.Math.Seq.{take-append_seam, drop-append_seam}
 use Rattle.std.proofs.lemmas.Bool.Decides.{nat_tests}
-use Rattle.cf_pcap.specs.Capture.{AreTimed, AtPlace, FileEnd, Fits, LastPlace, at_place, at_place_by, first_moment, moment_from, moment_limit, timed}
+use Rattle.cf_pcap.specs.Capture.{AreTimed, FileEnd, Fits, at_place, at_place_by, first_moment, moment_from, moment_limit, timed}
 use Rattle.cf_pcap.specs.Header.{header_of, output_header, output_octets}
-use Rattle.cf_pcap.specs.Record.{Record, Whole, record_of}
+use Rattle.cf_pcap.specs.Record.{Record}
 use Rattle.cf_pcap.proofs.Capture.{at_near_place}
 use Rattle.cf_world.specs.Capture.{AreApart, HasPacket, IsCaptureOf}
 use Rattle.cf_world.specs.Making.{AreMade, IsMade, least_after, record_octets, records_octets}

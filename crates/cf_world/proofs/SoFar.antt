@@ -1,6 +1,5 @@
 -- The records that are made so far.
-use Rattle.std.proofs.Common.{◌≡◌, ◌⊎◌, ℕ, ◌+◌, ◌<◌, ◌≤◌, List, [], ◌∷◌, ◌++◌, length, take, Result, Ok, Err, refl, sym, ap, ◌∙◌, arith, inl, inr}
-use Rattle.std.specs.List.{Contains}
+use Rattle.std.proofs.Common.{◌≡◌, ◌⊎◌, ℕ, ◌+◌, ◌<◌, ◌≤◌, List, [], ◌∷◌, ◌++◌, length, take, Result, Ok, Err, refl, sym, ap, ◌∙◌, subst, arith, inl, inr}
 use Rattle.std.proofs.lemmas.List.{length-append, take_all}
 use Rattle.std.proofs.lemmas.List.Elements.{Contains-append_left, Contains-push}
 use Rattle.std.proofs.Math.Seq.{take-append-add}
@@ -93,7 +92,7 @@ part_made count begun sessions last moment after packet old now new so_far fewer
     }
 
 -- the file with its header in front of them
-pub holds_capture : (sessions : ℕ) (before first after : Content) → first ≡ content_after_write before output_octets → AppendsAll sessions first after →
+holds_capture : (sessions : ℕ) (before first after : Content) → first ≡ content_after_write before output_octets → AppendsAll sessions first after →
     HoldsCapture sessions before after
 holds_capture sessions before first after begun all =
     let xs = records_octets all.records in
@@ -105,7 +104,7 @@ holds_capture sessions before first after begun all =
       in_file = all.in_file ∙ ap (λ file. with_appended file xs) begun ∙ with_appended-twice (content_after_create before) output_octets xs;
     }
 
-pub holds_part : (before first after : Content) → first ≡ content_after_write before output_octets → AppendsPart first after → HoldsCapturePart before after
+holds_part : (before first after : Content) → first ≡ content_after_write before output_octets → AppendsPart first after → HoldsCapturePart before after
 holds_part before first after begun part =
     let xs = records_octets part.records in
     let cut : output_octets ++ take part.count xs ≡ take (24 + part.count) (output_octets ++ xs) = sym (take-append-add output_octets xs part.count) in
@@ -120,29 +119,19 @@ holds_part before first after begun part =
       );
     }
 
--- a capture of no records
-pub holds_nothing : (before after : Content) → IsPartly output_octets before after → HoldsCapturePart before after
-holds_nothing before after partly = record {
+-- a capture of no records, whose header was written in part
+pub holds_nothing : (before after : Content) (header : List ℕ) → header ≡ output_octets → IsPartly header before after → HoldsCapturePart before after
+holds_nothing before after header is partly = record {
   octets = output_octets;
   records = [];
   is_capture = is_capture [] tt (omega arith);
-  in_file = partly;
+  in_file = subst (λ octets. IsPartly octets before after) is partly;
 }
 
--- the creation of a capture that failed, and the header that was written in part
-pub not_created : (before after : Content) → (after ≡ before) ⊎ (after ≡ content_after_create before) → HoldsCapturePart before after
-not_created before after (inl same) = holds_nothing before after (inl same)
-not_created before after (inr created) = holds_nothing before after (inr (0, created ∙ sym (with_appended-nothing (content_after_create before))))
-
-pub header_part : (before created after : Content) (header : List ℕ) → header ≡ output_octets → created ≡ content_after_create before →
-    ((k : ℕ) × (after ≡ with_appended created (take k header))) → HoldsCapturePart before after
-header_part before created after header is made (k, appended) =
-    holds_nothing before after (inr (k, appended ∙ ap (λ xs. with_appended created (take k xs)) is ∙ ap (λ file. with_appended file (take k output_octets)) made))
-
--- a capture that was created, and its header behind which records were made
-pub capture_made : (sessions : ℕ) (before created first after : Content) (header : List ℕ) (result : Result Unit WorldFault) → header ≡ output_octets →
-    created ≡ content_after_create before → first ≡ with_appended created header → AppendsRecords sessions first after result → MakesCapture sessions before after result
-capture_made sessions before created first after header (Ok _) is made begun all =
-    holds_capture sessions before first after (begun ∙ ap (λ xs. with_appended created xs) is ∙ ap (λ file. with_appended file output_octets) made) all
-capture_made sessions before created first after header (Err fault) is made begun part =
-    holds_part before first after (begun ∙ ap (λ xs. with_appended created xs) is ∙ ap (λ file. with_appended file output_octets) made) part
+-- a capture whose header was written, behind which records were made
+pub capture_made : (sessions : ℕ) (before first after : Content) (header : List ℕ) (result : Result Unit WorldFault) → header ≡ output_octets →
+    first ≡ content_after_write before header → AppendsRecords sessions first after result → MakesCapture sessions before after result
+capture_made sessions before first after header (Ok _) is begun all =
+    holds_capture sessions before first after (begun ∙ ap (λ octets. content_after_write before octets) is) all
+capture_made sessions before first after header (Err fault) is begun part =
+    holds_part before first after (begun ∙ ap (λ octets. content_after_write before octets) is) part

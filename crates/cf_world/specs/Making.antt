@@ -1,5 +1,5 @@
 -- The making of a capture, record by record: AppendsRecords says what the records append to its file. This project's own.
-use Rattle.std.specs.Prelude.{◌≡◌, ◌≤◌, ◌<◌, ◌⊎◌, ℕ, ◌+◌, List, [], ◌∷◌, ◌++◌, Result, Ok, Err, length, take}
+use Rattle.std.specs.Prelude.{◌≡◌, ◌≤◌, ◌<◌, ◌⊎◌, ℕ, ◌+◌, ◌*◌, List, [], ◌∷◌, ◌++◌, Result, Ok, Err, length, take}
 use Rattle.std.specs.List.{flat_map}
 use Rattle.cf_outside.specs.Files.{Content, with_appended}
 use Rattle.cf_pcap.specs.Capture.{first_moment, moment_limit}
@@ -75,6 +75,7 @@ pub record IsSent (begun sessions last moment after : ℕ) (packet : List ℕ) :
   pub short : length packet ≤ 1500
   pub has : HasPacket (record { stamp = moment; body = packet })
   pub few : after ≤ sessions
+  pub near : 20000 * after ≤ moment + 9000000
   pub begins : (session : ℕ) → session < after → (session < begun) ⊎ IsSyn session (record { stamp = moment; body = packet })
 
 -- what comes of a host: a packet at that moment, with which no session begins, or one that may be lost

@@ -14,10 +14,11 @@ flags_of purpose.Acknowledges = 16
 flags_of purpose.Brings = 24
 flags_of purpose.Ends = 17
 
--- octets are a packet between two endpoints, with the flags of a purpose
-pub record IsPacketOf (source dest : Endpoint) (purpose : Purpose) (octets : List ℕ) : Type 0 where
+-- octets are a packet between two endpoints, with the flags of a purpose and a sequence number
+pub record IsPacketOf (source dest : Endpoint) (purpose : Purpose) (seq : ℕ) (octets : List ℕ) : Type 0 where
   pub packet : PacketValue
   pub read : read_record output_header.link octets ≡ Ok packet
   pub source_is : packet.source ≡ source
   pub dest_is : packet.dest ≡ dest
   pub flags_are : packet.flags ≡ flags_of purpose
+  pub seq_is : packet.seq ≡ seq

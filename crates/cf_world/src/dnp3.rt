@@ -41,24 +41,17 @@ impl Dnp3Master {
         }
     }
 
-    /// The first command.
-    pub(crate) fn greet(&mut self) -> Option<Message> {
+    /// The next command, if there is one more.
+    pub(crate) fn command(&mut self) -> Option<Message> {
         Some(direct_operate(self.commands.next()?))
     }
 
     /// The next command behind an answer.
     pub(crate) fn hear(&mut self, heard: &[u8]) -> Reaction {
-        let used = match next_frame(View::one(heard)) {
-            Framed::Unit { used, .. } => used,
-            Framed::More => return Reaction::Waits,
-            Framed::Broken(_) => return Reaction::Passes { used: heard.len() },
-        };
-        match self.commands.next() {
-            Some(number) => Reaction::Says {
-                used,
-                message: direct_operate(number),
-            },
-            None => Reaction::Closes { used },
+        match next_frame(View::one(heard)) {
+            Framed::Unit { used, .. } => Reaction::goes_on(used, self.command()),
+            Framed::More => Reaction::Waits,
+            Framed::Broken(_) => Reaction::Passes { used: heard.len() },
         }
     }
 }

@@ -1,8 +1,8 @@
 //! A host's end of a TCP connection. RFC 9293; it keeps to what the hosts of a world need: one text at a time is under way, all
 //! is repeated 300 milliseconds after it was sent, and of what is heard whole units alone are taken.
-ghost use Rattle.std.specs.Prelude.{◌≡◌, ◌≤◌, ◌<◌, IsSome, length};
+ghost use Rattle.std.specs.Prelude.{◌≡◌, ◌≢◌, ◌≤◌, ◌<◌, ◌↔◌, true, IsSome, length};
 ghost use Rattle.arrayvec.specs.ArrayVec.{array_vec_len};
-ghost use Rattle.cf_world.specs.Hosts.{TakesInside};
+ghost use Rattle.cf_world.specs.Hosts.{StaysOwed, TakesInside};
 
 use crate::draws::Draws;
 use crate::message::{Message, inverted, message};
@@ -97,14 +97,18 @@ impl HostEnd {
     }
 
     /// The client sent its SYN at a moment.
-    pub(crate) fn begin(&mut self, moment: u64) {
+    pub(crate) fn begin(&mut self, moment: u64)
+        ensures { self.new.said ≡ Said.Syn }
+    {
         self.next = self.next.wrapping_add(1);
         self.said = Said::Syn;
         self.repeat_at = moment.saturating_add(PATIENCE);
     }
 
     /// When its next segment is ready, if there is one.
-    pub(crate) fn ready(&self) -> Option<u64> {
+    pub(crate) fn ready(&self) -> Option<u64>
+        ensures owed { self.now.said ≢ Said.Nothing → IsSome result }
+    {
         match self.waiting.first() {
             Some(segment) => Some(segment.ready),
             None => match self.said {
@@ -122,7 +126,8 @@ impl HostEnd {
         draws: &mut Draws,
         chance: Chance,
     ) -> Option<Segment>
-        ensures { chance ≡ Chance.Keeps → IsSome result }
+        ensures sent { chance ≡ Chance.Keeps → IsSome result }
+        ensures owed { self.new.said ≡ self.old.said }
     {
         if self.waiting.is_empty() {
             self.repeat(draws, chance);
@@ -140,7 +145,8 @@ impl HostEnd {
 
     /// Makes what it said ready again.
     fn repeat(&mut self, draws: &mut Draws, chance: Chance)
-        ensures { chance ≡ Chance.Keeps → 0 < array_vec_len self.new.waiting }
+        ensures waits { chance ≡ Chance.Keeps → 0 < array_vec_len self.new.waiting }
+        ensures owed { self.new.said ≡ self.old.said }
     {
         let ready = self.repeat_at;
         let last = self.next.wrapping_sub(1);
@@ -158,7 +164,8 @@ impl HostEnd {
 
     /// A segment waits, where there is room.
     fn put(&mut self, ready: u64, purpose: Purpose, seq: u32, text: &[u8])
-        ensures { 0 < array_vec_len self.new.waiting }
+        ensures waits { 0 < array_vec_len self.new.waiting }
+        ensures owed { self.new.said ≡ self.old.said }
     {
         if self.waiting.len() < ROOM {
             self.waiting.push(Segment {
@@ -174,7 +181,8 @@ impl HostEnd {
     /// Sends a text that ends where it said last, as it is drawn.
     fn send(&mut self, ready: u64, text: &[u8], draws: &mut Draws, chance: Chance)
         requires { length text.now ≤ 64 }
-        ensures { chance ≡ Chance.Keeps → 0 < array_vec_len self.new.waiting }
+        ensures waits { chance ≡ Chance.Keeps → 0 < array_vec_len self.new.waiting }
+        ensures owed { self.new.said ≡ self.old.said }
     {
         let first = self.next.wrapping_sub(text.len() as u32);
         let half = text.len() / 2;
@@ -201,15 +209,21 @@ impl HostEnd {
         }
     }
 
-    /// Says a text.
-    fn say(&mut self, moment: u64, text: Message, draws: &mut Draws) {
+    /// Says a text, which is owed until it is acknowledged, lost or not. Nothing else that it said is under way.
+    fn say(&mut self, moment: u64, text: Message, draws: &mut Draws)
+        requires { self.old.said ≡ Said.Nothing }
+        ensures { self.new.said ≡ Said.Text text }
+    {
         self.next = self.next.wrapping_add(text.len() as u32);
         self.send(moment, &text, draws, Chance::MayLose);
         self.said = Said::Text(text);
     }
 
-    /// Says its end.
-    fn close(&mut self, moment: u64) {
+    /// Says its end. Nothing else that it said is under way.
+    fn close(&mut self, moment: u64)
+        requires { self.old.said ≡ Said.Nothing }
+        ensures { self.new.said ≡ Said.End }
+    {
         self.ended = true;
         self.put(moment, Purpose::Ends, self.next, &[]);
         self.next = self.next.wrapping_add(1);
@@ -217,13 +231,16 @@ impl HostEnd {
     }
 
     /// Acknowledges what it took.
-    fn acknowledge(&mut self, moment: u64) {
+    fn acknowledge(&mut self, moment: u64)
+        ensures { self.new.said ≡ self.old.said }
+    {
         self.put(moment, Purpose::Acknowledges, self.next, &[]);
     }
 
     /// Hears a packet of the other end.
     pub(crate) fn hear(&mut self, moment: u64, packet: &Packet<'_>, draws: &mut Draws)
         requires { length packet.now.text.now ≤ 65535 }
+        ensures { self.old.said ≢ Said.Nothing → packet.now.ack ≢ self.old.next → StaysOwed self.old.said self.new }
     {
         if packet.flags & RST != 0 {
             self.phase = Phase::Reset;
@@ -240,8 +257,10 @@ impl HostEnd {
     }
 
     /// The controller hears a SYN, and answers it.
-    fn accept(&mut self, moment: u64, packet: &Packet<'_>) {
-        if packet.flags & SYN == 0 {
+    fn accept(&mut self, moment: u64, packet: &Packet<'_>)
+        ensures { self.old.said ≢ Said.Nothing → self.new.said ≡ self.old.said }
+    {
+        if packet.flags & SYN == 0 || self.is_owing() {
             return;
         }
         self.expected = packet.seq.wrapping_add(1);
@@ -252,7 +271,9 @@ impl HostEnd {
     }
 
     /// The client hears the answer to its SYN, acknowledges it, and speaks.
-    fn open(&mut self, moment: u64, packet: &Packet<'_>, draws: &mut Draws) {
+    fn open(&mut self, moment: u64, packet: &Packet<'_>, draws: &mut Draws)
+        ensures { packet.now.ack ≢ self.old.next → self.new.said ≡ self.old.said }
+    {
         if packet.flags & SYN == 0 || packet.flags & ACK == 0 || packet.ack != self.next {
             return;
         }
@@ -265,9 +286,20 @@ impl HostEnd {
         }
     }
 
-    /// Hears a packet of an open connection.
+    /// Whether something that it said is not acknowledged.
+    fn is_owing(&self) -> bool
+        ensures { result ≡ true ↔ self.now.said ≢ Said.Nothing }
+    {
+        match self.said {
+            Said::Nothing => false,
+            _ => true,
+        }
+    }
+
+    /// Hears a packet of an open connection. Nothing of it is taken while something that was said is not acknowledged.
     fn converse(&mut self, moment: u64, packet: &Packet<'_>, draws: &mut Draws)
         requires { length packet.now.text.now ≤ 65535 }
+        ensures { self.old.said ≢ Said.Nothing → packet.now.ack ≢ self.old.next → self.new.said ≡ self.old.said }
     {
         if packet.flags & ACK == 0 || packet.flags & SYN != 0 {
             return;
@@ -277,41 +309,40 @@ impl HostEnd {
         }
         let earlier = self.expected.wrapping_sub(packet.seq) as usize;
         let mut answered = false;
-        if earlier < packet.text.len() {
+        if !self.is_owing() && earlier < packet.text.len() {
             answered = self.take(moment, &packet.text[earlier..], draws);
         }
-        if packet.flags & FIN != 0 {
+        if !self.is_owing() && packet.flags & FIN != 0 {
             let end = packet.seq.wrapping_add(packet.text.len() as u32);
-            answered = self.hear_end(moment, end) || answered;
+            answered = self.hear_end(moment, end);
         }
         if !answered && (!packet.text.is_empty() || packet.flags & FIN != 0) {
             self.acknowledge(moment);
         }
     }
 
-    /// Takes the whole units at the front of a text, and answers whether it said something to one of them.
+    /// Takes the whole units at the front of a text, up to the first one to which it says something, and answers whether it did.
     fn take(&mut self, moment: u64, text: &[u8], draws: &mut Draws) -> bool
-        requires { length text.now ≤ 65535 }
+        requires short { length text.now ≤ 65535 }
+        requires free { self.old.said ≡ Said.Nothing }
     {
         let mut place = 0;
-        let mut answered = false;
         'units: while place < text.len() {
             match self.take_unit(moment, &text[place..], draws) {
-                Taken::Nothing => return answered,
-                Taken::Unit { used, said } => {
-                    place += used;
-                    answered = answered || said;
-                }
+                Taken::Nothing => return false,
+                Taken::Unit { said: true, .. } => return true,
+                Taken::Unit { used, said: false } => place += used,
             }
         }
-        answered
+        false
     }
 
     /// Takes the unit at the front of a text that is not empty, if a whole one stands there.
     fn take_unit(&mut self, moment: u64, text: &[u8], draws: &mut Draws) -> Taken
         requires some { 0 < length text.now }
         requires short { length text.now ≤ 65535 }
-        ensures { TakesInside (length text.now) result }
+        requires free { self.old.said ≡ Said.Nothing }
+        ensures { TakesInside (length text.now) self.new.said result }
     {
         let reaction = self.speaker.hear(text);
         let used = match &reaction {
@@ -337,7 +368,9 @@ impl HostEnd {
     }
 
     /// The end of the other side stands at a sequence number. Answers whether it said its own end to it.
-    fn hear_end(&mut self, moment: u64, end: u32) -> bool {
+    fn hear_end(&mut self, moment: u64, end: u32) -> bool
+        requires { self.old.said ≡ Said.Nothing }
+    {
         if self.heard_end || end != self.expected {
             return false;
         }

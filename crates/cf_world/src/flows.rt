@@ -1,5 +1,5 @@
 //! Between whom the sessions of a world are.
-ghost use Rattle.std.specs.Prelude.{◌≡◌, ◌≤◌};
+ghost use Rattle.std.specs.Prelude.{◌≡◌, ◌≤◌, ◌+◌, ◌*◌};
 ghost use Rattle.cf_world.specs.Flows.{client_endpoint, controller_endpoint};
 
 use cf_view::Endpoint;
@@ -57,7 +57,7 @@ pub(crate) fn session_of(endpoint: &Endpoint) -> Option<usize> {
 /// The sequence number of the SYN of a session's client.
 pub(crate) fn first_number(session: usize) -> u32
     requires { session ≤ 200 }
-    ensures { result ≤ 201000 }
+    ensures { result ≡ 1000 * (session + 1) }
 {
     1000 * (session as u32 + 1)
 }

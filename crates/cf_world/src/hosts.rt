@@ -13,8 +13,8 @@ use crate::sending::Chance;
 use crate::speaker::Speaker;
 use cf_outside::{Desk, WriteAnswer};
 use cf_packet::{Packet, read_packet};
-use cf_view::{LinkKind, NoMemory, Side};
-use std::alloc::Global;
+use cf_view::{LinkKind, Side};
+use std::alloc::{AllocError, Global};
 use std::marker::Model;
 
 /// How much the sequence number of a controller's SYN is above that of its client's.
@@ -57,16 +57,12 @@ pub(crate) struct Voice {
 
 impl Hosts {
     /// The hosts of so many sessions.
-    pub(crate) fn new(alloc: Global, seed: u64, sessions: u32) -> Result<Hosts, NoMemory>
+    pub(crate) fn new(alloc: Global, seed: u64, sessions: u32) -> Result<Hosts, AllocError>
         requires { sessions ≤ 200 }
     {
-        let Ok(mut pairs) = Vec::with_capacity(alloc, sessions as usize) else {
-            return Err(NoMemory);
-        };
+        let mut pairs = Vec::with_capacity(alloc, sessions as usize)?;
         for session in 0..sessions as usize {
-            if pairs.push(hosts_of(session)).is_err() {
-                return Err(NoMemory);
-            }
+            pairs.push(hosts_of(session))?;
         }
         Ok(Hosts {
             pairs,

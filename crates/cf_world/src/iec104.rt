@@ -96,9 +96,9 @@ impl Iec104Client {
             Framed::Unit { unit, used } => match unit {
                 Apdu::Info { .. } => {
                     self.frames.receive();
-                    self.go_on(used)
+                    Reaction::goes_on(used, self.command())
                 }
-                Apdu::Control(START_CON) => self.go_on(used),
+                Apdu::Control(START_CON) => Reaction::goes_on(used, self.command()),
                 _ => Reaction::Passes { used },
             },
             Framed::More => Reaction::Waits,
@@ -106,15 +106,10 @@ impl Iec104Client {
         }
     }
 
-    /// The next command, behind a unit of so many octets.
-    fn go_on(&mut self, used: usize) -> Reaction {
-        match self.commands.next() {
-            Some(number) => Reaction::Says {
-                used,
-                message: self.frames.send(&single_command(number)),
-            },
-            None => Reaction::Closes { used },
-        }
+    /// The next command, if there is one more.
+    fn command(&mut self) -> Option<Message> {
+        let number = self.commands.next()?;
+        Some(self.frames.send(&single_command(number)))
     }
 }
 

@@ -27,24 +27,17 @@ impl ModbusMaster {
         }
     }
 
-    /// The first command.
-    pub(crate) fn greet(&mut self) -> Option<Message> {
+    /// The next command, if there is one more.
+    pub(crate) fn command(&mut self) -> Option<Message> {
         Some(write_register(self.commands.next()?))
     }
 
     /// The next command behind an answer.
     pub(crate) fn hear(&mut self, heard: &[u8]) -> Reaction {
-        let used = match next_adu(View::one(heard)) {
-            Framed::Unit { used, .. } => used,
-            Framed::More => return Reaction::Waits,
-            Framed::Broken(_) => return Reaction::Passes { used: heard.len() },
-        };
-        match self.commands.next() {
-            Some(number) => Reaction::Says {
-                used,
-                message: write_register(number),
-            },
-            None => Reaction::Closes { used },
+        match next_adu(View::one(heard)) {
+            Framed::Unit { used, .. } => Reaction::goes_on(used, self.command()),
+            Framed::More => Reaction::Waits,
+            Framed::Broken(_) => Reaction::Passes { used: heard.len() },
         }
     }
 }

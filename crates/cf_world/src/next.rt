@@ -1,5 +1,5 @@
 //! What comes next in a capture.
-ghost use Rattle.std.specs.Prelude.{◌≡◌, ◌≤◌, ◌<◌, ◌+◌, length};
+ghost use Rattle.std.specs.Prelude.{◌≡◌, ◌≤◌, ◌<◌, ◌+◌, ◌*◌, length};
 ghost use Rattle.cf_world.specs.Capture.{IsSyn};
 ghost use Rattle.cf_world.specs.Making.{IsNext, Speaks};
 ghost use Rattle.cf_world.specs.declared.next.Next.TheVariants as next;
@@ -51,6 +51,7 @@ pub(crate) fn comes_next(
     requires sessions { sessions ≤ 200 }
     requires last { last ≤ 10000000000000 }
     requires losses { losses ≤ 1000 }
+    requires near { 20000 * begun ≤ last + 9000000 }
     ensures { IsNext begun sessions last losses packet.new.items result }
 {
     let beginning = FIRST_BEGINNING + u64::from(begun) * BETWEEN_BEGINNINGS;
@@ -80,13 +81,15 @@ fn moment_of(ready: u64, last: u64) -> u64
     requires { last ≤ 10000000000000 }
     ensures later { last + 2000 ≤ result }
     ensures soon { result ≤ last + 10000000 }
+    ensures ready { ready ≤ last + 10000000 → ready ≤ result }
 {
     ready.clamp(last + LEAST_GAP, last + MOST_GAP)
 }
 
 /// The SYN of a session's client, at a moment.
 fn begins(hosts: &mut Hosts, session: u32, moment: u64, packet: &mut ArrayVec<u8, 1500>) -> Next
-    requires { session < 200 }
+    requires few { session < 200 }
+    requires begun { 1000000 + 20000 * session ≤ moment }
     ensures sends { result ≡ next.Sends moment (session + 1) }
     ensures syn { IsSyn session (record { stamp = moment; body = packet.new.items }) }
     ensures short { length packet.new.items ≤ 1500 }
@@ -122,7 +125,7 @@ fn speaks(
     packet: &mut ArrayVec<u8, 1500>,
 ) -> Next
     requires inside { voice.now.session < hosts.old }
-    requires few { voice.now.session ≤ 200 }
+    requires few { voice.now.session < 200 }
     ensures { Speaks moment begun chance packet.new.items result }
 {
     let Some(segment) = hosts.next_segment(voice, moment, chance) else {

@@ -20,7 +20,7 @@ pub(crate) fn write_segment(
     segment: &Segment,
     out: &mut ArrayVec<u8, 1500>,
 )
-    ensures packet { IsPacketOf source dest segment.now.purpose out.new.items }
+    ensures packet { IsPacketOf source dest segment.now.purpose segment.now.seq out.new.items }
     ensures short { length out.new.items ≤ 1500 }
 {
     let packet = Packet {

@@ -18,6 +18,16 @@ pub(crate) enum Reaction {
     Closes { used: usize },
 }
 
+impl Reaction {
+    /// A client goes on behind a unit of so many octets: it says its next message, or closes where there is none.
+    pub(crate) fn goes_on(used: usize, next: Option<Message>) -> Self {
+        match next {
+            Some(message) => Reaction::Says { used, message },
+            None => Reaction::Closes { used },
+        }
+    }
+}
+
 /// A host, by its protocol and side.
 #[derive(Drop)]
 pub(crate) enum Speaker {
@@ -33,8 +43,8 @@ impl Speaker {
     /// What it says as the connection opens, if it is the one who speaks first.
     pub(crate) fn greet(&mut self) -> Option<Message> {
         match self {
-            Speaker::ModbusMaster(master) => master.greet(),
-            Speaker::Dnp3Master(master) => master.greet(),
+            Speaker::ModbusMaster(master) => master.command(),
+            Speaker::Dnp3Master(master) => master.command(),
             Speaker::Iec104Client(client) => Some(client.greet()),
             Speaker::ModbusDevice(_) => None,
             Speaker::Outstation(_) => None,

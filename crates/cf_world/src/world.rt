@@ -14,7 +14,7 @@ use cf_outside::{Files, WriteAnswer, append_all};
 use cf_pcap::write_header;
 use cf_policy::Policy;
 use cf_run::Engine;
-use cf_view::{NoMemory, WriteFault};
+use cf_view::WriteFault;
 use std::alloc::{AllocError, Global};
 use thiserror::Error;
 
@@ -48,17 +48,6 @@ impl From<AllocError> for WorldFault {
     ghost from_gives = { λ _ fault. fault ≡ NoMemory };
 
     fn from(_: AllocError) -> Self {
-        WorldFault::NoMemory
-    }
-}
-
-impl From<NoMemory> for WorldFault {
-    ghost use Rattle.std.specs.Prelude.{◌≡◌};
-    ghost use Rattle.cf_world.specs.declared.world.WorldFault.TheVariants.{NoMemory};
-
-    ghost from_gives = { λ _ fault. fault ≡ NoMemory };
-
-    fn from(_: NoMemory) -> Self {
         WorldFault::NoMemory
     }
 }
@@ -98,7 +87,7 @@ pub fn make_world<F: Files>(
         return Err(WorldFault::NoMemory);
     };
     let mut hosts = Hosts::new(alloc, seed, sessions)?;
-    write_policy(files, names.policy, document.text.as_str())?;
+    begin_file(files, names.policy, document.text.as_bytes())?;
     make_capture(
         alloc,
         &document.policy,
@@ -110,16 +99,16 @@ pub fn make_world<F: Files>(
     )
 }
 
-/// Creates the policy's file, and writes its text.
-fn write_policy<F: Files>(files: &mut F, name: &str, text: &str) -> Result<(), WriteFault>
-    ensures done { OnOk result (F.content files.new name.now ≡ content_after_write (F.content files.old name.now) text.now) }
-    ensures partly { OnErr result (IsPartly text.now (F.content files.old name.now) (F.content files.new name.now)) }
+/// Creates a file, and writes its first octets.
+fn begin_file<F: Files>(files: &mut F, name: &str, octets: &[u8]) -> Result<(), WriteFault>
+    ensures done { OnOk result (F.content files.new name.now ≡ content_after_write (F.content files.old name.now) octets.now) }
+    ensures partly { OnErr result (IsPartly octets.now (F.content files.old name.now) (F.content files.new name.now)) }
     ensures others { KeepsOthers name.now (F.content files.old) (F.content files.new) }
     ensures cause { HasCause (F.write_faults files.old) (F.write_faults files.new) (IsErr result) }
     ensures reads { F.read_faults files.new ≡ F.read_faults files.old }
 {
     match files.create(name) {
-        WriteAnswer::Done => append_all(files, name, text.as_bytes()),
+        WriteAnswer::Done => append_all(files, name, octets),
         WriteAnswer::Failed => Err(WriteFault),
     }
 }
@@ -143,13 +132,8 @@ fn make_capture<F: Files>(
     ensures cause { HasCause (F.write_faults files.old) (F.write_faults files.new) (IsErrOf result WorldFault.Write) }
     ensures reads { F.read_faults files.new ≡ F.read_faults files.old }
 {
-    if let WriteAnswer::Failed = files.create(capture) {
-        return Err(WorldFault::Write);
-    }
     let mut header = [0u8; 24];
     write_header(&mut header);
-    if let WriteAnswer::Failed = files.append(capture, &header) {
-        return Err(WorldFault::Write);
-    }
+    begin_file(files, capture, &header)?;
     make_records(alloc, policy, sessions, capture, engine, hosts, files)
 }

@@ -20,6 +20,7 @@ records-preserved g c =
       begun = sent.few;
       losses = omega arith;
       near = omega (arith, before.near, sent.soon);
+      timely = sent.near;
       sound = done.sound;
       earlier = omega (arith, done.last);
       others = λ other not. done.others other not ∙ before.others other not;

@@ -13,6 +13,7 @@ invariant-records g l =
       begun : l.begun ≤ l.sessions;
       losses : l.losses ≤ 1000;
       near : l.last ≤ 10000000 * l.records;
+      timely : 20000 * l.begun ≤ l.last + 9000000;
       sound : IsSoundEngine l.policy.assets l.engine;
       earlier : l.engine.last ≤ l.last;
       others : KeepsOthers l.capture (content l.fn.files) (content l.files);

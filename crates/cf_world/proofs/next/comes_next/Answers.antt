@@ -6,4 +6,4 @@ pub returns-in_default : goal.returns-in_default
 returns-in_default c =
     let begins = c.begins.ensures in
     begins_next c.args.begun c.args.sessions c.args.last c.args.losses c.moment_of.result c.begins.new.packet.items c.begins.result
-    begins.sends (omega (arith, c.if-begun-sessions-2.true)) c.moment_of.ensures.later c.moment_of.ensures.soon begins.short begins.syn
+    begins.sends (omega (arith, c.if-begun-sessions-2.true)) c.requires.sessions c.moment_of.ensures.later c.moment_of.ensures.soon begins.short begins.syn

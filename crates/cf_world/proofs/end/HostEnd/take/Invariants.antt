@@ -1,8 +1,12 @@
-use Rattle.std.proofs.Common.{length, ◌-◌, ◌≤◌}
+use Rattle.std.proofs.Common.{◌≡◌, length, ◌-◌, ◌≤◌}
+use Rattle.cf_world.specs.declared.end.Said.TheVariants as say
 use Rattle.cf_world.proofs.end.HostEnd.take.Given as goal
 
 abbrev pub invariant-units : goal.invariant-units
-invariant-units l = l.place ≤ length l.text
+invariant-units l = record {
+  inside : l.place ≤ length l.text;
+  free : l.self.said ≡ say.Nothing;
+}
 
 abbrev pub decreases-units : goal.decreases-units
 decreases-units l = length l.text - l.place
