@@ -70,12 +70,12 @@ impl Leg {
     }
 
     /// Sends the RST of a cut. The leg is dropped then.
-    pub fn cut<D: Desk>(&mut self, now: u64, queue: &Outq, desk: &mut D) -> Result<(), WriteFault>
-        requires base { base_of self.old.window ≤ 2 ^ 30 + 16384 }
+    pub fn cut<D: Desk>(&self, now: u64, queue: &Outq, desk: &mut D) -> Result<(), WriteFault>
+        requires base { base_of self.now.window ≤ 2 ^ 30 + 16384 }
         requires whole { DeskValue.whole (D.value desk.old) ≡ true }
         requires moment { now < 2 ^ 32 * 1000000 }
-        ensures cut { OnOk result (CutOff now self.old queue.now (DeskValue.packets (D.value desk.old)) (DeskValue.packets (D.value desk.new))) }
-        ensures broken { OnErr result (CutBreaks now self.old queue.now (D.value desk.old) (D.value desk.new)) }
+        ensures cut { OnOk result (CutOff now self.now queue.now (DeskValue.packets (D.value desk.old)) (DeskValue.packets (D.value desk.new))) }
+        ensures broken { OnErr result (CutBreaks now self.now queue.now (D.value desk.old) (D.value desk.new)) }
         ensures lines { DeskValue.lines (D.value desk.new) ≡ DeskValue.lines (D.value desk.old) }
         ensures packet_part { OnOk result (DeskValue.packet_part (D.value desk.new) ≡ DeskValue.packet_part (D.value desk.old)) }
         ensures line_part { DeskValue.line_part (D.value desk.new) ≡ DeskValue.line_part (D.value desk.old) }
