@@ -7,7 +7,11 @@ use crate::octets::size;
 use crate::packets::wrong_packet;
 use crate::row::Row;
 use cf_outside::Told;
+use cf_pcap::{RecordAnswer, read_header, read_record};
 use cf_view::Side;
+
+/// More records than a row has.
+const RECORDS: u32 = 1_000_000;
 
 /// What differs first, if anything does.
 pub fn difference(
@@ -21,8 +25,7 @@ pub fn difference(
     if usize::from(left.status) != size(status)? {
         return Ok(Some(format!(in alloc; "status {}", left.status)?));
     }
-    let printed = row.text(alloc, "printed:")?.unwrap_or(Vec::new(alloc));
-    if left.out.bytes.as_slice() != printed.as_slice() {
+    if !is_printed(book, row, left.out.bytes.as_slice())? {
         let seen = String::from_utf8_lossy(alloc, left.out.bytes.as_slice())?;
         return Ok(Some(format!(in alloc; "printed {seen:?}")?));
     }
@@ -36,6 +39,18 @@ pub fn difference(
     Ok(Some(format!(in alloc; "other than {what}")?))
 }
 
+/// Whether this is what a row says that is printed: all of it, or what stands behind the number of records.
+fn is_printed(book: &Book, row: &Row, printed: &[u8]) -> Result<bool, Fault> {
+    let Some(counted) = row.text(book.alloc, "counted:")? else {
+        let wanted = row.text(book.alloc, "printed:")?;
+        return Ok(printed == wanted.unwrap_or(Vec::new(book.alloc)).as_slice());
+    };
+    let records = printed.strip_prefix(b"records ").unwrap_or(b"");
+    let digits = records.iter().take_while(|octet| octet.is_ascii_digit());
+    let behind = records.get(digits.count()..).unwrap_or(b"");
+    Ok(behind.strip_prefix(b"\n") == Some(counted.as_slice()))
+}
+
 /// The first of the outputs that is not as the row says, or what else was written.
 fn wrong_output<'a>(
     book: &Book,
@@ -43,6 +58,9 @@ fn wrong_output<'a>(
     words: &str,
     left: &Left,
 ) -> Result<Option<&'a str>, Fault> {
+    if words.starts_with("world ") {
+        return Ok(wrong_world(book, left));
+    }
     let runs = words.starts_with("run ") && !row.has("outputs: none");
     let log = log_of(book, row, runs)?;
     let out = row.octets(book, "OUT:")?;
@@ -70,6 +88,34 @@ fn wrong_output<'a>(
         return Ok(Some("the log"));
     }
     Ok(None)
+}
+
+/// What a world `w x o l` left otherwise than its four files.
+fn wrong_world<'a>(book: &Book, left: &Left) -> Option<&'a str> {
+    if left.files.files.len() != book.policies.len().saturating_add(6) {
+        return Some("the files that are there");
+    }
+    for name in ["x", "o"] {
+        if !left.file(name).is_some_and(is_capture) {
+            return Some("a whole capture");
+        }
+    }
+    None
+}
+
+/// Whether octets are the header of a capture and whole records.
+pub fn is_capture(octets: &[u8]) -> bool {
+    let Ok(header) = read_header(octets) else {
+        return false;
+    };
+    let mut left = octets.get(24..).unwrap_or(b"");
+    for _ in 0..RECORDS {
+        match read_record(&header, left) {
+            RecordAnswer::Whole { used, .. } => left = left.get(used..).unwrap_or(b""),
+            _ => break,
+        }
+    }
+    left.is_empty()
 }
 
 /// The text of the log, if it is there.

@@ -9,7 +9,7 @@ use std::alloc::Global;
 use std::collections::BTreeMap;
 
 /// How the lines of a row begin.
-const KEYS: [&str; 32] = [
+const KEYS: [&str; 33] = [
     ">",
     "<",
     "log",
@@ -36,6 +36,7 @@ const KEYS: [&str; 32] = [
     "once:",
     "status:",
     "printed:",
+    "counted:",
     "outputs: none",
     "OUT:",
     "LOG:",

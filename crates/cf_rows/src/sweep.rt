@@ -1,7 +1,7 @@
 //! One failing call after the other.
 
 use crate::book::Book;
-use crate::compare::{difference, given};
+use crate::compare::{difference, given, is_capture};
 use crate::fault::{Fault, Wanted};
 use crate::left::{Left, Script, play};
 use crate::octets::size;
@@ -126,5 +126,37 @@ fn is_beginning(book: &Book, left: &Left, whole: &Left) -> Result<bool, Fault> {
         let wanted = given(book, whole, side)?;
         begins &= wanted.starts_with(given(book, left, side)?.as_slice());
     }
-    Ok(begins)
+    Ok(begins && is_made_in_order(left, whole) && is_whole_where_read(left))
+}
+
+/// Whether the policy and the capture of a world are beginnings, each of which is whole where the file behind it is there.
+fn is_made_in_order(left: &Left, whole: &Left) -> bool {
+    let mut right = true;
+    let mut later = left.file("o").is_some();
+    for name in ["x", "w"] {
+        let Some(wanted) = whole.file(name) else {
+            continue;
+        };
+        match left.file(name) {
+            Some(bytes) => {
+                right &= wanted.starts_with(bytes) && (!later || bytes.len() == wanted.len());
+                later = true;
+            }
+            None => right &= !later,
+        }
+    }
+    right
+}
+
+/// Whether what a run over a capture, or a world, left behind a failed read are whole records and whole lines.
+fn is_whole_where_read(left: &Left) -> bool {
+    let (Some(out), Some(log)) = (left.file("o"), left.file("l")) else {
+        return true;
+    };
+    left.status != 3
+        || left.file("r").is_some()
+        || {
+            let lines = log.is_empty() || log.ends_with(b"\n");
+            lines && is_capture(out)
+        }
 }
