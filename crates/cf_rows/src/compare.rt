@@ -58,7 +58,7 @@ fn wrong_output<'a>(
     words: &str,
     left: &Left,
 ) -> Result<Option<&'a str>, Fault> {
-    if words.starts_with("world ") {
+    if row.has("counted:") {
         return Ok(wrong_world(book, left));
     }
     let runs = words.starts_with("run ") && !row.has("outputs: none");
