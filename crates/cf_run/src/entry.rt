@@ -35,11 +35,11 @@ pub(crate) fn asset_of<'a>(assets: &'a [Asset], place: usize) -> &'a Asset
     &assets[place]
 }
 
-/// Whether two endpoints are the same.
+/// Whether two endpoints are the same. The ports differ more often, as where many sessions have one client.
 pub(crate) fn is_same(a: &Endpoint, b: &Endpoint) -> bool
     ensures { result ≡ same_endpoint a.now b.now }
 {
-    a.address == b.address && a.port == b.port
+    a.port == b.port && a.address == b.address
 }
 
 /// Whether an asset stands at an endpoint.
