@@ -1,10 +1,11 @@
 -- Octets that are right at each place are an APDU as it is spelled, and the other way round.
 use Rattle.std.proofs.Common.{◌≡◌, ℕ, zero, suc, ◌+◌, ◌*◌, ◌/◌, ◌%◌, ◌<◌, ◌≤◌, ◌==◌, ◌&&◌, ◌||◌, nat_le, Bool, true, false, List, [], ◌∷◌, length, get_or, drop, inl, inr, refl, sym, ◌∙◌, subst, arith}
-use Rattle.std.proofs.lemmas.Bool.{cases_Bool, false≢true}
+use Rattle.std.proofs.lemmas.Bool.{and_parts, cases_Bool, false≢true}
 use Rattle.std.proofs.lemmas.Bool.Decides.{nat_tests}
 use Rattle.std.proofs.lemmas.List.{length-drop}
 use Rattle.cf_view.specs.Octets.{IsOctets, u16_le_at}
 use Rattle.cf_view.specs.Places.{IsRight, IsUnit, SpellsBy}
+use Rattle.cf_view.proofs.Cells.{six_cells}
 use Rattle.cf_view.proofs.OctetLists.{IsOctets-drop}
 use Rattle.cf_apci.specs.Apdu.{ApduValue, Info, Ack, Control, is_control, spelling, Fits, SpellsApdu}
 use Rattle.cf_apci.specs.Places.{size_of, is_third, is_fourth, is_right, follows, fields_of}
@@ -25,27 +26,9 @@ between_is n h = grind (arith, nat_tests)
 format_even : (f : ℕ) → (f % 2 == 0) ≡ true → f % 2 ≡ 0
 format_even f h = is_equal (f % 2) 0 h
 
-and_left : (a b : Bool) → a && b ≡ true → a ≡ true
-and_left true b h = refl
-and_left false b h = h
-
-and_right : (a b : Bool) → a && b ≡ true → b ≡ true
-and_right true b h = h
-and_right false b h = absurd (false≢true h)
-
 or_right : (a b : Bool) → a ≡ false → a || b ≡ true → b ≡ true
 or_right true b e h = absurd (false≢true (sym e))
 or_right false b e h = h
-
-six_cells : (xs : List ℕ) → 6 ≤ length xs →
-    xs ≡ get_or xs 0 0 ∷ get_or xs 1 0 ∷ get_or xs 2 0 ∷ get_or xs 3 0 ∷ get_or xs 4 0 ∷ get_or xs 5 0 ∷ drop 6 xs
-six_cells [] h = absurd (omega (arith, h))
-six_cells (a ∷ []) h = absurd (omega (arith, h))
-six_cells (a ∷ b ∷ []) h = absurd (omega (arith, h))
-six_cells (a ∷ b ∷ c ∷ []) h = absurd (omega (arith, h))
-six_cells (a ∷ b ∷ c ∷ d ∷ []) h = absurd (omega (arith, h))
-six_cells (a ∷ b ∷ c ∷ d ∷ e ∷ []) h = absurd (omega (arith, h))
-six_cells (a ∷ b ∷ c ∷ d ∷ e ∷ f ∷ xs) h = refl
 
 same_cells : {a b c d e f a' b' c' d' e' f' : ℕ} {ys zs : List ℕ} → a ≡ a' → b ≡ b' → c ≡ c' → d ≡ d' → e ≡ e' → f ≡ f' → ys ≡ zs →
     a ∷ b ∷ c ∷ d ∷ e ∷ f ∷ ys ≡ a' ∷ b' ∷ c' ∷ d' ∷ e' ∷ f' ∷ zs
@@ -103,7 +86,7 @@ module _ (xs : List ℕ) (u : IsUnit follows size_of xs) where
     rest_of = or_right (get_or xs 2 0 % 2 == 0) ((get_or xs 1 0 == 4) && ((get_or xs 2 0 == 1) || is_control (get_or xs 2 0))) odd (right 2 (omega arith))
 
     four : get_or xs 1 0 ≡ 4
-    four = is_equal (get_or xs 1 0) 4 (and_left (get_or xs 1 0 == 4) ((get_or xs 2 0 == 1) || is_control (get_or xs 2 0)) rest_of)
+    four = is_equal (get_or xs 1 0) 4 (and_parts (get_or xs 1 0 == 4) ((get_or xs 2 0 == 1) || is_control (get_or xs 2 0)) rest_of).0
 
     none : drop 6 xs ≡ []
     none = nothing (drop 6 xs) (omega (arith, left, four))
@@ -129,7 +112,7 @@ module _ (xs : List ℕ) (u : IsUnit follows size_of xs) where
     of_control : (get_or xs 2 0 == 1) ≡ false → SpellsApdu (Control (get_or xs 2 0)) xs
     of_control n =
         let x2 = get_or xs 2 0 in
-        let either = and_right (get_or xs 1 0 == 4) ((x2 == 1) || is_control x2) rest_of in
+        let either = (and_parts (get_or xs 1 0 == 4) ((x2 == 1) || is_control x2) rest_of).1 in
         let third : is_third x2 (get_or xs 4 0) ≡ true = right 4 (omega arith) in
         let fourth : is_fourth x2 (get_or xs 5 0) ≡ true = right 5 (omega arith) in
         record {

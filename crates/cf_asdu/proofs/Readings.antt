@@ -2,6 +2,7 @@
 use Rattle.std.proofs.Common.{◌≡◌, ℕ, ◌+◌, ◌*◌, ◌/◌, ◌%◌, ◌<◌, ◌≤◌, List, [], ◌∷◌, length, get_or, drop, Option, Some, None, Result, Ok, Err, inl, inr, refl, sym, ◌∙◌, ap, arith}
 use Rattle.std.proofs.lemmas.Bool.{cases_lt}
 use Rattle.cf_view.specs.Octets.{IsOctets, u16_le_at}
+use Rattle.cf_view.proofs.Cells.{six_cells}
 use Rattle.cf_view.proofs.OctetLists.{IsOctets-drop}
 use Rattle.cf_asdu.specs.declared.asdu.AsduRefusal.{AsduRefusal}
 use Rattle.cf_asdu.specs.declared.asdu.AsduRefusal.TheVariants as refusals
@@ -18,16 +19,6 @@ value_of xs =
       station = u16_le_at xs 4;
       objects = drop 6 xs;
     }
-
-six_cells : (xs : List ℕ) → 6 ≤ length xs →
-    xs ≡ get_or xs 0 0 ∷ get_or xs 1 0 ∷ get_or xs 2 0 ∷ get_or xs 3 0 ∷ get_or xs 4 0 ∷ get_or xs 5 0 ∷ drop 6 xs
-six_cells [] h = absurd (omega (arith, h))
-six_cells (a ∷ []) h = absurd (omega (arith, h))
-six_cells (a ∷ b ∷ []) h = absurd (omega (arith, h))
-six_cells (a ∷ b ∷ c ∷ []) h = absurd (omega (arith, h))
-six_cells (a ∷ b ∷ c ∷ d ∷ []) h = absurd (omega (arith, h))
-six_cells (a ∷ b ∷ c ∷ d ∷ e ∷ []) h = absurd (omega (arith, h))
-six_cells (a ∷ b ∷ c ∷ d ∷ e ∷ f ∷ xs) h = refl
 
 station_cells : {a b c d e f e' f' : ℕ} {ys : List ℕ} → e ≡ e' → f ≡ f' → a ∷ b ∷ c ∷ d ∷ e ∷ f ∷ ys ≡ a ∷ b ∷ c ∷ d ∷ e' ∷ f' ∷ ys
 station_cells p q = cc (p, q)

@@ -4,6 +4,7 @@ use Rattle.cf_view.specs.declared.Act.{Act}
 use Rattle.cf_view.specs.declared.Endpoint.{Endpoint}
 use Rattle.cf_view.specs.declared.Reason.{Reason}
 use Rattle.cf_view.specs.declared.Side.{Side}
+use Rattle.cf_audit.specs.declared.line.TheConstants.{NAME_LIMIT}
 use Rattle.cf_audit.specs.declared.line.CutReason.{CutReason}
 use Rattle.cf_audit.specs.declared.line.Why.{Why}
 use Rattle.cf_audit.specs.declared.line.What.{What}
@@ -36,14 +37,14 @@ what_value (what.Cut reason) = Cut reason
 abbrev pub line_value : Line → LineValue
 line_value line = record { moment = line.moment; client = line.client; asset = line.asset.now; what = what_value line.what }
 
--- the names have at most 32 bytes, as those of a policy
+-- the names are short, as those of a policy
 abbrev pub HasShortRule : WhatValue → Type 0
 HasShortRule Begun = Unit {0}
-HasShortRule (Refuse rule reason act replied unit) = length rule ≤ 32
+HasShortRule (Refuse rule reason act replied unit) = length rule ≤ NAME_LIMIT
 HasShortRule (Stray side why) = Unit {0}
 HasShortRule (Partial side count) = Unit {0}
 HasShortRule (Close admitted refused) = Unit {0}
 HasShortRule (Cut reason) = Unit {0}
 
 abbrev pub HasShortNames : LineValue → Type 0
-HasShortNames line = (length line.asset ≤ 32) × HasShortRule line.what
+HasShortNames line = (length line.asset ≤ NAME_LIMIT) × HasShortRule line.what

@@ -4,7 +4,7 @@
 mod line;
 mod write;
 
-pub use line::{CutReason, Line, What, Why};
+pub use line::{CutReason, Line, NAME_LIMIT, What, Why};
 pub use write::{push_cut, write_line};
 
 #[cfg(test)]

@@ -2,6 +2,9 @@
 
 use cf_view::{Act, Break, Endpoint, Reason, Side, View};
 
+/// The most bytes of a name in a line. This project's own choice.
+pub const NAME_LIMIT: usize = 32;
+
 /// Why a DNP3 frame, segment or fragment was dropped. This project's own names.
 #[derive(Clone, Copy, PartialEq, Eq, Debug)]
 pub enum Why {
@@ -53,7 +56,7 @@ pub enum What<'a> {
     Begun,
     /// A command was refused.
     Refuse {
-        /// The name of the deciding rule, or `default`, `station` or `form`; at most 32 bytes.
+        /// The name of the deciding rule, or `default`, `station` or `form`; at most `NAME_LIMIT` bytes.
         rule: &'a str,
         reason: Reason,
         /// The act that decided.
@@ -88,7 +91,7 @@ pub struct Line<'a> {
     /// Microseconds.
     pub moment: u64,
     pub client: Endpoint,
-    /// The name of the asset; at most 32 bytes.
+    /// The name of the asset; at most `NAME_LIMIT` bytes.
     pub asset: &'a str,
     pub what: What<'a>,
 }

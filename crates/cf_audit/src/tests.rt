@@ -1,6 +1,6 @@
 //! Lines by hand: each form, each reason, each cause of a drop and each cut.
 
-use crate::{CutReason, Line, What, Why, write_line};
+use crate::{CutReason, Line, NAME_LIMIT, What, Why, write_line};
 use arrayvec::ArrayString;
 use cf_view::{Act, Break, Endpoint, Reason, Side, View};
 use std::process::Abort;
@@ -12,7 +12,7 @@ fn expect(rt: &impl Abort, what: What<'_>, text: &str) {
         port: 49152,
     };
     if let What::Refuse { rule, .. } = &what {
-        assert!(rt; rule.len() <= 32);
+        assert!(rt; rule.len() <= NAME_LIMIT);
     }
     let mut out = ArrayString::<256>::new();
     write_line(

@@ -1,6 +1,7 @@
 //! Lines of the log as text.
 ghost use Rattle.std.specs.Prelude.{◌≡◌, ◌+◌, ◌≤◌, ◌++◌, length};
 ghost use Rattle.arrayvec.specs.ArrayString.{array_string_len};
+ghost use Rattle.cf_audit.specs.declared.line.TheConstants.{NAME_LIMIT};
 ghost use Rattle.cf_audit.specs.Line.{Close, HasShortNames, HasShortRule, Refuse, line_value, what_value};
 ghost use Rattle.cf_audit.specs.Names.{break_name, mark, reason_name, side_name, why_name};
 ghost use Rattle.cf_audit.specs.Text.{act_text, cut_text, line_text, what_text};
@@ -149,7 +150,7 @@ fn push_refusal<const N: usize>(
     replied: bool,
     unit: &View<'_>,
 )
-    requires name { length rule.now ≤ 32 }
+    requires name { length rule.now ≤ NAME_LIMIT }
     requires room { array_string_len out.old + 159 ≤ N }
     ensures bytes { out.new.bytes ≡ out.old.bytes ++ what_text (Refuse rule.now reason act.now replied unit.now.bytes) }
     ensures short { array_string_len out.new ≤ array_string_len out.old + 159 }
@@ -211,7 +212,7 @@ fn push_what<const N: usize>(out: &mut ArrayString<N>, what: &What<'_>)
     }
 }
 
-/// Writes a line with its line feed, in place of what `out` held. The names have at most 32 bytes, so that it fits.
+/// Writes a line with its line feed, in place of what `out` held. The names have at most `NAME_LIMIT` bytes, so that it fits.
 pub fn write_line(line: &Line<'_>, out: &mut ArrayString<256>)
     requires { HasShortNames (line_value line.now) }
     ensures bytes { out.new.bytes ≡ line_text (line_value line.now) }

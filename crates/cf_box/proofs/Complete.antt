@@ -14,11 +14,11 @@ use Rattle.cf_policylang.specs.Documents.{policy_meaning}
 use Rattle.cf_policylang.specs.declared.PolicyRefusal.{PolicyRefusal}
 use Rattle.cf_run.specs.RunCapture.{HasRecords as HasRunRecords}
 use Rattle.cf_box.specs.Captures.{EndsAt, Refuses}
-use Rattle.cf_box.specs.Command.{Command, Check, Packets, Run, Relay, World, Sift, capture_file}
+use Rattle.cf_box.specs.Command.{Command, Check, Packets, Run, Relay, World, Sift, asset_name, capture_file, policy_file}
 use Rattle.cf_box.specs.Ends.{CutsCapture, CutsRun, CutsStream, EndsIdle, LacksAsset, LinkFails, Meets, RefusesCapture, RefusesMadePolicy, RefusesPolicy}
 use Rattle.cf_box.specs.Outside.{Outside, ReadFailed, WriteFailed}
 use Rattle.cf_box.specs.Packets.{HasListedRecords}
-use Rattle.cf_box.specs.PolicyFile.{HasPolicy, IsRefusedBy, asset_named}
+use Rattle.cf_box.specs.PolicyFile.{HasPolicy, IsRefusedBy, TellsAsset}
 use Rattle.cf_box.specs.Run.{RunCuts, RunRefuses}
 use Rattle.cf_box.specs.Status.{EndsWell, HasInput, HasRecords, HasTimedRecords, NothingFails, TellsMade}
 use Rattle.cf_box.specs.declared.ending.CaptureRefusal.{CaptureRefusal}
@@ -43,6 +43,20 @@ pub same_policy : (file : Content) (bytes : List ℕ) (p q : Policy) → file �
 same_policy file bytes p q told means has =
     let same : has.bytes ≡ bytes = same_bytes file bytes has.bytes told has.whole in
     let meaning : policy_meaning bytes ≡ Ok q = ap policy_meaning (sym same) ∙ has.means in
+    cc
+
+-- an asset that a told policy has is not lacking
+pub not_lacking : (c : Command) (before : Outside) (file name : List ℕ) (t : TellsAsset (before.files.content file) name) → policy_file c ≡ Some file → asset_name c ≡ Some name →
+    LacksAsset c before → ⊥
+not_lacking c before file name t of_policy of_asset cause =
+    let e = cause.2 in
+    let f = cause.3 in
+    let here : cause.0 ≡ file = cc in
+    let called : cause.1 ≡ name = cc in
+    let has : HasPolicy (before.files.content file) cause.4.0 = subst (λ x. HasPolicy (before.files.content x) cause.4.0) here cause.4.1 in
+    let same : cause.4.0 ≡ t.policy = same_policy (before.files.content file) t.bytes t.policy cause.4.0 t.told t.means has in
+    let none = cause.4.2 in
+    let named = t.named in
     cc
 
 -- a capture whose header is read and whose records end with the file is not refused, nor cut
@@ -91,38 +105,28 @@ not_cut_run bytes has place h = not_cut_at HasRunRecords bytes has.0 has.1 (run_
 abbrev IsInForm : Command → Outside → Type 0
 IsInForm c before = (file : List ℕ) → capture_file c ≡ Some file → (bytes : List ℕ) × (before.files.content file ≡ holds bytes) × EndsWell c bytes
 
--- so no command's capture in form is refused, nor cut: a line a command
-refused_none : (c : Command) (before : Outside) (r : CaptureRefusal) → IsInForm c before → TellsMade c before → RefusesCapture c before r → ⊥
-refused_none (Packets capture) before r form tells h =
-    let here = form capture refl in
-    not_refused_by HasListedRecords here.0 here.2.0 here.2.1 (listing_ends here.0 here.2) r (subst (λ f. Refuses HasListedRecords f r) here.1 h.0)
-refused_none (Run policy names) before r form tells h =
-    let here = form names.capture refl in
-    not_refused_run here.0 here.2 r (subst (λ f. RunRefuses f r) here.1 h)
-refused_none (Check policy) before r form tells h = h
-refused_none (Relay policy asset port idles log) before r form tells h = h
-refused_none (World seed sessions policy names) before r form tells h = tells.1 h
-refused_none (Sift policy asset client names) before r form tells h = h
+-- so no command's capture in form is refused, nor cut, nor is its run: a line a command
+record EndsInForm (c : Command) (before : Outside) : Type 0 where
+  refused : (r : CaptureRefusal) → RefusesCapture c before r → ⊥
+  cut : (place : ℕ) → CutsCapture c before place → ⊥
+  run_cut : (place : ℕ) → CutsRun c before place → ⊥
 
-cut_none : (c : Command) (before : Outside) (place : ℕ) → IsInForm c before → TellsMade c before → CutsCapture c before place → ⊥
-cut_none (Packets capture) before place form tells h =
-    let here = form capture refl in
-    not_cut_at HasListedRecords here.0 here.2.0 here.2.1 (listing_ends here.0 here.2) place (subst (λ f. EndsAt HasListedRecords f Cut place) here.1 h)
-cut_none (Run policy names) before place form tells h =
-    let here = form names.capture refl in
-    not_cut_run here.0 here.2 place (subst (λ f. RunCuts f place) here.1 h)
-cut_none (Check policy) before place form tells h = h
-cut_none (Relay policy asset port idles log) before place form tells h = h
-cut_none (World seed sessions policy names) before place form tells h = tells.1 h
-cut_none (Sift policy asset client names) before place form tells h = h
-
-run_cut_none : (c : Command) (before : Outside) (place : ℕ) → IsInForm c before → TellsMade c before → CutsRun c before place → ⊥
-run_cut_none (Run policy names) before place form tells h = cut_none (Run policy names) before place form tells h
-run_cut_none (Check policy) before place form tells h = h
-run_cut_none (Packets capture) before place form tells h = h
-run_cut_none (Relay policy asset port idles log) before place form tells h = h
-run_cut_none (World seed sessions policy names) before place form tells h = tells.1 h
-run_cut_none (Sift policy asset client names) before place form tells h = h
+ends_in_form : (c : Command) (before : Outside) → IsInForm c before → TellsMade c before → EndsInForm c before
+ends_in_form (Packets capture) before form tells =
+    let (bytes, told, has) = form capture refl in
+    record {
+      refused = λ r h. not_refused_by HasListedRecords bytes has.0 has.1 (listing_ends bytes has) r (subst (λ f. Refuses HasListedRecords f r) told h.0);
+      cut = λ place h. not_cut_at HasListedRecords bytes has.0 has.1 (listing_ends bytes has) place (subst (λ f. EndsAt HasListedRecords f Cut place) told h);
+      run_cut = λ place h. h;
+    }
+ends_in_form (Run policy names) before form tells =
+    let (bytes, told, has) = form names.capture refl in
+    let uncut : (place : ℕ) → RunCuts (before.files.content names.capture) place → ⊥ = λ place h. not_cut_run bytes has place (subst (λ f. RunCuts f place) told h) in
+    record { refused = λ r h. not_refused_run bytes has r (subst (λ f. RunRefuses f r) told h); cut = uncut; run_cut = uncut }
+ends_in_form (Check policy) before form tells = record { refused = λ r h. h; cut = λ place h. h; run_cut = λ place h. h }
+ends_in_form (Relay policy asset port idles log) before form tells = record { refused = λ r h. h; cut = λ place h. h; run_cut = λ place h. h }
+ends_in_form (World seed sessions policy names) before form tells = record { refused = λ r h. tells.1 h; cut = λ place h. tells.1 h; run_cut = λ place h. tells.1 h }
+ends_in_form (Sift policy asset client names) before form tells = record { refused = λ r h. h; cut = λ place h. h; run_cut = λ place h. h }
 
 -- nor is a policy that has a meaning, or that the command made
 made_none : (c : Command) (before : Outside) → TellsMade c before → RefusesMadePolicy c before → ⊥
@@ -141,6 +145,9 @@ refusal_none c before middle r input (inr made) = made_none c before input.made 
 
 module _ (c : Command) (before middle : Outside) (failed : Type 0) (status : ℕ) (input : HasInput c before middle)
     (reads : ReadFailed before middle → ⊥) (writes : WriteFailed before middle → ⊥) (links : LinkFails c before middle.pair → ⊥) (puts : failed → ⊥) where
+  form : EndsInForm c before
+  form = ends_in_form c before input.capture input.made
+
   is_complete : (r : Result Done Stop) → Meets c before middle r → IsOf r failed status → (status ≡ 0) ⊎ (status ≡ 13)
   is_complete (Ok d) meets (inl h) = inl h
   is_complete (Ok d) meets (inr h) = absurd (puts h.1)
@@ -154,14 +161,10 @@ module _ (c : Command) (before middle : Outside) (failed : Type 0) (status : ℕ
       let cause : LacksAsset c before = meets.0 in
       let here = input.policy cause.0 cause.2 in
       let found = here.2.2 cause.1 cause.3 in
-      let same = same_policy (before.files.content cause.0) here.0 here.2.0 cause.4.0 here.1 here.2.1 cause.4.1 in
-      absurd (clash cause.1 cause.4.0 here.2.0 found.0 same cause.4.2 found.1)
-    where
-      clash : (name : List ℕ) (p q : Policy) (a : Asset) → p ≡ q → asset_named name p ≡ None → asset_named name q ≡ Some a → ⊥
-      clash name p q a same none some = cc
-  is_complete (Err (stop.CaptureRefused r)) meets h = absurd (refused_none c before r input.capture input.made meets.0.0)
-  is_complete (Err (stop.CaptureCut place)) meets h = absurd (cut_none c before place input.capture input.made meets.0.0)
-  is_complete (Err (stop.RunCut place summary)) meets h = absurd (run_cut_none c before place input.capture input.made meets.0.0)
+      absurd (not_lacking c before cause.0 cause.1 (record { bytes = here.0; policy = here.2.0; asset = found.0; told = here.1; means = here.2.1; named = found.1 }) cause.2 cause.3 cause)
+  is_complete (Err (stop.CaptureRefused r)) meets h = absurd (form.refused r meets.0.0)
+  is_complete (Err (stop.CaptureCut place)) meets h = absurd (form.cut place meets.0.0)
+  is_complete (Err (stop.RunCut place summary)) meets h = absurd (form.run_cut place meets.0.0)
   is_complete (Err stop.LinkFault) meets h = absurd (links meets.0.0)
   is_complete (Err stop.IdleEnd) meets h = absurd (input.idle meets.0.0)
   is_complete (Err (stop.Cut reason)) meets h = absurd (input.stream reason meets.0.0)

@@ -4,7 +4,7 @@ use Rattle.std.proofs.lemmas.List.{append_cancel_left}
 use Rattle.cf_audit.specs.declared.line.CutReason.{CutReason}
 use Rattle.cf_lane.specs.Judged.{Judged}
 use Rattle.cf_lane.specs.Laws.{HasOneJudgement}
-use Rattle.cf_outside.specs.Files.{holds}
+use Rattle.cf_outside.specs.Files.{Content, holds}
 use Rattle.cf_outside.specs.Pair.{Entry}
 use Rattle.cf_relay.specs.Answers.{client_of, history_of, idle_run, with_answers}
 use Rattle.cf_relay.specs.Turn.{AreItemsOf, cut_at}
@@ -18,7 +18,7 @@ use Rattle.cf_box.specs.Command.{Command, Check, Packets, Run, Relay, World, Sif
 use Rattle.cf_box.specs.Ending.{stop_status}
 use Rattle.cf_box.specs.Ends.{Does, LacksAsset, Meets, PassesPolicy, RefusesMadePolicy, RefusesPolicy}
 use Rattle.cf_box.specs.Outside.{Outside, ReadFailed, WriteFailed}
-use Rattle.cf_box.specs.PolicyFile.{FindsAsset, HasPolicy, IsRefusedBy, StopsPolicy}
+use Rattle.cf_box.specs.PolicyFile.{FindsAsset, HasPolicy, IsRefusedBy, StopsPolicy, TellsAsset}
 use Rattle.cf_sift.specs.Laws.{HasOneCut}
 use Rattle.cf_sift.specs.Names.{SiftNamesValue}
 use Rattle.cf_sift.specs.Stored.{GoesUpTo, stored_history}
@@ -28,9 +28,9 @@ use Rattle.cf_box.specs.Status.{IsExact, TellsCut, TellsIdle, TellsNoAsset, Tell
 use Rattle.cf_box.specs.declared.ending.Done.{Done}
 use Rattle.cf_box.specs.declared.ending.Stop.{Stop}
 use Rattle.cf_box.specs.declared.ending.Stop.TheVariants as stop
-use Rattle.cf_box.proofs.Complete.{not_refused, same_bytes, same_policy}
-use Rattle.cf_box.proofs.Relaying.{GoesOn, IsUncutEnd, few_by, idle_is_late, link_is_late, relay_passes, uncut_by}
-use Rattle.cf_box.proofs.Sifting.{passes}
+use Rattle.cf_box.proofs.Complete.{not_lacking, not_refused, same_bytes, same_policy}
+use Rattle.cf_box.proofs.Passing.{found_passes}
+use Rattle.cf_box.proofs.Relaying.{GoesOn, IsUncutEnd, few_by, idle_is_late, link_is_late, uncut_by}
 use Rattle.cf_box.proofs.Statuses.{Explains, IsOf, Unprinted, explained, read_failed, stop_is, write_failed}
 
 -- work that was done has passed the policy: a line a command
@@ -45,9 +45,9 @@ does_pass before after (Run policy names) d m = record {
   asset = λ file name e f. cc f;
 }
 does_pass before after (Relay policy asset port idles log) d m =
-    relay_passes policy asset port idles log before m.1.asset m.1.finds
+    found_passes (Relay policy asset port idles log) before policy asset m.1.asset refl refl m.1.finds
 does_pass before after (World seed sessions policy names) d m = record { policy = λ file e. cc e; asset = λ file name e f. cc e }
-does_pass before after (Sift policy name client names) d m = passes policy name client names before after m.takes.asset m.takes.finds
+does_pass before after (Sift policy name client names) d m = found_passes (Sift policy name client names) before policy name m.takes.asset refl refl m.takes.finds
 
 -- a command that reads a policy file makes none for itself
 made_unread : (c : Command) (before : Outside) (file : List ℕ) → policy_file c ≡ Some file → RefusesMadePolicy c before → ⊥
@@ -66,6 +66,14 @@ known_unrefused c before file bytes p r needs told means (inl cause) =
     let here : cause.0 ≡ file = cc in
     not_refused (before.files.content file) bytes p r told means (subst (λ f. IsRefusedBy (before.files.content f) r) here cause.2)
 known_unrefused c before file bytes p r needs told means (inr made) = made_unread c before file needs made
+
+-- the asset that is found is that of the policy that is told
+found_asset : (file : Content) (name : List ℕ) (t : TellsAsset file name) (a : Asset) → FindsAsset file name a → a ≡ t.asset
+found_asset file name t a finds =
+    let same : finds.policy ≡ t.policy = same_policy file t.bytes t.policy finds.policy t.told t.means finds.has in
+    let found = finds.named in
+    let named = t.named in
+    cc
 
 module _ (failed : Type 0) (status : ℕ) (before after : Outside) where
   -- the status that is due, or one of those to which it yields
@@ -139,12 +147,8 @@ module _ (failed : Type 0) (status : ℕ) (before after : Outside) where
   DueIdle = DueBehind 9
 
   module _ (one : HasOneCut) (file name : List ℕ) (client : ℕ) (names : SiftNamesValue) (t : TellsCutStream file name client names before) where
-    same_asset : (a : Asset) → FindsAsset (before.files.content file) name a → a ≡ t.asset
-    same_asset a finds =
-        let same : finds.policy ≡ t.policy = same_policy (before.files.content file) t.bytes t.policy finds.policy t.told t.means finds.has in
-        let found = finds.named in
-        let named = t.named in
-        cc
+    same_asset : (a : Asset) → FindsAsset (before.files.content file) name a → a ≡ t.known.asset
+    same_asset a finds = found_asset (before.files.content file) name t.known a finds
 
     -- the stream does not go on to its end
     not_uncut : TakesStream file name client names before after None → ⊥
@@ -154,7 +158,7 @@ module _ (failed : Type 0) (status : ℕ) (before after : Outside) where
         let stream = same_bytes (before.files.content names.stream) t.stream s.bytes t.stream_told s.whole in
         let goes = subst (λ a. GoesUpTo a client (stored_history t.stream) taken.taken.cut s.history s.judged) asset
         (subst (λ b. GoesUpTo taken.asset client (stored_history b) taken.taken.cut s.history s.judged) stream s.goes) in
-        let cut = (one t.asset client (stored_history t.stream) s.history t.history taken.taken.cut (Some t.reason) s.judged t.judged goes t.goes).2 in
+        let cut = (one t.known.asset client (stored_history t.stream) s.history t.history taken.taken.cut (Some t.reason) s.judged t.judged goes t.goes).2 in
         let none = taken.is_cut in
         cc
 
@@ -163,18 +167,9 @@ module _ (failed : Type 0) (status : ℕ) (before after : Outside) where
     cut_from (Err stop.ReadFault) meets h = inr (inr (inl (stop_is failed status stop.ReadFault h, meets.0)))
     cut_from (Err stop.NoMemory) meets h = inr (inr (inr (stop_is failed status stop.NoMemory h)))
     cut_from (Err (stop.PolicyRefused r)) meets h =
-        absurd (known_unrefused (Sift file name client names) before file t.bytes t.policy r refl t.told t.means meets.0)
+        absurd (known_unrefused (Sift file name client names) before file t.known.bytes t.known.policy r refl t.known.told t.known.means meets.0)
     cut_from (Err stop.UnknownAsset) meets h =
-        let cause : LacksAsset (Sift file name client names) before = meets.0 in
-        let e = cause.2 in
-        let f = cause.3 in
-        let here : cause.0 ≡ file = cc in
-        let called : cause.1 ≡ name = cc in
-        let has : HasPolicy (before.files.content file) cause.4.0 = subst (λ x. HasPolicy (before.files.content x) cause.4.0) here cause.4.1 in
-        let same : cause.4.0 ≡ t.policy = same_policy (before.files.content file) t.bytes t.policy cause.4.0 t.told t.means has in
-        let none = cause.4.2 in
-        let named = t.named in
-        cc
+        absurd (not_lacking (Sift file name client names) before file name t.known refl refl meets.0)
     cut_from (Err stop.WriteFault) meets h = inr (inl (stop_is failed status stop.WriteFault h, inl meets.0.0))
     cut_from (Err (stop.CaptureRefused r)) meets h = absurd meets.0.0
     cut_from (Err (stop.CaptureCut place)) meets h = absurd meets.0.0
@@ -184,27 +179,14 @@ module _ (failed : Type 0) (status : ℕ) (before after : Outside) where
     cut_from (Err (stop.Cut reason)) meets h = inl (stop_is failed status (stop.Cut reason) h)
 
   module _ (law : HasOneJudgement) (file name : List ℕ) (port idles : ℕ) (log : List ℕ) (t : TellsRelay file name before after.pair) where
-    relayed_asset : (a : Asset) → FindsAsset (before.files.content file) name a → a ≡ t.asset
-    relayed_asset a finds =
-        let same : finds.policy ≡ t.policy = same_policy (before.files.content file) t.bytes t.policy finds.policy t.told t.means finds.has in
-        let found = finds.named in
-        let named = t.named in
-        cc
+    relayed_asset : (a : Asset) → FindsAsset (before.files.content file) name a → a ≡ t.known.asset
+    relayed_asset a finds = found_asset (before.files.content file) name t.known a finds
 
     known_means : (r : PolicyRefusal) → RefusesPolicy (Relay file name port idles log) before r → ⊥
-    known_means r cause = known_unrefused (Relay file name port idles log) before file t.bytes t.policy r refl t.told t.means cause
+    known_means r cause = known_unrefused (Relay file name port idles log) before file t.known.bytes t.known.policy r refl t.known.told t.known.means cause
 
     known_asset : LacksAsset (Relay file name port idles log) before → ⊥
-    known_asset cause =
-        let e = cause.2 in
-        let f = cause.3 in
-        let here : cause.0 ≡ file = cc in
-        let called : cause.1 ≡ name = cc in
-        let has : HasPolicy (before.files.content file) cause.4.0 = subst (λ x. HasPolicy (before.files.content x) cause.4.0) here cause.4.1 in
-        let same : cause.4.0 ≡ t.policy = same_policy (before.files.content file) t.bytes t.policy cause.4.0 t.told t.means has in
-        let none = cause.4.2 in
-        let named = t.named in
-        cc
+    known_asset cause = not_lacking (Relay file name port idles log) before file name t.known refl refl cause
 
     -- the answers that are told are the relay's, and so are their items
     relayed_answers : (es : List Entry) → after.pair.told ≡ with_answers before.pair.told es → es ≡ t.answers
@@ -215,16 +197,16 @@ module _ (failed : Type 0) (status : ℕ) (before after : Outside) where
         append_cancel_left t.earlier es t.answers same
 
     relayed_cut : (a : Asset) (es : List Entry) (js : List Judged) → FindsAsset (before.files.content file) name a → after.pair.told ≡ with_answers before.pair.told es →
-        AreItemsOf a es js → cut_at a es js ≡ cut_at t.asset t.answers t.judged
+        AreItemsOf a es js → cut_at a es js ≡ cut_at t.known.asset t.answers t.judged
     relayed_cut a es js finds told are =
-        let asset : a ≡ t.asset = relayed_asset a finds in
+        let asset : a ≡ t.known.asset = relayed_asset a finds in
         let answers : es ≡ t.answers = relayed_answers es told in
-        let here : AreItemsOf t.asset t.answers js = subst (λ x. AreItemsOf x t.answers js) asset (subst (λ l. AreItemsOf a l js) answers are) in
-        let judged : js ≡ t.judged = law t.asset (client_of t.answers).address (history_of t.answers) js t.judged here t.are_items in
+        let here : AreItemsOf t.known.asset t.answers js = subst (λ x. AreItemsOf x t.answers js) asset (subst (λ l. AreItemsOf a l js) answers are) in
+        let judged : js ≡ t.judged = law t.known.asset (client_of t.answers).address (history_of t.answers) js t.judged here t.are_items in
         cc
 
     -- a relay that answered so was not cut
-    not_cut : (reason : CutReason) → cut_at t.asset t.answers t.judged ≡ Some reason → (r : Result Done Stop) → IsUncutEnd r → (answer : Result RelayDone RelayFault) →
+    not_cut : (reason : CutReason) → cut_at t.known.asset t.answers t.judged ≡ Some reason → (r : Result Done Stop) → IsUncutEnd r → (answer : Result RelayDone RelayFault) →
         HasRelayed file name port idles log before after answer → relay_answer answer ≡ r → ⊥
     not_cut reason cut r kind answer h is =
         let uncut = uncut_by _ _ _ _ _ h.answers r kind answer is h.relayed in
@@ -232,12 +214,12 @@ module _ (failed : Type 0) (status : ℕ) (before after : Outside) where
         let none = uncut.uncut in
         cc
 
-    not_cut_stop : (reason : CutReason) → cut_at t.asset t.answers t.judged ≡ Some reason → (s : Stop) → IsUncutEnd (Err s) →
+    not_cut_stop : (reason : CutReason) → cut_at t.known.asset t.answers t.judged ≡ Some reason → (s : Stop) → IsUncutEnd (Err s) →
         (StopsPolicy s ⊎ (s ≡ stop.UnknownAsset) → ⊥) → RelayLeaves file name port idles log before after s → ⊥
     not_cut_stop reason cut s kind late (inl l) = late l.0
     not_cut_stop reason cut s kind late (inr l) = not_cut reason cut (Err s) kind l.0 l.1 l.2
 
-    relay_cut_from : (reason : CutReason) → cut_at t.asset t.answers t.judged ≡ Some reason → (r : Result Done Stop) →
+    relay_cut_from : (reason : CutReason) → cut_at t.known.asset t.answers t.judged ≡ Some reason → (r : Result Done Stop) →
         Meets (Relay file name port idles log) before after r → IsOf r failed status → DueWritten
     relay_cut_from reason cut (Ok d) meets h = absurd (not_cut reason cut (Ok d) tt meets.0 meets.1 meets.2)
     relay_cut_from reason cut (Err stop.ReadFault) meets h = inr (inr (inl (stop_is failed status stop.ReadFault h, meets.0)))
@@ -260,7 +242,7 @@ module _ (failed : Type 0) (status : ℕ) (before after : Outside) where
         let same : h.answers ≡ t.answers = relayed_answers h.answers h.told in
         omega (arith, few, idle, ap idle_run same)
 
-    relay_idle_from : cut_at t.asset t.answers t.judged ≡ None → idle_run t.answers ≡ 2 * idles → (r : Result Done Stop) →
+    relay_idle_from : cut_at t.known.asset t.answers t.judged ≡ None → idle_run t.answers ≡ 2 * idles → (r : Result Done Stop) →
         Meets (Relay file name port idles log) before after r → IsOf r failed status → DueIdle
     relay_idle_from uncut idle (Ok d) meets h = absurd (not_idle idle (Ok d) tt meets.0 meets.1 meets.2)
     relay_idle_from uncut idle (Err stop.ReadFault) meets h = inr (inr (inl (stop_is failed status stop.ReadFault h, meets.0)))

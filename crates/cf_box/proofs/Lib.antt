@@ -5,6 +5,7 @@ pub mod FileNames
 pub mod Kept
 pub mod Listing
 pub mod Numerals
+mod Passing
 pub mod Relaying
 pub mod RunHolds
 pub mod Runs

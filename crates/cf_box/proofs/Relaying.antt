@@ -21,6 +21,7 @@ use Rattle.cf_box.specs.Relay.{HasRelayed, end_answer, relay_answer}
 use Rattle.cf_box.specs.declared.ending.Done.{Done}
 use Rattle.cf_box.specs.declared.ending.Stop.{Stop}
 use Rattle.cf_box.specs.declared.ending.Stop.TheVariants as stop
+use Rattle.cf_box.proofs.Passing.{found_passes}
 
 -- ---- what an answer says of the list
 
@@ -82,26 +83,10 @@ module _ (asset : Asset) (listen most : ℕ) (log : LogContents) (same : Type 0)
 
 -- ---- the answer of the command
 
--- the policy was read, and the asset was found
-pub relay_passes : (policy name : List ℕ) (port idles : ℕ) (log : List ℕ) (before : Outside) (asset : Asset) →
-    FindsAsset (before.files.content policy) name asset → PassesPolicy (Relay policy name port idles log) before
-relay_passes policy name port idles log before asset finds = record {
-  policy = λ file e.
-      let same : policy ≡ file = cc in
-      (finds.policy, subst (λ f. HasPolicy (before.files.content f) finds.policy) same finds.has);
-  asset = λ file other e f.
-      let same : policy ≡ file = cc in
-      let named : name ≡ other = cc in (
-        finds.policy,
-        subst (λ f. HasPolicy (before.files.content f) finds.policy) same finds.has,
-        (asset, subst (λ n. asset_named n finds.policy ≡ Some asset) named finds.named),
-      );
-}
-
 module _ (policy name : List ℕ) (port idles : ℕ) (log : List ℕ) (before after : Outside) where
   module _ (answer : Result RelayDone RelayFault) (relayed : HasRelayed policy name port idles log before after answer) where
     passed : PassesPolicy (Relay policy name port idles log) before
-    passed = relay_passes policy name port idles log before relayed.asset relayed.finds
+    passed = found_passes (Relay policy name port idles log) before policy name relayed.asset refl refl relayed.finds
 
   -- an end that no fault made
   ends_so : (done : RelayDone) (relayed : HasRelayed policy name port idles log before after (Ok done)) (end : RelayEnd) → done.end ≡ end →

@@ -22,6 +22,7 @@ use Rattle.cf_box.specs.declared.ending.Done.{Done}
 use Rattle.cf_box.specs.declared.ending.Done.TheVariants as done
 use Rattle.cf_box.specs.declared.ending.Stop.{Stop}
 use Rattle.cf_box.specs.declared.ending.Stop.TheVariants as stop
+use Rattle.cf_box.proofs.Passing.{found_passes}
 
 -- what has risen since late has risen since early
 pub since : (early late now : ℕ) → early ≤ late → Rose late now → Rose early now
@@ -38,19 +39,8 @@ early_leaves policy name client names before after s early same = absurd early
 module _ (policy name : List ℕ) (client : ℕ) (names : SiftNamesValue) (before after : Outside) (asset : Asset)
     (finds : FindsAsset (before.files.content policy) name asset) where
   -- the policy was read, and the asset was found
-  pub passes : PassesPolicy (Sift policy name client names) before
-  passes = record {
-    policy = λ file e.
-        let same : policy ≡ file = cc in
-        (finds.policy, subst (λ f. HasPolicy (before.files.content f) finds.policy) same finds.has);
-    asset = λ file other e f.
-        let same : policy ≡ file = cc in
-        let named : name ≡ other = cc in (
-          finds.policy,
-          subst (λ f. HasPolicy (before.files.content f) finds.policy) same finds.has,
-          (asset, subst (λ n. asset_named n finds.policy ≡ Some asset) named finds.named),
-        );
-  }
+  passes : PassesPolicy (Sift policy name client names) before
+  passes = found_passes (Sift policy name client names) before policy name asset refl refl finds
 
   module _ (sink : after.sink ≡ before.sink) (pair : after.pair ≡ before.pair) where
     -- the stream was taken up to a cut, or to its end

@@ -9,11 +9,12 @@ use Rattle.cf_view.specs.declared.Side.TheVariants as side
 use Rattle.cf_sift.specs.Names.{SiftNamesValue}
 use Rattle.cf_sift.specs.Stored.{stored_history}
 use Rattle.cf_outside.specs.Faults.{Rose}
+use Rattle.cf_outside.specs.PairValue.{PairValue}
 use Rattle.cf_policylang.specs.declared.PolicyRefusal.{PolicyRefusal}
 use Rattle.cf_box.specs.Command.{Command, Check, Packets, Run, Relay, World, Sift}
 use Rattle.cf_box.specs.Ending.{Prints, Reports, end_text, status_of, stop_status, unprinted_status}
 use Rattle.cf_box.specs.Ends.{CutsCapture, CutsRun, CutsStream, EndsIdle, LacksAsset, LinkFails, Meets, RefusesCapture, RefusesPolicy}
-use Rattle.cf_box.specs.Outside.{Outside, PairValue, ReadFailed, SinkValue, WriteFailed}
+use Rattle.cf_box.specs.Outside.{Outside, ReadFailed, SinkValue, WriteFailed}
 use Rattle.cf_box.specs.Packets.{Lists, ListsFile}
 use Rattle.cf_box.specs.Status.{IsStatus, SiftPassesAllowed}
 use Rattle.cf_box.specs.declared.ending.CaptureRefusal.{CaptureRefusal}

@@ -3,13 +3,14 @@ use Rattle.std.specs.Prelude.{◌≡◌, ◌⊎◌, ℕ, List, Option, None, Som
 use Rattle.cf_audit.specs.declared.line.CutReason.{CutReason}
 use Rattle.cf_outside.specs.Faults.{Rose}
 use Rattle.cf_outside.specs.Files.{untold}
+use Rattle.cf_outside.specs.PairValue.{PairValue}
 use Rattle.cf_policy.specs.declared.Asset.{Asset}
 use Rattle.cf_policy.specs.declared.Policy.{Policy}
 use Rattle.cf_policylang.specs.declared.PolicyRefusal.{PolicyRefusal}
 use Rattle.cf_box.specs.Check.{CheckLeaves, Checks}
 use Rattle.cf_box.specs.Command.{Command, Check, Packets, Run, Relay, World, Sift, asset_name, policy_file}
 use Rattle.cf_box.specs.Ending.{Puts, Reports}
-use Rattle.cf_box.specs.Outside.{Outside, PairValue, ReadFailed, WriteFailed}
+use Rattle.cf_box.specs.Outside.{Outside, ReadFailed, WriteFailed}
 use Rattle.cf_box.specs.Packets.{ListingCuts, ListingRefuses, Lists, PacketsLeaves}
 use Rattle.cf_box.specs.PolicyFile.{HasPolicy, IsRefusedBy, asset_named}
 use Rattle.cf_box.specs.Relay.{CutsRelay, EndsRelayIdle, RelayLeaves, Relays}

@@ -2,7 +2,7 @@
 use Rattle.std.specs.Prelude.{◌≡◌, ◌⊎◌, ◌≤◌, ℕ, List, Option}
 use Rattle.cf_outside.specs.Faults.{Rose}
 use Rattle.cf_outside.specs.Files.{Content}
-use Rattle.cf_outside.specs.Pair.{Entry}
+use Rattle.cf_outside.specs.PairValue.{PairValue, pair_value}
 use Rattle.cf_outside.specs.declared.Files.{Ghosts as FilesOf}
 use Rattle.cf_outside.specs.declared.Pair.{Ghosts as PairOf}
 use Rattle.cf_outside.specs.declared.Sink.{Ghosts as SinkOf}
@@ -18,12 +18,6 @@ pub record SinkValue : Type 0 where
   pub text : Option (List ℕ)
   pub faults : ℕ
 
--- the answers of the pair, how often a call of it failed, and how often the answer was `Idle`
-pub record PairValue : Type 0 where
-  pub told : Option (List Entry)
-  pub faults : ℕ
-  pub idles : ℕ
-
 pub record Outside : Type 0 where
   pub files : FilesValue
   pub sink : SinkValue
@@ -34,9 +28,6 @@ files_value F files = record { content = F.content files; read_faults = F.read_f
 
 abbrev pub sink_value : {O : Type 0} → SinkOf O → O → SinkValue
 sink_value O out = record { text = O.text out; faults = O.faults out }
-
-abbrev pub pair_value : {P : Type 0} → PairOf P → P → PairValue
-pair_value P pair = record { told = P.told pair; faults = P.faults pair; idles = P.idles pair }
 
 abbrev pub outside : FilesValue → SinkValue → PairValue → Outside
 outside files sink pair = record { files = files; sink = sink; pair = pair }

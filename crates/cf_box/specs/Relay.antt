@@ -3,11 +3,10 @@
 use Rattle.std.specs.Prelude.{◌≡◌, ◌⊎◌, ◌*◌, ℕ, List, [], ◌∷◌, ◌++◌, Option, None, Some, Result, Ok, Err, if◌then◌else◌, option_and_then, option_map}
 use Rattle.cf_audit.specs.declared.line.CutReason.{CutReason}
 use Rattle.cf_lane.specs.Judged.{Judged}
-use Rattle.cf_outside.specs.Files.{KeepsOthers, holds}
+use Rattle.cf_outside.specs.Files.{KeepsOthers}
 use Rattle.cf_outside.specs.Pair.{Entry, FaultsBy}
+use Rattle.cf_outside.specs.PairValue.{PairValue}
 use Rattle.cf_policy.specs.declared.Asset.{Asset}
-use Rattle.cf_policy.specs.declared.Policy.{Policy}
-use Rattle.cf_policylang.specs.Documents.{policy_meaning}
 use Rattle.cf_relay.specs.Answers.{idle_run, with_answers}
 use Rattle.cf_relay.specs.Ends.{IdlesRose, RelayEnds, file_log}
 use Rattle.cf_relay.specs.Scene.{RoseBy}
@@ -20,8 +19,8 @@ use Rattle.cf_relay.specs.declared.done.RelayFault.TheVariants as fault
 use Rattle.cf_box.specs.Check.{ChangesNothing}
 use Rattle.cf_box.specs.Command.{Command, Relay}
 use Rattle.cf_box.specs.Names.{are_names, printed_number_in}
-use Rattle.cf_box.specs.Outside.{Outside, PairValue}
-use Rattle.cf_box.specs.PolicyFile.{FindsAsset, StopsPolicy, asset_named}
+use Rattle.cf_box.specs.Outside.{Outside}
+use Rattle.cf_box.specs.PolicyFile.{FindsAsset, StopsPolicy, TellsAsset}
 use Rattle.cf_box.specs.declared.ending.Done.{Done}
 use Rattle.cf_box.specs.declared.ending.Done.TheVariants as done
 use Rattle.cf_box.specs.declared.ending.Stop.{Stop}
@@ -98,24 +97,19 @@ module _ (policy_file asset_name : List ℕ) (before : Outside) (pair : PairValu
 
   -- the policy's bytes and the pair's answers are told: the asset, the answers of this relay, and their items
   pub record TellsRelay : Type 0 where
-    pub bytes : List ℕ
-    pub policy : Policy
-    pub asset : Asset
-    pub told : before.files.content policy_file ≡ holds bytes
-    pub means : policy_meaning bytes ≡ Ok policy
-    pub named : asset_named asset_name policy ≡ Some asset
+    pub known : TellsAsset (before.files.content policy_file) asset_name
     pub earlier : List Entry
     pub earlier_told : before.pair.told ≡ Some earlier
     pub answers : List Entry
     pub answers_told : pair.told ≡ Some (earlier ++ answers)
     pub judged : List Judged
-    pub are_items : AreItemsOf asset answers judged
+    pub are_items : AreItemsOf known.asset answers judged
 
   -- and they are cut
   abbrev pub TellsCutRelay : Type 0
-  TellsCutRelay = (tells : TellsRelay) × ((reason : CutReason) × (cut_at tells.asset tells.answers tells.judged ≡ Some reason))
+  TellsCutRelay = (tells : TellsRelay) × ((reason : CutReason) × (cut_at tells.known.asset tells.answers tells.judged ≡ Some reason))
 
   -- and they are not, but end in so many answers Idle
   abbrev pub TellsIdleRelay : (idles : ℕ) → Type 0
   TellsIdleRelay idles =
-      (tells : TellsRelay) × (cut_at tells.asset tells.answers tells.judged ≡ None) × (idle_run tells.answers ≡ 2 * idles)
+      (tells : TellsRelay) × (cut_at tells.known.asset tells.answers tells.judged ≡ None) × (idle_run tells.answers ≡ 2 * idles)

@@ -5,8 +5,6 @@ use Rattle.cf_lane.specs.History.{Element}
 use Rattle.cf_lane.specs.Judged.{Judged}
 use Rattle.cf_outside.specs.Files.{holds, IsWhole}
 use Rattle.cf_policy.specs.declared.Asset.{Asset}
-use Rattle.cf_policy.specs.declared.Policy.{Policy}
-use Rattle.cf_policylang.specs.Documents.{policy_meaning as meaning}
 use Rattle.cf_policylang.specs.Numbers.{address}
 use Rattle.cf_sift.specs.Names.{SiftNamesValue}
 use Rattle.cf_sift.specs.Sifted.{IsReadUpTo, IsSifted, IsUncreated, IsWrittenUpTo}
@@ -18,7 +16,7 @@ use Rattle.cf_box.specs.Check.{ChangesNothing}
 use Rattle.cf_box.specs.Command.{Command, Sift}
 use Rattle.cf_box.specs.Names.{are_names}
 use Rattle.cf_box.specs.Outside.{Outside}
-use Rattle.cf_box.specs.PolicyFile.{FindsAsset, asset_named}
+use Rattle.cf_box.specs.PolicyFile.{FindsAsset, TellsAsset}
 use Rattle.cf_box.specs.declared.ending.Done.{Done}
 use Rattle.cf_box.specs.declared.ending.Done.TheVariants as done
 use Rattle.cf_box.specs.declared.ending.Stop.{Stop}
@@ -95,15 +93,10 @@ CutsSift policy_file asset_name client names before reason =
 
 -- the same of bytes that are told
 pub record TellsCutStream (file name : List ℕ) (client : ℕ) (names : SiftNamesValue) (before : Outside) : Type 0 where
-  pub bytes : List ℕ
-  pub policy : Policy
-  pub asset : Asset
-  pub told : before.files.content file ≡ holds bytes
-  pub means : meaning bytes ≡ Ok policy
-  pub named : asset_named name policy ≡ Some asset
+  pub known : TellsAsset (before.files.content file) name
   pub stream : List ℕ
   pub stream_told : before.files.content names.stream ≡ holds stream
   pub reason : CutReason
   pub history : List Element
   pub judged : List Judged
-  pub goes : GoesUpTo asset client (stored_history stream) (Some reason) history judged
+  pub goes : GoesUpTo known.asset client (stored_history stream) (Some reason) history judged

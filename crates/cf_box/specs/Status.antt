@@ -5,6 +5,7 @@ use Rattle.cf_lane.specs.Follows.{AreJudged}
 use Rattle.cf_lane.specs.Judged.{Judged}
 use Rattle.cf_lane.specs.Passes.{Passes}
 use Rattle.cf_outside.specs.Files.{holds, untold, IsWhole, content_after_write}
+use Rattle.cf_outside.specs.PairValue.{PairValue}
 use Rattle.cf_pcap.specs.Header.{header_of}
 use Rattle.cf_pcap.specs.Capture.{FileEnd, AreRecords, AreTimed, at_place, first_moment}
 use Rattle.cf_pcap.specs.Record.{Record}
@@ -16,7 +17,7 @@ use Rattle.cf_policylang.specs.declared.PolicyRefusal.{PolicyRefusal}
 use Rattle.cf_run.specs.RunCapture.{RunNamesValue}
 use Rattle.cf_box.specs.Command.{Command, Check, Packets, Run, Relay, World, Sift, AsksPair, asset_name, capture_file, output_files, policy_file}
 use Rattle.cf_box.specs.Ends.{CutsCapture, CutsStream, EndsIdle, LacksAsset, LinkFails, RefusesCapture, RefusesPolicy}
-use Rattle.cf_box.specs.Outside.{Outside, PairValue, ReadFailed, WriteFailed}
+use Rattle.cf_box.specs.Outside.{Outside, ReadFailed, WriteFailed}
 use Rattle.cf_box.specs.PolicyFile.{FindsAsset, asset_named}
 use Rattle.cf_box.specs.Relay.{TellsCutRelay, TellsIdleRelay}
 use Rattle.cf_box.specs.Sift.{TellsCutStream}

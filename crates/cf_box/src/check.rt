@@ -3,8 +3,9 @@ ghost use Rattle.std.specs.Prelude.{◌≡◌, IfSome, map, option_map, string_b
 ghost use Rattle.cf_box.specs.Check.{check_of};
 ghost use Rattle.cf_box.specs.Command.{Check};
 ghost use Rattle.cf_box.specs.Ends.{Meets};
-ghost use Rattle.cf_box.specs.Outside.{FilesNeverFall, PairValue, SinkValue, files_value, outside};
+ghost use Rattle.cf_box.specs.Outside.{FilesNeverFall, SinkValue, files_value, outside};
 ghost use Rattle.cf_box.specs.Words.{HasFitWords, command_value};
+ghost use Rattle.cf_outside.specs.PairValue.{PairValue};
 
 use crate::command::Command;
 use crate::ending::{Done, Stop};

@@ -3,11 +3,12 @@ ghost use Rattle.std.specs.Prelude.{◌≡◌, ◌+◌, ◌≤◌, ◌⊎◌, �
 ghost use Rattle.arrayvec.specs.ArrayVec.{array_vec_len};
 ghost use Rattle.cf_box.specs.Command.{Packets};
 ghost use Rattle.cf_box.specs.Ends.{Meets};
-ghost use Rattle.cf_box.specs.Outside.{FilesNeverFall, PairValue, files_value, outside, sink_value};
+ghost use Rattle.cf_box.specs.Outside.{FilesNeverFall, files_value, outside, sink_value};
 ghost use Rattle.cf_box.specs.PacketLine.{record_line};
 ghost use Rattle.cf_box.specs.Packets.{ListsFile, packets_of};
 ghost use Rattle.cf_box.specs.Words.{HasFitWords, command_value};
 ghost use Rattle.cf_outside.specs.Faults.{HasCause, Rose};
+ghost use Rattle.cf_outside.specs.PairValue.{PairValue};
 ghost use Rattle.cf_outside.specs.Sink.{Puts, printed_with};
 ghost use Rattle.cf_run.specs.Reader.{HasHeader};
 

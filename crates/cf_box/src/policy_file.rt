@@ -2,8 +2,9 @@
 ghost use Rattle.std.specs.Prelude.{◌≡◌, ◌≢◌, IfErr, IfOk, IfSome, Some, bytes_eq, find, option_map};
 ghost use Rattle.cf_box.specs.Command.{Command, policy_file};
 ghost use Rattle.cf_box.specs.Ends.{StopsFor};
-ghost use Rattle.cf_box.specs.Outside.{PairValue, ReadsOnly, SinkValue, files_value, outside};
+ghost use Rattle.cf_box.specs.Outside.{ReadsOnly, SinkValue, files_value, outside};
 ghost use Rattle.cf_box.specs.PolicyFile.{HasPolicy, StopsPolicy, asset_named, rule_count};
+ghost use Rattle.cf_outside.specs.PairValue.{PairValue};
 ghost use Rattle.cf_policy.specs.Within.{AreAssetsWithin, IsAssetWithin, IsWithin};
 
 use crate::ending::Stop;

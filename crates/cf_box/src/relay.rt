@@ -2,9 +2,10 @@
 ghost use Rattle.std.specs.Prelude.{◌≡◌, ◌≤◌, IfSome, map, option_map, string_bytes};
 ghost use Rattle.cf_box.specs.Command.{Relay};
 ghost use Rattle.cf_box.specs.Ends.{Meets};
-ghost use Rattle.cf_box.specs.Outside.{FilesNeverFall, SinkValue, files_value, outside, pair_value};
+ghost use Rattle.cf_box.specs.Outside.{FilesNeverFall, SinkValue, files_value, outside};
 ghost use Rattle.cf_box.specs.Relay.{relay_answer, relay_of};
 ghost use Rattle.cf_box.specs.Words.{HasFitWords, command_value};
+ghost use Rattle.cf_outside.specs.PairValue.{pair_value};
 
 use crate::command::Command;
 use crate::ending::{Done, Stop};

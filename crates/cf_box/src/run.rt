@@ -2,9 +2,10 @@
 ghost use Rattle.std.specs.Prelude.{◌≡◌, IfSome, map, option_map, string_bytes};
 ghost use Rattle.cf_box.specs.Command.{Run};
 ghost use Rattle.cf_box.specs.Ends.{Meets};
-ghost use Rattle.cf_box.specs.Outside.{FilesNeverFall, PairValue, SinkValue, files_value, outside};
+ghost use Rattle.cf_box.specs.Outside.{FilesNeverFall, SinkValue, files_value, outside};
 ghost use Rattle.cf_box.specs.Run.{run_command, run_of};
 ghost use Rattle.cf_box.specs.Words.{HasFitWords, command_value};
+ghost use Rattle.cf_outside.specs.PairValue.{PairValue};
 ghost use Rattle.cf_run.specs.RunCapture.{AreApart, run_names_value};
 
 use crate::command::Command;

@@ -2,9 +2,10 @@
 ghost use Rattle.std.specs.Prelude.{◌≡◌, IfSome, map, option_map, string_bytes};
 ghost use Rattle.cf_box.specs.Command.{Sift};
 ghost use Rattle.cf_box.specs.Ends.{Meets};
-ghost use Rattle.cf_box.specs.Outside.{FilesNeverFall, PairValue, SinkValue, files_value, outside};
+ghost use Rattle.cf_box.specs.Outside.{FilesNeverFall, SinkValue, files_value, outside};
 ghost use Rattle.cf_box.specs.Sift.{sift_command, sift_names_of, sift_of};
 ghost use Rattle.cf_box.specs.Words.{HasFitWords, command_value};
+ghost use Rattle.cf_outside.specs.PairValue.{PairValue};
 ghost use Rattle.cf_sift.specs.Names.{AreApart, sift_names_value};
 
 use crate::command::Command;

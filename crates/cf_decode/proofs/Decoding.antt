@@ -1,23 +1,14 @@
 -- What the front of spelled units decodes to, for any grammar.
 use Rattle.cf_decode.specs.Laws.{IsOfNext}
+use Rattle.cf_dnptrans.proofs.Seams.{split_front}
 use Rattle.cf_view.specs.Framing.{IsPartial}
 use Rattle.cf_view.specs.Units.{BeginsWithUnits, IsUnitsThenRest}
-use Rattle.std.proofs.Common.{List, [], ap, append_assoc, arith, inl, inr, length, refl, subst, sym, ℕ, ◌++◌, ◌<◌, ◌∙◌, ◌∷◌, ◌≡◌, ◌≤◌}
+use Rattle.std.proofs.Common.{List, [], ap, append_assoc, arith, inl, inr, length, refl, subst, sym, ℕ, ◌++◌, ◌<◌, ◌∙◌, ◌∷◌, ◌≡◌}
 use Rattle.std.proofs.Math.Seq.{drop-append_seam, take-append_seam}
 use Rattle.std.proofs.lemmas.Bool.{cases_lt}
 use Rattle.std.proofs.lemmas.List.Concat.{flat_map-cons}
 use Rattle.std.proofs.lemmas.List.{length-append}
 use Rattle.std.specs.List.{AllByRecursion, flat_map}
-
--- what stands before a seam, where it has as many elements or fewer
-pub split_front : {A : Type 0} (xs ys zs ws : List A) → length xs ≤ length zs → xs ++ ys ≡ zs ++ ws → (more : List A) × (zs ≡ xs ++ more) × (ys ≡ more ++ ws)
-split_front [] ys zs ws h e = (zs, refl, e)
-split_front (x ∷ xs) ys [] ws h e = absurd (omega (arith, h))
-split_front (x ∷ xs) ys (z ∷ zs) ws h e =
-    let heads : x ≡ z = cc in
-    let tails : xs ++ ys ≡ zs ++ ws = cc in
-    let r = split_front xs ys zs ws (omega (arith, h)) tails in
-    (r.0, cc (heads, r.1), r.2)
 
 -- the units of bytes are the first of these, and the rest is of the next one
 pub record Decoded {U : Type 0} (Spells : U → List ℕ → Type 0) (spell : U → List ℕ) (sent : List U) (bytes : List ℕ) : Type 0 where

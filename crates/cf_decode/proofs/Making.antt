@@ -1,5 +1,5 @@
 -- What a receiver makes of the first units of what goes to the controller.
-use Rattle.cf_decode.proofs.Decoding.{Decoded, decodes, split_front}
+use Rattle.cf_decode.proofs.Decoding.{Decoded, decodes}
 use Rattle.cf_decode.proofs.Right.{AreRight, passed_right, units_right}
 use Rattle.cf_decode.proofs.Spelled.{stream_is_spelled}
 use Rattle.cf_decode.specs.Laws.{DecodesTo, FragmentsDecode, IsBegun, IsOfNext, MakesFirstOf, StreamDecodes, spellings}
@@ -10,6 +10,7 @@ use Rattle.cf_dnplink.proofs.Reading.{user_again}
 use Rattle.cf_dnptrans.specs.Passing.{AreOfNext, IsSent, PutTogether, all_segments, fragments_of, held}
 use Rattle.cf_dnptrans.specs.Segments.{count_of, first_segments, segments_of}
 use Rattle.cf_dnptrans.specs.Transport.{unfinished}
+use Rattle.cf_dnptrans.proofs.Seams.{split_front}
 use Rattle.cf_lane.proofs.Units.{nothing_unit}
 use Rattle.cf_lane.specs.Follows.{AreJudged}
 use Rattle.cf_lane.specs.History.{Element}

@@ -1,5 +1,5 @@
 -- Numbers of headers and of acts, header by header.
-use Rattle.std.proofs.Common.{◌≡◌, ℕ, zero, suc, ◌+◌, ◌-◌, ◌<◌, ◌≤◌, List, [], ◌∷◌, length, take, drop, true, false, Result, Ok, Err, inl, inr, refl, sym, ◌∙◌, ap, arith, length-append}
+use Rattle.std.proofs.Common.{◌≡◌, ℕ, zero, suc, ◌+◌, ◌-◌, ◌<◌, ◌≤◌, List, [], ◌∷◌, length, take, drop, true, false, Result, Ok, Err, inl, inr, refl, sym, ◌∙◌, ap, subst, arith, length-append}
 use Rattle.std.specs.List.{sum_by, flat_map}
 use Rattle.std.proofs.lemmas.List.{length-drop, take_all, drop-drop}
 use Rattle.std.proofs.lemmas.List.Concat.{flat_map-cons}
@@ -34,6 +34,10 @@ summed_first code h (Err e) = refl
 -- the rest of octets from a place on
 pub rest_is : (xs rest : List ℕ) (place len : ℕ) → len ≡ length xs → place ≤ len → rest ≡ take (len - place) (drop place xs) → rest ≡ drop place xs
 rest_is xs rest place len is inside e = e ∙ take_all (len - place) (drop place xs) (omega (arith, length-drop place xs, is))
+
+-- the header that the rest from a place on begins with
+pub header_at : (code : ℕ) (xs rest h : List ℕ) (place len : ℕ) → len ≡ length xs → place ≤ len → rest ≡ take (len - place) (drop place xs) → BeginsWithHeader code rest h → BeginsWithHeader code (drop place xs) h
+header_at code xs rest h place len is inside e b = subst (λ (ys : List ℕ). BeginsWithHeader code ys h) (rest_is xs rest place len is inside e) b
 
 module _ (code : ℕ) (xs h : List ℕ) (place : ℕ) (b : BeginsWithHeader code (drop place xs) h) where
   pub count_more : (n : ℕ) → counted (headers_in code xs) ≡ plus n (counted (headers_in code (drop place xs))) → counted (headers_in code xs) ≡ plus (n + 1) (counted (headers_in code (drop (place + length h) xs)))

@@ -1,3 +1,4 @@
 pub mod History
 mod Passing
+pub mod Seams
 mod Segments

@@ -10,6 +10,7 @@ use Rattle.cf_dnptrans.specs.declared.assembly.SegmentAnswer.TheVariants as answ
 use Rattle.cf_dnptrans.specs.Segments.{count_of, segment_of, first_segments, segments_of}
 use Rattle.cf_dnptrans.specs.Transport.{answer_to, last_fragment, unfinished}
 use Rattle.cf_dnptrans.specs.Passing.{IsSent, all_segments, answers_to, completed, fragments_of, answers_for, AreOfNext, held, PutTogether}
+use Rattle.cf_dnptrans.proofs.Seams.{split_front}
 use Rattle.cf_dnptrans.proofs.Segments.{more, whole, same, since, made, final_is, final_not}
 
 pub reverse-cons : {A : Type 0} (x : A) (xs : List A) → reverse (x ∷ xs) ≡ reverse xs ++ x ∷ []
@@ -32,16 +33,6 @@ fragments_of-append (x ∷ xs) ys earlier =
     ap (λ fs. now ++ fs) (fragments_of-append xs ys (x ∷ earlier)
     ∙ ap (λ es. fragments_of (x ∷ earlier) xs ++ fragments_of es ys) (sym (turned x xs earlier)))
     ∙ sym (append_assoc now (fragments_of (x ∷ earlier) xs) (fragments_of (reverse (x ∷ xs) ++ earlier) ys))
-
--- what stands before a seam, where it has as many elements or fewer
-pub split_front : {A : Type 0} (xs ys zs ws : List A) → length xs ≤ length zs → xs ++ ys ≡ zs ++ ws → (more : List A) × (zs ≡ xs ++ more) × (ys ≡ more ++ ws)
-split_front [] ys zs ws h e = (zs, refl, e)
-split_front (x ∷ xs) ys [] ws h e = absurd (omega (arith, h))
-split_front (x ∷ xs) ys (z ∷ zs) ws h e =
-    let heads : x ≡ z = cc in
-    let tails : xs ++ ys ≡ zs ++ ws = cc in
-    let r = split_front xs ys zs ws (omega (arith, h)) tails in
-    (r.0, cc (heads, r.1), r.2)
 
 pub length-segments : (f : List ℕ) (start n : ℕ) → length (first_segments f start n) ≡ n
 length-segments f start zero = refl

@@ -4,14 +4,14 @@ ghost use Rattle.std.specs.Prelude.{pos, slice_get, true};
 ghost use Rattle.std.specs.List.{list_any};
 ghost use Rattle.cf_policy.specs.declared.policy.Asset.{Asset};
 ghost use Rattle.cf_policy.specs.declared.policy.Rule.{Rule};
-ghost use Rattle.cf_policy.specs.Verdict.{covers, takes};
+ghost use Rattle.cf_policy.specs.Verdict.{takes};
 ghost use Rattle.cf_explain.specs.Acts.{kinds};
 ghost use Rattle.cf_explain.specs.Meets.{meets};
 ghost use Rattle.cf_explain.specs.Rules.{Holds, IsMet, IsSound, NeverHas, NeverMeets, WantsValue, first_including, listed};
 
 use crate::covered::covering;
 use crate::unmet::{Unmet, why_unmet};
-use cf_policy::{Asset, Items, Protocol, Rule, Span};
+use cf_policy::{Asset, Protocol, Rule, takes};
 use std::alloc::{AllocError, Global};
 
 /// One more than the highest code of a rule.
@@ -130,7 +130,7 @@ fn missed_code(protocol: Protocol, rule: &Rule, code: u16) -> Option<Unmet>
     ensures none { is_none result ≡ true → takes rule.now.codes (pos code) ≡ true
         → list_any (meets rule.now) (kinds protocol code) ≡ true }
 {
-    if !has_code(&rule.codes, code) {
+    if !takes(&rule.codes, i64::from(code)) {
         return None;
     }
     why_unmet(protocol, rule, code)
@@ -150,10 +150,10 @@ fn first_unmet(protocol: Protocol, rule: &Rule) -> Option<(u16, Unmet)> {
 fn reads_finding(protocol: Protocol, rule: &Rule) -> Option<What>
     ensures { IfSome result (λ what. (asset : Asset) (number : ℕ) → Holds asset number rule.now what) }
 {
-    if protocol != Protocol::Modbus || !wants_value(rule) || !has_code(&rule.codes, 23) {
+    if protocol != Protocol::Modbus || !wants_value(rule) || !takes(&rule.codes, 23) {
         return None;
     }
-    if rule.groups.is_empty() || some_covers(rule.groups.as_slice(), 0) {
+    if takes(&rule.groups, 0) {
         return Some(What::Reads);
     }
     None
@@ -181,23 +181,5 @@ fn never_met(protocol: Protocol, rule: &Rule) -> bool
 fn may_have(protocol: Protocol, rule: &Rule, code: u16) -> bool
     ensures { result ≡ false → takes rule.now.codes (pos code) ≡ true → NeverHas protocol rule.now code }
 {
-    has_code(&rule.codes, code) && why_unmet(protocol, rule, code).is_none()
-}
-
-fn has_code(codes: &Items<Span>, code: u16) -> bool
-    ensures { result ≡ takes codes.now (pos code) }
-{
-    codes.is_empty() || some_covers(codes.as_slice(), i64::from(code))
-}
-
-fn some_covers(spans: &[Span], number: i64) -> bool
-    ensures { result ≡ list_any (λ s. covers s number) spans.now }
-{
-    spans.iter().any(|span| covers(span, number))
-}
-
-fn covers(span: &Span, number: i64) -> bool
-    ensures { result ≡ covers span.now number }
-{
-    span.low <= number && number <= span.high
+    takes(&rule.codes, i64::from(code)) && why_unmet(protocol, rule, code).is_none()
 }

@@ -1,11 +1,11 @@
 -- One APDU among the items: `apdu_handled`.
-use Rattle.cf_apci.specs.Apdu.{ApduValue, SpellsApdu, apdu_break, spelling}
+use Rattle.cf_apci.specs.Apdu.{ApduValue, SpellsApdu, spelling}
 use Rattle.cf_audit.specs.declared.line.CutReason.{CutReason}
 use Rattle.cf_lane.proofs.Earlier.{cut_of-append, events_of-more, first_none}
 use Rattle.cf_lane.proofs.Handling.{count-more, ended-more}
 use Rattle.cf_lane.proofs.Taking.{grows_more}
-use Rattle.cf_lane.proofs.Units.{apdu_break_is, begins_apdu, breaks_apdu}
-use Rattle.cf_lane.specs.Handled.{Breaks, CountsBy, Does, Grows, Handled, Knows, LaneValue, Misses, State, Steps, TakesUnit, judged, letters_in, state}
+use Rattle.cf_lane.proofs.Units.{apdus, begins_by}
+use Rattle.cf_lane.specs.Handled.{CountsBy, Does, Grows, Handled, Knows, LaneValue, Misses, State, Steps, TakesUnit, judged, letters_in, state}
 use Rattle.cf_lane.specs.Iec104.{apdu_output}
 use Rattle.cf_lane.specs.Item.{Took}
 use Rattle.cf_lane.specs.Judged.{Judged, cut_by, cut_of, is_admitted, is_refused, one_if}
@@ -20,13 +20,11 @@ use Rattle.cf_lane.specs.declared.wire.Wire.{Wire}
 use Rattle.cf_outq.specs.SendQueue.{Queue, after_push}
 use Rattle.cf_policy.specs.declared.Asset.{Asset}
 use Rattle.cf_renumber.specs.Numbers.{IsNumbersOf, NumbersValue}
-use Rattle.cf_view.specs.Framing.{Begins, BreaksAt}
-use Rattle.cf_view.specs.declared.Break.{Break}
+use Rattle.cf_view.specs.Framing.{Begins}
 use Rattle.cf_view.specs.declared.Endpoint.{Endpoint}
 use Rattle.cf_view.specs.declared.Side.{Side}
 use Rattle.std.proofs.Common.{List, None, Option, Some, [], ap, arith, inr, length, refl, subst, sym, take, ℕ, ◌*◌, ◌++◌, ◌+◌, ◌<◌, ◌∙◌, ◌∷◌, ◌≡◌, ◌≤◌}
 use Rattle.std.proofs.lemmas.List.{append-nil, length-take}
-use Rattle.cf_audit.specs.declared.line.CutReason.TheVariants as cut
 use Rattle.cf_lane.specs.declared.fate.Fate.TheVariants as fates
 use Rattle.cf_lane.specs.declared.wire.Wire.TheVariants as wire
 use Rattle.cf_policy.specs.declared.Protocol.TheVariants as protocol
@@ -82,7 +80,7 @@ module _ (asset : Asset) (iec104 : asset.protocol ≡ protocol.Iec104) (moment :
       TakesUnit asset moment s bytes n cut old new
   takes_apdu f cut is old new handled = record {
     unit = Apdu a;
-    begins = begins_apdu asset.protocol iec104 bytes a n begins;
+    begins = begins_by (apdus asset.protocol iec104) bytes a n begins;
     some_bytes = apdu_some;
     fate = f;
     is_cut = is;
@@ -113,15 +111,6 @@ module _ (asset : Asset) (iec104 : asset.protocol ≡ protocol.Iec104) (moment :
             ∙ m.are_more earlier (subst (λ w. KnowsWire asset w earlier) was (knows.wire uncut)) knows.client_ended;
         line = m.line;
       }
-
--- a wrong octet is a step
-pub breaks_by : (asset : Asset) → asset.protocol ≡ protocol.Iec104 → (moment : ℕ) (bytes : List ℕ) (s : Side) (reason : Break) →
-    ((i : ℕ) × BreaksAt SpellsApdu bytes i × (reason ≡ apdu_break i)) → Breaks asset s bytes (cut.Framing s reason)
-breaks_by asset iec104 moment bytes s reason b = record {
-  place = b.0;
-  breaks = breaks_apdu asset.protocol iec104 bytes b.0 b.1;
-  is_reason = ap (cut.Framing s) (b.2 ∙ apdu_break_is asset.protocol iec104 b.0);
-}
 
 -- a lane of IEC 104 has no debt
 pub no_debt : (w : Wire) → IsWireOf protocol.Iec104 w → wire_debt w ≡ 0

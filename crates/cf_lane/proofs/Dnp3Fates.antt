@@ -1,6 +1,7 @@
 -- Laws of the fates of DNP3 fragments.
 use Rattle.cf_audit.specs.declared.line.CutReason.{CutReason}
 use Rattle.cf_audit.specs.declared.line.Why.{Why}
+use Rattle.cf_lane.specs.Acts.{by_refusal, fate_of_acts, first_refusal, refusal_or}
 use Rattle.cf_lane.specs.Dnp3.{IsOfFragment}
 use Rattle.cf_lane.specs.declared.fate.Fate.{Fate}
 use Rattle.cf_policy.specs.Verdict.{by_rule, decided, default_reason, first_rule, has_function, has_point, is_allow, is_empty, rule_reason, verdict_of}
@@ -8,9 +9,10 @@ use Rattle.cf_policy.specs.declared.Action.{Action}
 use Rattle.cf_policy.specs.declared.Asset.{Asset}
 use Rattle.cf_policy.specs.declared.Decider.{Decider}
 use Rattle.cf_policy.specs.declared.Rule.{Rule}
+use Rattle.cf_policy.specs.declared.Verdict.{Verdict}
 use Rattle.cf_view.specs.declared.Act.{Act}
 use Rattle.cf_view.specs.declared.Reason.{Reason}
-use Rattle.std.proofs.Common.{Bool, None, Option, Some, false, inl, inr, not, subst, true, ℕ, ◌&&◌, ◌≡◌, ◌⊎◌}
+use Rattle.std.proofs.Common.{Bool, List, None, Option, Some, [], false, inl, inr, not, refl, subst, true, ℕ, ◌&&◌, ◌∷◌, ◌≡◌, ◌⊎◌}
 use Rattle.std.specs.List.{list_any}
 use Rattle.std.specs.Prelude.{if◌then◌else◌, ◌≢◌}
 use Rattle.cf_lane.specs.declared.fate.Fate.TheVariants as fate
@@ -42,6 +44,15 @@ never_station asset client act d why e =
     (λ r. not_station (not (is_empty r.values)) (not (is_empty r.points)) reason.Value reason.Point reason.Function not_value not_point not_function)
     (not_station (not (list_any (λ r. is_allow r.action && has_function r client act) asset.rules)) (not (list_any (λ r. is_allow r.action && has_point r client act) asset.rules))
     reason.Function reason.Point reason.Value not_function not_point not_value) e
+
+-- so a command is refused by another reason
+pub never_station_of : (asset : Asset) (client : ℕ) (acts : List Act) → IsOfFragment (fate_of_acts asset client acts)
+never_station_of asset client [] = tt
+never_station_of asset client (act ∷ acts) = by_verdict (never_station_of asset client acts) (verdict_of asset client act) refl where
+  by_verdict : IsOfFragment (fate_of_acts asset client acts) → (v : Verdict) → v ≡ verdict_of asset client act →
+      IsOfFragment (by_refusal (refusal_or act v (first_refusal asset client acts)))
+  by_verdict later (verdict.Allow n) is = later
+  by_verdict later (verdict.Refuse d why) is = never_station asset client act d why is
 
 -- a client's fragment of two octets or more is no other
 pub no_other : (f : Fate) → IsOfFragment f → ((x : Why) × (f ≡ fate.Stray x)) ⊎ ((f ≡ fate.Lengthens) ⊎ ((x : CutReason) × (f ≡ fate.Cuts x))) → ⊥

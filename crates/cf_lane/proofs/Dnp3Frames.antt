@@ -10,6 +10,7 @@ use Rattle.cf_audit.specs.declared.line.Why.{Why}
 use Rattle.cf_lane.proofs.Earlier.{segments_into-more, segments_of-more}
 use Rattle.cf_lane.proofs.Dnp3Segments.{stray_fragment}
 use Rattle.cf_lane.proofs.Handling.{push-nothing, with_lines-nothing}
+use Rattle.cf_lane.proofs.Sides.{at_both, other_side, same_side, side_known}
 use Rattle.cf_dnpobj.specs.Acts.{acts}
 use Rattle.cf_dnpobj.specs.Fragment.{FragmentValue, read_octets}
 use Rattle.cf_dnpobj.specs.declared.fragment.FragmentRefusal.{FragmentRefusal}
@@ -23,6 +24,7 @@ use Rattle.cf_lane.specs.Item.{Took}
 use Rattle.cf_lane.specs.Judged.{Judged, cut_by, goes_on, has_ended}
 use Rattle.cf_lane.specs.Kept.{KnowsFragments, of_side}
 use Rattle.cf_lane.specs.Log.{is_some_bytes, line_about, unit_lines, with_lines}
+use Rattle.cf_lane.specs.Output.{other}
 use Rattle.cf_lane.specs.Unit.{Frame, frame_spelling}
 use Rattle.cf_lane.specs.declared.fate.Fate.{Fate}
 use Rattle.cf_lane.specs.declared.wire.Fragments.{Fragments}
@@ -180,13 +182,11 @@ completed_is answers.More v o e = refl
 completed_is (answers.Dropped because) v o e = refl
 completed_is answers.Whole v o e = ap (completed answers.Whole) (sym (e refl))
 
-own_part : (asset : Asset) (s : Side) (f : Fragments) (earlier : List Judged) → KnowsFragments asset f earlier → IsAssemblyOf (of_side s f) (segments_of asset s earlier)
-own_part asset side.Client f earlier knows = knows.client
-own_part asset side.Controller f earlier knows = knows.controller
-
 own_segment : (asset : Asset) (s : Side) (x : FrameValue) → stray_of asset s x ≡ None → is_data x ≡ true → segment_in asset s (Took s (Frame x)) ≡ user_of x.blocks ∷ []
-own_segment asset side.Client x served data_ = rw (served, data_) refl
-own_segment asset side.Controller x served data_ = rw (served, data_) refl
+own_segment asset s x served data_ = rw (same_side s, served, data_) refl
+
+other_segment : (asset : Asset) (s : Side) (x : FrameValue) → segment_in asset (other s) (Took s (Frame x)) ≡ []
+other_segment asset s x = rw (other_side s) refl
 
 module _ (asset : Asset) (client : Endpoint) (moment : ℕ) (s : Side) (x : FrameValue) (served : stray_of asset s x ≡ None) (data_ : is_data x ≡ true)
     (answer : SegmentAnswer) (f : Fate) (was : Fragments) (old new : Parts) (adds : AddsSegment s (user_of x.blocks) answer was old.fragments)
@@ -202,7 +202,7 @@ module _ (asset : Asset) (client : Endpoint) (moment : ℕ) (s : Side) (x : Fram
 
   module _ (earlier : List Judged) (knows : KnowsFragments asset was earlier) (ended : old.to_client.ended ≡ has_ended side.Controller earlier) where
     own : IsAssemblyOf (of_side s was) (segments_of asset s earlier)
-    own = own_part asset s was earlier knows
+    own = side_known asset was s earlier knows
 
     stands : IsAssemblyOf (of_side s old.fragments) (user ∷ segments_of asset s earlier)
     stands = adds.stands (segments_of asset s earlier) own
@@ -249,17 +249,30 @@ module _ (asset : Asset) (client : Endpoint) (moment : ℕ) (s : Side) (x : Fram
     controller_sequence : old.fragments.to_controller ≡ segments_into asset side.Controller earlier % 64
     controller_sequence = adds.to_controller ∙ knows.to_controller
 
-    known_by : (client_now : IsAssemblyOf new.fragments.client (segments_of asset side.Client (earlier ++ j ∷ []))) →
-        (controller_now : IsAssemblyOf new.fragments.controller (segments_of asset side.Controller (earlier ++ j ∷ []))) → KnowsFragments asset new.fragments (earlier ++ j ∷ [])
-    known_by client_now controller_now = record {
-      client = client_now;
-      controller = controller_now;
-      to_client = next_is side.Client old.fragments.to_client new.fragments.to_client client_sequence takes.to_client.next_is;
-      to_controller = next_is side.Controller old.fragments.to_controller new.fragments.to_controller controller_sequence takes.to_controller.next_is;
-    }
+    abbrev Stands : AssemblyValue → Side → Type 0
+    Stands v t = IsAssemblyOf v (segments_of asset t (earlier ++ j ∷ []))
 
-    does_data : KnowsFragments asset new.fragments (earlier ++ j ∷ []) → DoesFrame asset client earlier j s x (parts was old.to_client old.to_controller old.lines) new
-    does_data known = record {
+    stands_own : Stands (of_side s old.fragments) s
+    stands_own = subst (IsAssemblyOf (of_side s old.fragments)) (sym own_segments) stands
+
+    stands_other : Stands (of_side (other s) old.fragments) (other s)
+    stands_other =
+        let same : segments_of asset (other s) (earlier ++ j ∷ []) ≡ segments_of asset (other s) earlier =
+        segments_of-more asset (other s) earlier j ∙ ap (λ xs. xs ++ segments_of asset (other s) earlier) (other_segment asset s x) in
+        subst (λ v. Stands v (other s)) (sym adds.other) (subst (IsAssemblyOf (of_side (other s) was)) (sym same) (side_known asset was (other s) earlier knows))
+
+    known : KnowsFragments asset new.fragments (earlier ++ j ∷ [])
+    known =
+        let both = at_both s (λ t. Stands (of_side t old.fragments) t) stands_own stands_other in
+        record {
+          client = subst (λ v. Stands v side.Client) (sym takes.client_part) both.0;
+          controller = subst (λ v. Stands v side.Controller) (sym takes.controller_part) both.1;
+          to_client = next_is side.Client old.fragments.to_client new.fragments.to_client client_sequence takes.to_client.next_is;
+          to_controller = next_is side.Controller old.fragments.to_controller new.fragments.to_controller controller_sequence takes.to_controller.next_is;
+        }
+
+    does_data : DoesFrame asset client earlier j s x (parts was old.to_client old.to_controller old.lines) new
+    does_data = record {
       fragments = known;
       fate = takes.fate ∙ ap (λ a. fate_of_segment asset client.address s a whole) answer_is ∙ ap (fate_of_segment asset client.address s (answer_now asset s earlier x)) whole_is
           ∙ sym (fate_of_data asset client.address s earlier x served data_);
@@ -282,52 +295,25 @@ pub takes_data : (asset : Asset) (client : Endpoint) (moment : ℕ) (s : Side) (
     (answer : SegmentAnswer) (f : Fate) (was : Fragments) (old new : Parts) → AddsSegment s (user_of x.blocks) answer was old.fragments →
     TakesSegment asset client moment s answer (completed_by answer (of_side s old.fragments)) f old new →
     TakesFrame asset client moment s x f (parts was old.to_client old.to_controller old.lines) new
-takes_data asset client moment side.Client x served data_ answer f was old new adds takes = record {
-  uncut = ap cut_by takes.fate ∙ no_cut asset client.address side.Client answer (completed_by answer old.fragments.client);
-  more = data_lines asset client moment side.Client f (completed_by answer old.fragments.client) old.fragments.to_client old.to_client;
-  lines = takes.lines;
-  does = λ earlier knows ended.
-      (let own_now = subst (IsAssemblyOf old.fragments.client) (sym (own_segments asset client moment side.Client x served data_ answer f was old new adds takes earlier knows ended))
-      (stands asset client moment side.Client x served data_ answer f was old new adds takes earlier knows ended) in
-      let other_same = segments_of-more asset side.Controller earlier (judged moment (Took side.Client (Frame x)) f) in
-      let other_now = subst (IsAssemblyOf was.controller) (sym other_same) knows.controller in
-      does_data asset client moment side.Client x served data_ answer f was old new adds takes earlier knows ended
-      (known_by asset client moment side.Client x served data_ answer f was old new adds takes earlier knows ended
-      (subst (λ v. IsAssemblyOf v (segments_of asset side.Client (earlier ++ judged moment (Took side.Client (Frame x)) f ∷ []))) (sym takes.client_part) own_now)
-      (subst (λ v. IsAssemblyOf v (segments_of asset side.Controller (earlier ++ judged moment (Took side.Client (Frame x)) f ∷ []))) (sym (takes.controller_part ∙ adds.other)) other_now)));
-  are_more = λ earlier knows ended. lines_are asset client moment side.Client x served data_ answer f was old new adds takes earlier knows ended;
-}
-takes_data asset client moment side.Controller x served data_ answer f was old new adds takes = record {
-  uncut = ap cut_by takes.fate ∙ no_cut asset client.address side.Controller answer (completed_by answer old.fragments.controller);
-  more = data_lines asset client moment side.Controller f (completed_by answer old.fragments.controller) old.fragments.to_client old.to_client;
-  lines = takes.lines;
-  does = λ earlier knows ended.
-      (let own_now = subst (IsAssemblyOf old.fragments.controller) (sym (own_segments asset client moment side.Controller x served data_ answer f was old new adds takes earlier knows ended))
-      (stands asset client moment side.Controller x served data_ answer f was old new adds takes earlier knows ended) in
-      let other_same = segments_of-more asset side.Client earlier (judged moment (Took side.Controller (Frame x)) f) in
-      let other_now = subst (IsAssemblyOf was.client) (sym other_same) knows.client in
-      does_data asset client moment side.Controller x served data_ answer f was old new adds takes earlier knows ended
-      (known_by asset client moment side.Controller x served data_ answer f was old new adds takes earlier knows ended
-      (subst (λ v. IsAssemblyOf v (segments_of asset side.Client (earlier ++ judged moment (Took side.Controller (Frame x)) f ∷ []))) (sym (takes.client_part ∙ adds.other)) other_now)
-      (subst (λ v. IsAssemblyOf v (segments_of asset side.Controller (earlier ++ judged moment (Took side.Controller (Frame x)) f ∷ []))) (sym takes.controller_part) own_now)));
-  are_more = λ earlier knows ended. lines_are asset client moment side.Controller x served data_ answer f was old new adds takes earlier knows ended;
-}
+takes_data asset client moment s x served data_ answer f was old new adds takes =
+    let whole = completed_by answer (of_side s old.fragments) in
+    record {
+      uncut = ap cut_by takes.fate ∙ no_cut asset client.address s answer whole;
+      more = data_lines asset client moment s f whole old.fragments.to_client old.to_client;
+      lines = takes.lines;
+      does = does_data asset client moment s x served data_ answer f was old new adds takes;
+      are_more = lines_are asset client moment s x served data_ answer f was old new adds takes;
+    }
 
 pub misses_data : (asset : Asset) (client : Endpoint) (moment : ℕ) (s : Side) (x : FrameValue) → stray_of asset s x ≡ None → is_data x ≡ true →
     (answer : SegmentAnswer) (was : Fragments) (old : Parts) (log : Option (List (List ℕ))) (part : List ℕ) → AddsSegment s (user_of x.blocks) answer was old.fragments →
     MissesSegment asset client moment s answer (completed_by answer (of_side s old.fragments)) old log part →
     MissesFrame asset client moment s x (parts was old.to_client old.to_controller old.lines) log part
 unfolding takes_data
-misses_data asset client moment side.Client x served data_ answer was old log part adds m = record {
+misses_data asset client moment s x served data_ answer was old log part adds m = record {
   fate = m.fate;
   new = m.new;
-  takes = takes_data asset client moment side.Client x served data_ answer m.fate was old m.new adds m.takes;
-  line = m.line;
-}
-misses_data asset client moment side.Controller x served data_ answer was old log part adds m = record {
-  fate = m.fate;
-  new = m.new;
-  takes = takes_data asset client moment side.Controller x served data_ answer m.fate was old m.new adds m.takes;
+  takes = takes_data asset client moment s x served data_ answer m.fate was old m.new adds m.takes;
   line = m.line;
 }
 

@@ -4,10 +4,10 @@ use Rattle.cf_dnplink.specs.LinkFrame.{FrameValue, SpellsFrame, frame_break}
 use Rattle.cf_dnplink.specs.UserOctets.{user_of}
 use Rattle.cf_lane.proofs.Handling.{count-more, ended-more}
 use Rattle.cf_lane.proofs.Recutting.{length-spelling}
-use Rattle.cf_lane.proofs.Units.{begins_frame, breaks_frame, frame_break_is}
+use Rattle.cf_lane.proofs.Units.{begins_by, frames}
 use Rattle.cf_lane.specs.Dnp3.{frame_octets, frame_output}
 use Rattle.cf_lane.specs.Fragments.{DoesFrame, LaneMissesFrame, LaneTakesFrame, MissesFrame, parts}
-use Rattle.cf_lane.specs.Handled.{Breaks, Does, Handled, Knows, LaneValue, Misses, State, TakesUnit, counted_by, judged, state}
+use Rattle.cf_lane.specs.Handled.{Does, Handled, Knows, LaneValue, Misses, State, TakesUnit, counted_by, judged, state}
 use Rattle.cf_lane.specs.Item.{Took}
 use Rattle.cf_lane.specs.Judged.{Judged, cut_of, is_admitted, is_refused, one_if}
 use Rattle.cf_lane.specs.Kept.{KnowsFragments, KnowsWire}
@@ -17,13 +17,11 @@ use Rattle.cf_lane.specs.declared.fate.Fate.{Fate}
 use Rattle.cf_lane.specs.declared.wire.Fragments.{Fragments}
 use Rattle.cf_outq.specs.SendQueue.{Queue, after_push}
 use Rattle.cf_policy.specs.declared.Asset.{Asset}
-use Rattle.cf_view.specs.Framing.{Begins, BreaksAt}
-use Rattle.cf_view.specs.declared.Break.{Break}
+use Rattle.cf_view.specs.Framing.{Begins}
 use Rattle.cf_view.specs.declared.Endpoint.{Endpoint}
 use Rattle.cf_view.specs.declared.Side.{Side}
 use Rattle.std.proofs.Common.{List, None, Option, [], ap, arith, length, refl, subst, sym, take, ℕ, ◌++◌, ◌+◌, ◌<◌, ◌∙◌, ◌∷◌, ◌≡◌, ◌≤◌}
 use Rattle.std.proofs.lemmas.List.{append-nil, length-take}
-use Rattle.cf_audit.specs.declared.line.CutReason.TheVariants as cut
 use Rattle.cf_dnplink.specs.LinkFrame as link
 use Rattle.cf_policy.specs.declared.Protocol.TheVariants as protocol
 use Rattle.cf_view.specs.declared.Side.TheVariants as side
@@ -102,7 +100,7 @@ module _ (asset : Asset) (moment : ℕ) (s : Side) (x : FrameValue) (f : Fate) (
     pub takes_frame : TakesUnit asset moment s bytes n None old new
     takes_frame = record {
       unit = Frame x;
-      begins = begins_frame asset.protocol dnp3 bytes x n b;
+      begins = begins_by (frames asset.protocol dnp3) bytes x n b;
       some_bytes = some;
       fate = f;
       is_cut = t.takes.uncut;
@@ -139,11 +137,3 @@ lane_misses asset moment s x lane client before q r text log part same was m =
       takes = record { client = refl; admitted = refl; refused = refl; before = before; now = n.new.fragments; was = was; is = refl; takes = n.takes };
       line = n.line;
     }
-
-pub breaks_by : (asset : Asset) → asset.protocol ≡ protocol.Dnp3 → (bytes : List ℕ) (s : Side) (reason : Break) → ((i : ℕ) × BreaksAt SpellsFrame bytes i × (reason ≡ frame_break i)) →
-    Breaks asset s bytes (cut.Framing s reason)
-breaks_by asset dnp3 bytes s reason b = record {
-  place = b.0;
-  breaks = breaks_frame asset.protocol dnp3 bytes b.0 b.1;
-  is_reason = ap (cut.Framing s) (b.2 ∙ frame_break_is asset.protocol dnp3 b.0);
-}

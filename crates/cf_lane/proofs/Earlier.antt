@@ -2,6 +2,7 @@
 use Rattle.cf_dnptrans.specs.AssemblyValue.{AssemblyValue, IsAssemblyOf}
 use Rattle.cf_dnptrans.specs.Segments.{count_of}
 use Rattle.cf_dnptrans.specs.Transport.{fitting, is_final, is_linked, left_of, made_of, octets_of, since_first, unfinished}
+use Rattle.cf_lane.proofs.Sides.{side_known}
 use Rattle.cf_lane.specs.Dnp3.{fragment_in, segment_in, segments_into, segments_of}
 use Rattle.cf_lane.specs.Handled.{IsLaneOf, LaneValue, debt}
 use Rattle.cf_lane.specs.Judged.{Judged, cut_by, cut_of, in_turn}
@@ -142,10 +143,6 @@ true_or_none true (Some x) e = refl
 true_or_none true None e = cc (e.0 refl)
 true_or_none false (Some x) e = cc (e.1 refl)
 true_or_none false None e = refl
-
-side_known : (asset : Asset) (f : Fragments) (s : Side) (earlier : List Judged) → KnowsFragments asset f earlier → IsAssemblyOf (of_side s f) (segments_of asset s earlier)
-side_known asset f side.Client earlier k = k.client
-side_known asset f side.Controller earlier k = k.controller
 
 unfinished_by : (p : Protocol) (asset : Asset) (f : Fragments) (s : Side) (b : Bool) → ((segments : List (List ℕ)) → IsAssemblyOf (of_side s f) segments → IsTrue b ↔ IsSome (unfinished segments)) →
     (earlier : List Judged) → IsWireOf p (wire.Dnp3 f) → KnowsFragments asset f earlier → b ≡ has_unfinished asset p s earlier

@@ -2,6 +2,7 @@
 use Rattle.cf_lane.proofs.Earlier.{cut_of-append, in_turn-append, wire_stays}
 use Rattle.cf_lane.proofs.Handling.{count-more, fates-append, with_lines-both, with_lines-nothing}
 use Rattle.cf_lane.proofs.Histories.{bytes_of-append, goes_more, items_more, no_bytes, nothing_dropped, rest_by, same_stream, stands_end}
+use Rattle.cf_lane.proofs.Sides.{at_both, other_again, other_side, same_side}
 use Rattle.cf_lane.specs.Fate.{HaveFates}
 use Rattle.cf_lane.specs.Follows.{AddsTo, AreJudged, AreRests, Began, BeganApart, Follows, IsRest, Rests, over, rest_of}
 use Rattle.cf_lane.specs.Handled.{EndsOther, IsOpen, Knows, LaneValue, MayHaveMore, State, judged, state}
@@ -13,9 +14,10 @@ use Rattle.cf_lane.specs.Log.{end_lines, has_unfinished, item_lines, lines, with
 use Rattle.cf_lane.specs.Numbers.{item_event}
 use Rattle.cf_lane.specs.Output.{other, output, outputs, stream_to}
 use Rattle.cf_lane.specs.Unit.{AreUnits, Left}
-use Rattle.cf_outq.specs.SendQueue.{Queue, IsQueueOf}
+use Rattle.cf_outq.specs.SendQueue.{IsQueueOf, Queue, after_end}
 use Rattle.cf_policy.specs.declared.Asset.{Asset}
 use Rattle.cf_stream.specs.Stream.{with_end}
+use Rattle.cf_view.specs.declared.Endpoint.{Endpoint}
 use Rattle.cf_view.specs.declared.Side.{Side}
 use Rattle.std.proofs.Common.{Bool, List, None, Option, [], ap, arith, drop, false, inl, inr, length, map, refl, subst, sym, take, true, ℕ, ◌++◌, ◌∙◌, ◌∷◌, ◌≡◌}
 use Rattle.std.proofs.Math.Seq.{drop-append_seam, take-append_seam, take-length}
@@ -36,12 +38,36 @@ or-none false = refl
 
 -- an End ends its side, and not the other
 ends_now : (s : Side) (m n : ℕ) (js : List Judged) → has_ended s (js ++ judged m (Ended s n) fate.Carried ∷ []) ≡ true
-ends_now side.Client m n js = list_any-append (λ i. ends side.Client i.item) js (judged m (Ended side.Client n) fate.Carried ∷ []) ∙ or-true (has_ended side.Client js)
-ends_now side.Controller m n js = list_any-append (λ i. ends side.Controller i.item) js (judged m (Ended side.Controller n) fate.Carried ∷ []) ∙ or-true (has_ended side.Controller js)
+ends_now s m n js =
+    list_any-append (λ i. ends s i.item) js (judged m (Ended s n) fate.Carried ∷ []) ∙ rw (same_side s) (or-true (has_ended s js))
 
 ends_other : (s : Side) (m n : ℕ) (js : List Judged) → has_ended (other s) (js ++ judged m (Ended s n) fate.Carried ∷ []) ≡ has_ended (other s) js
-ends_other side.Client m n js = list_any-append (λ i. ends side.Controller i.item) js (judged m (Ended side.Client n) fate.Carried ∷ []) ∙ or-none (has_ended side.Controller js)
-ends_other side.Controller m n js = list_any-append (λ i. ends side.Client i.item) js (judged m (Ended side.Controller n) fate.Carried ∷ []) ∙ or-none (has_ended side.Client js)
+ends_other s m n js =
+    list_any-append (λ i. ends (other s) i.item) js (judged m (Ended s n) fate.Carried ∷ []) ∙ rw (other_side s) (or-none (has_ended (other s) js))
+
+abbrev queue_to : Side → State → Queue
+queue_to side.Client st = st.to_client
+queue_to side.Controller st = st.to_controller
+
+-- the other queue is open until its End
+other_open : (s : Side) (st : State) → IsOpen s st.to_client st.to_controller → (queue_to (other s) st).ended ≡ false
+other_open side.Client st goes = goes
+other_open side.Controller st goes = goes
+
+end_put : (s : Side) (old new : State) → EndsOther s old.to_client old.to_controller new.to_client new.to_controller →
+    (queue_to s new ≡ queue_to s old) × (queue_to (other s) new ≡ after_end (queue_to (other s) old))
+end_put side.Client old new queues = queues
+end_put side.Controller old new queues = (queues.1, queues.0)
+
+-- what is known of the queue to a side
+module _ (asset : Asset) (h : List Element) (rests : Rests) (first : Option (List (List ℕ))) (old : State) (f : Follows asset h rests None first old) where
+  knows_end : (t : Side) → (queue_to t old).ended ≡ has_ended (other t) f.judged
+  knows_end side.Client = f.knows.client_ended
+  knows_end side.Controller = f.knows.controller_ended
+
+  knows_stream : (t : Side) → IsQueueOf (queue_to t old) (stream_to asset t f.judged)
+  knows_stream side.Client = f.client_stream
+  knows_stream side.Controller = f.controller_stream
 
 end_event : (s : Side) (n : ℕ) (earlier : List Judged) → item_event earlier fate.Carried (Ended s n) ≡ []
 end_event side.Client n earlier = refl
@@ -99,9 +125,6 @@ module _ (asset : Asset) (unfinished : Bool) (h : List Element) (rests : Rests) 
   bytes_now : (to : Side) → outputs asset to [] (f.judged ++ j ∷ []) ≡ outputs asset to [] f.judged
   bytes_now to = in_turn-append (output asset to) [] f.judged (j ∷ []) ∙ append-nil (outputs asset to [] f.judged)
 
-  open_stream : stream_to asset s (f.judged ++ j ∷ []) ≡ stream_to asset s f.judged
-  open_stream = same_stream (stream_to asset s (f.judged ++ j ∷ [])) (stream_to asset s f.judged) (bytes_now s) (ends_other s moment (length (rest_of s rests)) f.judged)
-
   line_now : with_lines old.lines (end_lines asset old.lane.client moment s unfinished rest) ≡ with_lines first (lines asset old.lane.client [] (f.judged ++ j ∷ []))
   line_now =
       ap (λ n. with_lines old.lines (end_lines asset old.lane.client moment s unfinished n)) is
@@ -141,6 +164,31 @@ module _ (asset : Asset) (unfinished : Bool) (h : List Element) (rests : Rests) 
     of_lines = text ∙ line_now ∙ ap (λ l. with_lines first (lines asset l.client [] (f.judged ++ j ∷ []))) (sym lane);
   }
 
+  abbrev Stands : Side → Type 0
+  Stands t = ((queue_to t new).ended ≡ has_ended (other t) (f.judged ++ j ∷ [])) × IsQueueOf (queue_to t new) (stream_to asset t (f.judged ++ j ∷ []))
+
+  stands_own : queue_to s new ≡ queue_to s old → Stands s
+  stands_own same =
+      let goes_on = ends_other s moment (length (rest_of s rests)) f.judged in
+      let stream = same_stream (stream_to asset s (f.judged ++ j ∷ [])) (stream_to asset s f.judged) (bytes_now s) goes_on in
+      (ap (λ (q : Queue). q.ended) same ∙ knows_end asset h rests first old f s ∙ sym goes_on, rw (same, stream) (knows_stream asset h rests first old f s))
+
+  stands_other : queue_to (other s) new ≡ after_end (queue_to (other s) old) → Stands (other s)
+  stands_other same =
+      let ends : has_ended (other (other s)) (f.judged ++ j ∷ []) ≡ true =
+      ap (λ t. has_ended t (f.judged ++ j ∷ [])) (other_again s) ∙ ends_now s moment (length (rest_of s rests)) f.judged in
+      let before = stream_to asset (other s) f.judged in
+      let stream = same_stream (stream_to asset (other s) (f.judged ++ j ∷ [])) (with_end before) (bytes_now (other s)) ends in (
+        ap (λ (q : Queue). q.ended) same ∙ sym ends,
+        rw (same, stream) (stands_end (queue_to (other s) old) before (other_open s old goes) (knows_stream asset h rests first old f (other s))),
+      )
+
+  follows_by : EndsOther s old.to_client old.to_controller new.to_client new.to_controller → Follows asset (h ++ e ∷ []) rests None first new
+  follows_by queues =
+      let put = end_put s old new queues in
+      let both = at_both s Stands (stands_own put.0) (stands_other put.1) in
+      by_parts (knows_now both.0.0 both.1.0) both.0.1 both.1.1
+
   -- where the line failed, the log has the first lines
   end_began_by : (log : Option (List (List ℕ))) (part : List ℕ) → MayHaveMore (end_lines asset old.lane.client moment s unfinished rest) old.lines log part →
       Began asset old.lane.client (h ++ e ∷ []) first log part
@@ -172,16 +220,18 @@ module _ (asset : Asset) (unfinished : Bool) (h : List Element) (rests : Rests) 
       }
 
 module _ (asset : Asset) (unfinished : Bool) (moment : ℕ) (s : Side) (rest : ℕ) (old : State)
-    (left : (earlier : List Judged) → KnowsWire asset old.lane.wire earlier → unfinished ≡ has_unfinished asset asset.protocol s earlier) where
+    (left : (earlier : List Judged) → KnowsWire asset old.lane.wire earlier → unfinished ≡ has_unfinished asset asset.protocol s earlier)
+    (client : Endpoint) (same : client ≡ old.lane.client) where
   -- so it is of each history
   pub end_fails : (log : Option (List (List ℕ))) (part : List ℕ) → IsOpen s old.to_client old.to_controller →
-      MayHaveMore (end_lines asset old.lane.client moment s unfinished rest) old.lines log part →
+      MayHaveMore (end_lines asset client moment s unfinished rest) old.lines log part →
       (h : List Element) (rests : Rests) (first : Option (List (List ℕ))) → rest ≡ length (rest_of s rests) → Follows asset h rests None first old →
       Began asset old.lane.client (h ++ end_at moment s ∷ []) first log part
   end_fails log part goes either h rests first is f =
       end_began_by asset unfinished h rests first moment s rest old
       (state old.lane old.to_client old.to_controller (with_lines old.lines (end_lines asset old.lane.client moment s unfinished rest)))
-      is f goes refl refl (left f.judged (f.knows.wire f.is_cut)) log part either
+      is f goes refl refl (left f.judged (f.knows.wire f.is_cut)) log part
+      (subst (λ e. MayHaveMore (end_lines asset e moment s unfinished rest) old.lines log part) same either)
 
 pub follows_end : (asset : Asset) (unfinished : Bool) (h : List Element) (rests : Rests) (first : Option (List (List ℕ))) (moment : ℕ) (s : Side) (rest : ℕ) (old new : State) →
     ((earlier : List Judged) → KnowsWire asset old.lane.wire earlier → unfinished ≡ has_unfinished asset asset.protocol s earlier) →
@@ -189,34 +239,8 @@ pub follows_end : (asset : Asset) (unfinished : Bool) (h : List Element) (rests 
     new.lane ≡ old.lane → EndsOther s old.to_client old.to_controller new.to_client new.to_controller →
     new.lines ≡ with_lines old.lines (end_lines asset old.lane.client moment s unfinished rest) →
     Follows asset (h ++ end_at moment s ∷ []) rests None first new
-follows_end asset unfinished h rests first moment side.Client rest old new left is f goes lane queues text =
-    let l = left f.judged (f.knows.wire f.is_cut) in
-    let n = length (rest_of side.Client rests) in
-    let js = f.judged ++ judged moment (Ended side.Client n) fate.Carried ∷ [] in
-    let same = open_stream asset unfinished h rests first moment side.Client rest old new is f goes lane text l in
-    let ended : stream_to asset side.Controller js ≡ with_end (stream_to asset side.Controller f.judged) =
-    same_stream (stream_to asset side.Controller js) (with_end (stream_to asset side.Controller f.judged))
-    (bytes_now asset unfinished h rests first moment side.Client rest old new is f goes lane text l side.Controller) (ends_now side.Client moment n f.judged) in
-    by_parts asset unfinished h rests first moment side.Client rest old new is f goes lane text l
-    (knows_now asset unfinished h rests first moment side.Client rest old new is f goes lane text l
-    (ap (λ (q : Queue). q.ended) queues.0 ∙ f.knows.client_ended ∙ sym (ends_other side.Client moment n f.judged))
-    (ap (λ (q : Queue). q.ended) queues.1 ∙ sym (ends_now side.Client moment n f.judged)))
-    (rw (queues.0, same) f.client_stream)
-    (rw (queues.1, ended) (stands_end old.to_controller (stream_to asset side.Controller f.judged) goes f.controller_stream))
-follows_end asset unfinished h rests first moment side.Controller rest old new left is f goes lane queues text =
-    let l = left f.judged (f.knows.wire f.is_cut) in
-    let n = length (rest_of side.Controller rests) in
-    let js = f.judged ++ judged moment (Ended side.Controller n) fate.Carried ∷ [] in
-    let same = open_stream asset unfinished h rests first moment side.Controller rest old new is f goes lane text l in
-    let ended : stream_to asset side.Client js ≡ with_end (stream_to asset side.Client f.judged) =
-    same_stream (stream_to asset side.Client js) (with_end (stream_to asset side.Client f.judged))
-    (bytes_now asset unfinished h rests first moment side.Controller rest old new is f goes lane text l side.Client) (ends_now side.Controller moment n f.judged) in
-    by_parts asset unfinished h rests first moment side.Controller rest old new is f goes lane text l
-    (knows_now asset unfinished h rests first moment side.Controller rest old new is f goes lane text l
-    (ap (λ (q : Queue). q.ended) queues.0 ∙ sym (ends_now side.Controller moment n f.judged))
-    (ap (λ (q : Queue). q.ended) queues.1 ∙ f.knows.controller_ended ∙ sym (ends_other side.Controller moment n f.judged)))
-    (rw (queues.0, ended) (stands_end old.to_client (stream_to asset side.Client f.judged) goes f.client_stream))
-    (rw (queues.1, same) f.controller_stream)
+follows_end asset unfinished h rests first moment s rest old new left is f goes lane queues text =
+    follows_by asset unfinished h rests first moment s rest old new is f goes lane text (left f.judged (f.knows.wire f.is_cut)) queues
 
 -- over lines of its own
 module _ (asset : Asset) (unfinished : Bool) (moment : ℕ) (s : Side) (rest : ℕ) (old : State)
@@ -232,17 +256,18 @@ module _ (asset : Asset) (unfinished : Bool) (moment : ℕ) (s : Side) (rest : �
         follows = follows_end asset unfinished h rests first moment s rest (over own old) (over (with_lines own more) new) left is f goes lane queues refl;
       }
 
-  pub end_fails_apart : (log : Option (List (List ℕ))) (part : List ℕ) → MayHaveMore (end_lines asset old.lane.client moment s unfinished rest) old.lines log part →
+  pub end_fails_apart : (client : Endpoint) → client ≡ old.lane.client → (log : Option (List (List ℕ))) (part : List ℕ) →
+      MayHaveMore (end_lines asset client moment s unfinished rest) old.lines log part →
       (h : List Element) (rests : Rests) (first own : Option (List (List ℕ))) → rest ≡ length (rest_of s rests) → Follows asset h rests None first (over own old) →
       BeganApart asset old.lane.client (h ++ end_at moment s ∷ []) first own old.lines log part
-  end_fails_apart log part (inl none) h rests first own is f = record {
+  end_fails_apart client same log part (inl none) h rests first own is f = record {
     more = [];
     added = none.0 ∙ sym (with_lines-nothing old.lines);
-    began = end_fails asset unfinished moment s rest (over own old) left (with_lines own []) part goes (inl (with_lines-nothing own, none.1)) h rests first is f;
+    began = end_fails asset unfinished moment s rest (over own old) left client same (with_lines own []) part goes (inl (with_lines-nothing own, none.1)) h rests first is f;
   }
-  end_fails_apart log part (inr all) h rests first own is f =
-      let more = end_lines asset old.lane.client moment s unfinished rest in record {
+  end_fails_apart client same log part (inr all) h rests first own is f =
+      let more = end_lines asset client moment s unfinished rest in record {
         more = more;
         added = all.0;
-        began = end_fails asset unfinished moment s rest (over own old) left (with_lines own more) part goes (inr (refl, all.1)) h rests first is f;
+        began = end_fails asset unfinished moment s rest (over own old) left client same (with_lines own more) part goes (inr (refl, all.1)) h rests first is f;
       }

@@ -4,7 +4,7 @@ use Rattle.cf_lane.proofs.Histories.{Along, along_more, fed_broken, fed_cut, fed
 use Rattle.cf_lane.proofs.Taking.{grows_both, grows_more, room_left, room_less}
 use Rattle.cf_lane.proofs.Units.{short_unit, units_of_octets}
 use Rattle.cf_lane.specs.Follows.{AddsTo, Follows, IsEndBehindCut, Rests, over, rest_of, with_rest}
-use Rattle.cf_lane.specs.Handled.{Breaks, Grows, HasRoom, IsOpen, State, Steps, TakesUnit, WritesLog, letters_in}
+use Rattle.cf_lane.specs.Handled.{Breaks, Grows, HasRoom, IsOpen, State, Steps, TakesUnit, WritesLog, cut_in, letters_in}
 use Rattle.cf_lane.specs.History.{Element, bytes_at, letters_at}
 use Rattle.cf_lane.specs.Unit.{SpellsUnit}
 use Rattle.cf_lane.specs.declared.lane.Step.{Step}
@@ -21,6 +21,14 @@ use Rattle.std.proofs.Common.{Bool, List, None, Option, Some, [], ap, arith, dro
 use Rattle.std.proofs.lemmas.List.{length-drop}
 use Rattle.cf_view.specs.declared.Side.TheVariants as side
 use Rattle.cf_lane.specs.declared.lane.Step.TheVariants as step
+
+-- a step that takes no unit
+abbrev pub Stops : Step → Type 0
+Stops st = (st ≡ step.More) ⊎ ((reason : CutReason) × (st ≡ step.Cut reason))
+
+pub no_letters : (st : Step) → Stops st → letters_in st ≡ 0
+no_letters st (inl more) = ap letters_in more
+no_letters st (inr cut) = ap letters_in cut.1
 
 pub grows_none : (d : ℕ) (q : Queue) → Grows 0 d d q q
 grows_none d q = record { kept = omega arith; pushed = omega arith; rest = refl }
@@ -43,9 +51,6 @@ cause_after a b c P l h = record {
   later = omega (arith, h.later, l);
   rose = λ p. (let r = h.rose p in omega (arith, r, l));
 }
-
-pub no_cause : (a b : ℕ) (P : Type 0) → a ≤ b → (P → ⊥) → HasCause a b P
-no_cause a b P l n = record { later = l; rose = λ p. absurd (n p) }
 
 -- a queue that grew is open where it was
 pub open_stays : (s : Side) (m n d e : ℕ) (c k c' k' : Queue) → IsOpen s c k → Grows m d e c c' → Grows n d e k k' → IsOpen s c' k'
@@ -101,14 +106,14 @@ module _ (asset : Asset) (moment : ℕ) (s : Side) (bytes rest : List ℕ) (used
   grows_took d e g p q r st n is a b =
       grows_more (2 * used + 2 * letters_in st) (2 * (used + n)) d g p r (omega (arith, ap letters_in is)) (grows_both (2 * used) (2 * letters_in st) d e g p q r a b)
 
-  pub grows_end : (d e g : ℕ) (p q r : Queue) (st : Step) → letters_in st ≡ 0 → Grows (2 * used) d e p q → Grows (2 * letters_in st) e g q r → Grows (2 * used) d g p r
-  grows_end d e g p q r st none a b =
-      grows_more (2 * used + 2 * letters_in st) (2 * used) d g p r (omega (arith, none)) (grows_both (2 * used) (2 * letters_in st) d e g p q r a b)
+  pub grows_end : (d e g : ℕ) (p q r : Queue) (st : Step) → Stops st → Grows (2 * used) d e p q → Grows (2 * letters_in st) e g q r → Grows (2 * used) d g p r
+  grows_end d e g p q r st stops a b =
+      grows_more (2 * used + 2 * letters_in st) (2 * used) d g p r (omega (arith, no_letters st stops)) (grows_both (2 * used) (2 * letters_in st) d e g p q r a b)
 
 module _ (asset : Asset) (moment : ℕ) (s : Side) (bytes rest : List ℕ) (used : ℕ) (old mid new : State)
     (a : Along asset moment s bytes used old mid) (left : rest ≡ drop used bytes) (st : Step) (steps : Steps asset moment s rest mid new st) where
   -- where no whole unit is left, the history goes on by the piece
-  pub apart_more : st ≡ step.More → (h : List Element) (rests : Rests) (first own : Option (List (List ℕ))) (piece : List ℕ) (ended : Bool) → IsEndBehindCut ended None →
+  apart_more : st ≡ step.More → (h : List Element) (rests : Rests) (first own : Option (List (List ℕ))) (piece : List ℕ) (ended : Bool) → IsEndBehindCut ended None →
       bytes ≡ rest_of s rests ++ piece → Follows asset h rests None first (over own old) →
       AddsTo asset (h ++ letters_at moment s piece ended ∷ []) (with_rest s rests (drop used bytes)) None first own old.lines new
   apart_more e h rests first own piece false behind is f =
@@ -116,36 +121,43 @@ module _ (asset : Asset) (moment : ℕ) (s : Side) (bytes rest : List ℕ) (used
       ends_more asset h rests first own moment s piece bytes rest used old mid new is f a left (subst P e steps)
   apart_more e h rests first own piece true behind is f = absurd behind
 
-  pub follows_more : st ≡ step.More → (h : List Element) (rests : Rests) (first : Option (List (List ℕ))) (piece : List ℕ) (ended : Bool) → IsEndBehindCut ended None →
-      bytes ≡ rest_of s rests ++ piece → Follows asset h rests None first old →
-      Follows asset (h ++ letters_at moment s piece ended ∷ []) (with_rest s rests (drop used bytes)) None first new
-  follows_more e h rests first piece ended behind is f =
-      of_whole_log asset (h ++ letters_at moment s piece ended ∷ []) (with_rest s rests (drop used bytes)) None first old new
-      (apart_more e h rests first old.lines piece ended behind is f)
-
-  pub apart_cut : IsOctets bytes → (reason : CutReason) → st ≡ step.Cut reason → (h : List Element) (rests : Rests) (first own : Option (List (List ℕ))) (piece : List ℕ) (ended : Bool) →
+  apart_cut : IsOctets bytes → (reason : CutReason) → st ≡ step.Cut reason → (h : List Element) (rests : Rests) (first own : Option (List (List ℕ))) (piece : List ℕ) (ended : Bool) →
       IsEndBehindCut ended (Some reason) → bytes ≡ rest_of s rests ++ piece → Follows asset h rests None first (over own old) →
       AddsTo asset (h ++ letters_at moment s piece ended ∷ []) (with_rest s rests (drop used bytes)) (Some reason) first own old.lines new
   apart_cut octets reason e h rests first own piece ended behind is f =
       let P : Step → Type 0 = λ st. Steps asset moment s rest mid new st in
       ends_cut asset h rests first own moment s piece bytes rest used old mid new is f a left octets ended reason (subst P e steps)
 
-  pub follows_cut : IsOctets bytes → (reason : CutReason) → st ≡ step.Cut reason → (h : List Element) (rests : Rests) (first : Option (List (List ℕ))) (piece : List ℕ) (ended : Bool) →
-      IsEndBehindCut ended (Some reason) → bytes ≡ rest_of s rests ++ piece → Follows asset h rests None first old →
-      Follows asset (h ++ letters_at moment s piece ended ∷ []) (with_rest s rests (drop used bytes)) (Some reason) first new
-  follows_cut octets reason e h rests first piece ended behind is f =
-      of_whole_log asset (h ++ letters_at moment s piece ended ∷ []) (with_rest s rests (drop used bytes)) (Some reason) first old new
-      (apart_cut octets reason e h rests first old.lines piece ended behind is f)
+  -- so it goes on by either
+  pub apart_stop : IsOctets bytes → Stops st → (h : List Element) (rests : Rests) (first own : Option (List (List ℕ))) (piece : List ℕ) (ended : Bool) →
+      IsEndBehindCut ended (cut_in st) → bytes ≡ rest_of s rests ++ piece → Follows asset h rests None first (over own old) →
+      AddsTo asset (h ++ letters_at moment s piece ended ∷ []) (with_rest s rests (drop used bytes)) (cut_in st) first own old.lines new
+  apart_stop octets (inl more) h rests first own piece ended behind is f =
+      subst (λ cut. AddsTo asset (h ++ letters_at moment s piece ended ∷ []) (with_rest s rests (drop used bytes)) cut first own old.lines new) (sym (ap cut_in more))
+      (apart_more more h rests first own piece ended (subst (IsEndBehindCut ended) (ap cut_in more) behind) is f)
+  apart_stop octets (inr cut) h rests first own piece ended behind is f =
+      subst (λ cut. AddsTo asset (h ++ letters_at moment s piece ended ∷ []) (with_rest s rests (drop used bytes)) cut first own old.lines new) (sym (ap cut_in cut.1))
+      (apart_cut octets cut.0 cut.1 h rests first own piece ended (subst (IsEndBehindCut ended) (ap cut_in cut.1) behind) is f)
+
+  pub follows_stop : IsOctets bytes → Stops st → (h : List Element) (rests : Rests) (first : Option (List (List ℕ))) (piece : List ℕ) (ended : Bool) →
+      IsEndBehindCut ended (cut_in st) → bytes ≡ rest_of s rests ++ piece → Follows asset h rests None first old →
+      Follows asset (h ++ letters_at moment s piece ended ∷ []) (with_rest s rests (drop used bytes)) (cut_in st) first new
+  follows_stop octets stops h rests first piece ended behind is f =
+      of_whole_log asset (h ++ letters_at moment s piece ended ∷ []) (with_rest s rests (drop used bytes)) (cut_in st) first old new
+      (apart_stop octets stops h rests first old.lines piece ended behind is f)
 
   -- what is left is shorter than a unit
-  pub little_left : st ≡ step.More → length (drop used bytes) < 300
-  little_left e =
+  pub little_left : Stops st → cut_in st ≡ None → length (drop used bytes) < 300
+  little_left (inr cut) none = absurd (some_none (sym (ap cut_in cut.1) ∙ none)) where
+    some_none : Some cut.0 ≡ None → ⊥
+    some_none e = cc
+  little_left (inl e) none =
       let P : Step → Type 0 = λ st. Steps asset moment s rest mid new st in
       let partial = (subst P e steps).0 in
       short_unit asset.protocol (drop used bytes) (subst (IsPartial (SpellsUnit asset.protocol)) left partial)
 
   -- the lane stays that of its client
-  pub same_client : ((st ≡ step.More) ⊎ ((reason : CutReason) × (st ≡ step.Cut reason))) → new.lane.client ≡ old.lane.client
+  pub same_client : Stops st → new.lane.client ≡ old.lane.client
   same_client (inl e) =
       let P : Step → Type 0 = λ st. Steps asset moment s rest mid new st in
       ap (λ (x : State). x.lane.client) (subst P e steps).1 ∙ a.handled.client

@@ -13,16 +13,18 @@ use Rattle.cf_lane.proofs.Dnp3Segments.{more_fragment, stray_fragment}
 use Rattle.cf_lane.proofs.Earlier.{segments_of-more}
 use Rattle.cf_lane.proofs.Recutting.{frames_most, length-spelling}
 use Rattle.cf_lane.proofs.ReplySizes.{reply_sizes}
+use Rattle.cf_lane.proofs.Sides.{other_side, same_side, sum_sides}
 use Rattle.cf_lane.specs.Dnp3.{answer_now, drop_why, fate_of_fragment, fate_of_frame, fate_of_segment, fragment_frames, fragment_in, fragment_reply, frame_fragment, frame_output, frames_at, is_data, is_none, segment_in, segments_into, segments_of, stray_of, whole_now}
 use Rattle.cf_lane.specs.Fragments.{recut_most}
 use Rattle.cf_lane.specs.History.{is_side}
 use Rattle.cf_lane.specs.Item.{Took}
 use Rattle.cf_lane.specs.Judged.{Judged, goes_on, has_ended}
+use Rattle.cf_lane.specs.Output.{other}
 use Rattle.cf_lane.specs.Unit.{Frame, frame_spelling}
 use Rattle.cf_lane.specs.declared.fate.Fate.{Fate}
 use Rattle.cf_policy.specs.declared.Asset.{Asset}
 use Rattle.cf_view.specs.declared.Side.{Side}
-use Rattle.std.proofs.Common.{Bool, List, None, Option, Some, [], ap, arith, false, inl, inr, length, refl, sym, true, ℕ, ◌*◌, ◌&&◌, ◌++◌, ◌+◌, ◌-◌, ◌/◌, ◌∙◌, ◌∷◌, ◌≡◌, ◌≤◌, ◌⊎◌}
+use Rattle.std.proofs.Common.{Bool, List, None, Option, Some, [], ap, arith, false, inl, inr, length, refl, true, ℕ, ◌*◌, ◌&&◌, ◌++◌, ◌+◌, ◌-◌, ◌/◌, ◌∙◌, ◌∷◌, ◌≡◌, ◌≤◌, ◌⊎◌}
 use Rattle.std.proofs.lemmas.Bool.{ltb-false}
 use Rattle.std.proofs.lemmas.List.{append-nil}
 use Rattle.std.specs.List.{flat_map}
@@ -166,60 +168,40 @@ module _ (asset : Asset) (client : ℕ) (to : Side) (earlier : List Judged) (j :
     none_there true = refl
     none_there false = refl
 
-  not_taken : (d : Bool) (t : Side) → segments_by false d t ≡ segments_of asset t earlier
-  not_taken d t = by_side (is_side t s) where
-    by_side : (b : Bool) → (if b && (false && d) then user ∷ [] else []) ++ segments_of asset t earlier ≡ segments_of asset t earlier
+  -- no segment comes with a frame that is not served, or has no data
+  no_segment : (served d : Bool) → (served && d) ≡ false → (t : Side) → segments_by served d t ≡ segments_of asset t earlier
+  no_segment served d none t = rw none (by_side (is_side t s)) where
+    by_side : (b : Bool) → (if b && false then user ∷ [] else []) ++ segments_of asset t earlier ≡ segments_of asset t earlier
     by_side true = refl
     by_side false = refl
 
   stray_grows : (d : Bool) (because : Why) → Grows false d (fate.Stray because)
-  stray_grows d because = omega (arith, ap length (none_put d because), ap owed (not_taken d side.Client), ap owed (not_taken d side.Controller))
-
-  no_data : (t : Side) → segments_by true false t ≡ segments_of asset t earlier
-  no_data t = by_side (is_side t s) where
-    by_side : (b : Bool) → (if b && (true && false) then user ∷ [] else []) ++ segments_of asset t earlier ≡ segments_of asset t earlier
-    by_side true = refl
-    by_side false = refl
+  stray_grows d because =
+      let same = no_segment false d refl in
+      omega (arith, ap length (none_put d because), ap owed (same side.Client), ap owed (same side.Controller))
 
   status_grows : Grows true false fate.Carried
   status_grows =
-      omega (arith, if_lengths (is_side to s) [] (frame_spelling x) (length (frame_spelling x)) (omega arith) (omega arith), ap owed (no_data side.Client), ap owed (no_data side.Controller))
+      let same = no_segment true false refl in
+      omega (arith, if_lengths (is_side to s) [] (frame_spelling x) (length (frame_spelling x)) (omega arith) (omega arith), ap owed (same side.Client), ap owed (same side.Controller))
 
-  data_grows_by : (t : Side) → s ≡ t → Grows true true (fate_of_segment asset client s (answer_now asset s earlier x) whole)
-  data_grows_by side.Client is =
-      let c : segments_by true true side.Client ≡ user ∷ segments_of asset s earlier =
-      ap (λ z. (if is_side side.Client z && (true && true) then user ∷ [] else []) ++ segments_of asset side.Client earlier) is
-      ∙ ap (λ z. user ∷ segments_of asset z earlier) (sym is) in
-      let k : segments_by true true side.Controller ≡ segments_of asset side.Controller earlier =
-      ap (λ z. (if is_side side.Controller z && (true && true) then user ∷ [] else []) ++ segments_of asset side.Controller earlier) is in
-      let own = ap (λ z. owed (segments_of asset z earlier)) is in
+  data_grows : Grows true true (fate_of_segment asset client s (answer_now asset s earlier x) whole)
+  data_grows =
+      let own : segments_by true true s ≡ user ∷ segments_of asset s earlier = rw (same_side s) refl in
+      let others : segments_by true true (other s) ≡ segments_of asset (other s) earlier = rw (other_side s) refl in
       omega (
         arith,
         segment_fits asset client to s ended start (segments_of asset s earlier) user (answer_now asset s earlier x) (last_fragment (user ∷ segments_of asset s earlier)) refl refl,
-        ap owed c,
-        ap owed k,
-        own,
-        weight_is,
-      )
-  data_grows_by side.Controller is =
-      let c : segments_by true true side.Controller ≡ user ∷ segments_of asset s earlier =
-      ap (λ z. (if is_side side.Controller z && (true && true) then user ∷ [] else []) ++ segments_of asset side.Controller earlier) is
-      ∙ ap (λ z. user ∷ segments_of asset z earlier) (sym is) in
-      let k : segments_by true true side.Client ≡ segments_of asset side.Client earlier =
-      ap (λ z. (if is_side side.Client z && (true && true) then user ∷ [] else []) ++ segments_of asset side.Client earlier) is in
-      let own = ap (λ z. owed (segments_of asset z earlier)) is in
-      omega (
-        arith,
-        segment_fits asset client to s ended start (segments_of asset s earlier) user (answer_now asset s earlier x) (last_fragment (user ∷ segments_of asset s earlier)) refl refl,
-        ap owed c,
-        ap owed k,
-        own,
+        ap owed own,
+        ap owed others,
+        sum_sides s (λ t. owed (segments_by true true t)),
+        sum_sides s (λ t. owed (segments_of asset t earlier)),
         weight_is,
       )
 
   by_cases : (o : Option Why) (d : Bool) → Grows (is_none o) d (fate_by d o)
   by_cases (Some because) d = stray_grows d because
-  by_cases None true = data_grows_by s refl
+  by_cases None true = data_grows
   by_cases None false = status_grows
 
   -- what a frame puts out was owed, or is paid by its own octets

@@ -5,6 +5,7 @@ use Rattle.cf_dnplink.proofs.Frames.{to_places}
 use Rattle.cf_lane.proofs.Handling.{fates-append}
 use Rattle.cf_lane.proofs.Histories.{bytes_of-append, goes_more, items_more, nothing_dropped, to_going}
 use Rattle.cf_lane.proofs.Pieces.{units_pieces, units_stay}
+use Rattle.cf_lane.proofs.Sides.{own_bytes}
 use Rattle.cf_lane.proofs.Units.{nothing_unit, units_of_octets}
 use Rattle.cf_lane.specs.Acts.{fate_of_acts}
 use Rattle.cf_lane.specs.Dnp3.{fate_of_frame, stray_of}
@@ -28,9 +29,8 @@ use Rattle.cf_view.proofs.OctetLists.{IsOctets-append, IsOctets-take}
 use Rattle.cf_view.specs.Framing.{IsPartial}
 use Rattle.cf_view.specs.Octets.{IsOctets, u16_be_octets}
 use Rattle.cf_view.specs.Units.{BeginsWithUnits}
-use Rattle.cf_view.specs.declared.Break.{Break}
 use Rattle.cf_view.specs.declared.Side.{Side}
-use Rattle.std.proofs.Common.{Bool, Err, List, None, Ok, Option, Result, Some, [], ap, append_assoc, arith, cond, false, inl, inr, length, map, refl, subst, suc, sym, take, true, zero, ℕ, ◌++◌, ◌+◌, ◌/◌, ◌%◌, ◌<◌, ◌^◌, ◌∙◌, ◌∷◌, ◌≡◌, ◌≤◌, ◌⊎◌}
+use Rattle.std.proofs.Common.{Bool, Err, List, None, Ok, Option, Result, Some, [], ap, append_assoc, arith, cond, false, inl, inr, length, map, refl, subst, suc, sym, take, true, zero, ℕ, ◌++◌, ◌+◌, ◌/◌, ◌%◌, ◌<◌, ◌^◌, ◌∙◌, ◌∷◌, ◌≡◌, ◌⊎◌}
 use Rattle.std.proofs.Math.Seq.{take-append_seam}
 use Rattle.std.proofs.lemmas.Bool.{cases_lt}
 use Rattle.std.proofs.lemmas.List.{append-nil, map-append}
@@ -183,10 +183,6 @@ abbrev HasTail : Protocol → List ℕ → Type 0
 HasTail p xs = (us : List UnitValue) × (t : Tail) × AreUnits p xs us t
 
 module _ (p : Protocol) where
-  own_by : (s : Side) (xs : List ℕ) → cond (is_side s s) xs [] ≡ xs
-  own_by side.Client xs = refl
-  own_by side.Controller xs = refl
-
   tail_by : (h : List Element) (e : Element) → HasTail p (bytes_of e.side (h ++ e ∷ [])) → (s t : Side) → e.side ≡ t → HasTail p (bytes_of s h) → HasTail p (bytes_of s (h ++ e ∷ []))
   tail_by h e now side.Client side.Client is before = subst (λ s. HasTail p (bytes_of s (h ++ e ∷ []))) is now
   tail_by h e now side.Controller side.Controller is before = subst (λ s. HasTail p (bytes_of s (h ++ e ∷ []))) is now
@@ -222,7 +218,7 @@ module _ (p : Protocol) where
   complete h e us (Left rest) a o =
       let more = units_of_octets p (rest ++ e.letters.bytes) (IsOctets-append rest e.letters.bytes (left_octets p rest a.partial) o) in
       let all = units_pieces p us more.0 (bytes_of e.side h) rest e.letters.bytes more.1 a more.2 in
-      let bytes : bytes_of e.side (h ++ e ∷ []) ≡ bytes_of e.side h ++ e.letters.bytes = bytes_of-append e.side h e ∙ ap (λ xs. bytes_of e.side h ++ xs) (own_by e.side e.letters.bytes) in
+      let bytes : bytes_of e.side (h ++ e ∷ []) ≡ bytes_of e.side h ++ e.letters.bytes = bytes_of-append e.side h e ∙ ap (λ xs. bytes_of e.side h ++ xs) (own_bytes e) in
       let now = map (placed e.moment) (map (Took e.side) more.0 ++ last_items e.side e.letters.ended more.1) in
       let c : Completes p h e now = record {
         before = us;

@@ -4,6 +4,7 @@ use Rattle.cf_dnplink.proofs.Frames.{user_is}
 use Rattle.cf_lane.proofs.Earlier.{in_turn-append}
 use Rattle.cf_lane.proofs.Histories.{bytes_of-append}
 use Rattle.cf_lane.proofs.Judgements.{after_break, one_item_fate, one_items, one_units, same_judged}
+use Rattle.cf_lane.proofs.Sides.{own_bytes}
 use Rattle.cf_lane.proofs.Units.{free_unit, short_unit}
 use Rattle.cf_lane.specs.Fate.{HasItemFate, HaveFates}
 use Rattle.cf_lane.specs.Follows.{GoesOn, GoesOnAfter}
@@ -113,12 +114,6 @@ caps_sum : (t : Side) (n : ℕ) (cap : Side → ℕ) →
 caps_sum side.Client n cap = omega arith
 caps_sum side.Controller n cap = omega arith
 
-own_in : (e : Element) → bytes_in e.side e ≡ e.letters.bytes
-own_in e = by_side e.side e.letters.bytes where
-  by_side : (s : Side) (xs : List ℕ) → (if is_side s s then xs else []) ≡ xs
-  by_side side.Client xs = refl
-  by_side side.Controller xs = refl
-
 same_left : (t u : Tail) (r : List ℕ) → t ≡ u → u ≡ Left r → left_of t ≡ length r
 same_left t u r e f = ap left_of (e ∙ f)
 
@@ -150,7 +145,7 @@ module _ (p : Protocol) (earlier : List Element) (e : Element) (now : List Place
   -- what an element completes weighs no more than what it adds and what was left
   weight_by : (w : Tail) → c.was ≡ w → weights now + left_of c.tail ≤ left_of w + length e.letters.bytes
   weight_by (Left r) is =
-      let size = bytes_of-append e.side earlier e ∙ ap (λ xs. bytes_of e.side earlier ++ xs) (own_in e) in
+      let size = bytes_of-append e.side earlier e ∙ ap (λ xs. bytes_of e.side earlier ++ xs) (own_bytes e) in
       let all = units_weigh p (bytes_of e.side (earlier ++ e ∷ [])) (c.before ++ c.more) c.tail c.are in
       let were : IsUnitsThenRest (SpellsUnit p) c.before (bytes_of e.side earlier) r = subst (λ t. AreUnits p (bytes_of e.side earlier) c.before t) is c.were in
       let old = started p c.before (bytes_of e.side earlier) r were.starts in

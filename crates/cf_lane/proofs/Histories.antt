@@ -3,6 +3,7 @@ use Rattle.cf_audit.specs.declared.line.CutReason.{CutReason}
 use Rattle.cf_lane.proofs.Earlier.{cut_of-append, first_none, in_turn-append}
 use Rattle.cf_lane.proofs.Handling.{count-more, ended-more, fates-append, handled_more, handled_none, push-nothing, with_lines-both, with_lines-nothing}
 use Rattle.cf_lane.proofs.Pieces.{covers_rest, starts_join, starts_within, units_pieces}
+use Rattle.cf_lane.proofs.Sides.{own_bytes}
 use Rattle.cf_lane.specs.Fate.{HaveFates}
 use Rattle.cf_lane.specs.Follows.{AddsTo, AreJudged, AreRests, Began, BeganWithin, FailsApart, FailsWithin, Follows, GoesOn, GoesOnAfter, IsRest, Rests, no_rests, over, rest_of, with_rest}
 use Rattle.cf_lane.specs.Handled.{Breaks, Does, Handled, Knows, LaneValue, Misses, State, TakesUnit, judged, state}
@@ -36,10 +37,6 @@ use Rattle.cf_view.specs.declared.Side.TheVariants as side
 pub bytes_of-append : (s : Side) (h : List Element) (e : Element) → bytes_of s (h ++ e ∷ []) ≡ bytes_of s h ++ bytes_in s e
 bytes_of-append s [] e = append-nil (bytes_in s e)
 bytes_of-append s (d ∷ h) e = ap (λ xs. bytes_in s d ++ xs) (bytes_of-append s h e) ∙ sym (append_assoc (bytes_in s d) (bytes_of s h) (bytes_in s e))
-
-own_bytes : (s : Side) (m : ℕ) (piece : List ℕ) (ended : Bool) → bytes_in s (letters_at m s piece ended) ≡ piece
-own_bytes side.Client m piece ended = refl
-own_bytes side.Controller m piece ended = refl
 
 pub no_bytes : (s t : Side) (m : ℕ) → bytes_in t (end_at m s) ≡ []
 no_bytes side.Client side.Client m = refl
@@ -137,7 +134,7 @@ module _ (asset : Asset) (h : List Element) (rests : Rests) (first : Option (Lis
   pub units_now : AreUnits asset.protocol (bytes_of s (h ++ e ∷ [])) (rest_before.units ++ units) tail
   units_now =
       subst (λ xs. AreUnits asset.protocol xs (rest_before.units ++ units) tail)
-      (sym (bytes_of-append s h e ∙ ap (λ xs. bytes_of s h ++ xs) (own_bytes s moment piece ended)))
+      (sym (bytes_of-append s h e ∙ ap (λ xs. bytes_of s h ++ xs) (own_bytes e)))
       (units_pieces asset.protocol rest_before.units units (bytes_of s h) (rest_of s rests) piece tail rest_before.cut
       (subst (λ xs. AreUnits asset.protocol xs units tail) is are))
 

@@ -25,6 +25,7 @@ mod Recuts
 mod Recutting
 mod Renumbering
 mod ReplySizes
+mod Sides
 mod Sizes
 mod Taking
 pub mod Units

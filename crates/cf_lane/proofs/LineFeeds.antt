@@ -134,34 +134,19 @@ act_plain a =
 
 side_plain : (s : Side) → are_plain (side_name s) ≡ true
 side_plain side.Client = refl
-side_plain side.Controller = refl
+side_plain s = refl
 
 reason_plain : (r : Reason) → are_plain (reason_name r) ≡ true
 reason_plain reason.Function = refl
-reason_plain reason.Point = refl
-reason_plain reason.Value = refl
-reason_plain reason.Station = refl
+reason_plain r = refl
 
 why_plain : (w : Why) → are_plain (why_name w) ≡ true
 why_plain why.Address = refl
-why_plain why.Direction = refl
-why_plain why.Code = refl
-why_plain why.Empty = refl
-why_plain why.NoFirst = refl
-why_plain why.Order = refl
-why_plain why.TooLong = refl
-why_plain why.Short = refl
+why_plain w = refl
 
 break_plain : (b : Break) → are_plain (break_name b) ≡ true
 break_plain break.Protocol = refl
-break_plain break.Length = refl
-break_plain break.Start = refl
-break_plain break.FrameLength = refl
-break_plain break.HeaderCrc = refl
-break_plain break.BlockCrc = refl
-break_plain break.ApduStart = refl
-break_plain break.ApduLength = refl
-break_plain break.Control = refl
+break_plain b = refl
 
 mark_plain : (b : Bool) → are_plain (mark b) ≡ true
 mark_plain true = refl

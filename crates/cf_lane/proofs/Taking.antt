@@ -1,22 +1,20 @@
 -- Laws of one unit, and of what a queue grows by.
 use Rattle.cf_lane.proofs.Earlier.{no_debt}
 use Rattle.cf_lane.proofs.Handling.{adu_handled, push-nothing, with_lines-nothing}
-use Rattle.cf_lane.proofs.Units.{adu_break_is, begins_adu, breaks_adu}
-use Rattle.cf_lane.specs.Handled.{Breaks, Grows, HasRoom, IsLaneOf, IsOpen, LaneValue, State, TakesCommand, TakesUnit, debt}
+use Rattle.cf_lane.proofs.Units.{adus, begins_by}
+use Rattle.cf_lane.specs.Handled.{Grows, HasRoom, IsLaneOf, IsOpen, LaneValue, State, TakesCommand, TakesUnit, debt}
 use Rattle.cf_lane.specs.Log.{is_some_bytes, line_about, refusal_line, with_lines}
 use Rattle.cf_lane.specs.Modbus.{HasCommandFate, adu_reply}
 use Rattle.cf_lane.specs.Unit.{Adu}
 use Rattle.cf_lane.specs.declared.fate.Refusal.{Refusal}
 use Rattle.cf_modbus.proofs.Framing.{own_length, own_octets}
-use Rattle.cf_modbus.specs.Adu.{AduValue, SpellsAdu, mbap_break, spelling}
+use Rattle.cf_modbus.specs.Adu.{AduValue, SpellsAdu, spelling}
 use Rattle.cf_outq.specs.SendQueue.{Queue, after_push}
 use Rattle.cf_policy.specs.declared.Asset.{Asset}
-use Rattle.cf_view.specs.Framing.{Begins, BreaksAt}
-use Rattle.cf_view.specs.declared.Break.{Break}
+use Rattle.cf_view.specs.Framing.{Begins}
 use Rattle.cf_view.specs.declared.Side.{Side}
 use Rattle.std.proofs.Common.{Bool, List, None, [], ap, arith, false, length, refl, subst, sym, true, ℕ, ◌+◌, ◌∙◌, ◌∷◌, ◌≡◌, ◌≤◌}
 use Rattle.std.proofs.lemmas.List.{length-append, length-take}
-use Rattle.cf_audit.specs.declared.line.CutReason.TheVariants as cut
 use Rattle.cf_lane.specs.declared.fate.Fate.TheVariants as fate
 use Rattle.cf_policy.specs.declared.Protocol.TheVariants as protocol
 use Rattle.cf_view.specs.declared.Side.TheVariants as side
@@ -93,7 +91,7 @@ module _ (asset : Asset) (modbus : asset.protocol ≡ protocol.Modbus) (moment :
       TakesUnit asset moment side.Client bytes n None old new
   takes_client a n old new b t = record {
     unit = Adu a;
-    begins = begins_adu asset.protocol modbus bytes a n b;
+    begins = begins_by (adus asset.protocol modbus) bytes a n b;
     some_bytes = omega (arith, adu_least a bytes n b);
     fate = t.fate;
     is_cut = t.uncut;
@@ -106,20 +104,13 @@ module _ (asset : Asset) (modbus : asset.protocol ≡ protocol.Modbus) (moment :
       Begins SpellsAdu bytes a n → TakesUnit asset moment side.Controller bytes n None old new
   takes_controller a n old new goes lane c s t b = record {
     unit = Adu a;
-    begins = begins_adu asset.protocol modbus bytes a n b;
+    begins = begins_by (adus asset.protocol modbus) bytes a n b;
     some_bytes = omega (arith, adu_least a bytes n b);
     fate = fate.Carried;
     is_cut = refl;
     handled = adu_handled asset moment side.Controller a fate.Carried old new refl (ap (λ l. l.client) lane) (ap (λ l. l.wire) lane)
         (ap (λ l. l.admitted) lane ∙ omega arith) (ap (λ l. l.refused) lane ∙ omega arith)
         c (s ∙ sym (push-nothing old.to_controller)) (t ∙ sym (with_lines-nothing old.lines)) (λ e. cc (e, goes)) (λ e. refl);
-  }
-
-  pub breaks_by : (s : Side) (reason : Break) → ((i : ℕ) × BreaksAt SpellsAdu bytes i × (reason ≡ mbap_break i)) → Breaks asset s bytes (cut.Framing s reason)
-  breaks_by s reason b = record {
-    place = b.0;
-    breaks = breaks_adu asset.protocol modbus bytes b.0 b.1;
-    is_reason = ap (cut.Framing s) (b.2 ∙ adu_break_is asset.protocol modbus b.0);
   }
 
   -- the same of the side that it is

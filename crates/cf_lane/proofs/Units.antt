@@ -4,35 +4,43 @@ use Rattle.cf_apci.specs.Apdu.{Ack, ApduValue, Control, Info, SpellsApdu, apdu_b
 use Rattle.cf_dnplink.proofs.Frames.{spelled_free, spelled_front}
 use Rattle.cf_dnplink.proofs.Writing.{length-blocks_by}
 use Rattle.cf_dnplink.specs.LinkFrame.{FrameValue, SpellsFrame, blocks_of, frame_break}
+use Rattle.cf_lane.specs.Handled.{Breaks}
 use Rattle.cf_lane.specs.Unit.{Adu, Apdu, AreUnits, Frame, Left, SpellsUnit, Tail, UnitValue, Wrong, unit_break}
 use Rattle.cf_modbus.proofs.Framing.{prefix_free}
 use Rattle.cf_modbus.proofs.Fronts.{adu_front}
 use Rattle.cf_modbus.specs.Adu.{AduValue, SpellsAdu, mbap_break}
+use Rattle.cf_policy.specs.declared.Asset.{Asset}
 use Rattle.cf_policy.specs.declared.Protocol.{Protocol}
 use Rattle.cf_view.proofs.Units.{units_exist}
 use Rattle.cf_view.specs.Framing.{Begins, BreaksAt, HasFront, IsFront, IsPartial, IsPrefixFree}
 use Rattle.cf_view.specs.Octets.{IsOctets}
 use Rattle.cf_view.specs.Units.{HasUnits}
+use Rattle.cf_view.specs.declared.Break.{Break}
+use Rattle.cf_view.specs.declared.Side.{Side}
 use Rattle.std.proofs.Common.{List, [], ap, arith, inl, inr, length, refl, subst, sym, take, ℕ, ◌++◌, ◌+◌, ◌<◌, ◌∙◌, ◌≡◌, ◌≤◌}
 use Rattle.std.proofs.lemmas.List.{length-append}
+use Rattle.cf_audit.specs.declared.line.CutReason.TheVariants as cut
 use Rattle.cf_policy.specs.declared.Protocol.TheVariants as protocol
 use Rattle.cf_apci.specs.Apdu as apci
 use Rattle.cf_dnplink.specs.LinkFrame as link
 
--- a grammar whose units are those of a protocol
-module _ {U : Type 0} (Spells : U → List ℕ → Type 0) (p : Protocol) (unit : U → UnitValue)
-    (into : (u : U) (xs : List ℕ) → Spells u xs → SpellsUnit p (unit u) xs)
-    (from : (v : UnitValue) (xs : List ℕ) → SpellsUnit p v xs → (u : U) × (v ≡ unit u) × Spells u xs) where
-  begins_by : (xs : List ℕ) (u : U) (n : ℕ) → Begins Spells xs u n → Begins (SpellsUnit p) xs (unit u) n
-  begins_by xs u n b = record { inside = b.inside; spells = into u (take n xs) b.spells }
+-- a grammar whose units, and the reasons of whose breaks, are those of a protocol
+pub record IsGrammarOf {U : Type 0} (Spells : U → List ℕ → Type 0) (p : Protocol) (unit : U → UnitValue) (break_at : ℕ → Break) : Type 0 where
+  pub into : (u : U) (xs : List ℕ) → Spells u xs → SpellsUnit p (unit u) xs
+  pub from : (v : UnitValue) (xs : List ℕ) → SpellsUnit p v xs → (u : U) × (v ≡ unit u) × Spells u xs
+  pub break_is : (i : ℕ) → break_at i ≡ unit_break p i
 
-  partial_by : (xs : List ℕ) → IsPartial Spells xs → IsPartial (SpellsUnit p) xs
-  partial_by xs b = record { whole = unit b.whole; more = b.more; proper = b.proper; spells = into b.whole (xs ++ b.more) b.spells }
+module _ {U : Type 0} {Spells : U → List ℕ → Type 0} {p : Protocol} {unit : U → UnitValue} {break_at : ℕ → Break} (g : IsGrammarOf Spells p unit break_at) where
+  pub begins_by : (xs : List ℕ) (u : U) (n : ℕ) → Begins Spells xs u n → Begins (SpellsUnit p) xs (unit u) n
+  begins_by xs u n b = record { inside = b.inside; spells = g.into u (take n xs) b.spells }
+
+  pub partial_by : (xs : List ℕ) → IsPartial Spells xs → IsPartial (SpellsUnit p) xs
+  partial_by xs b = record { whole = unit b.whole; more = b.more; proper = b.proper; spells = g.into b.whole (xs ++ b.more) b.spells }
 
   front_of : (xs : List ℕ) → IsFront (SpellsUnit p) xs → IsFront Spells xs
-  front_of xs f = let u = from f.whole (xs ++ f.more) f.spells in record { whole = u.0; more = f.more; spells = u.2 }
+  front_of xs f = let u = g.from f.whole (xs ++ f.more) f.spells in record { whole = u.0; more = f.more; spells = u.2 }
 
-  breaks_by : (xs : List ℕ) (i : ℕ) → BreaksAt Spells xs i → BreaksAt (SpellsUnit p) xs i
+  pub breaks_by : (xs : List ℕ) (i : ℕ) → BreaksAt Spells xs i → BreaksAt (SpellsUnit p) xs i
   breaks_by xs i b = record { inside = b.inside; before = partial_by (take i xs) b.before; here = λ f. b.here (front_of (take (i + 1) xs) f) }
 
   front_by : (xs : List ℕ) → HasFront Spells xs → HasFront (SpellsUnit p) xs
@@ -42,40 +50,41 @@ module _ {U : Type 0} (Spells : U → List ℕ → Type 0) (p : Protocol) (unit 
 
   free_by : IsPrefixFree Spells → IsPrefixFree (SpellsUnit p)
   free_by free u v a b x y s t e =
-      let k = from u a s in
-      let l = from v b t in
+      let k = g.from u a s in
+      let l = g.from v b t in
       let same = free k.0 l.0 a b x y k.2 l.2 e in
       (k.1 ∙ ap unit same.0 ∙ sym l.1, same.1)
 
   -- where no unit has more than 300 octets, a proper prefix of one has fewer
   short_by : ((u : U) (xs : List ℕ) → Spells u xs → length xs ≤ 300) → (xs : List ℕ) → IsPartial (SpellsUnit p) xs → length xs < 300
   short_by most xs b =
-      let u = from b.whole (xs ++ b.more) b.spells in
+      let u = g.from b.whole (xs ++ b.more) b.spells in
       omega (arith, most u.0 (xs ++ b.more) u.2, length-append xs b.more, b.proper)
-
-adu_into : (a : AduValue) (xs : List ℕ) → SpellsAdu a xs → SpellsUnit protocol.Modbus (Adu a) xs
-adu_into a xs s = s
 
 adu_from : (v : UnitValue) (xs : List ℕ) → SpellsUnit protocol.Modbus v xs → (a : AduValue) × (v ≡ Adu a) × SpellsAdu a xs
 adu_from (Adu a) xs s = (a, refl, s)
 adu_from (Frame f) xs s = absurd s
 adu_from (Apdu a) xs s = absurd s
 
-frame_into : (f : FrameValue) (xs : List ℕ) → SpellsFrame f xs → SpellsUnit protocol.Dnp3 (Frame f) xs
-frame_into f xs s = s
-
 frame_from : (v : UnitValue) (xs : List ℕ) → SpellsUnit protocol.Dnp3 v xs → (f : FrameValue) × (v ≡ Frame f) × SpellsFrame f xs
 frame_from (Adu a) xs s = absurd s
 frame_from (Frame f) xs s = (f, refl, s)
 frame_from (Apdu a) xs s = absurd s
 
-apdu_into : (a : ApduValue) (xs : List ℕ) → SpellsApdu a xs → SpellsUnit protocol.Iec104 (Apdu a) xs
-apdu_into a xs s = s
-
 apdu_from : (v : UnitValue) (xs : List ℕ) → SpellsUnit protocol.Iec104 v xs → (a : ApduValue) × (v ≡ Apdu a) × SpellsApdu a xs
 apdu_from (Adu a) xs s = absurd s
 apdu_from (Frame f) xs s = absurd s
 apdu_from (Apdu a) xs s = (a, refl, s)
+
+-- the grammar of each protocol
+pub adus : (p : Protocol) → p ≡ protocol.Modbus → IsGrammarOf SpellsAdu p Adu mbap_break
+adus p is = subst (λ p. IsGrammarOf SpellsAdu p Adu mbap_break) (sym is) (record { into = λ u xs s. s; from = adu_from; break_is = λ i. refl })
+
+pub frames : (p : Protocol) → p ≡ protocol.Dnp3 → IsGrammarOf SpellsFrame p Frame frame_break
+frames p is = subst (λ p. IsGrammarOf SpellsFrame p Frame frame_break) (sym is) (record { into = λ u xs s. s; from = frame_from; break_is = λ i. refl })
+
+pub apdus : (p : Protocol) → p ≡ protocol.Iec104 → IsGrammarOf SpellsApdu p Apdu apdu_break
+apdus p is = subst (λ p. IsGrammarOf SpellsApdu p Apdu apdu_break) (sym is) (record { into = λ u xs s. s; from = apdu_from; break_is = λ i. refl })
 
 -- an ADU has at most 260 octets, a frame 292, an APDU 255
 adu_most : (a : AduValue) (xs : List ℕ) → SpellsAdu a xs → length xs ≤ 300
@@ -101,21 +110,21 @@ apdu_most a xs s = omega (arith, ap length s.spelled, apdu_size a s.fits)
 
 -- no unit begins another
 pub free_unit : (p : Protocol) → IsPrefixFree (SpellsUnit p)
-free_unit protocol.Modbus = free_by SpellsAdu protocol.Modbus Adu adu_into adu_from prefix_free
-free_unit protocol.Dnp3 = free_by SpellsFrame protocol.Dnp3 Frame frame_into frame_from spelled_free
-free_unit protocol.Iec104 = free_by SpellsApdu protocol.Iec104 Apdu apdu_into apdu_from apdus_free
+free_unit protocol.Modbus = free_by (adus protocol.Modbus refl) prefix_free
+free_unit protocol.Dnp3 = free_by (frames protocol.Dnp3 refl) spelled_free
+free_unit protocol.Iec104 = free_by (apdus protocol.Iec104 refl) apdus_free
 
 -- a proper prefix of a unit has fewer than 300 octets
 pub short_unit : (p : Protocol) (xs : List ℕ) → IsPartial (SpellsUnit p) xs → length xs < 300
-short_unit protocol.Modbus = short_by SpellsAdu protocol.Modbus Adu adu_into adu_from adu_most
-short_unit protocol.Dnp3 = short_by SpellsFrame protocol.Dnp3 Frame frame_into frame_from frame_most
-short_unit protocol.Iec104 = short_by SpellsApdu protocol.Iec104 Apdu apdu_into apdu_from apdu_most
+short_unit protocol.Modbus = short_by (adus protocol.Modbus refl) adu_most
+short_unit protocol.Dnp3 = short_by (frames protocol.Dnp3 refl) frame_most
+short_unit protocol.Iec104 = short_by (apdus protocol.Iec104 refl) apdu_most
 
 -- octets begin with a unit, are a proper prefix of one, or break
 pub front_unit : (p : Protocol) (xs : List ℕ) → IsOctets xs → HasFront (SpellsUnit p) xs
-front_unit protocol.Modbus xs o = front_by SpellsAdu protocol.Modbus Adu adu_into adu_from xs (adu_front xs o)
-front_unit protocol.Dnp3 xs o = front_by SpellsFrame protocol.Dnp3 Frame frame_into frame_from xs (spelled_front xs o)
-front_unit protocol.Iec104 xs o = front_by SpellsApdu protocol.Iec104 Apdu apdu_into apdu_from xs (apdu_front xs o)
+front_unit protocol.Modbus xs o = front_by (adus protocol.Modbus refl) xs (adu_front xs o)
+front_unit protocol.Dnp3 xs o = front_by (frames protocol.Dnp3 refl) xs (spelled_front xs o)
+front_unit protocol.Iec104 xs o = front_by (apdus protocol.Iec104 refl) xs (apdu_front xs o)
 
 nothing_by : (p : Protocol) → HasFront (SpellsUnit p) [] → IsPartial (SpellsUnit p) []
 nothing_by p (inl v) = let b = v.2 in let some = v.3 in absurd (omega (arith, b.inside, some))
@@ -136,44 +145,20 @@ tail_of p xs h = elim h.1 [
 pub units_of_octets : (p : Protocol) (xs : List ℕ) → IsOctets xs → (us : List UnitValue) × (t : Tail) × AreUnits p xs us t
 units_of_octets p xs o = tail_of p xs (units_exist (SpellsUnit p) (front_unit p) xs o)
 
-module _ (p : Protocol) (is : p ≡ protocol.Modbus) where
-  pub begins_adu : (xs : List ℕ) (a : AduValue) (n : ℕ) → Begins SpellsAdu xs a n → Begins (SpellsUnit p) xs (Adu a) n
-  begins_adu xs a n b =
-      subst (λ p. Begins (SpellsUnit p) xs (Adu a) n) (sym is) (begins_by SpellsAdu protocol.Modbus Adu adu_into adu_from xs a n b)
+-- a unit stands at the front of octets that are the same
+module _ {U : Type 0} {Spells : U → List ℕ → Type 0} {u : U} {n : ℕ} {read bytes : List ℕ} where
+  pub begins_same : read ≡ bytes → Begins Spells read u n → Begins Spells bytes u n
+  begins_same same b = subst (λ xs. Begins Spells xs u n) same b
 
-  pub partial_adu : (xs : List ℕ) → IsPartial SpellsAdu xs → IsPartial (SpellsUnit p) xs
-  partial_adu xs b = subst (λ p. IsPartial (SpellsUnit p) xs) (sym is) (partial_by SpellsAdu protocol.Modbus Adu adu_into adu_from xs b)
+-- what a step says of octets that are no whole unit, where its reader spoke of octets that are the same
+module _ {U : Type 0} {Spells : U → List ℕ → Type 0} {unit : U → UnitValue} {break_at : ℕ → Break} (asset : Asset) (g : IsGrammarOf Spells asset.protocol unit break_at)
+    (read bytes : List ℕ) (same : read ≡ bytes) where
+  pub step_waits : IsPartial Spells read → IsPartial (SpellsUnit asset.protocol) bytes
+  step_waits b = partial_by g bytes (subst (IsPartial Spells) same b)
 
-  pub breaks_adu : (xs : List ℕ) (i : ℕ) → BreaksAt SpellsAdu xs i → BreaksAt (SpellsUnit p) xs i
-  breaks_adu xs i b = subst (λ p. BreaksAt (SpellsUnit p) xs i) (sym is) (breaks_by SpellsAdu protocol.Modbus Adu adu_into adu_from xs i b)
-
-  pub adu_break_is : (i : ℕ) → mbap_break i ≡ unit_break p i
-  adu_break_is i = ap (λ p. unit_break p i) (sym is)
-
-module _ (p : Protocol) (is : p ≡ protocol.Dnp3) where
-  pub begins_frame : (xs : List ℕ) (f : FrameValue) (n : ℕ) → Begins SpellsFrame xs f n → Begins (SpellsUnit p) xs (Frame f) n
-  begins_frame xs f n b =
-      subst (λ p. Begins (SpellsUnit p) xs (Frame f) n) (sym is) (begins_by SpellsFrame protocol.Dnp3 Frame frame_into frame_from xs f n b)
-
-  pub partial_frame : (xs : List ℕ) → IsPartial SpellsFrame xs → IsPartial (SpellsUnit p) xs
-  partial_frame xs b = subst (λ p. IsPartial (SpellsUnit p) xs) (sym is) (partial_by SpellsFrame protocol.Dnp3 Frame frame_into frame_from xs b)
-
-  pub breaks_frame : (xs : List ℕ) (i : ℕ) → BreaksAt SpellsFrame xs i → BreaksAt (SpellsUnit p) xs i
-  breaks_frame xs i b = subst (λ p. BreaksAt (SpellsUnit p) xs i) (sym is) (breaks_by SpellsFrame protocol.Dnp3 Frame frame_into frame_from xs i b)
-
-  pub frame_break_is : (i : ℕ) → frame_break i ≡ unit_break p i
-  frame_break_is i = ap (λ p. unit_break p i) (sym is)
-
-module _ (p : Protocol) (is : p ≡ protocol.Iec104) where
-  pub begins_apdu : (xs : List ℕ) (a : ApduValue) (n : ℕ) → Begins SpellsApdu xs a n → Begins (SpellsUnit p) xs (Apdu a) n
-  begins_apdu xs a n b =
-      subst (λ p. Begins (SpellsUnit p) xs (Apdu a) n) (sym is) (begins_by SpellsApdu protocol.Iec104 Apdu apdu_into apdu_from xs a n b)
-
-  pub partial_apdu : (xs : List ℕ) → IsPartial SpellsApdu xs → IsPartial (SpellsUnit p) xs
-  partial_apdu xs b = subst (λ p. IsPartial (SpellsUnit p) xs) (sym is) (partial_by SpellsApdu protocol.Iec104 Apdu apdu_into apdu_from xs b)
-
-  pub breaks_apdu : (xs : List ℕ) (i : ℕ) → BreaksAt SpellsApdu xs i → BreaksAt (SpellsUnit p) xs i
-  breaks_apdu xs i b = subst (λ p. BreaksAt (SpellsUnit p) xs i) (sym is) (breaks_by SpellsApdu protocol.Iec104 Apdu apdu_into apdu_from xs i b)
-
-  pub apdu_break_is : (i : ℕ) → apdu_break i ≡ unit_break p i
-  apdu_break_is i = ap (λ p. unit_break p i) (sym is)
+  pub step_breaks : (s : Side) (reason : Break) → (i : ℕ) × BreaksAt Spells read i × (reason ≡ break_at i) → Breaks asset s bytes (cut.Framing s reason)
+  step_breaks s reason b = record {
+    place = b.0;
+    breaks = breaks_by g bytes b.0 (subst (λ xs. BreaksAt Spells xs b.0) same b.1);
+    is_reason = ap (cut.Framing s) (b.2 ∙ g.break_is b.0);
+  }

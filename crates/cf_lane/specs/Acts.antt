@@ -6,9 +6,13 @@ use Rattle.cf_policy.specs.Verdict.{verdict_of}
 use Rattle.cf_policy.specs.declared.Asset.{Asset}
 use Rattle.cf_policy.specs.declared.Verdict.{Verdict}
 use Rattle.cf_view.specs.declared.Act.{Act}
-use Rattle.std.specs.Prelude.{List, None, Option, Some, [], ℕ, ◌∷◌}
+use Rattle.std.specs.Prelude.{List, None, Option, Some, [], length, slice_get, ℕ, ◌<◌, ◌∷◌, ◌≡◌}
 use Rattle.cf_lane.specs.declared.fate.Fate.TheVariants as fate
 use Rattle.cf_policy.specs.declared.Verdict.TheVariants as verdict
+
+-- a call for a place gives the act that stands there
+abbrev pub GivesActs : (ℕ → Act → Type 0) → List Act → Type 0
+GivesActs gives acts = (i : ℕ) (act : Act) → i < length acts → gives i act → slice_get acts i ≡ Some act
 
 -- what a verdict says of an act, where later acts decide if it is allowed
 abbrev pub refusal_or : Act → Verdict → Option Refusal → Option Refusal

@@ -116,6 +116,11 @@ letters_in (step.Took used) = used
 letters_in step.More = 0
 letters_in (step.Cut reason) = 0
 
+-- why a step cuts the session, if it does
+abbrev pub cut_in : Step → Option CutReason
+cut_in (step.Cut reason) = Some reason
+cut_in st = None
+
 -- a client's command was taken by its fate
 pub record TakesCommand (asset : Asset) (moment : ℕ) (a : AduValue) (old new : State) : Type 0 where
   pub fate : Fate

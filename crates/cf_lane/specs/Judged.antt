@@ -28,20 +28,12 @@ abbrev pub has_ended : Side → List Judged → Bool
 has_ended s js = list_any (λ j. ends s j.item) js
 
 abbrev pub is_admitted : Fate → Bool
-is_admitted fate.Carried = false
 is_admitted fate.Admitted = true
-is_admitted (fate.Refused refusal) = false
-is_admitted (fate.Stray why) = false
-is_admitted fate.Lengthens = false
-is_admitted (fate.Cuts reason) = false
+is_admitted f = false
 
 abbrev pub is_refused : Fate → Bool
-is_refused fate.Carried = false
-is_refused fate.Admitted = false
 is_refused (fate.Refused refusal) = true
-is_refused (fate.Stray why) = false
-is_refused fate.Lengthens = false
-is_refused (fate.Cuts reason) = false
+is_refused f = false
 
 -- how many more there are by one that is so or not
 abbrev pub one_if : Bool → ℕ
@@ -49,12 +41,8 @@ one_if true = 1
 one_if false = 0
 
 abbrev pub cut_by : Fate → Option CutReason
-cut_by fate.Carried = None
-cut_by fate.Admitted = None
-cut_by (fate.Refused refusal) = None
-cut_by (fate.Stray why) = None
-cut_by fate.Lengthens = None
 cut_by (fate.Cuts reason) = Some reason
+cut_by f = None
 
 -- the reason of the first that cuts
 abbrev pub cut_of : List Judged → Option CutReason

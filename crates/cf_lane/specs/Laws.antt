@@ -9,7 +9,6 @@ use Rattle.cf_lane.specs.Log.{lines}
 use Rattle.cf_lane.specs.Passes.{Passes}
 use Rattle.cf_lane.specs.Output.{other, outputs}
 use Rattle.cf_lane.specs.Unit.{SpellsUnit}
-use Rattle.cf_modbus.specs.Adu.{spelling}
 use Rattle.cf_policy.specs.declared.Asset.{Asset}
 use Rattle.cf_policy.specs.declared.Protocol.{Protocol}
 use Rattle.cf_view.specs.Framing.{IsPrefixFree}

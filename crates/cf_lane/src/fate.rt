@@ -1,10 +1,10 @@
 //! The fate of a command.
-ghost use Rattle.std.specs.Prelude.{◌≡◌, ◌≤◌, ℕ, length};
+ghost use Rattle.std.specs.Prelude.{◌≡◌, ◌<◌, ◌≤◌, List, ℕ, length};
 ghost use Rattle.cf_modbus.specs.Acts.{acts};
 ghost use Rattle.cf_modbus.specs.Adu.{adu_value};
 ghost use Rattle.cf_modbus.specs.Request.{IsRead, request_value};
 ghost use Rattle.cf_policy.specs.Index.{IsIndexOf};
-ghost use Rattle.cf_lane.specs.Acts.{fate_of_acts};
+ghost use Rattle.cf_lane.specs.Acts.{GivesActs, fate_of_acts};
 ghost use Rattle.cf_lane.specs.Fate.{HasOwnDecider, IsOfCommand};
 ghost use Rattle.cf_lane.specs.Modbus.{HasCommandFate};
 
@@ -55,7 +55,7 @@ pub fn judge(asset: &Asset, index: &CodeIndex, adu: &Adu<'_>) -> Fate
     }
     match read_request(adu) {
         Err(refusal) => refused(Decider::Form, refusal.reason(), code, 0),
-        Ok(request) => judge_acts(asset, index, &request),
+        Ok(request) => judge_acts(asset, index, act_count(&request), |i| act_at(&request, i)),
     }
 }
 
@@ -75,15 +75,22 @@ pub(crate) fn refused(decider: Decider, reason: Reason, code: u16, point: u32) -
     })
 }
 
-/// The fate of a request with the right station and form.
-fn judge_acts(asset: &Asset, index: &CodeIndex, request: &Request<'_>) -> Fate
-    requires { IsRead (request_value request.now) }
-    ensures fate { (client : ℕ) → IsIndexOf asset.now client index.now → result ≡ fate_of_acts asset.now client (acts (request_value request.now)) }
+/// The fate of a command of so many acts, of which the call gives each by its place: each is judged in its order, and the first that is not
+/// allowed decides.
+pub(crate) fn judge_acts<F: Fn(u32) -> Act>(
+    asset: &Asset,
+    index: &CodeIndex,
+    count: u32,
+    act_at: F,
+) -> Fate
+    requires { (i : ℕ) → i < count → F.pre act_at i }
+    ensures fate { (client : ℕ) (acts : List Act) → IsIndexOf asset.now client index.now → length acts ≡ count → GivesActs (F.post act_at) acts
+        → result ≡ fate_of_acts asset.now client acts }
     ensures decider { HasOwnDecider asset.now.rules result }
     ensures command { IsOfCommand result }
 {
-    for i in 0..act_count(request) {
-        let act = act_at(request, i);
+    for i in 0..count {
+        let act = act_at(i);
         match index.verdict(asset, &act) {
             Verdict::Allow(_) => {}
             Verdict::Refuse(decider, reason) => {

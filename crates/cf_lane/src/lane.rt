@@ -7,7 +7,7 @@ ghost use Rattle.cf_policy.specs.Within.{IsAssetWithin};
 ghost use Rattle.cf_stream.specs.Stream.{no_letters};
 ghost use Rattle.cf_view.specs.Octets.{IsOctets};
 ghost use Rattle.cf_lane.specs.Follows.{AddsTo, Began, BeganApart, FailsApart, Follows, FailsWithin, IsEndBehindCut, Rests, rest_of, with_rest, no_rests};
-ghost use Rattle.cf_lane.specs.Handled.{IsLaneOf, LaneValue, Steps, Misses, Grows, CountsBy, HasRoom, IsOpen, MayEnd, EndsOther, WritesLog, counted_by, debt, letters_in, state};
+ghost use Rattle.cf_lane.specs.Handled.{IsLaneOf, LaneValue, Steps, Misses, Grows, CountsBy, HasRoom, IsOpen, MayEnd, EndsOther, WritesLog, counted_by, cut_in, debt, letters_in, state};
 ghost use Rattle.cf_lane.specs.History.{Element, letters_at, end_at};
 ghost use Rattle.cf_lane.specs.Judged.{Judged};
 ghost use Rattle.cf_lane.specs.Kept.{KnowsWire};
@@ -53,6 +53,7 @@ pub struct Fed {
 }
 
 /// What the unit at the front of a side's bytes led to.
+#[derive(Clone, Copy)]
 pub(crate) enum Step {
     /// It takes so many bytes, and was handled.
     Took(usize),
@@ -112,14 +113,14 @@ impl Lane {
             → IsEndBehindCut ended fed.cut
             → bytes.entry.bytes ≡ rest_of side rests ++ piece
             → Follows asset.now h rests None first (state self.old to_client.old to_controller.old (DeskValue.lines (D.value desk.old)))
-            → Follows asset.now (h ++ letters_at moment side piece ended ∷ []) (with_rest side rests (drop fed.used bytes.entry.bytes)) fed.cut first
-            (state self.new to_client.new to_controller.new (DeskValue.lines (D.value desk.new)))) }
+            → Follows asset.now (h ++ letters_at moment side piece ended ∷ []) (with_rest side rests (drop fed.used bytes.entry.bytes))
+            fed.cut first (state self.new to_client.new to_controller.new (DeskValue.lines (D.value desk.new)))) }
         ensures apart { IfOk result (λ fed. (h : List Element) (rests : Rests) (first own : Option (List (List ℕ))) (piece : List ℕ) (ended : Bool)
             → IsEndBehindCut ended fed.cut
             → bytes.entry.bytes ≡ rest_of side rests ++ piece
             → Follows asset.now h rests None first (state self.old to_client.old to_controller.old own)
-            → AddsTo asset.now (h ++ letters_at moment side piece ended ∷ []) (with_rest side rests (drop fed.used bytes.entry.bytes)) fed.cut first own
-            (DeskValue.lines (D.value desk.old)) (state self.new to_client.new to_controller.new (DeskValue.lines (D.value desk.new)))) }
+            → AddsTo asset.now (h ++ letters_at moment side piece ended ∷ []) (with_rest side rests (drop fed.used bytes.entry.bytes))
+            fed.cut first own (DeskValue.lines (D.value desk.old)) (state self.new to_client.new to_controller.new (DeskValue.lines (D.value desk.new)))) }
         ensures fails { OnErr result (FailsWithin asset.now moment side bytes.entry.bytes
             (state self.old to_client.old to_controller.old (DeskValue.lines (D.value desk.old)))
             (DeskValue.lines (D.value desk.new)) (DeskValue.line_part (D.value desk.new))) }
@@ -139,7 +140,7 @@ impl Lane {
     {
         let mut used = 0;
         'units: loop {
-            match self.step(
+            let step = self.step(
                 asset,
                 moment,
                 side,
@@ -147,13 +148,13 @@ impl Lane {
                 to_client,
                 to_controller,
                 desk,
-            )? {
+            )?;
+            match step {
                 Step::Took(n) => used += n,
-                Step::More => return Ok(Fed { used, cut: None }),
-                Step::Cut(reason) => {
+                Step::More | Step::Cut(_) => {
                     return Ok(Fed {
                         used,
-                        cut: Some(reason),
+                        cut: cut_in(&step),
                     });
                 }
             }
@@ -179,14 +180,16 @@ impl Lane {
         requires limit { MayEnd side to_client.old to_controller.old }
         ensures history { OnOk result ((h : List Element) (rests : Rests) (first : Option (List (List ℕ))) → rest ≡ length (rest_of side rests)
             → Follows asset.now h rests None first (state self.old to_client.old to_controller.old (DeskValue.lines (D.value desk.old)))
-            → Follows asset.now (h ++ end_at moment side ∷ []) rests None first (state self.new to_client.new to_controller.new (DeskValue.lines (D.value desk.new)))) }
+            → Follows asset.now (h ++ end_at moment side ∷ []) rests None first
+            (state self.new to_client.new to_controller.new (DeskValue.lines (D.value desk.new)))) }
         ensures apart { OnOk result ((h : List Element) (rests : Rests) (first own : Option (List (List ℕ))) → rest ≡ length (rest_of side rests)
             → Follows asset.now h rests None first (state self.old to_client.old to_controller.old own)
             → AddsTo asset.now (h ++ end_at moment side ∷ []) rests None first own
             (DeskValue.lines (D.value desk.old)) (state self.new to_client.new to_controller.new (DeskValue.lines (D.value desk.new)))) }
         ensures fails { OnErr result ((h : List Element) (rests : Rests) (first : Option (List (List ℕ))) → rest ≡ length (rest_of side rests)
             → Follows asset.now h rests None first (state self.old to_client.old to_controller.old (DeskValue.lines (D.value desk.old)))
-            → Began asset.now self.old.client (h ++ end_at moment side ∷ []) first (DeskValue.lines (D.value desk.new)) (DeskValue.line_part (D.value desk.new))) }
+            → Began asset.now self.old.client (h ++ end_at moment side ∷ []) first
+            (DeskValue.lines (D.value desk.new)) (DeskValue.line_part (D.value desk.new))) }
         ensures fails_apart { OnErr result ((h : List Element) (rests : Rests) (first own : Option (List (List ℕ))) → rest ≡ length (rest_of side rests)
             → Follows asset.now h rests None first (state self.old to_client.old to_controller.old own)
             → BeganApart asset.now self.old.client (h ++ end_at moment side ∷ []) first own (DeskValue.lines (D.value desk.old))
@@ -235,9 +238,11 @@ impl Lane {
         requires client_room { HasRoom (debt self.old + 2 * length bytes.now.bytes) to_client.old }
         requires controller_room { HasRoom (debt self.old + 2 * length bytes.now.bytes) to_controller.old }
         requires counts { self.old.admitted + self.old.refused + length bytes.now.bytes < 2 ^ 64 }
-        ensures steps { IfOk result (λ s. Steps asset.now moment side bytes.now.bytes (state self.old to_client.old to_controller.old (DeskValue.lines (D.value desk.old)))
+        ensures steps { IfOk result (λ s. Steps asset.now moment side bytes.now.bytes
+            (state self.old to_client.old to_controller.old (DeskValue.lines (D.value desk.old)))
             (state self.new to_client.new to_controller.new (DeskValue.lines (D.value desk.new))) s) }
-        ensures misses { OnErr result (Misses asset.now moment side bytes.now.bytes (state self.old to_client.old to_controller.old (DeskValue.lines (D.value desk.old)))
+        ensures misses { OnErr result (Misses asset.now moment side bytes.now.bytes
+            (state self.old to_client.old to_controller.old (DeskValue.lines (D.value desk.old)))
             (DeskValue.lines (D.value desk.new)) (DeskValue.line_part (D.value desk.new))) }
         ensures of_asset { OnOk result (IsLaneOf asset.now self.new) }
         ensures client_grows { IfOk result (λ s. Grows (2 * letters_in s) (debt self.old) (debt self.new) to_client.old to_client.new) }
@@ -282,6 +287,16 @@ impl Lane {
             Wire::Modbus | Wire::Iec104(_) => false,
             Wire::Dnp3(fragments) => fragments.of(side).unfinished(),
         }
+    }
+}
+
+/// Why a step cuts the session, if it does.
+fn cut_in(step: &Step) -> Option<CutReason>
+    ensures { result ≡ cut_in step.now }
+{
+    match step {
+        Step::Cut(reason) => Some(*reason),
+        Step::Took(_) | Step::More => None,
     }
 }
 

@@ -23,8 +23,4 @@ pub use log::put_line;
 pub use rows::rows_hold;
 
 #[cfg(test)]
-mod dnp3_tests;
-#[cfg(test)]
-mod iec104_tests;
-#[cfg(test)]
 mod tests;

@@ -1,210 +1,176 @@
-//! Worked exchanges over a desk in memory.
-ghost use Rattle.std.specs.Prelude.{◌≡◌, ◌∷◌, [], IfOk};
+//! Worked exchanges over a desk in memory: what comes to a lane, and what it has put out in the end.
+ghost use Rattle.std.specs.Prelude.{◌≡◌, true};
+ghost use Rattle.cf_lane.specs.Handled.{IsOpen};
 ghost use Rattle.cf_policy.specs.Within.{IsAssetWithin};
 
 use crate::{Fed, Lane};
 use cf_audit::CutReason;
 use cf_outq::Outq;
 use cf_outside::MemoryDesk;
-use cf_policy::{Action, Asset, Items, Name, Protocol, Rule, Span};
-use cf_view::{Break, Endpoint, Side, View};
-use std::alloc::{AllocError, Global};
+use cf_policy::Asset;
+use cf_samples::CLIENT;
+use cf_view::{Side, View};
+use std::alloc::Global;
+use std::marker::Model;
+use std::process::Abort;
 use std::test::Fail;
 
-const REFUSED: &[u8] = b"\x00\x01\x00\x00\x00\x06\x01\x06\x00\x32\x00\x64";
+mod dnp3;
+mod iec104;
+mod modbus;
 
-const WRITE: &[u8] = b"\x00\x01\x00\x00\x00\x06\x01\x06\x00\x28\x00\x64";
-
-const EXCEPTION: &[u8] = b"\x00\x01\x00\x00\x00\x03\x01\x86\x02";
-
-const REPLIED: &str =
-    "0.000005 10.0.0.5:49152 pump refuse default point code 6 group 0 point 50 value 100 replied 000100000006010600320064\n";
-
-const UNANSWERED: &str =
-    "0.000005 10.0.0.5:49152 pump refuse default point code 6 group 0 point 50 value 100 unanswered 000100000006010600320064\n";
-
-const PARTIAL: &str = "0.000007 10.0.0.5:49152 pump partial client 3\n";
-
-/// The list of one span.
-pub(crate) fn one(alloc: Global, low: i64, high: i64) -> Result<Items<Span>, AllocError>
-    ensures { IfOk result (λ spans. spans ≡ record { low = low; high = high } ∷ []) }
-{
-    let mut items = Vec::new(alloc);
-    items.push(Span { low, high })?;
-    Ok(Items::new(items))
+/// A lane of an asset, its two queues and its desk.
+#[derive(Drop)]
+struct Scene {
+    asset: Asset,
+    lane: Lane,
+    to_client: Outq,
+    to_controller: Outq,
+    desk: MemoryDesk,
 }
 
-/// The asset `pump`, which allows writes of 0 to 500 to the registers 40 to 49.
-fn pump(alloc: Global) -> Result<Asset, AllocError>
-    ensures modbus { IfOk result (λ asset. asset.protocol ≡ Protocol.Modbus) }
-    ensures within { IfOk result (λ asset. IsAssetWithin asset) }
+impl Model for Scene {
+    ghost use Rattle.std.specs.Prelude.{◌≤◌};
+    ghost use Rattle.cf_lane.specs.Handled.{IsLaneOf, debt};
+    ghost use Rattle.cf_policy.specs.Within.{IsAssetWithin};
+    ghost use Rattle.cf_policy.specs.declared.Asset.{Asset};
+
+    ghost Value = { Asset };
+
+    ghost view = { λ s. s.asset };
+
+    ghost invariant = { λ s. IsAssetWithin s.asset × IsLaneOf s.asset s.lane × (debt s.lane ≤ 5300) };
+}
+
+/// A lane of an asset at its beginning.
+fn begins(rt: &impl Abort, alloc: Global, asset: Asset) -> Result<Scene, Fail>
+    requires { IsAssetWithin asset }
 {
-    let mut rules = Vec::new(alloc);
-    rules.push(Rule {
-        name: Name::from_text("set"),
-        action: Action::Allow,
-        clients: Items::new(Vec::new(alloc)),
-        codes: one(alloc, 6, 6)?,
-        groups: Items::new(Vec::new(alloc)),
-        points: one(alloc, 40, 49)?,
-        values: one(alloc, 0, 500)?,
-    })?;
-    Ok(Asset {
-        name: Name::from_text("pump"),
-        endpoint: Endpoint {
-            address: 0x0A00_0009,
-            port: 502,
-        },
-        protocol: Protocol::Modbus,
-        station: 1,
-        master: 0,
-        rules: Items::new(rules),
+    Ok(Scene {
+        lane: Lane::new(alloc, &asset, CLIENT).expect(rt, "lane"),
+        asset,
+        to_client: Outq::new(alloc)?,
+        to_controller: Outq::new(alloc)?,
+        desk: MemoryDesk::new(alloc),
     })
 }
 
-pub(crate) const CLIENT: Endpoint = Endpoint {
-    address: 0x0A00_0005,
-    port: 49152,
-};
-
-/// A queue's bytes from the first one on.
-pub(crate) fn holds(queue: &mut Outq, bytes: &[u8]) -> bool {
-    let mut out = [0u8; 64];
-    queue.shown(64);
-    match queue.next_piece(64) {
-        None => bytes.is_empty(),
-        Some(piece) => {
-            queue.copy(piece, &mut out[..piece.len]);
-            &out[..piece.len] == bytes
-        }
+/// Whether the queue that a side's bytes go to has no End.
+fn is_open(side: Side, to_client: &Outq, to_controller: &Outq) -> bool
+    ensures { result ≡ true → IsOpen side to_client.now to_controller.now }
+{
+    match side {
+        Side::Client => !to_controller.is_ended(),
+        Side::Controller => !to_client.is_ended(),
     }
 }
 
-#[test]
-fn a_refused_and_an_admitted_write_in_pieces_then_an_end(rt: HostRuntime) -> Result<(), Fail> {
-    let alloc = rt.alloc();
-    let asset = pump(alloc)?;
-    let mut lane = Lane::new(alloc, &asset, CLIENT).expect(&rt, "lane");
-    let mut to_client = Outq::new(alloc).expect(&rt, "queue");
-    let mut to_controller = Outq::new(alloc).expect(&rt, "queue");
-    let mut desk = MemoryDesk::new(alloc);
-    let fed = lane
+/// Bytes of a side come.
+fn feeds(rt: &impl Abort, scene: &mut Scene, now: u64, side: Side, bytes: View<'_>) -> Fed {
+    assert!(rt; bytes.len() <= 1024 && scene.desk.faults == 0);
+    assert!(rt; is_open(side, &scene.to_client, &scene.to_controller));
+    assert!(rt; scene.to_client.room() >= 8192 && scene.to_client.length() < 1_000_000);
+    assert!(rt; scene.to_controller.room() >= 8192 && scene.to_controller.length() < 1_000_000);
+    assert!(rt; scene.lane.admitted() < 1 << 32 && scene.lane.refused() < 1 << 32);
+    scene
+        .lane
         .feed(
-            &asset,
-            5,
-            Side::Client,
-            View::two(REFUSED, &WRITE[..3]),
-            &mut to_client,
-            &mut to_controller,
-            &mut desk,
+            &scene.asset,
+            now,
+            side,
+            bytes,
+            &mut scene.to_client,
+            &mut scene.to_controller,
+            &mut scene.desk,
         )
-        .expect(&rt, "fed");
-    assert_eq!(rt;
-        fed,
-        Fed {
-            used: 12,
-            cut: None
-        }
-    );
-    let fed = lane
-        .feed(
-            &asset,
-            6,
-            Side::Client,
-            View::two(WRITE, &REFUSED[..3]),
-            &mut to_client,
-            &mut to_controller,
-            &mut desk,
-        )
-        .expect(&rt, "fed");
-    assert_eq!(rt;
-        fed,
-        Fed {
-            used: 12,
-            cut: None
-        }
-    );
-    lane.ended(
-        &asset,
-        7,
-        Side::Client,
-        3,
-        &mut to_client,
-        &mut to_controller,
-        &mut desk,
-    )
-    .expect(&rt, "ended");
-    assert_eq!(rt; (lane.admitted(), lane.refused()), (1, 1));
-    assert_eq!(rt;
-        (to_client.is_ended(), to_controller.is_ended()),
-        (false, true)
-    );
-    assert_eq!(rt; holds(&mut to_client, EXCEPTION), true);
-    assert_eq!(rt; holds(&mut to_controller, WRITE), true);
-    assert_eq!(rt; desk.lines.len(), 2);
-    assert_eq!(rt; desk.lines[0].as_str(), REPLIED);
-    assert_eq!(rt; desk.lines[1].as_str(), PARTIAL);
-    Ok(())
+        .expect(rt, "fed")
 }
 
-#[test]
-fn no_reply_behind_the_controllers_end_and_a_cut(rt: HostRuntime) -> Result<(), Fail> {
-    let alloc = rt.alloc();
-    let asset = pump(alloc)?;
-    let mut lane = Lane::new(alloc, &asset, CLIENT).expect(&rt, "lane");
-    let mut to_client = Outq::new(alloc).expect(&rt, "queue");
-    let mut to_controller = Outq::new(alloc).expect(&rt, "queue");
-    let mut desk = MemoryDesk::new(alloc);
-    let fed = lane
-        .feed(
-            &asset,
-            4,
-            Side::Controller,
-            View::one(WRITE),
-            &mut to_client,
-            &mut to_controller,
-            &mut desk,
+/// A side ends, behind so many bytes that were not used.
+fn ends(rt: &impl Abort, scene: &mut Scene, now: u64, side: Side, rest: u64) {
+    assert!(rt; scene.desk.faults == 0);
+    assert!(rt; is_open(side, &scene.to_client, &scene.to_controller));
+    assert!(rt; scene.to_client.length() < 1_000_000 && scene.to_controller.length() < 1_000_000);
+    scene
+        .lane
+        .ended(
+            &scene.asset,
+            now,
+            side,
+            rest,
+            &mut scene.to_client,
+            &mut scene.to_controller,
+            &mut scene.desk,
         )
-        .expect(&rt, "fed");
-    assert_eq!(rt;
-        fed,
-        Fed {
-            used: 12,
-            cut: None
+        .expect(rt, "ended");
+}
+
+/// A queue's octets are these.
+fn holds(rt: &impl Abort, queue: &mut Outq, octets: &[u8], name: &str) {
+    let mut out = [0u8; 1024];
+    queue.shown(1024);
+    let sent = match queue.next_piece(1024) {
+        Some(piece) => {
+            assert!(rt; piece.len <= 1024);
+            queue.copy(piece, &mut out[..piece.len]);
+            &out[..piece.len]
         }
-    );
-    lane.ended(
-        &asset,
-        4,
-        Side::Controller,
-        0,
-        &mut to_client,
-        &mut to_controller,
-        &mut desk,
-    )
-    .expect(&rt, "ended");
-    let fed = lane
-        .feed(
-            &asset,
-            5,
-            Side::Client,
-            View::two(REFUSED, b"\x00\x02\x00\x01"),
-            &mut to_client,
-            &mut to_controller,
-            &mut desk,
-        )
-        .expect(&rt, "fed");
-    assert_eq!(rt;
-        fed,
-        Fed {
-            used: 12,
-            cut: Some(CutReason::Framing(Side::Client, Break::Protocol))
+        None => &[],
+    };
+    assert_eq!(rt; sent, octets, "{name}");
+}
+
+/// What comes, at its moment in microseconds.
+#[derive(Clone, Copy)]
+enum Line {
+    /// Bytes of a side, in two slices. So many of them are used, and the session is cut, or not.
+    Feeds(u64, Side, &'static [u8], &'static [u8], usize, Option<CutReason>),
+    /// A side ends, behind so many bytes that were not used.
+    Ends(u64, Side, u64),
+}
+
+/// What comes to a lane, and what it has put out and counted in the end.
+#[derive(Clone, Copy)]
+struct Exchange {
+    name: &'static str,
+    lines: &'static [Line],
+    to_client: &'static [u8],
+    to_controller: &'static [u8],
+    /// How many commands were admitted, and how many refused.
+    counts: (u64, u64),
+    log: &'static [&'static str],
+}
+
+/// An exchange, from its first line to what it leaves.
+fn plays(rt: &impl Abort, scene: &mut Scene, exchange: &Exchange) {
+    let name = exchange.name;
+    for line in exchange.lines {
+        match *line {
+            Line::Feeds(now, side, first, second, used, cut) => {
+                assert!(rt; first.len() <= 512 && second.len() <= 512);
+                let fed = feeds(rt, scene, now, side, View::two(first, second));
+                assert_eq!(rt; fed, Fed { used, cut }, "{name}, {now}");
+            }
+            Line::Ends(now, side, rest) => {
+                ends(rt, scene, now, side, rest);
+                match side {
+                    Side::Client => assert!(rt; scene.to_controller.is_ended(), "{name}"),
+                    Side::Controller => assert!(rt; scene.to_client.is_ended(), "{name}"),
+                }
+            }
         }
-    );
-    assert_eq!(rt; (lane.admitted(), lane.refused()), (0, 1));
-    assert_eq!(rt; holds(&mut to_client, WRITE), true);
-    assert_eq!(rt; holds(&mut to_controller, b""), true);
-    assert_eq!(rt; desk.lines.len(), 1);
-    assert_eq!(rt; desk.lines[0].as_str(), UNANSWERED);
-    Ok(())
+    }
+    holds(rt, &mut scene.to_client, exchange.to_client, name);
+    holds(rt, &mut scene.to_controller, exchange.to_controller, name);
+    is_told(rt, scene, exchange.counts, exchange.log, name);
+}
+
+/// These are the counts and the lines of the log.
+fn is_told(rt: &impl Abort, scene: &Scene, counts: (u64, u64), log: &[&str], name: &str) {
+    let counted = (scene.lane.admitted(), scene.lane.refused());
+    assert_eq!(rt; counted, counts, "{name}");
+    assert_eq!(rt; scene.desk.lines.len(), log.len(), "{name}");
+    for (line, want) in scene.desk.lines.iter().zip(log.iter()) {
+        assert_eq!(rt; line.as_str(), *want, "{name}");
+    }
 }

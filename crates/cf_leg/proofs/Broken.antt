@@ -1,7 +1,7 @@
 -- Calls that the desk broke off.
-use Rattle.std.proofs.Common.{◌≡◌, ℕ, zero, suc, ◌+◌, ◌<◌, ◌≤◌, min, Bool, true, false, cond, not, ◌&&◌, List, [], ◌∷◌, ◌++◌, Option, Some, Result, Ok, Err, refl, sym, ◌∙◌, ap, subst, arith, append_assoc, lt-ltb, inl, inr}
+use Rattle.std.proofs.Common.{◌≡◌, ℕ, ◌+◌, ◌<◌, ◌≤◌, min, Bool, true, false, cond, not, ◌&&◌, List, [], ◌∷◌, ◌++◌, Option, Some, Result, Ok, Err, refl, sym, ◌∙◌, ap, subst, arith, append_assoc, lt-ltb, inl, inr}
 use Rattle.std.specs.Prelude.{MatchBool, OnErr, nat_lt}
-use Rattle.std.proofs.lemmas.Bool.{cases_lt, false≢true, ltb-false}
+use Rattle.std.proofs.lemmas.Bool.{false≢true, ltb-false}
 use Rattle.cf_outside.specs.Desk.{Adds, DeskValue, SentValue}
 use Rattle.cf_outside.specs.declared.files.WriteAnswer.TheVariants as write
 use Rattle.cf_outq.specs.SendQueue.{Queue, IsAnswer, IsQueueOf, piece_letters, queue_length}
@@ -10,12 +10,12 @@ use Rattle.cf_packet.specs.Packet.{PacketValue}
 use Rattle.cf_stream.specs.Position.{place_or_zero, sequence_number}
 use Rattle.cf_stream.specs.Stream.{Stream, letter_count, no_letters}
 use Rattle.cf_leg.specs.Calls.{NewBreaks, PieceBreaks, SayingBreaks, SendsNew, SendsSome}
-use Rattle.cf_leg.specs.Emits.{Pieces, piece}
+use Rattle.cf_leg.specs.Emits.{Pieces}
 use Rattle.cf_leg.specs.Emitted.{BeginsNext, BreaksOff, spelled, with_segment, with_segments}
 use Rattle.cf_leg.specs.Segment.{segment}
 use Rattle.cf_leg.specs.declared.ends.Told.{Told}
 use Rattle.cf_leg.specs.declared.ends.Way.{Way}
-use Rattle.cf_leg.proofs.Owed.{piece_some}
+use Rattle.cf_leg.proofs.Saying.{all_pieces}
 use Rattle.cf_leg.proofs.Pieces.{count_is, goes_on}
 
 -- what holds, holds on an error
@@ -64,18 +64,6 @@ broken_before now outs more old new h = record {
     by (p ∷ ps) k = k
 
 -- ---- pieces
-
--- from each place on there are pieces
-module _ (way : Way) (t : Told) (whole : Stream) (mss edge : ℕ) (some : 0 < mss) where
-  pub all_pieces : (fuel from : ℕ) → min edge (letter_count whole) ≤ from + fuel → (outs : List PacketValue) × Pieces way t whole mss edge from outs
-  all_pieces zero from h = ([], omega (arith, h))
-  all_pieces (suc n) from h =
-      elim (cases_lt from (min edge (letter_count whole))) [
-        | inl l ↦ (let carries = piece_some whole mss edge from some l in
-            let rest = all_pieces n (from + letter_count (piece whole mss edge from)) (omega (arith, h, carries)) in
-            (segment way t (sequence_number way.own from) (piece whole mss edge from) ∷ rest.0, (l, refl, rest.1)))
-        | inr g ↦ ([], g)
-      ]
 
 module _ (way : Way) (t : Told) (mss : ℕ) (some_mss : 0 < mss) (q before after : Queue) (now : ℕ) (old mid new : DeskValue) (p : Piece)
     (some : SendsSome way t mss q before.sent now old.packets mid.packets)

@@ -1,12 +1,13 @@
 -- One segment without letters goes out where one is owed and no letter goes out.
-use Rattle.std.proofs.Common.{◌≡◌, ℕ, ◌+◌, ◌-◌, ◌<◌, min, Bool, true, false, cond, ◌&&◌, ◌||◌, List, [], ◌∷◌, length, drop, take, refl, sym, ◌∙◌, ap, subst, arith, inl, inr, Option, Some, None, length-take, length-drop}
+use Rattle.std.proofs.Common.{◌≡◌, ℕ, ◌+◌, ◌<◌, min, Bool, true, false, cond, ◌&&◌, ◌||◌, List, [], ◌∷◌, refl, sym, ◌∙◌, ap, subst, arith}
 use Rattle.std.specs.Prelude.{MatchBool, ◌==◌, nat_lt}
-use Rattle.std.proofs.lemmas.Bool.{cases_lt, eqb-false, ltb-false, ltb-true, ne_eqb}
+use Rattle.std.proofs.lemmas.Bool.{ltb-true, ne_eqb}
 use Rattle.cf_packet.specs.Packet.{PacketValue}
 use Rattle.cf_stream.proofs.Taken.{same_taken}
 use Rattle.cf_stream.specs.FirstCopy.{IsTaken, first_copy}
 use Rattle.cf_stream.specs.Position.{sequence_number}
 use Rattle.cf_stream.specs.Stream.{Stream, letter_count, no_letters}
+use Rattle.cf_leg.proofs.Saying.{piece_some, send_mss_some}
 use Rattle.cf_leg.proofs.Speech.{segment_letters}
 use Rattle.cf_leg.specs.Emits.{IsRight, Pieces, SaysIf, SpeaksOpen, differs, empties, letters_of_all, peer_mss, piece, send_mss, to_tell, way_of}
 use Rattle.cf_leg.specs.Event.{Spoke, LegEvent}
@@ -16,31 +17,6 @@ use Rattle.cf_leg.specs.Told.{letters_sent_at, told_at}
 use Rattle.cf_leg.specs.declared.ends.Ends.{Ends}
 use Rattle.cf_leg.specs.declared.ends.Told.{Told}
 use Rattle.cf_leg.specs.declared.ends.Way.{Way}
-
-send_mss_some : (o : Option ℕ) → 0 < send_mss o
-send_mss_some None = omega arith
-send_mss_some (Some m) = omega arith
-
--- a piece has a letter
-pub piece_some : (s : Stream) (mss edge from : ℕ) → 0 < mss → from < min edge (letter_count s) → 0 < letter_count (piece s mss edge from)
-piece_some s mss edge from m l = by s.ended refl l
-  where
-    n : ℕ
-    n = min mss (min edge (length s.bytes) - from)
-
-    by : (b : Bool) → s.ended ≡ b → from < min edge (length s.bytes + cond b 1 0)
-        → 0 < length (take (min mss (min edge (length s.bytes) - from)) (drop from s.bytes)) + cond (b && (((from + min mss (min edge (length s.bytes) - from)) == length s.bytes) && nat_lt (length s.bytes) edge)) 1 0
-    by false k h = rw (length-take, length-drop) (omega (arith, h, m))
-    by true k h = of ((from + min mss (min edge (length s.bytes) - from)) == length s.bytes) (nat_lt (length s.bytes) edge) refl refl
-      where
-        of : (x y : Bool) → ((from + min mss (min edge (length s.bytes) - from)) == length s.bytes) ≡ x → nat_lt (length s.bytes) edge ≡ y
-            → 0 < length (take (min mss (min edge (length s.bytes) - from)) (drop from s.bytes)) + cond (x && y) 1 0
-        of true true e f = rw (length-take, length-drop) (omega arith)
-        of true false e f = (let past = ltb-false (length s.bytes) edge f in rw (length-take, length-drop) (omega (arith, h, m, past)))
-        of false y e f = rw (length-take, length-drop) (omega (arith, h, m, not_there e))
-          where
-            not_there : ((from + min mss (min edge (length s.bytes) - from)) == length s.bytes) ≡ false → 0 < min mss (min edge (length s.bytes) - from)
-            not_there e = elim (cases_lt 0 (min mss (min edge (length s.bytes) - from))) [ inl v ↦ v | inr v ↦ absurd (eqb-false (from + min mss (min edge (length s.bytes) - from)) (length s.bytes) e (omega (arith, h, m, v))) ]
 
 module _ (way : Way) (t : Told) (s : Stream) (mss edge : ℕ) (m : 0 < mss) where
   pieces_full : (from : ℕ) (outs : List PacketValue) → Pieces way t s mss edge from outs → empties outs ≡ 0

@@ -20,7 +20,7 @@ use Rattle.cf_leg.specs.Event.{Unspoken, Spoke, LegEvent, moment, greeted_by, st
 use Rattle.cf_leg.specs.Heard.{opened, opens, end_state, counted, acked, shown, offers, owed}
 use Rattle.cf_leg.specs.Timer.{armed, due, tries, rises, has_fired, second, backoff}
 use Rattle.cf_leg.specs.Segment.{segment}
-use Rattle.cf_leg.specs.LegValue.{LegValue, IsLeg, IsLegOf, arms, is_open, marks, phase_of, told_of, way_at}
+use Rattle.cf_leg.specs.LegValue.{LegValue, IsLeg, IsLegOf, first_told, arms, is_open, marks, phase_of, told_of, way_at}
 use Rattle.cf_leg.specs.Told.{told, told_at, letters_sent, letters_sent_at, told_by_all, letters_sent_by_all, is_greeted, own_number, peer_number}
 use Rattle.cf_leg.specs.declared.ends.Phase.{Phase}
 use Rattle.cf_leg.specs.declared.ends.Told.{Told}
@@ -186,6 +186,32 @@ module _ (leg : LegValue) (i : IsLeg leg) (w : IsWindow leg.window) (q : Queue) 
   mss_is : leg.mss ≡ send_mss (peer_mss leg.ends.role (record e { ending = Spoke whole roomy outs } ∷ es))
   mss_is = h.of_mss ∙ ap send_mss (sym (mss_same (record e { ending = Unspoken }) es (Spoke whole roomy outs) leg.ends.role))
 
+  -- the leg stands for the speech, whose numbers are these
+  spoke_as : (base : ℕ) (window : Window) (sent : ℕ) → MatchBool (opened leg.ends.role (record e { ending = Unspoken } ∷ es)) (SpeaksOpen leg.ends es (record e { ending = Spoke whole roomy outs }) whole roomy outs) (outs ≡ []) →
+      base ≡ (told leg.ends.role (record e { ending = Spoke whole roomy outs } ∷ es)).base → window.edge ≡ (told leg.ends.role (record e { ending = Spoke whole roomy outs } ∷ es)).edge →
+      (opened leg.ends.role (record e { ending = Unspoken } ∷ es) ≡ false → is_greeted (record e { ending = Unspoken } ∷ es) ≡ true → told leg.ends.role (record e { ending = Spoke whole roomy outs } ∷ es) ≡ first_told leg.ends.role) →
+      IsWindowOf window (offers leg.ends.role (record e { ending = Unspoken } ∷ es)) → sent ≡ letters_sent leg.ends.role (record e { ending = Spoke whole roomy outs } ∷ es) →
+      IsLegOf (rearmed (record leg { base = base; window = window; owes = false }) (record q { sent = sent }) now) (marks (record q { sent = sent })) (record e { ending = Spoke whole roomy outs } ∷ es)
+  spoke_as base window sent ending of_base of_edge of_first of_window of_sent = record {
+    of_right = (record { over = h.of_right.0.over; fired = h.of_right.0.fired; came = h.of_right.0.came; ending = ending }, h.of_right.1);
+    of_phase = h.of_phase;
+    of_own = h.of_own ∙ sym (own_same (record e { ending = Unspoken }) es (Spoke whole roomy outs) leg.ends.role);
+    of_other = h.of_other ∙ sym (peer_same (record e { ending = Unspoken }) es (Spoke whole roomy outs) leg.ends.role);
+    of_mss = mss_is;
+    of_base = of_base;
+    of_edge = of_edge;
+    of_first = of_first;
+    of_window = of_window;
+    of_sent = of_sent;
+    of_edge_shown = h.of_edge_shown;
+    of_shown = h.of_shown;
+    of_acked = h.of_acked;
+    of_owes = refl;
+    of_running = running_is (record q { sent = sent }) refl refl;
+    of_deadline = due_is (record q { sent = sent }) refl refl;
+    of_fired = h.of_fired;
+  }
+
   -- an open leg
   module _ (o : opened leg.ends.role (record e { ending = Unspoken } ∷ es) ≡ true)
       (says : SaysIf (way_at leg) (to_tell (told_of leg) (base_of leg.window) roomy) (leg.owes || differs (told_of leg) (to_tell (told_of leg) (base_of leg.window) roomy)) whole leg.mss q.shown q.sent outs)
@@ -218,33 +244,10 @@ module _ (leg : LegValue) (i : IsLeg leg) (w : IsWindow leg.window) (q : Queue) 
     pub spoke_open : IsLegOf
         (rearmed (record leg { base = base_of leg.window; window = record leg.window { edge = (to_tell (told_of leg) (base_of leg.window) roomy).edge }; owes = false }) (record q { sent = max q.sent (min q.shown (queue_length q)) }) now)
         (marks (record q { sent = max q.sent (min q.shown (queue_length q)) })) (record e { ending = Spoke whole roomy outs } ∷ es)
-    spoke_open = record {
-      of_right = (
-        record {
-          over = h.of_right.0.over;
-          fired = h.of_right.0.fired;
-          came = h.of_right.0.came;
-          ending = subst (λ (b : Bool). MatchBool b (SpeaksOpen leg.ends es (record e { ending = Spoke whole roomy outs }) whole roomy outs) (outs ≡ [])) (sym o) speaks_open;
-        },
-        h.of_right.1,
-      );
-      of_phase = h.of_phase;
-      of_own = h.of_own ∙ sym (own_same (record e { ending = Unspoken }) es (Spoke whole roomy outs) leg.ends.role);
-      of_other = h.of_other ∙ sym (peer_same (record e { ending = Unspoken }) es (Spoke whole roomy outs) leg.ends.role);
-      of_mss = mss_is;
-      of_base = ap (λ (t : Told). t.base) (sym told_now);
-      of_edge = ap (λ (t : Told). t.edge) (sym told_now);
-      of_first = λ c g. absurd (true≢false (sym o ∙ c));
-      of_window = window;
-      of_sent = ap (λ (n : ℕ). max q.sent (min q.shown n)) (count_is q whole s) ∙ sym carried_now;
-      of_edge_shown = h.of_edge_shown;
-      of_shown = h.of_shown;
-      of_acked = h.of_acked;
-      of_owes = refl;
-      of_running = running_is (record q { sent = max q.sent (min q.shown (queue_length q)) }) refl refl;
-      of_deadline = due_is (record q { sent = max q.sent (min q.shown (queue_length q)) }) refl refl;
-      of_fired = h.of_fired;
-    }
+    spoke_open = spoke_as (base_of leg.window) (record leg.window { edge = (to_tell (told_of leg) (base_of leg.window) roomy).edge }) (max q.sent (min q.shown (queue_length q)))
+        (subst (λ (b : Bool). MatchBool b (SpeaksOpen leg.ends es (record e { ending = Spoke whole roomy outs }) whole roomy outs) (outs ≡ [])) (sym o) speaks_open)
+        (ap (λ (t : Told). t.base) (sym told_now)) (ap (λ (t : Told). t.edge) (sym told_now)) (λ c g. absurd (true≢false (sym o ∙ c))) window
+        (ap (λ (n : ℕ). max q.sent (min q.shown n)) (count_is q whole s) ∙ sym carried_now)
 
   -- a leg that is not open says nothing
   module _ (o : opened leg.ends.role (record e { ending = Unspoken } ∷ es) ≡ false) (none : outs ≡ []) where
@@ -259,33 +262,10 @@ module _ (leg : LegValue) (i : IsLeg leg) (w : IsWindow leg.window) (q : Queue) 
         ∙ ap (λ (x : ℕ). letters_sent_by_all x (letters_sent_at leg.ends.role es e) (greeted_by e.came ++ [])) (own_same (record e { ending = Unspoken }) es (Spoke whole roomy outs) leg.ends.role)
 
     pub spoke_closed : IsLegOf (rearmed leg q now) (marks q) (record e { ending = Spoke whole roomy outs } ∷ es)
-    spoke_closed = record {
-      of_right = (
-        record {
-          over = h.of_right.0.over;
-          fired = h.of_right.0.fired;
-          came = h.of_right.0.came;
-          ending = subst (λ (b : Bool). MatchBool b (SpeaksOpen leg.ends es (record e { ending = Spoke whole roomy outs }) whole roomy outs) (outs ≡ [])) (sym o) none;
-        },
-        h.of_right.1,
-      );
-      of_phase = h.of_phase;
-      of_own = h.of_own ∙ sym (own_same (record e { ending = Unspoken }) es (Spoke whole roomy outs) leg.ends.role);
-      of_other = h.of_other ∙ sym (peer_same (record e { ending = Unspoken }) es (Spoke whole roomy outs) leg.ends.role);
-      of_mss = mss_is;
-      of_base = h.of_base ∙ ap (λ (t : Told). t.base) (sym told_still);
-      of_edge = h.of_edge ∙ ap (λ (t : Told). t.edge) (sym told_still);
-      of_first = λ c g. told_still ∙ h.of_first c g;
-      of_window = h.of_window;
-      of_sent = h.of_sent ∙ sym carried_still;
-      of_edge_shown = h.of_edge_shown;
-      of_shown = h.of_shown;
-      of_acked = h.of_acked;
-      of_owes = refl;
-      of_running = running_is q refl refl;
-      of_deadline = due_is q refl refl;
-      of_fired = h.of_fired;
-    }
+    spoke_closed = spoke_as leg.base leg.window q.sent
+        (subst (λ (b : Bool). MatchBool b (SpeaksOpen leg.ends es (record e { ending = Spoke whole roomy outs }) whole roomy outs) (outs ≡ [])) (sym o) none)
+        (h.of_base ∙ ap (λ (t : Told). t.base) (sym told_still)) (h.of_edge ∙ ap (λ (t : Told). t.edge) (sym told_still)) (λ c g. told_still ∙ h.of_first c g) h.of_window
+        (h.of_sent ∙ sym carried_still)
 
 -- ---- the call
 window_opened : (v : Window) (edge : ℕ) (os : List Offer) → IsWindowOf v os → IsWindowOf (record v { edge = edge }) os

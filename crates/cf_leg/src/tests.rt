@@ -1,4 +1,6 @@
 //! Ends by hand, over a desk in memory: what comes, and what goes.
+ghost use Rattle.cf_leg.specs.Calls.{IsOwn};
+
 use crate::{ClockAnswer, Leg, LegAnswer};
 use cf_outq::Outq;
 use cf_outside::MemoryDesk;
@@ -257,9 +259,18 @@ fn plays(rt: &impl Abort, end: &mut End, name: &str, line: &Line) {
     }
 }
 
-/// An active end that has sent its SYN at 1.000000.
-fn active(rt: &impl Abort, alloc: Global, own: u32, peer: u32) -> Result<End, Fail> {
-    let mut leg = Leg::active(alloc, OWN, PEER, own)?;
+/// A made end that has sent its SYN or SYN ACK, with place -1, at 1.000000.
+fn greets(
+    rt: &impl Abort,
+    alloc: Global,
+    mut leg: Leg,
+    own: u32,
+    peer: u32,
+    ack: i64,
+    flags: u8,
+) -> Result<End, Fail>
+    requires { IsOwn leg.ends.role own }
+{
     let mut desk = MemoryDesk::new(alloc);
     assert!(rt; leg.is_made() && desk.faults == 0);
     assert!(rt; leg.greet(1_000_000, own, &mut desk).is_ok());
@@ -272,17 +283,18 @@ fn active(rt: &impl Abort, alloc: Global, own: u32, peer: u32) -> Result<End, Fa
         peer,
     };
     speaks(rt, &mut end, 1_000_000, true);
-    expect(
-        rt,
-        &mut end,
-        "SYN",
-        1_000_000,
-        &[(-1, ZERO, SYN, 16_384, &[])],
-    );
+    let greeting = (-1, ack, flags, 16_384, &b""[..]);
+    expect(rt, &mut end, "greeting", 1_000_000, &[greeting]);
     Ok(end)
 }
 
-/// A passive end that has sent its SYN ACK at 1.000000.
+/// An active end that has sent its SYN.
+fn active(rt: &impl Abort, alloc: Global, own: u32, peer: u32) -> Result<End, Fail> {
+    let leg = Leg::active(alloc, OWN, PEER, own)?;
+    greets(rt, alloc, leg, own, peer, ZERO, SYN)
+}
+
+/// A passive end that has sent its SYN ACK.
 fn passive(
     rt: &impl Abort,
     alloc: Global,
@@ -290,27 +302,8 @@ fn passive(
     peer: u32,
     mss: Option<u16>,
 ) -> Result<End, Fail> {
-    let mut leg = Leg::passive(alloc, OWN, PEER, peer, mss)?;
-    let mut desk = MemoryDesk::new(alloc);
-    assert!(rt; leg.is_made() && desk.faults == 0);
-    assert!(rt; leg.greet(1_000_000, own, &mut desk).is_ok());
-    let queue = Outq::new(alloc)?;
-    let mut end = End {
-        leg,
-        queue,
-        desk,
-        own,
-        peer,
-    };
-    speaks(rt, &mut end, 1_000_000, true);
-    expect(
-        rt,
-        &mut end,
-        "SYN ACK",
-        1_000_000,
-        &[(-1, 0, SYN + ACK, 16_384, &[])],
-    );
-    Ok(end)
+    let leg = Leg::passive(alloc, OWN, PEER, peer, mss)?;
+    greets(rt, alloc, leg, own, peer, 0, SYN + ACK)
 }
 
 fn plays_all(rt: &impl Abort, alloc: Global, conversations: &[Conversation]) -> Result<(), Fail> {

@@ -8,5 +8,6 @@ pub mod MemoryFiles
 pub mod MemoryPair
 pub mod MemorySink
 pub mod Pair
+pub mod PairValue
 pub mod Part
 pub mod Sink

@@ -103,7 +103,8 @@ pub(crate) fn takes_value(spans: &Items<Span>, value: Option<i64>) -> bool
     }
 }
 
-pub(crate) fn takes(spans: &Items<Span>, number: i64) -> bool
+/// Whether a list of a rule takes this number: one of its spans has it, or the list is empty and so states nothing.
+pub fn takes(spans: &Items<Span>, number: i64) -> bool
     ensures { result ≡ takes spans.now number }
 {
     spans.is_empty() || some_covers(spans.as_slice(), number)

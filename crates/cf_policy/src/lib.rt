@@ -10,7 +10,7 @@ mod names;
 mod policy;
 
 pub use index::{CodeIndex, CodePair};
-pub use judge::verdict;
+pub use judge::{takes, verdict};
 pub use laws::{allows_by_first_rule, keeps_decided_acts};
 pub use limits::{
     HIGHEST_ADDRESS, HIGHEST_CODE, HIGHEST_COMMON_ADDRESS, HIGHEST_GROUP, HIGHEST_LINK_ADDRESS,

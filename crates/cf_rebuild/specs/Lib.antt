@@ -1,3 +1,4 @@
+pub mod Keeping
 pub mod ReceiveWindow
 pub mod Ring
 pub mod WindowCalls

@@ -138,7 +138,17 @@ pub(crate) fn take_in(
 {
     keep(kept, ends, bytes, start, ready, room, at, text, end);
     let place = first_gap(kept, start, ready, room);
-    (place, place < room && has(ends, (start + place) % PLACES))
+    (place, keeps_end(ends, start, place, room))
+}
+
+/// Whether End is marked at a place below `room`.
+fn keeps_end(ends: &[u64], start: usize, place: usize, room: usize) -> bool
+    requires inside { (start < 32768) × (place ≤ room) × (room ≤ 32768) }
+    requires size { length ends.now ≡ 512 }
+    ensures yes { result ≡ true → (place < room) × (marked ends.now (slot start place) ≡ 1) }
+    ensures no { result ≡ false → place < room → marked ends.now (slot start place) ≡ 0 }
+{
+    place < room && has(ends, (start + place) % PLACES)
 }
 
 /// Words without a mark.

@@ -72,124 +72,169 @@ fn keeps_first_copies_step_by_step(rt: HostRuntime) -> Result<(), Fail> {
     Ok(())
 }
 
+/// Each on a new window.
+const CASES: [Case; 21] = [
+    (&[], 0, b"", false),
+    (&[Call::Last(0, b"AB")], 0, b"", false),
+    (
+        &[
+            Call::Open(10),
+            Call::Offer(-0x1_0000_0000, b"A"),
+            Call::Last(0x1_0000_0000, b""),
+        ],
+        0,
+        b"",
+        false,
+    ),
+    // Below the base, and past the edge.
+    (
+        &[
+            Call::Open(16),
+            Call::Offer(0, b"ABCD"),
+            Call::Offer(-2, b"xyabcdEF"),
+        ],
+        6,
+        b"ABCDEF",
+        false,
+    ),
+    (
+        &[Call::Open(4), Call::Offer(0, b"ABCDEFGH")],
+        4,
+        b"ABCD",
+        false,
+    ),
+    (
+        &[
+            Call::Open(4),
+            Call::Offer(0, b"ABCDEFGH"),
+            Call::Open(8),
+            Call::Offer(4, b"efgh"),
+        ],
+        8,
+        b"ABCDefgh",
+        false,
+    ),
+    // Over three earlier ones, and over one that came later.
+    (
+        &[
+            Call::Open(13),
+            Call::Offer(1, b"B"),
+            Call::Offer(4, b"EF"),
+            Call::Offer(8, b"I"),
+            Call::Offer(0, b"abcdefghijklm"),
+        ],
+        13,
+        b"aBcdEFghIjklm",
+        false,
+    ),
+    (
+        &[
+            Call::Open(16_384),
+            Call::Offer(10, b"\x00\x64"),
+            Call::Offer(0, b"\x00\x01\x00\x00\x00\x06\x01\x06\x00\x28\x03\x84"),
+        ],
+        12,
+        &W,
+        false,
+    ),
+    // End behind a gap, where a letter is kept, and before one.
+    (&[Call::Open(10), Call::Last(2, b"C")], 0, b"", false),
+    (
+        &[Call::Open(10), Call::Last(2, b"C"), Call::Offer(0, b"AB")],
+        4,
+        b"ABC",
+        true,
+    ),
+    (
+        &[Call::Open(10), Call::Offer(3, b"D"), Call::Last(0, b"ABC")],
+        4,
+        b"ABCD",
+        false,
+    ),
+    (
+        &[
+            Call::Open(10),
+            Call::Offer(3, b"D"),
+            Call::Last(0, b"ABC"),
+            Call::Last(4, b""),
+        ],
+        5,
+        b"ABCD",
+        true,
+    ),
+    (
+        &[Call::Open(10), Call::Last(2, b""), Call::Offer(0, b"ABCD")],
+        3,
+        b"AB",
+        true,
+    ),
+    (
+        &[
+            Call::Open(10),
+            Call::Offer(3, b"D"),
+            Call::Last(0, b"AB"),
+            Call::Offer(3, b"DE"),
+        ],
+        3,
+        b"AB",
+        true,
+    ),
+    // End at the edge, and before the first place.
+    (&[Call::Open(2), Call::Last(0, b"AB")], 2, b"AB", false),
+    (
+        &[
+            Call::Open(2),
+            Call::Last(0, b"AB"),
+            Call::Open(3),
+            Call::Last(1, b"x"),
+        ],
+        3,
+        b"AB",
+        true,
+    ),
+    (&[Call::Open(5), Call::Last(-3, b"xyz")], 1, b"", true),
+    (&[Call::Open(5), Call::Last(-4, b"xyz")], 0, b"", false),
+    // Consumed on the way.
+    (
+        &[
+            Call::Open(10),
+            Call::Offer(0, b"ABCDEF"),
+            Call::Offer(7, b"HI"),
+            Call::Consume(4),
+        ],
+        6,
+        b"EF",
+        false,
+    ),
+    (
+        &[
+            Call::Open(10),
+            Call::Offer(0, b"ABCDEF"),
+            Call::Offer(7, b"HI"),
+            Call::Consume(4),
+            Call::Offer(2, b"cdefgh"),
+        ],
+        9,
+        b"EFgHI",
+        false,
+    ),
+    (
+        &[
+            Call::Open(10),
+            Call::Offer(0, b"ABCDEF"),
+            Call::Consume(4),
+            Call::Last(4, b"efghi"),
+            Call::Consume(5),
+        ],
+        10,
+        b"",
+        true,
+    ),
+];
+
 #[test]
 fn takes_what_was_offered_first(rt: HostRuntime) -> Result<(), Fail> {
-    use Call::{Consume, Last, Offer, Open};
-    let cases: [Case; 21] = [
-        (&[], 0, b"", false),
-        (&[Last(0, b"AB")], 0, b"", false),
-        (
-            &[
-                Open(10),
-                Offer(-0x1_0000_0000, b"A"),
-                Last(0x1_0000_0000, b""),
-            ],
-            0,
-            b"",
-            false,
-        ),
-        // Below the base, and past the edge.
-        (
-            &[Open(16), Offer(0, b"ABCD"), Offer(-2, b"xyabcdEF")],
-            6,
-            b"ABCDEF",
-            false,
-        ),
-        (&[Open(4), Offer(0, b"ABCDEFGH")], 4, b"ABCD", false),
-        (
-            &[Open(4), Offer(0, b"ABCDEFGH"), Open(8), Offer(4, b"efgh")],
-            8,
-            b"ABCDefgh",
-            false,
-        ),
-        // Over three earlier ones, and over one that came later.
-        (
-            &[
-                Open(13),
-                Offer(1, b"B"),
-                Offer(4, b"EF"),
-                Offer(8, b"I"),
-                Offer(0, b"abcdefghijklm"),
-            ],
-            13,
-            b"aBcdEFghIjklm",
-            false,
-        ),
-        (
-            &[
-                Open(16_384),
-                Offer(10, b"\x00\x64"),
-                Offer(0, b"\x00\x01\x00\x00\x00\x06\x01\x06\x00\x28\x03\x84"),
-            ],
-            12,
-            &W,
-            false,
-        ),
-        // End behind a gap, where a letter is kept, and before one.
-        (&[Open(10), Last(2, b"C")], 0, b"", false),
-        (&[Open(10), Last(2, b"C"), Offer(0, b"AB")], 4, b"ABC", true),
-        (
-            &[Open(10), Offer(3, b"D"), Last(0, b"ABC")],
-            4,
-            b"ABCD",
-            false,
-        ),
-        (
-            &[Open(10), Offer(3, b"D"), Last(0, b"ABC"), Last(4, b"")],
-            5,
-            b"ABCD",
-            true,
-        ),
-        (&[Open(10), Last(2, b""), Offer(0, b"ABCD")], 3, b"AB", true),
-        (
-            &[Open(10), Offer(3, b"D"), Last(0, b"AB"), Offer(3, b"DE")],
-            3,
-            b"AB",
-            true,
-        ),
-        // End at the edge, and before the first place.
-        (&[Open(2), Last(0, b"AB")], 2, b"AB", false),
-        (
-            &[Open(2), Last(0, b"AB"), Open(3), Last(1, b"x")],
-            3,
-            b"AB",
-            true,
-        ),
-        (&[Open(5), Last(-3, b"xyz")], 1, b"", true),
-        (&[Open(5), Last(-4, b"xyz")], 0, b"", false),
-        // Consumed on the way.
-        (
-            &[Open(10), Offer(0, b"ABCDEF"), Offer(7, b"HI"), Consume(4)],
-            6,
-            b"EF",
-            false,
-        ),
-        (
-            &[
-                Open(10),
-                Offer(0, b"ABCDEF"),
-                Offer(7, b"HI"),
-                Consume(4),
-                Offer(2, b"cdefgh"),
-            ],
-            9,
-            b"EFgHI",
-            false,
-        ),
-        (
-            &[
-                Open(10),
-                Offer(0, b"ABCDEF"),
-                Consume(4),
-                Last(4, b"efghi"),
-                Consume(5),
-            ],
-            10,
-            b"",
-            true,
-        ),
-    ];
-    for case in cases {
+    for case in CASES {
         let mut window = Rebuild::new(rt.alloc())?;
         make_all(&rt, &mut window, case.0);
         expect(&rt, &window, case);

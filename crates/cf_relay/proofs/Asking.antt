@@ -1,30 +1,30 @@
 -- Asking a side, and the limit behind it, is a stage that is done, or one that breaks off.
-use Rattle.std.proofs.Common.{Err, List, None, Ok, Option, Result, Some, [], ap, arith, inl, inr, refl, subst, sym, ℕ, ◌++◌, ◌+◌, ◌<◌, ◌∙◌, ◌∷◌, ◌≡◌, ◌≤◌}
+use Rattle.std.proofs.Common.{Err, List, None, Ok, Option, Result, Some, [], ap, arith, false, inl, inr, refl, subst, sym, ℕ, ◌++◌, ◌+◌, ◌<◌, ◌∙◌, ◌∷◌, ◌≡◌, ◌≤◌, ◌||◌}
 use Rattle.std.specs.Prelude.{IfErr, OnOk}
+use Rattle.std.specs.List.{list_any}
 use Rattle.std.specs.Option.{option_or}
-use Rattle.std.proofs.lemmas.List.{append-nil}
 use Rattle.cf_audit.specs.declared.line.CutReason.{CutReason}
 use Rattle.cf_lane.specs.Follows.{rest_of}
-use Rattle.cf_lane.specs.Handled.{State, WritesLog}
+use Rattle.cf_lane.specs.Handled.{WritesLog}
 use Rattle.cf_lane.specs.Laws.{QuietBehindEnd, StreamsGoOn}
 use Rattle.cf_lane.specs.Limit.{limit_by, limit_cut}
 use Rattle.cf_lane.specs.Output.{other, stream_to}
 use Rattle.cf_lane.specs.declared.limit.TheConstants.{LETTER_LIMIT}
-use Rattle.cf_outq.specs.SendQueue.{IsQueueOf, Queue, queue_length}
+use Rattle.cf_outq.specs.SendQueue.{Queue, queue_length}
 use Rattle.cf_outside.specs.Desk.{DeskValue}
 use Rattle.cf_outside.specs.Pair.{Entry, Idle}
+use Rattle.cf_outside.specs.PairValue.{PairValue}
 use Rattle.cf_policy.specs.declared.Asset.{Asset}
 use Rattle.cf_view.specs.declared.Side.{Side}
 use Rattle.cf_view.specs.declared.Side.TheVariants as side
-use Rattle.cf_relay.proofs.Doing.{by_own, by_side}
+use Rattle.cf_relay.proofs.Doing.{IsQuiet, by_own, by_side, quiet_idle, quiet_none, silent_kept}
 use Rattle.cf_relay.proofs.Giving.{with_none}
 use Rattle.cf_relay.proofs.Hearing.{or_false}
-use Rattle.cf_relay.proofs.Lists.{closes_more, told_more}
 use Rattle.cf_relay.proofs.Stages.{breaks_nothing, no_take, one_broken, one_stage, open_ended, takes_stage}
 use Rattle.cf_relay.proofs.Standing.{Silent, TakesTo, stands_cut, stands_full, stands_heard, stands_missed, stands_silent}
-use Rattle.cf_relay.specs.Answers.{greatest, history_of, is_finished, moment_of, moments, with_answers}
-use Rattle.cf_relay.specs.Relaying.{RelayingValue, lane_state, letters_from, queue_to, rests_of}
-use Rattle.cf_relay.specs.Scene.{AddsAnswers, DoesBetween, PairValue, RoseBy, StopsBetween, StopsBy, scene}
+use Rattle.cf_relay.specs.Answers.{closes, history_of, idles_after, with_answers}
+use Rattle.cf_relay.specs.Relaying.{RelayingValue, is_closed, lane_state, letters_from, queue_to, rests_of}
+use Rattle.cf_relay.specs.Scene.{AddsAnswers, DoesBetween, RoseBy, StopsBetween, StopsBy, scene}
 use Rattle.cf_relay.specs.Taken.{LimitBy, MayTakeNow, TakeState, TakesAnswer, TakesBy, take_state}
 use Rattle.cf_relay.specs.Turn.{Taking}
 use Rattle.cf_relay.specs.declared.stop.Stop.{Stop}
@@ -38,49 +38,20 @@ rests_same : (s : Side) (old new : RelayingValue) → rest_of s (rests_of new) �
 rests_same side.Client old new e d = ap (λ (xs : List ℕ). record { client = xs; controller = new.controller_rest }) e ∙ ap (λ (xs : List ℕ). record { client = old.client_rest; controller = xs }) d
 rests_same side.Controller old new e d = ap (λ (xs : List ℕ). record { client = new.client_rest; controller = xs }) e ∙ ap (λ (xs : List ℕ). record { client = xs; controller = old.controller_rest }) d
 
--- nothing came: the lane, its queues and its log are as they were
-silent_none : (s : Side) (old new : RelayingValue) (log log' : Option (List (List ℕ))) → TakesTo s old new → lane_state new log' ≡ lane_state old log →
-    rest_of s (rests_of new) ≡ rest_of s (rests_of old) → letters_from s new ≡ letters_from s old → new.idle ≡ old.idle → Silent [] old new log log'
-silent_none s old new log log' to state rest letters idle =
-    let queues : (t : Side) → queue_to t new ≡ queue_to t old = by_side (λ t. queue_to t new ≡ queue_to t old) (ap (λ (x : State). x.to_client) state) (ap (λ (x : State). x.to_controller) state) in
-    record {
-      history = λ earlier. refl;
-      met = refl;
-      lane = ap (λ (x : State). x.lane) state;
-      same_log = ap (λ (x : State). x.lines) state;
-      rests = rests_same s old new rest to.other_rest;
-      letters = by_own (λ t. letters_from t new ≡ letters_from t old) s letters to.other_letters;
-      stands = λ t w q. subst (λ (k : Queue). IsQueueOf k w) (sym (queues t)) q;
-      ended = λ t. ap (λ (k : Queue). k.ended) (queues t);
-      kept = λ t. ap (λ (k : Queue). k.kept) (sym (queues t));
-      acked = λ t. omega (arith, ap (λ (k : Queue). k.acked) (queues t));
-      done = λ t is. inl (sym (to.closed t) ∙ is);
-      closed = λ es t e. to.closed t ∙ e ∙ ap (is_finished t) (sym (append-nil es));
-      moment = λ es e. to.moment ∙ e ∙ ap moment_of (sym (append-nil es));
-      idle = idle;
-    }
-
--- Idle came
-silent_idle : (s : Side) (old new : RelayingValue) (log log' : Option (List (List ℕ))) → TakesTo s old new → lane_state new log' ≡ lane_state old log →
-    rest_of s (rests_of new) ≡ rest_of s (rests_of old) → letters_from s new ≡ letters_from s old → new.idle ≡ old.idle + 1 → Silent (Idle s ∷ []) old new log log'
-silent_idle s old new log log' to state rest letters idle =
-    let queues : (t : Side) → queue_to t new ≡ queue_to t old = by_side (λ t. queue_to t new ≡ queue_to t old) (ap (λ (x : State). x.to_client) state) (ap (λ (x : State). x.to_controller) state) in
-    record {
-      history = λ earlier. refl;
-      met = refl;
-      lane = ap (λ (x : State). x.lane) state;
-      same_log = ap (λ (x : State). x.lines) state;
-      rests = rests_same s old new rest to.other_rest;
-      letters = by_own (λ t. letters_from t new ≡ letters_from t old) s letters to.other_letters;
-      stands = λ t w q. subst (λ (k : Queue). IsQueueOf k w) (sym (queues t)) q;
-      ended = λ t. ap (λ (k : Queue). k.ended) (queues t);
-      kept = λ t. ap (λ (k : Queue). k.kept) (sym (queues t));
-      acked = λ t. omega (arith, ap (λ (k : Queue). k.acked) (queues t));
-      done = λ t is. inl (sym (to.closed t) ∙ is);
-      closed = λ es t e. to.closed t ∙ e ∙ sym (closes_more t es (Idle s ∷ []) ∙ or_false (is_finished t es));
-      moment = λ es e. to.moment ∙ e ∙ ap greatest (sym (told_more es (Idle s ∷ []) ∙ append-nil (moments es)));
-      idle = idle ∙ omega arith;
-    }
+-- nothing came, or an answer Idle: the lane, its queues and its log are as they were
+silent_asked : (s : Side) (answers : List Entry) (old new : RelayingValue) (log log' : Option (List (List ℕ))) (told told' t : Option (List Entry)) (n : ℕ) → TakesTo s old new → IsQuiet answers → ((t : Side) → list_any (closes t) answers ≡ false) →
+    take_state_of s new log' told' ≡ record (take_state_of s old log told) { idle = n; told = t } → n ≡ idles_after old.idle answers → Silent answers old new log log'
+silent_asked s answers old new log log' told told' t n to quiet unclosed same idle =
+    silent_kept answers old new log log' quiet
+    (record {
+      lane = ap (λ (x : TakeState). x.state.lane) same;
+      rests = rests_same s old new (ap (λ (x : TakeState). x.rest) same) to.other_rest;
+      letters = by_own (λ t. letters_from t new ≡ letters_from t old) s (ap (λ (x : TakeState). x.letters) same) to.other_letters;
+      queues = by_side (λ t. queue_to t new ≡ queue_to t old) (ap (λ (x : TakeState). x.state.to_client) same) (ap (λ (x : TakeState). x.state.to_controller) same);
+      moment = to.moment;
+    })
+    (ap (λ (x : TakeState). x.state.lines) same) (ap (λ (x : TakeState). x.idle) same ∙ idle)
+    (λ t. to.closed t ∙ sym (ap (λ b. is_closed t old || b) (unclosed t) ∙ or_false (is_closed t old))) (λ t is. inl (sym (to.closed t) ∙ is))
 
 none_some : (x : Option CutReason) (reason : CutReason) → x ≡ None → x ≡ Some reason → ⊥
 none_some x reason none is = cc
@@ -102,7 +73,7 @@ module _ (law : StreamsGoOn) (quiet : QuietBehindEnd) (asset : Asset) (most : �
     does = λ first es st. (
       one_stage asset most (Taking s) es [] (no_take asset most first es old desk.lines st few s never),
       stands_silent asset first es [] old new desk.lines desk'.lines st
-          (silent_none s old new desk.lines desk'.lines to (ap (λ (x : TakeState). x.state) same) (ap (λ (x : TakeState). x.rest) same) (ap (λ (x : TakeState). x.letters) same) (ap (λ (x : TakeState). x.idle) same)),
+          (silent_asked s [] old new desk.lines desk'.lines pair.told pair'.told pair.told old.idle to quiet_none (λ t. refl) same refl),
     );
   }
 
@@ -142,7 +113,7 @@ module _ (law : StreamsGoOn) (quiet : QuietBehindEnd) (asset : Asset) (most : �
       one_broken asset most (Taking s) es (Idle s ∷ []) (takes_stage asset most first es old desk.lines st few s (Idle s) may refl),
       (
         stands_silent asset first es (Idle s ∷ []) old new desk.lines desk'.lines st
-            (silent_idle s old new desk.lines desk'.lines to (ap (λ (x : TakeState). x.state) same) (ap (λ (x : TakeState). x.rest) same) (ap (λ (x : TakeState). x.letters) same) (ap (λ (x : TakeState). x.idle) same)),
+            (silent_asked s (Idle s ∷ []) old new desk.lines desk'.lines pair.told pair'.told (with_answers pair.told (Idle s ∷ [])) (old.idle + 1) to (quiet_idle s) (λ t. refl) same (omega arith)),
         full,
       ),
     );
@@ -155,7 +126,7 @@ module _ (law : StreamsGoOn) (quiet : QuietBehindEnd) (asset : Asset) (most : �
       breaks_nothing asset most (Taking s ∷ []) es,
       (
         stands_silent asset first es [] old new desk.lines desk'.lines st
-            (silent_none s old new desk.lines desk'.lines to (ap (λ (x : TakeState). x.state) same) (ap (λ (x : TakeState). x.rest) same) (ap (λ (x : TakeState). x.letters) same) (ap (λ (x : TakeState). x.idle) same)),
+            (silent_asked s [] old new desk.lines desk'.lines pair.told pair'.told pair.told old.idle to quiet_none (λ t. refl) same refl),
         subst (λ (n : ℕ). n < most) (sym (ap (λ (x : TakeState). x.idle) same)) few,
       ),
     );

@@ -7,6 +7,7 @@ use Rattle.cf_outq.specs.SendQueue.{IsQueueOf, Queue}
 use Rattle.cf_outside.specs.Desk.{DeskValue}
 use Rattle.cf_outside.specs.Faults.{Rose}
 use Rattle.cf_outside.specs.Pair.{Entry, Finished, Idle, Moment, Took, with_entry}
+use Rattle.cf_outside.specs.PairValue.{PairValue}
 use Rattle.cf_policy.specs.declared.Asset.{Asset}
 use Rattle.cf_stream.specs.Stream.{Stream}
 use Rattle.cf_view.specs.declared.Side.{Side}
@@ -17,10 +18,10 @@ use Rattle.cf_relay.proofs.Lists.{closes_more, history_more, met_more, told_more
 use Rattle.cf_relay.proofs.Scenes.{writes_none}
 use Rattle.cf_relay.proofs.Stages.{begins_stage, breaks_nothing, finishes_stage, gives_stage, no_finish, one_broken, one_stage, tells_stage}
 use Rattle.cf_relay.proofs.Standing.{Silent, stands_silent}
-use Rattle.cf_relay.specs.Answers.{closes, given, greatest, history_after, is_finished, met_in, moment_of, moments}
+use Rattle.cf_relay.specs.Answers.{closes, given, greatest, history_after, idles_after, is_finished, met_in, moments}
 use Rattle.cf_relay.specs.Gave.{FinishesBy, Gave, GaveBy, OnlyEndIsLeft}
 use Rattle.cf_relay.specs.Relaying.{AreClosed, RelayingValue, is_closed, letters_from, queue_to, rests_of}
-use Rattle.cf_relay.specs.Scene.{DoesBetween, PairValue, RoseBy, StopsBetween, StopsBy, scene}
+use Rattle.cf_relay.specs.Scene.{DoesBetween, RoseBy, StopsBetween, StopsBy, scene}
 use Rattle.cf_relay.specs.Stands.{StandsFor}
 use Rattle.cf_relay.specs.Turn.{BeginsToGive, Finishing, Giving, GivesQueued, HasBytes, Stage, Telling}
 use Rattle.cf_relay.specs.declared.stop.Stop.{Stop}
@@ -40,6 +41,50 @@ by_own P side.Controller p q side.Client = q
 by_own P side.Controller p q side.Controller = p
 
 -- ---- silent answers
+
+-- nothing of a relay changed but which sides are closed, and the number of answers Idle
+pub record KeepsQueues (old new : RelayingValue) : Type 0 where
+  pub lane : new.lane ≡ old.lane
+  pub rests : rests_of new ≡ rests_of old
+  pub letters : (t : Side) → letters_from t new ≡ letters_from t old
+  pub queues : (t : Side) → queue_to t new ≡ queue_to t old
+  pub moment : new.moment ≡ old.moment
+
+-- answers that are no more than answers Idle and closes
+pub record IsQuiet (answers : List Entry) : Type 0 where
+  pub history : (earlier : List Entry) → history_after earlier answers ≡ []
+  pub met : flat_map met_in answers ≡ []
+  pub told : moments answers ≡ []
+  pub gives : (t : Side) → given t answers ≡ []
+
+pub quiet_none : IsQuiet []
+quiet_none = record { history = λ earlier. refl; met = refl; told = refl; gives = λ t. refl }
+
+pub quiet_idle : (s : Side) → IsQuiet (Idle s ∷ [])
+quiet_idle s = record { history = λ earlier. refl; met = refl; told = refl; gives = λ t. refl }
+
+quiet_close : (s : Side) → IsQuiet (Finished s ∷ [])
+quiet_close s = record { history = λ earlier. refl; met = refl; told = refl; gives = λ t. refl }
+
+pub silent_kept : (answers : List Entry) (old new : RelayingValue) (log log' : Option (List (List ℕ))) → IsQuiet answers → KeepsQueues old new → log' ≡ log → new.idle ≡ idles_after old.idle answers →
+    ((t : Side) → is_closed t new ≡ (is_closed t old || list_any (closes t) answers)) →
+    ((t : Side) → is_closed t new ≡ true → (is_closed t old ≡ true) ⊎ (((queue_to t new).kept ≡ []) × ((queue_to t new).ended ≡ true))) → Silent answers old new log log'
+silent_kept answers old new log log' quiet keeps same idle closed done = record {
+  history = quiet.history;
+  met = quiet.met;
+  lane = keeps.lane;
+  same_log = same;
+  rests = keeps.rests;
+  letters = keeps.letters;
+  stands = λ t w q. subst (λ (k : Queue). IsQueueOf k w) (sym (keeps.queues t)) q;
+  ended = λ t. ap (λ (k : Queue). k.ended) (keeps.queues t);
+  kept = λ t. ap (λ (k : Queue). k.kept) (sym (keeps.queues t)) ∙ ap (λ xs. xs ++ (queue_to t new).kept) (sym (quiet.gives t));
+  acked = λ t. omega (arith, ap (λ (k : Queue). k.acked) (keeps.queues t), ap length (quiet.gives t));
+  closed = λ es t e. closed t ∙ ap (λ b. b || list_any (closes t) answers) e ∙ sym (closes_more t es answers);
+  done = done;
+  moment = λ es e. keeps.moment ∙ e ∙ ap greatest (sym (told_more es answers ∙ ap (λ ms. moments es ++ ms) quiet.told ∙ append-nil (moments es)));
+  idle = idle;
+}
 
 greatest_more : (xs : List ℕ) (m : ℕ) → greatest (xs ++ m ∷ []) ≡ max (greatest xs) m
 greatest_more [] m = omega arith
@@ -217,12 +262,8 @@ module _ (asset : Asset) (most : ℕ) (s : Side) (old new : RelayingValue) (pair
 
 -- nothing of the relay changed but that a side was closed
 pub record ClosesTo (s : Side) (old new : RelayingValue) : Type 0 where
-  pub lane : new.lane ≡ old.lane
-  pub rests : rests_of new ≡ rests_of old
-  pub letters : (t : Side) → letters_from t new ≡ letters_from t old
-  pub queues : (t : Side) → queue_to t new ≡ queue_to t old
+  pub keeps : KeepsQueues old new
   pub others : is_closed (other s) new ≡ is_closed (other s) old
-  pub moment : new.moment ≡ old.moment
   pub idle : new.idle ≡ old.idle
 
 own_close : (s : Side) → closes s (Finished s) ≡ true
@@ -246,43 +287,17 @@ or_none true false e = refl
 or_none false false e = refl
 
 silent_close : (s : Side) (old new : RelayingValue) (log : Option (List (List ℕ))) → ClosesTo s old new → is_closed s new ≡ true → OnlyEndIsLeft (queue_to s old) (is_closed s old) → Silent (Finished s ∷ []) old new log log
-silent_close s old new log to closed last = record {
-  done = by_own (λ t. is_closed t new ≡ true → (is_closed t old ≡ true) ⊎ (((queue_to t new).kept ≡ []) × ((queue_to t new).ended ≡ true))) s
-      (λ is. inr (ap (λ (k : Queue). k.kept) (to.queues s) ∙ last.0, ap (λ (k : Queue). k.ended) (to.queues s) ∙ last.1)) (λ is. inl (sym to.others ∙ is));
-  history = λ earlier. refl;
-  met = refl;
-  lane = to.lane;
-  same_log = refl;
-  rests = to.rests;
-  letters = to.letters;
-  stands = λ t w q. subst (λ (k : Queue). IsQueueOf k w) (sym (to.queues t)) q;
-  ended = λ t. ap (λ (k : Queue). k.ended) (to.queues t);
-  kept = λ t. ap (λ (k : Queue). k.kept) (sym (to.queues t));
-  acked = λ t. omega (arith, ap (λ (k : Queue). k.acked) (to.queues t));
-  closed = λ es t e. by_own (λ t. is_closed t old ≡ is_finished t es → is_closed t new ≡ is_finished t (es ++ Finished s ∷ [])) s
-      (λ e. closed ∙ sym (closes_more s es (Finished s ∷ []) ∙ or_own (is_finished s es) (closes s (Finished s)) (own_close s)))
-      (λ e. to.others ∙ e ∙ sym (closes_more (other s) es (Finished s ∷ []) ∙ or_none (is_finished (other s) es) (closes (other s) (Finished s)) (other_close s))) t e;
-  moment = λ es e. to.moment ∙ e ∙ ap greatest (sym (told_more es (Finished s ∷ []) ∙ append-nil (moments es)));
-  idle = to.idle;
-}
+silent_close s old new log to closed last =
+    silent_kept (Finished s ∷ []) old new log log (quiet_close s) to.keeps refl to.idle
+    (by_own (λ t. is_closed t new ≡ (is_closed t old || list_any (closes t) (Finished s ∷ []))) s (closed ∙ sym (or_own (is_closed s old) (closes s (Finished s)) (own_close s)))
+    (to.others ∙ sym (or_none (is_closed (other s) old) (closes (other s) (Finished s)) (other_close s))))
+    (by_own (λ t. is_closed t new ≡ true → (is_closed t old ≡ true) ⊎ (((queue_to t new).kept ≡ []) × ((queue_to t new).ended ≡ true))) s
+    (λ is. inr (ap (λ (k : Queue). k.kept) (to.keeps.queues s) ∙ last.0, ap (λ (k : Queue). k.ended) (to.keeps.queues s) ∙ last.1)) (λ is. inl (sym to.others ∙ is)))
 
 silent_same : (s : Side) (old new : RelayingValue) (log : Option (List (List ℕ))) → ClosesTo s old new → is_closed s new ≡ is_closed s old → Silent [] old new log log
-silent_same s old new log to closed = record {
-  done = λ t is. inl (sym (by_own (λ t. is_closed t new ≡ is_closed t old) s closed to.others t) ∙ is);
-  history = λ earlier. refl;
-  met = refl;
-  lane = to.lane;
-  same_log = refl;
-  rests = to.rests;
-  letters = to.letters;
-  stands = λ t w q. subst (λ (k : Queue). IsQueueOf k w) (sym (to.queues t)) q;
-  ended = λ t. ap (λ (k : Queue). k.ended) (to.queues t);
-  kept = λ t. ap (λ (k : Queue). k.kept) (sym (to.queues t));
-  acked = λ t. omega (arith, ap (λ (k : Queue). k.acked) (to.queues t));
-  closed = λ es t e. by_own (λ t. is_closed t new ≡ is_closed t old) s closed to.others t ∙ e ∙ ap (is_finished t) (sym (append-nil es));
-  moment = λ es e. to.moment ∙ e ∙ ap moment_of (sym (append-nil es));
-  idle = to.idle;
-}
+silent_same s old new log to closed =
+    let same : (t : Side) → is_closed t new ≡ is_closed t old = by_own (λ t. is_closed t new ≡ is_closed t old) s closed to.others in
+    silent_kept [] old new log log quiet_none to.keeps refl to.idle (λ t. same t ∙ sym (or_false (is_closed t old))) (λ t is. inl (sym (same t) ∙ is))
 
 module _ (asset : Asset) (most : ℕ) (s : Side) (old new : RelayingValue) (pair pair' : PairValue) (desk : DeskValue) (few : old.idle < most) (to : ClosesTo s old new)
     (later : pair.faults ≤ pair'.faults) (same : pair'.idles ≡ pair.idles) where

@@ -1,5 +1,5 @@
 -- What the answers of a relay mean, by what was done and by the last line.
-use Rattle.std.proofs.Common.{Err, List, None, Ok, Option, Result, Some, [], ap, arith, drop, false, inl, inr, length, refl, subst, suc, sym, take, true, ℕ, ◌++◌, ◌<◌, ◌∙◌, ◌∷◌, ◌≡◌, ◌≤◌}
+use Rattle.std.proofs.Common.{Err, List, None, Ok, Option, Result, Some, [], ap, arith, drop, inl, inr, length, refl, subst, suc, sym, take, true, ℕ, ◌++◌, ◌<◌, ◌∙◌, ◌∷◌, ◌≡◌, ◌≤◌}
 use Rattle.std.specs.List.{concat}
 use Rattle.std.specs.Option.{option_or}
 use Rattle.std.proofs.lemmas.List.{append-nil, append_assoc}
@@ -28,7 +28,7 @@ use Rattle.cf_relay.proofs.Stages.{breaks_nothing, does_broken, does_then, goes_
 use Rattle.cf_relay.specs.Answers.{given, history_of, is_finished, with_answers}
 use Rattle.cf_relay.specs.Closing.{BeginsLines, ClosesWith, StopsWith, desk_log}
 use Rattle.cf_relay.specs.Ends.{EndsAs, GivenAll, IdlesRose, IdlesRoseAt, IsLinkEnd, IsWriteEnd, RelayEnds, close_line, cut_line, log_of}
-use Rattle.cf_relay.specs.Relaying.{RelayingValue, is_closed, letters_from, queue_to}
+use Rattle.cf_relay.specs.Relaying.{RelayingValue, begun_value, is_closed, letters_from, queue_to}
 use Rattle.cf_relay.specs.Scene.{RoseBy, Scene, StopsBy}
 use Rattle.cf_relay.specs.Stands.{GivenPrefixes, StandsCut, StandsFor, StandsStopped}
 use Rattle.cf_relay.specs.Taken.{StaysWhole}
@@ -334,34 +334,18 @@ some_idle idle most h = omega (arith, h)
 empty_stands : IsQueueOf empty no_letters
 empty_stands = record { ended = refl; pushed = refl; kept = refl; acked = omega arith; sent = omega arith; shown = omega arith }
 
--- a relay before its first turn
-abbrev pub first_value : LaneValue → ℕ → RelayingValue
-first_value lane m = record {
-  lane = lane;
-  to_client = empty;
-  to_controller = empty;
-  client_rest = [];
-  controller_rest = [];
-  client_letters = 0;
-  controller_letters = 0;
-  client_finished = false;
-  controller_finished = false;
-  moment = m;
-  idle = 0;
-}
-
 first_by : (asset : Asset) (listen : ℕ) (client : Endpoint) (m : ℕ) (first : Option (List (List ℕ))) (lane : LaneValue) → lane.client ≡ client → Follows asset [] no_rests None first (state lane empty empty first) →
-    StandsFor asset first (met_at listen asset.endpoint client ∷ Moment m ∷ []) (first_value lane m) first
+    StandsFor asset first (met_at listen asset.endpoint client ∷ Moment m ∷ []) (begun_value lane empty empty m) first
 first_by asset listen client m first lane is f = record {
   follows = f;
   uncut = sym (limit_is asset [] f.judged 0 0 empty empty refl refl f.client_stream f.controller_stream);
   client = is;
-  acked = by_side (λ s. (queue_to s (first_value lane m)).acked ≡ length (given s (met_at listen asset.endpoint client ∷ Moment m ∷ []))) refl refl;
-  front = by_side (λ s. outputs asset s [] f.judged ≡ given s (met_at listen asset.endpoint client ∷ Moment m ∷ []) ++ (queue_to s (first_value lane m)).kept) (sym f.client_stream.kept) (sym f.controller_stream.kept);
-  ended = by_side (λ s. (queue_to s (first_value lane m)).ended ≡ ended_of (other s) (history_of (met_at listen asset.endpoint client ∷ Moment m ∷ []))) refl refl;
-  letters = by_side (λ s. letters_from s (first_value lane m) ≡ letter_count (taken s (history_of (met_at listen asset.endpoint client ∷ Moment m ∷ [])))) refl refl;
-  closed = by_side (λ s. is_closed s (first_value lane m) ≡ is_finished s (met_at listen asset.endpoint client ∷ Moment m ∷ [])) refl refl;
-  done = by_side (λ s. is_closed s (first_value lane m) ≡ true → ((queue_to s (first_value lane m)).kept ≡ []) × ((queue_to s (first_value lane m)).ended ≡ true)) (λ e. cc) (λ e. cc);
+  acked = by_side (λ s. (queue_to s (begun_value lane empty empty m)).acked ≡ length (given s (met_at listen asset.endpoint client ∷ Moment m ∷ []))) refl refl;
+  front = by_side (λ s. outputs asset s [] f.judged ≡ given s (met_at listen asset.endpoint client ∷ Moment m ∷ []) ++ (queue_to s (begun_value lane empty empty m)).kept) (sym f.client_stream.kept) (sym f.controller_stream.kept);
+  ended = by_side (λ s. (queue_to s (begun_value lane empty empty m)).ended ≡ ended_of (other s) (history_of (met_at listen asset.endpoint client ∷ Moment m ∷ []))) refl refl;
+  letters = by_side (λ s. letters_from s (begun_value lane empty empty m) ≡ letter_count (taken s (history_of (met_at listen asset.endpoint client ∷ Moment m ∷ [])))) refl refl;
+  closed = by_side (λ s. is_closed s (begun_value lane empty empty m) ≡ is_finished s (met_at listen asset.endpoint client ∷ Moment m ∷ [])) refl refl;
+  done = by_side (λ s. is_closed s (begun_value lane empty empty m) ≡ true → ((queue_to s (begun_value lane empty empty m)).kept ≡ []) × ((queue_to s (begun_value lane empty empty m)).ended ≡ true)) (λ e. cc) (λ e. cc);
   moment = omega arith;
   idle = refl;
 }
@@ -369,12 +353,11 @@ first_by asset listen client m first lane is f = record {
 pub first_stands : (asset : Asset) (listen : ℕ) (client : Endpoint) (m : ℕ) (first log : Option (List (List ℕ))) (lane : LaneValue) (c k : Queue) (v : RelayingValue) → lane.client ≡ client →
     ((c k : Queue) (x : Option (List (List ℕ))) → IsQueueOf c no_letters → IsQueueOf k no_letters → Follows asset [] no_rests None x (state lane c k x)) →
     log ≡ first → c ≡ empty → k ≡ empty →
-    v ≡ record { lane = lane; to_client = c; to_controller = k; client_rest = []; controller_rest = []; client_letters = 0; controller_letters = 0; client_finished = false; controller_finished = false; moment = m; idle = 0 } →
+    v ≡ begun_value lane c k m →
     StandsFor asset first (met_at listen asset.endpoint client ∷ Moment m ∷ []) v log
 first_stands asset listen client m first log lane c k v is follows same qc qk value =
-    let v0 : v ≡ first_value lane m =
-    value ∙ ap (λ (q : Queue). record { lane = lane; to_client = q; to_controller = k; client_rest = []; controller_rest = []; client_letters = 0; controller_letters = 0; client_finished = false; controller_finished = false; moment = m; idle = 0 }) qc
-    ∙ ap (λ (q : Queue). record { lane = lane; to_client = empty; to_controller = q; client_rest = []; controller_rest = []; client_letters = 0; controller_letters = 0; client_finished = false; controller_finished = false; moment = m; idle = 0 }) qk in
+    let v0 : v ≡ begun_value lane empty empty m =
+    value ∙ ap (λ (q : Queue). begun_value lane q k m) qc ∙ ap (λ (q : Queue). begun_value lane empty q m) qk in
     subst (λ (x : Option (List (List ℕ))). StandsFor asset first (met_at listen asset.endpoint client ∷ Moment m ∷ []) v x) (sym same)
     (subst (λ (x : RelayingValue). StandsFor asset first (met_at listen asset.endpoint client ∷ Moment m ∷ []) x first) (sym v0)
     (first_by asset listen client m first lane is (follows empty empty first empty_stands empty_stands)))

@@ -127,8 +127,12 @@ created_empty untold = refl
 created_empty absent = refl
 created_empty (holds all) = refl
 
+partly_empty : (first new : Content) → (new ≡ first) ⊎ (new ≡ content_after_create first) → IsPartly [] first new
+partly_empty first new (inl same) = inl same
+partly_empty first new (inr created) = inr (0, created ∙ created_empty first)
+
 pub write_first : (asset : Asset) (listen most : ℕ) (first new : Content) → 0 < most → (new ≡ first) ⊎ (new ≡ content_after_create first) → IsWriteEnd asset listen most (file_log first new) []
-write_first asset listen most first new few (inl same) = record {
+write_first asset listen most first new few either = record {
   relayed = relayed_none asset listen most few;
   history = [];
   is_short = inl refl;
@@ -137,18 +141,7 @@ write_first asset listen most first new few (inl same) = record {
   prefixes = λ s. ([], refl);
   last = [];
   is_last = inl refl;
-  begins = λ told. inl same;
-}
-write_first asset listen most first new few (inr created) = record {
-  relayed = relayed_none asset listen most few;
-  history = [];
-  is_short = inl refl;
-  judged = [];
-  are_judged = empty_judged asset 0;
-  prefixes = λ s. ([], refl);
-  last = [];
-  is_last = inl refl;
-  begins = λ told. inr (0, created ∙ created_empty first);
+  begins = λ told. partly_empty first new either;
 }
 
 -- the same log, and nothing is known of want of memory

@@ -13,3 +13,4 @@ mod Serving
 mod Stages
 mod Standing
 mod Taking
+mod Turning

@@ -17,7 +17,7 @@ use Rattle.cf_relay.proofs.Giving.{given_more, given_pieces}
 use Rattle.cf_relay.proofs.Standing.{TakesTo}
 use Rattle.cf_relay.specs.Answers.{given, idles_after}
 use Rattle.cf_relay.specs.Gave.{FinishesBy, Gave, GaveBy}
-use Rattle.cf_relay.specs.Relaying.{AreClosed, AsksOrRests, IsSound, ListensOrRests, RelayingValue, ServesOrRests, Unmoved, is_closed, letters_from, moved, progress, queue_to}
+use Rattle.cf_relay.specs.Relaying.{AreClosed, AsksOrRests, IsSound, RelayingValue, ServesOrRests, Unmoved, is_closed, letters_from, moved, progress, queue_to}
 use Rattle.cf_relay.specs.Taken.{IsSmall, MayTakeNow, TakeState, TakesBy, letters_brought}
 use Rattle.cf_relay.specs.Turn.{GivesQueued, HasBytes, IsTakeAnswer, TookPieces}
 
@@ -81,10 +81,10 @@ module _ (most : ℕ) (s : Side) (old mid : RelayingValue) (few : old.idle < mos
 
 closes_unmoved : (s : Side) (mid new : RelayingValue) → ClosesTo s mid new → Unmoved mid new
 closes_unmoved s mid new to = record {
-  kept = λ t. ap (λ (q : Queue). q.kept) (to.queues t);
-  acked = λ t. ap (λ (q : Queue). q.acked) (to.queues t);
-  ended = λ t. ap (λ (q : Queue). q.ended) (to.queues t);
-  letters = to.letters;
+  kept = λ t. ap (λ (q : Queue). q.kept) (to.keeps.queues t);
+  acked = λ t. ap (λ (q : Queue). q.acked) (to.keeps.queues t);
+  ended = λ t. ap (λ (q : Queue). q.ended) (to.keeps.queues t);
+  letters = to.keeps.letters;
   idle = to.idle;
 }
 
@@ -177,8 +177,15 @@ same_may s old new u may = record {
   controller = small_at old.to_controller new.to_controller (u.kept side.Controller) (u.ended side.Controller) may.controller;
 }
 
+-- a side was asked; or both were passed over
+abbrev ListensOrRests : (most : ℕ) → (old new : RelayingValue) → Type 0
+ListensOrRests most old new =
+    (progress most old < progress most new)
+    ⊎ (Unmoved old new × (MayTakeNow side.Client old.to_client old.to_controller → ⊥) ×
+    (MayTakeNow side.Controller old.to_client old.to_controller → ⊥))
+
 -- the moment, and two sides asked
-pub listen_moves : (most : ℕ) (a b c d : RelayingValue) → Unmoved a b → AsksOrRests side.Client most b c → AsksOrRests side.Controller most c d → ListensOrRests most a d
+listen_moves : (most : ℕ) (a b c d : RelayingValue) → Unmoved a b → AsksOrRests side.Client most b c → AsksOrRests side.Controller most c d → ListensOrRests most a d
 listen_moves most a b c d u (inl m) (inl n) = inl (omega (arith, m, n, unmoved_progress most a b u))
 listen_moves most a b c d u (inl m) (inr (v, passed)) = inl (omega (arith, m, unmoved_progress most a b u, unmoved_progress most c d v))
 listen_moves most a b c d u (inr (v, passed)) (inl n) = inl (omega (arith, n, unmoved_progress most a b u, unmoved_progress most b c v))
@@ -197,20 +204,24 @@ not_open true passed = refl
 not_open false passed = absurd (passed refl)
 
 -- a turn moves something, or both sides are closed behind it
-pub turn_moves : (most : ℕ) (a b c d : RelayingValue) → ListensOrRests most a b → ServesOrRests side.Controller most b c → ServesOrRests side.Client most c d → (progress most a < progress most d) ⊎ AreClosed d
-turn_moves most a b c d (inl l) (inl m) (inl n) = inl (omega (arith, l, m, n))
-turn_moves most a b c d (inl l) (inl m) (inr (none, v, same, closed)) = inl (omega (arith, l, m, unmoved_progress most c d v))
-turn_moves most a b c d (inl l) (inr (none, v, same, closed)) (inl n) = inl (omega (arith, l, n, unmoved_progress most b c v))
-turn_moves most a b c d (inl l) (inr (none, v, same, closed)) (inr (none', v', same', closed')) = inl (omega (arith, l, unmoved_progress most b c v, unmoved_progress most c d v'))
-turn_moves most a b c d (inr (u, passed, never)) (inl m) (inl n) = inl (omega (arith, m, n, unmoved_progress most a b u))
-turn_moves most a b c d (inr (u, passed, never)) (inl m) (inr (none, v, same, closed)) = inl (omega (arith, m, unmoved_progress most a b u, unmoved_progress most c d v))
-turn_moves most a b c d (inr (u, passed, never)) (inr (none, v, same, closed)) (inl n) = inl (omega (arith, n, unmoved_progress most a b u, unmoved_progress most b c v))
-turn_moves most a b c d (inr (u, passed, never)) (inr (none, v, same, closed)) (inr (none', v', same', closed')) =
+moves_all : (most : ℕ) (a b c d : RelayingValue) → ListensOrRests most a b → ServesOrRests side.Controller most b c → ServesOrRests side.Client most c d → (progress most a < progress most d) ⊎ AreClosed d
+moves_all most a b c d (inl l) (inl m) (inl n) = inl (omega (arith, l, m, n))
+moves_all most a b c d (inl l) (inl m) (inr (none, v, same, closed)) = inl (omega (arith, l, m, unmoved_progress most c d v))
+moves_all most a b c d (inl l) (inr (none, v, same, closed)) (inl n) = inl (omega (arith, l, n, unmoved_progress most b c v))
+moves_all most a b c d (inl l) (inr (none, v, same, closed)) (inr (none', v', same', closed')) = inl (omega (arith, l, unmoved_progress most b c v, unmoved_progress most c d v'))
+moves_all most a b c d (inr (u, passed, never)) (inl m) (inl n) = inl (omega (arith, m, n, unmoved_progress most a b u))
+moves_all most a b c d (inr (u, passed, never)) (inl m) (inr (none, v, same, closed)) = inl (omega (arith, m, unmoved_progress most a b u, unmoved_progress most c d v))
+moves_all most a b c d (inr (u, passed, never)) (inr (none, v, same, closed)) (inl n) = inl (omega (arith, n, unmoved_progress most a b u, unmoved_progress most b c v))
+moves_all most a b c d (inr (u, passed, never)) (inr (none, v, same, closed)) (inr (none', v', same', closed')) =
     let client : IsSmall a.to_client = small_empty a.to_client (sym (u.kept side.Client) ∙ sym (v.kept side.Client) ∙ none') in
     let controller : IsSmall a.to_controller = small_empty a.to_controller (sym (u.kept side.Controller) ∙ none) in
     let ended_c : a.to_client.ended ≡ true = not_open a.to_client.ended (λ e. never (record { open_still = e; client = client; controller = controller })) in
     let ended_k : a.to_controller.ended ≡ true = not_open a.to_controller.ended (λ e. passed (record { open_still = e; client = client; controller = controller })) in
     inr (closed' (v.ended side.Client ∙ u.ended side.Client ∙ ended_c), same' ∙ closed (u.ended side.Controller ∙ ended_k))
+
+pub turn_moves : (most : ℕ) (a b c d e f : RelayingValue) → Unmoved a b → AsksOrRests side.Client most b c → AsksOrRests side.Controller most c d → ServesOrRests side.Controller most d e → ServesOrRests side.Client most e f →
+    (progress most a < progress most f) ⊎ AreClosed f
+turn_moves most a b c d e f told client controller served last = moves_all most a d e f (listen_moves most a b c d told client controller) served last
 
 -- the progress of a relay that goes on is below this
 pub progress_below : (asset : Asset) (most : ℕ) (now : RelayingValue) → IsSound asset most now → progress most now < 2 ^ 32 * most

@@ -93,6 +93,10 @@ pub on_ok : {T : Type 0} (r : Result T Stop) (P Q : Type 0) → (P → Q) → On
 on_ok (Ok x) P Q f p = f p
 on_ok (Err e) P Q f p = tt
 
+pub all_ok : {T : Type 0} (r : Result T Stop) (P : Type 0) → P → OnOk r P
+all_ok (Ok x) P p = p
+all_ok (Err e) P p = tt
+
 pub if_err : {T : Type 0} (r : Result T Stop) (P Q : Stop → Type 0) → ((e : Stop) → P e → Q e) → IfErr r P → IfErr r Q
 if_err (Ok x) P Q f p = tt
 if_err (Err e) P Q f p = f e p

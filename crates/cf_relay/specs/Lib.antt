@@ -4,6 +4,7 @@ pub mod Ends
 pub mod Gave
 pub mod Relaying
 pub mod Scene
+pub mod Sides
 pub mod Stands
 pub mod Taken
 pub mod Turn

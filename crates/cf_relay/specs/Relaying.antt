@@ -6,7 +6,7 @@ use Rattle.cf_lane.specs.declared.limit.TheConstants.{LETTER_LIMIT}
 use Rattle.cf_outq.specs.SendQueue.{Queue, queue_length}
 use Rattle.cf_policy.specs.declared.Asset.{Asset}
 use Rattle.cf_view.specs.declared.Side.{Side}
-use Rattle.std.specs.Prelude.{Bool, List, Option, [], length, true, ℕ, ◌*◌, ◌+◌, ◌<◌, ◌≡◌, ◌≤◌, ◌⊎◌}
+use Rattle.std.specs.Prelude.{Bool, List, Option, [], false, length, true, ℕ, ◌*◌, ◌+◌, ◌<◌, ◌≡◌, ◌≤◌, ◌⊎◌}
 use Rattle.cf_view.specs.declared.Side.TheVariants as side
 use Rattle.cf_relay.specs.Taken.{MayTakeNow}
 use Rattle.cf_relay.specs.declared.relaying.Relaying.{Relaying}
@@ -31,16 +31,32 @@ pub record RelayingValue : Type 0 where
 abbrev pub relaying_value : Relaying → RelayingValue
 relaying_value a = record {
   lane = a.lane;
-  to_client = a.to_client;
-  to_controller = a.to_controller;
-  client_rest = a.from_client.rest.items;
-  controller_rest = a.from_controller.rest.items;
-  client_letters = a.from_client.letters;
-  controller_letters = a.from_controller.letters;
-  client_finished = a.client_finished;
-  controller_finished = a.controller_finished;
+  to_client = a.to.client;
+  to_controller = a.to.controller;
+  client_rest = a.from.client.rest.items;
+  controller_rest = a.from.controller.rest.items;
+  client_letters = a.from.client.letters;
+  controller_letters = a.from.controller.letters;
+  client_finished = a.finished.client;
+  controller_finished = a.finished.controller;
   moment = a.moment;
   idle = a.idle;
+}
+
+-- a relay before its first turn
+abbrev pub begun_value : LaneValue → (to_client to_controller : Queue) → (moment : ℕ) → RelayingValue
+begun_value lane to_client to_controller moment = record {
+  lane = lane;
+  to_client = to_client;
+  to_controller = to_controller;
+  client_rest = [];
+  controller_rest = [];
+  client_letters = 0;
+  controller_letters = 0;
+  client_finished = false;
+  controller_finished = false;
+  moment = moment;
+  idle = 0;
 }
 
 -- the queue to a side
@@ -111,13 +127,6 @@ ServesOrRests s most old new =
 abbrev pub AsksOrRests : Side → (most : ℕ) → (old new : RelayingValue) → Type 0
 AsksOrRests s most old new = (progress most old < progress most new) ⊎
     (Unmoved old new × (MayTakeNow s old.to_client old.to_controller → ⊥))
-
--- a side was asked; or both were passed over
-abbrev pub ListensOrRests : (most : ℕ) → (old new : RelayingValue) → Type 0
-ListensOrRests most old new =
-    (progress most old < progress most new)
-    ⊎ (Unmoved old new × (MayTakeNow side.Client old.to_client old.to_controller → ⊥) ×
-    (MayTakeNow side.Controller old.to_client old.to_controller → ⊥))
 
 -- both sides are closed
 abbrev pub AreClosed : RelayingValue → Type 0

@@ -4,6 +4,7 @@ use Rattle.cf_lane.specs.Handled.{WritesLog}
 use Rattle.cf_outside.specs.Desk.{DeskValue}
 use Rattle.cf_outside.specs.Faults.{Rose}
 use Rattle.cf_outside.specs.Pair.{Entry}
+use Rattle.cf_outside.specs.PairValue.{PairValue, pair_value}
 use Rattle.cf_outside.specs.declared.Desk.{Ghosts as DeskOf}
 use Rattle.cf_outside.specs.declared.Pair.{Ghosts as PairOf}
 use Rattle.cf_policy.specs.declared.Asset.{Asset}
@@ -15,15 +16,6 @@ use Rattle.cf_relay.specs.Turn.{BeginsStages, DoesStages, Stage}
 use Rattle.cf_relay.specs.declared.relaying.Relaying.{Relaying}
 use Rattle.cf_relay.specs.declared.stop.Stop.{Stop}
 use Rattle.cf_relay.specs.declared.stop.Stop.TheVariants as stop
-
--- what a pair tells
-pub record PairValue : Type 0 where
-  pub told : Option (List Entry)
-  pub faults : ℕ
-  pub idles : ℕ
-
-abbrev pub pair_value : {P : Type 0} → PairOf P → P → PairValue
-pair_value P pair = record { told = P.told pair; faults = P.faults pair; idles = P.idles pair }
 
 -- a relay with its pair and its desk
 pub record Scene : Type 0 where

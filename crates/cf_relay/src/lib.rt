@@ -5,6 +5,7 @@ mod done;
 mod give;
 mod lines;
 mod relaying;
+mod sides;
 mod stop;
 mod take;
 mod top;

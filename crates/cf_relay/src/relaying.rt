@@ -4,14 +4,16 @@ ghost use Rattle.cf_lane.specs.Limit.{limit_by};
 ghost use Rattle.cf_lane.specs.declared.limit.TheConstants.{LETTER_LIMIT};
 ghost use Rattle.cf_outq.specs.SendQueue.{IsQueue, queue_length};
 ghost use Rattle.cf_outside.specs.Desk.{DeskValue};
+ghost use Rattle.cf_outside.specs.PairValue.{pair_value};
 ghost use Rattle.cf_policy.specs.Within.{IsAssetWithin};
 ghost use Rattle.cf_policy.specs.declared.Asset.{Asset as AssetOf};
 ghost use Rattle.cf_relay.specs.Relaying.{AreClosed, AsksOrRests, IsShort, IsSound, ServesOrRests, Unmoved, relaying_value};
-ghost use Rattle.cf_relay.specs.Scene.{DoesBetween, StopsBetween, pair_value, scene, scene_of};
+ghost use Rattle.cf_relay.specs.Scene.{DoesBetween, StopsBetween, scene, scene_of};
 ghost use Rattle.cf_relay.specs.Taken.{LimitBy, StaysWhole};
 ghost use Rattle.cf_relay.specs.Turn.{Finishing, Giving, Taking, Telling};
 
 use crate::give::{finish_to, give_to};
+use crate::sides::Sides;
 use crate::stop::Stop;
 use crate::take::{Heard, take_from};
 use cf_audit::CutReason;
@@ -25,12 +27,11 @@ use cf_view::Side;
 #[derive(Drop)]
 pub(crate) struct Relaying {
     pub(crate) lane: Lane,
-    pub(crate) to_client: Outq,
-    pub(crate) to_controller: Outq,
-    pub(crate) from_client: Heard,
-    pub(crate) from_controller: Heard,
-    pub(crate) client_finished: bool,
-    pub(crate) controller_finished: bool,
+    /// The queue to each side.
+    pub(crate) to: Sides<Outq>,
+    pub(crate) from: Sides<Heard>,
+    /// Whether each side was closed for sending.
+    pub(crate) finished: Sides<bool>,
     /// The greatest moment told, in microseconds.
     pub(crate) moment: u64,
     /// How many answers `Idle` came since the last that was none.
@@ -62,9 +63,10 @@ impl Relaying {
         }
     }
 
-    /// Asks the client for bytes, where it has not ended and both queues are small, and hands the lane what comes.
-    pub(crate) fn take_client<P: Pair, D: Desk>(
+    /// Asks a side for bytes, where it has not ended and both queues are small, and hands the lane what comes.
+    pub(crate) fn take<P: Pair, D: Desk>(
         &mut self,
+        side: Side,
         asset: &Asset,
         most: u64,
         buf: &mut [u8],
@@ -75,64 +77,24 @@ impl Relaying {
         requires sound { IsSound asset.now most (relaying_value self.old) }
         requires whole { DeskValue.whole (D.value desk.old) ≡ true }
         requires buffer { length buf.old ≡ 4096 }
-        ensures goes { OnOk result (DoesBetween asset.now most (Taking Side.Client ∷ [])
+        ensures goes { OnOk result (DoesBetween asset.now most (Taking side ∷ [])
             (scene_of P.Pair D.Desk self.old pair.old desk.old) (scene_of P.Pair D.Desk self.new pair.new desk.new)) }
-        ensures stops { IfErr result (λ stop. StopsBetween asset.now most (Taking Side.Client ∷ []) stop
+        ensures stops { IfErr result (λ stop. StopsBetween asset.now most (Taking side ∷ []) stop
             (scene_of P.Pair D.Desk self.old pair.old desk.old) (scene_of P.Pair D.Desk self.new pair.new desk.new)) }
         ensures sound { OnOk result (IsSound asset.now most (relaying_value self.new)) }
-        ensures moves { OnOk result (AsksOrRests Side.Client most (relaying_value self.old) (relaying_value self.new)) }
+        ensures moves { OnOk result (AsksOrRests side most (relaying_value self.old) (relaying_value self.new)) }
         ensures whole { StaysWhole result (D.value desk.new) }
         ensures buffer { length buf.new ≡ 4096 }
     {
         streams_go_on();
         take_from(
-            Side::Client,
+            side,
             asset,
             self.moment,
             &mut self.lane,
-            &mut self.from_client,
-            &mut self.to_client,
-            &mut self.to_controller,
-            &mut self.idle,
-            most,
-            buf,
-            pair,
-            desk,
-        )?;
-        self.check_limit()
-    }
-
-    /// Asks the controller for bytes, where it has not ended and both queues are small, and hands the lane what comes.
-    pub(crate) fn take_controller<P: Pair, D: Desk>(
-        &mut self,
-        asset: &Asset,
-        most: u64,
-        buf: &mut [u8],
-        pair: &mut P,
-        desk: &mut D,
-    ) -> Result<(), Stop>
-        requires within { IsAssetWithin asset.now }
-        requires sound { IsSound asset.now most (relaying_value self.old) }
-        requires whole { DeskValue.whole (D.value desk.old) ≡ true }
-        requires buffer { length buf.old ≡ 4096 }
-        ensures goes { OnOk result (DoesBetween asset.now most (Taking Side.Controller ∷ [])
-            (scene_of P.Pair D.Desk self.old pair.old desk.old) (scene_of P.Pair D.Desk self.new pair.new desk.new)) }
-        ensures stops { IfErr result (λ stop. StopsBetween asset.now most (Taking Side.Controller ∷ []) stop
-            (scene_of P.Pair D.Desk self.old pair.old desk.old) (scene_of P.Pair D.Desk self.new pair.new desk.new)) }
-        ensures sound { OnOk result (IsSound asset.now most (relaying_value self.new)) }
-        ensures moves { OnOk result (AsksOrRests Side.Controller most (relaying_value self.old) (relaying_value self.new)) }
-        ensures whole { StaysWhole result (D.value desk.new) }
-        ensures buffer { length buf.new ≡ 4096 }
-    {
-        streams_go_on();
-        take_from(
-            Side::Controller,
-            asset,
-            self.moment,
-            &mut self.lane,
-            &mut self.from_controller,
-            &mut self.to_client,
-            &mut self.to_controller,
+            self.from.of_mut(side),
+            &mut self.to.client,
+            &mut self.to.controller,
             &mut self.idle,
             most,
             buf,
@@ -144,11 +106,11 @@ impl Relaying {
 
     /// Cuts where a stream has as many letters as the limit.
     fn check_limit(&self) -> Result<(), Stop>
-        ensures limit { LimitBy (self.now.from_client).letters (self.now.from_controller).letters
-            (queue_length self.now.to_client) (queue_length self.now.to_controller) result }
+        ensures limit { LimitBy (self.now.from.client).letters (self.now.from.controller).letters
+            (queue_length self.now.to.client) (queue_length self.now.to.controller) result }
         ensures short { OnOk result (IsShort (relaying_value self.now)) }
-        ensures to_client { IsQueue self.now.to_client }
-        ensures to_controller { IsQueue self.now.to_controller }
+        ensures to_client { IsQueue self.now.to.client }
+        ensures to_controller { IsQueue self.now.to.controller }
     {
         match self.full() {
             Some(reason) => Err(Stop::Cut(reason)),
@@ -158,25 +120,26 @@ impl Relaying {
 
     /// Why a stream that has as many letters as the limit cuts, if one has.
     fn full(&self) -> Option<CutReason>
-        ensures limit { result ≡ limit_by LETTER_LIMIT (self.now.from_client).letters (self.now.from_controller).letters
-            (queue_length self.now.to_client) (queue_length self.now.to_controller) }
-        ensures to_client { IsQueue self.now.to_client }
-        ensures to_controller { IsQueue self.now.to_controller }
+        ensures limit { result ≡ limit_by LETTER_LIMIT (self.now.from.client).letters (self.now.from.controller).letters
+            (queue_length self.now.to.client) (queue_length self.now.to.controller) }
+        ensures to_client { IsQueue self.now.to.client }
+        ensures to_controller { IsQueue self.now.to.controller }
     {
         limit_cut(
             LETTER_LIMIT,
             &Lengths {
-                client: self.from_client.letters,
-                controller: self.from_controller.letters,
-                to_client: self.to_client.length() as u64,
-                to_controller: self.to_controller.length() as u64,
+                client: self.from.client.letters,
+                controller: self.from.controller.letters,
+                to_client: self.to.client.length() as u64,
+                to_controller: self.to.controller.length() as u64,
             },
         )
     }
 
-    /// Gives the controller what is queued for it, and closes it for sending where that is all.
-    pub(crate) fn serve_controller<P: Pair>(
+    /// Gives a side what is queued for it, and closes it for sending where that is all.
+    pub(crate) fn serve<P: Pair>(
         &mut self,
+        side: Side,
         most: u64,
         buf: &mut [u8],
         pair: &mut P,
@@ -184,69 +147,20 @@ impl Relaying {
         requires few { self.old.idle < most }
         requires buffer { length buf.old ≡ 4096 }
         ensures goes { OnOk result ((asset : AssetOf) (desk : DeskValue) → DoesBetween asset most
-            (Giving Side.Controller ∷ Finishing Side.Controller ∷ [])
+            (Giving side ∷ Finishing side ∷ [])
             (scene (relaying_value self.old) (pair_value P.Pair pair.old) desk)
             (scene (relaying_value self.new) (pair_value P.Pair pair.new) desk)) }
         ensures stops { IfErr result (λ stop. (asset : AssetOf) (desk : DeskValue) → StopsBetween asset most
-            (Giving Side.Controller ∷ Finishing Side.Controller ∷ []) stop
+            (Giving side ∷ Finishing side ∷ []) stop
             (scene (relaying_value self.old) (pair_value P.Pair pair.old) desk)
             (scene (relaying_value self.new) (pair_value P.Pair pair.new) desk)) }
         ensures sound { OnOk result ((asset : AssetOf) → IsSound asset most (relaying_value self.old) → IsSound asset most
             (relaying_value self.new)) }
-        ensures moves { OnOk result (ServesOrRests Side.Controller most (relaying_value self.old) (relaying_value self.new)) }
+        ensures moves { OnOk result (ServesOrRests side most (relaying_value self.old) (relaying_value self.new)) }
         ensures buffer { length buf.new ≡ 4096 }
     {
-        give_to(
-            Side::Controller,
-            &mut self.to_controller,
-            &mut self.idle,
-            most,
-            buf,
-            pair,
-        )?;
-        finish_to(
-            Side::Controller,
-            &self.to_controller,
-            &mut self.controller_finished,
-            pair,
-        )
-    }
-
-    /// Gives the client what is queued for it, and closes it for sending where that is all.
-    pub(crate) fn serve_client<P: Pair>(
-        &mut self,
-        most: u64,
-        buf: &mut [u8],
-        pair: &mut P,
-    ) -> Result<(), Stop>
-        requires few { self.old.idle < most }
-        requires buffer { length buf.old ≡ 4096 }
-        ensures goes { OnOk result ((asset : AssetOf) (desk : DeskValue) → DoesBetween asset most
-            (Giving Side.Client ∷ Finishing Side.Client ∷ [])
-            (scene (relaying_value self.old) (pair_value P.Pair pair.old) desk)
-            (scene (relaying_value self.new) (pair_value P.Pair pair.new) desk)) }
-        ensures stops { IfErr result (λ stop. (asset : AssetOf) (desk : DeskValue) → StopsBetween asset most
-            (Giving Side.Client ∷ Finishing Side.Client ∷ []) stop
-            (scene (relaying_value self.old) (pair_value P.Pair pair.old) desk)
-            (scene (relaying_value self.new) (pair_value P.Pair pair.new) desk)) }
-        ensures sound { OnOk result ((asset : AssetOf) → IsSound asset most (relaying_value self.old) → IsSound asset most
-            (relaying_value self.new)) }
-        ensures moves { OnOk result (ServesOrRests Side.Client most (relaying_value self.old) (relaying_value self.new)) }
-        ensures buffer { length buf.new ≡ 4096 }
-    {
-        give_to(
-            Side::Client,
-            &mut self.to_client,
-            &mut self.idle,
-            most,
-            buf,
-            pair,
-        )?;
-        finish_to(
-            Side::Client,
-            &self.to_client,
-            &mut self.client_finished,
-            pair,
-        )
+        let queue = self.to.of_mut(side);
+        give_to(side, queue, &mut self.idle, most, buf, pair)?;
+        finish_to(side, queue, self.finished.of_mut(side), pair)
     }
 }

@@ -31,6 +31,19 @@ pub(crate) struct Heard {
     pub(crate) letters: u64,
 }
 
+impl Heard {
+    /// Of a side of which nothing was taken.
+    pub(crate) fn none() -> Heard
+        ensures rest { result.rest.items ≡ [] }
+        ensures letters { result.letters ≡ 0 }
+    {
+        Heard {
+            rest: ArrayVec::new(),
+            letters: 0,
+        }
+    }
+}
+
 /// Keeps what is left behind so many bytes of a rest and the bytes after it.
 fn keep_rest(rest: &mut ArrayVec<u8, REST>, bytes: &[u8], used: usize)
     requires used { used ≤ length (rest.old.items ++ bytes.now) }

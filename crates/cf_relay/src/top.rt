@@ -1,5 +1,5 @@
 //! The relay: a pair of streams through the lane, in turns.
-ghost use Rattle.std.specs.Prelude.{◌≡◌, ℕ, ◌*◌, ◌<◌, ◌≤◌, ◌∷◌, [], Err, List, Option, false, true};
+ghost use Rattle.std.specs.Prelude.{◌≡◌, ℕ, ◌*◌, ◌<◌, ◌≤◌, ◌∷◌, [], Err, List, Option, true};
 ghost use Rattle.cf_audit.specs.Line.{Begun};
 ghost use Rattle.cf_lane.specs.Handled.{IsLaneOf, LaneValue, WritesLog, debt};
 ghost use Rattle.cf_lane.specs.Log.{line_about, with_lines};
@@ -12,7 +12,7 @@ ghost use Rattle.cf_policy.specs.Within.{IsAssetWithin};
 ghost use Rattle.cf_relay.specs.Answers.{with_answers};
 ghost use Rattle.cf_relay.specs.Closing.{ClosesWith, IsCutLost, StopsWith, desk_log};
 ghost use Rattle.cf_relay.specs.Ends.{IdlesRose, RelayEnds, file_log};
-ghost use Rattle.cf_relay.specs.Relaying.{AreClosed, IsSound, relaying_value};
+ghost use Rattle.cf_relay.specs.Relaying.{AreClosed, IsSound, begun_value, relaying_value};
 ghost use Rattle.cf_relay.specs.Scene.{RoseBy};
 ghost use Rattle.cf_relay.specs.Stands.{StandsFor};
 ghost use Rattle.cf_relay.specs.Taken.{StaysWhole};
@@ -21,9 +21,9 @@ ghost use Rattle.cf_stream.specs.Stream.{no_letters};
 use crate::done::{RelayDone, RelayEnd, RelayFault};
 use crate::lines::log_line;
 use crate::relaying::Relaying;
+use crate::sides::Sides;
 use crate::stop::Stop;
 use crate::take::Heard;
-use arrayvec::ArrayVec;
 use cf_audit::What;
 use cf_lane::Lane;
 use cf_outq::Outq;
@@ -178,34 +178,22 @@ fn relay_desk<P: Pair, D: Desk>(
 
 /// A relay that has met its client and was told its first moment.
 fn begun(lane: Lane, to_client: Outq, to_controller: Outq, moment: u64) -> Relaying
-    ensures { relaying_value result ≡ record {
-      lane = lane;
-      to_client = to_client;
-      to_controller = to_controller;
-      client_rest = [];
-      controller_rest = [];
-      client_letters = 0;
-      controller_letters = 0;
-      client_finished = false;
-      controller_finished = false;
-      moment = moment;
-      idle = 0;
-    } }
+    ensures { relaying_value result ≡ begun_value lane to_client to_controller moment }
 {
     Relaying {
         lane,
-        to_client,
-        to_controller,
-        from_client: Heard {
-            rest: ArrayVec::new(),
-            letters: 0,
+        to: Sides {
+            client: to_client,
+            controller: to_controller,
         },
-        from_controller: Heard {
-            rest: ArrayVec::new(),
-            letters: 0,
+        from: Sides {
+            client: Heard::none(),
+            controller: Heard::none(),
         },
-        client_finished: false,
-        controller_finished: false,
+        finished: Sides {
+            client: false,
+            controller: false,
+        },
         moment,
         idle: 0,
     }

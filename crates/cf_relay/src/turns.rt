@@ -1,11 +1,11 @@
 //! The turns of a relay.
-ghost use Rattle.std.specs.Prelude.{◌≡◌, ℕ, ◌<◌, ◌⊎◌, [], ◌∷◌, true, ◌↔◌, IfErr, IsTrue, OnOk, length};
+ghost use Rattle.std.specs.Prelude.{◌≡◌, ℕ, ◌<◌, ◌⊎◌, true, ◌↔◌, IfErr, IsTrue, OnOk, length};
 ghost use Rattle.cf_outside.specs.Desk.{DeskValue};
 ghost use Rattle.cf_policy.specs.Within.{IsAssetWithin};
-ghost use Rattle.cf_relay.specs.Relaying.{AreClosed, IsSound, ListensOrRests, progress, relaying_value};
+ghost use Rattle.cf_relay.specs.Relaying.{AreClosed, IsSound, progress, relaying_value};
 ghost use Rattle.cf_relay.specs.Scene.{DoesBetween, StopsBetween, scene_of};
 ghost use Rattle.cf_relay.specs.Taken.{StaysWhole};
-ghost use Rattle.cf_relay.specs.Turn.{Taking, Telling, turn, turns};
+ghost use Rattle.cf_relay.specs.Turn.{turn, turns};
 
 use crate::relaying::Relaying;
 use crate::stop::Stop;
@@ -48,7 +48,7 @@ impl Relaying {
     fn is_closed(&self) -> bool
         ensures { IsTrue result ↔ AreClosed (relaying_value self.now) }
     {
-        self.client_finished && self.controller_finished
+        self.finished.client && self.finished.controller
     }
 
     /// One turn: the moment; what the client and then the controller sends; what is queued for the controller and then for
@@ -76,37 +76,10 @@ impl Relaying {
         ensures whole { StaysWhole result (D.value desk.new) }
         ensures buffer { length buf.new ≡ 4096 }
     {
-        self.listen(asset, most, buf, pair, desk)?;
-        self.serve_controller(most, buf, pair)?;
-        self.serve_client(most, buf, pair)
-    }
-
-    /// The first half of a turn: the moment, and what both sides send.
-    fn listen<P: Pair, D: Desk>(
-        &mut self,
-        asset: &Asset,
-        most: u64,
-        buf: &mut [u8],
-        pair: &mut P,
-        desk: &mut D,
-    ) -> Result<(), Stop>
-        requires within { IsAssetWithin asset.now }
-        requires sound { IsSound asset.now most (relaying_value self.old) }
-        requires still { AreClosed (relaying_value self.old) → ⊥ }
-        requires whole { DeskValue.whole (D.value desk.old) ≡ true }
-        requires buffer { length buf.old ≡ 4096 }
-        ensures goes { OnOk result (DoesBetween asset.now most (Telling ∷ Taking Side.Client ∷ Taking Side.Controller ∷ [])
-            (scene_of P.Pair D.Desk self.old pair.old desk.old) (scene_of P.Pair D.Desk self.new pair.new desk.new)) }
-        ensures stops { IfErr result (λ stop. StopsBetween asset.now most
-            (Telling ∷ Taking Side.Client ∷ Taking Side.Controller ∷ []) stop
-            (scene_of P.Pair D.Desk self.old pair.old desk.old) (scene_of P.Pair D.Desk self.new pair.new desk.new)) }
-        ensures sound { OnOk result (IsSound asset.now most (relaying_value self.new)) }
-        ensures moves { OnOk result (ListensOrRests most (relaying_value self.old) (relaying_value self.new)) }
-        ensures whole { StaysWhole result (D.value desk.new) }
-        ensures buffer { length buf.new ≡ 4096 }
-    {
         self.tell(pair)?;
-        self.take_client(asset, most, buf, pair, desk)?;
-        self.take_controller(asset, most, buf, pair, desk)
+        self.take(Side::Client, asset, most, buf, pair, desk)?;
+        self.take(Side::Controller, asset, most, buf, pair, desk)?;
+        self.serve(Side::Controller, most, buf, pair)?;
+        self.serve(Side::Client, most, buf, pair)
     }
 }

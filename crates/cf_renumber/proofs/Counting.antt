@@ -37,9 +37,9 @@ module _ (v : NumbersValue) (events : List Event) (j : ℕ) (h : HasCountsOf v e
       ap (λ (xs : List Fate). acked_by_controller events + count_by is_admitted xs) h.fates
       ∙ count-uncovered (acked_by_controller events) (client_frames events) h.acked
 
-  -- the client acknowledges n more
-  pub holds_client_ack : (n : ℕ) → n ≤ length v.origins → HasCountsOf (after_client_ack v n) events (j + n)
-  holds_client_ack n l = record {
+  -- the client acknowledges n more, whatever is owed then
+  pub holds_client_ack : (owed : Option ℕ) (n : ℕ) → n ≤ length v.origins → HasCountsOf (record (after_client_ack v n) { owed = owed }) events (j + n)
+  holds_client_ack owed n l = record {
     starts = h.starts;
     runs = h.runs;
     fates = h.fates;
@@ -122,21 +122,8 @@ module _ (v : NumbersValue) (events : List Event) where
       count_from (acked_by_client events) nr ≡ acked_by_client events + n →
       IsNumbersAwaiting (record (after_client_ack v n) { owed = Some (controllers_among n v.origins) }) events nr
   awaits nr n s l e =
-      let h : HasCountsOf (after_client_ack v n) events (count_from (acked_by_client events) nr) =
-      rw e (holds_client_ack v events (acked_by_client events) s.holds n l) in
       record {
-        holds = record {
-          starts = h.starts;
-          runs = h.runs;
-          fates = h.fates;
-          origins = h.origins;
-          received = h.received;
-          admitted = h.admitted;
-          carried = h.carried;
-          sent = h.sent;
-          acked = h.acked;
-          within = h.within;
-        };
+        holds = rw e (holds_client_ack v events (acked_by_client events) s.holds (Some (controllers_among n v.origins)) n l);
         moved = controllers_among n v.origins;
         owed = refl;
         told = ap (λ (t : ℕ). t + controllers_among n v.origins) s.told ∙ sym (told_client_ack v events (acked_by_client events) s.holds n)
@@ -147,7 +134,7 @@ module _ (v : NumbersValue) (events : List Event) where
       count_from (acked_by_client events) nr ≡ acked_by_client events + n → IsNumbersOf (after_client_ack v n) (ClientAck nr ∷ events)
   stands_client_ack nr n s l e =
       let h : HasCountsOf (after_client_ack v n) events (count_from (acked_by_client events) nr) =
-      rw e (holds_client_ack v events (acked_by_client events) s.holds n l) in
+      rw e (holds_client_ack v events (acked_by_client events) s.holds v.owed n l) in
       record {
         holds = record {
           starts = h.starts;

@@ -1,8 +1,8 @@
 -- What is matched to a session fixes all that it sends and logs, in two runs.
-use Rattle.std.proofs.Common.{◌≡◌, ℕ, zero, suc, ◌+◌, ◌-◌, ◌≤◌, ◌&&◌, inl, inr, Bool, true, false, not, List, [], ◌∷◌, ◌++◌, length, cond, if◌then◌else◌, map, Option, Some, None, Result, Ok, Err, refl, sym, ap, ◌∙◌, subst, arith}
-use Rattle.std.specs.Prelude.{filter, slice_get}
+use Rattle.std.proofs.Common.{◌≡◌, ℕ, suc, ◌+◌, ◌-◌, ◌≤◌, ◌&&◌, inl, inr, Bool, true, false, not, List, [], ◌∷◌, ◌++◌, length, cond, if◌then◌else◌, map, Option, Some, None, Result, Ok, Err, refl, sym, ap, ◌∙◌, subst, arith}
+use Rattle.std.specs.Prelude.{filter}
 use Rattle.std.specs.List.{flat_map}
-use Rattle.std.proofs.lemmas.Bool.{cases_Bool, true≢false}
+use Rattle.std.proofs.lemmas.Bool.{true≢false}
 use Rattle.std.proofs.lemmas.List.{append_assoc, length-append, map-append}
 use Rattle.std.proofs.lemmas.List.Elements.{filter-append}
 use Rattle.std.proofs.lemmas.Option.{same_Some}
@@ -16,15 +16,15 @@ use Rattle.cf_session.specs.Event.{AreEvents as AreSessionEvents, IsBeginning, I
 use Rattle.cf_session.specs.Laws.{EventsAreFixed, Given, given, packet_in}
 use Rattle.cf_session.specs.Session.{Flow, SessionEvent, client_of, is_expired}
 use Rattle.cf_session.specs.Sent.{Sent, logged_second, sent_first, sent_second}
-use Rattle.cf_run.specs.Isolation.{AreMatched, DoTheSame, HasSession, NoneBegins, RunsIsolateSessions, begins_theirs, goes_to_theirs, is_flow_of, logged_by, logged_over, matched_in, matched_to, moments_of, sent_by, sent_over, ticks_of}
-use Rattle.cf_run.specs.Run.{IsRun, inputs_of}
+use Rattle.cf_run.specs.Isolation.{AreMatched, NoneBegins, RunsIsolateSessions, begins_theirs, goes_to_theirs, is_flow_of, logged_by, logged_over, matched_in, matched_to, moments_of, sent_by, sent_over, ticks_of}
+use Rattle.cf_run.specs.Run.{inputs_of}
 use Rattle.cf_run.specs.Sessions.{Each}
 use Rattle.cf_run.specs.Summary.{found}
 use Rattle.cf_run.specs.Table.{Begins, Full, Goes, Match, Outside, Session, is_between, match_of, same_endpoint, without}
 use Rattle.cf_run.specs.Trace.{AreEvents, AreTicks, Begun, Dropped, Event, GoesOnWith, Input, IsEvent, NoRoom, NoSession, Received, Receives, ReceivesRecord, Went, after_received, behind, kept, logged_received, logged_ticks, replaced, sent_received, stays, table_after, tick_of, ticked, with_events}
 use Rattle.cf_run.proofs.Matched.{same_is}
 use Rattle.cf_run.proofs.Pairs.{and_first, and_second, filter_at_most, filter_keeps, filter_swap, next_are, ticks_are, without_theirs}
-use Rattle.cf_run.proofs.Sessions.{HasGone, HasTick, IsGoing, IsTicked, OfRun, each-filter, each-ticked, of_run}
+use Rattle.cf_run.proofs.Sessions.{HasGone, HasTick, IsGoing, IsTicked, each-filter, each-ticked, of_run}
 use Rattle.cf_run.proofs.Shares.{HasNothing, HasPacket, Share, endpoint_same, share, side_of, with_nothing, with_packet}
 
 -- at each place both have the same moment

@@ -1,9 +1,9 @@
 -- The second half of an event, by what the packet is to the table.
-use Rattle.std.proofs.Common.{◌≡◌, ℕ, ◌-◌, List, Option, refl, sym, ◌∙◌, subst}
+use Rattle.std.proofs.Common.{◌≡◌, ℕ, ◌-◌, List, [], Option, refl, sym, ◌∙◌, subst}
 use Rattle.std.specs.Prelude.{slice_get}
 use Rattle.cf_packet.specs.Packet.{PacketValue}
 use Rattle.cf_policy.specs.declared.Asset.{Asset}
-use Rattle.cf_session.specs.Told.{Told}
+use Rattle.cf_session.specs.Told.{Told, with_both}
 use Rattle.cf_view.specs.declared.Side.{Side}
 use Rattle.cf_run.specs.Engine.{AreAll}
 use Rattle.cf_run.specs.Entries.{entry_match}
@@ -66,16 +66,15 @@ module _ (assets : List Asset) (limit now : ℕ) (packet : PacketValue) (before 
   went place from o e g = went_by place from o g (match_of assets table packet) refl (matched (match.Goes place from) e)
 
   module _ (same : after ≡ before) (quiet : new ≡ old) where
+    told_nothing : new ≡ with_both old [] []
+    told_nothing = quiet ∙ sym (both_nothing old)
+
+    all_stay : AreAll assets now after table
+    all_stay = subst (λ xs. AreAll assets now xs table) (sym same) all
+
     full_by : (m : Match) → match_of assets table packet ≡ m → IsMatch assets table packet match.Full m → Answers outcome.Full
-    full_by Full e is = (
-      NoRoom,
-      record {
-        receives = subst (λ x. Receives limit (now - 1) table packet x NoRoom) (sym e) tt;
-        told = quiet ∙ sym (both_nothing old);
-        all = subst (λ xs. AreAll assets now xs table) (sym same) all;
-        counts = tt;
-      },
-    )
+    full_by Full e is =
+        (NoRoom, record { receives = subst (λ x. Receives limit (now - 1) table packet x NoRoom) (sym e) tt; told = told_nothing; all = all_stay; counts = tt })
     full_by (Begins flow) e is = absurd is
     full_by (Goes at side) e is = absurd is
     full_by Outside e is = absurd is
@@ -84,15 +83,8 @@ module _ (assets : List Asset) (limit now : ℕ) (packet : PacketValue) (before 
     full e = full_by (match_of assets table packet) refl (matched match.Full e)
 
     outside_by : (m : Match) → match_of assets table packet ≡ m → IsMatch assets table packet match.Outside m → Answers outcome.Outside
-    outside_by Outside e is = (
-      NoSession,
-      record {
-        receives = subst (λ x. Receives limit (now - 1) table packet x NoSession) (sym e) tt;
-        told = quiet ∙ sym (both_nothing old);
-        all = subst (λ xs. AreAll assets now xs table) (sym same) all;
-        counts = tt;
-      },
-    )
+    outside_by Outside e is =
+        (NoSession, record { receives = subst (λ x. Receives limit (now - 1) table packet x NoSession) (sym e) tt; told = told_nothing; all = all_stay; counts = tt })
     outside_by (Begins flow) e is = absurd is
     outside_by Full e is = absurd is
     outside_by (Goes at side) e is = absurd is

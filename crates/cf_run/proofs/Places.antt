@@ -1,5 +1,5 @@
 -- What stands at a place of a file, read in two parts: the head of the record there, and then the record.
-use Rattle.std.proofs.Common.{◌≡◌, ◌≢◌, ◌+◌, ◌-◌, ◌^◌, ◌≤◌, ℕ, min, nat_lt, Bool, true, false, List, length, take, drop, slice_range, Result, refl, sym, ap, ◌∙◌, inl, inr, arith}
+use Rattle.std.proofs.Common.{◌≡◌, ◌≢◌, ◌+◌, ◌-◌, ◌^◌, ◌≤◌, ℕ, min, nat_lt, Bool, true, false, List, length, take, drop, get_or, slice_range, Result, refl, sym, ap, ◌∙◌, inl, inr, arith}
 use Rattle.std.proofs.lemmas.List.{get_or-take, length-take, length-drop, drop-take, take_all}
 use Rattle.std.proofs.lemmas.Bool.{cases_lt}
 use Rattle.std.proofs.lemmas.Bool.Decides.{nat_tests}
@@ -16,22 +16,21 @@ use Rattle.cf_run.specs.declared.record_reader.HeadAnswer.TheVariants as head
 use Rattle.cf_run.specs.declared.record_reader.NextRecord.{NextRecord}
 use Rattle.cf_run.specs.declared.record_reader.NextRecord.TheVariants as next
 
--- a number of four octets stands in the first ones
+-- four octets stand in the first ones
+octets_front : (xs : List ℕ) (m i : ℕ) → i + 4 ≤ m →
+    (get_or (take m xs) i 0 ≡ get_or xs i 0) × (get_or (take m xs) (i + 1) 0 ≡ get_or xs (i + 1) 0) × (get_or (take m xs) (i + 2) 0 ≡ get_or xs (i + 2) 0)
+    × (get_or (take m xs) (i + 2 + 1) 0 ≡ get_or xs (i + 2 + 1) 0)
+octets_front xs m i h = (
+  get_or-take m xs i 0 (omega (arith, h)),
+  get_or-take m xs (i + 1) 0 (omega (arith, h)),
+  get_or-take m xs (i + 2) 0 (omega (arith, h)),
+  get_or-take m xs (i + 2 + 1) 0 (omega (arith, h)),
+)
+
+-- so does a number of four octets
 u32_front : (big : Bool) (xs : List ℕ) (m i : ℕ) → i + 4 ≤ m → u32_at big (take m xs) i ≡ u32_at big xs i
-u32_front true xs m i h =
-    rw (
-      get_or-take m xs i 0 (omega (arith, h)),
-      get_or-take m xs (i + 1) 0 (omega (arith, h)),
-      get_or-take m xs (i + 2) 0 (omega (arith, h)),
-      get_or-take m xs (i + 2 + 1) 0 (omega (arith, h)),
-    ) refl
-u32_front false xs m i h =
-    rw (
-      get_or-take m xs i 0 (omega (arith, h)),
-      get_or-take m xs (i + 1) 0 (omega (arith, h)),
-      get_or-take m xs (i + 2) 0 (omega (arith, h)),
-      get_or-take m xs (i + 2 + 1) 0 (omega (arith, h)),
-    ) refl
+u32_front true xs m i h = let (a, b, c, d) = octets_front xs m i h in rw (a, b, c, d) refl
+u32_front false xs m i h = let (a, b, c, d) = octets_front xs m i h in rw (a, b, c, d) refl
 
 u16_front : (big : Bool) (xs : List ℕ) (m i : ℕ) → i + 2 ≤ m → u16_at big (take m xs) i ≡ u16_at big xs i
 u16_front true xs m i h = rw (get_or-take m xs i 0 (omega (arith, h)), get_or-take m xs (i + 1) 0 (omega (arith, h))) refl
@@ -133,21 +132,10 @@ module _ (file : Content) (h h' : Header) (place place' : ℕ) (same : h ≡ h')
   at_old : (found : AtPlace) → StandsAt file h place found → StandsAt file h' place' found
   at_old found s = rw (← same, ← there) s
 
-  pub head_ends : Head head.End → Stays FileEnd
-  head_ends (octets, f, e) =
-      (at_old FileEnd (stands file h place 16 octets FileEnd f (λ xs is. head_end h place xs (ap (head_at h place) (sym is) ∙ sym e))), (same, there))
-
-  pub head_is_large : Head head.Large → Stays Large
-  head_is_large (octets, f, e) =
-      (at_old Large (stands file h place 16 octets Large f (λ xs is. head_large h place xs (ap (head_at h place) (sym is) ∙ sym e))), (same, there))
-
-  pub head_is_cut : Head head.Cut → Stays Cut
-  head_is_cut (octets, f, e) =
-      (at_old Cut (stands file h place 16 octets Cut f (λ xs is. head_cut h place xs (ap (head_at h place) (sym is) ∙ sym e))), (same, there))
-
-  pub head_is_long : Head head.TooLong → Stays TooLong
-  head_is_long (octets, f, e) =
-      (at_old TooLong (stands file h place 16 octets TooLong f (λ xs is. head_long h place xs (ap (head_at h place) (sym is) ∙ sym e))), (same, there))
+  -- what the head says stands there, where it is no record's size
+  pub head_is : (answer : HeadAnswer) (found : AtPlace) → ((xs : List ℕ) → head_at h place (take 16 xs) ≡ answer → at_place h place xs ≡ found) → Head answer → Stays found
+  head_is answer found says (octets, f, e) =
+      (at_old found (stands file h place 16 octets found f (λ xs is. says xs (ap (head_at h place) (sym is) ∙ sym e))), (same, there))
 
   module _ (size : ℕ) (head_octets : List ℕ) (begun : IsFilled file place 16 head_octets) (sized : head.Size size ≡ head_at h place head_octets) where
     -- the size is that of the record which stands there

@@ -1,22 +1,21 @@
 -- What one event is to the session of a client and an asset.
-use Rattle.std.proofs.Common.{◌≡◌, ℕ, zero, suc, ◌+◌, ◌≤◌, ◌&&◌, nat_lt, inl, inr, Bool, true, false, not, List, [], ◌∷◌, ◌++◌, length, cond, if◌then◌else◌, Option, Some, None, Result, Ok, Err, refl, sym, ap, ◌∙◌, subst, arith}
+use Rattle.std.proofs.Common.{◌≡◌, ℕ, ◌&&◌, inl, inr, Bool, true, false, not, List, [], ◌∷◌, ◌++◌, cond, if◌then◌else◌, Option, Some, None, Result, Ok, Err, refl, sym, ap, ◌∙◌, subst, arith}
 use Rattle.std.specs.Prelude.{filter, position, slice_get}
 use Rattle.std.proofs.lemmas.List.{append-nil}
 use Rattle.std.proofs.lemmas.List.Elements.{filter-append}
-use Rattle.std.proofs.lemmas.Bool.{cases_Bool, true≢false}
+use Rattle.std.proofs.lemmas.Bool.{cases_Bool}
 use Rattle.std.proofs.lemmas.Bool.Decides.{nat_tests}
-use Rattle.std.proofs.lemmas.Option.{same_Some}
 use Rattle.cf_packet.specs.Packet.{PacketValue}
 use Rattle.cf_packet.specs.declared.packet.PacketRefusal.{PacketRefusal}
 use Rattle.cf_policy.specs.declared.Asset.{Asset}
 use Rattle.cf_view.specs.declared.Endpoint.{Endpoint}
 use Rattle.cf_view.specs.declared.Side.{Side}
 use Rattle.cf_view.specs.declared.Side.TheVariants as side
-use Rattle.cf_session.specs.Sent.{Sent, logged_second, sent_second}
+use Rattle.cf_session.specs.Sent.{logged_second, sent_second}
 use Rattle.cf_session.specs.Session.{Flow, SessionEvent, client_of}
 use Rattle.cf_run.specs.Isolation.{begins_theirs, goes_to_theirs, is_flow_of, is_theirs, matched_by, matched_in}
 use Rattle.cf_run.specs.Sessions.{Each}
-use Rattle.cf_run.specs.Table.{Begins, Full, Goes, Match, Outside, Session, asset_at, begins, begins_or_full, goes, goes_from_client, is_between, match_of, may_begin, place_of, same_endpoint, table_size, without, is_closed_at}
+use Rattle.cf_run.specs.Table.{Begins, Full, Goes, Match, Outside, Session, asset_at, begins, begins_or_full, goes, goes_from_client, is_between, match_of, may_begin, place_of, same_endpoint, without}
 use Rattle.cf_run.specs.Trace.{Begun, Dropped, GoesOnAt, GoesOnWith, NoRoom, NoSession, Received, Receives, ReceivesRecord, Went, after_received, behind, ends_cut, is_cut, logged_at, logged_received, replaced, sent_received, stays, with_event_at}
 use Rattle.cf_run.proofs.Matched.{same_is}
 use Rattle.cf_run.proofs.Pairs.{and_first, and_second, asset_is, changed_first, changed_other, client_is, filter_drops, filter_keeps, filter_swap, position_passes, without_other}

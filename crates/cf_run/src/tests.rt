@@ -1,6 +1,6 @@
 //! Parts of a run by hand, over files and a desk in memory.
-ghost use Rattle.std.specs.Prelude.{◌≡◌, ◌∷◌, [], IfOk};
-ghost use Rattle.cf_policy.specs.Within.{AreAssetsWithin, IsAssetWithin};
+ghost use Rattle.std.specs.Prelude.{IfOk};
+ghost use Rattle.cf_policy.specs.Within.{AreAssetsWithin};
 
 use crate::{
     Engine, NextRecord, OpenFault, Outcome, RecordReader, RunFault, RunNames, RunRefusal, Summary,
@@ -9,8 +9,9 @@ use crate::{
 use cf_outside::{MemoryDesk, MemoryFiles};
 use cf_packet::{Packet, SYN};
 use cf_pcap::HeaderRefusal;
-use cf_policy::{Action, Asset, Items, Name, Policy, Protocol, Rule, Span};
-use cf_view::{Endpoint, LinkKind};
+use cf_policy::{Items, Policy};
+use cf_samples::{CLIENT, PUMP, pump};
+use cf_view::LinkKind;
 use std::alloc::{AllocError, Global};
 use std::rt::HostRuntime;
 use std::test::Fail;
@@ -67,50 +68,7 @@ const TO_CLIENT: &[u8] =
     b"\x45\x00\x00\x28\x00\x00\x40\x00\x40\x06\x26\xc3\x0a\x00\x00\x09\x0a\x00\x00\x05\x01\xf6\xc0\x00\x00\x00\x13\x89\
     \x00\x00\x04\x01\x50\x14\x00\x00\xc2\x42\x00\x00";
 
-const CLIENT: Endpoint = Endpoint {
-    address: 0x0A00_0005,
-    port: 49_152,
-};
-
-const PUMP: Endpoint = Endpoint {
-    address: 0x0A00_0009,
-    port: 502,
-};
-
-/// The list of one span.
-fn one(alloc: Global, low: i64, high: i64) -> Result<Items<Span>, AllocError>
-    ensures { IfOk result (λ spans. spans ≡ record { low = low; high = high } ∷ []) }
-{
-    let mut items = Vec::new(alloc);
-    items.push(Span { low, high })?;
-    Ok(Items::new(items))
-}
-
-/// The asset `pump`, which allows writes of 0 to 500 to the registers 40 to 49.
-fn pump(alloc: Global) -> Result<Asset, AllocError>
-    ensures within { IfOk result (λ asset. IsAssetWithin asset) }
-{
-    let mut rules = Vec::new(alloc);
-    rules.push(Rule {
-        name: Name::from_text("set"),
-        action: Action::Allow,
-        clients: Items::new(Vec::new(alloc)),
-        codes: one(alloc, 6, 6)?,
-        groups: Items::new(Vec::new(alloc)),
-        points: one(alloc, 40, 49)?,
-        values: one(alloc, 0, 500)?,
-    })?;
-    Ok(Asset {
-        name: Name::from_text("pump"),
-        endpoint: PUMP,
-        protocol: Protocol::Modbus,
-        station: 1,
-        master: 0,
-        rules: Items::new(rules),
-    })
-}
-
-/// The policy of that asset alone.
+/// The policy of the asset `pump` alone.
 fn policy(alloc: Global) -> Result<Policy, AllocError>
     ensures within { IfOk result (λ policy. AreAssetsWithin policy.assets) }
 {

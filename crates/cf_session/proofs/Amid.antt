@@ -1,7 +1,7 @@
 -- A desk that failed amid packets and lines.
-use Rattle.std.proofs.Common.{◌≡◌, ◌<◌, ◌≤◌, ℕ, List, [], ◌∷◌, ◌++◌, length, take, map, refl, sym, ap, ◌∙◌, subst, append_assoc, arith, inl, inr, Result, Ok, Err}
+use Rattle.std.proofs.Common.{◌≡◌, ℕ, List, [], ◌∷◌, ◌++◌, length, refl, sym, ap, ◌∙◌, subst, append_assoc, arith, inl, inr, Result, Ok, Err}
 use Rattle.std.specs.Prelude.{OnErr}
-use Rattle.std.specs.List.{concat, flat_map}
+use Rattle.std.specs.List.{concat}
 use Rattle.std.proofs.Math.Seq.{take-append_seam}
 use Rattle.std.proofs.lemmas.Bool.{cases_lt}
 use Rattle.std.proofs.lemmas.Grind.{flat_map-append}
@@ -10,12 +10,12 @@ use Rattle.std.proofs.lemmas.List.Concat.{flat_map-cons}
 use Rattle.std.proofs.lemmas.List.Folds.{concat-append}
 use Rattle.cf_lane.specs.Handled.{MayHaveAdded, WritesLog}
 use Rattle.cf_leg.specs.Emitted.{BeginsNext, BreaksOff, spelled}
-use Rattle.cf_outside.specs.Desk.{DeskValue, KeepsDesk, SentValue}
+use Rattle.cf_outside.specs.Desk.{DeskValue, SentValue}
 use Rattle.cf_packet.specs.Packet.{PacketValue}
 use Rattle.cf_session.proofs.Telling.{at-append, more-none, then_told, told_lines, told_sent}
 use Rattle.cf_session.specs.Broken.{BreaksAmid, IsPartOf, KeepsParts, octets_of}
 use Rattle.cf_session.specs.Sent.{Sent, at}
-use Rattle.cf_session.specs.Told.{Told, emitted, told, with_both}
+use Rattle.cf_session.specs.Told.{emitted, told, with_both}
 
 -- what holds, holds on an error
 pub on_err : {T E : Type 0} (r : Result T E) {P : Type 0} → P → OnErr r P

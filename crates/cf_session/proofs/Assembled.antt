@@ -1,6 +1,7 @@
 -- The second half of an event of a session, from what its steps did.
 use Rattle.std.proofs.Common.{◌≡◌, ℕ, Bool, true, false, cond, ◌&&◌, ◌||◌, List, [], ◌∷◌, ◌++◌, length, drop, Option, Some, None, refl, sym, ap, ◌∙◌}
 use Rattle.std.specs.Option.{is_some, option_or}
+use Rattle.std.proofs.Math.Bool.{or-false}
 use Rattle.std.proofs.Math.Seq.{drop-append_seam}
 use Rattle.cf_audit.specs.declared.CutReason.{CutReason}
 use Rattle.cf_leg.specs.Event.{Came, Ending, Greeting, LegEvent, Nothing, Packet, Spoke, Unspoken, greeted_by, is_idle}
@@ -12,6 +13,7 @@ use Rattle.cf_packet.specs.Packet.{PacketValue}
 use Rattle.cf_view.specs.declared.Side.{Side}
 use Rattle.cf_view.specs.declared.Side.TheVariants as side
 use Rattle.cf_session.proofs.Heards.{opens_once}
+use Rattle.cf_session.proofs.Options.{or_none}
 use Rattle.cf_session.specs.Event.{AreEvents, EndsTick, IsTick, came_client, came_controller}
 use Rattle.cf_session.specs.Parts.{SessionValue}
 use Rattle.cf_session.specs.Sent.{first_line, late}
@@ -59,19 +61,11 @@ pub came_cut : (f : Flow) (es : List SessionEvent) (t : SessionEvent) (s : Side)
 came_cut f es t side.Client p x = refl
 came_cut f es t side.Controller p x = no_hello f p _
 
-or_no : {A : Type 0} (o : Option A) → option_or o None ≡ o
-or_no None = refl
-or_no (Some x) = refl
-
-or_nothing : (b : Bool) → (b || false) ≡ b
-or_nothing true = refl
-or_nothing false = refl
-
 -- before the first half came, the client was greeted exactly where the controller's leg had opened
 pub greeted_before : (f : Flow) (es : List SessionEvent) (t : SessionEvent) → IsHalf t → is_greeted (clients (t ∷ es)) ≡ opened (controller_ends f).role (controllers (t ∷ es)) → is_greeted (clients es) ≡ opened (controller_ends f).role (controllers es)
 greeted_before f es t half h =
-    sym (ap is_some (ap (λ (c : Came). greeting (record t.client { came = c } ∷ clients es)) half.client_came ∙ or_no (greeting (clients es))))
-    ∙ h ∙ ap (λ (c : Came). opened (controller_ends f).role (record t.controller { came = c } ∷ controllers es)) half.controller_came ∙ or_nothing (opened (controller_ends f).role (controllers es))
+    sym (ap is_some (ap (λ (c : Came). greeting (record t.client { came = c } ∷ clients es)) half.client_came ∙ or_none (greeting (clients es))))
+    ∙ h ∙ ap (λ (c : Came). opened (controller_ends f).role (record t.controller { came = c } ∷ controllers es)) half.controller_came ∙ or-false (opened (controller_ends f).role (controllers es))
 
 may_none : (n : ℕ) (b : Bool) (d : LegEvent) (ds : List LegEvent) → d.came ≡ Nothing → (b ≡ true → is_greeted ds ≡ false) → MayGreet (cond b (Some n) None) d ds
 may_none n true d ds none h = (none, h refl)
@@ -91,13 +85,13 @@ hello_greets f n (Some q) true = refl
 hello_greets f n (Some q) false = refl
 
 packet_greets : (o : Option PacketValue) → is_some (option_or o None) ≡ is_some o
-packet_greets o = ap is_some (or_no o)
+packet_greets o = ap is_some (or_none o)
 
 pub greeted_after : (f : Flow) (es : List SessionEvent) (t : SessionEvent) (s : Side) (p : PacketValue) (given : LegAnswer) (x y : Ending) → given ≡ answer_to (end_state (ends_of f s).role (legs_of s es) (leg_in s t)) p →
     is_greeted (clients es) ≡ opened (controller_ends f).role (controllers es) →
     is_greeted (record t.client { came = came_greeted f (number_by s given p.seq) (came_first s p); ending = y } ∷ clients es)
     ≡ opened (controller_ends f).role (record t.controller { came = came_controller s p; ending = x } ∷ controllers es)
-greeted_after f es t side.Client p given x y e same = packet_greets (greeting (clients es)) ∙ same ∙ sym (or_nothing (opened (controller_ends f).role (controllers es)))
+greeted_after f es t side.Client p given x y e same = packet_greets (greeting (clients es)) ∙ same ∙ sym (or-false (opened (controller_ends f).role (controllers es)))
 greeted_after f es t side.Controller p given x y e same =
     hello_greets f p.seq (greeting (clients es)) (is_opening given)
     ∙ ap (λ b. b || is_opening given) same

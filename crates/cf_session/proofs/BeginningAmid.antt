@@ -1,5 +1,5 @@
 -- The beginning of a session, where the desk failed amid it.
-use Rattle.std.proofs.Common.{◌≡◌, ℕ, ◌+◌, true, List, [], ◌∷◌, Option, None, refl, ap, ◌∙◌, subst, inl, inr}
+use Rattle.std.proofs.Common.{◌≡◌, ℕ, ◌+◌, true, List, [], ◌∷◌, Option, refl, ap, ◌∙◌, subst, inl, inr}
 use Rattle.cf_audit.specs.Line.{Begun}
 use Rattle.cf_lane.specs.Handled.{MayHaveAdded, WritesLog}
 use Rattle.cf_leg.specs.Calls.{Greeted, GreetingBreaks, SpeakingBreaks, greeting_as}
@@ -14,14 +14,13 @@ use Rattle.cf_outside.specs.Desk.{DeskValue, SentValue}
 use Rattle.cf_packet.specs.Packet.{PacketValue}
 use Rattle.cf_stream.specs.Stream.{no_letters}
 use Rattle.cf_session.proofs.Amid.{amid_after, amid_before, amid_lines, amid_sent, lines_leave_none}
-use Rattle.cf_session.proofs.Beginning.{EventsBegin, first_event}
+use Rattle.cf_session.proofs.Beginning.{is_first, the_first}
+use Rattle.cf_session.proofs.Legs.{EventsBegin}
 use Rattle.cf_session.specs.Broken.{BreaksBeginning, KeepsLines, KeepsParts}
-use Rattle.cf_session.specs.Event.{IsBeginning}
 use Rattle.cf_session.specs.Parts.{IsLegBetween}
 use Rattle.cf_session.specs.Sent.{at, line}
-use Rattle.cf_session.specs.Session.{Flow, SessionEvent, controller_ends}
+use Rattle.cf_session.specs.Session.{Flow, controller_ends}
 use Rattle.cf_session.specs.Told.{told, with_both}
-use Rattle.cf_session.specs.Work.{no_work}
 
 -- the SYN failed
 pub greeting_amid : (begin : EventsBegin) (ends : Ends) (number tick : ℕ) (leg : LegValue) (q : Queue) (old new : DeskValue) → ends.role ≡ role.Active number → IsLegBetween ends leg q [] →
@@ -52,22 +51,6 @@ speech_amid begin ends tick leg next q b a mid new s queue g h =
     subst (λ ps. BreaksOff (tick + 1) ps mid new) none x.breaks
 
 module _ (f : Flow) (tick : ℕ) where
-  abbrev the_first : SessionEvent
-  the_first = record { controller = first_event (controller_ends f) f.syn.seq tick; client = begun tick; fed = []; work = no_work; cut = None }
-
-  is_first : IsBeginning f tick the_first
-  is_first = record {
-    right = record {
-      controller = record { over = refl; fired = refl; came = (refl, refl); ending = refl };
-      client = record { over = refl; fired = refl; came = tt; ending = tt };
-    };
-    controller = refl;
-    client = refl;
-    fed = refl;
-    work = refl;
-    cut = refl;
-  }
-
   abbrev syns : List PacketValue
   syns = syn (controller_ends f) f.syn.seq ∷ []
 
@@ -77,8 +60,8 @@ module _ (f : Flow) (tick : ℕ) where
   module _ (old mid new : DeskValue) where
     pub syn_failed : BreaksOff (tick + 1) syns old new → new.lines ≡ old.lines → new.line_part ≡ old.line_part → BreaksBeginning f tick old new
     syn_failed h lines part = record {
-      event = the_first;
-      is_beginning = is_first;
+      event = the_first f tick;
+      is_beginning = is_first f tick;
       amid = amid_before (at (tick + 1) syns) [] [] begun_line old new (amid_sent (tick + 1) syns old new h lines part);
       order = inr (record { lines = lines; line_part = part });
     }
@@ -86,16 +69,16 @@ module _ (f : Flow) (tick : ℕ) where
     module _ (sent : told mid ≡ with_both (told old) (at (tick + 1) syns) []) (parts : KeepsParts old mid) (octets : mid.octets ≡ old.octets) where
       pub speech_failed : BreaksOff (tick + 1) [] mid new → new.lines ≡ mid.lines → new.line_part ≡ mid.line_part → KeepsLines old new → BreaksBeginning f tick old new
       speech_failed h lines part keeps = record {
-        event = the_first;
-        is_beginning = is_first;
+        event = the_first f tick;
+        is_beginning = is_first f tick;
         amid = amid_before (at (tick + 1) syns) [] [] begun_line old new (amid_after (at (tick + 1) syns) [] [] [] old mid new sent parts octets (amid_sent (tick + 1) [] mid new h lines part));
         order = inr keeps;
       }
 
       pub line_failed : MayHaveAdded begun_line mid new → WritesLog mid new → BreaksBeginning f tick old new
       line_failed h log = record {
-        event = the_first;
-        is_beginning = is_first;
+        event = the_first f tick;
+        is_beginning = is_first f tick;
         amid = amid_after (at (tick + 1) syns) [] [] begun_line old mid new sent parts octets (amid_lines begun_line mid new h log);
         order = inl (lines_leave_none (at (tick + 1) syns) [] begun_line old mid new sent parts octets h log);
       }

@@ -1,5 +1,5 @@
 -- The second half of an event of a session, whole.
-use Rattle.std.proofs.Common.{◌≡◌, ℕ, Bool, false, not, cond, ◌&&◌, List, [], ◌∷◌, ◌++◌, length, drop, inl, inr, Option, Some, None, refl, sym, ap, ◌∙◌, subst}
+use Rattle.std.proofs.Common.{◌≡◌, ℕ, ◌+◌, Bool, false, not, cond, ◌&&◌, List, [], ◌∷◌, ◌++◌, length, drop, inl, inr, Option, Some, None, refl, sym, ap, ◌∙◌, subst}
 use Rattle.std.specs.Option.{is_some, option_or}
 use Rattle.std.proofs.lemmas.List.{append-nil}
 use Rattle.cf_audit.specs.Line.{Close, Cut as CutLine}
@@ -11,7 +11,8 @@ use Rattle.cf_leg.specs.Heard.{offers, opened}
 use Rattle.cf_leg.specs.Told.{is_greeted}
 use Rattle.cf_leg.specs.LegValue.{IsLegOf, LegValue, Marks}
 use Rattle.cf_leg.specs.declared.LegAnswer.{LegAnswer}
-use Rattle.cf_outq.specs.SendQueue.{IsQueueOf, Queue, queue_length}
+use Rattle.cf_outq.specs.SendQueue.{IsQueueOf, Queue}
+use Rattle.cf_outside.specs.Desk.{DeskValue}
 use Rattle.cf_packet.specs.Packet.{PacketValue}
 use Rattle.cf_policy.specs.declared.Asset.{Asset}
 use Rattle.cf_rebuild.specs.ReceiveWindow.{Window, base_of}
@@ -19,21 +20,20 @@ use Rattle.cf_stream.specs.FirstCopy.{IsTaken, first_copy}
 use Rattle.cf_stream.specs.Stream.{Stream, letter_count}
 use Rattle.cf_view.specs.declared.Endpoint.{Endpoint}
 use Rattle.cf_view.specs.declared.Side.{Side}
-use Rattle.cf_session.proofs.Assembled.{came_cut, came_due, greeted_after, greeted_before, has_packet, is_half, later_line, new_is, rsts_are, sent_is}
+use Rattle.cf_session.proofs.Assembled.{came_cut, came_due, greeted_after, greeted_before, has_packet, is_half, later_line, may_greet, new_is, rsts_are, sent_is}
 use Rattle.cf_session.proofs.Counts.{admitted_is, refused_is}
 use Rattle.cf_session.proofs.Events.{heard_is_packet, is_event}
-use Rattle.cf_session.proofs.Heards.{Suits, are_taken, cut_is, done_is, ended_as, room_is, tick_closed}
+use Rattle.cf_session.proofs.Heards.{Suits, are_taken, cut_is, done_is, ended_as, full_of, room_is, tick_closed}
 use Rattle.cf_session.proofs.Legs.{right_of}
 use Rattle.cf_session.proofs.Telling.{then_told}
 use Rattle.cf_session.specs.Cuts.{cut_by, is_reset, packet_cut}
-use Rattle.cf_lane.specs.Limit.{limit_by}
 use Rattle.cf_session.specs.Event.{AreEvents, IsPacket, IsTick, came_controller}
 use Rattle.cf_session.specs.Parts.{AreParts, IsLaneAfter, SessionValue, rests}
 use Rattle.cf_session.specs.Sent.{at, first_line, last_line, late, line, new_lines, sent_second}
 use Rattle.cf_session.specs.Session.{Flow, SessionEvent, client_ends, client_of, clients, closed_at, controller_ends, controllers, has_room, history, is_closed, was_closed, work_of}
 use Rattle.cf_session.specs.Stands.{CountsAs, Hears, HearsBy, IsSessionOf, life_by}
 use Rattle.cf_session.specs.Told.{Told, with_both}
-use Rattle.cf_session.specs.Turn.{CutsBoth, HeardBy, OnlySpeaks, SaysBoth, came_first, came_greeted, closing_lines, greetings, heard_half, is_acknowledged, is_done_now, number_by, roomy_by}
+use Rattle.cf_session.specs.Turn.{CutsBoth, HeardBy, IsHalf, MayGreet, MaySpeak, OnlySpeaks, SaysAmid, SaysBoth, came_first, came_greeted, closing_lines, greetings, heard_half, is_acknowledged, is_done_now, number_by, roomy_by}
 use Rattle.cf_session.specs.Work.{Work, Works}
 
 abbrev pub BaseCounts : Type 0
@@ -45,21 +45,72 @@ works_of asset client lane r h w l = record { judged = l.judged; are_judged = l.
 abbrev quiet : Bool → Came → PacketValue → List PacketValue
 quiet b came rst = greeted_by came ++ cond b [] (rst ∷ [])
 
-module _ (f : Flow) (es : List SessionEvent) (t : SessionEvent) (s0 : SessionValue) (stands : IsSessionOf f es t s0) (tick : IsTick f es t.client.tick t)
-    (s : Side) (p : PacketValue) (s1 : SessionValue) (given : LegAnswer) (cut : Option CutReason) (t0 t1 : Told) (h : HeardBy f es t s p s1 given cut t0 t1)
-    (was_limit : s1.limit ≡ s0.limit) (was_source : s1.source ≡ s0.source) (was_closing : s1.closed ≡ s0.closed) (law : BaseCounts)
-    (now : ℕ) (is_now : moment t.client ≡ now) where
+-- a session that stood for its events has heard a packet of a side at a moment
+pub record HeardAt (f : Flow) (es : List SessionEvent) (t : SessionEvent) (s0 : SessionValue) (s : Side) (p : PacketValue) (s1 : SessionValue) (given : LegAnswer) (cut : Option CutReason) (t0 t1 : Told) (now : ℕ) : Type 0 where
+  pub stands : IsSessionOf f es t s0
+  pub tick : IsTick f es t.client.tick t
+  pub by : HeardBy f es t s p s1 given cut t0 t1
+  pub same : (s1.limit ≡ s0.limit) × (s1.source ≡ s0.source) × (s1.closed ≡ s0.closed)
+  pub law : BaseCounts
+  pub is_now : moment t.client ≡ now
+
+pub heard_at : {f : Flow} {es : List SessionEvent} {t : SessionEvent} {s0 : SessionValue} {s : Side} {p : PacketValue} {s1 : SessionValue} {given : LegAnswer} {cut : Option CutReason} {t0 t1 : Told} {now : ℕ} {asset : Asset} →
+    ((f : Flow) (es : List SessionEvent) (t : SessionEvent) → f.asset ≡ asset → IsHalf t → moment t.client ≡ now → AreParts f es t s0 → HeardBy f es t s p s1 given cut t0 t1) →
+    (s1.limit ≡ s0.limit) × (s1.source ≡ s0.source) × (s1.closed ≡ s0.closed) → BaseCounts → f.asset ≡ asset → IsSessionOf f es t s0 → IsTick f es t.client.tick t → moment t.client ≡ now →
+    HeardAt f es t s0 s p s1 given cut t0 t1 now
+heard_at {f} {es} {t} {s0} hears same law is stands tick at = record {
+  stands = stands;
+  tick = tick;
+  by = hears f es t is (is_half f es t s0 stands tick) at stands.parts;
+  same = same;
+  law = law;
+  is_now = at;
+}
+
+-- what a speech is of any events
+abbrev pub Speaks : (now : ℕ) (number : Option ℕ) (s : SessionValue) (Says : Flow → Option ℕ → LegEvent → List LegEvent → LegEvent → List LegEvent → Stream → Stream → Type 0) → Type 0
+Speaks now number s Says =
+    (f : Flow) (x y : LegEvent) (cs ds : List LegEvent) (w v : Stream) → now ≡ moment x → now ≡ moment y → MayGreet number y ds
+    → MaySpeak f x y cs ds w v s → Says f number x cs y ds w v
+
+module _ {f : Flow} {es : List SessionEvent} {t : SessionEvent} {s0 : SessionValue} {s : Side} {p : PacketValue} {s1 : SessionValue} {given : LegAnswer} {cut : Option CutReason} {t0 t1 : Told} {now : ℕ}
+    (heard : HeardAt f es t s0 s p s1 given cut t0 t1 now) where
+  open heard use {stands, tick, by as h, same, law, is_now}
+
+  abbrev pub half_heard : SessionEvent
+  half_heard = heard_half t s p h.letters h.work
+
   abbrev number : Option ℕ
   number = number_by s given p.seq
 
   closed_before : s1.closed ≡ closed_at f es
-  closed_before = was_closing ∙ stands.closed ∙ tick_closed f es t tick
+  closed_before = same.2 ∙ stands.closed ∙ tick_closed f es t tick
 
   pub was : is_some s1.closed ≡ was_closed f es
   was = ap is_some closed_before
 
   greeted_early : is_greeted (clients es) ≡ opened (controller_ends f).role (controllers es)
   greeted_early = greeted_before f es t (is_half f es t s0 stands tick) stands.greeted
+
+  -- the client may be greeted with the number that opened the controller's leg
+  may : MayGreet number half_heard.client (clients es)
+  may = may_greet f es t s p given h.answer_is greeted_early
+
+  speaks_here : (Says : Flow → Option ℕ → LegEvent → List LegEvent → LegEvent → List LegEvent → Stream → Stream → Type 0) (n : Option ℕ) → n ≡ number → Speaks now n s1 Says →
+      Says f number half_heard.controller (controllers es) half_heard.client (clients es) h.work.to_client h.work.to_controller
+  speaks_here Says n is says =
+      subst (λ m. Says f m half_heard.controller (controllers es) half_heard.client (clients es) h.work.to_client h.work.to_controller) is
+      (says f half_heard.controller half_heard.client (controllers es) (clients es) h.work.to_client h.work.to_controller (sym is_now ∙ ap (λ k. k + 1) (sym (is_half f es t s0 stands tick).one_tick)) (sym is_now)
+      (subst (λ m. MayGreet m half_heard.client (clients es)) (sym is) may)
+      (record { controller_stands = h.parts.controller; client_stands = h.parts.client; to_client_stands = h.parts.to_client; to_controller_stands = h.parts.to_controller }))
+
+  pub says_here : (s2 : SessionValue) (t2 : Told) {n : Option ℕ} → n ≡ number → Speaks now n s1 (λ f m x cs y ds v u. SaysBoth f now m x cs y ds v u (roomy_by s1.to_client s1.to_controller) s2 t1 t2) →
+      SaysBoth f now number half_heard.controller (controllers es) half_heard.client (clients es) h.work.to_client h.work.to_controller (roomy_by s1.to_client s1.to_controller) s2 t1 t2
+  says_here s2 t2 {n} is says = speaks_here (λ f m x cs y ds v u. SaysBoth f now m x cs y ds v u (roomy_by s1.to_client s1.to_controller) s2 t1 t2) n is says
+
+  pub amid_here : (d1 d2 : DeskValue) {n : Option ℕ} → n ≡ number → Speaks now n s1 (λ f m x cs y ds v u. SaysAmid f now m x cs y ds v u (roomy_by s1.to_client s1.to_controller) d1 d2) →
+      SaysAmid f now number half_heard.controller (controllers es) half_heard.client (clients es) h.work.to_client h.work.to_controller (roomy_by s1.to_client s1.to_controller) d1 d2
+  amid_here d1 d2 {n} is says = speaks_here (λ f m x cs y ds v u. SaysAmid f now m x cs y ds v u (roomy_by s1.to_client s1.to_controller) d1 d2) n is says
 
   pub lines_are : (e : SessionEvent) → e.work ≡ h.work → first_line f es e ++ new_lines es e ≡ h.lines
   lines_are e same =
@@ -68,8 +119,8 @@ module _ (f : Flow) (es : List SessionEvent) (t : SessionEvent) (s0 : SessionVal
       ∙ new_is (work_of es) h.work h.lines (h.log_is ∙ ap (λ (w : Work). w.log ++ h.lines) tick.work)
 
   -- ---- the event cuts the session
-  module _ (r : CutReason) (because : Some r ≡ cut_by (is_some s1.closed) (is_reset given) s cut (limit_by s1.limit (base_of s1.client.window) (base_of s1.controller.window) (queue_length s1.to_client) (queue_length s1.to_controller)))
-      (t2 : Told) (cuts : CutsBoth f (controllers es) (clients es) (heard_half t s p h.letters h.work).controller (heard_half t s p h.letters h.work).client now r t1 t2) where
+  module _ (r : CutReason) (because : Some r ≡ cut_by (is_some s1.closed) (is_reset given) s cut (full_of s1))
+      (t2 : Told) (cuts : CutsBoth f (controllers es) (clients es) half_heard.controller half_heard.client now r t1 t2) where
     loud : (is_idle (came_controller s p) && is_idle (came_first s p)) ≡ false
     loud = has_packet f s p None
 
@@ -78,7 +129,7 @@ module _ (f : Flow) (es : List SessionEvent) (t : SessionEvent) (s0 : SessionVal
 
     cut_here : Some r ≡ packet_cut f s0.limit es cut_event
     cut_here = because ∙ cut_is f es t s p s1 given cut t0 t1 h (Some r) None (inl refl) (Cut cuts.to_controller) (Cut cuts.to_client) law s1.limit (is_some s1.closed) was
-        ∙ ap (λ n. packet_cut f n es cut_event) was_limit
+        ∙ ap (λ n. packet_cut f n es cut_event) same.0
 
     pub cut_packet : IsPacket f s0.limit es t s p cut_event
     cut_packet = heard_is_packet f s0.limit es t tick.fed s p h.letters h.work (Some r) (came_controller s p) (came_first s p) (Cut cuts.to_controller) (Cut cuts.to_client)
@@ -111,11 +162,11 @@ module _ (f : Flow) (es : List SessionEvent) (t : SessionEvent) (s0 : SessionVal
     }
 
   -- ---- the session goes on
-  module _ (because : None ≡ cut_by (is_some s1.closed) (is_reset given) s cut (limit_by s1.limit (base_of s1.client.window) (base_of s1.controller.window) (queue_length s1.to_client) (queue_length s1.to_controller))) (uncut : cut ≡ None)
+  module _ (because : None ≡ cut_by (is_some s1.closed) (is_reset given) s cut (full_of s1)) (uncut : cut ≡ None)
       (s2 s3 : SessionValue) (t2 t3 : Told)
-      (says : SaysBoth f now number (heard_half t s p h.letters h.work).controller (controllers es) (heard_half t s p h.letters h.work).client (clients es) h.work.to_client h.work.to_controller (roomy_by s1.to_client s1.to_controller) s2 t1 t2)
+      (says : SaysBoth f now number half_heard.controller (controllers es) half_heard.client (clients es) h.work.to_client h.work.to_controller (roomy_by s1.to_client s1.to_controller) s2 t1 t2)
       (only : OnlySpeaks s1 s2) (queue_c : IsQueueOf s2.to_client h.work.to_client) (queue_k : IsQueueOf s2.to_controller h.work.to_controller)
-      (same : s3 ≡ record s2 { closed = s3.closed }) (closing : s3.closed ≡ option_or s2.closed (cond (is_done_now s2) (Some now) None))
+      (others : s3 ≡ record s2 { closed = s3.closed }) (closing : s3.closed ≡ option_or s2.closed (cond (is_done_now s2) (Some now) None))
       (asset : Asset) (is : f.asset ≡ asset) (put : t3 ≡ with_both t2 [] (closing_lines asset s2 now)) where
     abbrev roomy : Bool
     roomy = roomy_by s1.to_client s1.to_controller
@@ -128,7 +179,7 @@ module _ (f : Flow) (es : List SessionEvent) (t : SessionEvent) (s0 : SessionVal
 
     none_here : None ≡ packet_cut f s0.limit es live_event
     none_here = because ∙ cut_is f es t s p s1 given cut t0 t1 h None number fits (Spoke h.work.to_controller roomy says.outs_c) (Spoke h.work.to_client roomy says.outs_d) law s1.limit (is_some s1.closed) was
-        ∙ ap (λ n. packet_cut f n es live_event) was_limit
+        ∙ ap (λ n. packet_cut f n es live_event) same.0
 
     has_room_is : roomy ≡ has_room f (live_event ∷ es)
     has_room_is = room_is f es t s p s1 given cut t0 t1 h None number fits (Spoke h.work.to_controller roomy says.outs_c) (Spoke h.work.to_client roomy says.outs_d)
@@ -164,7 +215,7 @@ module _ (f : Flow) (es : List SessionEvent) (t : SessionEvent) (s0 : SessionVal
         ∙ ap (λ n. option_or (closed_at f es) (cond (is_closed f (live_event ∷ es)) (Some n) None)) (sym is_now)
 
     source_two : s2.source ≡ client_of f
-    source_two = ap (λ (x : SessionValue). x.source) only.rest ∙ was_source ∙ stands.source
+    source_two = ap (λ (x : SessionValue). x.source) only.rest ∙ same.1 ∙ stands.source
 
     lane_two : s2.lane ≡ s1.lane
     lane_two = ap (λ (x : SessionValue). x.lane) only.rest
@@ -215,7 +266,7 @@ module _ (f : Flow) (es : List SessionEvent) (t : SessionEvent) (s0 : SessionVal
     }
 
     limit_two : s2.limit ≡ s0.limit
-    limit_two = ap (λ (x : SessionValue). x.limit) only.rest ∙ was_limit
+    limit_two = ap (λ (x : SessionValue). x.limit) only.rest ∙ same.0
 
     pub stands_three : IsSessionOf f es live_event (record s2 { closed = s3.closed })
     stands_three = record {
@@ -237,7 +288,7 @@ module _ (f : Flow) (es : List SessionEvent) (t : SessionEvent) (s0 : SessionVal
     }
 
     pub lives_three : IsSessionOf f es live_event s3
-    lives_three = subst (IsSessionOf f es live_event) (sym same) stands_three
+    lives_three = subst (IsSessionOf f es live_event) (sym others) stands_three
 
 pub hears_by : (f : Flow) (limit : ℕ) (es : List SessionEvent) (t : SessionEvent) (s : Side) (p : PacketValue) (y : SessionValue) (old new : Told) (closed : Option ℕ) (e : SessionEvent) → Hears f limit es t s p old new e → IsSessionOf f es e y →
     closed ≡ closed_at f (e ∷ es) → HearsBy f limit es t s p y old new (life_by closed)

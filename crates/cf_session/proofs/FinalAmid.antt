@@ -1,41 +1,38 @@
 -- The second half of an event of a session, where the desk failed amid it.
-use Rattle.std.proofs.Common.{◌≡◌, ℕ, Bool, true, false, cond, ◌&&◌, List, [], ◌∷◌, ◌++◌, length, drop, inl, inr, Option, Some, None, refl, sym, ap, ◌∙◌, subst}
+use Rattle.std.proofs.Common.{◌≡◌, ℕ, Bool, cond, List, [], ◌∷◌, ◌++◌, length, drop, inl, inr, Option, Some, None, refl, sym, ap, ◌∙◌, subst}
 use Rattle.std.specs.Option.{is_some, option_or}
 use Rattle.std.proofs.lemmas.List.{append-nil}
 use Rattle.cf_audit.specs.Line.{Cut as CutLine}
 use Rattle.cf_audit.specs.declared.CutReason.{CutReason}
-use Rattle.cf_lane.specs.History.{ended_of, taken}
-use Rattle.cf_lane.specs.Limit.{limit_by, limit_cut}
+use Rattle.cf_lane.specs.History.{taken}
+use Rattle.cf_lane.specs.Limit.{limit_cut}
 use Rattle.cf_leg.specs.Emits.{IsRight}
-use Rattle.cf_leg.specs.Event.{Came, Cut, Ending, LegEvent, Nothing, Packet, Spoke, Unspoken, is_idle, moment}
-use Rattle.cf_leg.specs.Heard.{answer_to, end_state, offers, opened, opening}
-use Rattle.cf_leg.specs.Told.{is_greeted}
+use Rattle.cf_leg.specs.Event.{Cut, Ending, Spoke, Unspoken, moment}
+use Rattle.cf_leg.specs.Heard.{answer_to, end_state, offers}
 use Rattle.cf_leg.specs.declared.LegAnswer.{LegAnswer}
-use Rattle.cf_outq.specs.SendQueue.{IsQueueOf, queue_length}
+use Rattle.cf_outq.specs.SendQueue.{IsQueueOf}
 use Rattle.cf_outside.specs.Desk.{DeskValue}
 use Rattle.cf_packet.specs.Packet.{PacketValue}
 use Rattle.cf_policy.specs.declared.Asset.{Asset}
-use Rattle.cf_rebuild.specs.ReceiveWindow.{base_of}
 use Rattle.cf_stream.specs.FirstCopy.{IsTaken, first_copy}
-use Rattle.cf_stream.specs.Stream.{Stream}
 use Rattle.cf_view.specs.declared.Side.{Side}
 use Rattle.cf_view.specs.declared.Side.TheVariants as side
 use Rattle.cf_session.proofs.Able.{can_cut, can_hello, can_speak}
 use Rattle.cf_session.proofs.Amid.{amid_after, amid_as, amid_before}
 use Rattle.cf_session.proofs.Assembled.{came_cut, came_due, greeted_before, has_packet, is_half, later_line, may_greet, new_is, sent_is}
 use Rattle.cf_session.proofs.Events.{heard_is_packet}
-use Rattle.cf_session.proofs.Final.{BaseCounts, close_line, cut_event, cut_packet, last_cut, lines_are, live_event, live_packet, sent_cut, sent_live, was, works_of}
-use Rattle.cf_session.proofs.Heards.{Suits, are_taken, cut_is, ended_as, hello_any, resets_is, room_is}
+use Rattle.cf_session.proofs.Final.{HeardAt, close_line, cut_event, cut_packet, half_heard, last_cut, lines_are, live_event, live_packet, sent_cut, sent_live, was, works_of}
+use Rattle.cf_session.proofs.Heards.{Suits, are_taken, cut_is, ended_as, full_of, hello_any, resets_is, room_is}
 use Rattle.cf_session.specs.Broken.{BreaksAmid, BreaksPacket, KeepsParts}
-use Rattle.cf_session.specs.Cuts.{cut_by, is_reset, packet_cut, reset_cut}
-use Rattle.cf_session.specs.Event.{AreTaken, IsPacket, IsTick, came_controller}
+use Rattle.cf_session.specs.Cuts.{cut_by, is_reset, packet_cut}
+use Rattle.cf_session.specs.Event.{IsPacket, IsTick, came_controller}
 use Rattle.cf_session.specs.Parts.{SessionValue}
 use Rattle.cf_session.specs.Sent.{at, first_line, last_line, late, line, new_lines, sent_second}
 use Rattle.cf_session.specs.Session.{Flow, SessionEvent, client_ends, client_of, clients, controller_ends, controllers, has_room, history, was_closed, work_of}
 use Rattle.cf_session.specs.Stands.{IsSessionOf}
 use Rattle.cf_session.specs.Told.{Told, told, with_both}
-use Rattle.cf_session.specs.Turn.{CutsAmid, CutsBoth, HeardAmid, HeardBy, IsHalf, MayGreet, OnlySpeaks, SaysAmid, SaysBoth, came_first, came_greeted, closing_lines, ends_of, greetings, heard_event, heard_half, is_done_now, leg_in, legs_of, number_by, roomy_by}
-use Rattle.cf_session.specs.Work.{Work, Works}
+use Rattle.cf_session.specs.Turn.{CutsAmid, CutsBoth, HeardAmid, OnlySpeaks, SaysAmid, SaysBoth, came_first, came_greeted, closing_lines, ends_of, greetings, heard_event, heard_half, is_done_now, leg_in, legs_of, number_by, roomy_by}
+use Rattle.cf_session.specs.Work.{Work}
 
 module _ (f : Flow) (es : List SessionEvent) (t : SessionEvent) (s0 : SessionValue) (stands : IsSessionOf f es t s0) (tick : IsTick f es t.client.tick t) (s : Side) (p : PacketValue) where
   half_c : (from : Side) → IsRight (controller_ends f) (controllers es) (record t.controller { came = came_controller from p; ending = Unspoken })
@@ -112,88 +109,89 @@ module _ (f : Flow) (es : List SessionEvent) (t : SessionEvent) (s0 : SessionVal
     pub hear_failed : BreaksPacket f s0.limit es t s p d0 d1
     hear_failed = by_cut (packet_cut f s0.limit es half) refl
 
-  -- ---- behind them
+-- ---- behind them
 
-  module _ (s1 : SessionValue) (given : LegAnswer) (cut : Option CutReason) (d0 d1 : DeskValue) (h : HeardBy f es t s p s1 given cut (told d0) (told d1))
-      (was_limit : s1.limit ≡ s0.limit) (was_source : s1.source ≡ s0.source) (was_closing : s1.closed ≡ s0.closed) (law : BaseCounts)
-      (now : ℕ) (is_now : moment t.client ≡ now) (parts : KeepsParts d0 d1) (octets : d1.octets ≡ d0.octets) where
-    -- amid the RSTs and the line of a cut
-    module _ (r : CutReason) (because : Some r ≡ cut_by (is_some s1.closed) (is_reset given) s cut (limit_by s1.limit (base_of s1.client.window) (base_of s1.controller.window) (queue_length s1.to_client) (queue_length s1.to_controller)))
-        (d2 : DeskValue) (x : CutsAmid f (controllers es) (clients es) (heard_half t s p h.letters h.work).controller (heard_half t s p h.letters h.work).client now r d1 d2) where
-      pub cut_failed : BreaksPacket f s0.limit es t s p d0 d2
-      cut_failed =
-          let rsts = at now (x.to_controller ∷ x.to_client ∷ []) in
-          let put = line f now (CutLine r) ∷ [] in
-          let t2 = with_both (told d1) rsts put in
-          let cuts : CutsBoth f (controllers es) (clients es) (heard_half t s p h.letters h.work).controller (heard_half t s p h.letters h.work).client now r (told d1) t2 =
-          record { to_controller = x.to_controller; controller_right = x.controller_right; to_client = x.to_client; client_right = x.client_right; told = refl } in
-          let e = cut_event f es t s0 stands tick s p s1 given cut (told d0) (told d1) h was_limit was_source was_closing law now is_now r because t2 cuts in
+module _ {f : Flow} {es : List SessionEvent} {t : SessionEvent} {s0 : SessionValue} {s : Side} {p : PacketValue} {s1 : SessionValue} {given : LegAnswer} {cut : Option CutReason} {now : ℕ}
+    (d0 d1 : DeskValue) (heard : HeardAt f es t s0 s p s1 given cut (told d0) (told d1) now) (parts : KeepsParts d0 d1) (octets : d1.octets ≡ d0.octets) where
+  open heard use {tick, by as h, law, is_now}
+
+  -- amid the RSTs and the line of a cut
+  module _ (r : CutReason) (because : Some r ≡ cut_by (is_some s1.closed) (is_reset given) s cut (full_of s1))
+      (d2 : DeskValue) (x : CutsAmid f (controllers es) (clients es) (half_heard heard).controller (half_heard heard).client now r d1 d2) where
+    pub cut_failed : BreaksPacket f s0.limit es t s p d0 d2
+    cut_failed =
+        let rsts = at now (x.to_controller ∷ x.to_client ∷ []) in
+        let put = line f now (CutLine r) ∷ [] in
+        let t2 = with_both (told d1) rsts put in
+        let cuts : CutsBoth f (controllers es) (clients es) (half_heard heard).controller (half_heard heard).client now r (told d1) t2 =
+        record { to_controller = x.to_controller; controller_right = x.controller_right; to_client = x.to_client; client_right = x.client_right; told = refl } in
+        let e = cut_event heard r because t2 cuts in
+        record {
+          event = e;
+          is_packet = cut_packet heard r because t2 cuts;
+          amid = amid_as rsts (sent_second e) (h.lines ++ put) _ d0 d2
+              (sent_cut heard r because t2 cuts)
+              (ap (λ xs. xs ++ put) (sym (lines_are heard e refl))
+              ∙ ap (λ xs. (first_line f es e ++ new_lines es e) ++ xs) (sym (last_cut heard r because t2 cuts)))
+              (amid_after [] rsts h.lines put d0 d1 d2 h.told parts octets x.amid);
+        }
+
+  module _ (because : None ≡ cut_by (is_some s1.closed) (is_reset given) s cut (full_of s1)) (uncut : cut ≡ None) where
+    abbrev number : Option ℕ
+    number = number_by s given p.seq
+
+    abbrev roomy : Bool
+    roomy = roomy_by s1.to_client s1.to_controller
+
+    -- amid the speeches
+    pub speak_failed : (d2 : DeskValue) →
+        SaysAmid f now number (half_heard heard).controller (controllers es) (half_heard heard).client (clients es) h.work.to_client h.work.to_controller roomy d1 d2 →
+        BreaksPacket f s0.limit es t s p d0 d2
+    speak_failed d2 x =
+        let v = Spoke h.work.to_controller roomy x.outs_c in
+        let w = Spoke h.work.to_client roomy x.outs_d in
+        let e = ended_as f es t s p s1 given cut (told d0) (told d1) h None number v w in
+        let outs = x.outs_c ++ (greetings f number ++ x.outs_d) in
+        let closed_is : is_some s1.closed ≡ was_closed f es = was heard in
+        let room = room_is f es t s p s1 given cut (told d0) (told d1) h None number (inr refl) v w in
+        record {
+          event = e;
+          is_packet = heard_is_packet f s0.limit es t tick.fed s p h.letters h.work None (came_controller s p) (came_greeted f number (came_first s p)) v w
+              refl (came_due f es t s p given v h.answer_is) x.controller_right x.client_right
+              (are_taken f es t s p s1 given cut (told d0) (told d1) h None number (inr refl) v w) h.unended
+              (works_of f.asset (client_of f) s1.lane _ _ h.work h.parts.lane)
+              (because ∙ cut_is f es t s p s1 given cut (told d0) (told d1) h None number (inr refl) v w law s1.limit (is_some s1.closed) closed_is ∙ ap (λ n. packet_cut f n es e) heard.same.0)
+              (x.outs_c, ap (λ b. Spoke h.work.to_controller b x.outs_c) room) (x.outs_d, ap (λ b. Spoke h.work.to_client b x.outs_d) room);
+          amid = amid_as (at now outs) (sent_second e) ((h.lines ++ []) ++ last_line f es e None) _ d0 d2
+              (ap (λ n. at n outs) (sym is_now) ∙ ap (at (moment t.client)) (sent_is f t s p given h.work.to_client h.work.to_controller roomy x.outs_c x.outs_d)
+              ∙ ap (λ b. at (moment t.client) (late b e.controller ++ late b e.client)) (sym (has_packet f s p number)))
+              (ap (λ xs. xs ++ last_line f es e None) (append-nil h.lines ∙ sym (lines_are heard e refl)))
+              (amid_as (at now outs ++ []) (at now outs) _ _ d0 d2 (append-nil (at now outs)) refl
+              (amid_before (at now outs) [] (h.lines ++ []) (last_line f es e None) d0 d2 (amid_after [] (at now outs) h.lines [] d0 d1 d2 h.told parts octets x.amid)));
+        }
+
+    -- amid the line of the closing
+    module _ (s2 : SessionValue) (d2 d3 : DeskValue)
+        (says : SaysBoth f now number (half_heard heard).controller (controllers es) (half_heard heard).client (clients es) h.work.to_client h.work.to_controller roomy s2 (told d1) (told d2))
+        (only : OnlySpeaks s1 s2) (queue_c : IsQueueOf s2.to_client h.work.to_client) (queue_k : IsQueueOf s2.to_controller h.work.to_controller)
+        (asset : Asset) (is : f.asset ≡ asset) (more : KeepsParts d1 d2) (same : d2.octets ≡ d1.octets) (x : BreaksAmid [] (closing_lines asset s2 now) d2 d3) where
+      abbrev s3 : SessionValue
+      s3 = record s2 { closed = option_or s2.closed (cond (is_done_now s2) (Some now) None) }
+
+      abbrev t3 : Told
+      t3 = with_both (told d2) [] (closing_lines asset s2 now)
+
+      pub close_failed : BreaksPacket f s0.limit es t s p d0 d3
+      close_failed =
+          let e = live_event heard because uncut s2 s3 (told d2) t3 says only queue_c queue_k refl refl asset is refl in
+          let outs = at now (says.outs_c ++ (greetings f number ++ says.outs_d)) in
           record {
             event = e;
-            is_packet = cut_packet f es t s0 stands tick s p s1 given cut (told d0) (told d1) h was_limit was_source was_closing law now is_now r because t2 cuts;
-            amid = amid_as rsts (sent_second e) (h.lines ++ put) _ d0 d2
-                (sent_cut f es t s0 stands tick s p s1 given cut (told d0) (told d1) h was_limit was_source was_closing law now is_now r because t2 cuts)
-                (ap (λ xs. xs ++ put) (sym (lines_are f es t s0 stands tick s p s1 given cut (told d0) (told d1) h was_limit was_source was_closing law now is_now e refl))
-                ∙ ap (λ xs. (first_line f es e ++ new_lines es e) ++ xs) (sym (last_cut f es t s0 stands tick s p s1 given cut (told d0) (told d1) h was_limit was_source was_closing law now is_now r because t2 cuts)))
-                (amid_after [] rsts h.lines put d0 d1 d2 h.told parts octets x.amid);
+            is_packet = live_packet heard because uncut s2 s3 (told d2) t3 says only queue_c queue_k refl refl asset is refl;
+            amid = amid_as (outs ++ []) (sent_second e) (h.lines ++ closing_lines asset s2 now) _ d0 d3
+                (append-nil outs ∙ sent_live heard because uncut s2 s3 (told d2) t3 says only queue_c queue_k refl refl asset is refl)
+                (ap (λ xs. xs ++ closing_lines asset s2 now) (sym (lines_are heard e refl))
+                ∙ ap (λ xs. (first_line f es e ++ new_lines es e) ++ xs) (close_line heard because uncut s2 s3 (told d2) t3 says only queue_c queue_k refl refl asset is refl))
+                (amid_after [] (outs ++ []) h.lines (closing_lines asset s2 now) d0 d1 d3 h.told parts octets
+                (amid_after outs [] [] (closing_lines asset s2 now) d1 d2 d3 says.told more same x));
           }
-
-    module _ (because : None ≡ cut_by (is_some s1.closed) (is_reset given) s cut (limit_by s1.limit (base_of s1.client.window) (base_of s1.controller.window) (queue_length s1.to_client) (queue_length s1.to_controller))) (uncut : cut ≡ None) where
-      abbrev number : Option ℕ
-      number = number_by s given p.seq
-
-      abbrev roomy : Bool
-      roomy = roomy_by s1.to_client s1.to_controller
-
-      -- amid the speeches
-      pub speak_failed : (d2 : DeskValue) →
-          SaysAmid f now number (heard_half t s p h.letters h.work).controller (controllers es) (heard_half t s p h.letters h.work).client (clients es) h.work.to_client h.work.to_controller roomy d1 d2 →
-          BreaksPacket f s0.limit es t s p d0 d2
-      speak_failed d2 x =
-          let v = Spoke h.work.to_controller roomy x.outs_c in
-          let w = Spoke h.work.to_client roomy x.outs_d in
-          let e = ended_as f es t s p s1 given cut (told d0) (told d1) h None number v w in
-          let outs = x.outs_c ++ (greetings f number ++ x.outs_d) in
-          let closed_is : is_some s1.closed ≡ was_closed f es = was f es t s0 stands tick s p s1 given cut (told d0) (told d1) h was_limit was_source was_closing law now is_now in
-          let room = room_is f es t s p s1 given cut (told d0) (told d1) h None number (inr refl) v w in
-          record {
-            event = e;
-            is_packet = heard_is_packet f s0.limit es t tick.fed s p h.letters h.work None (came_controller s p) (came_greeted f number (came_first s p)) v w
-                refl (came_due f es t s p given v h.answer_is) x.controller_right x.client_right
-                (are_taken f es t s p s1 given cut (told d0) (told d1) h None number (inr refl) v w) h.unended
-                (works_of f.asset (client_of f) s1.lane _ _ h.work h.parts.lane)
-                (because ∙ cut_is f es t s p s1 given cut (told d0) (told d1) h None number (inr refl) v w law s1.limit (is_some s1.closed) closed_is ∙ ap (λ n. packet_cut f n es e) was_limit)
-                (x.outs_c, ap (λ b. Spoke h.work.to_controller b x.outs_c) room) (x.outs_d, ap (λ b. Spoke h.work.to_client b x.outs_d) room);
-            amid = amid_as (at now outs) (sent_second e) ((h.lines ++ []) ++ last_line f es e None) _ d0 d2
-                (ap (λ n. at n outs) (sym is_now) ∙ ap (at (moment t.client)) (sent_is f t s p given h.work.to_client h.work.to_controller roomy x.outs_c x.outs_d)
-                ∙ ap (λ b. at (moment t.client) (late b e.controller ++ late b e.client)) (sym (has_packet f s p number)))
-                (ap (λ xs. xs ++ last_line f es e None) (append-nil h.lines ∙ sym (lines_are f es t s0 stands tick s p s1 given cut (told d0) (told d1) h was_limit was_source was_closing law now is_now e refl)))
-                (amid_as (at now outs ++ []) (at now outs) _ _ d0 d2 (append-nil (at now outs)) refl
-                (amid_before (at now outs) [] (h.lines ++ []) (last_line f es e None) d0 d2 (amid_after [] (at now outs) h.lines [] d0 d1 d2 h.told parts octets x.amid)));
-          }
-
-      -- amid the line of the closing
-      module _ (s2 : SessionValue) (d2 d3 : DeskValue)
-          (says : SaysBoth f now number (heard_half t s p h.letters h.work).controller (controllers es) (heard_half t s p h.letters h.work).client (clients es) h.work.to_client h.work.to_controller roomy s2 (told d1) (told d2))
-          (only : OnlySpeaks s1 s2) (queue_c : IsQueueOf s2.to_client h.work.to_client) (queue_k : IsQueueOf s2.to_controller h.work.to_controller)
-          (asset : Asset) (is : f.asset ≡ asset) (more : KeepsParts d1 d2) (same : d2.octets ≡ d1.octets) (x : BreaksAmid [] (closing_lines asset s2 now) d2 d3) where
-        abbrev s3 : SessionValue
-        s3 = record s2 { closed = option_or s2.closed (cond (is_done_now s2) (Some now) None) }
-
-        abbrev t3 : Told
-        t3 = with_both (told d2) [] (closing_lines asset s2 now)
-
-        pub close_failed : BreaksPacket f s0.limit es t s p d0 d3
-        close_failed =
-            let e = live_event f es t s0 stands tick s p s1 given cut (told d0) (told d1) h was_limit was_source was_closing law now is_now because uncut s2 s3 (told d2) t3 says only queue_c queue_k refl refl asset is refl in
-            let outs = at now (says.outs_c ++ (greetings f number ++ says.outs_d)) in
-            record {
-              event = e;
-              is_packet = live_packet f es t s0 stands tick s p s1 given cut (told d0) (told d1) h was_limit was_source was_closing law now is_now because uncut s2 s3 (told d2) t3 says only queue_c queue_k refl refl asset is refl;
-              amid = amid_as (outs ++ []) (sent_second e) (h.lines ++ closing_lines asset s2 now) _ d0 d3
-                  (append-nil outs ∙ sent_live f es t s0 stands tick s p s1 given cut (told d0) (told d1) h was_limit was_source was_closing law now is_now because uncut s2 s3 (told d2) t3 says only queue_c queue_k refl refl asset is refl)
-                  (ap (λ xs. xs ++ closing_lines asset s2 now) (sym (lines_are f es t s0 stands tick s p s1 given cut (told d0) (told d1) h was_limit was_source was_closing law now is_now e refl))
-                  ∙ ap (λ xs. (first_line f es e ++ new_lines es e) ++ xs) (close_line f es t s0 stands tick s p s1 given cut (told d0) (told d1) h was_limit was_source was_closing law now is_now because uncut s2 s3 (told d2) t3 says only queue_c queue_k refl refl asset is refl))
-                  (amid_after [] (outs ++ []) h.lines (closing_lines asset s2 now) d0 d1 d3 h.told parts octets
-                  (amid_after outs [] [] (closing_lines asset s2 now) d1 d2 d3 says.told more same x));
-            }

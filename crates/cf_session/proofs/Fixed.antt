@@ -126,132 +126,85 @@ same_packet_ending : (c : Option CutReason) (w : Stream) (r : Bool) (x y : Endin
 same_packet_ending None w r x y h g = subst (λ z. SameEnding z y) (sym h.1) (subst (SameEnding (Spoke w r h.0)) (sym g.1) (refl, refl))
 same_packet_ending (Some c) w r x y h g = subst (λ z. SameEnding z y) (sym h.1) (subst (SameEnding (Cut h.0)) (sym g.1) tt)
 
-module _ (now : ℕ) where
-  same_offers : (r : Role) (es : List LegEvent) (a b : LegEvent) → a.fired ≡ b.fired → a.came ≡ b.came → a.tick ≡ b.tick → offers r (a ∷ es) ≡ offers r (b ∷ es)
-  same_offers r es a b p q t = rw (p, q) refl
-
-module _ (one : WorkIsOne) (f : Flow) (limit : ℕ) (es : List SessionEvent) (leg : LegsAreFixed f es) (before : SessionEvent) (p : PacketValue) (a b : SessionEvent)
-    (h : IsPacket f limit es before side.Client p a) (g : IsPacket f limit es before side.Client p b) where
-  -- a packet of the client: both legs' inputs are fixed at once
-  client_inputs : (a.client.tick ≡ b.client.tick) × (a.client.ticked ≡ b.client.ticked) × (a.client.came ≡ b.client.came)
-  client_inputs = (h.client_on.0 ∙ sym g.client_on.0, h.client_on.1 ∙ sym g.client_on.1, h.client_came ∙ sym g.client_came)
-
-  controller_inputs : (a.controller.tick ≡ b.controller.tick) × (a.controller.ticked ≡ b.controller.ticked) × (a.controller.came ≡ b.controller.came)
-  controller_inputs = (h.controller_on.0 ∙ sym g.controller_on.0, h.controller_on.1 ∙ sym g.controller_on.1, h.controller_came ∙ sym g.controller_came)
-
-  client_fired : a.client.fired ≡ b.client.fired
-  client_fired = same_fired (client_ends f) (clients es) a.client b.client h.right.client g.right.client client_inputs.0 client_inputs.1
-
-  controller_fired : a.controller.fired ≡ b.controller.fired
-  controller_fired = same_fired (controller_ends f) (controllers es) a.controller b.controller h.right.controller g.right.controller controller_inputs.0 controller_inputs.1
-
-  client_taken : taken side.Client (history (a ∷ es)) ≡ taken side.Client (history (b ∷ es))
-  client_taken =
-      let same = same_offers 0 (client_ends f).role (clients es) a.client b.client client_fired client_inputs.2 client_inputs.0 in
-      same_taken (first_copy (offers (client_ends f).role (b.client ∷ clients es))) (taken side.Client (history (a ∷ es))) (taken side.Client (history (b ∷ es)))
-      (subst (λ os. IsTaken (first_copy os) (taken side.Client (history (a ∷ es)))) same h.taken.client) g.taken.client
-
-  client_fed : a.fed ≡ b.fed
-  client_fed =
-      let now = b.client.tick + 1 in
-      fed_fixed now side.Client (history es) a.fed b.fed h.fed.0 g.fed.0 (h.fed.1 ∙ ap (λ t. fed_at (t + 1) side.Client h.fed.0) client_inputs.0) g.fed.1 h.unended g.unended client_taken
-
-  client_work : a.work ≡ b.work
-  client_work = one f.asset (client_of f) (history (b ∷ es)) a.work b.work (subst (λ x. Works f.asset (client_of f) (history es ++ x) a.work) client_fed h.work) g.work
-
-  client_cut : a.cut ≡ b.cut
-  client_cut = h.cut ∙ (let e : packet_cut f limit es a ≡ packet_cut f limit es b = rw (client_fired, controller_fired, client_inputs.2, controller_inputs.2, client_work, client_fed) refl in e) ∙ sym g.cut
-
-  client_room : has_room f (a ∷ es) ≡ has_room f (b ∷ es)
-  client_room = rw (client_fired, controller_fired, client_inputs.2, controller_inputs.2, client_work) refl
-
-  pub client_packet_is_fixed : a ≡ b
-  client_packet_is_fixed =
-      let P : Option CutReason → Type 0 = λ c. EndsPacket c a.work.to_controller (has_room f (a ∷ es)) a.controller.ending in
-      let Q : Option CutReason → Type 0 = λ c. EndsPacket c a.work.to_client (has_room f (a ∷ es)) a.client.ending in
-      let R : Work → Type 0 = λ w. EndsPacket b.cut w.to_controller (has_room f (b ∷ es)) a.controller.ending in
-      let S : Work → Type 0 = λ w. EndsPacket b.cut w.to_client (has_room f (b ∷ es)) a.client.ending in
-      let x = subst R client_work (subst (λ r. EndsPacket b.cut a.work.to_controller r a.controller.ending) client_room (subst P client_cut h.controller_ending)) in
-      let y = subst S client_work (subst (λ r. EndsPacket b.cut a.work.to_client r a.client.ending) client_room (subst Q client_cut h.client_ending)) in
-      same_event a b
-      (leg.0 a.controller b.controller h.right.controller g.right.controller controller_inputs.0 controller_inputs.1 controller_inputs.2
-      (same_packet_ending b.cut b.work.to_controller (has_room f (b ∷ es)) a.controller.ending b.controller.ending x g.controller_ending))
-      (leg.1 a.client b.client h.right.client g.right.client client_inputs.0 client_inputs.1 client_inputs.2
-      (same_packet_ending b.cut b.work.to_client (has_room f (b ∷ es)) a.client.ending b.client.ending y g.client_ending))
-      client_fed client_work client_cut
+-- what is taken of a side is fixed by what came on its leg
+leg_taken : (s : Side) (r : Role) (es : List LegEvent) (x y : LegEvent) (h g : List Element) → x.fired ≡ y.fired → x.came ≡ y.came → IsTaken (first_copy (offers r (x ∷ es))) (taken s h) → IsTaken (first_copy (offers r (y ∷ es))) (taken s g) → taken s h ≡ taken s g
+leg_taken s r es x y h g fired came a b =
+    let same : offers r (x ∷ es) ≡ offers r (y ∷ es) = rw (fired, came) refl in
+    same_taken (first_copy (offers r (y ∷ es))) (taken s h) (taken s g) (subst (λ os. IsTaken (first_copy os) (taken s h)) same a) b
 
 -- a leg that is greeted, or to which nothing comes, is not reset
 no_reset : (f : Flow) (r : Role) (es : List LegEvent) (e : LegEvent) (p : PacketValue) (b : Bool) → e.came ≡ came_client f side.Controller p b → resets r es e e.came ≡ false
 no_reset f r es e p true c = ap (resets r es e) c
 no_reset f r es e p false c = ap (resets r es e) c
 
-module _ (one : WorkIsOne) (f : Flow) (limit : ℕ) (es : List SessionEvent) (leg : LegsAreFixed f es) (before : SessionEvent) (p : PacketValue) (a b : SessionEvent)
-    (h : IsPacket f limit es before side.Controller p a) (g : IsPacket f limit es before side.Controller p b) where
+module _ (f : Flow) (limit : ℕ) (es : List SessionEvent) (before : SessionEvent) (p : PacketValue) (a b : SessionEvent) where
+  own_taken : (s : Side) → IsPacket f limit es before s p a → IsPacket f limit es before s p b → a.client.fired ≡ b.client.fired → a.controller.fired ≡ b.controller.fired → taken s (history (a ∷ es)) ≡ taken s (history (b ∷ es))
+  own_taken side.Client h g client controller =
+      leg_taken side.Client (client_ends f).role (clients es) a.client b.client (history (a ∷ es)) (history (b ∷ es)) client (h.client_came ∙ sym g.client_came) h.taken.client g.taken.client
+  own_taken side.Controller h g client controller =
+      leg_taken side.Controller (controller_ends f).role (controllers es) a.controller b.controller (history (a ∷ es)) (history (b ∷ es)) controller (h.controller_came ∙ sym g.controller_came) h.taken.controller g.taken.controller
+
+  client_reset : (s : Side) → IsPacket f limit es before s p a → IsPacket f limit es before s p b → a.client.fired ≡ b.client.fired →
+      resets (client_ends f).role (clients es) a.client a.client.came ≡ resets (client_ends f).role (clients es) b.client b.client.came
+  client_reset side.Client h g fired = rw (fired, h.client_came, g.client_came) refl
+  client_reset side.Controller h g fired = no_reset f (client_ends f).role (clients es) a.client p _ h.client_came ∙ sym (no_reset f (client_ends f).role (clients es) b.client p _ g.client_came)
+
+module _ (one : WorkIsOne) (f : Flow) (limit : ℕ) (es : List SessionEvent) (leg : LegsAreFixed f es) (before : SessionEvent) (s : Side) (p : PacketValue) (a b : SessionEvent)
+    (h : IsPacket f limit es before s p a) (g : IsPacket f limit es before s p b) where
   client_on : (a.client.tick ≡ b.client.tick) × (a.client.ticked ≡ b.client.ticked)
   client_on = (h.client_on.0 ∙ sym g.client_on.0, h.client_on.1 ∙ sym g.client_on.1)
 
   controller_given : (a.controller.tick ≡ b.controller.tick) × (a.controller.ticked ≡ b.controller.ticked) × (a.controller.came ≡ b.controller.came)
   controller_given = (h.controller_on.0 ∙ sym g.controller_on.0, h.controller_on.1 ∙ sym g.controller_on.1, h.controller_came ∙ sym g.controller_came)
 
-  fired_client : a.client.fired ≡ b.client.fired
-  fired_client = same_fired (client_ends f) (clients es) a.client b.client h.right.client g.right.client client_on.0 client_on.1
+  client_fired : a.client.fired ≡ b.client.fired
+  client_fired = same_fired (client_ends f) (clients es) a.client b.client h.right.client g.right.client client_on.0 client_on.1
 
-  fired_controller : a.controller.fired ≡ b.controller.fired
-  fired_controller = same_fired (controller_ends f) (controllers es) a.controller b.controller h.right.controller g.right.controller controller_given.0 controller_given.1
+  controller_fired : a.controller.fired ≡ b.controller.fired
+  controller_fired = same_fired (controller_ends f) (controllers es) a.controller b.controller h.right.controller g.right.controller controller_given.0 controller_given.1
 
-  controller_taken : taken side.Controller (history (a ∷ es)) ≡ taken side.Controller (history (b ∷ es))
-  controller_taken =
-      let same = same_offers 0 (controller_ends f).role (controllers es) a.controller b.controller fired_controller controller_given.2 controller_given.0 in
-      same_taken (first_copy (offers (controller_ends f).role (b.controller ∷ controllers es))) (taken side.Controller (history (a ∷ es))) (taken side.Controller (history (b ∷ es)))
-      (subst (λ os. IsTaken (first_copy os) (taken side.Controller (history (a ∷ es)))) same h.taken.controller) g.taken.controller
+  fed_same : a.fed ≡ b.fed
+  fed_same =
+      fed_fixed (b.client.tick + 1) s (history es) a.fed b.fed h.fed.0 g.fed.0 (h.fed.1 ∙ ap (λ t. fed_at (t + 1) s h.fed.0) client_on.0) g.fed.1 h.unended g.unended
+      (own_taken f limit es before p a b s h g client_fired controller_fired)
 
-  controller_fed : a.fed ≡ b.fed
-  controller_fed =
-      let now = b.client.tick + 1 in
-      fed_fixed now side.Controller (history es) a.fed b.fed h.fed.0 g.fed.0 (h.fed.1 ∙ ap (λ t. fed_at (t + 1) side.Controller h.fed.0) client_on.0) g.fed.1 h.unended g.unended controller_taken
+  work_same : a.work ≡ b.work
+  work_same = one f.asset (client_of f) (history (b ∷ es)) a.work b.work (subst (λ x. Works f.asset (client_of f) (history es ++ x) a.work) fed_same h.work) g.work
 
-  controller_work : a.work ≡ b.work
-  controller_work = one f.asset (client_of f) (history (b ∷ es)) a.work b.work (subst (λ x. Works f.asset (client_of f) (history es ++ x) a.work) controller_fed h.work) g.work
-
-  controller_cut : a.cut ≡ b.cut
-  controller_cut =
-      let x = no_reset f (client_ends f).role (clients es) a.client p _ h.client_came in
-      let y = no_reset f (client_ends f).role (clients es) b.client p _ g.client_came in
-      h.cut ∙ (let e : packet_cut f limit es a ≡ packet_cut f limit es b = rw (x, y, fired_controller, controller_given.2, controller_work, controller_fed) refl in e) ∙ sym g.cut
+  cut_same : a.cut ≡ b.cut
+  cut_same =
+      let reset = client_reset f limit es before p a b s h g client_fired in
+      h.cut ∙ (let e : packet_cut f limit es a ≡ packet_cut f limit es b = rw (reset, controller_fired, controller_given.2, work_same, fed_same) refl in e) ∙ sym g.cut
 
   opens_same : opening (controller_ends f).role (controllers es) a.controller ≡ opening (controller_ends f).role (controllers es) b.controller
-  opens_same = rw (fired_controller, controller_given.2) refl
+  opens_same = rw (controller_fired, controller_given.2) refl
 
   client_same : a.client.came ≡ b.client.came
-  client_same = h.client_came ∙ (let e : came_client f side.Controller p (opening (controller_ends f).role (controllers es) a.controller && is_none a.cut) ≡ came_client f side.Controller p (opening (controller_ends f).role (controllers es) b.controller && is_none b.cut) = rw (opens_same, controller_cut) refl in e) ∙ sym g.client_came
+  client_same = h.client_came ∙ (let e : came_client f s p (opening (controller_ends f).role (controllers es) a.controller && is_none a.cut) ≡ came_client f s p (opening (controller_ends f).role (controllers es) b.controller && is_none b.cut) = rw (opens_same, cut_same) refl in e) ∙ sym g.client_came
 
   room_same : has_room f (a ∷ es) ≡ has_room f (b ∷ es)
-  room_same = rw (fired_client, fired_controller, client_same, controller_given.2, controller_work) refl
+  room_same = rw (client_fired, controller_fired, client_same, controller_given.2, work_same) refl
 
-  pub controller_packet_is_fixed : a ≡ b
-  controller_packet_is_fixed =
+  -- one second half
+  pub packet_is_fixed : a ≡ b
+  packet_is_fixed =
       let P : Option CutReason → Type 0 = λ c. EndsPacket c a.work.to_controller (has_room f (a ∷ es)) a.controller.ending in
       let Q : Option CutReason → Type 0 = λ c. EndsPacket c a.work.to_client (has_room f (a ∷ es)) a.client.ending in
       let R : Work → Type 0 = λ w. EndsPacket b.cut w.to_controller (has_room f (b ∷ es)) a.controller.ending in
       let S : Work → Type 0 = λ w. EndsPacket b.cut w.to_client (has_room f (b ∷ es)) a.client.ending in
-      let x = subst R controller_work (subst (λ r. EndsPacket b.cut a.work.to_controller r a.controller.ending) room_same (subst P controller_cut h.controller_ending)) in
-      let y = subst S controller_work (subst (λ r. EndsPacket b.cut a.work.to_client r a.client.ending) room_same (subst Q controller_cut h.client_ending)) in
+      let x = subst R work_same (subst (λ r. EndsPacket b.cut a.work.to_controller r a.controller.ending) room_same (subst P cut_same h.controller_ending)) in
+      let y = subst S work_same (subst (λ r. EndsPacket b.cut a.work.to_client r a.client.ending) room_same (subst Q cut_same h.client_ending)) in
       same_event a b
       (leg.0 a.controller b.controller h.right.controller g.right.controller controller_given.0 controller_given.1 controller_given.2
       (same_packet_ending b.cut b.work.to_controller (has_room f (b ∷ es)) a.controller.ending b.controller.ending x g.controller_ending))
       (leg.1 a.client b.client h.right.client g.right.client client_on.0 client_on.1 client_same
       (same_packet_ending b.cut b.work.to_client (has_room f (b ∷ es)) a.client.ending b.client.ending y g.client_ending))
-      controller_fed controller_work controller_cut
+      fed_same work_same cut_same
 
 -- ---- the beginning
 
 pub beginning_is_fixed : (f : Flow) (tick : ℕ) (a b : SessionEvent) → IsBeginning f tick a → IsBeginning f tick b → a ≡ b
 beginning_is_fixed f tick a b h g = same_event a b (h.controller ∙ sym g.controller) (h.client ∙ sym g.client) (h.fed ∙ sym g.fed) (h.work ∙ sym g.work) (h.cut ∙ sym g.cut)
-
-pub packet_is_fixed : (one : WorkIsOne) (f : Flow) (limit : ℕ) (es : List SessionEvent) (leg : LegsAreFixed f es) (before : SessionEvent) (s : Side) (p : PacketValue) (a b : SessionEvent) →
-    IsPacket f limit es before s p a → IsPacket f limit es before s p b → a ≡ b
-packet_is_fixed one f limit es leg before side.Client p a b h g = client_packet_is_fixed one f limit es leg before p a b h g
-packet_is_fixed one f limit es leg before side.Controller p a b h g = controller_packet_is_fixed one f limit es leg before p a b h g
 
 -- ---- all events of a session
 

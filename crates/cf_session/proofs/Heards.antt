@@ -1,5 +1,5 @@
 -- The second half of an event of a session: what a packet of a side fixes, however the event ends.
-use Rattle.std.proofs.Common.{◌≡◌, ℕ, ◌+◌, ◌-◌, ◌==◌, ◌≤◌, Bool, true, false, not, cond, ◌&&◌, ◌||◌, List, [], ◌∷◌, length, ◌⊎◌, inl, inr, Option, Some, None, refl, sym, ap, ◌∙◌, subst, arith}
+use Rattle.std.proofs.Common.{◌≡◌, ℕ, ◌+◌, ◌-◌, ◌==◌, ◌≤◌, Bool, true, false, not, cond, ◌&&◌, List, [], ◌∷◌, length, ◌⊎◌, inl, inr, Option, Some, None, refl, sym, ap, ◌∙◌, subst, arith}
 use Rattle.std.specs.Prelude.{nat_le}
 use Rattle.std.specs.Option.{option_or}
 use Rattle.std.proofs.lemmas.Bool.{false≢true}
@@ -24,6 +24,7 @@ use Rattle.cf_stream.specs.Stream.{Stream, letter_count}
 use Rattle.cf_view.specs.declared.Side.{Side}
 use Rattle.cf_view.specs.declared.Side.TheVariants as side
 use Rattle.cf_session.proofs.Events.{before_history}
+use Rattle.cf_session.proofs.Options.{later_same}
 use Rattle.cf_session.specs.Cuts.{cut_by, is_reset, packet_cut, reset_by, reset_cut, resets}
 use Rattle.cf_lane.specs.Limit.{limit_by, limit_cut}
 use Rattle.cf_session.specs.Event.{AreTaken, IsTick, came_controller}
@@ -52,6 +53,10 @@ hello_any F f s p given n number (inl e) h = ap (λ m. F (came_greeted f m (came
 hello_any F f s p given n number (inr e) h = ap (λ m. F (came_greeted f m (came_first s p))) e ∙ hello_same F f s p given n h
 
 -- ---- numbers
+
+-- why a full stream cuts a session in memory, if one is
+abbrev pub full_of : SessionValue → Option CutReason
+full_of s = limit_by s.limit (base_of s.client.window) (base_of s.controller.window) (queue_length s.to_client) (queue_length s.to_controller)
 
 pub length_is : (q : Queue) (s : Stream) → IsQueueOf q s → queue_length q ≡ letter_count s
 length_is q s h = ap (λ n. n + cond q.ended 1 0) h.pushed ∙ ap (λ b. length s.bytes + cond b 1 0) h.ended
@@ -97,19 +102,6 @@ opens_once r es e p h = by_open (opened r es) (end_state r es e) p h
 
 -- ---- the event
 
-or_nothing : (b : Bool) → (b || false) ≡ b
-or_nothing true = refl
-or_nothing false = refl
-
-or_none : {A : Type 0} (o : Option A) → option_or o None ≡ o
-or_none None = refl
-or_none (Some x) = refl
-
-later_closed : (before : Option ℕ) (closed : Bool) (m n : ℕ) → option_or (option_or before (cond closed (Some m) None)) (cond closed (Some n) None) ≡ option_or before (cond closed (Some m) None)
-later_closed (Some k) closed m n = refl
-later_closed None true m n = refl
-later_closed None false m n = refl
-
 -- a first half closes nothing
 module _ (f : Flow) (es : List SessionEvent) (t : SessionEvent) (tick : IsTick f es t.client.tick t) where
   abbrev closed_by : List Element → Work → ℕ → ℕ → Bool
@@ -126,7 +118,7 @@ pub tick_closed : (f : Flow) (es : List SessionEvent) (t : SessionEvent) → IsT
 tick_closed f [] t tick = ap (λ b. cond b (Some (moment t.client)) None) (same_closed f [] t tick)
 tick_closed f (e0 ∷ es0) t tick =
     ap (λ b. option_or (closed_at f (e0 ∷ es0)) (cond b (Some (moment t.client)) None)) (same_closed f (e0 ∷ es0) t tick)
-    ∙ later_closed (closed_at f es0) (is_closed f (e0 ∷ es0)) (moment e0.client) (moment t.client)
+    ∙ later_same (closed_at f es0) (is_closed f (e0 ∷ es0)) (moment e0.client) (moment t.client)
 
 only_none : (given : LegAnswer) (n : ℕ) (number : Option ℕ) → Suits side.Client given n number → number ≡ None
 only_none given n number (inl e) = e

@@ -1,5 +1,6 @@
 -- A packet is heard.
 use Rattle.std.proofs.Common.{◌≡◌, ℕ, Bool, true, false, cond, ◌||◌, List, [], ◌∷◌, ◌++◌, refl, sym, ap, ◌∙◌, subst}
+use Rattle.std.proofs.lemmas.Bool.{true≢false}
 use Rattle.std.proofs.lemmas.List.{append-nil, append_cancel_left}
 use Rattle.cf_leg.specs.Calls.{Continues, Heard, Newly, with_letters}
 use Rattle.cf_leg.specs.Event.{LegEvent, Nothing, Packet, Unspoken, moment}
@@ -9,13 +10,13 @@ use Rattle.cf_leg.specs.declared.Ends.{Ends}
 use Rattle.cf_leg.specs.declared.LegAnswer.{LegAnswer}
 use Rattle.cf_outq.specs.SendQueue.{Queue}
 use Rattle.cf_packet.specs.Packet.{PacketValue}
-use Rattle.cf_rebuild.specs.ReceiveWindow.{IsWindowOf, Window}
-use Rattle.cf_stream.proofs.Taken.{same_taken}
-use Rattle.cf_stream.specs.FirstCopy.{IsTaken, Offer, first_copy}
-use Rattle.cf_stream.specs.Stream.{Stream, no_letters}
+use Rattle.cf_rebuild.specs.ReceiveWindow.{Window}
+use Rattle.cf_stream.specs.FirstCopy.{IsTaken, first_copy}
+use Rattle.cf_stream.specs.Stream.{Stream, letter_count, no_letters}
 use Rattle.cf_view.specs.declared.Side.{Side}
 use Rattle.cf_view.specs.declared.Side.TheVariants as side
 use Rattle.cf_lane.specs.Follows.{Rests, rest_of, with_rest}
+use Rattle.cf_session.proofs.Heards.{window_ended}
 use Rattle.cf_session.specs.Parts.{IsLegBetween, own_queue}
 use Rattle.cf_session.specs.Turn.{IsPushed}
 
@@ -26,9 +27,6 @@ pub record Took (ends : Ends) (e : LegEvent) (es : List LegEvent) (p : PacketVal
   pub on : (t : Stream) → IsTaken (first_copy (offers ends.role es)) t → IsTaken (first_copy (offers ends.role (record e { came = Packet p; ending = Unspoken } ∷ es))) (with_letters t letters)
   pub ended_same : (t : Stream) → IsTaken (first_copy (offers ends.role es)) t → leg.window.ended ≡ t.ended
 
-window_ended : (w : Window) (os : List Offer) (t : Stream) → IsWindowOf w os → IsTaken (first_copy os) t → w.ended ≡ t.ended
-window_ended w os t h g = h.ended ∙ ap (λ (s : Stream). s.ended) (same_taken (first_copy os) h.taken t h.is_taken g)
-
 took_own : (leg new : LegValue) (q q' : Queue) (answer : LegAnswer) (now : ℕ) (e : LegEvent) (es : List LegEvent) (p : PacketValue) → Heard now p leg new q q' answer → (n : Newly now p leg new q) → new.ends ≡ leg.ends → now ≡ moment e →
     IsLegOf leg (marks q) (record e { came = Nothing; ending = Unspoken } ∷ es) → Took leg.ends e es p leg new q' answer n.letters
 took_own leg new q q' answer now e es p h n same at s = record {
@@ -38,17 +36,31 @@ took_own leg new q q' answer now e es p h n same at s = record {
   ended_same = λ t g. window_ended leg.window (offers leg.ends.role es) t s.of_window g;
 }
 
-pub took : (ends : Ends) (leg new : LegValue) (q q' : Queue) (answer : LegAnswer) (now : ℕ) (e : LegEvent) (es : List LegEvent) (p : PacketValue) → Heard now p leg new q q' answer → (n : Newly now p leg new q) → new.ends ≡ leg.ends → now ≡ moment e →
+pub took : {ends : Ends} {leg new : LegValue} {q q' : Queue} {answer : LegAnswer} {now : ℕ} {es : List LegEvent} {p : PacketValue} (e : LegEvent) → Heard now p leg new q q' answer → (n : Newly now p leg new q) → new.ends ≡ leg.ends → now ≡ moment e →
     IsLegBetween ends leg q (record e { came = Nothing; ending = Unspoken } ∷ es) → Took ends e es p leg new q' answer n.letters
-took ends leg new q q' answer now e es p h n same at s = subst (λ x. Took x e es p leg new q' answer n.letters) s.is (took_own leg new q q' answer now e es p h n same at s.stands)
+took {ends} {leg} {new} {q} {q'} {answer} {now} {es} {p} e h n same at s = subst (λ x. Took x e es p leg new q' answer n.letters) s.is (took_own leg new q q' answer now e es p h n same at s.stands)
 
 -- ---- which letters
 
 or_open : (a b c : Bool) → a ≡ false → c ≡ (a || b) → b ≡ c
 or_open a b c o e = sym (e ∙ ap (λ x. x || b) o)
 
-pub newly_open : (l : Stream) (was now : Bool) → was ≡ false → now ≡ (was || l.ended) → l ≡ record { bytes = l.bytes; ended = now }
+newly_open : (l : Stream) (was now : Bool) → was ≡ false → now ≡ (was || l.ended) → l ≡ record { bytes = l.bytes; ended = now }
 newly_open l was now o e = ap (λ b. let s : Stream = record { bytes = l.bytes; ended = b } in s) (or_open was l.ended now o e)
+
+-- before the side has ended, these letters are new of it
+pub record Brings (ends : Ends) (e : LegEvent) (es : List LegEvent) (p : PacketValue) (t : Stream) (before now : List ℕ) (letters : Stream) : Type 0 where
+  pub pending : now ≡ before ++ letters.bytes
+  pub taken_is : IsTaken (first_copy (offers ends.role (record e { came = Packet p; ending = Unspoken } ∷ es))) (with_letters t letters)
+  pub unended : t.ended ≡ true → letter_count letters ≡ 0
+
+pub brings : {ends : Ends} {e : LegEvent} {es : List LegEvent} {p : PacketValue} {leg new : LegValue} {q q' : Queue} {answer : LegAnswer} {now : ℕ} {before : List ℕ} (n : Newly now p leg new q) → Took ends e es p leg new q' answer n.letters → leg.window.ended ≡ false →
+    (t : Stream) → IsTaken (first_copy (offers ends.role es)) t → before ≡ leg.window.pending → Brings ends e es p t before new.window.pending (record { bytes = n.letters.bytes; ended = new.window.ended })
+brings {ends} {e} {es} {p} {leg} {new} n x is_open t tk pend = record {
+  pending = n.pending ∙ ap (λ (xs : List ℕ). xs ++ n.letters.bytes) (sym pend);
+  taken_is = subst (λ (l : Stream). IsTaken (first_copy (offers ends.role (record e { came = Packet p; ending = Unspoken } ∷ es))) (with_letters t l)) (newly_open n.letters leg.window.ended new.window.ended is_open n.ended) (x.on t tk);
+  unended = λ en. absurd (true≢false (sym en ∙ sym (x.ended_same t tk) ∙ is_open));
+}
 
 end_stays : (b c : Bool) → c ≡ true → cond b true c ≡ cond false true c
 end_stays true c e = sym e

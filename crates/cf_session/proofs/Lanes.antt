@@ -21,7 +21,7 @@ use Rattle.cf_session.proofs.NewLane.{knows_on}
 use Rattle.cf_session.proofs.Telling.{told_lines}
 use Rattle.cf_session.specs.Parts.{IsLaneAfter}
 use Rattle.cf_session.specs.Told.{told}
-use Rattle.cf_session.specs.Turn.{FollowsMore}
+use Rattle.cf_session.specs.Turn.{AreUncut, FollowsMore}
 use Rattle.cf_session.specs.Work.{Work, fed_at, work_by}
 
 -- ---- histories
@@ -76,18 +76,17 @@ of_client : (asset : Asset) (client : Endpoint) (lane : LaneValue) (r : Rests) (
 of_client asset client lane r h w l = subst (λ e. IsLaneAfter asset e lane r h w) (sym l.is_client) l
 
 -- over the lines of the lane's own work
-pub follows_of : (asset : Asset) (client : Endpoint) (lane : LaneValue) (r : Rests) (h : List Element) (w : Work) (c k : Queue) → IsLaneAfter asset client lane r h w → w.cut ≡ None → IsQueueOf c w.to_client → IsQueueOf k w.to_controller →
-    Follows asset h r None (Some []) (state lane c k (Some w.log))
-follows_of asset client lane r h w c k l uncut qc qk =
-    let o = of_client asset client lane r h w l in
+pub follows_of : {asset : Asset} {client : Endpoint} {lane : LaneValue} {r : Rests} {h : List Element} {w : Work} {c k : Queue} → AreUncut asset client r h w lane c k → Follows asset h r None (Some []) (state lane c k (Some w.log))
+follows_of {asset} {client} {lane} {r} {h} {w} {c} {k} st =
+    let o = of_client asset client lane r h w st.lane_stands in
     record {
       judged = o.judged;
       are_judged = o.are_judged;
-      is_cut = sym (ap (λ (x : Work). x.cut) o.is_work) ∙ uncut;
-      are_rests = subst (AreRests asset.protocol h r) uncut o.are_rests;
-      knows = o.knows c k (Some w.log) (qc.ended ∙ ap (λ (x : Work). x.to_client.ended) o.is_work) (qk.ended ∙ ap (λ (x : Work). x.to_controller.ended) o.is_work);
-      client_stream = subst (λ (x : Work). IsQueueOf c x.to_client) o.is_work qc;
-      controller_stream = subst (λ (x : Work). IsQueueOf k x.to_controller) o.is_work qk;
+      is_cut = sym (ap (λ (x : Work). x.cut) o.is_work) ∙ st.uncut;
+      are_rests = subst (AreRests asset.protocol h r) st.uncut o.are_rests;
+      knows = o.knows c k (Some w.log) (st.client_stands.ended ∙ ap (λ (x : Work). x.to_client.ended) o.is_work) (st.controller_stands.ended ∙ ap (λ (x : Work). x.to_controller.ended) o.is_work);
+      client_stream = subst (λ (x : Work). IsQueueOf c x.to_client) o.is_work st.client_stands;
+      controller_stream = subst (λ (x : Work). IsQueueOf k x.to_controller) o.is_work st.controller_stands;
       of_lines = ap (λ (x : Work). Some x.log) o.is_work;
     }
 

@@ -1,10 +1,10 @@
 -- What the calls of a leg say, in the session's words.
-use Rattle.std.proofs.Common.{◌≡◌, ℕ, Bool, true, false, not, ◌&&◌, List, [], ◌∷◌, cond, Option, refl, ap, ◌∙◌, subst}
+use Rattle.std.proofs.Common.{◌≡◌, ℕ, Bool, true, false, not, ◌&&◌, List, [], ◌∷◌, cond, Option, refl, sym, ap, ◌∙◌, subst}
 use Rattle.cf_leg.specs.Calls.{Clocked, CutOff, Spoken}
 use Rattle.cf_leg.specs.Emits.{IsRight, fired_at}
 use Rattle.cf_leg.specs.Emitted.{with_segments}
-use Rattle.cf_leg.specs.Event.{Cut, LegEvent, Spoke, Unspoken, clocked, is_settled, moment, stream_after}
-use Rattle.cf_leg.specs.LegValue.{IsLegOf, LegValue, marks}
+use Rattle.cf_leg.specs.Event.{Cut, LegEvent, Spoke, Unspoken, begun, clocked, is_settled, moment, stream_after}
+use Rattle.cf_leg.specs.LegValue.{IsLegOf, LegValue, Marks, marks}
 use Rattle.cf_leg.specs.Timer.{clock_answer, fires}
 use Rattle.cf_leg.specs.declared.ClockAnswer.{ClockAnswer}
 use Rattle.cf_leg.specs.declared.ClockAnswer.TheVariants as clock
@@ -12,11 +12,20 @@ use Rattle.cf_leg.specs.declared.Ends.{Ends}
 use Rattle.cf_leg.specs.declared.Role.{Role}
 use Rattle.cf_outq.specs.SendQueue.{IsQueueOf, Queue}
 use Rattle.cf_outside.specs.Desk.{SentValue}
+use Rattle.cf_packet.specs.Packet.{PacketValue}
 use Rattle.cf_stream.specs.Stream.{Stream}
+use Rattle.cf_session.proofs.Telling.{then_told, told_by}
 use Rattle.cf_session.specs.Cuts.{gives_up, is_no_answer}
-use Rattle.cf_session.specs.Parts.{IsLegBetween}
+use Rattle.cf_session.specs.Parts.{IsLegBetween, SessionValue}
+use Rattle.cf_session.specs.Sent.{at}
+use Rattle.cf_session.specs.Session.{Flow, client_ends, controller_ends}
+use Rattle.cf_session.specs.Told.{Told, with_both}
 
 -- ---- the clock
+
+-- the law that an event may begin where the last one is over
+abbrev pub EventsBegin : Type 0
+EventsBegin = (leg : LegValue) (m : Marks) (tick : ℕ) (es : List LegEvent) → is_settled es ≡ true → IsLegOf leg m es → IsLegOf leg m (begun tick ∷ es)
 
 answer_table : (a b d : Bool) → is_no_answer (cond (not a) clock.Quiet (cond (not b) clock.NoAnswer (cond d clock.Probed clock.Repeated))) ≡ (a && not b)
 answer_table false b d = refl
@@ -28,7 +37,7 @@ answer_gives : (r : Role) (es : List LegEvent) (e : LegEvent) → is_no_answer (
 answer_gives r es e = answer_table (fires r es e) _ _
 
 -- what a clock call did
-pub record Ticked (ends : Ends) (new : LegValue) (q : Queue) (es : List LegEvent) (now : ℕ) (before after : Option (List SentValue)) : Type 0 where
+record Ticked (ends : Ends) (new : LegValue) (q : Queue) (es : List LegEvent) (now : ℕ) (before after : Option (List SentValue)) : Type 0 where
   pub stands : IsLegBetween ends new q (clocked now (fired_at ends es (clocked now [])) ∷ es)
   pub right : IsRight ends es (clocked now (fired_at ends es (clocked now [])))
   pub packets : after ≡ with_segments before now (fired_at ends es (clocked now []))
@@ -45,14 +54,33 @@ ticked_own leg new q given es now b a h same stands settled queue =
       packets = h.packets ∙ ap (with_segments b now) e;
     }
 
-pub ticked_of : (ends : Ends) (leg new : LegValue) (q : Queue) (given : ClockAnswer) (es : List LegEvent) (now : ℕ) (b a : Option (List SentValue)) → Clocked now leg new q given b a → new.ends ≡ leg.ends → IsLegBetween ends leg q es → is_settled es ≡ true → IsQueueOf q (stream_after es) →
+ticked_of : (ends : Ends) (leg new : LegValue) (q : Queue) (given : ClockAnswer) (es : List LegEvent) (now : ℕ) (b a : Option (List SentValue)) → Clocked now leg new q given b a → new.ends ≡ leg.ends → IsLegBetween ends leg q es → is_settled es ≡ true → IsQueueOf q (stream_after es) →
     Ticked ends new q es now b a
 ticked_of ends leg new q given es now b a h same s settled queue = subst (λ n. Ticked n new q es now b a) s.is (ticked_own leg new q given es now b a h same s.stands settled queue)
 
-pub gives_up_is : (ends : Ends) (leg new : LegValue) (q : Queue) (given : ClockAnswer) (es : List LegEvent) (now : ℕ) (b a : Option (List SentValue)) → Clocked now leg new q given b a → IsLegBetween ends leg q es → is_settled es ≡ true → IsQueueOf q (stream_after es) →
+gives_up_is : (ends : Ends) (leg new : LegValue) (q : Queue) (given : ClockAnswer) (es : List LegEvent) (now : ℕ) (b a : Option (List SentValue)) → Clocked now leg new q given b a → IsLegBetween ends leg q es → is_settled es ≡ true → IsQueueOf q (stream_after es) →
     is_no_answer given ≡ gives_up ends.role es (clocked now [])
 gives_up_is ends leg new q given es now b a h s settled queue =
     ap is_no_answer (h.answer es settled s.stands queue) ∙ ap (λ (n : Ends). is_no_answer (clock_answer n.role es (clocked now h.outs))) s.is ∙ answer_gives ends.role es (clocked now h.outs)
+
+-- what a clock call of a leg answers, what it tells, and what stands after it
+pub record TickedAs (ends : Ends) (es : List LegEvent) (now : ℕ) (given : ClockAnswer) (new : LegValue) (q : Queue) (old after : Told) : Type 0 where
+  pub answer : is_no_answer given ≡ gives_up ends.role es (clocked now [])
+  pub right : IsRight ends es (clocked now (fired_at ends es (clocked now [])))
+  pub told : after ≡ with_both old (at now (fired_at ends es (clocked now []))) []
+  pub stands : IsLegBetween ends new q (clocked now (fired_at ends es (clocked now [])) ∷ es)
+
+pub ticked_as : {leg new : LegValue} {q q' : Queue} {given : ClockAnswer} {es : List LegEvent} {now : ℕ} {whole : Stream} (ends : Ends) (t0 t1 : Told) → Clocked now leg new q given t0.packets t1.packets → new.ends ≡ leg.ends → q' ≡ q → t1.lines ≡ t0.lines →
+    IsLegBetween ends leg q es → is_settled es ≡ true → IsQueueOf q whole → stream_after es ≡ whole → TickedAs ends es now given new q' t0 t1
+ticked_as {leg} {new} {q} {q'} {given} {es} {now} {whole} ends t0 t1 h same kept lines stands settled queue said =
+    let own = subst (IsQueueOf q) (sym said) queue in
+    let a = ticked_of ends leg new q given es now t0.packets t1.packets h same stands settled own in
+    record {
+      answer = gives_up_is ends leg new q given es now t0.packets t1.packets h stands settled own;
+      right = a.right;
+      told = told_by t0 t1 now (fired_at ends es (clocked now [])) a.packets lines;
+      stands = subst (λ x. IsLegBetween ends new x (clocked now (fired_at ends es (clocked now [])) ∷ es)) (sym kept) a.stands;
+    }
 
 -- ---- a cut
 
@@ -68,3 +96,30 @@ spoken_of ends roomy now leg new q q' b a e es whole h same at s queue = record 
 -- the leg is right in its newest event
 pub right_of : (ends : Ends) (leg : LegValue) (q : Queue) (e : LegEvent) (es : List LegEvent) → IsLegBetween ends leg q (e ∷ es) → IsRight ends es e
 right_of ends leg q e es s = subst (λ n. IsRight n es e) s.is s.stands.of_right.0
+
+-- ---- what a contract sees of the session that has the legs
+
+pub controller_in : {s r : SessionValue} {ends : Ends} {es : List LegEvent} → s ≡ r → IsLegBetween ends r.controller r.to_controller es → IsLegBetween ends s.controller s.to_controller es
+controller_in {s} {r} {ends} {es} same h = subst (λ (x : SessionValue). IsLegBetween ends x.controller x.to_controller es) (sym same) h
+
+pub client_in : {s r : SessionValue} {ends : Ends} {es : List LegEvent} → s ≡ r → IsLegBetween ends r.client r.to_client es → IsLegBetween ends s.client s.to_client es
+client_in {s} {r} {ends} {es} same h = subst (λ (x : SessionValue). IsLegBetween ends x.client x.to_client es) (sym same) h
+
+-- ---- both are cut, the controller's first
+
+pub record BothCut (f : Flow) (x y : LegEvent) (cs ds : List LegEvent) (now : ℕ) (old new : Told) : Type 0 where
+  pub to_controller : PacketValue
+  pub controller_right : IsRight (controller_ends f) cs (record x { ending = Cut to_controller })
+  pub to_client : PacketValue
+  pub client_right : IsRight (client_ends f) ds (record y { ending = Cut to_client })
+  pub told : new ≡ with_both old (at now (to_controller ∷ to_client ∷ [])) []
+
+pub both_cut : {leg leg' : LegValue} {q q' : Queue} {now : ℕ} (f : Flow) (x y : LegEvent) (cs ds : List LegEvent) (t0 t1 t2 : Told) → CutOff now leg q t0.packets t1.packets → CutOff now leg' q' t1.packets t2.packets → t1.lines ≡ t0.lines → t2.lines ≡ t1.lines →
+    IsLegBetween (controller_ends f) leg q (record x { ending = Unspoken } ∷ cs) → IsLegBetween (client_ends f) leg' q' (record y { ending = Unspoken } ∷ ds) → BothCut f x y cs ds now t0 t2
+both_cut {leg} {leg'} {q} {q'} {now} f x y cs ds t0 t1 t2 a b k l lc ld = record {
+  to_controller = a.out;
+  controller_right = cut_right (controller_ends f) leg q x cs now t0.packets t1.packets a lc;
+  to_client = b.out;
+  client_right = cut_right (client_ends f) leg' q' y ds now t1.packets t2.packets b ld;
+  told = then_told t0 t1 t2 (at now (a.out ∷ [])) (at now (b.out ∷ [])) [] [] (told_by t0 t1 now (a.out ∷ []) a.packets k) (told_by t1 t2 now (b.out ∷ []) b.packets l);
+}

@@ -1,3 +1,4 @@
+mod Options
 mod Telling
 mod Legs
 pub mod Amid

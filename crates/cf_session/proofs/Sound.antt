@@ -5,13 +5,15 @@ use Rattle.std.specs.Option.{is_some, option_or}
 use Rattle.std.proofs.lemmas.Bool.{false≢true, true≢false}
 use Rattle.cf_audit.specs.declared.CutReason.{CutReason}
 use Rattle.cf_lane.specs.Handled.{IsLaneOf, LaneValue}
+use Rattle.cf_leg.specs.declared.LegAnswer.{LegAnswer}
 use Rattle.cf_outq.specs.SendQueue.{Queue, queue_length}
 use Rattle.cf_policy.specs.Within.{IsAssetWithin}
 use Rattle.cf_policy.specs.declared.Asset.{Asset}
 use Rattle.cf_rebuild.specs.ReceiveWindow.{Window, base_of}
 use Rattle.cf_view.specs.declared.Side.{Side}
 use Rattle.cf_view.specs.declared.Side.TheVariants as side
-use Rattle.cf_session.specs.Cuts.{cut_by}
+use Rattle.cf_session.proofs.Heards.{full_of}
+use Rattle.cf_session.specs.Cuts.{cut_by, is_reset}
 use Rattle.cf_lane.specs.Limit.{limit_by}
 use Rattle.cf_session.specs.Parts.{SessionValue}
 use Rattle.cf_session.specs.Stands.{IsSound}
@@ -24,24 +26,36 @@ is_none_of (Some r) = false
 none_some : (r : CutReason) → None ≡ Some r → ⊥
 none_some r e = true≢false (ap (λ (o : Option CutReason). is_none_of o) e)
 
+some_closed : (o : Option ℕ) → is_some o ≡ true → o ≢ None
+some_closed o e n = true≢false (sym e ∙ ap is_some n)
+
+-- what the code asks is why the session is cut
+pub reason_is : {x y : SessionValue} {closed reset : Bool} {full why : Option CutReason} (s : Side) (given : LegAnswer) (cut : Option CutReason) →
+    x ≡ y → closed ≡ is_some x.closed → reset ≡ is_reset given → full ≡ full_of y → why ≡ cut_by closed reset s cut full → why ≡ cut_by (is_some y.closed) (is_reset given) s cut (full_of y)
+reason_is {x} {y} {closed} {reset} {full} s given cut same c r l asked =
+    asked
+    ∙ ap (λ b. cut_by b reset s cut full) (c ∙ ap (λ (z : SessionValue). is_some z.closed) same)
+    ∙ ap (λ b. cut_by (is_some y.closed) b s cut full) r
+    ∙ ap (λ o. cut_by (is_some y.closed) (is_reset given) s cut o) l
+
 -- where nothing cuts, the lane did not
-pub lane_none : (closed reset : Bool) (s : Side) (cut full : Option CutReason) → None ≡ cut_by closed reset s cut full → (closed ≡ true → cut ≡ None) → cut ≡ None
+lane_none : (closed reset : Bool) (s : Side) (cut full : Option CutReason) → None ≡ cut_by closed reset s cut full → (closed ≡ true → cut ≡ None) → cut ≡ None
 lane_none true reset s cut full e done = done refl
 lane_none false true side.Client cut full e done = absurd (none_some _ e)
 lane_none false true side.Controller cut full e done = absurd (none_some _ e)
 lane_none false false s None full e done = refl
 lane_none false false s (Some r) full e done = absurd (none_some r e)
 
+pub lane_uncut : (s : Side) (given : LegAnswer) (cut : Option CutReason) (x : SessionValue) → IsSteady x cut → None ≡ cut_by (is_some x.closed) (is_reset given) s cut (full_of x) → cut ≡ None
+lane_uncut s given cut x steady because = lane_none (is_some x.closed) (is_reset given) s cut (full_of x) because (λ b. steady.uncut (some_closed x.closed b))
+
 -- and no stream is full
-pub full_none : (closed reset : Bool) (s : Side) (cut full : Option CutReason) → None ≡ cut_by closed reset s cut full → closed ≡ false → full ≡ None
+full_none : (closed reset : Bool) (s : Side) (cut full : Option CutReason) → None ≡ cut_by closed reset s cut full → closed ≡ false → full ≡ None
 full_none true reset s cut full e c = absurd (true≢false c)
 full_none false true side.Client cut full e c = absurd (none_some _ e)
 full_none false true side.Controller cut full e c = absurd (none_some _ e)
 full_none false false s None full e c = sym e
 full_none false false s (Some r) full e c = absurd (none_some r e)
-
-pub some_closed : (o : Option ℕ) → is_some o ≡ true → o ≢ None
-some_closed o e n = true≢false (sym e ∙ ap is_some n)
 
 below : (limit a : ℕ) → nat_le limit a ≡ false → a < limit
 below limit a e = grind arith
@@ -62,11 +76,14 @@ limits_none limit client controller to_client to_controller e =
     let y = parts_false (nat_le limit controller) (nat_le limit to_controller) both.1 in
     (below limit client x.0, below limit controller y.0, below limit to_client x.1, below limit to_controller y.1)
 
-pub is_short_by : (s : SessionValue) (cut : Option CutReason) (o : Option ℕ) → s.closed ≡ o → IsSteady s cut → (is_some o ≡ false → limit_by s.limit (base_of s.client.window) (base_of s.controller.window) (queue_length s.to_client) (queue_length s.to_controller) ≡ None) → IsShort s
-is_short_by s cut None e h full =
+short_by : (s : SessionValue) (cut : Option CutReason) (o : Option ℕ) → s.closed ≡ o → IsSteady s cut → (is_some o ≡ false → full_of s ≡ None) → IsShort s
+short_by s cut None e h full =
     let x = limits_none s.limit (base_of s.client.window) (base_of s.controller.window) (queue_length s.to_client) (queue_length s.to_controller) (full refl) in
     record { client_letters = x.2; controller_letters = x.3; client_taken = x.0; controller_taken = x.1 }
-is_short_by s cut (Some m) e h full = h.short (some_closed s.closed (ap is_some e))
+short_by s cut (Some m) e h full = h.short (some_closed s.closed (ap is_some e))
+
+pub is_short : (s : Side) (given : LegAnswer) (cut : Option CutReason) (x : SessionValue) → IsSteady x cut → None ≡ cut_by (is_some x.closed) (is_reset given) s cut (full_of x) → IsShort x
+is_short s given cut x steady because = short_by x cut x.closed refl steady (full_none (is_some x.closed) (is_reset given) s cut (full_of x) because)
 
 short_on : (s1 s2 : SessionValue) → OnlySpeaks s1 s2 → IsShort s1 → IsShort s2
 short_on s1 s2 o h =

@@ -30,38 +30,54 @@ room_with : (roomy : Bool) (kept debt a b b' : ℕ) → kept + debt + 2 * (a + b
 room_with true kept debt a b b' room few short x y same = room_again kept debt a b' (short refl) few x y
 room_with false kept debt a b b' room few short x y same = rw (same refl) room
 
+-- what a speech leaves of a window with few bytes pending
+record Widened (roomy : Bool) (old new : Window) : Type 0 where
+  pub base : base_of new ≡ base_of old
+  pub ended : new.ended ≡ old.ended
+  pub consumed : new.consumed ≡ old.consumed
+  pub rest : length new.pending < 300
+  pub few : open_places new ≤ 16684
+  pub shut : roomy ≡ false → open_places new ≡ open_places old
+
+widened : (roomy : Bool) (old new : Window) → Widens roomy old new → length old.pending < 300 → Widened roomy old new
+widened roomy old new w few =
+    let base : base_of new ≡ base_of old = ap (λ (v : Window). base_of v) w.same in
+    let pending : length new.pending ≡ length old.pending = ap (λ (v : Window). length v.pending) w.same in
+    let consumed : new.consumed ≡ old.consumed = ap (λ (v : Window). v.consumed) w.same in
+    let rest : length new.pending < 300 = omega (arith, few, pending) in
+    record {
+      base = base;
+      ended = ap (λ (v : Window). v.ended) w.same;
+      consumed = consumed;
+      rest = rest;
+      few = few_open new rest (let a = w.near in omega (arith, a, base));
+      shut = λ e. ap (λ m. max m 16384 - new.consumed) (w.shut e) ∙ ap (λ m. max old.edge 16384 - m) consumed;
+    }
+
+-- and of a queue
+record Said (old new : Queue) : Type 0 where
+  pub letters : queue_length new ≡ queue_length old
+  pub kept : length new.kept ≡ length old.kept
+  pub ended : new.ended ≡ old.ended
+
+said : (old new : Queue) → new ≡ record old { sent = new.sent } → Said old new
+said old new sent = record {
+  letters = ap (λ (x : Queue). queue_length x) sent;
+  kept = ap (λ (x : Queue). length x.kept) sent;
+  ended = ap (λ (x : Queue). x.ended) sent;
+}
+
 -- the same after a speech of the controller's end
 module _ (s : SessionValue) (n : LegValue) (q : Queue) (roomy : Bool) (h : IsSteady s None) (w : Widens roomy s.controller.window n.window) (sent : q ≡ record s.to_controller { sent = q.sent })
     (few_c : roomy ≡ true → length s.to_client.kept ≤ 16384) (few_k : roomy ≡ true → length s.to_controller.kept ≤ 16384) (near : s.client.window.edge ≤ base_of s.client.window + 16384) where
   abbrev next : SessionValue
   next = record s { controller = n; to_controller = q }
 
-  base_now : base_of n.window ≡ base_of s.controller.window
-  base_now = ap (λ (v : Window). base_of v) w.same
+  own : Widened roomy s.controller.window n.window
+  own = widened roomy s.controller.window n.window w (h.controller_rest refl)
 
-  pending_now : length n.window.pending ≡ length s.controller.window.pending
-  pending_now = ap (λ (v : Window). length v.pending) w.same
-
-  ended_now : n.window.ended ≡ s.controller.window.ended
-  ended_now = ap (λ (v : Window). v.ended) w.same
-
-  consumed_now : n.window.consumed ≡ s.controller.window.consumed
-  consumed_now = ap (λ (v : Window). v.consumed) w.same
-
-  length_now : queue_length q ≡ queue_length s.to_controller
-  length_now = ap (λ (x : Queue). queue_length x) sent
-
-  kept_now : length q.kept ≡ length s.to_controller.kept
-  kept_now = ap (λ (x : Queue). length x.kept) sent
-
-  rest_now : length n.window.pending < 300
-  rest_now = (let a = h.controller_rest refl in omega (arith, a, pending_now))
-
-  few_places : open_places n.window ≤ 16684
-  few_places = few_open n.window rest_now (let a = w.near in omega (arith, a, base_now))
-
-  shut_now : roomy ≡ false → open_places n.window ≡ open_places s.controller.window
-  shut_now e = ap (λ m. max m 16384 - n.window.consumed) (w.shut e) ∙ ap (λ m. max s.controller.window.edge 16384 - m) consumed_now
+  queue : Said s.to_controller q
+  queue = said s.to_controller q sent
 
   few_client : open_places s.client.window ≤ 16684
   few_client = few_open s.client.window (h.client_rest refl) near
@@ -69,9 +85,9 @@ module _ (s : SessionValue) (n : LegValue) (q : Queue) (roomy : Bool) (h : IsSte
   short_now : IsShort s → IsShort next
   short_now x = record {
     client_letters = x.client_letters;
-    controller_letters = (let a = x.controller_letters in omega (arith, a, length_now));
+    controller_letters = (let a = x.controller_letters in omega (arith, a, queue.letters));
     client_taken = x.client_taken;
-    controller_taken = (let a = x.controller_taken in omega (arith, a, base_now));
+    controller_taken = (let a = x.controller_taken in omega (arith, a, own.base));
   }
 
   pub steady_first : IsSteady next None
@@ -79,20 +95,20 @@ module _ (s : SessionValue) (n : LegValue) (q : Queue) (roomy : Bool) (h : IsSte
     passive = h.passive;
     limit = h.limit;
     client_base = h.client_base;
-    controller_base = (let a = h.controller_base in omega (arith, a, base_now));
+    controller_base = (let a = h.controller_base in omega (arith, a, own.base));
     client_rest = h.client_rest;
-    controller_rest = λ _. rest_now;
-    client_open = λ e. ap (λ (x : Queue). x.ended) sent ∙ h.client_open e;
-    controller_open = λ e. h.controller_open (sym ended_now ∙ e);
+    controller_rest = λ _. own.rest;
+    client_open = λ e. queue.ended ∙ h.client_open e;
+    controller_open = λ e. h.controller_open (sym own.ended ∙ e);
     client_done = h.client_done;
-    controller_done = λ e. ended_now ∙ h.controller_done e;
+    controller_done = λ e. own.ended ∙ h.controller_done e;
     uncut = h.uncut;
     short = λ e. short_now (h.short e);
-    commands = (let a = h.commands in omega (arith, a, consumed_now));
+    commands = (let a = h.commands in omega (arith, a, own.consumed));
     owed = h.owed;
-    client_room = room_with roomy (length s.to_client.kept) (debt s.lane) (open_places s.client.window) (open_places s.controller.window) (open_places n.window) h.client_room h.owed few_c few_client few_places shut_now;
-    controller_room = subst (λ m. m + debt s.lane + 2 * (open_places s.client.window + open_places n.window) ≤ 90112) (sym kept_now)
-        (room_with roomy (length s.to_controller.kept) (debt s.lane) (open_places s.client.window) (open_places s.controller.window) (open_places n.window) h.controller_room h.owed few_k few_client few_places shut_now);
+    client_room = room_with roomy (length s.to_client.kept) (debt s.lane) (open_places s.client.window) (open_places s.controller.window) (open_places n.window) h.client_room h.owed few_c few_client own.few own.shut;
+    controller_room = subst (λ m. m + debt s.lane + 2 * (open_places s.client.window + open_places n.window) ≤ 90112) (sym queue.kept)
+        (room_with roomy (length s.to_controller.kept) (debt s.lane) (open_places s.client.window) (open_places s.controller.window) (open_places n.window) h.controller_room h.owed few_k few_client own.few own.shut);
   }
 
 module _ (s : SessionValue) (n : LegValue) (q : Queue) (roomy : Bool) (h : IsSteady s None) (ends : n.ends ≡ s.client.ends) (w : Widens roomy s.client.window n.window) (sent : q ≡ record s.to_client { sent = q.sent })
@@ -100,41 +116,20 @@ module _ (s : SessionValue) (n : LegValue) (q : Queue) (roomy : Bool) (h : IsSte
   abbrev new : SessionValue
   new = record s { client = n; to_client = q }
 
-  same_base : base_of n.window ≡ base_of s.client.window
-  same_base = ap (λ (v : Window). base_of v) w.same
+  own_client : Widened roomy s.client.window n.window
+  own_client = widened roomy s.client.window n.window w (h.client_rest refl)
 
-  same_pending : length n.window.pending ≡ length s.client.window.pending
-  same_pending = ap (λ (v : Window). length v.pending) w.same
-
-  same_ended : n.window.ended ≡ s.client.window.ended
-  same_ended = ap (λ (v : Window). v.ended) w.same
-
-  same_consumed : n.window.consumed ≡ s.client.window.consumed
-  same_consumed = ap (λ (v : Window). v.consumed) w.same
-
-  same_length : queue_length q ≡ queue_length s.to_client
-  same_length = ap (λ (x : Queue). queue_length x) sent
-
-  same_kept : length q.kept ≡ length s.to_client.kept
-  same_kept = ap (λ (x : Queue). length x.kept) sent
-
-  few_rest : length n.window.pending < 300
-  few_rest = (let a = h.client_rest refl in omega (arith, a, same_pending))
-
-  few_now : open_places n.window ≤ 16684
-  few_now = few_open n.window few_rest (let a = w.near in omega (arith, a, same_base))
-
-  shut : roomy ≡ false → open_places n.window ≡ open_places s.client.window
-  shut e = ap (λ m. max m 16384 - n.window.consumed) (w.shut e) ∙ ap (λ m. max s.client.window.edge 16384 - m) same_consumed
+  queue_client : Said s.to_client q
+  queue_client = said s.to_client q sent
 
   few_other : open_places s.controller.window ≤ 16684
   few_other = few_open s.controller.window (h.controller_rest refl) near
 
   short_on : IsShort s → IsShort new
   short_on x = record {
-    client_letters = (let a = x.client_letters in omega (arith, a, same_length));
+    client_letters = (let a = x.client_letters in omega (arith, a, queue_client.letters));
     controller_letters = x.controller_letters;
-    client_taken = (let a = x.client_taken in omega (arith, a, same_base));
+    client_taken = (let a = x.client_taken in omega (arith, a, own_client.base));
     controller_taken = x.controller_taken;
   }
 
@@ -142,19 +137,19 @@ module _ (s : SessionValue) (n : LegValue) (q : Queue) (roomy : Bool) (h : IsSte
   steady_on = record {
     passive = subst (λ (x : _). IsPassive x.role) (sym ends) h.passive;
     limit = h.limit;
-    client_base = (let a = h.client_base in omega (arith, a, same_base));
+    client_base = (let a = h.client_base in omega (arith, a, own_client.base));
     controller_base = h.controller_base;
-    client_rest = λ _. few_rest;
+    client_rest = λ _. own_client.rest;
     controller_rest = h.controller_rest;
-    client_open = λ e. h.client_open (sym same_ended ∙ e);
-    controller_open = λ e. ap (λ (x : Queue). x.ended) sent ∙ h.controller_open e;
-    client_done = λ e. same_ended ∙ h.client_done e;
+    client_open = λ e. h.client_open (sym own_client.ended ∙ e);
+    controller_open = λ e. queue_client.ended ∙ h.controller_open e;
+    client_done = λ e. own_client.ended ∙ h.client_done e;
     controller_done = h.controller_done;
     uncut = h.uncut;
     short = λ e. short_on (h.short e);
-    commands = (let a = h.commands in omega (arith, a, same_consumed));
+    commands = (let a = h.commands in omega (arith, a, own_client.consumed));
     owed = h.owed;
-    client_room = subst (λ m. m + debt s.lane + 2 * (open_places n.window + open_places s.controller.window) ≤ 90112) (sym same_kept)
-        (room_after roomy (length s.to_client.kept) (debt s.lane) (open_places s.client.window) (open_places n.window) (open_places s.controller.window) h.client_room h.owed few_c few_now shut few_other);
-    controller_room = room_after roomy (length s.to_controller.kept) (debt s.lane) (open_places s.client.window) (open_places n.window) (open_places s.controller.window) h.controller_room h.owed few_k few_now shut few_other;
+    client_room = subst (λ m. m + debt s.lane + 2 * (open_places n.window + open_places s.controller.window) ≤ 90112) (sym queue_client.kept)
+        (room_after roomy (length s.to_client.kept) (debt s.lane) (open_places s.client.window) (open_places n.window) (open_places s.controller.window) h.client_room h.owed few_c own_client.few own_client.shut few_other);
+    controller_room = room_after roomy (length s.to_controller.kept) (debt s.lane) (open_places s.client.window) (open_places n.window) (open_places s.controller.window) h.controller_room h.owed few_k own_client.few own_client.shut few_other;
   }

@@ -1,10 +1,15 @@
 -- What a desk tells after calls of legs, lane and session.
 use Rattle.std.proofs.Common.{◌≡◌, ℕ, List, [], ◌∷◌, ◌++◌, map, Option, Some, None, refl, sym, ap, ◌∙◌, append_assoc}
 use Rattle.std.proofs.lemmas.List.{append-nil, map-append}
+use Rattle.cf_audit.specs.Line.{WhatValue}
+use Rattle.cf_lane.specs.Log.{line_about}
 use Rattle.cf_leg.specs.Emitted.{with_segment, with_segments, spelled}
 use Rattle.cf_outside.specs.Desk.{DeskValue, SentValue}
 use Rattle.cf_packet.specs.Packet.{PacketValue}
-use Rattle.cf_session.specs.Sent.{Sent, at}
+use Rattle.cf_policy.specs.declared.Asset.{Asset}
+use Rattle.cf_view.specs.declared.Endpoint.{Endpoint}
+use Rattle.cf_session.specs.Sent.{Sent, at, line}
+use Rattle.cf_session.specs.Session.{Flow, client_of}
 use Rattle.cf_session.specs.Told.{Told, emitted, told, with_both, with_more}
 
 more-more : {A : Type 0} (t : Option (List A)) (a b : List A) → with_more (with_more t a) b ≡ with_more t (a ++ b)
@@ -35,23 +40,27 @@ segments-more None now (p ∷ ps) = segments-more None now ps
 segments-more (Some xs) now (p ∷ ps) =
     segments-more (with_segment (Some xs) now p) now ps ∙ ap Some (append_assoc xs (record { moment = now; bytes = spelled p } ∷ []) (map emitted (at now ps)))
 
--- a call that sent segments, and put no line
-pub told_sent : (a b : DeskValue) (now : ℕ) (ps : List PacketValue) → b.packets ≡ with_segments a.packets now ps → b.lines ≡ a.lines → told b ≡ with_both (told a) (at now ps) []
-told_sent a b now ps e d =
-    ap (λ x. let r : Told = record { packets = x; lines = b.lines } in r) (e ∙ segments-more a.packets now ps)
-    ∙ ap (λ x. let r : Told = record { packets = with_more a.packets (map emitted (at now ps)); lines = x } in r) (d ∙ more-none a.lines)
+-- segments were sent, and no line was put
+pub told_by : (t0 t1 : Told) (now : ℕ) (ps : List PacketValue) → t1.packets ≡ with_segments t0.packets now ps → t1.lines ≡ t0.lines → t1 ≡ with_both t0 (at now ps) []
+told_by t0 t1 now ps e d =
+    ap (λ x. let r : Told = record { packets = x; lines = t1.lines } in r) (e ∙ segments-more t0.packets now ps)
+    ∙ ap (λ x. let r : Told = record { packets = with_more t0.packets (map emitted (at now ps)); lines = x } in r) (d ∙ more-none t0.lines)
 
--- nothing happened, which is what segments of nothing say
-pub told_same : (t : Told) (now : ℕ) (ps : List PacketValue) → t.packets ≡ with_segments t.packets now ps → t ≡ with_both t (at now ps) []
-told_same t now ps e =
-    ap (λ x. let r : Told = record { packets = x; lines = t.lines } in r) (e ∙ segments-more t.packets now ps)
-    ∙ ap (λ x. let r : Told = record { packets = with_more t.packets (map emitted (at now ps)); lines = x } in r) (more-none t.lines)
+pub told_sent : (a b : DeskValue) (now : ℕ) (ps : List PacketValue) → b.packets ≡ with_segments a.packets now ps → b.lines ≡ a.lines → told b ≡ with_both (told a) (at now ps) []
+told_sent a b now ps e d = told_by (told a) (told b) now ps e d
 
 -- a call that put lines, and sent no segment
 pub told_lines : (a b : DeskValue) (ls : List (List ℕ)) → b.packets ≡ a.packets → b.lines ≡ with_more a.lines ls → told b ≡ with_both (told a) [] ls
 told_lines a b ls e d =
     ap (λ x. let r : Told = record { packets = x; lines = b.lines } in r) (e ∙ more-none a.packets)
     ∙ ap (λ x. let r : Told = record { packets = with_more a.packets []; lines = x } in r) d
+
+-- a line about the client of an asset, which are those of a flow
+pub line_is : {asset : Asset} {client : Endpoint} {now moment : ℕ} (f : Flow) (what : WhatValue) → f.asset ≡ asset → client ≡ client_of f → now ≡ moment → line_about asset client now what ≡ line f moment what
+line_is {asset} {client} {now} {moment} f what is source at =
+    ap (λ (e : Endpoint). line_about asset e now what) source
+    ∙ ap (λ (a : Asset). line_about a (client_of f) now what) (sym is)
+    ∙ ap (λ n. line_about f.asset (client_of f) n what) at
 
 -- one call after another
 pub then_told : (t0 t1 t2 : Told) (a b : List Sent) (x y : List (List ℕ)) → t1 ≡ with_both t0 a x → t2 ≡ with_both t1 b y → t2 ≡ with_both t0 (a ++ b) (x ++ y)

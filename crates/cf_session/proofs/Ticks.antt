@@ -1,48 +1,94 @@
 -- The first half of an event of a session.
-use Rattle.std.proofs.Common.{◌≡◌, ℕ, ◌+◌, Bool, true, false, not, ◌&&◌, ◌||◌, List, [], ◌∷◌, ◌++◌, cond, Option, Some, None, refl, sym, ap, ◌∙◌, subst, append_assoc, inl}
+use Rattle.std.proofs.Common.{◌≡◌, ℕ, ◌+◌, Bool, true, false, not, ◌&&◌, List, [], ◌∷◌, ◌++◌, cond, Option, Some, None, refl, sym, ap, ◌∙◌, subst, append_assoc, inl}
 use Rattle.std.specs.Prelude.{nat_lt}
 use Rattle.std.specs.Option.{is_some, option_or}
+use Rattle.std.proofs.Math.Bool.{or-false}
 use Rattle.std.proofs.lemmas.Bool.{false≢true}
 use Rattle.std.proofs.lemmas.List.{append-nil}
 use Rattle.cf_audit.specs.Line.{Cut as CutLine}
+use Rattle.cf_audit.specs.declared.CutReason.{CutReason}
 use Rattle.cf_audit.specs.declared.CutReason.TheVariants as reason
 use Rattle.cf_lane.specs.History.{Element, ended_of, taken}
+use Rattle.cf_leg.specs.Calls.{Clocked}
 use Rattle.cf_leg.specs.Emits.{IsRight, fired_at, repeats}
-use Rattle.cf_leg.specs.Event.{Cut, LegEvent, begun, clocked, moment}
+use Rattle.cf_leg.specs.Event.{Cut, Ending, LegEvent, Unspoken, begun, clocked, moment}
 use Rattle.cf_leg.specs.Heard.{acked, offers, opened}
-use Rattle.cf_leg.specs.LegValue.{LegValue}
+use Rattle.cf_leg.specs.LegValue.{LegValue, marks}
 use Rattle.cf_leg.specs.Timer.{fires, tries}
 use Rattle.cf_leg.specs.Told.{greeting}
+use Rattle.cf_leg.specs.declared.ClockAnswer.{ClockAnswer}
 use Rattle.cf_leg.specs.declared.Ends.{Ends}
 use Rattle.cf_outq.specs.SendQueue.{IsQueueOf, Queue}
 use Rattle.cf_packet.specs.Packet.{PacketValue}
 use Rattle.cf_stream.specs.FirstCopy.{IsTaken, first_copy}
 use Rattle.cf_view.specs.declared.Side.TheVariants as side
+use Rattle.cf_session.proofs.Legs.{EventsBegin, TickedAs, ticked_as}
+use Rattle.cf_session.proofs.Options.{later_same, or_none}
 use Rattle.cf_session.proofs.Telling.{at-append, then_sent, then_told}
-use Rattle.cf_session.specs.Cuts.{gives_up}
-use Rattle.cf_session.specs.Event.{IsTick}
+use Rattle.cf_session.specs.Cuts.{clock_cut, gives_up}
+use Rattle.cf_session.specs.Event.{AreRight, EndsTick, IsTick}
 use Rattle.cf_session.specs.Parts.{IsLaneAfter, IsLegBetween, SessionValue}
 use Rattle.cf_session.specs.Sent.{at, line}
-use Rattle.cf_session.specs.Session.{Flow, SessionEvent, client_ends, client_of, clients, closed_at, controller_ends, controllers, history, is_closed, is_done, is_expired}
+use Rattle.cf_session.specs.Session.{Flow, SessionEvent, client_ends, client_of, clients, closed_at, controller_ends, controllers, history, is_closed, is_done, is_expired, is_past}
 use Rattle.cf_session.specs.Stands.{IsSessionOf, Ticks, TicksBy, life_by}
 use Rattle.cf_session.specs.Told.{Told, with_both}
 use Rattle.cf_session.specs.Turn.{CutsBoth}
 
-or_nothing : (b : Bool) → (b || false) ≡ b
-or_nothing true = refl
-or_nothing false = refl
+-- ---- the clock calls
 
-or_no : {A : Type 0} (o : Option A) → option_or o None ≡ o
-or_no None = refl
-or_no (Some x) = refl
+module _ {f : Flow} {es : List SessionEvent} {e : SessionEvent} {s : SessionValue} (stands : IsSessionOf f es e s) where
+  pub unexpired : {over : Bool} (now : ℕ) → over ≡ is_past s.closed now → over ≡ false → is_expired f (e ∷ es) now ≡ false
+  unexpired now asked below = ap (λ o. is_past o now) (sym stands.closed) ∙ sym asked ∙ below
 
--- the closing moment is that of the events before, where nothing changed
-later_closed : (before : Option ℕ) (closed : Bool) (m n : ℕ) → option_or (option_or before (cond closed (Some m) None)) (cond closed (Some n) None) ≡ option_or before (cond closed (Some m) None)
-later_closed (Some k) closed m n = refl
-later_closed None true m n = refl
-later_closed None false m n = refl
+  pub controller_ticks : {new : LegValue} {q : Queue} {given : ClockAnswer} {now : ℕ} (t0 t1 : Told) → Clocked now s.controller new s.to_controller given t0.packets t1.packets → new.ends ≡ s.controller.ends → q ≡ s.to_controller → t1.lines ≡ t0.lines →
+      TickedAs (controller_ends f) (controllers (e ∷ es)) now given new q t0 t1
+  controller_ticks t0 t1 h same kept lines = ticked_as (controller_ends f) t0 t1 h same kept lines stands.parts.controller stands.over.controller stands.parts.to_controller stands.over.to_controller
+
+  pub client_ticks : {new : LegValue} {q : Queue} {given : ClockAnswer} {now : ℕ} (t0 t1 : Told) → Clocked now s.client new s.to_client given t0.packets t1.packets → new.ends ≡ s.client.ends → q ≡ s.to_client → t1.lines ≡ t0.lines →
+      TickedAs (client_ends f) (clients (e ∷ es)) now given new q t0 t1
+  client_ticks t0 t1 h same kept lines = ticked_as (client_ends f) t0 t1 h same kept lines stands.parts.client stands.over.client stands.parts.to_client stands.over.to_client
+
+  pub client_begins : EventsBegin → (now : ℕ) → IsLegBetween (client_ends f) s.client s.to_client (begun now ∷ clients (e ∷ es))
+  client_begins begin now = record { is = stands.parts.client.is; stands = begin s.client (marks s.to_client) now (clients (e ∷ es)) stands.over.client stands.parts.client.stands }
+
+-- what each leg sends again at its clock call
+abbrev pub controller_fires : Flow → List SessionEvent → SessionEvent → ℕ → List PacketValue
+controller_fires f es e now = fired_at (controller_ends f) (controllers (e ∷ es)) (clocked now [])
+
+abbrev pub client_fires : Flow → List SessionEvent → SessionEvent → ℕ → List PacketValue
+client_fires f es e now = fired_at (client_ends f) (clients (e ∷ es)) (clocked now [])
+
+-- ---- the event
 
 module _ (f : Flow) (es : List SessionEvent) (e : SessionEvent) (now : ℕ) where
+  -- the controller's leg had its clock call, and the client's had one or not
+  abbrev tick_event : (fc fd : List PacketValue) (called : Bool) (x y : Ending) (cut : Option CutReason) → SessionEvent
+  tick_event fc fd called x y cut = record {
+    controller = record (clocked now fc) { ending = x };
+    client = record (clocked now fd) { ticked = called; ending = y };
+    fed = [];
+    work = e.work;
+    cut = cut;
+  }
+
+  is_tick : (fc fd : List PacketValue) (called : Bool) (x y : Ending) (cut : Option CutReason) → AreRight f (e ∷ es) (tick_event fc fd called x y cut) →
+      called ≡ not (gives_up (controller_ends f).role (controllers (e ∷ es)) (clocked now [])) → cut ≡ clock_cut f (e ∷ es) (tick_event fc fd called x y cut) → EndsTick cut x → EndsTick cut y →
+      IsTick f (e ∷ es) now (tick_event fc fd called x y cut)
+  is_tick fc fd called x y cut right due why controller client = record {
+    right = right;
+    controller_tick = refl;
+    client_tick = refl;
+    controller_ticked = refl;
+    client_ticked = due;
+    controller_came = refl;
+    client_came = refl;
+    cut = why;
+    controller_ending = controller;
+    client_ending = client;
+    fed = refl;
+    work = refl;
+  }
+
   abbrev pub ticking_at : List PacketValue → List PacketValue → SessionEvent
   ticking_at fc fd = record { controller = clocked now fc; client = clocked now fd; fed = []; work = e.work; cut = None }
 
@@ -58,7 +104,7 @@ module _ (f : Flow) (es : List SessionEvent) (e : SessionEvent) (now : ℕ) wher
   closed_same : (fc fd : List PacketValue) → closed_at f (ticking_at fc fd ∷ e ∷ es) ≡ closed_at f (e ∷ es)
   closed_same fc fd =
       ap (λ b. option_or (closed_at f (e ∷ es)) (cond b (Some (now + 1)) None)) (same_closed fc fd)
-      ∙ later_closed (closed_at f es) (is_closed f (e ∷ es)) (moment e.client) (now + 1)
+      ∙ later_same (closed_at f es) (is_closed f (e ∷ es)) (moment e.client) (now + 1)
 
   module _ (s : SessionValue) (stands : IsSessionOf f es e s) (early : is_expired f (e ∷ es) now ≡ false)
       (quiet : gives_up (controller_ends f).role (controllers (e ∷ es)) (clocked now []) ≡ false) (silent : gives_up (client_ends f).role (clients (e ∷ es)) (clocked now []) ≡ false)
@@ -71,21 +117,10 @@ module _ (f : Flow) (es : List SessionEvent) (e : SessionEvent) (now : ℕ) wher
     fd_at = fired_at (client_ends f) (clients (e ∷ es)) (clocked now [])
 
     pub live_tick : IsTick f (e ∷ es) now (ticking_at fc_at fd_at)
-    live_tick = record {
-      right = record { controller = right_c; client = right_d };
-      controller_tick = refl;
-      client_tick = refl;
-      controller_ticked = refl;
-      client_ticked = sym (ap not quiet);
-      controller_came = refl;
-      client_came = refl;
-      cut = sym (ap (λ a. cond a (Some (reason.NoAnswer side.Controller)) (cond (gives_up (client_ends f).role (clients (e ∷ es)) (clocked now [])) (Some (reason.NoAnswer side.Client)) None)) quiet
-          ∙ ap (λ a. cond a (Some (reason.NoAnswer side.Client)) None) silent);
-      controller_ending = refl;
-      client_ending = refl;
-      fed = refl;
-      work = refl;
-    }
+    live_tick = is_tick fc_at fd_at true Unspoken Unspoken None (record { controller = right_c; client = right_d }) (sym (ap not quiet))
+        (sym (ap (λ a. cond a (Some (reason.NoAnswer side.Controller)) (cond (gives_up (client_ends f).role (clients (e ∷ es)) (clocked now [])) (Some (reason.NoAnswer side.Client)) None)) quiet
+        ∙ ap (λ a. cond a (Some (reason.NoAnswer side.Client)) None) silent))
+        refl refl
 
     pub live_told : (t0 t1 t2 : Told) → t1 ≡ with_both t0 (at now fc_at) [] → t2 ≡ with_both t1 (at now fd_at) [] → Ticks f (e ∷ es) now t0 t2 (ticking_at fc_at fd_at)
     live_told t0 t1 t2 a b = record {
@@ -121,7 +156,7 @@ module _ (f : Flow) (es : List SessionEvent) (e : SessionEvent) (now : ℕ) wher
           uncut = stands.uncut;
           source = stands.source;
           over = record { client = refl; controller = refl; to_client = stands.over.to_client; to_controller = stands.over.to_controller };
-          greeted = ap is_some (or_no (greeting (clients (e ∷ es)))) ∙ stands.greeted ∙ sym (or_nothing (opened (controller_ends f).role (controllers (e ∷ es))));
+          greeted = ap is_some (or_none (greeting (clients (e ∷ es)))) ∙ stands.greeted ∙ sym (or-false (opened (controller_ends f).role (controllers (e ∷ es))));
         }
 
 -- ---- a cut in the first half
@@ -152,20 +187,9 @@ module _ (f : Flow) (es : List SessionEvent) (e : SessionEvent) (now : ℕ) (ear
     }
 
     pub silent_tick : IsTick f (e ∷ es) now controller_silent
-    silent_tick = record {
-      right = record { controller = cuts.controller_right; client = cuts.client_right };
-      controller_tick = refl;
-      client_tick = refl;
-      controller_ticked = refl;
-      client_ticked = sym (ap not silent);
-      controller_came = refl;
-      client_came = refl;
-      cut = sym (silent_cut (gives_up (controller_ends f).role (controllers (e ∷ es)) (clocked now [])) (gives_up (client_ends f).role (clients (e ∷ es)) (begun now)) silent);
-      controller_ending = (cuts.to_controller, refl);
-      client_ending = (cuts.to_client, refl);
-      fed = refl;
-      work = refl;
-    }
+    silent_tick = is_tick f es e now fc [] false (Cut cuts.to_controller) (Cut cuts.to_client) (Some (reason.NoAnswer side.Controller)) (record { controller = cuts.controller_right; client = cuts.client_right }) (sym (ap not silent))
+        (sym (silent_cut (gives_up (controller_ends f).role (controllers (e ∷ es)) (clocked now [])) (gives_up (client_ends f).role (clients (e ∷ es)) (begun now)) silent))
+        (cuts.to_controller, refl) (cuts.to_client, refl)
 
     pub silent_ticks : Ticks f (e ∷ es) now t0 t2 controller_silent
     silent_ticks = record {
@@ -204,20 +228,9 @@ module _ (f : Flow) (es : List SessionEvent) (e : SessionEvent) (now : ℕ) (ear
     pub client_silent_ticks : Ticks f (e ∷ es) now t0 t3 client_silent
     client_silent_ticks = record {
       kept = early;
-      is_tick = record {
-        right = record { controller = cuts.controller_right; client = cuts.client_right };
-        controller_tick = refl;
-        client_tick = refl;
-        controller_ticked = refl;
-        client_ticked = sym (ap not quiet);
-        controller_came = refl;
-        client_came = refl;
-        cut = sym (silent_client (gives_up (controller_ends f).role (controllers (e ∷ es)) (clocked now [])) (gives_up (client_ends f).role (clients (e ∷ es)) (clocked now [])) quiet silent);
-        controller_ending = (cuts.to_controller, refl);
-        client_ending = (cuts.to_client, refl);
-        fed = refl;
-        work = refl;
-      };
+      is_tick = is_tick f es e now fc fd true (Cut cuts.to_controller) (Cut cuts.to_client) (Some (reason.NoAnswer side.Client)) (record { controller = cuts.controller_right; client = cuts.client_right }) (sym (ap not quiet))
+          (sym (silent_client (gives_up (controller_ends f).role (controllers (e ∷ es)) (clocked now [])) (gives_up (client_ends f).role (clients (e ∷ es)) (clocked now [])) quiet silent))
+          (cuts.to_controller, refl) (cuts.to_client, refl);
       told =
           (let none : fd ≡ [] = fired_client ∙ silent_fires (client_ends f) (clients (e ∷ es)) now silent in
           told_cut t0 t2 t3 now fc fd cuts.to_controller cuts.to_client _ (then_sent t0 t1 t2 now fc fd first second) cuts.told

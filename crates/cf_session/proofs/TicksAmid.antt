@@ -1,33 +1,29 @@
 -- The first half of an event of a session, where the desk failed amid it.
-use Rattle.std.proofs.Common.{◌≡◌, ℕ, ◌+◌, Bool, true, false, not, ◌&&◌, List, [], ◌∷◌, ◌++◌, cond, Option, Some, None, refl, sym, ap, ◌∙◌, subst, append_assoc, inl, inr}
+use Rattle.std.proofs.Common.{◌≡◌, ℕ, Bool, true, false, not, ◌&&◌, List, [], ◌∷◌, ◌++◌, cond, None, refl, sym, ap, ◌∙◌, subst, append_assoc, inl, inr}
 use Rattle.std.specs.Prelude.{nat_le, nat_lt}
-use Rattle.std.proofs.lemmas.Bool.{cases_Bool, false≢true}
+use Rattle.std.proofs.lemmas.Bool.{cases_Bool}
 use Rattle.std.proofs.lemmas.List.{append-nil}
 use Rattle.cf_audit.specs.declared.CutReason.TheVariants as reason
 use Rattle.cf_lane.specs.History.{taken}
 use Rattle.cf_leg.specs.Calls.{ClockBreaks}
 use Rattle.cf_leg.specs.Emits.{IsRight, fired_at, repeats}
-use Rattle.cf_leg.specs.Emitted.{BreaksOff}
-use Rattle.cf_leg.specs.Event.{Cut, LegEvent, begun, clocked, is_settled, said_by, stream_after}
-use Rattle.cf_leg.specs.Heard.{offers}
-use Rattle.cf_leg.specs.LegValue.{LegValue}
+use Rattle.cf_leg.specs.Event.{Cut, LegEvent, begun, clocked, said_by}
 use Rattle.cf_leg.specs.Timer.{armed, due, fires, tries}
 use Rattle.cf_leg.specs.declared.Ends.{Ends}
-use Rattle.cf_outq.specs.SendQueue.{IsQueueOf, Queue}
+use Rattle.cf_outq.specs.SendQueue.{IsQueueOf}
 use Rattle.cf_outside.specs.Desk.{DeskValue}
 use Rattle.cf_packet.specs.Packet.{PacketValue}
-use Rattle.cf_stream.specs.FirstCopy.{IsTaken, first_copy}
 use Rattle.cf_view.specs.declared.Side.TheVariants as side
 use Rattle.cf_session.proofs.Able.{can_cut, can_fire}
 use Rattle.cf_session.proofs.Amid.{amid_after, amid_as, amid_before, amid_sent}
 use Rattle.cf_session.proofs.Telling.{at-append}
 use Rattle.cf_session.proofs.Ticks.{client_silent, client_silent_ticks, controller_silent, live_tick, silent_fires, silent_tick, ticking_at}
-use Rattle.cf_session.specs.Broken.{BreaksAmid, BreaksTick, KeepsParts}
+use Rattle.cf_session.specs.Broken.{BreaksTick, KeepsParts}
 use Rattle.cf_session.specs.Cuts.{gives_up}
 use Rattle.cf_session.specs.Event.{IsTick}
-use Rattle.cf_session.specs.Parts.{IsLegBetween, SessionValue}
-use Rattle.cf_session.specs.Sent.{Sent, at, early, is_first_half, logged_first, sent_first}
-use Rattle.cf_session.specs.Session.{Flow, SessionEvent, client_ends, client_of, clients, controller_ends, controllers, history, is_expired}
+use Rattle.cf_session.specs.Parts.{SessionValue}
+use Rattle.cf_session.specs.Sent.{at, early, is_first_half, logged_first, sent_first}
+use Rattle.cf_session.specs.Session.{Flow, SessionEvent, client_ends, clients, controller_ends, controllers, history, is_expired}
 use Rattle.cf_session.specs.Stands.{IsSessionOf}
 use Rattle.cf_session.specs.Told.{Told, told, with_both}
 use Rattle.cf_session.specs.Turn.{CutsAmid, CutsBoth}

@@ -8,13 +8,14 @@ use Rattle.cf_lane.specs.Handled.{LaneValue}
 use Rattle.cf_lane.specs.History.{Element}
 use Rattle.cf_outq.specs.SendQueue.{Queue}
 use Rattle.cf_policy.specs.declared.Asset.{Asset}
+use Rattle.cf_stream.specs.Stream.{Stream}
 use Rattle.cf_view.specs.declared.Endpoint.{Endpoint}
 use Rattle.cf_view.specs.declared.Side.{Side}
 use Rattle.cf_view.specs.declared.Side.TheVariants as side
 use Rattle.cf_session.proofs.Telling.{then_told}
 use Rattle.cf_session.specs.Told.{Told}
-use Rattle.cf_session.specs.Turn.{FollowsMore}
-use Rattle.cf_session.specs.Work.{Work}
+use Rattle.cf_session.specs.Turn.{AreUncut, FollowsMore}
+use Rattle.cf_session.specs.Work.{Work, fed_at}
 
 pub rest_of-with : (s : Side) (r : Rests) (rest : List ℕ) → rest_of s (with_rest s r rest) ≡ rest
 rest_of-with side.Client r rest = refl
@@ -40,3 +41,8 @@ follows_both asset client now s r h w piece lane1 lane2 c1 k1 c2 k2 cut t0 t1 t2
 pub none_of : {A : Type 0} (o : Option A) → false ≡ is_some o → o ≡ None
 none_of None e = refl
 none_of (Some x) e = absurd (false≢true e)
+
+-- where the letters did not cut the session, it may go on
+pub still_uncut : {asset : Asset} {client : Endpoint} {now : ℕ} {s : Side} {r : Rests} {h : List Element} {w : Work} {letters : Stream} {lane : LaneValue} {c k : Queue} {cut : Option CutReason} {t0 t1 : Told} →
+    (a : FollowsMore asset client now s r h w letters lane c k cut t0 t1) → cut ≡ None → AreUncut asset client r (h ++ fed_at now s letters) a.work lane c k
+still_uncut a none = record { lane_stands = a.lane_stands; uncut = a.cut_is ∙ none; client_stands = a.client_stands; controller_stands = a.controller_stands }

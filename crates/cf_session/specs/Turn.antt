@@ -64,6 +64,13 @@ pub record IsMade (flow : Flow) (s : SessionValue) : Type 0 where
 
 -- ---- letters are handed to the lane
 
+-- lane and queues stand for a history whose work has not cut the session
+pub record AreUncut (asset : Asset) (client : Endpoint) (rests : Rests) (earlier : List Element) (work : Work) (lane : LaneValue) (to_client to_controller : Queue) : Type 0 where
+  pub lane_stands : IsLaneAfter asset client lane rests earlier work
+  pub uncut : work.cut ≡ None
+  pub client_stands : IsQueueOf to_client work.to_client
+  pub controller_stands : IsQueueOf to_controller work.to_controller
+
 -- lane, queues and log stand for a history with more letters of a side: the lane's work went on by these lines
 pub record FollowsMore (asset : Asset) (client : Endpoint) (now : ℕ) (s : Side) (rests : Rests) (earlier : List Element) (before : Work) (letters : Stream)
     (lane : LaneValue) (to_client to_controller : Queue) (cut : Option CutReason) (old new : Told) : Type 0 where
@@ -225,6 +232,10 @@ pub record IsSteady (s : SessionValue) (cut : Option CutReason) : Type 0 where
 abbrev pub roomy_by : (to_client to_controller : Queue) → Bool
 roomy_by c k = nat_le (queue_length c - c.acked) 16384 && nat_le (queue_length k - k.acked) 16384
 
+-- the same of a session
+abbrev pub is_roomy : SessionValue → Bool
+is_roomy s = roomy_by s.to_client s.to_controller
+
 -- the client is greeted with the number of the controller's SYN, where there is one
 abbrev pub came_greeted : Flow → (number : Option ℕ) → Came → Came
 came_greeted flow None came = came
@@ -243,6 +254,13 @@ MayGreet (Some number) event earlier = (event.came ≡ Nothing) × (is_greeted e
 pub record GreetsClient (flow : Flow) (now : ℕ) (number : Option ℕ) (event : LegEvent) (earlier : List LegEvent) (s : SessionValue) (old new : Told) : Type 0 where
   pub stands : IsLegBetween (client_ends flow) s.client s.to_client (record event { came = came_greeted flow number event.came; ending = Unspoken } ∷ earlier)
   pub told : new ≡ with_both old (at now (greetings flow number)) []
+
+-- both legs and the queues to their peers stand for these events and streams, and an event's speeches are still to come
+pub record MaySpeak (flow : Flow) (controller client : LegEvent) (controllers clients : List LegEvent) (to_client to_controller : Stream) (s : SessionValue) : Type 0 where
+  pub controller_stands : IsLegBetween (controller_ends flow) s.controller s.to_controller (record controller { ending = Unspoken } ∷ controllers)
+  pub client_stands : IsLegBetween (client_ends flow) s.client s.to_client (record client { ending = Unspoken } ∷ clients)
+  pub to_client_stands : IsQueueOf s.to_client to_client
+  pub to_controller_stands : IsQueueOf s.to_controller to_controller
 
 -- both legs spoke, the controller's first, and the client was greeted in between
 pub record SaysBoth (flow : Flow) (now : ℕ) (number : Option ℕ) (controller : LegEvent) (controllers : List LegEvent) (client : LegEvent) (clients : List LegEvent)

@@ -5,16 +5,14 @@ ghost use Rattle.cf_lane.specs.Handled.{CountsBy, EndsOther, Grows, HasRoom, IsL
 ghost use Rattle.cf_lane.specs.History.{Element};
 ghost use Rattle.cf_leg.specs.Event.{LegEvent};
 ghost use Rattle.cf_leg.specs.LegValue.{IsLegOf, Marks};
-ghost use Rattle.cf_outq.specs.SendQueue.{IsQueueOf};
 ghost use Rattle.cf_outside.specs.Desk.{DeskValue, KeepsDesk};
 ghost use Rattle.cf_outside.specs.Faults.{HasCause};
 ghost use Rattle.cf_policy.specs.Within.{IsAssetWithin};
 ghost use Rattle.cf_rebuild.specs.ReceiveWindow.{IsWindow};
 ghost use Rattle.cf_view.specs.declared.Endpoint.{Endpoint as EndpointOf};
 ghost use Rattle.cf_session.specs.Broken.{KeepsParts};
-ghost use Rattle.cf_session.specs.Parts.{IsLaneAfter};
 ghost use Rattle.cf_session.specs.Told.{told};
-ghost use Rattle.cf_session.specs.Turn.{FollowsAmid, FollowsMore, HandsOver};
+ghost use Rattle.cf_session.specs.Turn.{AreUncut, FollowsAmid, FollowsMore, HandsOver};
 ghost use Rattle.cf_session.specs.Work.{Work, fed_at};
 
 use cf_audit::CutReason;
@@ -45,14 +43,14 @@ fn feed_lane<D: Desk>(
     requires counts { lane.old.admitted + lane.old.refused + length bytes.bytes < 2 ^ 64 }
     ensures used { IfOk result (λ fed. fed.used ≤ length bytes.entry.bytes) }
     ensures left { IfOk result (λ fed. fed.cut ≡ None → length (drop fed.used bytes.entry.bytes) < 300) }
-    ensures follows { IfOk result (λ fed. (client : EndpointOf) (rests : Rests) (earlier : List Element) (before : Work) (piece : List ℕ) (ended : Bool)
-        → IsEndBehindCut ended fed.cut → IsLaneAfter asset.now client lane.old rests earlier before → before.cut ≡ None
-        → bytes.entry.bytes ≡ rest_of side rests ++ piece → IsQueueOf to_client.old before.to_client → IsQueueOf to_controller.old before.to_controller
-        → FollowsMore asset.now client now side (with_rest side rests (drop fed.used bytes.entry.bytes)) earlier before (record { bytes = piece; ended = ended })
-        lane.new to_client.new to_controller.new fed.cut (told (D.value desk.old)) (told (D.value desk.new))) }
+    ensures follows { IfOk result (λ fed. (client : EndpointOf) (rests : Rests) (earlier : List Element) (before : Work)
+        (piece : List ℕ) (ended : Bool) → IsEndBehindCut ended fed.cut
+        → AreUncut asset.now client rests earlier before lane.old to_client.old to_controller.old → bytes.entry.bytes ≡ rest_of side rests ++ piece
+        → FollowsMore asset.now client now side (with_rest side rests (drop fed.used bytes.entry.bytes)) earlier before
+        (record { bytes = piece; ended = ended }) lane.new to_client.new to_controller.new fed.cut
+        (told (D.value desk.old)) (told (D.value desk.new))) }
     ensures broken { OnErr result ((client : EndpointOf) (rests : Rests) (earlier : List Element) (before : Work) (piece : List ℕ) (ended : Bool)
-        → IsLaneAfter asset.now client lane.old rests earlier before → before.cut ≡ None
-        → bytes.entry.bytes ≡ rest_of side rests ++ piece → IsQueueOf to_client.old before.to_client → IsQueueOf to_controller.old before.to_controller
+        → AreUncut asset.now client rests earlier before lane.old to_client.old to_controller.old → bytes.entry.bytes ≡ rest_of side rests ++ piece
         → FollowsAmid asset.now client now side earlier before (record { bytes = piece; ended = ended }) (D.value desk.old) (D.value desk.new)) }
     ensures parts { OnOk result (KeepsParts (D.value desk.old) (D.value desk.new)) }
     ensures serves { OnOk result (IsLaneOf asset.now lane.new) }
@@ -90,13 +88,13 @@ fn end_lane<D: Desk>(
     requires open { IsOpen side to_client.old to_controller.old }
     requires limit { MayEnd side to_client.old to_controller.old }
     ensures follows { OnOk result ((client : EndpointOf) (rests : Rests) (earlier : List Element) (before : Work) (piece : List ℕ) (middle : Work)
-        → IsLaneAfter asset.now client lane.old rests (earlier ++ fed_at now side (record { bytes = piece; ended = false })) middle → middle.cut ≡ None
-        → rest ≡ length (rest_of side rests) → IsQueueOf to_client.old middle.to_client → IsQueueOf to_controller.old middle.to_controller
+        → AreUncut asset.now client rests (earlier ++ fed_at now side (record { bytes = piece; ended = false })) middle
+        lane.old to_client.old to_controller.old → rest ≡ length (rest_of side rests)
         → FollowsMore asset.now client now side rests earlier middle (record { bytes = piece; ended = true })
         lane.new to_client.new to_controller.new None (told (D.value desk.old)) (told (D.value desk.new))) }
     ensures broken { OnErr result ((client : EndpointOf) (rests : Rests) (earlier : List Element) (before : Work) (piece : List ℕ) (middle : Work)
-        → IsLaneAfter asset.now client lane.old rests (earlier ++ fed_at now side (record { bytes = piece; ended = false })) middle → middle.cut ≡ None
-        → rest ≡ length (rest_of side rests) → IsQueueOf to_client.old middle.to_client → IsQueueOf to_controller.old middle.to_controller
+        → AreUncut asset.now client rests (earlier ++ fed_at now side (record { bytes = piece; ended = false })) middle
+        lane.old to_client.old to_controller.old → rest ≡ length (rest_of side rests)
         → FollowsAmid asset.now client now side earlier middle (record { bytes = piece; ended = true }) (D.value desk.old) (D.value desk.new)) }
     ensures parts { OnOk result (KeepsParts (D.value desk.old) (D.value desk.new)) }
     ensures queues { OnOk result (EndsOther side to_client.old to_controller.old to_client.new to_controller.new) }
@@ -149,14 +147,16 @@ pub(crate) fn hand_over<D: Desk>(
     requires controller_room { HasRoom (debt lane.old + 2 * length (leg.old.window.pending)) to_controller.old }
     requires counts { lane.old.admitted + lane.old.refused + length (leg.old.window.pending) < 2 ^ 64 }
     ensures follows { IfOk result (λ cut. (client : EndpointOf) (rests : Rests) (earlier : List Element) (before : Work) (piece : List ℕ)
-        → IsLaneAfter asset.now client lane.old rests earlier before → before.cut ≡ None
-        → leg.old.window.pending ≡ rest_of side rests ++ piece → IsQueueOf to_client.old before.to_client → IsQueueOf to_controller.old before.to_controller
-        → FollowsMore asset.now client now side (with_rest side rests leg.new.window.pending) earlier before (record { bytes = piece; ended = leg.old.window.ended })
-        lane.new to_client.new to_controller.new cut (told (D.value desk.old)) (told (D.value desk.new))) }
+        → AreUncut asset.now client rests earlier before lane.old to_client.old to_controller.old
+        → leg.old.window.pending ≡ rest_of side rests ++ piece
+        → FollowsMore asset.now client now side (with_rest side rests leg.new.window.pending) earlier before
+        (record { bytes = piece; ended = leg.old.window.ended }) lane.new to_client.new to_controller.new cut
+        (told (D.value desk.old)) (told (D.value desk.new))) }
     ensures broken { OnErr result ((client : EndpointOf) (rests : Rests) (earlier : List Element) (before : Work) (piece : List ℕ)
-        → IsLaneAfter asset.now client lane.old rests earlier before → before.cut ≡ None
-        → leg.old.window.pending ≡ rest_of side rests ++ piece → IsQueueOf to_client.old before.to_client → IsQueueOf to_controller.old before.to_controller
-        → FollowsAmid asset.now client now side earlier before (record { bytes = piece; ended = leg.old.window.ended }) (D.value desk.old) (D.value desk.new)) }
+        → AreUncut asset.now client rests earlier before lane.old to_client.old to_controller.old
+        → leg.old.window.pending ≡ rest_of side rests ++ piece
+        → FollowsAmid asset.now client now side earlier before (record { bytes = piece; ended = leg.old.window.ended })
+        (D.value desk.old) (D.value desk.new)) }
     ensures parts { OnOk result (KeepsParts (D.value desk.old) (D.value desk.new)) }
     ensures serves { OnOk result (IsLaneOf asset.now lane.new) }
     ensures rest { IfOk result (λ cut. cut ≡ None → length leg.new.window.pending < 300) }

@@ -17,9 +17,9 @@ ghost use Rattle.cf_stream.specs.FirstCopy.{IsTaken, first_copy};
 ghost use Rattle.cf_stream.specs.Stream.{Stream};
 ghost use Rattle.cf_view.specs.declared.Endpoint.{Endpoint as EndpointOf};
 ghost use Rattle.cf_session.specs.Broken.{KeepsParts};
-ghost use Rattle.cf_session.specs.Parts.{IsLaneAfter, IsLegBetween, other_queue, own_queue};
+ghost use Rattle.cf_session.specs.Parts.{IsLegBetween, other_queue, own_queue};
 ghost use Rattle.cf_session.specs.Told.{told};
-ghost use Rattle.cf_session.specs.Turn.{Hearing, HearingAmid, KeepsRoom, MayHear};
+ghost use Rattle.cf_session.specs.Turn.{AreUncut, Hearing, HearingAmid, KeepsRoom, MayHear};
 ghost use Rattle.cf_session.specs.Work.{Work};
 
 use crate::handing::{hand_over, has_ended};
@@ -89,15 +89,13 @@ pub(crate) fn hear<D: Desk>(
     requires room { MayHear side leg.old lane.old to_client.old to_controller.old }
     ensures hears { IfOk result (λ heard. (ends : Ends) (client : EndpointOf) (e : LegEvent) (es : List LegEvent) (rests : Rests) (earlier : List Element) (before : Work)
         → now ≡ moment e → IsLegBetween ends leg.old (own_queue side to_client.old to_controller.old) (record e { came = Nothing; ending = Unspoken } ∷ es)
-        → IsLaneAfter asset.now client lane.old rests earlier before → before.cut ≡ None → rest_of side rests ≡ leg.old.window.pending
-        → IsQueueOf to_client.old before.to_client → IsQueueOf to_controller.old before.to_controller
+        → AreUncut asset.now client rests earlier before lane.old to_client.old to_controller.old → rest_of side rests ≡ leg.old.window.pending
         → IsTaken (first_copy (offers ends.role es)) (taken side earlier)
         → Hearing side ends asset.now client now e es (packet_value packet.now) rests earlier before leg.new lane.new to_client.new to_controller.new heard.answer heard.cut
         (told (D.value desk.old)) (told (D.value desk.new))) }
     ensures broken { OnErr result ((ends : Ends) (client : EndpointOf) (e : LegEvent) (es : List LegEvent) (rests : Rests) (earlier : List Element) (before : Work)
         → now ≡ moment e → IsLegBetween ends leg.old (own_queue side to_client.old to_controller.old) (record e { came = Nothing; ending = Unspoken } ∷ es)
-        → IsLaneAfter asset.now client lane.old rests earlier before → before.cut ≡ None → rest_of side rests ≡ leg.old.window.pending
-        → IsQueueOf to_client.old before.to_client → IsQueueOf to_controller.old before.to_controller
+        → AreUncut asset.now client rests earlier before lane.old to_client.old to_controller.old → rest_of side rests ≡ leg.old.window.pending
         → IsTaken (first_copy (offers ends.role es)) (taken side earlier)
         → HearingAmid side ends asset.now client now e es (packet_value packet.now) earlier before (D.value desk.old) (D.value desk.new)) }
     ensures parts { OnOk result (KeepsParts (D.value desk.old) (D.value desk.new)) }

@@ -9,9 +9,9 @@ ghost use Rattle.cf_stream.specs.Stream.{Stream};
 ghost use Rattle.cf_session.specs.Broken.{BreaksAmid, KeepsParts};
 ghost use Rattle.cf_session.specs.Parts.{IsLegBetween, SessionValue};
 ghost use Rattle.cf_session.specs.Sent.{at};
-ghost use Rattle.cf_session.specs.Session.{Flow, client_ends, controller_ends};
+ghost use Rattle.cf_session.specs.Session.{Flow, client_ends};
 ghost use Rattle.cf_session.specs.Told.{told};
-ghost use Rattle.cf_session.specs.Turn.{GreetsClient, IsSteady, MayGreet, OnlySpeaks, SaysAmid, SaysBoth, greetings, roomy_by};
+ghost use Rattle.cf_session.specs.Turn.{GreetsClient, IsSteady, MayGreet, MaySpeak, OnlySpeaks, SaysAmid, SaysBoth, greetings, is_roomy, roomy_by};
 
 use crate::handing::has_ended;
 use crate::session::Session;
@@ -85,16 +85,12 @@ impl Session {
         requires steady { IsSteady self.old None }
         requires moment { now < 2 ^ 32 * 1000000 }
         requires whole { DeskValue.whole (D.value desk.old) ≡ true }
-        ensures says { OnOk result ((flow : Flow) (c d : LegEvent) (cs ds : List LegEvent) (w v : Stream) → now ≡ moment c → now ≡ moment d → MayGreet number d ds
-            → IsLegBetween (controller_ends flow) (SessionValue.controller self.old) (SessionValue.to_controller self.old) (record c { ending = Unspoken } ∷ cs)
-            → IsLegBetween (client_ends flow) (SessionValue.client self.old) (SessionValue.to_client self.old) (record d { ending = Unspoken } ∷ ds)
-            → IsQueueOf (SessionValue.to_client self.old) w → IsQueueOf (SessionValue.to_controller self.old) v
-            → SaysBoth flow now number c cs d ds w v (roomy_by (SessionValue.to_client self.old) (SessionValue.to_controller self.old)) self.new (told (D.value desk.old)) (told (D.value desk.new))) }
-        ensures broken { OnErr result ((flow : Flow) (c d : LegEvent) (cs ds : List LegEvent) (w v : Stream) → now ≡ moment c → now ≡ moment d → MayGreet number d ds
-            → IsLegBetween (controller_ends flow) (SessionValue.controller self.old) (SessionValue.to_controller self.old) (record c { ending = Unspoken } ∷ cs)
-            → IsLegBetween (client_ends flow) (SessionValue.client self.old) (SessionValue.to_client self.old) (record d { ending = Unspoken } ∷ ds)
-            → IsQueueOf (SessionValue.to_client self.old) w → IsQueueOf (SessionValue.to_controller self.old) v
-            → SaysAmid flow now number c cs d ds w v (roomy_by (SessionValue.to_client self.old) (SessionValue.to_controller self.old)) (D.value desk.old) (D.value desk.new)) }
+        ensures says { OnOk result ((flow : Flow) (c d : LegEvent) (cs ds : List LegEvent) (w v : Stream)
+            → now ≡ moment c → now ≡ moment d → MayGreet number d ds → MaySpeak flow c d cs ds w v self.old
+            → SaysBoth flow now number c cs d ds w v (is_roomy self.old) self.new (told (D.value desk.old)) (told (D.value desk.new))) }
+        ensures broken { OnErr result ((flow : Flow) (c d : LegEvent) (cs ds : List LegEvent) (w v : Stream)
+            → now ≡ moment c → now ≡ moment d → MayGreet number d ds → MaySpeak flow c d cs ds w v self.old
+            → SaysAmid flow now number c cs d ds w v (is_roomy self.old) (D.value desk.old) (D.value desk.new)) }
         ensures parts { OnOk result (KeepsParts (D.value desk.old) (D.value desk.new)) }
         ensures client_stands { OnOk result ((w : Stream) → IsQueueOf (SessionValue.to_client self.old) w → IsQueueOf (SessionValue.to_client self.new) w) }
         ensures controller_stands { OnOk result ((w : Stream) → IsQueueOf (SessionValue.to_controller self.old) w → IsQueueOf (SessionValue.to_controller self.new) w) }

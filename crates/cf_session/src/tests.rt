@@ -1,5 +1,4 @@
 //! Exchanges of one session by hand, over a desk in memory: what comes, and what goes.
-ghost use Rattle.std.specs.Prelude.{◌≡◌, ◌∷◌, [], IfOk};
 ghost use Rattle.cf_policy.specs.Within.{IsAssetWithin};
 ghost use Rattle.cf_session.specs.Stands.{IsSound};
 
@@ -8,71 +7,24 @@ use cf_audit::CutReason;
 use cf_modbus::next_adu;
 use cf_outside::MemoryDesk;
 use cf_packet::{ACK, FIN, PSH, Packet, RST, SYN};
-use cf_policy::{Action, Asset, Items, Name, Protocol, Rule, Span};
+use cf_policy::Asset;
 use cf_rebuild::Rebuild;
-use cf_view::{Endpoint, Framed, Side};
-use std::alloc::{AllocError, Global};
+use cf_samples::{CLIENT, EXCEPTION, PUMP, REFUSED, WRITE, pump};
+use cf_view::{Framed, Side};
+use std::alloc::Global;
 use std::process::Abort;
 use std::rt::HostRuntime;
 use std::test::Fail;
-
-/// A write of 100 to register 40, which is allowed, and one to register 50, which is not.
-const WRITE: &[u8] = b"\x00\x01\x00\x00\x00\x06\x01\x06\x00\x28\x00\x64";
-
-const REFUSED: &[u8] = b"\x00\x01\x00\x00\x00\x06\x01\x06\x00\x32\x00\x64";
 
 /// The line of the refused write.
 const REFUSAL: &str =
     "1.030000 10.0.0.5:49152 pump refuse default point code 6 group 0 point 50 value 100 replied 000100000006010600320064\n";
 
-const CLIENT: Endpoint = Endpoint {
-    address: 0x0A00_0005,
-    port: 49152,
-};
-
-const CONTROLLER: Endpoint = Endpoint {
-    address: 0x0A00_0009,
-    port: 502,
-};
-
-/// The list of one span.
-fn one(alloc: Global, low: i64, high: i64) -> Result<Items<Span>, AllocError>
-    ensures { IfOk result (λ spans. spans ≡ record { low = low; high = high } ∷ []) }
-{
-    let mut items = Vec::new(alloc);
-    items.push(Span { low, high })?;
-    Ok(Items::new(items))
-}
-
-/// The asset `pump`, which allows writes of 0 to 500 to the registers 40 to 49.
-fn pump(alloc: Global) -> Result<Asset, AllocError>
-    ensures within { IfOk result (λ asset. IsAssetWithin asset) }
-{
-    let mut rules = Vec::new(alloc);
-    rules.push(Rule {
-        name: Name::from_text("set"),
-        action: Action::Allow,
-        clients: Items::new(Vec::new(alloc)),
-        codes: one(alloc, 6, 6)?,
-        groups: Items::new(Vec::new(alloc)),
-        points: one(alloc, 40, 49)?,
-        values: one(alloc, 0, 500)?,
-    })?;
-    Ok(Asset {
-        name: Name::from_text("pump"),
-        endpoint: CONTROLLER,
-        protocol: Protocol::Modbus,
-        station: 1,
-        master: 0,
-        rules: Items::new(rules),
-    })
-}
-
 /// A packet of a side: its sequence and acknowledgment numbers, its flags and its text.
 fn packet(side: Side, seq: u32, ack: u32, flags: u8, text: &[u8]) -> Packet<'_> {
     let (source, dest) = match side {
-        Side::Client => (CLIENT, CONTROLLER),
-        Side::Controller => (CONTROLLER, CLIENT),
+        Side::Client => (CLIENT, PUMP),
+        Side::Controller => (PUMP, CLIENT),
     };
     Packet {
         source,
@@ -249,11 +201,7 @@ fn refused_write(rt: HostRuntime) -> Result<(), Fail> {
         &write,
     );
     assert!(rt; desk.packets.len() == 4 && session.admitted() == 0 && session.refused() == 1);
-    assert!(rt;
-        desk.packets[3]
-            .bytes
-            .ends_with(b"\x00\x01\x00\x00\x00\x03\x01\x86\x02")
-    );
+    assert!(rt; desk.packets[3].bytes.ends_with(EXCEPTION));
     assert!(rt; desk.lines.len() == 2);
     assert!(rt; desk.lines[1].as_str() == REFUSAL);
     Ok(())

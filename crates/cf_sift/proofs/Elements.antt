@@ -1,4 +1,4 @@
--- A flow that took an element.
+-- A sifting that took an element.
 use Rattle.std.proofs.Common.{◌≡◌, ◌≤◌, ◌+◌, ◌<◌, ℕ, Bool, true, false, None, Some, Option, List, [], ◌∷◌, ◌++◌, length, take, drop, refl, sym, ap, ◌∙◌, append_assoc, subst, inl, inr, arith, cond}
 use Rattle.std.specs.Option.{option_or}
 use Rattle.std.specs.Prelude.{nat_le, ◌||◌, ◌&&◌, if◌then◌else◌}
@@ -27,11 +27,11 @@ use Rattle.std.proofs.lemmas.Bool.{cases_lt, le-leb}
 use Rattle.cf_audit.specs.declared.line.CutReason.TheVariants as reason
 use Rattle.cf_view.specs.declared.Side.TheVariants as side
 use Rattle.cf_sift.specs.Drained.{Drains}
-use Rattle.cf_sift.specs.Flow.{HasGrown, IsDrained, IsFlowOf, MovesFail, rests_of, state_of}
+use Rattle.cf_sift.specs.Sifting.{HasGrown, IsDrained, IsSiftingOf, MovesFail, rests_of, state_of}
 use Rattle.cf_sift.specs.Names.{SiftNamesValue}
 use Rattle.cf_sift.specs.Sifted.{ElementFails, HasLines, LineFails}
 use Rattle.cf_sift.specs.Stored.{cut_behind}
-use Rattle.cf_sift.specs.declared.flow.Flow.{Flow}
+use Rattle.cf_sift.specs.declared.sifting.Sifting.{Sifting}
 use Rattle.cf_sift.proofs.Logs.{lines_begun, lines_told}
 
 -- a drained queue has all of its bytes acknowledged
@@ -162,27 +162,27 @@ drained q r s c d before grown drains few = record {
 }
 
 module _ (asset : Asset) (client : Endpoint) (names : SiftNamesValue) (first : List ℕ → Content) where
-  -- a flow knows why its history is cut
-  pub cut_known : (now : List ℕ → Content) (h : List Element) (cut : Option CutReason) (flow : Flow) (f : IsFlowOf asset client names first now h cut flow) →
-      cut_behind asset h f.follows.judged ≡ option_or cut (limit_by LETTER_LIMIT flow.taken 0 (queue_length flow.to_client) (queue_length flow.to_controller))
-  cut_known now h cut flow f =
+  -- a sifting knows why its history is cut
+  pub cut_known : (now : List ℕ → Content) (h : List Element) (cut : Option CutReason) (sifting : Sifting) (f : IsSiftingOf asset client names first now h cut sifting) →
+      cut_behind asset h f.follows.judged ≡ option_or cut (limit_by LETTER_LIMIT sifting.taken 0 (queue_length sifting.to_client) (queue_length sifting.to_controller))
+  cut_known now h cut sifting f =
       let js = f.follows.judged in
       let c = f.follows.client_stream in
       let k = f.follows.controller_stream in
-      let to_client : queue_length flow.to_client ≡ letter_count (stream_to asset side.Client js) =
-      ap (λ n. n + cond flow.to_client.ended 1 0) c.pushed ∙ ap (λ b. length (outputs asset side.Client [] js) + cond b 1 0) c.ended in
-      let to_controller : queue_length flow.to_controller ≡ letter_count (stream_to asset side.Controller js) =
-      ap (λ n. n + cond flow.to_controller.ended 1 0) k.pushed ∙ ap (λ b. length (outputs asset side.Controller [] js) + cond b 1 0) k.ended in
+      let to_client : queue_length sifting.to_client ≡ letter_count (stream_to asset side.Client js) =
+      ap (λ n. n + cond sifting.to_client.ended 1 0) c.pushed ∙ ap (λ b. length (outputs asset side.Client [] js) + cond b 1 0) c.ended in
+      let to_controller : queue_length sifting.to_controller ≡ letter_count (stream_to asset side.Controller js) =
+      ap (λ n. n + cond sifting.to_controller.ended 1 0) k.pushed ∙ ap (λ b. length (outputs asset side.Controller [] js) + cond b 1 0) k.ended in
       let limit : limit_cut LETTER_LIMIT h (stream_to asset side.Client js) (stream_to asset side.Controller js)
-      ≡ limit_by LETTER_LIMIT flow.taken 0 (queue_length flow.to_client) (queue_length flow.to_controller) =
+      ≡ limit_by LETTER_LIMIT sifting.taken 0 (queue_length sifting.to_client) (queue_length sifting.to_controller) =
       ap (λ n. limit_by LETTER_LIMIT n (letter_count (taken side.Controller h)) (letter_count (stream_to asset side.Client js)) (letter_count (stream_to asset side.Controller js))) (sym f.letters)
-      ∙ ap (λ n. limit_by LETTER_LIMIT flow.taken n (letter_count (stream_to asset side.Client js)) (letter_count (stream_to asset side.Controller js))) f.quiet
-      ∙ ap (λ n. limit_by LETTER_LIMIT flow.taken 0 n (letter_count (stream_to asset side.Controller js))) (sym to_client)
-      ∙ ap (λ n. limit_by LETTER_LIMIT flow.taken 0 (queue_length flow.to_client) n) (sym to_controller) in
+      ∙ ap (λ n. limit_by LETTER_LIMIT sifting.taken n (letter_count (stream_to asset side.Client js)) (letter_count (stream_to asset side.Controller js))) f.quiet
+      ∙ ap (λ n. limit_by LETTER_LIMIT sifting.taken 0 n (letter_count (stream_to asset side.Controller js))) (sym to_client)
+      ∙ ap (λ n. limit_by LETTER_LIMIT sifting.taken 0 (queue_length sifting.to_client) n) (sym to_controller) in
       ap (λ c. option_or c (limit_cut LETTER_LIMIT h (stream_to asset side.Client js) (stream_to asset side.Controller js))) f.follows.is_cut ∙ ap (option_or cut) limit
 
   -- the judged items of one more element, of this client
-  module _ (go : StreamsGoOn) (old : List ℕ → Content) (h : List Element) (flow : Flow) (before : IsFlowOf asset client names first old h None flow) where
+  module _ (go : StreamsGoOn) (old : List ℕ → Content) (h : List Element) (sifting : Sifting) (before : IsSiftingOf asset client names first old h None sifting) where
     abbrev were : List Judged
     were = before.follows.judged
 
@@ -191,7 +191,7 @@ module _ (asset : Asset) (client : Endpoint) (names : SiftNamesValue) (first : L
 
     -- a line failed
     pub line_fails : (part element : Element) (rest : List ℕ) (now : List ℕ → Content) → element ≡ record { moment = part.moment; side = part.side; letters = record { bytes = part.letters.bytes ++ rest; ended = part.letters.ended } } →
-        Began asset flow.lane.client (h ++ part ∷ []) (file_lines (first names.log)) (file_lines (now names.log)) (file_part (now names.log)) →
+        Began asset sifting.lane.client (h ++ part ∷ []) (file_lines (first names.log)) (file_lines (now names.log)) (file_part (now names.log)) →
         now names.out ≡ old names.out → now names.replies ≡ old names.replies → LineFails asset client names first now h were element
     line_fails part element rest now is began out replies =
         let b = subst (λ (e : Endpoint). Began asset e (h ++ part ∷ []) (file_lines (first names.log)) (file_lines (now names.log)) (file_part (now names.log))) before.of_client began in
@@ -206,9 +206,9 @@ module _ (asset : Asset) (client : Endpoint) (names : SiftNamesValue) (first : L
         }
 
     -- an element was fed
-    module _ (e : Element) (rest : List ℕ) (cut : Option CutReason) (mid : Flow) (now : List ℕ → Content)
+    module _ (e : Element) (rest : List ℕ) (cut : Option CutReason) (mid : Sifting) (now : List ℕ → Content)
         (fed : Follows asset (h ++ e ∷ []) (rests_of rest) cut (file_lines (first names.log)) (state_of mid (now names.log)))
-        (same_client : mid.lane.client ≡ flow.lane.client)
+        (same_client : mid.lane.client ≡ sifting.lane.client)
         (out : now names.out ≡ old names.out) (replies : now names.replies ≡ old names.replies) (whole : ends_with_line (now names.log) ≡ true) where
       abbrev are : List Judged
       are = fed.judged
@@ -229,14 +229,14 @@ module _ (asset : Asset) (client : Endpoint) (names : SiftNamesValue) (first : L
           (lines_told (first names.log) (now names.log) (lines asset client [] are) before.log_first whole of_lines))
 
       -- the queues got what the element put out
-      module _ (client_drained : IsDrained flow.to_client) (controller_drained : IsDrained flow.to_controller)
-          (client_grown : HasGrown flow.to_client mid.to_client) (controller_grown : HasGrown flow.to_controller mid.to_controller) where
+      module _ (client_drained : IsDrained sifting.to_client) (controller_drained : IsDrained sifting.to_controller)
+          (client_grown : HasGrown sifting.to_client mid.to_client) (controller_grown : HasGrown sifting.to_controller mid.to_controller) where
         pub client_kept : mid.to_client.kept ≡ outputs asset side.Client were goes.ms
-        client_kept = kept_more flow.to_client mid.to_client (stream_to asset side.Client were) (stream_to asset side.Client are) (outputs asset side.Client were goes.ms)
+        client_kept = kept_more sifting.to_client mid.to_client (stream_to asset side.Client were) (stream_to asset side.Client are) (outputs asset side.Client were goes.ms)
             client_drained before.follows.client_stream client_grown fed.client_stream goes.to_client
 
         pub controller_kept : mid.to_controller.kept ≡ outputs asset side.Controller were goes.ms
-        controller_kept = kept_more flow.to_controller mid.to_controller (stream_to asset side.Controller were) (stream_to asset side.Controller are)
+        controller_kept = kept_more sifting.to_controller mid.to_controller (stream_to asset side.Controller were) (stream_to asset side.Controller are)
             (outputs asset side.Controller were goes.ms) controller_drained before.follows.controller_stream controller_grown fed.controller_stream goes.to_controller
 
         -- an append failed
@@ -261,7 +261,7 @@ module _ (asset : Asset) (client : Endpoint) (names : SiftNamesValue) (first : L
         })))
 
         -- all bytes were moved
-        module _ (new : List ℕ → Content) (last : Flow) (same : last ≡ record mid { to_client = last.to_client; to_controller = last.to_controller })
+        module _ (new : List ℕ → Content) (last : Sifting) (same : last ≡ record mid { to_client = last.to_client; to_controller = last.to_controller })
             (is_rest : rest ≡ mid.rest.items) (log : new names.log ≡ now names.log)
             (client_drains : Drains mid.to_client last.to_client (now names.replies) (new names.replies))
             (controller_drains : Drains mid.to_controller last.to_controller (now names.out) (new names.out))
@@ -270,14 +270,14 @@ module _ (asset : Asset) (client : Endpoint) (names : SiftNamesValue) (first : L
             (letters : mid.taken ≡ letter_count (taken side.Client (h ++ e ∷ []))) (ends : ended_of side.Client (h ++ e ∷ []) ≡ ended_of side.Client h)
             (quiet : letter_count (taken side.Controller (h ++ e ∷ [])) ≡ 0) where
           lane_same : last.lane ≡ mid.lane
-          lane_same = ap (λ (f : Flow). f.lane) same
+          lane_same = ap (λ (f : Sifting). f.lane) same
 
           follows : Follows asset (h ++ e ∷ []) (rests_of last.rest.items) cut (file_lines (first names.log)) (state_of last (new names.log))
           follows = record {
             judged = are;
             are_judged = subst (λ (l : LaneValue). AreJudged asset l.client.address (h ++ e ∷ []) are) (sym lane_same) fed.are_judged;
             is_cut = fed.is_cut;
-            are_rests = subst (λ r. AreRests asset.protocol (h ++ e ∷ []) (rests_of r) cut) (is_rest ∙ sym (ap (λ (f : Flow). f.rest.items) same)) fed.are_rests;
+            are_rests = subst (λ r. AreRests asset.protocol (h ++ e ∷ []) (rests_of r) cut) (is_rest ∙ sym (ap (λ (f : Sifting). f.rest.items) same)) fed.are_rests;
             knows = record {
               admitted = ap (λ (l : LaneValue). l.admitted) lane_same ∙ fed.knows.admitted;
               refused = ap (λ (l : LaneValue). l.refused) lane_same ∙ fed.knows.refused;
@@ -290,9 +290,9 @@ module _ (asset : Asset) (client : Endpoint) (names : SiftNamesValue) (first : L
             of_lines = ap file_lines log ∙ fed.of_lines ∙ ap (λ (l : LaneValue). with_lines (file_lines (first names.log)) (lines asset l.client [] are)) (sym lane_same);
           }
 
-          pub flow_of : IsFlowOf asset client names first new (h ++ e ∷ []) cut last
+          pub sifting_of : IsSiftingOf asset client names first new (h ++ e ∷ []) cut last
           unfolding follows
-          flow_of = record {
+          sifting_of = record {
             follows = follows;
             of_client = ap (λ (l : LaneValue). l.client) lane_same ∙ same_client ∙ before.of_client;
             of_out = file_more (outputs asset side.Controller [] were) (outputs asset side.Controller [] are) (outputs asset side.Controller were goes.ms)
@@ -301,40 +301,40 @@ module _ (asset : Asset) (client : Endpoint) (names : SiftNamesValue) (first : L
                 mid.to_client.kept (first names.replies) (now names.replies) (new names.replies) goes.to_client client_kept (replies ∙ before.of_replies) client_drains.file;
             log_first = before.log_first;
             log_now = ap ends_with_line log ∙ whole;
-            letters = ap (λ (f : Flow). f.taken) same ∙ letters;
+            letters = ap (λ (f : Sifting). f.taken) same ∙ letters;
             ends = controller_drains.ended ∙ ap (λ (q : Queue). q.ended) controller_grown ∙ before.ends ∙ sym ends;
             quiet = quiet;
           }
 
     -- the End was fed, and nothing came of it
-    module _ (now : List ℕ → Content) (new : Flow)
-        (fed : Follows asset (h ++ end_at 0 side.Client ∷ []) (rests_of flow.rest.items) None (file_lines (first names.log)) (state_of new (now names.log)))
-        (is : new ≡ record flow { to_controller = after_end flow.to_controller; taken = flow.taken + 1 })
+    module _ (now : List ℕ → Content) (new : Sifting)
+        (fed : Follows asset (h ++ end_at 0 side.Client ∷ []) (rests_of sifting.rest.items) None (file_lines (first names.log)) (state_of new (now names.log)))
+        (is : new ≡ record sifting { to_controller = after_end sifting.to_controller; taken = sifting.taken + 1 })
         (out : now names.out ≡ old names.out) (replies : now names.replies ≡ old names.replies) (whole : ends_with_line (now names.log) ≡ true)
-        (open_before : flow.to_controller.ended ≡ false) where
-      ended_lane : new.lane.client ≡ flow.lane.client
-      ended_lane = ap (λ (f : Flow). f.lane.client) is
+        (open_before : sifting.to_controller.ended ≡ false) where
+      ended_lane : new.lane.client ≡ sifting.lane.client
+      ended_lane = ap (λ (f : Sifting). f.lane.client) is
 
       ended_goes : GoOn asset client were fed.judged
-      ended_goes = goes (end_at 0 side.Client) flow.rest.items None new now fed ended_lane out replies whole
+      ended_goes = goes (end_at 0 side.Client) sifting.rest.items None new now fed ended_lane out replies whole
 
       client_same : outputs asset side.Client [] fed.judged ≡ outputs asset side.Client [] were
       client_same = nothing_more (outputs asset side.Client [] were) (outputs asset side.Client [] fed.judged) (outputs asset side.Client were ended_goes.ms) ended_goes.to_client
-          (sym fed.client_stream.pushed ∙ ap (λ (f : Flow). f.to_client.pushed) is ∙ before.follows.client_stream.pushed)
+          (sym fed.client_stream.pushed ∙ ap (λ (f : Sifting). f.to_client.pushed) is ∙ before.follows.client_stream.pushed)
 
       controller_same : outputs asset side.Controller [] fed.judged ≡ outputs asset side.Controller [] were
       controller_same = nothing_more (outputs asset side.Controller [] were) (outputs asset side.Controller [] fed.judged) (outputs asset side.Controller were ended_goes.ms) ended_goes.to_controller
-          (sym fed.controller_stream.pushed ∙ ap (λ (f : Flow). f.to_controller.pushed) is ∙ before.follows.controller_stream.pushed)
+          (sym fed.controller_stream.pushed ∙ ap (λ (f : Sifting). f.to_controller.pushed) is ∙ before.follows.controller_stream.pushed)
 
-      pub flow_ended : IsFlowOf asset client names first now (h ++ end_at 0 side.Client ∷ []) None new
-      flow_ended =
+      pub sifting_ended : IsSiftingOf asset client names first now (h ++ end_at 0 side.Client ∷ []) None new
+      sifting_ended =
           let not_yet : ended_of side.Client h ≡ false = sym before.ends ∙ open_before in
           record {
             follows = record {
               judged = fed.judged;
               are_judged = fed.are_judged;
               is_cut = fed.is_cut;
-              are_rests = subst (λ r. AreRests asset.protocol (h ++ end_at 0 side.Client ∷ []) (rests_of r) None) (sym (ap (λ (f : Flow). f.rest.items) is)) fed.are_rests;
+              are_rests = subst (λ r. AreRests asset.protocol (h ++ end_at 0 side.Client ∷ []) (rests_of r) None) (sym (ap (λ (f : Sifting). f.rest.items) is)) fed.are_rests;
               knows = fed.knows;
               client_stream = fed.client_stream;
               controller_stream = fed.controller_stream;
@@ -345,7 +345,7 @@ module _ (asset : Asset) (client : Endpoint) (names : SiftNamesValue) (first : L
             of_replies = replies ∙ before.of_replies ∙ ap (with_appended (first names.replies)) (sym client_same);
             log_first = before.log_first;
             log_now = whole;
-            letters = ap (λ (f : Flow). f.taken) is ∙ ap (λ n. n + 1) before.letters ∙ sym (taken_end h not_yet);
-            ends = ap (λ (f : Flow). f.to_controller.ended) is ∙ sym (ended_of-last side.Client h (end_at 0 side.Client) ∙ or_true (ended_of side.Client h));
+            letters = ap (λ (f : Sifting). f.taken) is ∙ ap (λ n. n + 1) before.letters ∙ sym (taken_end h not_yet);
+            ends = ap (λ (f : Sifting). f.to_controller.ended) is ∙ sym (ended_of-last side.Client h (end_at 0 side.Client) ∙ or_true (ended_of side.Client h));
             quiet = taken_other h [] true ∙ before.quiet;
           }

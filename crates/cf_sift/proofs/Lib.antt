@@ -3,6 +3,6 @@ mod Elements
 mod Ends
 mod Feeding
 mod Logs
-mod Sifting
+mod Sifted
 mod Stored
 mod Streams

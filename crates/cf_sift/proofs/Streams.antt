@@ -20,13 +20,13 @@ use Rattle.cf_outside.proofs.Content.{begins_more}
 use Rattle.cf_policy.specs.declared.Asset.{Asset}
 use Rattle.cf_view.specs.declared.Endpoint.{Endpoint}
 use Rattle.cf_view.specs.declared.Side.TheVariants as side
-use Rattle.cf_sift.specs.Flow.{IsFlowAfter, IsFlowOf, IsReady, rests_of}
+use Rattle.cf_sift.specs.Sifting.{IsSiftingAfter, IsSiftingOf, IsReady, rests_of}
 use Rattle.cf_sift.specs.Names.{SiftNamesValue}
 use Rattle.cf_sift.specs.Sifted.{ElementFails, HasLines, HaveOutput}
 use Rattle.cf_sift.specs.Stored.{IsUncut, cut_behind, stored_history}
 use Rattle.cf_sift.specs.Stream.{HasStream}
 use Rattle.cf_sift.specs.Taken.{IsTakenTo, IsTakenWhole, ReadStops, WriteStops}
-use Rattle.cf_sift.specs.declared.flow.Flow.{Flow}
+use Rattle.cf_sift.specs.declared.sifting.Sifting.{Sifting}
 use Rattle.cf_sift.proofs.Elements.{cut_known}
 use Rattle.cf_sift.proofs.Logs.{lines_told}
 use Rattle.cf_sift.proofs.Stored.{full_piece, goes_up, last_piece, uncut_more}
@@ -122,14 +122,14 @@ first_none None b e = refl
 first_none (Some x) b e = cc
 
 module _ (asset : Asset) (client : Endpoint) (names : SiftNamesValue) (first : List ℕ → Content) where
-  pub of_client : (now : List ℕ → Content) (h : List Element) (cut : Option CutReason) (flow : Flow) (f : IsFlowOf asset client names first now h cut flow) →
+  pub of_client : (now : List ℕ → Content) (h : List Element) (cut : Option CutReason) (sifting : Sifting) (f : IsSiftingOf asset client names first now h cut sifting) →
       AreJudged asset client.address h f.follows.judged
-  of_client now h cut flow f = subst (λ (e : Endpoint). AreJudged asset e.address h f.follows.judged) f.of_client f.follows.are_judged
+  of_client now h cut sifting f = subst (λ (e : Endpoint). AreJudged asset e.address h f.follows.judged) f.of_client f.follows.are_judged
 
   -- the outputs have what was taken
-  pub have_output : (now : List ℕ → Content) (h : List Element) (cut : Option CutReason) (flow : Flow) (f : IsFlowOf asset client names first now h cut flow) →
+  pub have_output : (now : List ℕ → Content) (h : List Element) (cut : Option CutReason) (sifting : Sifting) (f : IsSiftingOf asset client names first now h cut sifting) →
       HaveOutput asset client names first now f.follows.judged []
-  have_output now h cut flow f =
+  have_output now h cut sifting f =
       let js = f.follows.judged in
       let of_lines : file_lines (now names.log) ≡ with_lines (file_lines (first names.log)) (lines asset client [] js) =
       f.follows.of_lines ∙ ap (λ (e : Endpoint). with_lines (file_lines (first names.log)) (lines asset e [] js)) f.of_client in
@@ -140,18 +140,18 @@ module _ (asset : Asset) (client : Endpoint) (names : SiftNamesValue) (first : L
             (lines_told (first names.log) (now names.log) (lines asset client [] js) f.log_first f.log_now of_lines);
       }
 
-  -- a flow that nothing cuts
-  pub uncut_flow : (now : List ℕ → Content) (h : List Element) (flow : Flow) → IsFlowAfter asset client names first now h None flow →
-      IsFlowOf asset client names first now h None flow
-  uncut_flow now h flow after =
-      let f = after.flow_of in
-      let none : after.by_item ≡ None = first_none after.by_item _ (sym (cut_known asset client names first now h after.by_item flow f) ∙ after.is_cut) in
+  -- a sifting that nothing cuts
+  pub uncut_sifting : (now : List ℕ → Content) (h : List Element) (sifting : Sifting) → IsSiftingAfter asset client names first now h None sifting →
+      IsSiftingOf asset client names first now h None sifting
+  uncut_sifting now h sifting after =
+      let f = after.sifting_of in
+      let none : after.by_item ≡ None = first_none after.by_item _ (sym (cut_known asset client names first now h after.by_item sifting f) ∙ after.is_cut) in
       record {
         follows = record {
           judged = f.follows.judged;
           are_judged = f.follows.are_judged;
           is_cut = f.follows.is_cut ∙ none;
-          are_rests = subst (AreRests asset.protocol h (rests_of flow.rest.items)) none f.follows.are_rests;
+          are_rests = subst (AreRests asset.protocol h (rests_of sifting.rest.items)) none f.follows.are_rests;
           knows = f.follows.knows;
           client_stream = f.follows.client_stream;
           controller_stream = f.follows.controller_stream;
@@ -169,20 +169,20 @@ module _ (asset : Asset) (client : Endpoint) (names : SiftNamesValue) (first : L
 
   module _ (one : HasOneJudgement) where
     -- before the first piece
-    pub starts : (old : List ℕ → Content) (flow : Flow) → IsReady asset flow → IsFlowOf asset client names first old [] None flow →
-        IsTakenTo asset client names first old old 0 flow
-    starts old flow ready f = record {
+    pub starts : (old : List ℕ → Content) (sifting : Sifting) → IsReady asset sifting → IsSiftingOf asset client names first old [] None sifting →
+        IsTakenTo asset client names first old old 0 sifting
+    starts old sifting ready f = record {
       bytes = [];
       size = refl;
       begins = nothing_read (old names.stream);
       history = [];
       goes_on = λ rest. refl;
-      flow_of = f;
+      sifting_of = f;
       uncut = λ front back ks is are.
           let none : front ≡ [] = empty front back is in
-          let same : ks ≡ f.follows.judged = one asset client.address [] ks f.follows.judged (subst (λ l. AreJudged asset client.address l ks) none are) (of_client old [] None flow f) in
-          ap (λ l. cut_behind asset l ks) none ∙ ap (cut_behind asset []) same ∙ cut_known asset client names first old [] None flow f
-          ∙ no_limit LETTER_LIMIT flow.taken (queue_length flow.to_client) (queue_length flow.to_controller) ready.few ready.client.few ready.controller.few;
+          let same : ks ≡ f.follows.judged = one asset client.address [] ks f.follows.judged (subst (λ l. AreJudged asset client.address l ks) none are) (of_client old [] None sifting f) in
+          ap (λ l. cut_behind asset l ks) none ∙ ap (cut_behind asset []) same ∙ cut_known asset client names first old [] None sifting f
+          ∙ no_limit LETTER_LIMIT sifting.taken (queue_length sifting.to_client) (queue_length sifting.to_controller) ready.few ready.client.few ready.controller.few;
     }
       where
         nothing_read : (file : Content) → BeginsWith file []
@@ -194,7 +194,7 @@ module _ (asset : Asset) (client : Endpoint) (names : SiftNamesValue) (first : L
         empty [] b is = refl
         empty (x ∷ f) b is = cc
 
-    module _ (old now : List ℕ → Content) (at : ℕ) (flow : Flow) (t : IsTakenTo asset client names first old now at flow) where
+    module _ (old now : List ℕ → Content) (at : ℕ) (sifting : Sifting) (t : IsTakenTo asset client names first old now at sifting) where
       -- a read failed
       pub read_stops : ReadStops asset client names first old now
       read_stops =
@@ -206,15 +206,15 @@ module _ (asset : Asset) (client : Endpoint) (names : SiftNamesValue) (first : L
             later = stored_history more.0;
             begins = t.goes_on more.0;
             uncut = t.uncut;
-            judged = t.flow_of.follows.judged;
-            are_judged = of_client now t.history None flow t.flow_of;
-            have = have_output now t.history None flow t.flow_of;
+            judged = t.sifting_of.follows.judged;
+            are_judged = of_client now t.history None sifting t.sifting_of;
+            have = have_output now t.history None sifting t.sifting_of;
           }
 
       module _ (p : List ℕ) (filled : IsFilled (old names.stream) (length t.bytes) 4096 p) where
         -- a write failed at a piece
         pub piece_stops : (new : List ℕ → Content) → 0 < length p → length p ≤ 4096 →
-            ElementFails asset client names first new t.history t.flow_of.follows.judged (bytes_at 0 side.Client p) → WriteStops asset client names first old new
+            ElementFails asset client names first new t.history t.sifting_of.follows.judged (bytes_at 0 side.Client p) → WriteStops asset client names first old new
         piece_stops new some short fails =
             let (rest, whole, (later, splits)) = piece_at (old names.stream) t.bytes p t.begins filled some short in
             record {
@@ -225,14 +225,14 @@ module _ (asset : Asset) (client : Endpoint) (names : SiftNamesValue) (first : L
               later = later;
               begins = t.goes_on (p ++ rest) ∙ ap (λ l. t.history ++ l) splits;
               uncut = t.uncut;
-              judged = t.flow_of.follows.judged;
-              are_judged = of_client now t.history None flow t.flow_of;
+              judged = t.sifting_of.follows.judged;
+              are_judged = of_client now t.history None sifting t.sifting_of;
               fails = fails;
             }
 
         -- a piece cuts
-        pub piece_cuts : (new : List ℕ → Content) (last : Flow) (why : CutReason) → 0 < length p → length p ≤ 4096 →
-            IsFlowAfter asset client names first new (t.history ++ bytes_at 0 side.Client p ∷ []) (Some why) last →
+        pub piece_cuts : (new : List ℕ → Content) (last : Sifting) (why : CutReason) → 0 < length p → length p ≤ 4096 →
+            IsSiftingAfter asset client names first new (t.history ++ bytes_at 0 side.Client p ∷ []) (Some why) last →
             IsTakenWhole asset client names first old new (Some why) last
         piece_cuts new last why some short after =
             let (rest, whole, (later, splits)) = piece_at (old names.stream) t.bytes p t.begins filled some short in
@@ -243,23 +243,23 @@ module _ (asset : Asset) (client : Endpoint) (names : SiftNamesValue) (first : L
               earlier = t.history;
               element = element;
               uncut = t.uncut;
-              judged = t.flow_of.follows.judged;
-              are_judged = of_client now t.history None flow t.flow_of;
+              judged = t.sifting_of.follows.judged;
+              are_judged = of_client now t.history None sifting t.sifting_of;
               after = after;
-              goes = goes_up one asset client.address (stored_history (t.bytes ++ (p ++ rest))) t.history later element (Some why) after.flow_of.follows.judged t.uncut
+              goes = goes_up one asset client.address (stored_history (t.bytes ++ (p ++ rest))) t.history later element (Some why) after.sifting_of.follows.judged t.uncut
                   (t.goes_on (p ++ rest) ∙ ap (λ l. t.history ++ l) splits ∙ sym (append_assoc t.history (element ∷ []) later))
-                  (of_client new (t.history ++ element ∷ []) after.by_item last after.flow_of) after.is_cut (λ e. cc);
+                  (of_client new (t.history ++ element ∷ []) after.by_item last after.sifting_of) after.is_cut (λ e. cc);
             }
 
         -- behind a piece that does not cut
-        uncut_piece : (new : List ℕ → Content) (last : Flow) (after : IsFlowAfter asset client names first new (t.history ++ bytes_at 0 side.Client p ∷ []) None last) →
+        uncut_piece : (new : List ℕ → Content) (last : Sifting) (after : IsSiftingAfter asset client names first new (t.history ++ bytes_at 0 side.Client p ∷ []) None last) →
             IsUncut asset client.address (t.history ++ bytes_at 0 side.Client p ∷ [])
         uncut_piece new last after =
-            uncut_more one asset client.address t.history (bytes_at 0 side.Client p) after.flow_of.follows.judged t.uncut
-            (of_client new (t.history ++ bytes_at 0 side.Client p ∷ []) after.by_item last after.flow_of) after.is_cut
+            uncut_more one asset client.address t.history (bytes_at 0 side.Client p) after.sifting_of.follows.judged t.uncut
+            (of_client new (t.history ++ bytes_at 0 side.Client p ∷ []) after.by_item last after.sifting_of) after.is_cut
 
-        pub goes_on : (new : List ℕ → Content) (last : Flow) → length p ≡ 4096 →
-            IsFlowAfter asset client names first new (t.history ++ bytes_at 0 side.Client p ∷ []) None last →
+        pub goes_on : (new : List ℕ → Content) (last : Sifting) → length p ≡ 4096 →
+            IsSiftingAfter asset client names first new (t.history ++ bytes_at 0 side.Client p ∷ []) None last →
             IsTakenTo asset client names first old new (at + length p) last
         goes_on new last full after = record {
           bytes = t.bytes ++ p;
@@ -268,7 +268,7 @@ module _ (asset : Asset) (client : Endpoint) (names : SiftNamesValue) (first : L
           history = t.history ++ bytes_at 0 side.Client p ∷ [];
           goes_on = λ rest. ap stored_history (append_assoc t.bytes p rest) ∙ t.goes_on (p ++ rest) ∙ ap (λ l. t.history ++ l) (full_piece p rest full)
               ∙ sym (append_assoc t.history (bytes_at 0 side.Client p ∷ []) (stored_history rest));
-          flow_of = uncut_flow new (t.history ++ bytes_at 0 side.Client p ∷ []) last after;
+          sifting_of = uncut_sifting new (t.history ++ bytes_at 0 side.Client p ∷ []) last after;
           uncut = uncut_piece new last after;
         }
 
@@ -287,13 +287,13 @@ module _ (asset : Asset) (client : Endpoint) (names : SiftNamesValue) (first : L
         last_behind some short = t.goes_on p ∙ ap (λ l. t.history ++ l) (last_piece p some short)
             ∙ sym (append_assoc t.history (bytes_at 0 side.Client p ∷ []) (end_at 0 side.Client ∷ []))
 
-        pub uncut_last : (new : List ℕ → Content) (last : Flow) (after : IsFlowAfter asset client names first new (t.history ++ bytes_at 0 side.Client p ∷ []) None last) →
+        pub uncut_last : (new : List ℕ → Content) (last : Sifting) (after : IsSiftingAfter asset client names first new (t.history ++ bytes_at 0 side.Client p ∷ []) None last) →
             IsUncut asset client.address (t.history ++ bytes_at 0 side.Client p ∷ [])
         uncut_last = uncut_piece
 
     -- behind all pieces stands End
-    module _ (old now : List ℕ → Content) (flow : Flow) (bytes : List ℕ) (h : List Element) (whole : IsWhole (old names.stream) bytes)
-        (begins : stored_history bytes ≡ h ++ end_at 0 side.Client ∷ []) (f : IsFlowOf asset client names first now h None flow) (uncut : IsUncut asset client.address h) where
+    module _ (old now : List ℕ → Content) (sifting : Sifting) (bytes : List ℕ) (h : List Element) (whole : IsWhole (old names.stream) bytes)
+        (begins : stored_history bytes ≡ h ++ end_at 0 side.Client ∷ []) (f : IsSiftingOf asset client names first now h None sifting) (uncut : IsUncut asset client.address h) where
       pub end_stops : (new : List ℕ → Content) → ElementFails asset client names first new h f.follows.judged (end_at 0 side.Client) →
           WriteStops asset client names first old new
       end_stops new fails = record {
@@ -305,12 +305,12 @@ module _ (asset : Asset) (client : Endpoint) (names : SiftNamesValue) (first : L
         begins = begins;
         uncut = uncut;
         judged = f.follows.judged;
-        are_judged = of_client now h None flow f;
+        are_judged = of_client now h None sifting f;
         fails = fails;
       }
 
-      pub end_taken : (new : List ℕ → Content) (last : Flow) (cut : Option CutReason) →
-          IsFlowAfter asset client names first new (h ++ end_at 0 side.Client ∷ []) cut last → IsTakenWhole asset client names first old new cut last
+      pub end_taken : (new : List ℕ → Content) (last : Sifting) (cut : Option CutReason) →
+          IsSiftingAfter asset client names first new (h ++ end_at 0 side.Client ∷ []) cut last → IsTakenWhole asset client names first old new cut last
       end_taken new last cut after = record {
         bytes = bytes;
         whole = whole;
@@ -318,9 +318,9 @@ module _ (asset : Asset) (client : Endpoint) (names : SiftNamesValue) (first : L
         element = end_at 0 side.Client;
         uncut = uncut;
         judged = f.follows.judged;
-        are_judged = of_client now h None flow f;
+        are_judged = of_client now h None sifting f;
         after = after;
-        goes = goes_up one asset client.address (stored_history bytes) h [] (end_at 0 side.Client) cut after.flow_of.follows.judged uncut
+        goes = goes_up one asset client.address (stored_history bytes) h [] (end_at 0 side.Client) cut after.sifting_of.follows.judged uncut
             (begins ∙ sym (append-nil (h ++ end_at 0 side.Client ∷ [])))
-            (of_client new (h ++ end_at 0 side.Client ∷ []) after.by_item last after.flow_of) after.is_cut (λ e. refl);
+            (of_client new (h ++ end_at 0 side.Client ∷ []) after.by_item last after.sifting_of) after.is_cut (λ e. refl);
       }

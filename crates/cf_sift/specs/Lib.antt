@@ -1,9 +1,9 @@
 pub mod Drained
-pub mod Flow
 pub mod Laws
 pub mod Names
 pub mod Outputs
 pub mod Sifted
+pub mod Sifting
 pub mod Stored
 pub mod Stream
 pub mod Taken

@@ -8,16 +8,16 @@ use Rattle.cf_lane.specs.Judged.{Judged}
 use Rattle.cf_outside.specs.Files.{BeginsWith, Content, IsWhole}
 use Rattle.cf_policy.specs.declared.Asset.{Asset}
 use Rattle.cf_view.specs.declared.Endpoint.{Endpoint}
-use Rattle.cf_sift.specs.Flow.{IsFlowAfter, IsFlowOf}
+use Rattle.cf_sift.specs.Sifting.{IsSiftingAfter, IsSiftingOf}
 use Rattle.cf_sift.specs.Names.{SiftNamesValue}
 use Rattle.cf_sift.specs.Sifted.{ElementFails, HaveOutput}
 use Rattle.cf_sift.specs.Stored.{GoesUpTo, IsUncut, stored_history}
 use Rattle.cf_sift.specs.Stream.{HasStream}
-use Rattle.cf_sift.specs.declared.flow.Flow.{Flow}
+use Rattle.cf_sift.specs.declared.sifting.Sifting.{Sifting}
 
 module _ (asset : Asset) (client : Endpoint) (names : SiftNamesValue) (first old now : List ℕ → Content) where
   -- up to its first cut, or to its end
-  pub record IsTakenWhole (cut : Option CutReason) (flow : Flow) : Type 0 where
+  pub record IsTakenWhole (cut : Option CutReason) (sifting : Sifting) : Type 0 where
     pub bytes : List ℕ
     pub whole : IsWhole (old names.stream) bytes
     pub earlier : List Element
@@ -25,8 +25,8 @@ module _ (asset : Asset) (client : Endpoint) (names : SiftNamesValue) (first old
     pub uncut : IsUncut asset client.address earlier
     pub judged : List Judged
     pub are_judged : AreJudged asset client.address earlier judged
-    pub after : IsFlowAfter asset client names first now (earlier ++ element ∷ []) cut flow
-    pub goes : GoesUpTo asset client.address (stored_history bytes) cut (earlier ++ element ∷ []) after.flow_of.follows.judged
+    pub after : IsSiftingAfter asset client names first now (earlier ++ element ∷ []) cut sifting
+    pub goes : GoesUpTo asset client.address (stored_history bytes) cut (earlier ++ element ∷ []) after.sifting_of.follows.judged
 
   -- up to a read that failed
   pub record ReadStops : Type 0 where
@@ -55,16 +55,16 @@ module _ (asset : Asset) (client : Endpoint) (names : SiftNamesValue) (first old
 
 module _ (asset : Asset) (client : Endpoint) (names : SiftNamesValue) (first old now : List ℕ → Content) where
   -- before a piece: so many bytes were taken, and nothing cuts
-  pub record IsTakenTo (at : ℕ) (flow : Flow) : Type 0 where
+  pub record IsTakenTo (at : ℕ) (sifting : Sifting) : Type 0 where
     pub bytes : List ℕ
     pub size : length bytes ≡ at
     pub begins : BeginsWith (old names.stream) bytes
     pub history : List Element
     pub goes_on : (rest : List ℕ) → stored_history (bytes ++ rest) ≡ history ++ stored_history rest
-    pub flow_of : IsFlowOf asset client names first now history None flow
+    pub sifting_of : IsSiftingOf asset client names first now history None sifting
     pub uncut : IsUncut asset client.address history
 
 -- what a call that takes a stream says holds of each client and of whatever the outputs had first
-abbrev pub OfEachFlow : Asset → SiftNamesValue → Flow → (before : List ℕ → Content) → (Endpoint → (List ℕ → Content) → Type 0) → Type 0
-OfEachFlow asset names flow before Holds =
-    (client : Endpoint) (first : List ℕ → Content) → IsFlowOf asset client names first before [] None flow → Holds client first
+abbrev pub OfEachSifting : Asset → SiftNamesValue → Sifting → (before : List ℕ → Content) → (Endpoint → (List ℕ → Content) → Type 0) → Type 0
+OfEachSifting asset names sifting before Holds =
+    (client : Endpoint) (first : List ℕ → Content) → IsSiftingOf asset client names first before [] None sifting → Holds client first

@@ -2,12 +2,13 @@
 //! file.
 #![tactic(auto)]
 
-mod flow;
 mod laws;
+mod log;
 mod names;
 mod outputs;
 mod queue_file;
 mod sift;
+mod sifting;
 mod stream;
 
 pub use laws::has_one_cut;

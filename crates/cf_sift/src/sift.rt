@@ -9,13 +9,14 @@ ghost use Rattle.cf_policy.specs.Within.{IsAssetWithin};
 ghost use Rattle.cf_sift.specs.Names.{AreApart, sift_names_value};
 ghost use Rattle.cf_sift.specs.Sifted.{SiftEnds, cut_lines};
 
-use crate::flow::Flow;
+use crate::log::log_desk;
 use crate::names::SiftNames;
 use crate::outputs::create_outputs;
+use crate::sifting::Sifting;
 use crate::stream::{PIECE, take_stream};
 use cf_audit::{CutReason, Line, What};
 use cf_lane::put_line;
-use cf_outside::{Files, LineDesk};
+use cf_outside::Files;
 use cf_policy::Asset;
 use cf_view::{Endpoint, NoMemory, WriteFault};
 use std::alloc::Global;
@@ -92,16 +93,16 @@ pub fn sift_stream<F: Files>(
         address: client,
         port: 0,
     };
-    let mut flow = Flow::new(alloc, asset, client)?;
+    let mut sifting = Sifting::new(alloc, asset, client)?;
     let mut piece = zeros(alloc)?;
     let mut buffer = zeros(alloc)?;
     create_outputs(files, names)?;
-    let cut = take_stream(&mut flow, asset, names, files, &mut piece, &mut buffer)?;
+    let cut = take_stream(&mut sifting, asset, names, files, &mut piece, &mut buffer)?;
     log_cut(asset, client, &cut, names.log, files)?;
     Ok(SiftDone {
         cut,
-        admitted: flow.lane.admitted(),
-        refused: flow.lane.refused(),
+        admitted: sifting.lane.admitted(),
+        refused: sifting.lane.refused(),
     })
 }
 
@@ -156,11 +157,7 @@ fn log_reason<F: Files>(
         asset: asset.name.as_str(),
         what: What::Cut(reason),
     };
-    let mut desk = LineDesk {
-        files,
-        log,
-        failed: false,
-    };
+    let mut desk = log_desk(log, files);
     put_line(&line, &mut desk)
 }
 

@@ -6,15 +6,15 @@ ghost use Rattle.cf_outside.specs.Files.{Content};
 ghost use Rattle.cf_outside.specs.Lines.{ends_with_line};
 ghost use Rattle.cf_policy.specs.Within.{IsAssetWithin};
 ghost use Rattle.cf_view.specs.declared.Endpoint.{Endpoint as EndpointOf};
-ghost use Rattle.cf_sift.specs.Flow.{FailsElement, IsReady, TakesElement};
+ghost use Rattle.cf_sift.specs.Sifting.{FailsElement, IsReady, TakesElement};
 ghost use Rattle.cf_sift.specs.Names.{AreApart, sift_names_value, sift_output_names};
 ghost use Rattle.cf_sift.specs.Outputs.{KeepsAllBut};
 ghost use Rattle.cf_sift.specs.Sifted.{ElementFails};
-ghost use Rattle.cf_sift.specs.Taken.{IsTakenWhole, OfEachFlow, ReadStops, WriteStops};
+ghost use Rattle.cf_sift.specs.Taken.{IsTakenWhole, OfEachSifting, ReadStops, WriteStops};
 
-use crate::flow::Flow;
 use crate::names::SiftNames;
 use crate::sift::SiftFault;
+use crate::sifting::Sifting;
 use cf_audit::CutReason;
 use cf_lane::{has_one_judgement, streams_go_on};
 use cf_outside::{Files, fill};
@@ -26,26 +26,26 @@ pub(crate) const PIECE: usize = 4_096;
 
 /// Takes a stream from its beginning: piece by piece, and then its End, up to a cut, and says why it is cut.
 pub(crate) fn take_stream<F: Files>(
-    flow: &mut Flow,
+    sifting: &mut Sifting,
     asset: &Asset,
     names: &SiftNames<'_>,
     files: &mut F,
     piece: &mut [u8],
     buffer: &mut [u8],
 ) -> Result<Option<CutReason>, SiftFault>
-    requires ready { IsReady asset.now flow.old }
-    requires fresh { flow.old.taken ≡ 0 }
+    requires ready { IsReady asset.now sifting.old }
+    requires fresh { sifting.old.taken ≡ 0 }
     requires within { IsAssetWithin asset.now }
     requires apart { AreApart (sift_names_value names.now) }
     requires whole { ends_with_line (F.content files.old names.now.log.now) ≡ true }
     requires piece { length piece.old ≡ 4096 }
     requires buffer { length buffer.old ≡ 4096 }
-    ensures taken { IfOk result (λ cut. OfEachFlow asset.now (sift_names_value names.now) flow.old (F.content files.old)
+    ensures taken { IfOk result (λ cut. OfEachSifting asset.now (sift_names_value names.now) sifting.old (F.content files.old)
         (λ client first. IsTakenWhole asset.now client (sift_names_value names.now) first (F.content files.old) (F.content files.new)
-        cut flow.new)) }
-    ensures read { IsErrOf result SiftFault.Read → OfEachFlow asset.now (sift_names_value names.now) flow.old (F.content files.old)
+        cut sifting.new)) }
+    ensures read { IsErrOf result SiftFault.Read → OfEachSifting asset.now (sift_names_value names.now) sifting.old (F.content files.old)
         (λ client first. ReadStops asset.now client (sift_names_value names.now) first (F.content files.old) (F.content files.new)) }
-    ensures write { IsErrOf result SiftFault.Write → OfEachFlow asset.now (sift_names_value names.now) flow.old (F.content files.old)
+    ensures write { IsErrOf result SiftFault.Write → OfEachSifting asset.now (sift_names_value names.now) sifting.old (F.content files.old)
         (λ client first. WriteStops asset.now client (sift_names_value names.now) first (F.content files.old) (F.content files.new)) }
     ensures memory { IsErrOf result SiftFault.NoMemory → ⊥ }
     ensures log { OnOk result (ends_with_line (F.content files.new names.now.log.now) ≡ true) }
@@ -60,13 +60,13 @@ pub(crate) fn take_stream<F: Files>(
             return Err(SiftFault::Read);
         };
         if count == 0 {
-            return Ok(take_end(flow, asset, names, files)?);
+            return Ok(take_end(sifting, asset, names, files)?);
         }
-        if let Some(reason) = take_piece(flow, asset, &piece[..count], names, files, buffer)? {
+        if let Some(reason) = take_piece(sifting, asset, &piece[..count], names, files, buffer)? {
             return Ok(Some(reason));
         }
         if count < PIECE {
-            return Ok(take_end(flow, asset, names, files)?);
+            return Ok(take_end(sifting, asset, names, files)?);
         }
         at += count as u64;
     }
@@ -74,25 +74,25 @@ pub(crate) fn take_stream<F: Files>(
 
 /// Takes a piece, and moves what it puts into the two streams to their files. Says why the stream is cut behind it.
 fn take_piece<F: Files>(
-    flow: &mut Flow,
+    sifting: &mut Sifting,
     asset: &Asset,
     piece: &[u8],
     names: &SiftNames<'_>,
     files: &mut F,
     buffer: &mut [u8],
 ) -> Result<Option<CutReason>, WriteFault>
-    requires ready { IsReady asset.now flow.old }
+    requires ready { IsReady asset.now sifting.old }
     requires within { IsAssetWithin asset.now }
     requires apart { AreApart (sift_names_value names.now) }
     requires whole { ends_with_line (F.content files.old names.now.log.now) ≡ true }
     requires piece { length piece.now ≤ 4096 }
     requires buffer { length buffer.old ≡ 4096 }
     ensures taken { IfOk result (TakesElement asset.now (sift_names_value names.now) (bytes_at 0 Side.Client piece.now)
-        flow.old flow.new (F.content files.old) (F.content files.new)) }
+        sifting.old sifting.new (F.content files.old) (F.content files.new)) }
     ensures fails { OnErr result (FailsElement asset.now (sift_names_value names.now) (bytes_at 0 Side.Client piece.now)
-        flow.old (F.content files.old) (F.content files.new)) }
-    ensures ready { IfOk result (λ cut. cut ≡ None → IsReady asset.now flow.new) }
-    ensures letters { OnOk result (flow.new.taken ≡ flow.old.taken + length piece.now) }
+        sifting.old (F.content files.old) (F.content files.new)) }
+    ensures ready { IfOk result (λ cut. cut ≡ None → IsReady asset.now sifting.new) }
+    ensures letters { OnOk result (sifting.new.taken ≡ sifting.old.taken + length piece.now) }
     ensures whole { OnOk result (ends_with_line (F.content files.new names.now.log.now) ≡ true) }
     ensures others { KeepsAllBut (F.content files.old) (F.content files.new) (sift_output_names (sift_names_value names.now)) }
     ensures cause { HasCause (F.write_faults files.old) (F.write_faults files.new) (IsErr result) }
@@ -100,32 +100,32 @@ fn take_piece<F: Files>(
     ensures buffer { length buffer.new ≡ 4096 }
 {
     streams_go_on();
-    let cut = flow.feed(asset, piece, names.log, files)?;
-    flow.drain(names, files, buffer)?;
-    Ok(cut.or(flow.length_cut()))
+    let cut = sifting.feed(asset, piece, names.log, files)?;
+    sifting.drain(names, files, buffer)?;
+    Ok(cut.or(sifting.length_cut()))
 }
 
 /// Takes the End of a stream. Says why the stream is cut behind it.
 fn take_end<F: Files>(
-    flow: &mut Flow,
+    sifting: &mut Sifting,
     asset: &Asset,
     names: &SiftNames<'_>,
     files: &mut F,
 ) -> Result<Option<CutReason>, WriteFault>
-    requires ready { IsReady asset.now flow.old }
+    requires ready { IsReady asset.now sifting.old }
     requires within { IsAssetWithin asset.now }
     requires apart { AreApart (sift_names_value names.now) }
     requires whole { ends_with_line (F.content files.old names.now.log.now) ≡ true }
     ensures taken { IfOk result (TakesElement asset.now (sift_names_value names.now) (end_at 0 Side.Client)
-        flow.old flow.new (F.content files.old) (F.content files.new)) }
+        sifting.old sifting.new (F.content files.old) (F.content files.new)) }
     ensures fails { OnErr result (FailsElement asset.now (sift_names_value names.now) (end_at 0 Side.Client)
-        flow.old (F.content files.old) (F.content files.new)) }
+        sifting.old (F.content files.old) (F.content files.new)) }
     ensures whole { OnOk result (ends_with_line (F.content files.new names.now.log.now) ≡ true) }
     ensures others { KeepsAllBut (F.content files.old) (F.content files.new) (sift_output_names (sift_names_value names.now)) }
     ensures cause { HasCause (F.write_faults files.old) (F.write_faults files.new) (IsErr result) }
     ensures reads { F.read_faults files.new ≡ F.read_faults files.old }
 {
     streams_go_on();
-    flow.end(asset, names.log, files)?;
-    Ok(flow.length_cut())
+    sifting.end(asset, names.log, files)?;
+    Ok(sifting.length_cut())
 }

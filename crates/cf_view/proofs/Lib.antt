@@ -1,4 +1,5 @@
--- The interface of lemmas for the crates above: Framing, OctetLists, Places and Units.
+-- The interface of lemmas for the crates above: Cells, Framing, OctetLists, Places and Units.
+pub mod Cells
 mod Digits
 pub mod Framing
 pub mod OctetLists

@@ -1,16 +1,16 @@
 -- The records that are made so far.
-use Rattle.std.proofs.Common.{◌≡◌, ◌⊎◌, ℕ, ◌+◌, ◌<◌, ◌≤◌, List, [], ◌∷◌, ◌++◌, length, take, Result, Ok, Err, refl, sym, ap, ◌∙◌, subst, arith, inl, inr}
+use Rattle.std.proofs.Common.{◌≡◌, ◌≢◌, ◌⊎◌, ℕ, ◌+◌, ◌<◌, ◌≤◌, List, [], ◌∷◌, ◌++◌, length, take, Result, Ok, Err, refl, sym, ap, ◌∙◌, subst, arith, inl, inr}
 use Rattle.std.proofs.lemmas.List.{length-append, take_all}
 use Rattle.std.proofs.lemmas.List.Elements.{Contains-append_left, Contains-push}
 use Rattle.std.proofs.Math.Seq.{take-append-add}
-use Rattle.cf_outside.specs.Files.{Content, IsPartly, content_after_create, content_after_write, with_appended}
+use Rattle.cf_outside.specs.Files.{Content, IsPartly, KeepsOthers, content_after_create, content_after_write, with_appended}
 use Rattle.cf_outside.proofs.Content.{with_appended-twice, with_appended-nothing}
 use Rattle.cf_pcap.specs.Capture.{first_moment, moment_limit}
 use Rattle.cf_pcap.specs.Header.{output_octets}
 use Rattle.cf_pcap.specs.Record.{Record}
 use Rattle.cf_world.specs.Capture.{BeginsEach, IsSyn}
 use Rattle.cf_world.specs.Making.{AppendsAll, AppendsPart, AppendsRecords, AreMade, IsReadAgain, IsSent, least_after, record_octets, records_octets}
-use Rattle.cf_world.specs.World.{HoldsCapture, HoldsCapturePart, MakesCapture}
+use Rattle.cf_world.specs.World.{HoldsCapture, HoldsCapturePart, HoldsPolicy, LeavesCapturePart, MakesWorld, WorldNamesValue}
 use Rattle.cf_world.specs.declared.world.WorldFault.{WorldFault}
 use Rattle.cf_world.proofs.Records.{after_more, is_capture, made_more, octets_more}
 
@@ -120,18 +120,33 @@ holds_part before first after begun part =
     }
 
 -- a capture of no records, whose header was written in part
-pub holds_nothing : (before after : Content) (header : List ℕ) → header ≡ output_octets → IsPartly header before after → HoldsCapturePart before after
-holds_nothing before after header is partly = record {
-  octets = output_octets;
-  records = [];
-  is_capture = is_capture [] tt (omega arith);
-  in_file = subst (λ octets. IsPartly octets before after) is partly;
-}
+holds_nothing : (before after : Content) → IsPartly output_octets before after → HoldsCapturePart before after
+holds_nothing before after partly = record { octets = output_octets; records = []; is_capture = is_capture [] tt (omega arith); in_file = partly }
 
--- a capture whose header was written, behind which records were made
-pub capture_made : (sessions : ℕ) (before first after : Content) (header : List ℕ) (result : Result Unit WorldFault) → header ≡ output_octets →
-    first ≡ content_after_write before header → AppendsRecords sessions first after result → MakesCapture sessions before after result
-capture_made sessions before first after header (Ok _) is begun all =
-    holds_capture sessions before first after (begun ∙ ap (λ octets. content_after_write before octets) is) all
-capture_made sessions before first after header (Err fault) is begun part =
-    holds_part before first after (begun ∙ ap (λ octets. content_after_write before octets) is) part
+-- the policy was written, and the capture was begun behind it
+module _ (sessions : ℕ) (names : WorldNamesValue) (before mid first : List ℕ → Content) (apart : names.policy ≢ names.capture)
+    (policy : HoldsPolicy (before names.policy) (mid names.policy)) (kept : KeepsOthers names.policy before mid) (begun : KeepsOthers names.capture mid first) where
+  untouched : mid names.capture ≡ before names.capture
+  untouched = kept names.capture (λ same. apart (sym same))
+
+  holds_policy : (after : List ℕ → Content) → after names.policy ≡ mid names.policy → HoldsPolicy (before names.policy) (after names.policy)
+  holds_policy after same = subst (λ file. HoldsPolicy (before names.policy) file) (sym same) policy
+
+  -- its header was written in part
+  pub header_part : IsPartly output_octets (mid names.capture) (first names.capture) → LeavesCapturePart sessions names before first
+  header_part partly = record {
+    policy = holds_policy first (begun names.policy apart);
+    capture = holds_nothing (before names.capture) (first names.capture) (subst (λ file. IsPartly output_octets file (first names.capture)) untouched partly);
+  }
+
+  -- records were made behind its header
+  pub world_made : (after : List ℕ → Content) (result : Result Unit WorldFault) → first names.capture ≡ content_after_write (mid names.capture) output_octets →
+      KeepsOthers names.capture first after → AppendsRecords sessions (first names.capture) (after names.capture) result → MakesWorld sessions names before after result
+  world_made after (Ok _) header others all = record {
+    policy = holds_policy after (others names.policy apart ∙ begun names.policy apart);
+    capture = holds_capture sessions (before names.capture) (first names.capture) (after names.capture) (header ∙ ap (λ file. content_after_write file output_octets) untouched) all;
+  }
+  world_made after (Err fault) header others part = inr (inr (record {
+    policy = holds_policy after (others names.policy apart ∙ begun names.policy apart);
+    capture = holds_part (before names.capture) (first names.capture) (after names.capture) (header ∙ ap (λ file. content_after_write file output_octets) untouched) part;
+  }))

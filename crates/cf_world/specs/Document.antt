@@ -4,6 +4,7 @@ use Rattle.cf_view.specs.declared.base.Endpoint.{Endpoint}
 use Rattle.cf_policy.specs.declared.policy.Action.TheVariants.{Allow}
 use Rattle.cf_policy.specs.declared.policy.Asset.{Asset}
 use Rattle.cf_policy.specs.declared.policy.Policy.{Policy}
+use Rattle.cf_policy.specs.declared.policy.Protocol.{Protocol}
 use Rattle.cf_policy.specs.declared.policy.Protocol.TheVariants.{Modbus, Dnp3, Iec104}
 use Rattle.cf_policy.specs.declared.policy.Rule.{Rule}
 use Rattle.cf_policy.specs.declared.policy.Span.{Span}
@@ -29,38 +30,28 @@ ok_rule codes_of groups points = record {
 abbrev pub controller : (n port : ℕ) → Endpoint
 controller n port = record { address = ((10 * 256 + 2) * 256 + 0) * 256 + n; port = port }
 
+-- an asset with one rule
+abbrev pub asset_with : (name : List ℕ) → Endpoint → Protocol → (station master : ℕ) → Rule → Asset
+asset_with name endpoint protocol station master rule = record {
+  name = name;
+  endpoint = endpoint;
+  protocol = protocol;
+  station = station;
+  master = master;
+  rules = rule ∷ [];
+}
+
 -- Modbus: writes of one register, 0 to 9
 abbrev pub w0 : Asset
-w0 = record {
-  name = codes "w0";
-  endpoint = controller 1 502;
-  protocol = Modbus;
-  station = 1;
-  master = 0;
-  rules = ok_rule (from_to 6 6) [] (from_to 0 9) ∷ [];
-}
+w0 = asset_with (codes "w0") (controller 1 502) Modbus 1 0 (ok_rule (from_to 6 6) [] (from_to 0 9))
 
 -- DNP3: direct operates of the outputs 0 to 9, latched or pulsed by the code 3073
 abbrev pub w1 : Asset
-w1 = record {
-  name = codes "w1";
-  endpoint = controller 2 20000;
-  protocol = Dnp3;
-  station = 10;
-  master = 1;
-  rules = ok_rule (from_to 5 5) (from_to 3073 3073) (from_to 0 9) ∷ [];
-}
+w1 = asset_with (codes "w1") (controller 2 20000) Dnp3 10 1 (ok_rule (from_to 5 5) (from_to 3073 3073) (from_to 0 9))
 
 -- IEC 60870-5-104: activations of the single commands 1000 to 1009
 abbrev pub w2 : Asset
-w2 = record {
-  name = codes "w2";
-  endpoint = controller 3 2404;
-  protocol = Iec104;
-  station = 1;
-  master = 0;
-  rules = ok_rule (from_to 45 45) (from_to 6 6) (from_to 1000 1009) ∷ [];
-}
+w2 = asset_with (codes "w2") (controller 3 2404) Iec104 1 0 (ok_rule (from_to 45 45) (from_to 6 6) (from_to 1000 1009))
 
 abbrev pub made_policy : Policy
 made_policy = record { assets = w0 ∷ w1 ∷ w2 ∷ [] }

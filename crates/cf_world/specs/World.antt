@@ -48,11 +48,6 @@ pub record HoldsCapturePart (before after : Content) : Type 0 where
   pub is_capture : IsCaptureOf records octets
   pub in_file : IsPartly octets before after
 
--- what the answer of its making means
-abbrev pub MakesCapture : (sessions : ℕ) → (before after : Content) → Result Unit WorldFault → Type 0
-MakesCapture sessions before after (Ok _) = HoldsCapture sessions before after
-MakesCapture sessions before after (Err fault) = HoldsCapturePart before after
-
 module _ (sessions : ℕ) (names : WorldNamesValue) (before after : List ℕ → Content) where
   -- both files are whole
   pub record LeavesWorld : Type 0 where

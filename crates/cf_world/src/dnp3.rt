@@ -3,11 +3,11 @@ ghost use Rattle.cf_dnplink.specs.LinkFrame.{IsFrame, frame_value};
 
 use crate::commands::{Commands, point_of};
 use crate::message::{Message, message};
-use crate::speaker::Reaction;
+use crate::speaker::{Reaction, first_unit};
 use arrayvec::ArrayVec;
 use cf_dnplink::{Frame, copy_user, next_frame, user_len, write_frame};
 use cf_dnptrans::segment_octet;
-use cf_view::{Framed, View, push_bytes};
+use cf_view::{View, push_bytes};
 
 /// The link address of the master, and that of the asset.
 const MASTER: u16 = 1;
@@ -48,10 +48,9 @@ impl Dnp3Master {
 
     /// The next command behind an answer.
     pub(crate) fn hear(&mut self, heard: &[u8]) -> Reaction {
-        match next_frame(View::one(heard)) {
-            Framed::Unit { used, .. } => Reaction::goes_on(used, self.command()),
-            Framed::More => Reaction::Waits,
-            Framed::Broken(_) => Reaction::Passes { used: heard.len() },
+        match first_unit(next_frame(View::one(heard)), heard) {
+            Ok((_, used)) => Reaction::goes_on(used, self.command()),
+            Err(reaction) => reaction,
         }
     }
 }
@@ -108,10 +107,9 @@ impl Outstation {
 
     /// The response to a request.
     pub(crate) fn hear(&mut self, heard: &[u8]) -> Reaction {
-        match next_frame(View::one(heard)) {
-            Framed::Unit { unit, used } => self.answer(&unit, used),
-            Framed::More => Reaction::Waits,
-            Framed::Broken(_) => Reaction::Passes { used: heard.len() },
+        match first_unit(next_frame(View::one(heard)), heard) {
+            Ok((unit, used)) => self.answer(&unit, used),
+            Err(reaction) => reaction,
         }
     }
 

@@ -4,10 +4,10 @@ ghost use Rattle.cf_apci.specs.Apdu.{Fits, apdu_value};
 
 use crate::commands::{Commands, point_of};
 use crate::message::{Message, message};
-use crate::speaker::Reaction;
+use crate::speaker::{Reaction, first_unit};
 use arrayvec::ArrayVec;
 use cf_apci::{Apdu, next_apdu, write_apdu};
-use cf_view::{Framed, View, push_bytes};
+use cf_view::{View, push_bytes};
 
 /// STARTDT act and con. IEC 60870-5-104, section 5.
 const START_ACT: u8 = 0x07;
@@ -92,8 +92,8 @@ impl Iec104Client {
 
     /// The next command behind the confirmation of the start, or behind an answer.
     pub(crate) fn hear(&mut self, heard: &[u8]) -> Reaction {
-        match next_apdu(View::one(heard)) {
-            Framed::Unit { unit, used } => match unit {
+        match first_unit(next_apdu(View::one(heard)), heard) {
+            Ok((unit, used)) => match unit {
                 Apdu::Info { .. } => {
                     self.frames.receive();
                     Reaction::goes_on(used, self.command())
@@ -101,8 +101,7 @@ impl Iec104Client {
                 Apdu::Control(START_CON) => Reaction::goes_on(used, self.command()),
                 _ => Reaction::Passes { used },
             },
-            Framed::More => Reaction::Waits,
-            Framed::Broken(_) => Reaction::Passes { used: heard.len() },
+            Err(reaction) => reaction,
         }
     }
 
@@ -146,8 +145,8 @@ impl Substation {
 
     /// STARTDT con, or the ASDU of the command with cause 7.
     pub(crate) fn hear(&mut self, heard: &[u8]) -> Reaction {
-        match next_apdu(View::one(heard)) {
-            Framed::Unit { unit, used } => match unit {
+        match first_unit(next_apdu(View::one(heard)), heard) {
+            Ok((unit, used)) => match unit {
                 Apdu::Info { asdu, .. } => self.confirm(&asdu, used),
                 Apdu::Control(START_ACT) => Reaction::Says {
                     used,
@@ -155,8 +154,7 @@ impl Substation {
                 },
                 _ => Reaction::Passes { used },
             },
-            Framed::More => Reaction::Waits,
-            Framed::Broken(_) => Reaction::Passes { used: heard.len() },
+            Err(reaction) => reaction,
         }
     }
 

@@ -2,10 +2,10 @@
 
 use crate::commands::{Commands, point_of};
 use crate::message::{Message, message};
-use crate::speaker::Reaction;
+use crate::speaker::{Reaction, first_unit};
 use arrayvec::ArrayVec;
 use cf_modbus::{Adu, next_adu, write_adu};
-use cf_view::{Framed, View};
+use cf_view::View;
 
 /// The station of the asset.
 const STATION: u8 = 1;
@@ -34,10 +34,9 @@ impl ModbusMaster {
 
     /// The next command behind an answer.
     pub(crate) fn hear(&mut self, heard: &[u8]) -> Reaction {
-        match next_adu(View::one(heard)) {
-            Framed::Unit { used, .. } => Reaction::goes_on(used, self.command()),
-            Framed::More => Reaction::Waits,
-            Framed::Broken(_) => Reaction::Passes { used: heard.len() },
+        match first_unit(next_adu(View::one(heard)), heard) {
+            Ok((_, used)) => Reaction::goes_on(used, self.command()),
+            Err(reaction) => reaction,
         }
     }
 }
@@ -62,13 +61,12 @@ pub(crate) struct ModbusDevice;
 impl ModbusDevice {
     /// The same ADU.
     pub(crate) fn hear(&mut self, heard: &[u8]) -> Reaction {
-        match next_adu(View::one(heard)) {
-            Framed::Unit { used, .. } => Reaction::Says {
+        match first_unit(next_adu(View::one(heard)), heard) {
+            Ok((_, used)) => Reaction::Says {
                 used,
                 message: message(&heard[..used.min(heard.len())]),
             },
-            Framed::More => Reaction::Waits,
-            Framed::Broken(_) => Reaction::Passes { used: heard.len() },
+            Err(reaction) => reaction,
         }
     }
 }

@@ -1,9 +1,11 @@
 //! Who speaks at a host's end of a connection.
+ghost use Rattle.std.specs.Prelude.{◌≡◌, IfOk};
 
 use crate::dnp3::{Dnp3Master, Outstation};
 use crate::iec104::{Iec104Client, Substation};
 use crate::message::Message;
 use crate::modbus::{ModbusDevice, ModbusMaster};
+use cf_view::Framed;
 
 /// What a host does about the octets that it heard.
 #[derive(Drop)]
@@ -25,6 +27,17 @@ impl Reaction {
             Some(message) => Reaction::Says { used, message },
             None => Reaction::Closes { used },
         }
+    }
+}
+
+/// The unit that begins what a host heard, and how many octets it takes; where none does, what the host does.
+pub(crate) fn first_unit<U>(front: Framed<U>, heard: &[u8]) -> Result<(U, usize), Reaction>
+    ensures { IfOk result (λ found. front ≡ Framed.Unit found.0 found.1) }
+{
+    match front {
+        Framed::Unit { unit, used } => Ok((unit, used)),
+        Framed::More => Err(Reaction::Waits),
+        Framed::Broken(_) => Err(Reaction::Passes { used: heard.len() }),
     }
 }
 

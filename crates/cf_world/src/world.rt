@@ -2,9 +2,8 @@
 ghost use Rattle.std.specs.Prelude.{◌≡◌, ◌≢◌, ◌≤◌, IsErr, IsErrOf, OnErr, OnOk};
 ghost use Rattle.cf_outside.specs.Faults.{HasCause};
 ghost use Rattle.cf_outside.specs.Files.{IsPartly, KeepsOthers, content_after_write};
-ghost use Rattle.cf_policy.specs.Within.{AreAssetsWithin};
-ghost use Rattle.cf_run.specs.Step.{IsSoundEngine};
-ghost use Rattle.cf_world.specs.World.{KeepsOtherFiles, MakesCapture, MakesWorld, world_names_value};
+ghost use Rattle.cf_pcap.specs.Header.{output_octets};
+ghost use Rattle.cf_world.specs.World.{KeepsOtherFiles, MakesWorld, world_names_value};
 
 use crate::document::make_document;
 use crate::hosts::Hosts;
@@ -12,7 +11,6 @@ use crate::making::make_records;
 use cf_lane::LETTER_LIMIT;
 use cf_outside::{Files, WriteAnswer, append_all};
 use cf_pcap::write_header;
-use cf_policy::Policy;
 use cf_run::Engine;
 use cf_view::WriteFault;
 use std::alloc::{AllocError, Global};
@@ -88,7 +86,8 @@ pub fn make_world<F: Files>(
     };
     let mut hosts = Hosts::new(alloc, seed, sessions)?;
     begin_file(files, names.policy, document.text.as_bytes())?;
-    make_capture(
+    begin_capture(files, names.capture)?;
+    make_records(
         alloc,
         &document.policy,
         sessions,
@@ -113,27 +112,15 @@ fn begin_file<F: Files>(files: &mut F, name: &str, octets: &[u8]) -> Result<(), 
     }
 }
 
-/// Creates the capture's file, and writes its header and its records.
-fn make_capture<F: Files>(
-    alloc: Global,
-    policy: &Policy,
-    sessions: u32,
-    capture: &str,
-    engine: &mut Engine,
-    hosts: &mut Hosts,
-    files: &mut F,
-) -> Result<(), WorldFault>
-    requires within { AreAssetsWithin policy.now.assets }
-    requires few { sessions ≤ 200 }
-    requires sound { IsSoundEngine policy.now.assets engine.old }
-    requires first { engine.old.last ≡ 0 }
-    ensures made { MakesCapture sessions (F.content files.old capture.now) (F.content files.new capture.now) result }
+/// Creates the capture's file, and writes its header.
+fn begin_capture<F: Files>(files: &mut F, capture: &str) -> Result<(), WriteFault>
+    ensures done { OnOk result (F.content files.new capture.now ≡ content_after_write (F.content files.old capture.now) output_octets) }
+    ensures partly { OnErr result (IsPartly output_octets (F.content files.old capture.now) (F.content files.new capture.now)) }
     ensures others { KeepsOthers capture.now (F.content files.old) (F.content files.new) }
-    ensures cause { HasCause (F.write_faults files.old) (F.write_faults files.new) (IsErrOf result WorldFault.Write) }
+    ensures cause { HasCause (F.write_faults files.old) (F.write_faults files.new) (IsErr result) }
     ensures reads { F.read_faults files.new ≡ F.read_faults files.old }
 {
     let mut header = [0u8; 24];
     write_header(&mut header);
-    begin_file(files, capture, &header)?;
-    make_records(alloc, policy, sessions, capture, engine, hosts, files)
+    begin_file(files, capture, &header)
 }

@@ -177,3 +177,78 @@ fn texts_come_out_of_order_and_overlap(rt: HostRuntime) -> Result<(), Fail> {
     assert!(rt; looker.shown.below > 0 && looker.shown.equal > 0 && looker.shown.other > 0);
     Ok(())
 }
+
+/// Where the first texts of each host of a world of one session, made from the number seven, start, and how many octets they have. The first nine
+/// draws of that number are 1, 6, 5, 4, 4, 5, 4, 0 and 3. A command and its echo have 12 octets, and the third command is refused: so
+/// the draws are in turn for the client and the controller, but that the fifth and the sixth are both for the client.
+const CLIENT_TEXTS: [(u32, usize); 8] = [
+    (0, 12),
+    (12, 12),
+    (12, 12),
+    (30, 6),
+    (24, 6),
+    (36, 12),
+    (36, 12),
+    (48, 12),
+];
+
+const CONTROLLER_TEXTS: [(u32, usize); 8] = [
+    (0, 12),
+    (6, 6),
+    (18, 6),
+    (12, 6),
+    (30, 6),
+    (24, 6),
+    (36, 6),
+    (42, 6),
+];
+
+/// Where the texts of both hosts start, and how many octets they have. The client's SYN has the number 1,000, and the controller's
+/// 501,000.
+#[derive(Drop)]
+struct Texts {
+    of_client: Vec<(u32, usize)>,
+    of_controller: Vec<(u32, usize)>,
+}
+
+impl Texts {
+    /// Looks at a packet, where it has text.
+    fn look(&mut self, packet: &Packet<'_>) -> Result<(), AllocError> {
+        let len = packet.text.len();
+        if len == 0 {
+            return Ok(());
+        }
+        if packet.source.port == 502 {
+            self.of_controller
+                .push((packet.seq.wrapping_sub(501_001), len))?;
+        } else {
+            self.of_client.push((packet.seq.wrapping_sub(1001), len))?;
+        }
+        Ok(())
+    }
+}
+
+#[test]
+fn texts_go_as_they_are_drawn(rt: HostRuntime) -> Result<(), Fail> {
+    let alloc = rt.alloc();
+    let mut files = world(alloc, 7, 1)?;
+    let mut texts = Texts {
+        of_client: Vec::new(alloc),
+        of_controller: Vec::new(alloc),
+    };
+    let Ok(mut reader) = RecordReader::open(alloc, &mut files, "c") else {
+        return Err("not opened".into());
+    };
+    for _ in 0..RECORD_LIMIT {
+        match reader.next(&mut files, "c") {
+            NextRecord::Whole(_) => match read_packet(&LinkKind::RawIp, reader.body()) {
+                Ok(packet) => texts.look(&packet)?,
+                Err(_) => return Err("no packet".into()),
+            },
+            _ => break,
+        }
+    }
+    assert!(rt; texts.of_client.starts_with(&CLIENT_TEXTS));
+    assert!(rt; texts.of_controller.starts_with(&CONTROLLER_TEXTS));
+    Ok(())
+}

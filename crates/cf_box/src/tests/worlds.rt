@@ -2,6 +2,7 @@
 
 use crate::box_main;
 use cf_outside::{Fail, MemoryFiles, MemoryPair, MemorySink};
+use cf_world::{WorldNames, make_world};
 use std::alloc::Global;
 use std::process::Abort;
 use std::test::Fail as TestFail;
@@ -131,40 +132,22 @@ fn a_world_is_run_as_any_capture(rt: HostRuntime) -> Result<(), TestFail> {
     Ok(())
 }
 
-/// Each third call of the files fails, from one on: the status is that of its kind. Three tests have all calls, since a test has
-/// its time.
-fn failed_calls_stop_a_world(rt: &impl Abort, alloc: Global, first: u64) -> Result<(), TestFail> {
-    for step in 0..1_000_000_u64 {
-        let call = first.saturating_add(step.saturating_mul(3));
-        let fails = [Fail { call, left: 3 }];
-        let left = run(alloc, "world 7 1 w c o l", &[], &fails, &[])?;
-        let (wanted, printed) = match (left.files.read_faults, left.files.write_faults) {
-            (0, 0) => {
-                assert_eq!(rt; left.status, 0);
-                return Ok(());
-            }
-            (0, _) => (4, ""),
-            _ => (3, "read fault\n"),
-        };
-        assert_eq!(rt; left.status, wanted, "{call}");
-        assert_eq!(rt; left.printed.as_slice(), printed.as_bytes(), "{call}");
+/// What is made of the words is what `make_world` makes of their numbers.
+#[test]
+fn a_world_is_that_of_its_words(rt: HostRuntime) -> Result<(), TestFail> {
+    let alloc = rt.alloc();
+    let left = made(alloc, "world 7 2 w c o l")?;
+    let mut files = MemoryFiles::new(alloc);
+    let names = WorldNames {
+        policy: "w",
+        capture: "c",
+    };
+    assert!(rt; make_world(alloc, 7, 2, &names, &mut files).is_ok());
+    for name in ["w", "c"] {
+        let own = files.files.get(name).ok_or("no file")?;
+        assert!(rt; left.file(name) == Some(own.as_slice()), "{name}");
     }
-    Err("every run failed".into())
-}
-
-#[test]
-fn failed_calls_from_1_on_stop(rt: HostRuntime) -> Result<(), TestFail> {
-    failed_calls_stop_a_world(&rt, rt.alloc(), 1)
-}
-
-#[test]
-fn failed_calls_from_2_on_stop(rt: HostRuntime) -> Result<(), TestFail> {
-    failed_calls_stop_a_world(&rt, rt.alloc(), 2)
-}
-
-#[test]
-fn failed_calls_from_3_on_stop(rt: HostRuntime) -> Result<(), TestFail> {
-    failed_calls_stop_a_world(&rt, rt.alloc(), 3)
+    Ok(())
 }
 
 /// At the limit of the words; the policy cannot be created, or what was counted cannot be printed.

@@ -25,7 +25,7 @@ use cf_view::{Endpoint, Side, View, WriteFault};
 
 impl Fragments {
     /// Takes a frame of a side, which has these octets, by its fate: one that is not served goes nowhere, a link status frame goes
-    /// on as it is, and a data frame is put to the fragment of its side.
+    /// on as it is, and a data frame does what its segment does to the fragment of its side.
     pub(crate) fn take_frame<D: Desk>(
         &mut self,
         asset: &Asset,
@@ -69,56 +69,6 @@ impl Fragments {
             pass_on(side, octets, to_client, to_controller);
             return Ok(Fate::Carried);
         }
-        let fate = self.take_data(
-            asset,
-            index,
-            client,
-            moment,
-            side,
-            frame,
-            to_client,
-            to_controller,
-            desk,
-        )?;
-        Ok(fate)
-    }
-
-    /// Takes a data frame that is served by what its segment does.
-    fn take_data<D: Desk>(
-        &mut self,
-        asset: &Asset,
-        index: &CodeIndex,
-        client: &Endpoint,
-        moment: u64,
-        side: Side,
-        frame: &Frame<'_>,
-        to_client: &mut Outq,
-        to_controller: &mut Outq,
-        desk: &mut D,
-    ) -> Result<Fate, WriteFault>
-        requires index { IsIndexOf asset.now client.now.address index.now }
-        requires within { IsAssetWithin asset.now }
-        requires desk { DeskValue.whole (D.value desk.old) ≡ true }
-        requires are { AreFragments self.old }
-        requires frame { IsFrame (frame_value frame.now) }
-        requires served { stray_of asset.now side (frame_value frame.now) ≡ None }
-        requires is_data { is_data (frame_value frame.now) ≡ true }
-        requires open { IsOpen side to_client.old to_controller.old }
-        requires client_room { HasRoom (owed_by self.old + 2 * length (frame_spelling (frame_value frame.now))) to_client.old }
-        requires controller_room { HasRoom (owed_by self.old + 2 * length (frame_spelling (frame_value frame.now))) to_controller.old }
-        ensures takes { IfOk result (λ f. TakesFrame asset.now client.now moment side (frame_value frame.now) f
-            (parts self.old to_client.old to_controller.old (DeskValue.lines (D.value desk.old)))
-            (parts self.new to_client.new to_controller.new (DeskValue.lines (D.value desk.new)))) }
-        ensures misses { OnErr result (MissesFrame asset.now client.now moment side (frame_value frame.now)
-            (parts self.old to_client.old to_controller.old (DeskValue.lines (D.value desk.old)))
-            (DeskValue.lines (D.value desk.new)) (DeskValue.line_part (D.value desk.new))) }
-        ensures are { OnOk result (AreFragments self.new) }
-        ensures client_grows { OnOk result (Grows (2 * length (frame_spelling (frame_value frame.now))) (owed_by self.old) (owed_by self.new) to_client.old to_client.new) }
-        ensures controller_grows { OnOk result (Grows (2 * length (frame_spelling (frame_value frame.now))) (owed_by self.old) (owed_by self.new) to_controller.old to_controller.new) }
-        ensures whole { OnOk result (DeskValue.whole (D.value desk.new) ≡ true) }
-        ensures log { WritesLog (D.value desk.old) (D.value desk.new) }
-        ensures cause { HasCause (DeskValue.faults (D.value desk.old)) (DeskValue.faults (D.value desk.new)) (IsErr result) }
-    {
         let answer = self.take_segment(side, frame);
         let fate = self.take_answer(
             asset,

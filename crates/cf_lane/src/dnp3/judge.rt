@@ -7,9 +7,9 @@ ghost use Rattle.cf_lane.specs.Acts.{fate_of_acts};
 ghost use Rattle.cf_lane.specs.Dnp3.{IsOfFragment, fate_of_fragment, form_reason};
 ghost use Rattle.cf_lane.specs.Fate.{HasOwnDecider};
 
-use crate::fate::{Fate, Refusal, refused};
+use crate::fate::{Fate, judge_acts, refused};
 use cf_dnpobj::{Fragment, FragmentRefusal, act_at, act_count, read_fragment};
-use cf_policy::{Asset, CodeIndex, Decider, Verdict};
+use cf_policy::{Asset, CodeIndex, Decider};
 use cf_view::{Reason, Side, View};
 
 /// The fate of a fragment of 2 to 2,048 octets of the client of the index: a confirmation goes on, and every other one is a command. Its form is
@@ -55,29 +55,5 @@ fn judge_request(asset: &Asset, index: &CodeIndex, fragment: &Fragment<'_>) -> F
     if fragment.code == 0 {
         return Fate::Carried;
     }
-    judge_acts(asset, index, fragment)
-}
-
-/// The fate of a command whose form was read.
-fn judge_acts(asset: &Asset, index: &CodeIndex, fragment: &Fragment<'_>) -> Fate
-    requires size { length fragment.now.objects.bytes ≤ 2046 }
-    requires code { fragment.now.code ≢ 0 }
-    ensures fate { (client : ℕ) → IsIndexOf asset.now client index.now → result ≡ fate_of_acts asset.now client (acts (fragment_value fragment.now)) }
-    ensures decider { HasOwnDecider asset.now.rules result }
-    ensures fragment { (client : ℕ) → IsIndexOf asset.now client index.now → IsOfFragment result }
-{
-    for i in 0..act_count(fragment) {
-        let act = act_at(fragment, i);
-        match index.verdict(asset, &act) {
-            Verdict::Allow(_) => {}
-            Verdict::Refuse(decider, reason) => {
-                return Fate::Refused(Refusal {
-                    decider,
-                    reason,
-                    act,
-                });
-            }
-        }
-    }
-    Fate::Admitted
+    judge_acts(asset, index, act_count(fragment), |i| act_at(fragment, i))
 }

@@ -1,16 +1,13 @@
 //! The fate of a client's ASDU.
 ghost use Rattle.std.specs.Prelude.{◌≡◌, ◌≤◌, length, slice_index, ℕ};
-ghost use Rattle.cf_asdu.specs.Acts.{acts};
-ghost use Rattle.cf_asdu.specs.Asdu.{IsRead, asdu_value};
-ghost use Rattle.cf_lane.specs.Acts.{fate_of_acts};
 ghost use Rattle.cf_lane.specs.Fate.{HasOwnDecider, IsOfCommand};
 ghost use Rattle.cf_lane.specs.Iec104.{fate_of_asdu};
 ghost use Rattle.cf_policy.specs.Index.{IsIndexOf};
 
-use crate::fate::{Fate, Refusal, refused};
+use crate::fate::{Fate, judge_acts, refused};
 use crate::lane::after;
-use cf_asdu::{Asdu, AsduRefusal, act_at, act_count, read_asdu, station_of};
-use cf_policy::{Asset, CodeIndex, Decider, Verdict};
+use cf_asdu::{AsduRefusal, act_at, act_count, read_asdu, station_of};
+use cf_policy::{Asset, CodeIndex, Decider};
 use cf_view::{Reason, View};
 
 /// The fewest octets of an ASDU with an information object.
@@ -43,7 +40,7 @@ pub(crate) fn judge_asdu(asset: &Asset, index: &CodeIndex, octets: &View<'_>) ->
     }
     match read_asdu(after(octets, 0)) {
         Err(refusal) => refused(Decider::Form, refusal.reason(), kind_of(octets), 0),
-        Ok(asdu) => judge_acts(asset, index, &asdu),
+        Ok(asdu) => judge_acts(asset, index, act_count(&asdu), |i| act_at(&asdu, i)),
     }
 }
 
@@ -56,27 +53,4 @@ fn kind_of(octets: &View<'_>) -> u16
     } else {
         u16::from(octets.at(0))
     }
-}
-
-/// The fate of an ASDU with the right station and form.
-fn judge_acts(asset: &Asset, index: &CodeIndex, asdu: &Asdu<'_>) -> Fate
-    requires { IsRead (asdu_value asdu.now) }
-    ensures fate { (client : ℕ) → IsIndexOf asset.now client index.now → result ≡ fate_of_acts asset.now client (acts (asdu_value asdu.now)) }
-    ensures decider { HasOwnDecider asset.now.rules result }
-    ensures command { IsOfCommand result }
-{
-    for i in 0..act_count(asdu) {
-        let act = act_at(asdu, i);
-        match index.verdict(asset, &act) {
-            Verdict::Allow(_) => {}
-            Verdict::Refuse(decider, reason) => {
-                return Fate::Refused(Refusal {
-                    decider,
-                    reason,
-                    act,
-                });
-            }
-        }
-    }
-    Fate::Admitted
 }

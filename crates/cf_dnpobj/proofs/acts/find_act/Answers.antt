@@ -2,7 +2,7 @@ use Rattle.std.proofs.Common.{◌≡◌, ◌+◌, ◌-◌, ◌<◌, ◌≤◌, �
 use Rattle.std.proofs.lemmas.List.{length-drop}
 use Rattle.cf_dnpobj.specs.Acts.{header_count}
 use Rattle.cf_dnpobj.specs.Headers.{BeginsWithHeader}
-use Rattle.cf_dnpobj.proofs.Sums.{rest_is}
+use Rattle.cf_dnpobj.proofs.Sums.{header_at}
 use Rattle.cf_dnpobj.proofs.InOrder.{LeavesActs, found, passed}
 use Rattle.cf_dnpobj.proofs.acts.find_act.Goals as goal
 
@@ -14,8 +14,7 @@ loop-at-preserved c =
     let h = c.in-Ok.header.bytes in
     let count = c.header_count-count.ensures.value in
     let inv = c.loop-at.invariant in
-    let rest : c.sub.result.bytes ≡ drop place xs = rest_is xs c.sub.result.bytes place c.len-len.result c.len-len.ensures.length inv.0 c.sub.ensures.bytes in
-    let b : BeginsWithHeader code (drop place xs) h = subst (λ (ys : List ℕ). BeginsWithHeader code ys h) rest c.in-Ok.ensures.found in
+    let b = header_at code xs c.sub.result.bytes h place c.len-len.result c.len-len.ensures.length inv.0 c.sub.ensures.bytes c.in-Ok.ensures.found in
     let past : header_count code h ≤ c.loop-at.left = omega (arith, count, c.if-left-count.false) in
     let size = c.len-at.ensures.length in
     let left = length-drop place xs in (
@@ -31,7 +30,6 @@ returns-then-left-count c =
     let place = c.loop-at.at in
     let h = c.in-Ok.header.bytes in
     let inv = c.loop-at.invariant in
-    let rest : c.sub.result.bytes ≡ drop place xs = rest_is xs c.sub.result.bytes place c.len-len.result c.len-len.ensures.length inv.0 c.sub.ensures.bytes in
-    let b : BeginsWithHeader code (drop place xs) h = subst (λ (ys : List ℕ). BeginsWithHeader code ys h) rest c.in-Ok.ensures.found in
+    let b = header_at code xs c.sub.result.bytes h place c.len-len.result c.len-len.ensures.length inv.0 c.sub.ensures.bytes c.in-Ok.ensures.found in
     let inside : c.loop-at.left < header_count code h = omega (arith, c.header_count-count.ensures.value, c.if-left-count.true) in
     found code xs h place b c.args.i c.loop-at.left c.header_act.result inv.1 inside c.header_act.ensures

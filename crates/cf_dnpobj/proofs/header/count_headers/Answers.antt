@@ -2,7 +2,7 @@ use Rattle.std.proofs.Common.{◌≡◌, ◌+◌, ◌∙◌, ℕ, List, drop, sy
 use Rattle.std.proofs.lemmas.List.{length-drop}
 use Rattle.cf_dnpobj.specs.Fragment.{counted}
 use Rattle.cf_dnpobj.specs.Headers.{BeginsWithHeader, headers_in}
-use Rattle.cf_dnpobj.proofs.Sums.{plus, rest_is, count_more}
+use Rattle.cf_dnpobj.proofs.Sums.{plus, header_at, count_more}
 use Rattle.cf_dnpobj.proofs.header.count_headers.Goals as goal
 
 pub loop-at-preserved : goal.loop-at-preserved
@@ -13,8 +13,7 @@ loop-at-preserved c =
     let h = c.in_ok-header.header.bytes in
     let n = c.loop-at.count in
     let inv = c.loop-at.invariant in
-    let rest : c.sub.result.bytes ≡ drop place xs = rest_is xs c.sub.result.bytes place c.len-len.result c.len-len.ensures.length inv.0 c.sub.ensures.bytes in
-    let b : BeginsWithHeader code (drop place xs) h = subst (λ (ys : List ℕ). BeginsWithHeader code ys h) rest c.in_ok-header.ensures.found in
+    let b = header_at code xs c.sub.result.bytes h place c.len-len.result c.len-len.ensures.length inv.0 c.sub.ensures.bytes c.in_ok-header.ensures.found in
     let size = c.len-at.ensures.length in
     let left = length-drop place xs in (
       omega (arith, b.inside, size, left, inv.0, c.len-len.ensures.length),

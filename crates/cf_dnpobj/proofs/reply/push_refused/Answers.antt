@@ -1,7 +1,7 @@
 use Rattle.std.proofs.Common.{◌≡◌, ◌+◌, ℕ, List, drop, sym, subst, arith}
 use Rattle.std.proofs.lemmas.List.{length-drop}
 use Rattle.cf_dnpobj.specs.Headers.{BeginsWithHeader}
-use Rattle.cf_dnpobj.proofs.Sums.{rest_is}
+use Rattle.cf_dnpobj.proofs.Sums.{header_at}
 use Rattle.cf_dnpobj.proofs.InOrder.{LeavesReply, replied}
 use Rattle.cf_dnpobj.proofs.reply.push_refused.Goals as goal
 
@@ -12,8 +12,7 @@ loop-at-preserved c =
     let place = c.loop-at.at in
     let h = c.in-Ok.header.bytes in
     let inv = c.loop-at.invariant in
-    let rest : c.sub.result.bytes ≡ drop place xs = rest_is xs c.sub.result.bytes place c.len-len.result c.len-len.ensures.length inv.0 c.sub.ensures.bytes in
-    let b : BeginsWithHeader code (drop place xs) h = subst (λ (ys : List ℕ). BeginsWithHeader code ys h) rest c.in-Ok.ensures.found in
+    let b = header_at code xs c.sub.result.bytes h place c.len-len.result c.len-len.ensures.length inv.0 c.sub.ensures.bytes c.in-Ok.ensures.found in
     let size = c.len-at.ensures.length in
     let left = length-drop place xs in
     let items = c.push_refused_header.new.out.items in (

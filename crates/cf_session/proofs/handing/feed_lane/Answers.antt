@@ -8,31 +8,24 @@ use Rattle.cf_session.proofs.Amid.{on_err}
 use Rattle.cf_session.proofs.handing.feed_lane.Goals as goal
 
 pub returns-clause-follows : goal.returns-clause-follows
-returns-clause-follows g c = λ client r h w piece ended behind lane uncut pending qc qk.
+returns-clause-follows g c = λ client r h w piece ended behind st pending.
     let asset = c.args.asset.now in
     let now = c.args.now in
     let s = c.args.side in
     let fed = c.in_ok-fed.fed in
-    let d0 = g.D.Desk.value c.args.desk.now in
-    let d1 = g.D.Desk.value c.feed.new.desk in
-    let before = follows_of asset client c.args.lane.now r h w c.args.to_client.now c.args.to_controller.now lane uncut qc qk in
-    let x = c.in_ok-fed.ensures.apart h r (Some []) (Some w.log) piece ended behind pending before in
+    let x = c.in_ok-fed.ensures.apart h r (Some []) (Some w.log) piece ended behind pending (follows_of st) in
     let r1 = with_rest s r (drop fed.used c.args.bytes.bytes) in
     let f = as_fed c.pieces_join.ensures.nothing c.pieces_join.ensures.ends asset now s h r1 fed.cut (Some []) (state c.feed.new.self c.feed.new.to_client c.feed.new.to_controller (Some (w.log ++ x.more))) piece ended x.follows in
-    more_of asset client now s r1 h w (record { bytes = piece; ended = ended }) c.feed.new.self c.feed.new.to_client c.feed.new.to_controller fed.cut d0 d1 x.more (c.in_ok-fed.ensures.client ∙ lane.is_client) f c.feed.ensures.log.packets x.added
+    more_of asset client now s r1 h w (record { bytes = piece; ended = ended }) c.feed.new.self c.feed.new.to_client c.feed.new.to_controller fed.cut (g.D.Desk.value c.args.desk.now) (g.D.Desk.value c.feed.new.desk) x.more
+    (c.in_ok-fed.ensures.client ∙ st.lane_stands.is_client) f c.feed.ensures.log.packets x.added
 
 pub returns-in_err-fed-clause-broken : goal.returns-in_err-fed-clause-broken
 returns-in_err-fed-clause-broken g c =
-    on_err c.from_residual.result (λ client r h w piece ended lane uncut pending qc qk.
-    let asset = c.args.asset.now in
-    let now = c.args.now in
-    let s = c.args.side in
-    let d0 = g.D.Desk.value c.args.desk.now in
+    on_err c.from_residual.result (λ client r h w piece ended st pending.
     let d1 = g.D.Desk.value c.feed.new.desk in
-    let before = follows_of asset client c.args.lane.now r h w c.args.to_client.now c.args.to_controller.now lane uncut qc qk in
-    let x = c.in_err-fed.ensures.fails_apart h r (Some []) (Some w.log) piece pending before in
-    let began = subst (λ e. BeganWithin asset e h now s piece (Some []) (Some (w.log ++ x.more)) d1.line_part) lane.is_client x.began in
-    fed_amid c.pieces_join.ensures.nothing c.pieces_join.ensures.judged c.judgements_go_on.ensures c.streams_go_on.ensures.go_on asset client now s h w (rest_of s r) piece ended d0 d1 x.more
+    let x = c.in_err-fed.ensures.fails_apart h r (Some []) (Some w.log) piece pending (follows_of st) in
+    let began = subst (λ e. BeganWithin c.args.asset.now e h c.args.now c.args.side piece (Some []) (Some (w.log ++ x.more)) d1.line_part) st.lane_stands.is_client x.began in
+    fed_amid c.pieces_join.ensures.nothing c.pieces_join.ensures.judged c.judgements_go_on.ensures c.streams_go_on.ensures.go_on c.args.asset.now client c.args.now c.args.side h w (rest_of c.args.side r) piece ended (g.D.Desk.value c.args.desk.now) d1 x.more
     (subst IsOctets pending c.len-len.ensures.octets) c.feed.ensures.log.packets c.feed.ensures.log.packet_part x.added began)
 
 pub returns-clause-parts : goal.returns-clause-parts

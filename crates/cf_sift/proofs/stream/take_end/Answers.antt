@@ -3,14 +3,14 @@ use Rattle.cf_lane.specs.History.{end_at}
 use Rattle.cf_view.specs.declared.Side.TheVariants as side
 use Rattle.cf_sift.specs.Names.{sift_names_value}
 use Rattle.cf_sift.proofs.Draining.{on_err}
-use Rattle.cf_sift.proofs.Elements.{cut_known, flow_ended, line_fails}
+use Rattle.cf_sift.proofs.Elements.{cut_known, sifting_ended, line_fails}
 use Rattle.cf_sift.proofs.stream.take_end.Goals as goal
 
 pub returns-in_err-end-clause-fails : goal.returns-in_err-end-clause-fails
 returns-in_err-end-clause-fails g c = on_err _ c.from_residual.result (λ client first h before.
     let content = g.F.Files.content in
     let names = sift_names_value c.args.names.now in
-    inl (line_fails c.args.asset.now client names first c.streams_go_on.ensures.go_on (content c.args.files.now) h c.args.flow.now before
+    inl (line_fails c.args.asset.now client names first c.streams_go_on.ensures.go_on (content c.args.files.now) h c.args.sifting.now before
     (end_at 0 side.Client) (end_at 0 side.Client) [] (content c.end.new.files) refl (c.in_err-end.ensures.fails h _ before.follows)
     (c.end.ensures.others names.out c.requires.apart.out_log) (c.end.ensures.others names.replies c.requires.apart.replies_log)))
 
@@ -18,12 +18,12 @@ pub returns-clause-taken : goal.returns-clause-taken
 returns-clause-taken g c = λ client first h before.
     let content = g.F.Files.content in
     let names = sift_names_value c.args.names.now in
-    let flow = flow_ended c.args.asset.now client names first c.streams_go_on.ensures.go_on (content c.args.files.now) h c.args.flow.now before
+    let sifting = sifting_ended c.args.asset.now client names first c.streams_go_on.ensures.go_on (content c.args.files.now) h c.args.sifting.now before
     (content c.end.new.files) c.end.new.self (c.in_ok-end.ensures.history h _ before.follows) c.in_ok-end.ensures.new
     (c.end.ensures.others names.out c.requires.apart.out_log) (c.end.ensures.others names.replies c.requires.apart.replies_log)
     c.in_ok-end.ensures.whole c.requires.ready.controller.goes in
     record {
       by_item = None;
-      flow_of = flow;
-      is_cut = cut_known c.args.asset.now client names first (content c.end.new.files) _ None c.end.new.self flow ∙ sym c.length_cut.ensures;
+      sifting_of = sifting;
+      is_cut = cut_known c.args.asset.now client names first (content c.end.new.files) _ None c.end.new.self sifting ∙ sym c.length_cut.ensures;
     }

@@ -2,7 +2,7 @@ use Rattle.std.proofs.Common.{◌≡◌, ◌-◌, ◌^◌, ◌≤◌, ℕ, List,
 use Rattle.cf_outside.specs.Files.{Content}
 use Rattle.cf_outside.specs.Lines.{ends_with_line}
 use Rattle.cf_view.specs.declared.Endpoint.{Endpoint}
-use Rattle.cf_sift.specs.Flow.{IsFlowOf, IsReady}
+use Rattle.cf_sift.specs.Sifting.{IsSiftingOf, IsReady}
 use Rattle.cf_sift.specs.Names.{sift_names_value, sift_output_names}
 use Rattle.cf_sift.specs.Outputs.{KeepsAllBut}
 use Rattle.cf_sift.specs.Taken.{IsTakenTo}
@@ -12,10 +12,10 @@ abbrev pub invariant-pieces : goal.invariant-pieces
 invariant-pieces g l =
     let content = g.F.Files.content in
     record {
-      taken : (client : Endpoint) (first : List ℕ → Content) → IsFlowOf l.asset client (sift_names_value l.names) first (content l.fn.files) [] None l.fn.flow →
-          IsTakenTo l.asset client (sift_names_value l.names) first (content l.fn.files) (content l.files) l.at l.flow;
-      ready : IsReady l.asset l.flow;
-      letters : l.flow.taken ≡ l.at;
+      taken : (client : Endpoint) (first : List ℕ → Content) → IsSiftingOf l.asset client (sift_names_value l.names) first (content l.fn.files) [] None l.fn.sifting →
+          IsTakenTo l.asset client (sift_names_value l.names) first (content l.fn.files) (content l.files) l.at l.sifting;
+      ready : IsReady l.asset l.sifting;
+      letters : l.sifting.taken ≡ l.at;
       whole : ends_with_line (content l.files l.names.log.now) ≡ true;
       others : KeepsAllBut (content l.fn.files) (content l.files) (sift_output_names (sift_names_value l.names));
       piece : length l.piece ≡ 4096;

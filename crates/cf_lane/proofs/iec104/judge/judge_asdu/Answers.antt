@@ -1,4 +1,5 @@
-use Rattle.std.proofs.Common.{rules, ◌≡◌, ◌≤◌, List, Err, Ok, length, subst, ◌∙◌, ℕ}
+use Rattle.std.proofs.Common.{rules, ◌≡◌, ◌≤◌, List, Err, Ok, length, subst, sym, ◌∙◌, ℕ}
+use Rattle.cf_asdu.specs.Acts.{acts}
 use Rattle.cf_asdu.specs.Asdu.{Reads, asdu_value, station_of}
 use Rattle.cf_lane.proofs.Asdus.{fate_of_read, fate_of_unread}
 use Rattle.cf_lane.proofs.iec104.judge.judge_asdu.Goals as goal
@@ -20,4 +21,4 @@ returns-in-Ok-clause-fate c = λ client indexed.
     (let octets : List ℕ = c.args.octets.now.bytes in
     let reads = subst (λ (xs : List ℕ). Reads (Ok (asdu_value c.in-Ok.asdu)) xs) c.after-2.ensures.bytes c.in-Ok.ensures.true_answer in
     let same : station_of octets ≡ c.args.asset.now.station = search rules in
-    c.judge_acts.ensures.fate client indexed ∙ fate_of_read c.args.asset.now client octets reads.1 same (asdu_value c.in-Ok.asdu) reads)
+    c.judge_acts.ensures.fate client (acts (asdu_value c.in-Ok.asdu)) indexed (sym c.act_count.ensures.count) (λ i act inside gives. search rules) ∙ fate_of_read c.args.asset.now client octets reads.1 same (asdu_value c.in-Ok.asdu) reads)

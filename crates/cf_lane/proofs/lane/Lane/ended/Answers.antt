@@ -1,6 +1,6 @@
-use Rattle.std.proofs.Common.{subst, refl, ap, ◌∙◌}
+use Rattle.std.proofs.Common.{refl, ap, ◌∙◌}
 use Rattle.cf_outside.specs.Desk.{DeskValue}
-use Rattle.cf_lane.specs.Handled.{LaneValue, MayHaveAdded, state}
+use Rattle.cf_lane.specs.Handled.{LaneValue, state}
 use Rattle.cf_lane.specs.Log.{end_lines, with_lines}
 use Rattle.cf_lane.proofs.Failing.{on_err}
 use Rattle.cf_lane.proofs.Ends.{end_apart, end_fails, end_fails_apart, follows_end}
@@ -16,14 +16,9 @@ returns-clause-history g c = λ h rests first is f.
 
 pub returns-in_err-log_end-clause-fails : goal.returns-in_err-log_end-clause-fails
 returns-in_err-log_end-clause-fails g c =
-    let unfinished = c.has_unfinished-unfinished.result in
-    let old = g.D.Desk.value c.args.desk.now in
-    let new = g.D.Desk.value c.log_end.new.desk in
-    let Q : LaneValue → Type 0 = λ l. MayHaveAdded (end_lines c.args.asset.now l.client c.args.moment c.args.side unfinished c.args.rest) old new in
-    on_err _ _ (end_fails c.args.asset.now unfinished c.args.moment c.args.side c.args.rest
-    (state c.args.self.now c.args.to_client.now c.args.to_controller.now (DeskValue.lines old)) (λ earlier knows. c.has_unfinished-unfinished.ensures c.args.asset.now earlier c.requires.of_asset knows)
-    (DeskValue.lines new) (DeskValue.line_part new) c.requires.«open»
-    (subst Q c.self.view_is c.in_err-log_end.ensures.fails))
+    let old = state c.args.self.now c.args.to_client.now c.args.to_controller.now (DeskValue.lines (g.D.Desk.value c.args.desk.now)) in
+    on_err _ _ (end_fails c.args.asset.now _ c.args.moment c.args.side c.args.rest old (λ earlier knows. c.has_unfinished-unfinished.ensures c.args.asset.now earlier c.requires.of_asset knows)
+    _ (ap (λ (l : LaneValue). l.client) c.self.view_is) _ _ c.requires.«open» c.in_err-log_end.ensures.fails)
 
 pub returns-clause-apart : goal.returns-clause-apart
 returns-clause-apart g c =
@@ -35,10 +30,6 @@ returns-clause-apart g c =
 
 pub returns-in_err-log_end-clause-fails_apart : goal.returns-in_err-log_end-clause-fails_apart
 returns-in_err-log_end-clause-fails_apart g c =
-    let unfinished = c.has_unfinished-unfinished.result in
-    let old = g.D.Desk.value c.args.desk.now in
-    let new = g.D.Desk.value c.log_end.new.desk in
-    let Q : LaneValue → Type 0 = λ l. MayHaveAdded (end_lines c.args.asset.now l.client c.args.moment c.args.side unfinished c.args.rest) old new in
-    on_err _ _ (end_fails_apart c.args.asset.now unfinished c.args.moment c.args.side c.args.rest
-    (state c.args.self.now c.args.to_client.now c.args.to_controller.now (DeskValue.lines old)) (λ earlier knows. c.has_unfinished-unfinished.ensures c.args.asset.now earlier c.requires.of_asset knows)
-    c.requires.«open» (DeskValue.lines new) (DeskValue.line_part new) (subst Q c.self.view_is c.in_err-log_end.ensures.fails))
+    let old = state c.args.self.now c.args.to_client.now c.args.to_controller.now (DeskValue.lines (g.D.Desk.value c.args.desk.now)) in
+    on_err _ _ (end_fails_apart c.args.asset.now _ c.args.moment c.args.side c.args.rest old (λ earlier knows. c.has_unfinished-unfinished.ensures c.args.asset.now earlier c.requires.of_asset knows)
+    c.requires.«open» _ (ap (λ (l : LaneValue). l.client) c.self.view_is) _ _ c.in_err-log_end.ensures.fails)

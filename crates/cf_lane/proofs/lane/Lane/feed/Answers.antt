@@ -1,4 +1,4 @@
-use Rattle.std.proofs.Common.{length, refl, sym, ap, subst, inl, inr, arith}
+use Rattle.std.proofs.Common.{length, refl, sym, ap, subst, arith, ◌∙◌}
 use Rattle.std.specs.Prelude.{IsErr}
 use Rattle.std.specs.declared.result.Result.{Result}
 use Rattle.cf_view.specs.declared.base.WriteFault.{WriteFault}
@@ -9,7 +9,7 @@ use Rattle.cf_lane.proofs.Failing.{on_err, misses_rest}
 use Rattle.cf_lane.proofs.Earlier.{debt_most}
 use Rattle.cf_lane.proofs.Units.{free_unit, nothing_unit}
 use Rattle.cf_lane.proofs.Histories.{along_start, fails_apart, fails_of_whole}
-use Rattle.cf_lane.proofs.Feeding.{grows_none, writes_none, writes_both, cause_after, open_stays, room_for_rest, within, along_took, some_letters, smaller, grows_took, grows_end, little_left, same_client, apart_more, apart_cut, follows_more, follows_cut}
+use Rattle.cf_lane.proofs.Feeding.{grows_none, writes_none, writes_both, cause_after, open_stays, room_for_rest, within, along_took, some_letters, smaller, grows_took, grows_end, little_left, no_letters, same_client, apart_stop, follows_stop}
 use Rattle.cf_lane.proofs.lane.Lane.feed.Goals as goal
 
 pub units-init : goal.units-init
@@ -43,32 +43,32 @@ pub step-requires-clause-counts : goal.step-requires-clause-counts
 step-requires-clause-counts g c =
     omega (arith, c.units.invariant.counts, c.requires.counts, c.units.invariant.inside, ap length c.after.ensures.bytes, length-drop c.units.used c.args.bytes.bytes)
 
-pub returns-in_err-n-clause-log : goal.returns-in_err-n-clause-log
-returns-in_err-n-clause-log g c = writes_both _ _ _ c.units.invariant.log c.step.ensures.log
+pub returns-in_err-step-clause-log : goal.returns-in_err-step-clause-log
+returns-in_err-step-clause-log g c = writes_both _ _ _ c.units.invariant.log c.step.ensures.log
 
-pub returns-in_err-n-clause-cause : goal.returns-in_err-n-clause-cause
-returns-in_err-n-clause-cause g c =
-    let failed : IsErr c.step.result = subst (λ (r : Result Step WriteFault). IsErr r) (sym c.in_err-n.was) refl in
+pub returns-in_err-step-clause-cause : goal.returns-in_err-step-clause-cause
+returns-in_err-step-clause-cause g c =
+    let failed : IsErr c.step.result = subst (λ (r : Result Step WriteFault). IsErr r) (sym c.in_err-step.was) refl in
     let cause = cause_after _ _ _ _ c.units.invariant.log.keeps.later c.step.ensures.cause in
     record { later = cause.later; rose = λ e. cause.rose failed }
 
 pub units-smaller : goal.units-smaller
 units-smaller g c =
-    smaller c.args.asset.now c.args.moment c.args.side c.args.bytes.bytes c.after.result.bytes c.units.used c.after.ensures.bytes c.units.invariant.inside c.in_ok-n.field-0 c.in-Took.n c.in-Took.is
-    (some_letters c.args.asset.now c.args.moment c.args.side c.args.bytes.bytes c.after.result.bytes c.units.used c.after.ensures.bytes c.units.invariant.inside _ _ c.in_ok-n.field-0 c.in-Took.n c.in-Took.is c.in_ok-n.ensures.steps)
-    c.in_ok-n.ensures.inside
+    smaller c.args.asset.now c.args.moment c.args.side c.args.bytes.bytes c.after.result.bytes c.units.used c.after.ensures.bytes c.units.invariant.inside c.in_ok-step.step c.in-Took.n c.in-Took.is
+    (some_letters c.args.asset.now c.args.moment c.args.side c.args.bytes.bytes c.after.result.bytes c.units.used c.after.ensures.bytes c.units.invariant.inside _ _ c.in_ok-step.step c.in-Took.n c.in-Took.is c.in_ok-step.ensures.steps)
+    c.in_ok-step.ensures.inside
 
 pub units-preserved : goal.units-preserved
 units-preserved g c =
     let inv = c.units.invariant in
     record {
-      inside = omega (arith, within c.args.asset.now c.args.moment c.args.side c.args.bytes.bytes c.after.result.bytes c.units.used c.after.ensures.bytes inv.inside c.in_ok-n.field-0 c.in_ok-n.ensures.inside, ap letters_in c.in-Took.is);
-      along = along_took c.args.asset.now c.args.moment c.args.side c.args.bytes.bytes c.after.result.bytes c.units.used c.after.ensures.bytes inv.inside _ _ _ c.in_ok-n.field-0 c.in-Took.n c.in-Took.is inv.along c.in_ok-n.ensures.steps;
-      client_grows = grows_took c.args.asset.now c.args.moment c.args.side c.args.bytes.bytes c.after.result.bytes c.units.used c.after.ensures.bytes inv.inside _ _ _ _ _ _ c.in_ok-n.field-0 c.in-Took.n c.in-Took.is inv.client_grows c.in_ok-n.ensures.client_grows;
-      controller_grows = grows_took c.args.asset.now c.args.moment c.args.side c.args.bytes.bytes c.after.result.bytes c.units.used c.after.ensures.bytes inv.inside _ _ _ _ _ _ c.in_ok-n.field-0 c.in-Took.n c.in-Took.is inv.controller_grows c.in_ok-n.ensures.controller_grows;
-      counts = omega (arith, inv.counts, c.in_ok-n.ensures.counts, ap letters_in c.in-Took.is);
-      of_asset = c.in_ok-n.ensures.of_asset;
-      whole = c.in_ok-n.ensures.whole;
+      inside = omega (arith, within c.args.asset.now c.args.moment c.args.side c.args.bytes.bytes c.after.result.bytes c.units.used c.after.ensures.bytes inv.inside c.in_ok-step.step c.in_ok-step.ensures.inside, ap letters_in c.in-Took.is);
+      along = along_took c.args.asset.now c.args.moment c.args.side c.args.bytes.bytes c.after.result.bytes c.units.used c.after.ensures.bytes inv.inside _ _ _ c.in_ok-step.step c.in-Took.n c.in-Took.is inv.along c.in_ok-step.ensures.steps;
+      client_grows = grows_took c.args.asset.now c.args.moment c.args.side c.args.bytes.bytes c.after.result.bytes c.units.used c.after.ensures.bytes inv.inside _ _ _ _ _ _ c.in_ok-step.step c.in-Took.n c.in-Took.is inv.client_grows c.in_ok-step.ensures.client_grows;
+      controller_grows = grows_took c.args.asset.now c.args.moment c.args.side c.args.bytes.bytes c.after.result.bytes c.units.used c.after.ensures.bytes inv.inside _ _ _ _ _ _ c.in_ok-step.step c.in-Took.n c.in-Took.is inv.controller_grows c.in_ok-step.ensures.controller_grows;
+      counts = omega (arith, inv.counts, c.in_ok-step.ensures.counts, ap letters_in c.in-Took.is);
+      of_asset = c.in_ok-step.ensures.of_asset;
+      whole = c.in_ok-step.ensures.whole;
       log = writes_both _ _ _ inv.log c.step.ensures.log;
     }
 
@@ -76,23 +76,27 @@ pub returns-in-More-clause-used : goal.returns-in-More-clause-used
 returns-in-More-clause-used g c = c.units.invariant.inside
 
 pub returns-in-More-clause-history : goal.returns-in-More-clause-history
-returns-in-More-clause-history g c = follows_more c.args.asset.now c.args.moment c.args.side c.args.bytes.bytes c.after.result.bytes c.units.used _ _ _ c.units.invariant.along c.after.ensures.bytes c.in_ok-n.field-0 c.in_ok-n.ensures.steps c.in-More.is
+returns-in-More-clause-history g c =
+    rw c.cut_in.ensures (follows_stop c.args.asset.now c.args.moment c.args.side c.args.bytes.bytes c.after.result.bytes c.units.used _ _ _ c.units.invariant.along c.after.ensures.bytes
+    c.in_ok-step.step c.in_ok-step.ensures.steps c.after.ensures.octets c.in-More.is)
 
 pub returns-in-More-clause-apart : goal.returns-in-More-clause-apart
-returns-in-More-clause-apart g c = apart_more c.args.asset.now c.args.moment c.args.side c.args.bytes.bytes c.after.result.bytes c.units.used _ _ _ c.units.invariant.along c.after.ensures.bytes c.in_ok-n.field-0 c.in_ok-n.ensures.steps c.in-More.is
+returns-in-More-clause-apart g c =
+    rw c.cut_in.ensures (apart_stop c.args.asset.now c.args.moment c.args.side c.args.bytes.bytes c.after.result.bytes c.units.used _ _ _ c.units.invariant.along c.after.ensures.bytes
+    c.in_ok-step.step c.in_ok-step.ensures.steps c.after.ensures.octets c.in-More.is)
 
 pub returns-in-More-clause-client_grows : goal.returns-in-More-clause-client_grows
 returns-in-More-clause-client_grows g c =
-    grows_end c.args.asset.now c.args.moment c.args.side c.args.bytes.bytes c.after.result.bytes c.units.used c.after.ensures.bytes c.units.invariant.inside _ _ _ _ _ _ c.in_ok-n.field-0 (ap letters_in c.in-More.is)
-    c.units.invariant.client_grows c.in_ok-n.ensures.client_grows
+    grows_end c.args.asset.now c.args.moment c.args.side c.args.bytes.bytes c.after.result.bytes c.units.used c.after.ensures.bytes c.units.invariant.inside _ _ _ _ _ _ c.in_ok-step.step c.in-More.is
+    c.units.invariant.client_grows c.in_ok-step.ensures.client_grows
 
 pub returns-in-More-clause-controller_grows : goal.returns-in-More-clause-controller_grows
 returns-in-More-clause-controller_grows g c =
-    grows_end c.args.asset.now c.args.moment c.args.side c.args.bytes.bytes c.after.result.bytes c.units.used c.after.ensures.bytes c.units.invariant.inside _ _ _ _ _ _ c.in_ok-n.field-0 (ap letters_in c.in-More.is)
-    c.units.invariant.controller_grows c.in_ok-n.ensures.controller_grows
+    grows_end c.args.asset.now c.args.moment c.args.side c.args.bytes.bytes c.after.result.bytes c.units.used c.after.ensures.bytes c.units.invariant.inside _ _ _ _ _ _ c.in_ok-step.step c.in-More.is
+    c.units.invariant.controller_grows c.in_ok-step.ensures.controller_grows
 
 pub returns-in-More-clause-counts : goal.returns-in-More-clause-counts
-returns-in-More-clause-counts g c = omega (arith, c.units.invariant.counts, c.in_ok-n.ensures.counts, ap letters_in c.in-More.is)
+returns-in-More-clause-counts g c = omega (arith, c.units.invariant.counts, c.in_ok-step.ensures.counts, no_letters _ c.in-More.is)
 
 pub returns-in-More-clause-log : goal.returns-in-More-clause-log
 returns-in-More-clause-log g c = writes_both _ _ _ c.units.invariant.log c.step.ensures.log
@@ -100,64 +104,26 @@ returns-in-More-clause-log g c = writes_both _ _ _ c.units.invariant.log c.step.
 pub returns-in-More-clause-cause : goal.returns-in-More-clause-cause
 returns-in-More-clause-cause g c = record { later = omega (arith, c.units.invariant.log.keeps.later, c.step.ensures.log.keeps.later); rose = λ e. cc e }
 
-pub returns-in-Cut-clause-used : goal.returns-in-Cut-clause-used
-returns-in-Cut-clause-used g c = c.units.invariant.inside
-
-pub returns-in-Cut-clause-history : goal.returns-in-Cut-clause-history
-returns-in-Cut-clause-history g c = follows_cut c.args.asset.now c.args.moment c.args.side c.args.bytes.bytes c.after.result.bytes c.units.used _ _ _ c.units.invariant.along c.after.ensures.bytes c.in_ok-n.field-0 c.in_ok-n.ensures.steps c.after.ensures.octets c.in-Cut.reason c.in-Cut.is
-
-pub returns-in-Cut-clause-apart : goal.returns-in-Cut-clause-apart
-returns-in-Cut-clause-apart g c = apart_cut c.args.asset.now c.args.moment c.args.side c.args.bytes.bytes c.after.result.bytes c.units.used _ _ _ c.units.invariant.along c.after.ensures.bytes c.in_ok-n.field-0 c.in_ok-n.ensures.steps c.after.ensures.octets c.in-Cut.reason c.in-Cut.is
-
-pub returns-in-Cut-clause-client_grows : goal.returns-in-Cut-clause-client_grows
-returns-in-Cut-clause-client_grows g c =
-    grows_end c.args.asset.now c.args.moment c.args.side c.args.bytes.bytes c.after.result.bytes c.units.used c.after.ensures.bytes c.units.invariant.inside _ _ _ _ _ _ c.in_ok-n.field-0 (ap letters_in c.in-Cut.is)
-    c.units.invariant.client_grows c.in_ok-n.ensures.client_grows
-
-pub returns-in-Cut-clause-controller_grows : goal.returns-in-Cut-clause-controller_grows
-returns-in-Cut-clause-controller_grows g c =
-    grows_end c.args.asset.now c.args.moment c.args.side c.args.bytes.bytes c.after.result.bytes c.units.used c.after.ensures.bytes c.units.invariant.inside _ _ _ _ _ _ c.in_ok-n.field-0 (ap letters_in c.in-Cut.is)
-    c.units.invariant.controller_grows c.in_ok-n.ensures.controller_grows
-
-pub returns-in-Cut-clause-counts : goal.returns-in-Cut-clause-counts
-returns-in-Cut-clause-counts g c = omega (arith, c.units.invariant.counts, c.in_ok-n.ensures.counts, ap letters_in c.in-Cut.is)
-
-pub returns-in-Cut-clause-log : goal.returns-in-Cut-clause-log
-returns-in-Cut-clause-log g c = writes_both _ _ _ c.units.invariant.log c.step.ensures.log
-
-pub returns-in-Cut-clause-cause : goal.returns-in-Cut-clause-cause
-returns-in-Cut-clause-cause g c = record { later = omega (arith, c.units.invariant.log.keeps.later, c.step.ensures.log.keeps.later); rose = λ e. cc e }
-
 pub returns-in-More-clause-left : goal.returns-in-More-clause-left
 returns-in-More-clause-left g c = λ e.
-    little_left c.args.asset.now c.args.moment c.args.side c.args.bytes.bytes c.after.result.bytes c.units.used _ _ _ c.units.invariant.along c.after.ensures.bytes c.in_ok-n.field-0 c.in_ok-n.ensures.steps c.in-More.is
-
-pub returns-in-Cut-clause-left : goal.returns-in-Cut-clause-left
-returns-in-Cut-clause-left g c = λ e. cc e
+    little_left c.args.asset.now c.args.moment c.args.side c.args.bytes.bytes c.after.result.bytes c.units.used _ _ _ c.units.invariant.along c.after.ensures.bytes c.in_ok-step.step c.in_ok-step.ensures.steps c.in-More.is (sym c.cut_in.ensures ∙ e)
 
 pub returns-in-More-clause-client : goal.returns-in-More-clause-client
 returns-in-More-clause-client g c =
-    same_client c.args.asset.now c.args.moment c.args.side c.args.bytes.bytes c.after.result.bytes c.units.used _ _ _ c.units.invariant.along c.after.ensures.bytes c.in_ok-n.field-0 c.in_ok-n.ensures.steps (inl c.in-More.is)
+    same_client c.args.asset.now c.args.moment c.args.side c.args.bytes.bytes c.after.result.bytes c.units.used _ _ _ c.units.invariant.along c.after.ensures.bytes c.in_ok-step.step c.in_ok-step.ensures.steps c.in-More.is
 
-pub returns-in-Cut-clause-client : goal.returns-in-Cut-clause-client
-returns-in-Cut-clause-client g c =
-    same_client c.args.asset.now c.args.moment c.args.side c.args.bytes.bytes c.after.result.bytes c.units.used _ _ _ c.units.invariant.along c.after.ensures.bytes c.in_ok-n.field-0 c.in_ok-n.ensures.steps (inr (c.in-Cut.reason, c.in-Cut.is))
-
-pub returns-in_err-n-clause-fails : goal.returns-in_err-n-clause-fails
-returns-in_err-n-clause-fails g c =
+pub returns-in_err-step-clause-fails : goal.returns-in_err-step-clause-fails
+returns-in_err-step-clause-fails g c =
     on_err _ _ (fails_of_whole _ _ _ _ _ _ _ (fails_apart c.args.asset.now (free_unit c.args.asset.now.protocol) (nothing_unit c.args.asset.now.protocol)
-    c.args.moment c.args.side c.args.bytes.bytes c.units.used _ _ _ _ c.units.invariant.along (misses_rest _ _ _ _ _ _ _ _ c.after.ensures.bytes c.in_err-n.ensures.misses)))
+    c.args.moment c.args.side c.args.bytes.bytes c.units.used _ _ _ _ c.units.invariant.along (misses_rest _ _ _ _ _ _ _ _ c.after.ensures.bytes c.in_err-step.ensures.misses)))
 
-pub returns-in_err-n-clause-fails_apart : goal.returns-in_err-n-clause-fails_apart
-returns-in_err-n-clause-fails_apart g c =
+pub returns-in_err-step-clause-fails_apart : goal.returns-in_err-step-clause-fails_apart
+returns-in_err-step-clause-fails_apart g c =
     on_err _ _ (fails_apart c.args.asset.now (free_unit c.args.asset.now.protocol) (nothing_unit c.args.asset.now.protocol)
-    c.args.moment c.args.side c.args.bytes.bytes c.units.used _ _ _ _ c.units.invariant.along (misses_rest _ _ _ _ _ _ _ _ c.after.ensures.bytes c.in_err-n.ensures.misses))
+    c.args.moment c.args.side c.args.bytes.bytes c.units.used _ _ _ _ c.units.invariant.along (misses_rest _ _ _ _ _ _ _ _ c.after.ensures.bytes c.in_err-step.ensures.misses))
 
 pub step-requires-clause-of_asset : goal.step-requires-clause-of_asset
 step-requires-clause-of_asset g c = c.units.invariant.of_asset
 
 pub returns-in-More-clause-debt : goal.returns-in-More-clause-debt
-returns-in-More-clause-debt g c = debt_most _ _ c.in_ok-n.ensures.of_asset
-
-pub returns-in-Cut-clause-debt : goal.returns-in-Cut-clause-debt
-returns-in-Cut-clause-debt g c = debt_most _ _ c.in_ok-n.ensures.of_asset
+returns-in-More-clause-debt g c = debt_most _ _ c.in_ok-step.ensures.of_asset

@@ -1,16 +1,15 @@
-use Rattle.std.proofs.Common.{List, ap, arith, inl, refl, subst, take, ℕ, ◌-◌, ◌∙◌, ◌≡◌}
-use Rattle.cf_view.specs.Framing.{Begins, BreaksAt, IsPartial}
-use Rattle.cf_dnplink.specs.LinkFrame.{SpellsFrame, frame_break, frame_value}
+use Rattle.std.proofs.Common.{ap, arith, inl, refl, take, ◌-◌, ◌∙◌, ◌≡◌}
+use Rattle.cf_dnplink.specs.LinkFrame.{frame_value}
 use Rattle.cf_outside.specs.Desk.{DeskValue}
 use Rattle.cf_lane.specs.Handled.{state}
-use Rattle.cf_lane.proofs.Dnp3Steps.{breaks_by, front_octets, misses_frame, some_octets, takes_frame}
+use Rattle.cf_lane.proofs.Dnp3Steps.{front_octets, misses_frame, some_octets, takes_frame}
 use Rattle.cf_lane.proofs.Failing.{on_err}
-use Rattle.cf_lane.proofs.Units.{partial_frame}
+use Rattle.cf_lane.proofs.Units.{frames, begins_same, step_breaks, step_waits}
 use Rattle.cf_lane.proofs.lane.Lane.step_dnp3.Goals as goal
 
 pub returns-in_ok-fate-in-Unit-clause-steps : goal.returns-in_ok-fate-in-Unit-clause-steps
 returns-in_ok-fate-in-Unit-clause-steps g c =
-    let b = subst (λ (xs : List ℕ). Begins SpellsFrame xs (frame_value c.in-Unit.unit) c.in-Unit.used) c.after.ensures.bytes c.in-Unit.ensures.true_answer in
+    let b = begins_same c.after.ensures.bytes c.in-Unit.ensures.true_answer in
     let text = DeskValue.lines (g.D.Desk.value c.take_frame.new.desk) in
     takes_frame c.args.asset.now c.args.moment c.args.side (frame_value c.in-Unit.unit) c.in_ok-fate-in-Unit.fate
     (state c.args.self.now c.args.to_client.now c.args.to_controller.now (DeskValue.lines (g.D.Desk.value c.args.desk.now)))
@@ -21,13 +20,13 @@ returns-in_ok-fate-in-Unit-clause-steps g c =
 
 pub take_frame-requires-clause-octets : goal.take_frame-requires-clause-octets
 take_frame-requires-clause-octets g c =
-    let b = subst (λ (xs : List ℕ). Begins SpellsFrame xs (frame_value c.in-Unit.unit) c.in-Unit.used) c.after.ensures.bytes c.in-Unit.ensures.true_answer in
+    let b = begins_same c.after.ensures.bytes c.in-Unit.ensures.true_answer in
     let all : c.in-Unit.used - 0 ≡ c.in-Unit.used = omega arith in
     c.sub-octets.ensures.bytes ∙ ap (λ m. take m c.args.bytes.now.bytes) all ∙ front_octets c.args.bytes.now.bytes (frame_value c.in-Unit.unit) c.in-Unit.used b
 
 pub returns-in_err-fate-in-Unit-clause-misses : goal.returns-in_err-fate-in-Unit-clause-misses
 returns-in_err-fate-in-Unit-clause-misses g c =
-    let b = subst (λ (xs : List ℕ). Begins SpellsFrame xs (frame_value c.in-Unit.unit) c.in-Unit.used) c.after.ensures.bytes c.in-Unit.ensures.true_answer in
+    let b = begins_same c.after.ensures.bytes c.in-Unit.ensures.true_answer in
     on_err _ _ (misses_frame c.args.asset.now c.args.moment c.args.side (frame_value c.in-Unit.unit)
     (state c.args.self.now c.args.to_client.now c.args.to_controller.now (DeskValue.lines (g.D.Desk.value c.args.desk.now))) _ _
     c.requires.dnp3 c.args.bytes.now.bytes c.in-Unit.used b
@@ -35,12 +34,11 @@ returns-in_err-fate-in-Unit-clause-misses g c =
 
 pub returns-in-More-clause-steps : goal.returns-in-More-clause-steps
 returns-in-More-clause-steps g c =
-    (partial_frame c.args.asset.now.protocol c.requires.dnp3 _ (subst (λ (xs : List ℕ). IsPartial SpellsFrame xs) c.after.ensures.bytes c.in-More.ensures.true_answer), refl)
+    (step_waits c.args.asset.now (frames c.args.asset.now.protocol c.requires.dnp3) _ _ c.after.ensures.bytes c.in-More.ensures.true_answer, refl)
 
 pub returns-in-Broken-clause-steps : goal.returns-in-Broken-clause-steps
 returns-in-Broken-clause-steps g c =
     inl (
-      breaks_by c.args.asset.now c.requires.dnp3 _ c.args.side c.in-Broken.reason
-          (subst (λ (xs : List ℕ). (i : ℕ) × BreaksAt SpellsFrame xs i × (c.in-Broken.reason ≡ frame_break i)) c.after.ensures.bytes c.in-Broken.ensures.true_answer),
+      step_breaks c.args.asset.now (frames c.args.asset.now.protocol c.requires.dnp3) _ _ c.after.ensures.bytes c.args.side c.in-Broken.reason c.in-Broken.ensures.true_answer,
       refl,
     )

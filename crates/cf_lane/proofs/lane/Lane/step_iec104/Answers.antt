@@ -1,31 +1,30 @@
-use Rattle.std.proofs.Common.{◌≡◌, ◌+◌, List, arith, ap, inl, refl, subst, sym, ◌∙◌, ℕ}
-use Rattle.cf_apci.specs.Apdu.{SpellsApdu, apdu_break, apdu_value}
-use Rattle.cf_lane.proofs.Apdus.{apdu_handled, apdu_length, apdu_some, breaks_by, counts_apdu, grows_apdu, misses_apdu, steps_apdu}
+use Rattle.std.proofs.Common.{◌+◌, arith, ap, inl, refl, subst, sym, ◌∙◌}
+use Rattle.cf_apci.specs.Apdu.{apdu_value}
+use Rattle.cf_lane.proofs.Apdus.{apdu_handled, apdu_length, apdu_some, counts_apdu, grows_apdu, misses_apdu, steps_apdu}
 use Rattle.cf_lane.proofs.Failing.{on_err}
 use Rattle.cf_lane.proofs.Taking.{room_less}
-use Rattle.cf_lane.proofs.Units.{partial_apdu}
+use Rattle.cf_lane.proofs.Units.{apdus, begins_same, step_breaks, step_waits}
 use Rattle.cf_lane.specs.Handled.{LaneValue, Steps, state}
 use Rattle.cf_lane.specs.Judged.{cut_by, is_admitted, is_refused, one_if}
 use Rattle.cf_lane.specs.Renumbered.{MissesApdu, TakesApdu, numbered}
 use Rattle.cf_lane.specs.declared.lane.Step.{Step}
 use Rattle.cf_outside.specs.Desk.{DeskValue}
-use Rattle.cf_view.specs.Framing.{Begins, BreaksAt, IsPartial}
 use Rattle.cf_view.specs.declared.Endpoint.{Endpoint}
 use Rattle.cf_lane.proofs.lane.Lane.step_iec104.Goals as goal
 
 pub take_apdu-requires-clause-client_room : goal.take_apdu-requires-clause-client_room
 take_apdu-requires-clause-client_room g c =
-    let b = subst (λ (xs : List ℕ). Begins SpellsApdu xs (apdu_value c.in-Unit.unit) c.in-Unit.used) c.after.ensures.bytes c.in-Unit.ensures.true_answer in
+    let b = begins_same c.after.ensures.bytes c.in-Unit.ensures.true_answer in
     room_less _ _ _ (omega (arith, apdu_length c.args.asset.now c.requires.iec104 c.args.moment c.args.side _ _ _ b, b.inside)) c.requires.client_room
 
 pub take_apdu-requires-clause-controller_room : goal.take_apdu-requires-clause-controller_room
 take_apdu-requires-clause-controller_room g c =
-    let b = subst (λ (xs : List ℕ). Begins SpellsApdu xs (apdu_value c.in-Unit.unit) c.in-Unit.used) c.after.ensures.bytes c.in-Unit.ensures.true_answer in
+    let b = begins_same c.after.ensures.bytes c.in-Unit.ensures.true_answer in
     room_less _ _ _ (omega (arith, apdu_length c.args.asset.now c.requires.iec104 c.args.moment c.args.side _ _ _ b, b.inside)) c.requires.controller_room
 
 pub returns-in_err-fate-in-Unit-clause-misses : goal.returns-in_err-fate-in-Unit-clause-misses
 returns-in_err-fate-in-Unit-clause-misses g c =
-    let b = subst (λ (xs : List ℕ). Begins SpellsApdu xs (apdu_value c.in-Unit.unit) c.in-Unit.used) c.after.ensures.bytes c.in-Unit.ensures.true_answer in
+    let b = begins_same c.after.ensures.bytes c.in-Unit.ensures.true_answer in
     let value = g.D.Desk.value in
     let was = ap (λ (l : LaneValue). l.wire) (sym c.self.view_is) ∙ c.in-Iec104.is in
     let missed = subst (λ (e : Endpoint). MissesApdu c.args.asset.now e c.args.moment c.args.side (apdu_value c.in-Unit.unit)
@@ -37,19 +36,18 @@ returns-in_err-fate-in-Unit-clause-misses g c =
 
 pub returns-in-More-clause-steps : goal.returns-in-More-clause-steps
 returns-in-More-clause-steps g c =
-    (partial_apdu c.args.asset.now.protocol c.requires.iec104 _ (subst (λ (xs : List ℕ). IsPartial SpellsApdu xs) c.after.ensures.bytes c.in-More.ensures.true_answer), refl)
+    (step_waits c.args.asset.now (apdus c.args.asset.now.protocol c.requires.iec104) _ _ c.after.ensures.bytes c.in-More.ensures.true_answer, refl)
 
 pub returns-in-Broken-clause-steps : goal.returns-in-Broken-clause-steps
 returns-in-Broken-clause-steps g c =
     inl (
-      breaks_by c.args.asset.now c.requires.iec104 c.args.moment _ c.args.side c.in-Broken.reason
-          (subst (λ (xs : List ℕ). (i : ℕ) × BreaksAt SpellsApdu xs i × (c.in-Broken.reason ≡ apdu_break i)) c.after.ensures.bytes c.in-Broken.ensures.true_answer),
+      step_breaks c.args.asset.now (apdus c.args.asset.now.protocol c.requires.iec104) _ _ c.after.ensures.bytes c.args.side c.in-Broken.reason c.in-Broken.ensures.true_answer,
       refl,
     )
 
 pub returns-in_ok-fate-in-Unit-clause-steps : goal.returns-in_ok-fate-in-Unit-clause-steps
 returns-in_ok-fate-in-Unit-clause-steps g c =
-    let b = subst (λ (xs : List ℕ). Begins SpellsApdu xs (apdu_value c.in-Unit.unit) c.in-Unit.used) c.after.ensures.bytes c.in-Unit.ensures.true_answer in
+    let b = begins_same c.after.ensures.bytes c.in-Unit.ensures.true_answer in
     let value = g.D.Desk.value in
     let f = c.in_ok-fate-in-Unit.fate in
     let old = state c.args.self.now c.args.to_client.now c.args.to_controller.now (DeskValue.lines (value c.args.desk.now)) in
@@ -68,19 +66,19 @@ returns-in_ok-fate-in-Unit-clause-steps g c =
 
 pub returns-in_ok-fate-in-Unit-clause-client_grows : goal.returns-in_ok-fate-in-Unit-clause-client_grows
 returns-in_ok-fate-in-Unit-clause-client_grows g c =
-    let b = subst (λ (xs : List ℕ). Begins SpellsApdu xs (apdu_value c.in-Unit.unit) c.in-Unit.used) c.after.ensures.bytes c.in-Unit.ensures.true_answer in
+    let b = begins_same c.after.ensures.bytes c.in-Unit.ensures.true_answer in
     grows_apdu c.in_ok-fate-in-Unit.fate c.step_of.result _ c.in-Unit.used (apdu_length c.args.asset.now c.requires.iec104 c.args.moment c.args.side _ _ _ b) c.step_of.ensures _ _ _ _
     (ap (λ (l : LaneValue). l.wire) (sym c.self.view_is) ∙ c.in-Iec104.is) (ap (λ (l : LaneValue). l.wire) c.count.ensures) _ _ c.in_ok-fate-in-Unit.ensures.client_grows
 
 pub returns-in_ok-fate-in-Unit-clause-controller_grows : goal.returns-in_ok-fate-in-Unit-clause-controller_grows
 returns-in_ok-fate-in-Unit-clause-controller_grows g c =
-    let b = subst (λ (xs : List ℕ). Begins SpellsApdu xs (apdu_value c.in-Unit.unit) c.in-Unit.used) c.after.ensures.bytes c.in-Unit.ensures.true_answer in
+    let b = begins_same c.after.ensures.bytes c.in-Unit.ensures.true_answer in
     grows_apdu c.in_ok-fate-in-Unit.fate c.step_of.result _ c.in-Unit.used (apdu_length c.args.asset.now c.requires.iec104 c.args.moment c.args.side _ _ _ b) c.step_of.ensures _ _ _ _
     (ap (λ (l : LaneValue). l.wire) (sym c.self.view_is) ∙ c.in-Iec104.is) (ap (λ (l : LaneValue). l.wire) c.count.ensures) _ _ c.in_ok-fate-in-Unit.ensures.controller_grows
 
 pub returns-in_ok-fate-in-Unit-clause-counts : goal.returns-in_ok-fate-in-Unit-clause-counts
 returns-in_ok-fate-in-Unit-clause-counts g c =
-    let b = subst (λ (xs : List ℕ). Begins SpellsApdu xs (apdu_value c.in-Unit.unit) c.in-Unit.used) c.after.ensures.bytes c.in-Unit.ensures.true_answer in
+    let b = begins_same c.after.ensures.bytes c.in-Unit.ensures.true_answer in
     let f = c.in_ok-fate-in-Unit.fate in
     counts_apdu f c.step_of.result c.in-Unit.used (apdu_some c.args.asset.now c.requires.iec104 c.args.moment c.args.side _ _ _ b) c.step_of.ensures c.args.self.now c.count.new.self
     (ap (λ (l : LaneValue). l.admitted) c.count.ensures ∙ ap (λ (l : LaneValue). l.admitted + one_if (is_admitted f)) c.self.view_is)

@@ -1,69 +1,67 @@
-use Rattle.std.proofs.Common.{◌≡◌, ℕ, ◌*◌, List, refl, sym, subst, inl, arith}
-use Rattle.cf_view.specs.Framing.{Begins, IsPartial, BreaksAt}
-use Rattle.cf_modbus.specs.Adu.{adu_value, SpellsAdu, spelling, mbap_break}
+use Rattle.std.proofs.Common.{◌*◌, refl, sym, subst, inl, arith}
+use Rattle.cf_modbus.specs.Adu.{adu_value, spelling}
 use Rattle.cf_outq.specs.SendQueue.{Queue}
 use Rattle.cf_lane.specs.Handled.{Grows}
 use Rattle.cf_lane.proofs.Failing.{on_err, misses_unit}
-use Rattle.cf_lane.proofs.Units.{partial_adu}
-use Rattle.cf_lane.proofs.Taking.{takes_of_client, takes_of_controller, breaks_by, grows_modbus, grows_more, grows_push, room_less, adu_length, adu_least}
+use Rattle.cf_lane.proofs.Units.{adus, begins_same, step_breaks, step_waits}
+use Rattle.cf_lane.proofs.Taking.{takes_of_client, takes_of_controller, grows_modbus, grows_more, grows_push, room_less, adu_length, adu_least}
 use Rattle.cf_lane.proofs.lane.Lane.step_modbus.Goals as goal
 
 pub take_command-requires-clause-client_room : goal.take_command-requires-clause-client_room
 take_command-requires-clause-client_room g c =
-    let b = subst (λ (xs : List ℕ). Begins SpellsAdu xs (adu_value c.in-Unit.unit) c.in-Unit.used) c.after.ensures.bytes c.in-Unit.ensures.true_answer in
+    let b = begins_same c.after.ensures.bytes c.in-Unit.ensures.true_answer in
     room_less _ _ _ (omega (arith, adu_length _ _ _ b, adu_least _ _ _ b, b.inside)) c.requires.client_room
 
 pub take_command-requires-clause-controller_room : goal.take_command-requires-clause-controller_room
 take_command-requires-clause-controller_room g c =
-    let b = subst (λ (xs : List ℕ). Begins SpellsAdu xs (adu_value c.in-Unit.unit) c.in-Unit.used) c.after.ensures.bytes c.in-Unit.ensures.true_answer in
+    let b = begins_same c.after.ensures.bytes c.in-Unit.ensures.true_answer in
     room_less _ _ _ (omega (arith, adu_length _ _ _ b, b.inside)) c.requires.controller_room
 
 pub push_adu-requires-clause-room : goal.push_adu-requires-clause-room
 push_adu-requires-clause-room g c =
-    let b = subst (λ (xs : List ℕ). Begins SpellsAdu xs (adu_value c.in-Unit.unit) c.in-Unit.used) c.after.ensures.bytes c.in-Unit.ensures.true_answer in
+    let b = begins_same c.after.ensures.bytes c.in-Unit.ensures.true_answer in
     room_less _ _ _ (omega (arith, adu_length _ _ _ b, b.inside)) c.requires.client_room
 
 pub returns-in-More-clause-steps : goal.returns-in-More-clause-steps
 returns-in-More-clause-steps g c =
-    (partial_adu c.args.asset.now.protocol c.requires.modbus _ (subst (λ (xs : List ℕ). IsPartial SpellsAdu xs) c.after.ensures.bytes c.in-More.ensures.true_answer), refl)
+    (step_waits c.args.asset.now (adus c.args.asset.now.protocol c.requires.modbus) _ _ c.after.ensures.bytes c.in-More.ensures.true_answer, refl)
 
 pub returns-in-Broken-clause-steps : goal.returns-in-Broken-clause-steps
 returns-in-Broken-clause-steps g c =
     inl (
-      breaks_by c.args.asset.now c.requires.modbus c.args.moment _ c.args.side c.in-Broken.reason
-          (subst (λ (xs : List ℕ). (i : ℕ) × BreaksAt SpellsAdu xs i × (c.in-Broken.reason ≡ mbap_break i)) c.after.ensures.bytes c.in-Broken.ensures.true_answer),
+      step_breaks c.args.asset.now (adus c.args.asset.now.protocol c.requires.modbus) _ _ c.after.ensures.bytes c.args.side c.in-Broken.reason c.in-Broken.ensures.true_answer,
       refl,
     )
 
 pub returns-in_ok-take_command-in-Client-clause-client_grows :
     goal.returns-in_ok-take_command-in-Client-clause-client_grows
 returns-in_ok-take_command-in-Client-clause-client_grows g c =
-    let b = subst (λ (xs : List ℕ). Begins SpellsAdu xs (adu_value c.in-Unit.unit) c.in-Unit.used) c.after.ensures.bytes c.in-Unit.ensures.true_answer in
+    let b = begins_same c.after.ensures.bytes c.in-Unit.ensures.true_answer in
     grows_modbus c.args.asset.now c.requires.modbus _ _ c.requires.of_asset c.in_ok-take_command-in-Client.ensures.of_asset _ _ _
     (grows_more _ _ _ _ _ _ (omega (arith, adu_least _ _ _ b)) c.in_ok-take_command-in-Client.ensures.client_grows)
 
 pub returns-in_ok-take_command-in-Client-clause-controller_grows :
     goal.returns-in_ok-take_command-in-Client-clause-controller_grows
 returns-in_ok-take_command-in-Client-clause-controller_grows g c =
-    let b = subst (λ (xs : List ℕ). Begins SpellsAdu xs (adu_value c.in-Unit.unit) c.in-Unit.used) c.after.ensures.bytes c.in-Unit.ensures.true_answer in
+    let b = begins_same c.after.ensures.bytes c.in-Unit.ensures.true_answer in
     grows_modbus c.args.asset.now c.requires.modbus _ _ c.requires.of_asset c.in_ok-take_command-in-Client.ensures.of_asset _ _ _
     (grows_more _ _ _ _ _ _ (omega (arith, adu_length _ _ _ b)) c.in_ok-take_command-in-Client.ensures.controller_grows)
 
 pub returns-in_ok-take_command-in-Client-clause-steps : goal.returns-in_ok-take_command-in-Client-clause-steps
 returns-in_ok-take_command-in-Client-clause-steps g c =
     takes_of_client c.args.asset.now c.requires.modbus c.args.moment c.args.bytes.now.bytes c.args.side c.in-Client.is (adu_value c.in-Unit.unit) c.in-Unit.used _ _
-    (subst (λ (xs : List ℕ). Begins SpellsAdu xs (adu_value c.in-Unit.unit) c.in-Unit.used) c.after.ensures.bytes c.in-Unit.ensures.true_answer)
+    (begins_same c.after.ensures.bytes c.in-Unit.ensures.true_answer)
     c.in_ok-take_command-in-Client.ensures.takes
 
 pub returns-in-Controller-clause-steps : goal.returns-in-Controller-clause-steps
 returns-in-Controller-clause-steps g c =
     takes_of_controller c.args.asset.now c.requires.modbus c.args.moment c.args.bytes.now.bytes c.args.side c.in-Controller.is (adu_value c.in-Unit.unit) c.in-Unit.used _ _
     c.requires.«open» refl c.push_adu.ensures.queue refl refl
-    (subst (λ (xs : List ℕ). Begins SpellsAdu xs (adu_value c.in-Unit.unit) c.in-Unit.used) c.after.ensures.bytes c.in-Unit.ensures.true_answer)
+    (begins_same c.after.ensures.bytes c.in-Unit.ensures.true_answer)
 
 pub returns-in-Controller-clause-client_grows : goal.returns-in-Controller-clause-client_grows
 returns-in-Controller-clause-client_grows g c =
-    let b = subst (λ (xs : List ℕ). Begins SpellsAdu xs (adu_value c.in-Unit.unit) c.in-Unit.used) c.after.ensures.bytes c.in-Unit.ensures.true_answer in
+    let b = begins_same c.after.ensures.bytes c.in-Unit.ensures.true_answer in
     grows_modbus c.args.asset.now c.requires.modbus _ _ c.requires.of_asset c.requires.of_asset _ _ _
     (subst (λ (q : Queue). Grows (2 * c.in-Unit.used) 0 0 c.args.to_client.now q) (sym c.push_adu.ensures.queue)
     (grows_push (2 * c.in-Unit.used) c.args.to_client.now (spelling (adu_value c.in-Unit.unit)) (omega (arith, adu_length _ _ _ b))))
@@ -71,10 +69,10 @@ returns-in-Controller-clause-client_grows g c =
 pub returns-in_err-take_command-in-Client-clause-misses : goal.returns-in_err-take_command-in-Client-clause-misses
 returns-in_err-take_command-in-Client-clause-misses g c =
     on_err _ _ (misses_unit c.args.asset.now c.requires.modbus c.args.moment c.args.side c.in-Client.is c.args.bytes.now.bytes (adu_value c.in-Unit.unit) c.in-Unit.used _ _ _
-    (subst (λ (xs : List ℕ). Begins SpellsAdu xs (adu_value c.in-Unit.unit) c.in-Unit.used) c.after.ensures.bytes c.in-Unit.ensures.true_answer)
+    (begins_same c.after.ensures.bytes c.in-Unit.ensures.true_answer)
     c.in_err-take_command-in-Client.ensures.misses)
 
 pub returns-in_ok-take_command-in-Client-clause-counts : goal.returns-in_ok-take_command-in-Client-clause-counts
 returns-in_ok-take_command-in-Client-clause-counts g c =
-    let b = subst (λ (xs : List ℕ). Begins SpellsAdu xs (adu_value c.in-Unit.unit) c.in-Unit.used) c.after.ensures.bytes c.in-Unit.ensures.true_answer in
+    let b = begins_same c.after.ensures.bytes c.in-Unit.ensures.true_answer in
     omega (arith, adu_least _ _ _ b, c.in_ok-take_command-in-Client.ensures.counts)

@@ -1,6 +1,7 @@
 use Rattle.std.proofs.Common.{ℕ, length, true, ◌*◌, ◌-◌, ◌^◌, ◌≡◌}
+use Rattle.cf_outside.specs.PairValue.{pair_value}
 use Rattle.cf_relay.specs.Relaying.{AreClosed, IsSound, progress, relaying_value}
-use Rattle.cf_relay.specs.Scene.{DoesBetween, pair_value, scene}
+use Rattle.cf_relay.specs.Scene.{DoesBetween, scene}
 use Rattle.cf_relay.specs.Turn.{turns}
 use Rattle.cf_relay.proofs.relaying.Relaying.run.Given as goal
 

@@ -5,12 +5,7 @@ use Rattle.cf_run.proofs.file_desk.FileDeskDesk.line.Goals as goal
 
 pub returns-in-Done : goal.returns-in-Done
 returns-in-Done g c =
-    put c.args.self.now.files.ghost_name c.args.self.now.failed
-    (g.F.Files.write_faults c.args.self.now.files.now) (g.F.Files.write_faults c.append.new.self)
-    (g.F.Files.read_faults c.args.self.now.files.now) (g.F.Files.read_faults c.append.new.self)
-    c.args.self.now.out.now c.args.self.now.log.now
-    (g.F.Files.content c.args.self.now.files.now) (g.F.Files.content c.append.new.self)
-    c.requires.whole c.in-Done.ensures.reads
+    put _ _ _ _ _ _ _ _ (g.F.Files.content c.args.self.now.files.now) (g.F.Files.content c.append.new.self) c.requires.whole c.in-Done.ensures.reads
     c.args.text.now c.requires.line c.in-Done.ensures.others
     (c.in-Done.ensures.file.1 ∙ ap (λ bytes. with_appended (g.F.Files.content c.args.self.now.files.now c.args.self.now.log.now) bytes) c.as_bytes.ensures.value)
     c.in-Done.ensures.cause
@@ -18,12 +13,7 @@ returns-in-Done g c =
 pub returns-in-Failed : goal.returns-in-Failed
 returns-in-Failed g c =
     let (k, appended) = c.in-Failed.ensures.file in
-    put_failed c.args.self.now.files.ghost_name c.args.self.now.failed
-    (g.F.Files.write_faults c.args.self.now.files.now) (g.F.Files.write_faults c.append.new.self)
-    (g.F.Files.read_faults c.args.self.now.files.now) (g.F.Files.read_faults c.append.new.self)
-    c.args.self.now.out.now c.args.self.now.log.now
-    (g.F.Files.content c.args.self.now.files.now) (g.F.Files.content c.append.new.self)
-    c.requires.whole c.in-Failed.ensures.reads
+    put_failed _ _ _ _ _ _ _ _ (g.F.Files.content c.args.self.now.files.now) (g.F.Files.content c.append.new.self) c.requires.whole c.in-Failed.ensures.reads
     c.args.text.now c.requires.line c.in-Failed.ensures.others
     (k, appended ∙ ap (λ bytes. with_appended (g.F.Files.content c.args.self.now.files.now c.args.self.now.log.now) (take k bytes)) c.as_bytes.ensures.value)
     c.in-Failed.ensures.cause

@@ -4,36 +4,58 @@ use Rattle.std.proofs.lemmas.List.{with_items_is}
 use Rattle.cf_outside.specs.Faults.{Rose}
 use Rattle.cf_outside.specs.Files.{Content}
 use Rattle.cf_outside.specs.Part.{IsFilled}
-use Rattle.cf_run.specs.Reader.{ReaderValue, FindsBody}
-use Rattle.cf_run.proofs.Places.{head_ends, head_is_cut, head_is_large, head_is_long, body_is_whole, body_rest}
+use Rattle.cf_pcap.specs.Capture.{AtPlace, Cut, FileEnd, Large, TooLong, at_place}
+use Rattle.cf_pcap.specs.declared.header.Header.{Header}
+use Rattle.cf_run.specs.Reader.{FindsBody, ReaderValue, StandsAt, head_at}
+use Rattle.cf_run.specs.declared.record_reader.HeadAnswer.{HeadAnswer}
+use Rattle.cf_run.specs.declared.record_reader.HeadAnswer.TheVariants as head
+use Rattle.cf_run.proofs.Places.{body_is_whole, body_rest, head_cut, head_end, head_is, head_large, head_long}
+use Rattle.cf_run.proofs.record_reader.RecordReader.next.Given.{Over}
 use Rattle.cf_run.proofs.record_reader.RecordReader.next.Goals as goal
+use Rattle.cf_run.proofs.record_reader.RecordReader.next.Goals.{After-read_head}
 
 later_rose : {a b c : ℕ} → a ≤ b → Rose b c → Rose a c
 later_rose l r = omega (arith, l, r)
 
+-- the head was read
+module _ (g : Over) (c : After-read_head g) where
+  abbrev file : Content
+  file = g.F.Files.content c.args.files.now c.args.name.now
+
+  header_is : c.self.inside.header ≡ c.args.self.now.header
+  header_is = ap (λ (v : ReaderValue). v.header) c.self.view_is
+
+  place_is : c.self.inside.place ≡ c.args.self.now.place
+  place_is = ap (λ (v : ReaderValue). v.place) c.self.view_is
+
+  abbrev header : Header
+  header = c.self.inside.header
+
+  abbrev place : ℕ
+  place = c.self.inside.place
+
+  -- it says what stands there
+  by_head : (answer : HeadAnswer) (found : AtPlace) → ((xs : List ℕ) → head_at header place (take 16 xs) ≡ answer → at_place header place xs ≡ found) →
+      ((octets : List ℕ) × IsFilled file place 16 octets × (answer ≡ head_at header place octets)) →
+      StandsAt file c.args.self.now.header c.args.self.now.place found × ((header ≡ c.args.self.now.header) × (place ≡ c.args.self.now.place))
+  by_head answer found says head_found =
+      head_is file header c.args.self.now.header place c.args.self.now.place header_is place_is answer found says head_found
+
 pub returns-in-End-clause-found : goal.returns-in-End-clause-found
-returns-in-End-clause-found g c =
-    head_ends (g.F.Files.content c.args.files.now c.args.name.now) c.self.inside.header c.args.self.now.header c.self.inside.place c.args.self.now.place
-    (ap (λ (v : ReaderValue). v.header) c.self.view_is) (ap (λ (v : ReaderValue). v.place) c.self.view_is) c.in-End.ensures.found
+returns-in-End-clause-found g c = let at = (goal.at.returns-in-End-clause-found g c).After-read_head in by_head g at head.End FileEnd (head_end (header g at) (place g at)) c.in-End.ensures.found
 
 pub returns-in-Cut-clause-found : goal.returns-in-Cut-clause-found
-returns-in-Cut-clause-found g c =
-    head_is_cut (g.F.Files.content c.args.files.now c.args.name.now) c.self.inside.header c.args.self.now.header c.self.inside.place c.args.self.now.place
-    (ap (λ (v : ReaderValue). v.header) c.self.view_is) (ap (λ (v : ReaderValue). v.place) c.self.view_is) c.in-Cut.ensures.found
+returns-in-Cut-clause-found g c = let at = (goal.at.returns-in-Cut-clause-found g c).After-read_head in by_head g at head.Cut Cut (head_cut (header g at) (place g at)) c.in-Cut.ensures.found
 
 pub returns-in-TooLong-clause-found : goal.returns-in-TooLong-clause-found
-returns-in-TooLong-clause-found g c =
-    head_is_long (g.F.Files.content c.args.files.now c.args.name.now) c.self.inside.header c.args.self.now.header c.self.inside.place c.args.self.now.place
-    (ap (λ (v : ReaderValue). v.header) c.self.view_is) (ap (λ (v : ReaderValue). v.place) c.self.view_is) c.in-TooLong.ensures.found
+returns-in-TooLong-clause-found g c = let at = (goal.at.returns-in-TooLong-clause-found g c).After-read_head in by_head g at head.TooLong TooLong (head_long (header g at) (place g at)) c.in-TooLong.ensures.found
 
 pub returns-in-Large-clause-found : goal.returns-in-Large-clause-found
-returns-in-Large-clause-found g c =
-    head_is_large (g.F.Files.content c.args.files.now c.args.name.now) c.self.inside.header c.args.self.now.header c.self.inside.place c.args.self.now.place
-    (ap (λ (v : ReaderValue). v.header) c.self.view_is) (ap (λ (v : ReaderValue). v.place) c.self.view_is) c.in-Large.ensures.found
+returns-in-Large-clause-found g c = let at = (goal.at.returns-in-Large-clause-found g c).After-read_head in by_head g at head.Large Large (head_large (header g at) (place g at)) c.in-Large.ensures.found
 
 pub returns-in-Whole-clause-found : goal.returns-in-Whole-clause-found
 returns-in-Whole-clause-found g c =
-    let content = g.F.Files.content in
+    let at = (goal.at.returns-in-Whole-clause-found g c).After-read_head in
     let (begun, sized) = c.in-Size.ensures.found in
     let (filled, is) = c.in-Whole.ensures.found in
     let buffer = c.self.inside.buffer in
@@ -45,19 +67,17 @@ returns-in-Whole-clause-found g c =
     let items : (with_items (with_items buffer c.read_head.new.buffer) c.read_body-answer.new.buffer).items ≡ c.read_body-answer.new.buffer =
     with_items_is (with_items buffer c.read_head.new.buffer) c.read_body-answer.new.buffer body_room in
     rw (c.in-Whole.is, items)
-    (body_is_whole (content c.args.files.now c.args.name.now) c.self.inside.header c.args.self.now.header c.self.inside.place c.args.self.now.place
-    (ap (λ (v : ReaderValue). v.header) c.self.view_is) (ap (λ (v : ReaderValue). v.place) c.self.view_is)
+    (body_is_whole (file g at) c.self.inside.header c.args.self.now.header c.self.inside.place c.args.self.now.place (header_is g at) (place_is g at)
     c.in-Size.size (take 16 c.read_head.new.buffer) begun sized c.read_body-answer.new.buffer c.in-Whole.field-0
     (body_room ∙ room) (subst (λ (f : List ℕ → Content). IsFilled (f c.args.name.now) c.self.inside.place c.in-Size.size (take c.in-Size.size c.read_body-answer.new.buffer)) c.in-Size.ensures.same filled) is)
 
 pub returns-in_default : goal.returns-in_default
 returns-in_default g c =
-    let content = g.F.Files.content in
+    let at = (goal.at.returns-in_default g c).After-read_head in
     let (begun, sized) = c.in-Size.ensures.found in
     let cause = c.read_body-answer.ensures.cause in
     record {
-      found = body_rest (content c.args.files.now c.args.name.now) c.self.inside.header c.args.self.now.header c.self.inside.place c.args.self.now.place
-          (ap (λ (v : ReaderValue). v.header) c.self.view_is) (ap (λ (v : ReaderValue). v.place) c.self.view_is)
+      found = body_rest (file g at) c.self.inside.header c.args.self.now.header c.self.inside.place c.args.self.now.place (header_is g at) (place_is g at)
           c.in-Size.size (take 16 c.read_head.new.buffer) c.read_body-answer.new.buffer begun sized c.args.self.now
           (record {
             header = c.self.inside.header;

@@ -1,12 +1,9 @@
-use Rattle.std.proofs.Common.{[], ◌∷◌, List, refl, sym, ap, ◌∙◌, subst}
+use Rattle.std.proofs.Common.{[], ◌∷◌, List, refl, ap, ◌∙◌, subst}
 use Rattle.cf_audit.specs.Line.{Cut as CutLine}
 use Rattle.cf_lane.specs.Log.{line_about}
-use Rattle.cf_leg.specs.Event.{Unspoken}
-use Rattle.cf_policy.specs.declared.Asset.{Asset}
-use Rattle.cf_view.specs.declared.Endpoint.{Endpoint}
-use Rattle.cf_session.proofs.Legs.{cut_right}
-use Rattle.cf_session.proofs.Telling.{then_told, told_lines, told_sent}
-use Rattle.cf_session.specs.Parts.{IsLegBetween, SessionValue}
+use Rattle.cf_session.proofs.Legs.{both_cut, client_in, controller_in, cut_right}
+use Rattle.cf_session.proofs.Telling.{line_is, then_told, told_lines, told_sent}
+use Rattle.cf_session.specs.Parts.{SessionValue}
 use Rattle.cf_session.specs.Sent.{at}
 use Rattle.cf_session.specs.Session.{client_ends, client_of, controller_ends}
 use Rattle.cf_session.specs.Told.{with_both, told}
@@ -22,28 +19,19 @@ pub returns-clause-cuts : goal.returns-clause-cuts
 returns-clause-cuts g c = (
   refl,
   λ flow cs ds x y is src lc ld.
-      let now = c.args.now in
-      let a = c.in_ok-cut.ensures.cut in
-      let b = c.in_ok-cut-2.ensures.cut in
-      let mc = subst (λ (s : SessionValue). IsLegBetween (controller_ends flow) s.controller s.to_controller (record x { ending = Unspoken } ∷ cs)) (sym c.self.view_is) lc in
-      let md = subst (λ (s : SessionValue). IsLegBetween (client_ends flow) s.client s.to_client (record y { ending = Unspoken } ∷ ds)) (sym c.self.view_is) ld in
-      let source = ap (λ (s : SessionValue). s.source) c.self.view_is ∙ src in
-      let text = ap (λ (e : Endpoint). line_about c.args.asset.now e now (CutLine c.args.reason)) source
-      ∙ ap (λ (s : Asset). line_about s (client_of flow) now (CutLine c.args.reason)) (sym is) in
-      let d0 = g.D.Desk.value c.args.desk.now in
-      let d1 = g.D.Desk.value c.cut.new.desk in
+      let t0 = told (g.D.Desk.value c.args.desk.now) in
       let d2 = g.D.Desk.value c.cut-2.new.desk in
       let d3 = g.D.Desk.value c.log_line.new.desk in
-      let one = told_sent d0 d1 now (a.out ∷ []) a.packets c.in_ok-cut.ensures.lines in
-      let two = told_sent d1 d2 now (b.out ∷ []) b.packets c.in_ok-cut-2.ensures.lines in
-      let three = told_lines d2 d3 (line_about c.args.asset.now c.self.inside.source now (CutLine c.args.reason) ∷ []) c.in_ok-log_line.ensures.log.packets c.in_ok-log_line.ensures.lines in
+      let both = both_cut flow x y cs ds t0 (told (g.D.Desk.value c.cut.new.desk)) (told d2) c.in_ok-cut.ensures.cut c.in_ok-cut-2.ensures.cut c.in_ok-cut.ensures.lines c.in_ok-cut-2.ensures.lines (controller_in c.self.view_is lc) (client_in c.self.view_is ld) in
+      let text = line_is flow (CutLine c.args.reason) is (ap (λ (s : SessionValue). s.source) c.self.view_is ∙ src) refl in
+      let rsts = at c.args.now (both.to_controller ∷ both.to_client ∷ []) in
+      let put = told_lines d2 d3 (line_about c.args.asset.now c.self.inside.source c.args.now (CutLine c.args.reason) ∷ []) c.in_ok-log_line.ensures.log.packets c.in_ok-log_line.ensures.lines in
       record {
-        to_controller = a.out;
-        controller_right = cut_right (controller_ends flow) _ _ x cs _ _ _ a mc;
-        to_client = b.out;
-        client_right = cut_right (client_ends flow) _ _ y ds _ _ _ b md;
-        told = then_told (told d0) (told d2) (told d3) (at now (a.out ∷ b.out ∷ [])) [] [] _ (then_told (told d0) (told d1) (told d2) (at now (a.out ∷ [])) (at now (b.out ∷ [])) [] [] one two) three
-            ∙ ap (λ (l : List _). with_both (told d0) (at now (a.out ∷ b.out ∷ [])) (l ∷ [])) text;
+        to_controller = both.to_controller;
+        controller_right = both.controller_right;
+        to_client = both.to_client;
+        client_right = both.client_right;
+        told = then_told t0 (told d2) (told d3) rsts [] [] _ both.told put ∙ ap (λ (l : List _). with_both t0 rsts (l ∷ [])) text;
       },
 )
 
@@ -52,8 +40,8 @@ returns-in_err-cut-clause-broken g c =
     on_err c.from_residual.result (λ flow cs ds x y is src lc ld.
     let now = c.args.now in
     let h = c.in_err-cut.ensures.broken in
-    let mc = subst (λ (s : SessionValue). IsLegBetween (controller_ends flow) s.controller s.to_controller (record x { ending = Unspoken } ∷ cs)) (sym c.self.view_is) lc in
-    let md = subst (λ (s : SessionValue). IsLegBetween (client_ends flow) s.client s.to_client (record y { ending = Unspoken } ∷ ds)) (sym c.self.view_is) ld in
+    let mc = controller_in c.self.view_is lc in
+    let md = client_in c.self.view_is ld in
     let d0 = g.D.Desk.value c.args.desk.now in
     let d1 = g.D.Desk.value c.cut.new.desk in
     let rst = cut_next (client_ends flow).own (client_ends flow).peer (client_ends flow).role c.self.inside.client c.self.inside.to_client y ds md in
@@ -71,8 +59,8 @@ returns-in_err-cut-2-clause-broken g c =
     let now = c.args.now in
     let a = c.in_ok-cut.ensures.cut in
     let h = c.in_err-cut-2.ensures.broken in
-    let mc = subst (λ (s : SessionValue). IsLegBetween (controller_ends flow) s.controller s.to_controller (record x { ending = Unspoken } ∷ cs)) (sym c.self.view_is) lc in
-    let md = subst (λ (s : SessionValue). IsLegBetween (client_ends flow) s.client s.to_client (record y { ending = Unspoken } ∷ ds)) (sym c.self.view_is) ld in
+    let mc = controller_in c.self.view_is lc in
+    let md = client_in c.self.view_is ld in
     let d0 = g.D.Desk.value c.args.desk.now in
     let d1 = g.D.Desk.value c.cut.new.desk in
     let d2 = g.D.Desk.value c.cut-2.new.desk in
@@ -90,31 +78,21 @@ returns-in_err-cut-2-clause-broken g c =
 pub returns-in_err-log_line-clause-broken : goal.returns-in_err-log_line-clause-broken
 returns-in_err-log_line-clause-broken g c =
     on_err c.from_residual-in_err-log_line.result (λ flow cs ds x y is src lc ld.
-    let now = c.args.now in
-    let a = c.in_ok-cut.ensures.cut in
-    let b = c.in_ok-cut-2.ensures.cut in
-    let mc = subst (λ (s : SessionValue). IsLegBetween (controller_ends flow) s.controller s.to_controller (record x { ending = Unspoken } ∷ cs)) (sym c.self.view_is) lc in
-    let md = subst (λ (s : SessionValue). IsLegBetween (client_ends flow) s.client s.to_client (record y { ending = Unspoken } ∷ ds)) (sym c.self.view_is) ld in
-    let source = ap (λ (s : SessionValue). s.source) c.self.view_is ∙ src in
-    let text = ap (λ (e : Endpoint). line_about c.args.asset.now e now (CutLine c.args.reason)) source
-    ∙ ap (λ (s : Asset). line_about s (client_of flow) now (CutLine c.args.reason)) (sym is) in
     let d0 = g.D.Desk.value c.args.desk.now in
     let d1 = g.D.Desk.value c.cut.new.desk in
     let d2 = g.D.Desk.value c.cut-2.new.desk in
     let d3 = g.D.Desk.value c.log_line.new.desk in
-    let one = told_sent d0 d1 now (a.out ∷ []) a.packets c.cut.ensures.lines in
-    let two = told_sent d1 d2 now (b.out ∷ []) b.packets c.cut-2.ensures.lines in
-    let put = line_about flow.asset (client_of flow) now (CutLine c.args.reason) ∷ [] in
-    let fails = subst (λ l. MayHaveAdded (l ∷ []) d2 d3) text c.in_err-log_line.ensures.fails in
+    let both = both_cut flow x y cs ds (told d0) (told d1) (told d2) c.in_ok-cut.ensures.cut c.in_ok-cut-2.ensures.cut c.cut.ensures.lines c.cut-2.ensures.lines (controller_in c.self.view_is lc) (client_in c.self.view_is ld) in
+    let text = line_is flow (CutLine c.args.reason) is (ap (λ (s : SessionValue). s.source) c.self.view_is ∙ src) refl in
+    let put = line_about flow.asset (client_of flow) c.args.now (CutLine c.args.reason) ∷ [] in
     let parts = parts_both d0 d1 d2 (record { packet_part = c.in_ok-cut.ensures.packet_part; line_part = c.cut.ensures.line_part }) (record { packet_part = c.in_ok-cut-2.ensures.packet_part; line_part = c.cut-2.ensures.line_part }) in
     record {
-      to_controller = a.out;
-      controller_right = cut_right (controller_ends flow) _ _ x cs _ _ _ a mc;
-      to_client = b.out;
-      client_right = cut_right (client_ends flow) _ _ y ds _ _ _ b md;
-      amid = amid_after (at now (a.out ∷ b.out ∷ [])) [] [] put d0 d2 d3
-          (then_told (told d0) (told d1) (told d2) (at now (a.out ∷ [])) (at now (b.out ∷ [])) [] [] one two) parts (c.cut-2.ensures.keeps.octets ∙ c.cut.ensures.keeps.octets)
-          (amid_lines put d2 d3 fails c.log_line.ensures.log);
+      to_controller = both.to_controller;
+      controller_right = both.controller_right;
+      to_client = both.to_client;
+      client_right = both.client_right;
+      amid = amid_after (at c.args.now (both.to_controller ∷ both.to_client ∷ [])) [] [] put d0 d2 d3 both.told parts (c.cut-2.ensures.keeps.octets ∙ c.cut.ensures.keeps.octets)
+          (amid_lines put d2 d3 (subst (λ l. MayHaveAdded (l ∷ []) d2 d3) text c.in_err-log_line.ensures.fails) c.log_line.ensures.log);
     })
 
 pub returns-clause-parts : goal.returns-clause-parts

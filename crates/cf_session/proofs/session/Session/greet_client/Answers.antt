@@ -13,7 +13,7 @@ use Rattle.cf_leg.specs.Emits.{IsGreeting}
 use Rattle.cf_leg.specs.Emitted.{BreaksOff}
 use Rattle.cf_leg.specs.LegValue.{marks}
 use Rattle.cf_leg.specs.declared.Ends.{Ends}
-use Rattle.cf_session.proofs.Amid.{amid_sent, parts_none, on_err}
+use Rattle.cf_session.proofs.Amid.{amid_sent, on_err}
 use Rattle.cf_session.proofs.Greeting.{nothing_came}
 use Rattle.cf_session.specs.Broken.{BreaksAmid}
 use Rattle.cf_session.specs.Sent.{at}

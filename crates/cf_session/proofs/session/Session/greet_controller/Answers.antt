@@ -1,12 +1,10 @@
-use Rattle.std.proofs.Common.{◌≡◌, ◌+◌, ◌-◌, true, List, [], ◌∷◌, refl, sym, ap, ◌∙◌, subst, arith}
+use Rattle.std.proofs.Common.{◌+◌, ◌-◌, true, List, [], ◌∷◌, refl, sym, ap, ◌∙◌, subst}
 use Rattle.cf_audit.specs.Line.{Begun}
 use Rattle.cf_lane.specs.Log.{line_about}
 use Rattle.cf_leg.specs.Emits.{syn}
-use Rattle.cf_policy.specs.declared.Asset.{Asset}
-use Rattle.cf_view.specs.declared.Endpoint.{Endpoint}
-use Rattle.cf_session.proofs.Beginning.{begins_of, first_at, still_pending}
-use Rattle.cf_session.proofs.Telling.{told_lines, told_sent}
-use Rattle.cf_session.specs.Session.{client_of, controller_ends}
+use Rattle.cf_session.proofs.Beginning.{begins_of, first_said, moment_later, still_pending}
+use Rattle.cf_session.proofs.Telling.{line_is, told_lines, told_sent}
+use Rattle.cf_session.specs.Session.{controller_ends}
 use Rattle.cf_session.specs.Told.{told, with_both}
 use Rattle.cf_session.specs.Turn.{IsMade}
 use Rattle.cf_lane.specs.Handled.{MayHaveAdded}
@@ -18,23 +16,15 @@ use Rattle.cf_session.proofs.session.Session.greet_controller.Goals as goal
 
 pub returns-clause-begins : goal.returns-clause-begins
 returns-clause-begins g c = λ f is number made.
-    let now = c.args.now in
-    let tick = now - 1 in
     let m = subst (IsMade f) (sym c.self.view_is) made in
-    let later : now ≡ tick + 1 = (let h = c.requires.moment.0 in omega (arith, h)) in
-    let begin = c.events_begin.ensures in
-    let d0 = g.D.Desk.value c.args.desk.now in
+    let later = moment_later c.args.now c.requires.moment.0 in
     let d2 = g.D.Desk.value c.speak.new.desk in
-    let d3 = g.D.Desk.value c.log_line.new.desk in
-    let first = first_at begin (controller_ends f) f.syn.seq now tick c.self.inside.controller c.greet.new.self c.speak.new.self c.self.inside.to_controller c.speak.new.queue _ _ _ later refl m.controller m.controller_list
-    c.in_ok-greet.ensures.greeted c.in_ok-speak.ensures.spoken c.in_ok-greet.ensures.ends c.in_ok-speak.ensures.ends in
-    let sent = told_sent d0 d2 (tick + 1) (syn (controller_ends f) f.syn.seq ∷ []) first.packets (c.speak.ensures.lines ∙ c.greet.ensures.lines) in
-    let text = ap (λ (e : Endpoint). line_about c.args.asset.now e now Begun) m.source
-    ∙ ap (λ (s : Asset). line_about s (client_of f) now Begun) (sym is)
-    ∙ ap (λ n. line_about f.asset (client_of f) n Begun) later in
-    let put = told_lines d2 d3 (line_about c.args.asset.now c.self.inside.source now Begun ∷ []) c.log_line.ensures.log.packets c.in_ok-log_line.ensures.lines
+    let first = first_said c.events_begin.ensures (controller_ends f) f.syn.seq (c.args.now - 1) (told (g.D.Desk.value c.args.desk.now)) (told (g.D.Desk.value c.greet.new.desk)) (told d2) later refl m.controller m.controller_list
+    c.in_ok-greet.ensures.greeted c.in_ok-speak.ensures.spoken c.in_ok-greet.ensures.ends c.in_ok-speak.ensures.ends c.greet.ensures.lines c.speak.ensures.lines in
+    let text = line_is f Begun is m.source later in
+    let put = told_lines d2 (g.D.Desk.value c.log_line.new.desk) (line_about c.args.asset.now c.self.inside.source c.args.now Begun ∷ []) c.log_line.ensures.log.packets c.in_ok-log_line.ensures.lines
     ∙ ap (λ (l : List _). with_both (told d2) [] (l ∷ [])) text in
-    begins_of begin f tick _ m _ _ _ _ _ first.stands (still_pending c.self.inside.controller.ends.role c.self.inside.controller.window c.greet.new.self.window c.speak.new.self.window c.in_ok-greet.ensures.window c.in_ok-speak.ensures.window) (c.speak.ensures.stands _ m.controller_list) sent put
+    begins_of c.events_begin.ensures f (c.args.now - 1) _ m _ _ _ _ _ first.stands (still_pending c.self.inside.controller.ends.role c.self.inside.controller.window c.greet.new.self.window c.speak.new.self.window c.in_ok-greet.ensures.window c.in_ok-speak.ensures.window) (c.speak.ensures.stands _ m.controller_list) first.told put
 
 pub returns-in_err-greet-clause-broken : goal.returns-in_err-greet-clause-broken
 returns-in_err-greet-clause-broken g c =
@@ -42,7 +32,7 @@ returns-in_err-greet-clause-broken g c =
     let now = c.args.now in
     let tick = now - 1 in
     let m = subst (IsMade f) (sym c.self.view_is) made in
-    let later : now ≡ tick + 1 = (let h = c.requires.moment.0 in omega (arith, h)) in
+    let later = moment_later now c.requires.moment.0 in
     let d0 = g.D.Desk.value c.args.desk.now in
     let d1 = g.D.Desk.value c.greet.new.desk in
     let h = subst (λ n. GreetingBreaks (tick + 1) n c.self.inside.controller d0 d1) (sym number) (subst (λ n. GreetingBreaks n c.args.number c.self.inside.controller d0 d1) later c.in_err-greet.ensures.broken) in
@@ -54,7 +44,7 @@ returns-in_err-speak-clause-broken g c =
     let now = c.args.now in
     let tick = now - 1 in
     let m = subst (IsMade f) (sym c.self.view_is) made in
-    let later : now ≡ tick + 1 = (let h = c.requires.moment.0 in omega (arith, h)) in
+    let later = moment_later now c.requires.moment.0 in
     let begin = c.events_begin.ensures in
     let d0 = g.D.Desk.value c.args.desk.now in
     let d1 = g.D.Desk.value c.greet.new.desk in
@@ -70,23 +60,17 @@ returns-in_err-speak-clause-broken g c =
 pub returns-in_err-log_line-clause-broken : goal.returns-in_err-log_line-clause-broken
 returns-in_err-log_line-clause-broken g c =
     on_err c.from_residual-in_err-log_line.result (λ f is number made.
-    let now = c.args.now in
-    let tick = now - 1 in
     let m = subst (IsMade f) (sym c.self.view_is) made in
-    let later : now ≡ tick + 1 = (let h = c.requires.moment.0 in omega (arith, h)) in
-    let begin = c.events_begin.ensures in
+    let later = moment_later c.args.now c.requires.moment.0 in
     let d0 = g.D.Desk.value c.args.desk.now in
     let d1 = g.D.Desk.value c.greet.new.desk in
     let d2 = g.D.Desk.value c.speak.new.desk in
     let d3 = g.D.Desk.value c.log_line.new.desk in
-    let first = first_at begin (controller_ends f) f.syn.seq now tick c.self.inside.controller c.greet.new.self c.speak.new.self c.self.inside.to_controller c.speak.new.queue _ _ _ later refl m.controller m.controller_list
-    c.in_ok-greet.ensures.greeted c.in_ok-speak.ensures.spoken c.in_ok-greet.ensures.ends c.in_ok-speak.ensures.ends in
-    let sent = told_sent d0 d2 (tick + 1) (syn (controller_ends f) f.syn.seq ∷ []) first.packets (c.speak.ensures.lines ∙ c.greet.ensures.lines) in
-    let text = ap (λ (e : Endpoint). line_about c.args.asset.now e now Begun) m.source
-    ∙ ap (λ (s : Asset). line_about s (client_of f) now Begun) (sym is)
-    ∙ ap (λ n. line_about f.asset (client_of f) n Begun) later in
+    let first = first_said c.events_begin.ensures (controller_ends f) f.syn.seq (c.args.now - 1) (told d0) (told d1) (told d2) later refl m.controller m.controller_list
+    c.in_ok-greet.ensures.greeted c.in_ok-speak.ensures.spoken c.in_ok-greet.ensures.ends c.in_ok-speak.ensures.ends c.greet.ensures.lines c.speak.ensures.lines in
+    let text = line_is f Begun is m.source later in
     let parts = parts_both d0 d1 d2 (record { packet_part = c.in_ok-greet.ensures.packet_part; line_part = c.greet.ensures.line_part }) (record { packet_part = c.in_ok-speak.ensures.packet_part; line_part = c.speak.ensures.line_part }) in
-    line_failed f tick d0 d2 d3 sent parts (c.speak.ensures.keeps.octets ∙ c.greet.ensures.keeps.octets)
+    line_failed f (c.args.now - 1) d0 d2 d3 first.told parts (c.speak.ensures.keeps.octets ∙ c.greet.ensures.keeps.octets)
     (subst (λ l. MayHaveAdded (l ∷ []) d2 d3) text c.in_err-log_line.ensures.fails) c.log_line.ensures.log)
 
 pub returns-clause-parts : goal.returns-clause-parts

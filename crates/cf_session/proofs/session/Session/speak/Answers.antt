@@ -8,10 +8,10 @@ use Rattle.cf_session.proofs.Telling.{then_sent, told_sent}
 use Rattle.cf_session.specs.Parts.{IsLegBetween, SessionValue}
 use Rattle.cf_session.specs.Session.{client_ends, controller_ends}
 use Rattle.cf_session.specs.Told.{told}
-use Rattle.cf_session.specs.Turn.{IsSteady, OnlySpeaks, SaysBoth, came_greeted, greetings, roomy_by}
+use Rattle.cf_session.specs.Turn.{IsSteady, MaySpeak, OnlySpeaks, SaysBoth, came_greeted, greetings, is_roomy}
 use Rattle.cf_leg.specs.Emits.{IsRight}
 use Rattle.cf_leg.specs.declared.Ends.{Ends}
-use Rattle.cf_session.proofs.Able.{can_hello, can_speak, hello_taken, taken_of}
+use Rattle.cf_session.proofs.Able.{can_answer}
 use Rattle.cf_session.proofs.Amid.{amid_after, amid_as, amid_before, amid_sent, parts_both, on_err}
 use Rattle.cf_session.proofs.Legs.{right_of}
 use Rattle.cf_session.proofs.Telling.{at-append}
@@ -20,19 +20,15 @@ use Rattle.cf_session.specs.Turn.{SaysAmid}
 use Rattle.cf_session.proofs.session.Session.speak.Goals as goal
 
 pub returns-clause-says : goal.returns-clause-says
-returns-clause-says g c = λ flow x y cs ds w v at_c at_d may lc ld qw qv.
+returns-clause-says g c = λ flow x y cs ds w v at_c at_d may stands.
     let now = c.args.now in
-    let first : SessionValue = record { client = c.self.inside.client; controller = c.speak.new.self; lane = c.self.inside.lane; to_client = c.self.inside.to_client; to_controller = c.speak.new.queue; closed = c.self.inside.closed; limit = c.self.inside.limit; source = c.self.inside.source } in
     let middle : SessionValue = record { client = c.self-2.inside.client; controller = c.self-2.inside.controller; lane = c.self-2.inside.lane; to_client = c.self-2.inside.to_client; to_controller = c.self-2.inside.to_controller; closed = c.self-2.inside.closed; limit = c.self-2.inside.limit; source = c.self-2.inside.source } in
-    let path : middle ≡ record first { client = c.greet_client.new.self.client } = c.self-2.view_is ∙ c.greet_client.ensures.same in
-    let mc = subst (λ (s : SessionValue). IsLegBetween (controller_ends flow) s.controller s.to_controller (record x { ending = Unspoken } ∷ cs)) (sym c.self.view_is) lc in
-    let md = subst (λ (s : SessionValue). IsLegBetween (client_ends flow) s.client s.to_client (record y { ending = Unspoken } ∷ ds)) (sym c.self.view_is) ld in
-    let mw = subst (λ (s : SessionValue). IsQueueOf s.to_client w) (sym c.self.view_is) qw in
-    let mv = subst (λ (s : SessionValue). IsQueueOf s.to_controller v) (sym c.self.view_is) qv in
+    let path = c.self-2.view_is ∙ c.greet_client.ensures.same in
+    let m = subst (MaySpeak flow x y cs ds w v) (sym c.self.view_is) stands in
     let a = c.in_ok-speak.ensures.spoken in
     let b = c.in_ok-speak-2.ensures.spoken in
     let roomy = c.is_roomy-roomy.result in
-    let greeted = c.in_ok-greet_client.ensures.greets flow y ds at_d may md in
+    let greeted = c.in_ok-greet_client.ensures.greets flow y ds at_d may m.client_stands in
     let d0 = g.D.Desk.value c.args.desk.now in
     let d1 = g.D.Desk.value c.speak.new.desk in
     let d2 = g.D.Desk.value c.greet_client.new.desk in
@@ -41,25 +37,22 @@ returns-clause-says g c = λ flow x y cs ds w v at_c at_d may lc ld qw qv.
     let one = told_sent d0 d1 now a.outs a.packets c.speak.ensures.lines in
     let three = told_sent d2 d3 now b.outs b.packets c.speak-2.ensures.lines in
     let new : SessionValue = record middle { client = c.speak-2.new.self; to_client = c.speak-2.new.queue } in
-    let is_roomy : roomy ≡ roomy_by (SessionValue.to_client c.args.self.now) (SessionValue.to_controller c.args.self.now) =
-    c.is_roomy-roomy.ensures.value ∙ ap (λ (s : SessionValue). roomy_by s.to_client s.to_controller) c.self.view_is in
-    subst (λ r. SaysBoth flow now c.args.number x cs y ds w v r new (told d0) (told d3)) is_roomy
+    subst (λ r. SaysBoth flow now c.args.number x cs y ds w v r new (told d0) (told d3)) (c.is_roomy-roomy.ensures.value ∙ ap is_roomy c.self.view_is)
     (record {
       outs_c = a.outs;
       outs_d = b.outs;
       controller_stands = subst (λ (s : SessionValue). IsLegBetween (controller_ends flow) s.controller s.to_controller (record x { ending = Spoke v roomy a.outs } ∷ cs)) (sym path)
-          (spoken_of (controller_ends flow) roomy now c.self.inside.controller c.speak.new.self c.self.inside.to_controller c.speak.new.queue _ _ x cs v a c.in_ok-speak.ensures.ends at_c mc mv);
+          (spoken_of (controller_ends flow) roomy now c.self.inside.controller c.speak.new.self c.self.inside.to_controller c.speak.new.queue _ _ x cs v a c.in_ok-speak.ensures.ends at_c m.controller_stands m.to_controller_stands);
       client_stands = spoken_of (client_ends flow) roomy now c.self-2.inside.client c.speak-2.new.self c.self-2.inside.to_client c.speak-2.new.queue _ _ hello ds w b c.in_ok-speak-2.ensures.ends at_d
           (subst (λ (s : SessionValue). IsLegBetween (client_ends flow) s.client s.to_client (record hello { ending = Unspoken } ∷ ds)) (sym c.self-2.view_is) greeted.stands)
-          (subst (λ (s : SessionValue). IsQueueOf s.to_client w) (sym path) mw);
+          (subst (λ (s : SessionValue). IsQueueOf s.to_client w) (sym path) m.to_client_stands);
       told = then_sent (told d0) (told d1) (told d3) now a.outs (greetings flow c.args.number ++ b.outs) one (then_sent (told d1) (told d2) (told d3) now (greetings flow c.args.number) b.outs greeted.told three);
     })
 
 pub returns-clause-steady : goal.returns-clause-steady
 returns-clause-steady g c =
-    let first : SessionValue = record { client = c.self.inside.client; controller = c.speak.new.self; lane = c.self.inside.lane; to_client = c.self.inside.to_client; to_controller = c.speak.new.queue; closed = c.self.inside.closed; limit = c.self.inside.limit; source = c.self.inside.source } in
     let middle : SessionValue = record { client = c.self-2.inside.client; controller = c.self-2.inside.controller; lane = c.self-2.inside.lane; to_client = c.self-2.inside.to_client; to_controller = c.self-2.inside.to_controller; closed = c.self-2.inside.closed; limit = c.self-2.inside.limit; source = c.self-2.inside.source } in
-    let path : middle ≡ record first { client = c.greet_client.new.self.client } = c.self-2.view_is ∙ c.greet_client.ensures.same in
+    let path = c.self-2.view_is ∙ c.greet_client.ensures.same in
     let steady = subst (λ s. IsSteady s _) (sym c.self-2.view_is) c.in_ok-greet_client.ensures.steady in
     let kept_c : length c.self-2.inside.to_client.kept ≡ length c.self.inside.to_client.kept = ap (λ (s : SessionValue). length s.to_client.kept) path in
     let kept_k : length c.self-2.inside.to_controller.kept ≡ length c.self.inside.to_controller.kept = ap (λ (s : SessionValue). length s.to_controller.kept) path ∙ ap (λ (q : Queue). length q.kept) c.in_ok-speak.ensures.queue in
@@ -71,9 +64,8 @@ returns-clause-steady g c =
 
 pub returns-clause-only : goal.returns-clause-only
 returns-clause-only g c =
-    let first : SessionValue = record { client = c.self.inside.client; controller = c.speak.new.self; lane = c.self.inside.lane; to_client = c.self.inside.to_client; to_controller = c.speak.new.queue; closed = c.self.inside.closed; limit = c.self.inside.limit; source = c.self.inside.source } in
     let middle : SessionValue = record { client = c.self-2.inside.client; controller = c.self-2.inside.controller; lane = c.self-2.inside.lane; to_client = c.self-2.inside.to_client; to_controller = c.self-2.inside.to_controller; closed = c.self-2.inside.closed; limit = c.self-2.inside.limit; source = c.self-2.inside.source } in
-    let path : middle ≡ record first { client = c.greet_client.new.self.client } = c.self-2.view_is ∙ c.greet_client.ensures.same in
+    let path = c.self-2.view_is ∙ c.greet_client.ensures.same in
     let window = ap (λ (s : SessionValue). s.client.window) c.self-2.view_is ∙ c.in_ok-greet_client.ensures.window in
     let new : SessionValue = record middle { client = c.speak-2.new.self; to_client = c.speak-2.new.queue } in
     subst (λ s. OnlySpeaks s new) c.self.view_is
@@ -96,27 +88,20 @@ greet_client-requires-clause-steady g c =
 
 pub returns-in_err-speak-clause-broken : goal.returns-in_err-speak-clause-broken
 returns-in_err-speak-clause-broken g c =
-    on_err c.from_residual.result (λ flow x y cs ds w v at_c at_d may lc ld qw qv.
+    on_err c.from_residual.result (λ flow x y cs ds w v at_c at_d may stands.
     let now = c.args.now in
     let roomy = c.is_roomy-roomy.result in
-    let mc = subst (λ (s : SessionValue). IsLegBetween (controller_ends flow) s.controller s.to_controller (record x { ending = Unspoken } ∷ cs)) (sym c.self.view_is) lc in
-    let md = subst (λ (s : SessionValue). IsLegBetween (client_ends flow) s.client s.to_client (record y { ending = Unspoken } ∷ ds)) (sym c.self.view_is) ld in
-    let mv = subst (λ (s : SessionValue). IsQueueOf s.to_controller v) (sym c.self.view_is) qv in
+    let m = subst (MaySpeak flow x y cs ds w v) (sym c.self.view_is) stands in
     let d0 = g.D.Desk.value c.args.desk.now in
     let d1 = g.D.Desk.value c.speak.new.desk in
-    let a = c.in_err-speak.ensures.broken x cs v at_c mc.stands mv in
-    let t = taken_of (client_ends flow) _ _ (record y { ending = Unspoken } ∷ ds) md in
-    let hello = record y { came = came_greeted flow c.args.number y.came } in
-    let b = can_speak (client_ends flow).own (client_ends flow).peer ds hello t.0 w roomy (client_ends flow).role
-    (can_hello flow c.args.number y ds may (right_of (client_ends flow) _ _ (record y { ending = Unspoken }) ds md)) (hello_taken flow (client_ends flow).role c.args.number y ds t.0 may t.1) in
+    let a = c.in_err-speak.ensures.broken x cs v at_c m.controller_stands.stands m.to_controller_stands in
+    let b = can_answer flow c.args.number _ _ y ds w roomy may m.client_stands in
     let rest = greetings flow c.args.number ++ b.0 in
-    let is_roomy : roomy ≡ roomy_by (SessionValue.to_client c.args.self.now) (SessionValue.to_controller c.args.self.now) =
-    c.is_roomy-roomy.ensures.value ∙ ap (λ (s : SessionValue). roomy_by s.to_client s.to_controller) c.self.view_is in
-    subst (λ r. SaysAmid flow now c.args.number x cs y ds w v r d0 d1) is_roomy
+    subst (λ r. SaysAmid flow now c.args.number x cs y ds w v r d0 d1) (c.is_roomy-roomy.ensures.value ∙ ap is_roomy c.self.view_is)
     (record {
       outs_c = a.outs;
       outs_d = b.0;
-      controller_right = subst (λ (n : Ends). IsRight n cs (record x { ending = Spoke v roomy a.outs })) mc.is a.right;
+      controller_right = subst (λ (n : Ends). IsRight n cs (record x { ending = Spoke v roomy a.outs })) m.controller_stands.is a.right;
       client_right = b.1;
       amid = amid_as (at now a.outs ++ at now rest) _ [] [] d0 d1 (sym (at-append now a.outs rest)) refl
           (amid_before (at now a.outs) (at now rest) [] [] d0 d1 (amid_sent now a.outs d0 d1 a.breaks c.speak.ensures.lines c.speak.ensures.line_part));
@@ -124,27 +109,20 @@ returns-in_err-speak-clause-broken g c =
 
 pub returns-in_err-greet_client-clause-broken : goal.returns-in_err-greet_client-clause-broken
 returns-in_err-greet_client-clause-broken g c =
-    on_err c.from_residual-in_err-greet_client.result (λ flow x y cs ds w v at_c at_d may lc ld qw qv.
+    on_err c.from_residual-in_err-greet_client.result (λ flow x y cs ds w v at_c at_d may stands.
     let now = c.args.now in
     let roomy = c.is_roomy-roomy.result in
-    let mc = subst (λ (s : SessionValue). IsLegBetween (controller_ends flow) s.controller s.to_controller (record x { ending = Unspoken } ∷ cs)) (sym c.self.view_is) lc in
-    let md = subst (λ (s : SessionValue). IsLegBetween (client_ends flow) s.client s.to_client (record y { ending = Unspoken } ∷ ds)) (sym c.self.view_is) ld in
-    let mv = subst (λ (s : SessionValue). IsQueueOf s.to_controller v) (sym c.self.view_is) qv in
+    let m = subst (MaySpeak flow x y cs ds w v) (sym c.self.view_is) stands in
     let d0 = g.D.Desk.value c.args.desk.now in
     let d1 = g.D.Desk.value c.speak.new.desk in
     let d2 = g.D.Desk.value c.greet_client.new.desk in
     let a = c.in_ok-speak.ensures.spoken in
-    let t = taken_of (client_ends flow) _ _ (record y { ending = Unspoken } ∷ ds) md in
-    let hello = record y { came = came_greeted flow c.args.number y.came } in
-    let b = can_speak (client_ends flow).own (client_ends flow).peer ds hello t.0 w roomy (client_ends flow).role
-    (can_hello flow c.args.number y ds may (right_of (client_ends flow) _ _ (record y { ending = Unspoken }) ds md)) (hello_taken flow (client_ends flow).role c.args.number y ds t.0 may t.1) in
-    let said = spoken_of (controller_ends flow) roomy now c.self.inside.controller c.speak.new.self c.self.inside.to_controller c.speak.new.queue _ _ x cs v a c.in_ok-speak.ensures.ends at_c mc mv in
+    let b = can_answer flow c.args.number _ _ y ds w roomy may m.client_stands in
+    let said = spoken_of (controller_ends flow) roomy now c.self.inside.controller c.speak.new.self c.self.inside.to_controller c.speak.new.queue _ _ x cs v a c.in_ok-speak.ensures.ends at_c m.controller_stands m.to_controller_stands in
     let one = told_sent d0 d1 now a.outs a.packets c.speak.ensures.lines in
-    let greets = c.in_err-greet_client.ensures.broken flow y ds at_d may md in
+    let greets = c.in_err-greet_client.ensures.broken flow y ds at_d may m.client_stands in
     let hi = greetings flow c.args.number in
-    let is_roomy : roomy ≡ roomy_by (SessionValue.to_client c.args.self.now) (SessionValue.to_controller c.args.self.now) =
-    c.is_roomy-roomy.ensures.value ∙ ap (λ (s : SessionValue). roomy_by s.to_client s.to_controller) c.self.view_is in
-    subst (λ r. SaysAmid flow now c.args.number x cs y ds w v r d0 d2) is_roomy
+    subst (λ r. SaysAmid flow now c.args.number x cs y ds w v r d0 d2) (c.is_roomy-roomy.ensures.value ∙ ap is_roomy c.self.view_is)
     (record {
       outs_c = a.outs;
       outs_d = b.0;
@@ -157,31 +135,24 @@ returns-in_err-greet_client-clause-broken g c =
 
 pub returns-in_err-speak-2-clause-broken : goal.returns-in_err-speak-2-clause-broken
 returns-in_err-speak-2-clause-broken g c =
-    on_err c.from_residual-in_err-speak-2.result (λ flow x y cs ds w v at_c at_d may lc ld qw qv.
+    on_err c.from_residual-in_err-speak-2.result (λ flow x y cs ds w v at_c at_d may stands.
     let now = c.args.now in
     let roomy = c.is_roomy-roomy.result in
-    let first : SessionValue = record { client = c.self.inside.client; controller = c.speak.new.self; lane = c.self.inside.lane; to_client = c.self.inside.to_client; to_controller = c.speak.new.queue; closed = c.self.inside.closed; limit = c.self.inside.limit; source = c.self.inside.source } in
-    let middle : SessionValue = record { client = c.self-2.inside.client; controller = c.self-2.inside.controller; lane = c.self-2.inside.lane; to_client = c.self-2.inside.to_client; to_controller = c.self-2.inside.to_controller; closed = c.self-2.inside.closed; limit = c.self-2.inside.limit; source = c.self-2.inside.source } in
-    let path : middle ≡ record first { client = c.greet_client.new.self.client } = c.self-2.view_is ∙ c.greet_client.ensures.same in
-    let mc = subst (λ (s : SessionValue). IsLegBetween (controller_ends flow) s.controller s.to_controller (record x { ending = Unspoken } ∷ cs)) (sym c.self.view_is) lc in
-    let md = subst (λ (s : SessionValue). IsLegBetween (client_ends flow) s.client s.to_client (record y { ending = Unspoken } ∷ ds)) (sym c.self.view_is) ld in
-    let mw = subst (λ (s : SessionValue). IsQueueOf s.to_client w) (sym c.self.view_is) qw in
-    let mv = subst (λ (s : SessionValue). IsQueueOf s.to_controller v) (sym c.self.view_is) qv in
+    let path = c.self-2.view_is ∙ c.greet_client.ensures.same in
+    let m = subst (MaySpeak flow x y cs ds w v) (sym c.self.view_is) stands in
     let d0 = g.D.Desk.value c.args.desk.now in
     let d1 = g.D.Desk.value c.speak.new.desk in
     let d2 = g.D.Desk.value c.greet_client.new.desk in
     let d3 = g.D.Desk.value c.speak-2.new.desk in
     let a = c.in_ok-speak.ensures.spoken in
-    let said = spoken_of (controller_ends flow) roomy now c.self.inside.controller c.speak.new.self c.self.inside.to_controller c.speak.new.queue _ _ x cs v a c.in_ok-speak.ensures.ends at_c mc mv in
-    let greeted = c.in_ok-greet_client.ensures.greets flow y ds at_d may md in
+    let said = spoken_of (controller_ends flow) roomy now c.self.inside.controller c.speak.new.self c.self.inside.to_controller c.speak.new.queue _ _ x cs v a c.in_ok-speak.ensures.ends at_c m.controller_stands m.to_controller_stands in
+    let greeted = c.in_ok-greet_client.ensures.greets flow y ds at_d may m.client_stands in
     let hi = greetings flow c.args.number in
     let hello = record y { came = came_greeted flow c.args.number y.came } in
     let legs = subst (λ (s : SessionValue). IsLegBetween (client_ends flow) s.client s.to_client (record hello { ending = Unspoken } ∷ ds)) (sym c.self-2.view_is) greeted.stands in
-    let b = c.in_err-speak-2.ensures.broken hello ds w at_d legs.stands (subst (λ (s : SessionValue). IsQueueOf s.to_client w) (sym path) mw) in
+    let b = c.in_err-speak-2.ensures.broken hello ds w at_d legs.stands (subst (λ (s : SessionValue). IsQueueOf s.to_client w) (sym path) m.to_client_stands) in
     let one = told_sent d0 d1 now a.outs a.packets c.speak.ensures.lines in
-    let is_roomy : roomy ≡ roomy_by (SessionValue.to_client c.args.self.now) (SessionValue.to_controller c.args.self.now) =
-    c.is_roomy-roomy.ensures.value ∙ ap (λ (s : SessionValue). roomy_by s.to_client s.to_controller) c.self.view_is in
-    subst (λ r. SaysAmid flow now c.args.number x cs y ds w v r d0 d3) is_roomy
+    subst (λ r. SaysAmid flow now c.args.number x cs y ds w v r d0 d3) (c.is_roomy-roomy.ensures.value ∙ ap is_roomy c.self.view_is)
     (record {
       outs_c = a.outs;
       outs_d = b.outs;

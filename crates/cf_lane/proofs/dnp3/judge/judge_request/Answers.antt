@@ -1,0 +1,12 @@
+use Rattle.std.proofs.Common.{rules, subst, sym}
+use Rattle.cf_dnpobj.specs.Acts.{acts}
+use Rattle.cf_dnpobj.specs.Fragment.{fragment_value}
+use Rattle.cf_lane.specs.Dnp3.{IsOfFragment}
+use Rattle.cf_lane.proofs.Dnp3Fates.{never_station_of}
+use Rattle.cf_lane.proofs.dnp3.judge.judge_request.Goals as goal
+
+pub returns-clause-fragment : goal.returns-clause-fragment
+returns-clause-fragment c = λ client is.
+    (let all = acts (fragment_value c.args.fragment.now) in
+    subst IsOfFragment (sym (c.judge_acts.ensures.fate client all is (sym c.act_count.ensures) (λ i act inside gives. search rules)))
+    (never_station_of c.args.asset.now client all))

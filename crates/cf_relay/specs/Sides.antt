@@ -1,0 +1,20 @@
+-- One thing for each side, and what it ends as where that of a side is lent.
+use Rattle.std.specs.Borrow.{Fml, Lends, MutBor, RattleType}
+use Rattle.cf_view.specs.declared.Side.{Side}
+use Rattle.cf_view.specs.declared.Side.TheVariants as side
+use Rattle.cf_relay.specs.declared.sides.Sides.{Sides}
+use Rattle.cf_relay.specs.contracts.sides.Sides.{the_row}
+
+-- that of a side
+abbrev pub of_side : {T : Type 0} → Side → Sides T → T
+of_side side.Client both = both.client
+of_side side.Controller both = both.controller
+
+-- with another in its place
+abbrev pub with_side : {T : Type 0} → Side → Sides T → T → Sides T
+with_side side.Client both x = record both { client = x }
+with_side side.Controller both x = record both { controller = x }
+
+-- once the borrow r ends, that of the side is what r shows last
+abbrev pub LendsSide : (T : RattleType) → MutBor (Sides T.Denot) → Side → MutBor T.Denot → Fml
+LendsSide T both s r = Lends (the_row T) T both r (with_side s both.now)

@@ -1,7 +1,0 @@
-use Rattle.cf_sift.proofs.Draining.{on_err}
-use Rattle.cf_sift.specs.Flow.{rests_of}
-use Rattle.cf_sift.proofs.flow.Flow.end.Goals as goal
-
-pub returns-in_err-end_lane-clause-fails : goal.returns-in_err-end_lane-clause-fails
-returns-in_err-end_lane-clause-fails g c = on_err _ c.from_residual.result
-    (λ h first follows. c.in_err-end_lane.ensures.fails h (rests_of c.args.self.now.rest.items) first c.len-rest.ensures.value follows)
