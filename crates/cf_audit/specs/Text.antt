@@ -1,5 +1,5 @@
 -- The exact text of each line of the log: line_text.
-use Rattle.std.specs.Prelude.{ℕ, ℤ, Option, None, Some, List, [], ◌∷◌, ◌++◌, codes, decimal, take}
+use Rattle.std.specs.Prelude.{ℕ, ℤ, Option, None, Some, List, ◌++◌, codes, decimal, take}
 use Rattle.std.specs.Fmt.{signed_decimal}
 use Rattle.hex.specs.Hex.{encode_lower}
 use Rattle.cf_view.specs.Text.{endpoint_text, moment_text}

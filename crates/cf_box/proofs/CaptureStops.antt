@@ -1,5 +1,5 @@
 -- The answer of a listing, as the answer of the command.
-use Rattle.std.proofs.Common.{◌≡◌, ◌≢◌, ℕ, List, Option, Result, Ok, Err, refl, ap, subst, sym, inl, inr}
+use Rattle.std.proofs.Common.{◌≡◌, ◌≢◌, ℕ, List, Result, Ok, Err, refl, ap, subst, inl, inr}
 use Rattle.cf_outside.specs.Files.{Content}
 use Rattle.cf_pcap.specs.Capture.{AtPlace, Large, LastPlace, TooLong}
 use Rattle.cf_pcap.specs.Record.{Record}
@@ -13,7 +13,7 @@ use Rattle.cf_box.specs.Captures.{EndsAt, Refuses, header_refusal}
 use Rattle.cf_box.specs.Command.{Packets}
 use Rattle.cf_box.specs.Ends.{Meets, PassesPolicy, StopsFor}
 use Rattle.cf_box.specs.Outside.{Outside, ReadFailed}
-use Rattle.cf_box.specs.Packets.{HasListed, HasListedRecords, ListsFile, open_stop}
+use Rattle.cf_box.specs.Packets.{HasListedRecords, ListsFile, open_stop}
 use Rattle.cf_box.specs.declared.ending.CaptureRefusal.TheVariants as refusal
 use Rattle.cf_box.specs.declared.ending.Done.{Done}
 use Rattle.cf_box.specs.declared.ending.Stop.{Stop}

@@ -1,5 +1,5 @@
 -- Where all is in form and nothing fails, the work is done.
-use Rattle.std.proofs.Common.{◌≡◌, ◌⊎◌, ℕ, List, None, Some, Result, Ok, Err, drop, refl, sym, subst, ◌∙◌, ap, inl, inr}
+use Rattle.std.proofs.Common.{◌≡◌, ◌⊎◌, ℕ, List, Some, Result, Ok, Err, drop, refl, sym, subst, ◌∙◌, ap, inl, inr}
 use Rattle.cf_outside.specs.Files.{Content, holds, IsWhole}
 use Rattle.cf_pcap.proofs.Capture.{one_list, one_timed_list}
 use Rattle.cf_pcap.specs.Header.{header_of}
@@ -8,7 +8,6 @@ use Rattle.cf_pcap.specs.Record.{Record}
 use Rattle.cf_pcap.specs.declared.Header.{Header}
 use Rattle.cf_pcap.specs.declared.HeaderRefusal.{HeaderRefusal}
 use Rattle.cf_pcap.specs.declared.HeaderRefusal.TheVariants as header
-use Rattle.cf_policy.specs.declared.Asset.{Asset}
 use Rattle.cf_policy.specs.declared.Policy.{Policy}
 use Rattle.cf_policylang.specs.Documents.{policy_meaning}
 use Rattle.cf_policylang.specs.declared.PolicyRefusal.{PolicyRefusal}

@@ -1,5 +1,5 @@
 -- An answer about a relay, as the answer of the command; and what an answer says of the pair's list.
-use Rattle.std.proofs.Common.{◌≡◌, ◌<◌, ◌⊎◌, ◌*◌, ℕ, List, None, Some, Result, Ok, Err, refl, sym, subst, ap, ◌∙◌, inl, inr}
+use Rattle.std.proofs.Common.{◌≡◌, ◌<◌, ◌⊎◌, ◌*◌, ℕ, List, None, Result, Ok, Err, refl, sym, subst, ap, ◌∙◌, inl, inr}
 use Rattle.cf_lane.specs.Judged.{Judged}
 use Rattle.cf_outside.specs.Faults.{HasCause, Rose}
 use Rattle.cf_outside.specs.Files.{KeepsOthers}
@@ -16,7 +16,7 @@ use Rattle.cf_relay.specs.declared.done.RelayFault.TheVariants as fault
 use Rattle.cf_box.specs.Command.{Relay}
 use Rattle.cf_box.specs.Ends.{Meets, PassesPolicy}
 use Rattle.cf_box.specs.Outside.{Outside, ReadsOnly}
-use Rattle.cf_box.specs.PolicyFile.{FindsAsset, HasPolicy, StopsPolicy, asset_named}
+use Rattle.cf_box.specs.PolicyFile.{FindsAsset, StopsPolicy}
 use Rattle.cf_box.specs.Relay.{HasRelayed, end_answer, relay_answer}
 use Rattle.cf_box.specs.declared.ending.Done.{Done}
 use Rattle.cf_box.specs.declared.ending.Stop.{Stop}

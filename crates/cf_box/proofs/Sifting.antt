@@ -16,7 +16,7 @@ use Rattle.cf_box.specs.Command.{Sift}
 use Rattle.cf_box.specs.Ends.{Meets, PassesPolicy, StopsFor}
 use Rattle.cf_box.specs.PolicyFile.{StopsPolicy}
 use Rattle.cf_box.specs.Outside.{Outside}
-use Rattle.cf_box.specs.PolicyFile.{FindsAsset, HasPolicy, asset_named}
+use Rattle.cf_box.specs.PolicyFile.{FindsAsset}
 use Rattle.cf_box.specs.Sift.{SiftLeaves, TakesStream, sift_stop}
 use Rattle.cf_box.specs.declared.ending.Done.{Done}
 use Rattle.cf_box.specs.declared.ending.Done.TheVariants as done

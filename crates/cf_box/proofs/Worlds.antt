@@ -1,5 +1,5 @@
 -- A run of a world, as the answer of `world`.
-use Rattle.std.proofs.Common.{◌≡◌, ◌≢◌, ◌⊎◌, ℕ, ◌≤◌, nat_lt, true, false, List, [], ◌∷◌, ◌++◌, length, take, drop, Result, Ok, Err, refl, sym, ap, ◌∙◌, subst, arith, inl, inr}
+use Rattle.std.proofs.Common.{◌≡◌, ◌⊎◌, ℕ, ◌≤◌, nat_lt, false, List, [], ◌∷◌, ◌++◌, length, take, drop, Result, Ok, Err, refl, sym, ap, ◌∙◌, subst, arith, inl, inr}
 use Rattle.std.proofs.lemmas.Bool.Decides.{nat_tests}
 use Rattle.std.proofs.lemmas.List.{take-append-drop}
 use Rattle.cf_outside.specs.Desk.{IsNoneOf}
@@ -19,7 +19,7 @@ use Rattle.cf_box.specs.Outside.{Outside}
 use Rattle.cf_box.specs.PolicyFile.{IsRefusedBy}
 use Rattle.cf_box.specs.Run.{RunCuts, RunRefuses}
 use Rattle.cf_box.specs.Status.{HasTimedRecords}
-use Rattle.cf_box.specs.World.{HasMade, HasNotMade, IsFitWorld, made_names, world_stop}
+use Rattle.cf_box.specs.World.{HasMade, IsFitWorld, made_names, world_stop}
 use Rattle.cf_box.specs.declared.ending.CaptureRefusal.{CaptureRefusal}
 use Rattle.cf_box.specs.declared.ending.Done.{Done}
 use Rattle.cf_box.specs.declared.ending.Stop.{Stop}

@@ -1,5 +1,5 @@
 -- Why the capture of a command is refused, and where its records end: `Refuses` and `EndsAt`.
-use Rattle.std.specs.Prelude.{ℕ, List, Result, Ok, Err}
+use Rattle.std.specs.Prelude.{ℕ, List, Ok, Err}
 use Rattle.cf_outside.specs.Files.{Content}
 use Rattle.cf_pcap.specs.Capture.{AtPlace, Clock, Large, LastPlace, TooLong}
 use Rattle.cf_pcap.specs.Record.{Record}

@@ -19,6 +19,3 @@ pub use cf_sift::{SiftDone, SiftFault, SiftNames, sift_stream};
 pub use command::{Command, read_words};
 pub use ending::{CaptureRefusal, Done, Stop};
 pub use top::box_main;
-
-#[cfg(test)]
-mod tests;

@@ -31,6 +31,3 @@ pub use policy::policy_message;
 pub use unmet::{Unmet, why_unmet};
 pub use warnings::policy_warnings;
 pub use words::words_message;
-
-#[cfg(test)]
-mod tests;

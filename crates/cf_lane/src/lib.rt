@@ -21,6 +21,3 @@ pub use laws::{
 pub use limit::{LETTER_LIMIT, Lengths, limit_cut};
 pub use log::put_line;
 pub use rows::rows_hold;
-
-#[cfg(test)]
-mod tests;

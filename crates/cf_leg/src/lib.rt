@@ -7,8 +7,6 @@ mod laws;
 mod leg;
 mod runs;
 mod send;
-#[cfg(test)]
-mod tests;
 
 pub use ends::{ClockAnswer, EndState, Ends, LegAnswer, Phase, Role, Told, Way};
 pub use laws::{

@@ -4,7 +4,7 @@ use Rattle.std.proofs.Math.ListN.{drop_of_length-le}
 use Rattle.std.proofs.lemmas.Bool.{cases_lt}
 use Rattle.cf_view.specs.Octets.{IsOctets, u16_be_at, u16_be_octets}
 use Rattle.cf_view.proofs.OctetLists.{IsOctets-drop, octet_split, u16_be_split}
-use Rattle.cf_modbus.specs.Request.{RequestValue, form_of, IsQuantity, HasForm, body_of, SpellsRequest, IsInPlace, IsOutOfPlace, Reads}
+use Rattle.cf_modbus.specs.Request.{RequestValue, form_of, IsQuantity, HasForm, body_of, SpellsRequest, Reads}
 use Rattle.cf_modbus.specs.declared.form.Form.{Form}
 use Rattle.cf_modbus.specs.declared.form.Form.TheVariants as form
 use Rattle.cf_modbus.specs.declared.request.RequestRefusal.{RequestRefusal}

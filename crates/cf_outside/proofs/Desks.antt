@@ -1,5 +1,5 @@
 -- A desk that is kept by one call after another.
-use Rattle.std.proofs.Common.{◌≡◌, ℕ, ◌≤◌, List, refl, sym, ◌∙◌, subst, arith}
+use Rattle.std.proofs.Common.{ℕ, List, refl, sym, ◌∙◌, subst, arith}
 use Rattle.cf_outside.specs.Desk.{DeskValue, IsNoneOf, KeepsDesk}
 
 pub keeps_none : (d : DeskValue) → KeepsDesk d d

@@ -25,6 +25,3 @@ pub use part::fill;
 pub use script::Fail;
 pub use sink::Sink;
 pub use whole::{WholeFault, append_all, read_whole};
-
-#[cfg(test)]
-mod tests;

@@ -12,6 +12,3 @@ mod rules;
 pub use documents::{LONGEST_TEXT, read_policy};
 pub use numbers::address;
 pub use refusal::{Cause, Key, PolicyFault, PolicyRefusal, push_refusal};
-
-#[cfg(test)]
-mod tests;

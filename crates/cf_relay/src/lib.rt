@@ -13,6 +13,3 @@ mod turns;
 
 pub use done::{RelayDone, RelayEnd, RelayFault};
 pub use top::relay;
-
-#[cfg(test)]
-mod tests;

@@ -26,6 +26,3 @@ pub use record_reader::{NextRecord, OpenFault, RecordReader};
 pub use run::{MOMENT_LIMIT, RunFault, RunNames, RunRefusal, run_capture};
 pub use second_half::{Outcome, receive};
 pub use summary::{Happened, Summary};
-
-#[cfg(test)]
-mod tests;

@@ -1,5 +1,5 @@
 -- The assets as values: pump_asset, rtu_asset.
-use Rattle.std.specs.Prelude.{pos, List, [], ◌∷◌, codes}
+use Rattle.std.specs.Prelude.{pos, [], ◌∷◌, codes}
 use Rattle.cf_policy.specs.declared.policy.Action.TheVariants.{Allow}
 use Rattle.cf_policy.specs.declared.policy.Asset.{Asset}
 use Rattle.cf_policy.specs.declared.policy.Protocol.TheVariants.{Modbus, Dnp3}

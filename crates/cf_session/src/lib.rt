@@ -18,6 +18,3 @@ pub use laws::{
 };
 pub use life::Life;
 pub use session::{BeginFault, Session};
-
-#[cfg(test)]
-mod tests;

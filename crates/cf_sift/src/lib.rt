@@ -14,6 +14,3 @@ mod stream;
 pub use laws::has_one_cut;
 pub use names::SiftNames;
 pub use sift::{SiftDone, SiftFault, sift_stream};
-
-#[cfg(test)]
-mod tests;

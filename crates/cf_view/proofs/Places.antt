@@ -1,6 +1,6 @@
 -- What stands at the front of a stream, for a grammar by places.
-use Rattle.std.proofs.Common.{◌≡◌, ℕ, zero, suc, ◌+◌, ◌-◌, min, ◌<◌, ◌≤◌, Bool, true, false, List, [], ◌∷◌, ◌++◌, length, get_or, take, drop, inl, inr, ◌⊎◌, refl, sym, ◌∙◌, ap, subst, append_assoc, arith, length-append, length-take, take-append-drop}
-use Rattle.std.proofs.Math.Seq.{take-append_seam, take-length, get_or-append_seam}
+use Rattle.std.proofs.Common.{◌≡◌, ℕ, zero, suc, ◌+◌, ◌-◌, min, ◌<◌, ◌≤◌, Bool, true, false, List, [], ◌∷◌, ◌++◌, length, get_or, take, drop, inl, inr, ◌⊎◌, refl, sym, ◌∙◌, ap, subst, append_assoc, arith, length-append, take-append-drop}
+use Rattle.std.proofs.Math.Seq.{take-append_seam, get_or-append_seam}
 use Rattle.std.proofs.lemmas.List.{take-take, take-append-le, take_all, get_or_append_left, get_or-take, length-take-le, append-nil}
 use Rattle.std.proofs.lemmas.Bool.{cases_lt, cases_Bool, false≢true}
 use Rattle.cf_view.proofs.OctetLists.{IsOctets-take, IsOctets-append}

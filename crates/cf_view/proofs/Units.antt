@@ -1,5 +1,5 @@
 -- Laws of the units of a whole stream, for every grammar.
-use Rattle.std.proofs.Common.{◌≡◌, ℕ, zero, suc, ◌+◌, ◌≤◌, ◌<◌, ◌⊎◌, inl, inr, List, [], ◌∷◌, ◌++◌, length, drop, refl, sym, ap, ◌∙◌, subst, arith}
+use Rattle.std.proofs.Common.{◌≡◌, ℕ, zero, suc, ◌≤◌, inl, inr, List, [], ◌∷◌, ◌++◌, length, drop, refl, sym, ap, ◌∙◌, subst, arith}
 use Rattle.cf_view.specs.Framing.{Begins, IsPartial, BreaksAt, HasFront, IsPrefixFree}
 use Rattle.cf_view.specs.Units.{BeginsWithUnits, IsUnitsThenRest, IsUnitsThenBreak, HasUnits}
 use Rattle.cf_view.specs.Octets.{IsOctets}

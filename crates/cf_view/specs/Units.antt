@@ -1,5 +1,5 @@
 -- The units of a whole stream, for any grammar.
-use Rattle.std.specs.Prelude.{◌≡◌, ℕ, ◌+◌, ◌⊎◌, List, [], ◌∷◌, length, drop}
+use Rattle.std.specs.Prelude.{◌≡◌, ℕ, ◌⊎◌, List, [], ◌∷◌, drop}
 use Rattle.cf_view.specs.Framing.{Begins, IsPartial, BreaksAt}
 
 -- these units follow each other from the front, and the rest follows them

@@ -24,8 +24,3 @@ mod world;
 pub use document::{Document, make_document};
 pub use draws::Draws;
 pub use world::{RECORD_LIMIT, WorldFault, WorldNames, make_world};
-
-#[cfg(test)]
-mod tests;
-#[cfg(test)]
-mod world_tests;

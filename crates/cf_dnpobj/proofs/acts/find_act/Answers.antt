@@ -1,7 +1,6 @@
-use Rattle.std.proofs.Common.{◌≡◌, ◌+◌, ◌-◌, ◌<◌, ◌≤◌, ℕ, List, drop, sym, subst, arith, length}
+use Rattle.std.proofs.Common.{◌+◌, ◌-◌, ◌<◌, ◌≤◌, ℕ, sym, subst, arith, length}
 use Rattle.std.proofs.lemmas.List.{length-drop}
 use Rattle.cf_dnpobj.specs.Acts.{header_count}
-use Rattle.cf_dnpobj.specs.Headers.{BeginsWithHeader}
 use Rattle.cf_dnpobj.proofs.Sums.{header_at}
 use Rattle.cf_dnpobj.proofs.InOrder.{LeavesActs, found, passed}
 use Rattle.cf_dnpobj.proofs.acts.find_act.Goals as goal

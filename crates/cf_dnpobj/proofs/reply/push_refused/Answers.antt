@@ -1,6 +1,5 @@
-use Rattle.std.proofs.Common.{◌≡◌, ◌+◌, ℕ, List, drop, sym, subst, arith}
+use Rattle.std.proofs.Common.{◌+◌, ℕ, sym, subst, arith}
 use Rattle.std.proofs.lemmas.List.{length-drop}
-use Rattle.cf_dnpobj.specs.Headers.{BeginsWithHeader}
 use Rattle.cf_dnpobj.proofs.Sums.{header_at}
 use Rattle.cf_dnpobj.proofs.InOrder.{LeavesReply, replied}
 use Rattle.cf_dnpobj.proofs.reply.push_refused.Goals as goal
