@@ -45,6 +45,8 @@ pub struct RealFiles<'a, R: FileSystem> {
     places: Vec<Place>,
     fault: Option<Fault>,
     twins: Option<Twins>,
+    /// What was gathered for a file that was then read could not be written.
+    is_short: bool,
     read_faults: u64,
     write_faults: u64,
 }
@@ -63,6 +65,7 @@ impl<'a, R: FileSystem> RealFiles<'a, R> {
             places: Vec::new(alloc),
             fault: None,
             twins: None,
+            is_short: false,
             read_faults: 0,
             write_faults: 0,
         }
@@ -89,10 +92,10 @@ impl<'a, R: FileSystem> RealFiles<'a, R> {
         self.twins.as_ref()
     }
 
-    /// Writes what was gathered; says whether all of it was written.
+    /// Writes what was gathered; says whether all of it was written, before a read too.
     pub fn finish(&mut self) -> bool {
         match flush_all(&mut self.writers, self.alloc) {
-            Ok(()) => true,
+            Ok(()) => !self.is_short,
             Err(fault) => {
                 self.fault = fault;
                 false
@@ -106,7 +109,10 @@ impl<'a, R: FileSystem> RealFiles<'a, R> {
         ensures reads { self.new.read_faults ≡ self.old.read_faults }
         ensures writes { self.new.write_faults ≡ self.old.write_faults }
     {
-        flush_one(&mut self.writers, name)?;
+        if let Err(error) = flush_one(&mut self.writers, name) {
+            self.is_short = true;
+            return Err(error);
+        }
         read_from(self.rt, self.alloc, &mut self.reader, name, at, buf)
     }
 
