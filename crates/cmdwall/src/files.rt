@@ -1,5 +1,5 @@
 //! Real files.
-ghost use Rattle.std.specs.Prelude.{◌≡◌, ◌≤◌, IfOk, length};
+ghost use Rattle.std.specs.Prelude.{◌≡◌, ◌≤◌, IfErr, IfOk, false, length, true};
 ghost use Rattle.cf_outside.specs.Files.{untold};
 
 mod reader;
@@ -54,7 +54,8 @@ pub struct RealFiles<'a, R: FileSystem> {
 impl<'a, R: FileSystem> RealFiles<'a, R> {
     /// Both counts of faults are 0, and no file is open.
     pub fn new(rt: &'a R, alloc: Global, gather: Gather) -> Self
-        ensures { (result.read_faults ≡ 0) × (result.write_faults ≡ 0) }
+        ensures counts { (result.read_faults ≡ 0) × (result.write_faults ≡ 0) }
+        ensures whole { result.is_short ≡ false }
     {
         RealFiles {
             rt,
@@ -93,7 +94,10 @@ impl<'a, R: FileSystem> RealFiles<'a, R> {
     }
 
     /// Writes what was gathered; says whether all of it was written, before a read too.
-    pub fn finish(&mut self) -> bool {
+    pub fn finish(&mut self) -> bool
+        ensures short { self.old.is_short ≡ true → result ≡ false }
+        ensures kept { self.new.is_short ≡ self.old.is_short }
+    {
         match flush_all(&mut self.writers, self.alloc) {
             Ok(()) => !self.is_short,
             Err(fault) => {
@@ -108,12 +112,24 @@ impl<'a, R: FileSystem> RealFiles<'a, R> {
         ensures inside { IfOk result (λ n. n ≤ length buf.new) }
         ensures reads { self.new.read_faults ≡ self.old.read_faults }
         ensures writes { self.new.write_faults ≡ self.old.write_faults }
+        ensures short { self.old.is_short ≡ true → self.new.is_short ≡ true }
+    {
+        self.write_before_read(name)?;
+        read_from(self.rt, self.alloc, &mut self.reader, name, at, buf)
+    }
+
+    /// Writes what was gathered for a file that is to be read, and notes where that failed.
+    fn write_before_read(&mut self, name: &str) -> io::Result<()>
+        ensures reads { self.new.read_faults ≡ self.old.read_faults }
+        ensures writes { self.new.write_faults ≡ self.old.write_faults }
+        ensures fails { IfErr result (λ _. self.new.is_short ≡ true) }
+        ensures kept { IfOk result (λ _. self.new.is_short ≡ self.old.is_short) }
     {
         if let Err(error) = flush_one(&mut self.writers, name) {
             self.is_short = true;
             return Err(error);
         }
-        read_from(self.rt, self.alloc, &mut self.reader, name, at, buf)
+        Ok(())
     }
 
     /// Makes a file empty that no other name of the command stands for.

@@ -1,7 +1,8 @@
-//! The pair of streams over the loopback, in one thread: the system holds what a peer would take.
+//! A full disk, and the pair of streams over the loopback, in one thread: the system holds what a peer would take.
 
+use crate::files::{Gather, RealFiles};
 use crate::link::LinkPair;
-use cf_outside::{GiveAnswer, MeetAnswer, Pair, TakeAnswer, WriteAnswer};
+use cf_outside::{Files, GiveAnswer, MeetAnswer, Pair, ReadAnswer, TakeAnswer, WriteAnswer};
 use cf_view::{Endpoint, Side};
 use std::io::{Read, Write};
 use std::net::{Net, TcpListener, TcpStream};
@@ -61,5 +62,16 @@ fn a_pair_moves_bytes_and_ends(rt: HostRuntime) -> Result<(), TestFail> {
     assert!(rt; take(&mut pair, Side::Client).is_none());
     assert!(rt; pair.take(Side::Client, &mut buf) == TakeAnswer::End);
     assert!(rt; pair.fault().is_none());
+    Ok(())
+}
+
+#[test]
+fn a_full_disk_is_told_at_the_end_where_a_read_met_it(rt: HostRuntime) -> Result<(), TestFail> {
+    let mut files = RealFiles::new(&rt, rt.alloc(), Gather::Pieces);
+    let mut buf = [0u8; 3];
+    assert!(rt; files.create("/dev/full") == WriteAnswer::Done);
+    assert!(rt; files.append("/dev/full", b"abc") == WriteAnswer::Done);
+    assert!(rt; files.read_at("/dev/full", 0, &mut buf) == ReadAnswer::Failed);
+    assert!(rt; !files.finish());
     Ok(())
 }
