@@ -1,4 +1,5 @@
 -- What goes to the controller is right: units are spelled, and fragments have 2 to 2,048 octets.
+use Rattle.cf_lane.specs.Rates.{Says, says_at}
 use Rattle.cf_apci.specs.Apdu.{Ack, ApduValue, Control, Info}
 use Rattle.cf_audit.specs.declared.line.Why.{Why}
 use Rattle.cf_decode.specs.Dnp3.{passed_by_frame}
@@ -148,7 +149,7 @@ module _ (asset : Asset) where
 
   right_apdu : (earlier : List Judged) (f : Fate) (a : ApduValue) → SpellsUnit asset.protocol (Apdu a) (unit_spelling (Apdu a)) → AreRight (passed_by_apdu earlier f a)
   right_apdu earlier fate.Carried a s = (by_number asset.protocol refl a s (renumbered side.Controller earlier a) (fits_renumbered earlier a), tt)
-  right_apdu earlier fate.Admitted a s = (by_number asset.protocol refl a s (renumbered side.Controller earlier a) (fits_renumbered earlier a), tt)
+  right_apdu earlier (fate.Admitted used) a s = (by_number asset.protocol refl a s (renumbered side.Controller earlier a) (fits_renumbered earlier a), tt)
   right_apdu earlier (fate.Refused refusal) a s =
       right_owed asset.protocol refl a s (nat_lt (last_told (events_of earlier)) (client_translated (events_of earlier) (info_number a))) (client_translated (events_of earlier) (info_number a))
   right_apdu earlier (fate.Stray because) a s = tt
@@ -156,18 +157,18 @@ module _ (asset : Asset) where
   right_apdu earlier (fate.Cuts because) a s = tt
 
   -- DNP3
-  module _ (client : ℕ) (earlier : List Judged) (x : FrameValue) (s : SpellsFrame x (unit_spelling (Frame x))) (dnp3 : asset.protocol ≡ protocol.Dnp3) where
+  module _ (says : Says) (earlier : List Judged) (x : FrameValue) (s : SpellsFrame x (unit_spelling (Frame x))) (dnp3 : asset.protocol ≡ protocol.Dnp3) where
     abbrev Goes : Fate → List (List ℕ) → Type 0
     Goes f whole = AreRight (if goes_on f then map Fragment whole else [])
 
     by_length : (octets : List ℕ) (short : Bool) → nat_lt (length octets) 2 ≡ short → length octets ≤ 2048 → IsOctets octets → IsMaster asset →
-        Goes (if short then fate.Stray why.Short else fate_of_fragment asset client side.Client octets) (octets ∷ [])
+        Goes (if short then fate.Stray why.Short else fate_of_fragment asset says side.Client octets) (octets ∷ [])
     by_length octets true is most o m = tt
     by_length octets false is most o m =
-        right_if (goes_on (fate_of_fragment asset client side.Client octets)) (Fragment octets) ((ltb-false (length octets) 2 is, most), o, m)
+        right_if (goes_on (fate_of_fragment asset says side.Client octets)) (Fragment octets) ((ltb-false (length octets) 2 is, most), o, m)
 
     by_segment : (answer : SegmentAnswer) (last : Option (List ℕ)) → ((octets : List ℕ) → last ≡ Some octets → (length octets ≤ 2048) × IsOctets octets) → IsMaster asset →
-        Goes (fate_of_segment asset client side.Client answer (completed answer last)) (completed answer last)
+        Goes (fate_of_segment asset says side.Client answer (completed answer last)) (completed answer last)
     by_segment answers.More last fits m = tt
     by_segment (answers.Dropped because) last fits m = tt
     by_segment answers.Whole None fits m = tt
@@ -202,27 +203,27 @@ module _ (asset : Asset) where
       answer = answer_now asset side.Client earlier x
 
       by_data : (d : Bool) → is_data x ≡ d → stray_of asset side.Client x ≡ None →
-          AreRight (if goes_on (if d then fate_of_segment asset client side.Client answer (completed answer (last_fragment run)) else fate.Carried)
+          AreRight (if goes_on (if d then fate_of_segment asset says side.Client answer (completed answer (last_fragment run)) else fate.Carried)
           then (if d then map Fragment (completed answer (last_fragment run)) else Whole (Frame x) ∷ []) else [])
       by_data true is none = by_segment answer (last_fragment run) (λ octets e. fragment_fits run octets (user_octets x s, all) e) (is_master none)
       by_data false is none = ((is, subst (λ p. SpellsUnit p (Frame x) (unit_spelling (Frame x))) (sym dnp3) s), tt)
 
-      by_stray : (o : Option Why) → stray_of asset side.Client x ≡ o → AreRight (passed_by_frame asset earlier (fate_of_frame asset client side.Client earlier x o) x)
+      by_stray : (o : Option Why) → stray_of asset side.Client x ≡ o → AreRight (passed_by_frame asset earlier (fate_of_frame asset says side.Client earlier x o) x)
       by_stray None is = by_data (is_data x) refl is
       by_stray (Some because) is = tt
 
-      right_frame : (f : Fate) → f ≡ fate_of_frame asset client side.Client earlier x (stray_of asset side.Client x) → AreRight (passed_by_frame asset earlier f x)
+      right_frame : (f : Fate) → f ≡ fate_of_frame asset says side.Client earlier x (stray_of asset side.Client x) → AreRight (passed_by_frame asset earlier f x)
       right_frame f is = subst (λ f. AreRight (passed_by_frame asset earlier f x)) (sym is) (by_stray (stray_of asset side.Client x) refl)
 
-  right_item : (client : ℕ) (earlier : List Judged) (j : Judged) (i : Item) → AllByRecursion IsOctets (lane_segments asset side.Client earlier) → IsItemOf asset.protocol i →
-      HasItemFate asset client earlier i j.fate → AreRight (passed_by asset earlier j i)
-  right_item client earlier j (Took side.Client (Adu a)) all s has = right_if (goes_on j.fate) (Whole (Adu a)) (refl, spelled_again asset.protocol (Adu a) s.0 s.1)
-  right_item client earlier j (Took side.Client (Frame x)) all s has =
-      let spelled = spelled_frame asset.protocol x (spelled_again asset.protocol (Frame x) s.0 s.1) in right_frame client earlier x spelled.1 spelled.0 all j.fate has
-  right_item client earlier j (Took side.Client (Apdu a)) all s has = right_apdu earlier j.fate a (spelled_again asset.protocol (Apdu a) s.0 s.1)
-  right_item client earlier j (Took side.Controller u) all s has = tt
-  right_item client earlier j (Ended t n) all s has = tt
-  right_item client earlier j (Broke t because) all s has = tt
+  right_item : (says : Says) (earlier : List Judged) (j : Judged) (i : Item) → AllByRecursion IsOctets (lane_segments asset side.Client earlier) → IsItemOf asset.protocol i →
+      HasItemFate asset says earlier i j.fate → AreRight (passed_by asset earlier j i)
+  right_item says earlier j (Took side.Client (Adu a)) all s has = right_if (goes_on j.fate) (Whole (Adu a)) (refl, spelled_again asset.protocol (Adu a) s.0 s.1)
+  right_item says earlier j (Took side.Client (Frame x)) all s has =
+      let spelled = spelled_frame asset.protocol x (spelled_again asset.protocol (Frame x) s.0 s.1) in right_frame says earlier x spelled.1 spelled.0 all j.fate has
+  right_item says earlier j (Took side.Client (Apdu a)) all s has = right_apdu earlier j.fate a (spelled_again asset.protocol (Apdu a) s.0 s.1)
+  right_item says earlier j (Took side.Controller u) all s has = tt
+  right_item says earlier j (Ended t n) all s has = tt
+  right_item says earlier j (Broke t because) all s has = tt
 
   segment_octets : (i : Item) → IsItemOf asset.protocol i → AllByRecursion IsOctets (segment_in asset side.Client i)
   segment_octets (Took t (Frame x)) s =
@@ -239,7 +240,7 @@ module _ (asset : Asset) where
       HaveFates asset client earlier js → AreRight (in_turn put earlier js)
   right_from client earlier [] all of fates = tt
   right_from client earlier (j ∷ js) all of fates =
-      all-append IsRight (put earlier j) (in_turn put (earlier ++ j ∷ []) js) (right_item client earlier j j.item all of.0 fates.0)
+      all-append IsRight (put earlier j) (in_turn put (earlier ++ j ∷ []) js) (right_item (says_at asset client earlier j.moment) earlier j j.item all of.0 fates.0)
       (right_from client (earlier ++ j ∷ []) js
       (subst (AllByRecursion IsOctets) (sym (segments_of-more asset side.Client earlier j)) (all-append IsOctets (segment_in asset side.Client j.item) (lane_segments asset side.Client earlier) (segment_octets j.item of.0) all))
       of.1 fates.1)

@@ -77,7 +77,7 @@ module _ (asset : Asset) where
 
     by_apdu : (earlier : List Judged) (f : Fate) (a : ApduValue) → Puts start (apdu_output side.Controller earlier f side.Client a) [] (passed_by_apdu earlier f a)
     by_apdu earlier fate.Carried a = one (Apdu (renumbered side.Controller earlier a))
-    by_apdu earlier fate.Admitted a = one (Apdu (renumbered side.Controller earlier a))
+    by_apdu earlier (fate.Admitted used) a = one (Apdu (renumbered side.Controller earlier a))
     by_apdu earlier (fate.Refused refusal) a = ack (owed_ack (events_of earlier) (info_number a))
     by_apdu earlier (fate.Stray because) a = nothing
     by_apdu earlier fate.Lengthens a = nothing

@@ -1,5 +1,6 @@
 -- The commands of a client, and that exactly those are admitted which the policy allows: the main definition is
 -- `AdmitsWhatIsAllowed`, which stands last. This project's own.
+use Rattle.cf_lane.specs.Rates.{Says, says_at}
 use Rattle.cf_apci.specs.Apdu.{Ack, ApduValue, Control, Info}
 use Rattle.cf_audit.specs.declared.line.CutReason.{CutReason}
 use Rattle.cf_dnpobj.specs.Fragment.{read_octets}
@@ -23,11 +24,11 @@ pub data Command : Type 0 where
   OfDnp3 : (octets : List ℕ) → Command
   OfIec104 : (asdu : List ℕ) → Command
 
--- its station is the asset's, its form is read, and each of its acts is allowed
-abbrev pub Allows : Asset → (client : ℕ) → Command → Type 0
-Allows asset client (OfModbus a) = IsAllowedCommand asset client a
-Allows asset client (OfDnp3 octets) = IsAllowedFragment asset client octets
-Allows asset client (OfIec104 asdu) = IsAllowedAsdu asset client asdu
+-- its station is the asset's, its form is read, and each of its acts is allowed, by a rule that is not spent
+abbrev pub Allows : Asset → Says → Command → Type 0
+Allows asset says (OfModbus a) = IsAllowedCommand asset says a
+Allows asset says (OfDnp3 octets) = IsAllowedFragment asset says octets
+Allows asset says (OfIec104 asdu) = IsAllowedAsdu asset says asdu
 
 -- a fragment is a command, but for one that is too short to be any and for a confirmation
 abbrev pub fragment_commands : (short : Bool) → List ℕ → List Command
@@ -65,14 +66,14 @@ commands_by asset earlier (Ended s n) = []
 commands_by asset earlier (Broke s because) = []
 
 -- a command is admitted where it is allowed, and refused where it is not; what brings none is neither
-abbrev pub IsDecided : Asset → (client : ℕ) → List Command → Fate → Type 0
-IsDecided asset client [] f = (is_admitted f ≡ false) × (is_refused f ≡ false)
-IsDecided asset client (c ∷ none) f =
-    ((is_admitted f ≡ true) × Allows asset client c) ⊎ ((is_refused f ≡ true) × (Allows asset client c → ⊥))
+abbrev pub IsDecided : Asset → Says → List Command → Fate → Type 0
+IsDecided asset says [] f = (is_admitted f ≡ false) × (is_refused f ≡ false)
+IsDecided asset says (c ∷ none) f =
+    ((is_admitted f ≡ true) × Allows asset says c) ⊎ ((is_refused f ≡ true) × (Allows asset says c → ⊥))
 
--- each item of a history is decided so
+-- each item of a history is decided so, by what the policy says at its moment
 abbrev pub AdmitsWhatIsAllowed : Type 0
 AdmitsWhatIsAllowed =
     (asset : Asset) (client : ℕ) (h : List Element) (earlier later : List Judged) (j : Judged) →
     AreJudged asset client h (earlier ++ j ∷ later) →
-    IsDecided asset client (commands_by asset earlier j.item) j.fate
+    IsDecided asset (says_at asset client earlier j.moment) (commands_by asset earlier j.item) j.fate

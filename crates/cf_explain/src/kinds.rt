@@ -9,7 +9,8 @@ use toml::Value;
 fn wanted(key: Key) -> &'static str {
     match key {
         Key::Nothing => "a table",
-        Key::Version | Key::Port | Key::Station | Key::Master => "a whole number",
+        Key::Version | Key::Port | Key::Station | Key::Master | Key::Most | Key::Seconds =>
+            "a whole number",
         Key::Name | Key::Address | Key::Protocol | Key::Action => "a text between quotation marks",
         Key::Asset | Key::Rule => "a list of tables",
         Key::Clients | Key::Groups | Key::Points | Key::Values => "a list of texts",

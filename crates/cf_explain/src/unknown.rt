@@ -11,8 +11,8 @@ const ASSET_KEYS: [&str; 7] = [
     "name", "address", "port", "protocol", "station", "master", "rule",
 ];
 
-const RULE_KEYS: [&str; 7] = [
-    "name", "action", "clients", "codes", "groups", "points", "values",
+const RULE_KEYS: [&str; 9] = [
+    "name", "action", "clients", "codes", "groups", "points", "values", "most", "seconds",
 ];
 
 /// What a key stands in.
@@ -60,7 +60,7 @@ impl Level {
                 "an asset has name, address, port, protocol, station, for DNP3 master, and tables [[asset.rule]]"
             }
             Level::Rule =>
-                "a rule has name, action, codes, and may have clients, groups, points and values",
+                "a rule has name, action, codes, and may have clients, groups, points, values, most and seconds",
         }
     }
 }

@@ -1,4 +1,5 @@
 -- What goes to the controller, in the policy's words.
+use Rattle.cf_lane.specs.Rates.{Says, rated, says_at}
 use Rattle.cf_apci.specs.Apdu.{Ack, ApduValue, Control, Info}
 use Rattle.cf_asdu.specs.Asdu.{first_refusal, refusal_reason, station_of}
 use Rattle.cf_asdu.specs.declared.asdu.AsduRefusal.{AsduRefusal}
@@ -12,12 +13,12 @@ use Rattle.cf_dnptrans.specs.Transport.{last_fragment}
 use Rattle.cf_dnptrans.specs.declared.assembly.SegmentAnswer.{SegmentAnswer}
 use Rattle.cf_dnplink.specs.UserOctets.{user_of}
 use Rattle.cf_lane.proofs.Commands.{admits_what_is_allowed, from_allowed, never_carried, to_allowed}
-use Rattle.cf_lane.specs.Acts.{act_of_code, by_refusal, fate_of_acts}
+use Rattle.cf_lane.specs.Acts.{act_of_code, by_refusal, fate_of_acts, used_by}
 use Rattle.cf_lane.specs.Dnp3.{answer_now, fate_of_frame, fate_of_fragment, fate_of_read, fate_of_segment, fate_of_whole, fragment_frames, fragment_in, frame_output, is_data, is_none, segments_of, stray_of, whole_now}
 use Rattle.cf_lane.specs.Fate.{HasItemFate, HaveFates}
 use Rattle.cf_lane.specs.Iec104.{ack_octets, ack_output, apdu_output, asdu_in, asdu_refused, fate_by_form, fate_of_apdu, fate_of_asdu, or_cut, stamped}
 use Rattle.cf_lane.specs.Item.{Broke, Ended, Item, Took}
-use Rattle.cf_lane.specs.Judged.{Judged, goes_on, in_turn}
+use Rattle.cf_lane.specs.Judged.{Judged, goes_on, in_turn, is_admitted}
 use Rattle.cf_lane.specs.Laws.{LanePassesAllowed}
 use Rattle.cf_lane.specs.Modbus.{HasCommandFate}
 use Rattle.cf_lane.specs.Numbers.{ack_cut, events_of, info_cut}
@@ -60,15 +61,15 @@ nothing_put : (F : List ℕ → List ℕ) (b : Bool) → (if b then flat_map F (
 nothing_put F true = refl
 nothing_put F false = refl
 
-module _ (asset : Asset) (client : ℕ) where
-  one_command : (a : AduValue) (f : Fate) (more : List ℕ) (Rest : List ℕ → Type 0) → HasCommandFate asset client a f → Rest more →
-      Goes (IsAllowedCommand asset client a) (spelling a) [] Rest ((if goes_on f then spelling a else []) ++ more)
-  one_command a fate.Carried more Rest has r = absurd (never_carried asset client a has)
-  one_command a fate.Admitted more Rest has r = inl ((admits_what_is_allowed asset client a fate.Admitted has).0 refl, (more, refl, r))
-  one_command a (fate.Refused x) more Rest has r = inr (λ allowed. cc ((admits_what_is_allowed asset client a (fate.Refused x) has).1 allowed), (more, refl, r))
-  one_command a (fate.Stray x) more Rest has r = inr (λ allowed. cc ((admits_what_is_allowed asset client a (fate.Stray x) has).1 allowed), (more, refl, r))
-  one_command a fate.Lengthens more Rest has r = inr (λ allowed. cc ((admits_what_is_allowed asset client a fate.Lengthens has).1 allowed), (more, refl, r))
-  one_command a (fate.Cuts x) more Rest has r = inr (λ allowed. cc ((admits_what_is_allowed asset client a (fate.Cuts x) has).1 allowed), (more, refl, r))
+module _ (asset : Asset) (says : Says) where
+  one_command : (a : AduValue) (f : Fate) (more : List ℕ) (Rest : List ℕ → Type 0) → HasCommandFate asset says a f → Rest more →
+      Goes (IsAllowedCommand asset says a) (spelling a) [] Rest ((if goes_on f then spelling a else []) ++ more)
+  one_command a fate.Carried more Rest has r = absurd (never_carried asset says a has)
+  one_command a (fate.Admitted used) more Rest has r = inl ((admits_what_is_allowed asset says a (fate.Admitted used) has).0 refl, (more, refl, r))
+  one_command a (fate.Refused x) more Rest has r = inr (λ allowed. cc ((admits_what_is_allowed asset says a (fate.Refused x) has).1 allowed), (more, refl, r))
+  one_command a (fate.Stray x) more Rest has r = inr (λ allowed. cc ((admits_what_is_allowed asset says a (fate.Stray x) has).1 allowed), (more, refl, r))
+  one_command a fate.Lengthens more Rest has r = inr (λ allowed. cc ((admits_what_is_allowed asset says a fate.Lengthens has).1 allowed), (more, refl, r))
+  one_command a (fate.Cuts x) more Rest has r = inr (λ allowed. cc ((admits_what_is_allowed asset says a (fate.Cuts x) has).1 allowed), (more, refl, r))
 
   -- IEC 60870-5-104
   module _ (earlier : List Judged) (receive : ℕ) (asdu : List ℕ) (more : List ℕ) (Rest : List ℕ → Type 0) (r : Rest more) where
@@ -79,37 +80,37 @@ module _ (asset : Asset) (client : ℕ) where
     put f = if goes_on f then apdu_spelling here else ack_output earlier f receive
 
     abbrev Asdu : Fate → Type 0
-    Asdu f = Goes (IsAllowedAsdu asset client asdu) (apdu_spelling here) (ack_octets (owed_ack (events_of earlier) receive)) Rest (put f ++ more)
+    Asdu f = Goes (IsAllowedAsdu asset says asdu) (apdu_spelling here) (ack_octets (owed_ack (events_of earlier) receive)) Rest (put f ++ more)
 
     abbrev why_refused : Decider → Reason → ℕ → Refusal
     why_refused decided because point = record { decider = decided; reason = because; act = act_of_code (slice_index asdu 0) point }
 
-    refused_asdu : (x : Refusal) → (IsAllowedAsdu asset client asdu → ⊥) → Asdu (fate.Refused x)
+    refused_asdu : (x : Refusal) → (IsAllowedAsdu asset says asdu → ⊥) → Asdu (fate.Refused x)
     refused_asdu x n = inr (n, (more, refl, r))
 
-    by_acts : (x : Option Refusal) → (by_refusal x ≡ fate.Admitted → IsAllowedAsdu asset client asdu) → (IsAllowedAsdu asset client asdu → by_refusal x ≡ fate.Admitted) → Asdu (by_refusal x)
-    by_acts None to from = inl (to refl, (more, refl, r))
-    by_acts (Some x) to from = refused_asdu x (λ a. cc (from a))
+    by_acts : (used : List Bool) (x : Option Refusal) → (is_admitted (by_refusal used x) ≡ true → IsAllowedAsdu asset says asdu) → (IsAllowedAsdu asset says asdu → is_admitted (by_refusal used x) ≡ true) → Asdu (by_refusal used x)
+    by_acts used None to from = inl (to refl, (more, refl, r))
+    by_acts used (Some x) to from = refused_asdu x (λ a. cc (from a))
 
-    by_form : (o : Option AsduRefusal) → o ≡ first_refusal (asdu_in asdu) → 9 ≤ length asdu → station_of asdu ≡ asset.station → Asdu (fate_by_form asset client asdu o)
+    by_form : (o : Option AsduRefusal) → o ≡ first_refusal (asdu_in asdu) → 9 ≤ length asdu → station_of asdu ≡ asset.station → Asdu (fate_by_form asset says asdu o)
     by_form (Some x) is long station = refused_asdu (why_refused decider.Form (refusal_reason x) 0) (λ a. (let f = a.form in cc (is, f)))
     by_form None is long station =
-        by_acts (policy.first_refusal asset client (asdus.acts (asdu_in asdu)))
-        (λ e. record { whole = long; station = station; form = sym is; each = to_allowed asset client (asdus.acts (asdu_in asdu)) e })
-        (λ a. from_allowed asset client (asdus.acts (asdu_in asdu)) a.each)
+        by_acts (used_by (rated asset.rules) says (asdus.acts (asdu_in asdu))) (policy.first_refusal says (asdus.acts (asdu_in asdu)))
+        (λ e. record { whole = long; station = station; form = sym is; each = to_allowed asset says (asdus.acts (asdu_in asdu)) e })
+        (λ a. from_allowed asset says (asdus.acts (asdu_in asdu)) a.each)
 
-    one_asdu : Asdu (fate_of_asdu asset client asdu)
+    one_asdu : Asdu (fate_of_asdu asset says asdu)
     one_asdu =
         by_if (nat_lt (length asdu) 9) (asdu_refused decider.Form (refusal_reason refusal.Short) asdu 0)
-        (if nat_eq (station_of asdu) asset.station then fate_by_form asset client asdu (first_refusal (asdu_in asdu)) else asdu_refused decider.Station reason.Station asdu (station_of asdu))
+        (if nat_eq (station_of asdu) asset.station then fate_by_form asset says asdu (first_refusal (asdu_in asdu)) else asdu_refused decider.Station reason.Station asdu (station_of asdu))
         Asdu
         (λ e. refused_asdu (why_refused decider.Form (refusal_reason refusal.Short) 0) (λ a. (let long = a.whole in let short = ltb-true (length asdu) 9 e in absurd (omega (arith, long, short)))))
-        (λ long. by_if (nat_eq (station_of asdu) asset.station) (fate_by_form asset client asdu (first_refusal (asdu_in asdu))) (asdu_refused decider.Station reason.Station asdu (station_of asdu))
+        (λ long. by_if (nat_eq (station_of asdu) asset.station) (fate_by_form asset says asdu (first_refusal (asdu_in asdu))) (asdu_refused decider.Station reason.Station asdu (station_of asdu))
         Asdu
         (λ e. by_form (first_refusal (asdu_in asdu)) refl (ltb-false (length asdu) 9 long) (eqb-true (station_of asdu) asset.station e))
         (λ e. refused_asdu (why_refused decider.Station reason.Station (station_of asdu)) (λ a. (let is = eq-eqb (station_of asdu) asset.station a.station in cc (e, is)))))
 
-    one_info : (cut : Option CutReason) → InfoGoes cut asset client earlier receive asdu Rest (put (or_cut cut (fate_of_asdu asset client asdu)) ++ more)
+    one_info : (cut : Option CutReason) → InfoGoes cut asset says earlier receive asdu Rest (put (or_cut cut (fate_of_asdu asset says asdu)) ++ more)
     one_info None = one_asdu
     one_info (Some because) = (more, refl, r)
 
@@ -119,15 +120,15 @@ module _ (asset : Asset) (client : ℕ) where
     one_ack receive None = (more, refl, r)
     one_ack receive (Some because) = (more, refl, r)
 
-    one_apdu : (a : ApduValue) (f : Fate) → f ≡ fate_of_apdu asset client side.Client earlier a → ApduGoes asset client earlier a Rest (apdu_output side.Controller earlier f side.Client a ++ more)
+    one_apdu : (a : ApduValue) (f : Fate) → f ≡ fate_of_apdu asset says side.Client earlier a → ApduGoes asset says earlier a Rest (apdu_output side.Controller earlier f side.Client a ++ more)
     one_apdu (Info send receive asdu) f is =
-        subst (λ f. ApduGoes asset client earlier (Info send receive asdu) Rest (apdu_output side.Controller earlier f side.Client (Info send receive asdu) ++ more)) (sym is)
+        subst (λ f. ApduGoes asset says earlier (Info send receive asdu) Rest (apdu_output side.Controller earlier f side.Client (Info send receive asdu) ++ more)) (sym is)
         (one_info earlier receive asdu more Rest r (info_cut side.Client earlier send receive))
     one_apdu (Ack receive) f is =
-        subst (λ f. ApduGoes asset client earlier (Ack receive) Rest (apdu_output side.Controller earlier f side.Client (Ack receive) ++ more)) (sym is)
+        subst (λ f. ApduGoes asset says earlier (Ack receive) Rest (apdu_output side.Controller earlier f side.Client (Ack receive) ++ more)) (sym is)
         (one_ack receive (ack_cut side.Client earlier receive))
     one_apdu (Control octet) f is =
-        subst (λ f. ApduGoes asset client earlier (Control octet) Rest (apdu_output side.Controller earlier f side.Client (Control octet) ++ more)) (sym is)
+        subst (λ f. ApduGoes asset says earlier (Control octet) Rest (apdu_output side.Controller earlier f side.Client (Control octet) ++ more)) (sym is)
         (more, refl, r)
 
     -- DNP3
@@ -141,44 +142,44 @@ module _ (asset : Asset) (client : ℕ) where
     no_frames : (whole : List (List ℕ)) (f : Fate) → goes_on f ≡ false → out f whole ≡ []
     no_frames whole f e = ap (λ (b : Bool). flat_map frames (if b then whole else [])) e
 
-    by_fragment_acts : (octets : List ℕ) (v : FragmentValue) → read_octets octets ≡ Ok v → (x : Option Refusal) → (by_refusal x ≡ fate.Admitted → AreAllowed asset client (fragments.acts v)) →
-        (AreAllowed asset client (fragments.acts v) → by_refusal x ≡ fate.Admitted) →
-        Goes (IsAllowedFragment asset client octets) (frames octets) [] Rest (out (by_refusal x) (octets ∷ []) ++ more)
-    by_fragment_acts octets v is None to from =
+    by_fragment_acts : (octets : List ℕ) (v : FragmentValue) → read_octets octets ≡ Ok v → (used : List Bool) (x : Option Refusal) → (is_admitted (by_refusal used x) ≡ true → AreAllowed says (fragments.acts v)) →
+        (AreAllowed says (fragments.acts v) → is_admitted (by_refusal used x) ≡ true) →
+        Goes (IsAllowedFragment asset says octets) (frames octets) [] Rest (out (by_refusal used x) (octets ∷ []) ++ more)
+    by_fragment_acts octets v is used None to from =
         inl (record { value = v; form = is; each = to refl }, leave (frames octets) (frames octets ++ []) more Rest (append-nil (frames octets)) r)
-    by_fragment_acts octets v is (Some x) to from =
+    by_fragment_acts octets v is used (Some x) to from =
         inr (
           λ a. (let same : v ≡ a.value = (let f = a.form in cc (is, f)) in
-              let each = subst (λ w. AreAllowed asset client (fragments.acts w)) (sym same) a.each in cc (from each)),
+              let each = subst (λ w. AreAllowed says (fragments.acts w)) (sym same) a.each in cc (from each)),
           (more, refl, r),
         )
 
     by_code : (octets : List ℕ) (v : FragmentValue) → read_octets octets ≡ Ok v → (b : Bool) →
-        CommandGoes b asset client earlier octets Rest (out (if b then fate.Carried else fate_of_acts asset client (fragments.acts v)) (octets ∷ []) ++ more)
+        CommandGoes b asset says earlier octets Rest (out (if b then fate.Carried else fate_of_acts asset says (fragments.acts v)) (octets ∷ []) ++ more)
     by_code octets v is true = leave (frames octets) (frames octets ++ []) more Rest (append-nil (frames octets)) r
     by_code octets v is false =
-        by_fragment_acts octets v is (policy.first_refusal asset client (fragments.acts v)) (to_allowed asset client (fragments.acts v)) (from_allowed asset client (fragments.acts v))
+        by_fragment_acts octets v is (used_by (rated asset.rules) says (fragments.acts v)) (policy.first_refusal says (fragments.acts v)) (to_allowed asset says (fragments.acts v)) (from_allowed asset says (fragments.acts v))
 
     by_read : (octets : List ℕ) (code : ℕ) (rd : Result FragmentValue FragmentRefusal) → read_octets octets ≡ rd →
-        CommandGoes (confirms rd) asset client earlier octets Rest (out (fate_of_read asset client code rd) (octets ∷ []) ++ more)
+        CommandGoes (confirms rd) asset says earlier octets Rest (out (fate_of_read asset says code rd) (octets ∷ []) ++ more)
     by_read octets code (Ok v) is = by_code octets v is (nat_eq v.code 0)
     by_read octets code (Err e) is = inr (λ a. (let f = a.form in cc (is, f)), (more, refl, r))
 
     by_short : (octets : List ℕ) (b : Bool) →
-        FragmentGoes b asset client earlier octets Rest (out (if b then fate.Stray why.Short else fate_of_fragment asset client side.Client octets) (octets ∷ []) ++ more)
+        FragmentGoes b asset says earlier octets Rest (out (if b then fate.Stray why.Short else fate_of_fragment asset says side.Client octets) (octets ∷ []) ++ more)
     by_short octets true = (more, refl, r)
     by_short octets false = by_read octets (slice_index octets 1) (read_octets octets) refl
 
     by_whole : (whole : List (List ℕ)) → ((whole ≡ []) ⊎ ((octets : List ℕ) × (whole ≡ octets ∷ []))) →
-        WholeGoes whole asset client earlier Rest (out (fate_of_whole asset client side.Client whole) whole ++ more)
+        WholeGoes whole asset says earlier Rest (out (fate_of_whole asset says side.Client whole) whole ++ more)
     by_whole whole (inl none) =
-        subst (λ whole. WholeGoes whole asset client earlier Rest (out (fate_of_whole asset client side.Client whole) whole ++ more)) (sym none) (more, refl, r)
+        subst (λ whole. WholeGoes whole asset says earlier Rest (out (fate_of_whole asset says side.Client whole) whole ++ more)) (sym none) (more, refl, r)
     by_whole whole (inr one) =
-        subst (λ whole. WholeGoes whole asset client earlier Rest (out (fate_of_whole asset client side.Client whole) whole ++ more)) (sym one.1)
+        subst (λ whole. WholeGoes whole asset says earlier Rest (out (fate_of_whole asset says side.Client whole) whole ++ more)) (sym one.1)
         (by_short one.0 (nat_lt (length one.0) 2))
 
     by_segment : (answer : SegmentAnswer) (last : Option (List ℕ)) →
-        WholeGoes (completed answer last) asset client earlier Rest (out (fate_of_segment asset client side.Client answer (completed answer last)) (completed answer last) ++ more)
+        WholeGoes (completed answer last) asset says earlier Rest (out (fate_of_segment asset says side.Client answer (completed answer last)) (completed answer last) ++ more)
     by_segment answers.More last = (more, refl, r)
     by_segment (answers.Dropped because) last = (more, refl, r)
     by_segment answers.Whole None = by_whole [] (inl refl)
@@ -190,32 +191,32 @@ module _ (asset : Asset) (client : ℕ) where
 
       abbrev frame_fate : Bool → Option Why → Fate
       frame_fate d (Some because) = fate.Stray because
-      frame_fate d None = if d then fate_of_segment asset client side.Client (answer_now asset side.Client earlier x) whole else fate.Carried
+      frame_fate d None = if d then fate_of_segment asset says side.Client (answer_now asset side.Client earlier x) whole else fate.Carried
 
-      fate_is : (o : Option Why) → fate_of_frame asset client side.Client earlier x o ≡ frame_fate (is_data x) o
+      fate_is : (o : Option Why) → fate_of_frame asset says side.Client earlier x o ≡ frame_fate (is_data x) o
       fate_is None = refl
       fate_is (Some because) = refl
 
       abbrev frame_put : Bool → Fate → List ℕ
       frame_put d f = if d then flat_map frames (if d then (if goes_on f then whole else []) else []) else (if goes_on f then frame_spelling x else [])
 
-      by_frame : (d : Bool) (o : Option Why) → FrameGoes (is_none o) d asset client earlier x Rest (frame_put d (frame_fate d o) ++ more)
+      by_frame : (d : Bool) (o : Option Why) → FrameGoes (is_none o) d asset says earlier x Rest (frame_put d (frame_fate d o) ++ more)
       by_frame true (Some because) = (more, refl, r)
       by_frame false (Some because) = (more, refl, r)
       by_frame false None = (more, refl, r)
       by_frame true None = by_segment (answer_now asset side.Client earlier x) (last_fragment (user_of x.blocks ∷ segments_of asset side.Client earlier))
 
-      one_frame : (j : Judged) → j.item ≡ Took side.Client (Frame x) → j.fate ≡ fate_of_frame asset client side.Client earlier x (stray_of asset side.Client x) →
-          FrameGoes (is_none (stray_of asset side.Client x)) (is_data x) asset client earlier x Rest (frame_output asset side.Controller earlier j side.Client x ++ more)
+      one_frame : (j : Judged) → j.item ≡ Took side.Client (Frame x) → j.fate ≡ fate_of_frame asset says side.Client earlier x (stray_of asset side.Client x) →
+          FrameGoes (is_none (stray_of asset side.Client x)) (is_data x) asset says earlier x Rest (frame_output asset side.Controller earlier j side.Client x ++ more)
       one_frame j item f =
           let o = stray_of asset side.Client x in
           let same : frame_output asset side.Controller earlier j side.Client x ≡ frame_put (is_data x) (frame_fate (is_data x) o) =
           ap (λ i. if is_data x then flat_map frames (fragment_in asset side.Controller earlier j i) else (if goes_on j.fate then frame_spelling x else [])) item
           ∙ ap (frame_put (is_data x)) (f ∙ fate_is o) in
-          subst (λ xs. FrameGoes (is_none o) (is_data x) asset client earlier x Rest (xs ++ more)) (sym same) (by_frame (is_data x) o)
+          subst (λ xs. FrameGoes (is_none o) (is_data x) asset says earlier x Rest (xs ++ more)) (sym same) (by_frame (is_data x) o)
 
-  one_item : (earlier : List Judged) (j : Judged) (i : Item) (more : List ℕ) (Rest : List ℕ → Type 0) → j.item ≡ i → HasItemFate asset client earlier i j.fate → Rest more →
-      ItemGoes asset client earlier i Rest (item_output asset side.Controller earlier j i ++ more)
+  one_item : (earlier : List Judged) (j : Judged) (i : Item) (more : List ℕ) (Rest : List ℕ → Type 0) → j.item ≡ i → HasItemFate asset says earlier i j.fate → Rest more →
+      ItemGoes asset says earlier i Rest (item_output asset side.Controller earlier j i ++ more)
   one_item earlier j (Took side.Client (Adu a)) more Rest is has r = one_command a j.fate more Rest has r
   one_item earlier j (Took side.Client (Frame x)) more Rest is has r = one_frame earlier more Rest r x j is has
   one_item earlier j (Took side.Client (Apdu a)) more Rest is has r = one_apdu earlier more Rest r a j.fate has
@@ -228,10 +229,11 @@ module _ (asset : Asset) (client : ℕ) where
   one_item earlier j (Ended s n) more Rest is has r = (more, refl, r)
   one_item earlier j (Broke s b) more Rest is has r = (more, refl, r)
 
+module _ (asset : Asset) (client : ℕ) where
   pass : (earlier js : List Judged) → HaveFates asset client earlier js → Passes asset client earlier js (in_turn (output asset side.Controller) earlier js)
   pass earlier [] fates = refl
   pass earlier (j ∷ js) fates =
-      one_item earlier j j.item (in_turn (output asset side.Controller) (earlier ++ j ∷ []) js) (Passes asset client (earlier ++ j ∷ []) js) refl fates.0
+      one_item asset (says_at asset client earlier j.moment) earlier j j.item (in_turn (output asset side.Controller) (earlier ++ j ∷ []) js) (Passes asset client (earlier ++ j ∷ []) js) refl fates.0
       (pass (earlier ++ j ∷ []) js fates.1)
 
 pub lane_passes_allowed : LanePassesAllowed

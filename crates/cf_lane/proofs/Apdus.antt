@@ -1,4 +1,7 @@
 -- One APDU among the items: `apdu_handled`.
+use Rattle.cf_lane.proofs.Saying.{rules_stay, says_same}
+use Rattle.cf_lane.specs.Rates.{Says}
+use Rattle.cf_lane.specs.Rings.{IsRulesOf, RulesGoOn, says_by}
 use Rattle.cf_apci.specs.Apdu.{ApduValue, SpellsApdu, spelling}
 use Rattle.cf_audit.specs.declared.line.CutReason.{CutReason}
 use Rattle.cf_lane.proofs.Earlier.{cut_of-append, events_of-more, first_none}
@@ -6,7 +9,7 @@ use Rattle.cf_lane.proofs.Handling.{count-more, ended-more}
 use Rattle.cf_lane.proofs.Taking.{grows_more}
 use Rattle.cf_lane.proofs.Units.{apdus, begins_by}
 use Rattle.cf_lane.specs.Handled.{CountsBy, Does, Grows, Handled, Knows, LaneValue, Misses, State, Steps, TakesUnit, judged, letters_in, state}
-use Rattle.cf_lane.specs.Iec104.{apdu_output}
+use Rattle.cf_lane.specs.Iec104.{apdu_output, fate_of_apdu}
 use Rattle.cf_lane.specs.Item.{Took}
 use Rattle.cf_lane.specs.Judged.{Judged, cut_by, cut_of, is_admitted, is_refused, one_if}
 use Rattle.cf_lane.specs.Kept.{IsWireOf, KnowsWire, wire_debt}
@@ -37,7 +40,8 @@ numbers_of numbers s = numbered numbers s.to_client s.to_controller s.lines
 module _ (asset : Asset) (moment : ℕ) (s : Side) (a : ApduValue) (f : Fate) (old new : State) (before after : NumbersValue)
     (was : old.lane.wire ≡ wire.Iec104 before) (is : new.lane.wire ≡ wire.Iec104 after) (client : new.lane.client ≡ old.lane.client)
     (admitted : new.lane.admitted ≡ old.lane.admitted + one_if (is_admitted f)) (refused : new.lane.refused ≡ old.lane.refused + one_if (is_refused f))
-    (takes : TakesApdu asset old.lane.client moment s a f (numbers_of before old) (numbers_of after new)) where
+    (of : IsRulesOf asset old.lane.client.address old.lane.rules) (rules : RulesGoOn f moment old.lane.rules new.lane.rules)
+    (takes : TakesApdu asset (says_by asset old.lane.client.address old.lane.rules moment) old.lane.client moment s a f (numbers_of before old) (numbers_of after new)) where
   apdu_does : (earlier : List Judged) → cut_of earlier ≡ None → Knows asset old earlier → Does asset earlier (judged moment (Took s (Apdu a)) f ∷ []) old new
   apdu_does earlier uncut knows =
       let j : Judged = judged moment (Took s (Apdu a)) f in
@@ -51,10 +55,11 @@ module _ (asset : Asset) (moment : ℕ) (s : Side) (a : ApduValue) (f : Fate) (o
           refused = refused ∙ ap (λ n. n + one_if (is_refused f)) knows.refused ∙ sym (count-more (λ i. is_refused i.fate) earlier j);
           client_ended = ap (λ (q : Queue). q.ended) does.of_client ∙ knows.client_ended ∙ sym (ended-more side.Controller earlier j refl);
           controller_ended = ap (λ (q : Queue). q.ended) does.of_controller ∙ knows.controller_ended ∙ sym (ended-more side.Client earlier j refl);
+          rules = rules.know earlier j refl refl knows.rules;
           wire = λ goes. subst (λ w. KnowsWire asset w (earlier ++ j ∷ [])) (sym is)
               (subst (IsNumbersOf after) (sym (events_of-more earlier j)) (does.numbers ((first_none (cut_by f) None (sym (cut_of-append earlier (j ∷ []) uncut) ∙ goes)).0)));
         };
-        fates = (does.fate, tt);
+        fates = (subst (λ (says : Says). f ≡ fate_of_apdu asset says s earlier a) (says_same asset old.lane.client.address old.lane.rules earlier moment of knows.rules) does.fate, tt);
         of_client = does.of_client ∙ ap (after_push old.to_client) (nil side.Client);
         of_controller = does.of_controller ∙ ap (after_push old.to_controller) (nil side.Controller);
         of_lines = does.of_lines ∙ ap (with_lines old.lines) (sym (append-nil text));
@@ -96,15 +101,16 @@ module _ (asset : Asset) (iec104 : asset.protocol ≡ protocol.Iec104) (moment :
   -- one whose line failed
   pub misses_apdu : (before : NumbersValue) (lane : LaneValue) (client controller : Queue) (lines : Option (List (List ℕ))) → lane.wire ≡ wire.Iec104 before →
       (log : Option (List (List ℕ))) (part : List ℕ) →
-      MissesApdu asset lane.client moment s a (numbered before client controller lines) log part → Misses asset moment s bytes (state lane client controller lines) log part
-  misses_apdu before lane client controller lines was log part m =
+      IsRulesOf asset lane.client.address lane.rules →
+      MissesApdu asset (says_by asset lane.client.address lane.rules moment) lane.client moment s a (numbered before client controller lines) log part → Misses asset moment s bytes (state lane client controller lines) log part
+  misses_apdu before lane client controller lines was log part of m =
       let old : State = state lane client controller lines in
       let new : State = state (record lane { admitted = lane.admitted + one_if (is_admitted m.fate); refused = lane.refused + one_if (is_refused m.fate); wire = wire.Iec104 m.new.numbers })
       m.new.to_client m.new.to_controller m.new.lines in
       record {
         used = n;
         new = new;
-        takes = takes_apdu m.fate None m.uncut old new (apdu_handled asset moment s a m.fate old new before m.new.numbers was refl refl refl refl m.takes);
+        takes = takes_apdu m.fate None m.uncut old new (apdu_handled asset moment s a m.fate old new before m.new.numbers was refl refl refl refl of (rules_stay m.fate moment lane.rules lane.rules m.unadmitted refl) m.takes);
         more = m.more;
         are_more = λ earlier uncut knows.
             append-nil (unit_lines asset lane.client moment (is_some_bytes (apdu_output side.Client earlier m.fate s a)) s (spelling a) m.fate)
@@ -130,17 +136,17 @@ letters_most (Some reason) n = omega arith
 -- a command is counted once, and a cut counts none
 pub counts_by : (f : Fate) (n : ℕ) → 0 < n → one_if (is_admitted f) + one_if (is_refused f) ≤ letters_in (step_by (cut_by f) n)
 counts_by fates.Carried n some = omega arith
-counts_by fates.Admitted n some = omega (arith, some)
+counts_by (fates.Admitted used) n some = omega (arith, some)
 counts_by (fates.Refused r) n some = omega (arith, some)
 counts_by (fates.Stray why) n some = omega arith
 counts_by fates.Lengthens n some = omega arith
 counts_by (fates.Cuts reason) n some = omega arith
 
 -- the same of the side and the APDU that it is
-pub takes_same : (asset : Asset) (client : Endpoint) (moment : ℕ) (s t : Side) (a b : ApduValue) (f : Fate) (old new : Numbered) → t ≡ s → b ≡ a →
-    TakesApdu asset client moment s a f old new → TakesApdu asset client moment t b f old new
-takes_same asset client moment s t a b f old new side value takes =
-    subst (λ (u : Side). TakesApdu asset client moment u b f old new) (sym side) (subst (λ (x : ApduValue). TakesApdu asset client moment s x f old new) (sym value) takes)
+pub takes_same : (asset : Asset) (says : Says) (client : Endpoint) (moment : ℕ) (s t : Side) (a b : ApduValue) (f : Fate) (old new : Numbered) → t ≡ s → b ≡ a →
+    TakesApdu asset says client moment s a f old new → TakesApdu asset says client moment t b f old new
+takes_same asset says client moment s t a b f old new side value takes =
+    subst (λ (u : Side). TakesApdu asset says client moment u b f old new) (sym side) (subst (λ (x : ApduValue). TakesApdu asset says client moment s x f old new) (sym value) takes)
 
 -- a queue grows by no more than twice the octets of an APDU that does not cut
 pub grows_apdu : (f : Fate) (st : Step) (len n : ℕ) → len ≡ n → st ≡ step_by (cut_by f) n → (v w : Wire) (before after : NumbersValue) → v ≡ wire.Iec104 before → w ≡ wire.Iec104 after →

@@ -1,7 +1,8 @@
 -- Laws of the fates of DNP3 fragments.
+use Rattle.cf_lane.specs.Rates.{Says, rated, said, unless_spent}
 use Rattle.cf_audit.specs.declared.line.CutReason.{CutReason}
 use Rattle.cf_audit.specs.declared.line.Why.{Why}
-use Rattle.cf_lane.specs.Acts.{by_refusal, fate_of_acts, first_refusal, refusal_or}
+use Rattle.cf_lane.specs.Acts.{by_refusal, fate_of_acts, first_refusal, refusal_or, used_by}
 use Rattle.cf_lane.specs.Dnp3.{IsOfFragment}
 use Rattle.cf_lane.specs.declared.fate.Fate.{Fate}
 use Rattle.cf_policy.specs.Verdict.{by_rule, decided, default_reason, first_rule, has_function, has_point, is_allow, is_empty, rule_reason, verdict_of}
@@ -45,14 +46,32 @@ never_station asset client act d why e =
     (not_station (not (list_any (λ r. is_allow r.action && has_function r client act) asset.rules)) (not (list_any (λ r. is_allow r.action && has_point r client act) asset.rules))
     reason.Function reason.Point reason.Value not_function not_point not_value) e
 
+-- nor does one that is spent
+never_spent : (b : Bool) (n : ℕ) (d : Decider) (why : Reason) → verdict.Refuse d why ≡ unless_spent b n → why ≢ reason.Station
+never_spent true n d why e = λ s. cc (s, e)
+never_spent false n d why e = cc
+
+never_said : (spent : ℕ → Bool) (v : Verdict) (d : Decider) (why : Reason) → ((d : Decider) (why : Reason) → verdict.Refuse d why ≡ v → why ≢ reason.Station) →
+    verdict.Refuse d why ≡ said spent v → why ≢ reason.Station
+never_said spent (verdict.Allow n) d why other e = never_spent (spent n) n d why e
+never_said spent (verdict.Refuse c because) d why other e = λ s. other c because refl (cc (s, e))
+
 -- so a command is refused by another reason
-pub never_station_of : (asset : Asset) (client : ℕ) (acts : List Act) → IsOfFragment (fate_of_acts asset client acts)
-never_station_of asset client [] = tt
-never_station_of asset client (act ∷ acts) = by_verdict (never_station_of asset client acts) (verdict_of asset client act) refl where
-  by_verdict : IsOfFragment (fate_of_acts asset client acts) → (v : Verdict) → v ≡ verdict_of asset client act →
-      IsOfFragment (by_refusal (refusal_or act v (first_refusal asset client acts)))
-  by_verdict later (verdict.Allow n) is = later
-  by_verdict later (verdict.Refuse d why) is = never_station asset client act d why is
+module _ (asset : Asset) (client : ℕ) (spent : ℕ → Bool) where
+  abbrev says : Says
+  says act = said spent (verdict_of asset client act)
+
+  by_verdict : (used : List Bool) (act : Act) (acts : List Act) → IsOfFragment (by_refusal used (first_refusal says acts)) → (v : Verdict) → v ≡ says act →
+      IsOfFragment (by_refusal used (refusal_or act v (first_refusal says acts)))
+  by_verdict used act acts later (verdict.Allow n) is = later
+  by_verdict used act acts later (verdict.Refuse d why) is = never_said spent (verdict_of asset client act) d why (λ d why e. never_station asset client act d why e) is
+
+  by_first : (used : List Bool) (acts : List Act) → IsOfFragment (by_refusal used (first_refusal says acts))
+  by_first used [] = tt
+  by_first used (act ∷ acts) = by_verdict used act acts (by_first used acts) (says act) refl
+
+  pub never_station_of : (acts : List Act) → IsOfFragment (fate_of_acts asset (λ act. said spent (verdict_of asset client act)) acts)
+  never_station_of acts = by_first (used_by (rated asset.rules) says acts) acts
 
 -- a client's fragment of two octets or more is no other
 pub no_other : (f : Fate) → IsOfFragment f → ((x : Why) × (f ≡ fate.Stray x)) ⊎ ((f ≡ fate.Lengthens) ⊎ ((x : CutReason) × (f ≡ fate.Cuts x))) → ⊥

@@ -1,4 +1,5 @@
 -- What a frame of DNP3 does after the earlier items.
+use Rattle.cf_lane.specs.Rates.{Says, rated}
 use Rattle.cf_dnplink.specs.LinkFrame.{FrameValue}
 use Rattle.cf_dnplink.specs.UserOctets.{user_of}
 use Rattle.cf_dnptrans.specs.AssemblyValue.{AssemblyValue, IsAssemblyOf}
@@ -14,7 +15,7 @@ use Rattle.cf_lane.proofs.Sides.{at_both, other_side, same_side, side_known}
 use Rattle.cf_dnpobj.specs.Acts.{acts}
 use Rattle.cf_dnpobj.specs.Fragment.{FragmentValue, read_octets}
 use Rattle.cf_dnpobj.specs.declared.fragment.FragmentRefusal.{FragmentRefusal}
-use Rattle.cf_lane.specs.Acts.{by_refusal, fate_of_acts, first_refusal}
+use Rattle.cf_lane.specs.Acts.{by_refusal, fate_of_acts, first_refusal, used_by}
 use Rattle.cf_lane.specs.declared.fate.Refusal.{Refusal}
 use Rattle.cf_lane.specs.Dnp3.{answer_now, data_octets, fate_of_fragment, fate_of_frame, fate_of_read, fate_of_segment, fragment_frames, fragment_in, frame_fragment, frame_octets, frame_output, frames_at, is_data, segment_in, segments_into, segments_of, stray_of, whole_now}
 use Rattle.cf_lane.specs.Fragments.{AddsSegment, DoesFrame, MissesFrame, MissesSegment, Parts, TakesFrame, TakesSegment, completed_by, counted, data_lines, frames_exist, parts}
@@ -69,11 +70,11 @@ if_false true x y e = cc
 if_false false x y e = refl
 
 -- the fate of a data frame that is served
-fate_of_data : (asset : Asset) (client : ℕ) (s : Side) (earlier : List Judged) (x : FrameValue) → stray_of asset s x ≡ None → is_data x ≡ true →
-    fate_of_frame asset client s earlier x (stray_of asset s x) ≡ fate_of_segment asset client s (answer_now asset s earlier x) (whole_now asset s earlier x)
-fate_of_data asset client s earlier x served data_ =
-    ap (fate_of_frame asset client s earlier x) served
-    ∙ if_true (is_data x) (fate_of_segment asset client s (answer_now asset s earlier x) (whole_now asset s earlier x)) fate.Carried data_
+fate_of_data : (asset : Asset) (says : Says) (s : Side) (earlier : List Judged) (x : FrameValue) → stray_of asset s x ≡ None → is_data x ≡ true →
+    fate_of_frame asset says s earlier x (stray_of asset s x) ≡ fate_of_segment asset says s (answer_now asset s earlier x) (whole_now asset s earlier x)
+fate_of_data asset says s earlier x served data_ =
+    ap (fate_of_frame asset says s earlier x) served
+    ∙ if_true (is_data x) (fate_of_segment asset says s (answer_now asset s earlier x) (whole_now asset s earlier x)) fate.Carried data_
 
 pub none_by : {A : Type 0} (o : Option A) → ((x : A) → o ≡ Some x → ⊥) → o ≡ None
 none_by None never = refl
@@ -92,7 +93,7 @@ stray_nothing true c xs ys e = e
 stray_nothing false true xs ys e = refl
 stray_nothing false false xs ys e = refl
 
-module _ (asset : Asset) (client : Endpoint) (moment : ℕ) (s : Side) (x : FrameValue) (because : Why) (stray : stray_of asset s x ≡ Some because) (old new : Parts)
+module _ (asset : Asset) (says : Says) (client : Endpoint) (moment : ℕ) (s : Side) (x : FrameValue) (because : Why) (stray : stray_of asset s x ≡ Some because) (old new : Parts)
     (fragments : new.fragments ≡ old.fragments) (c : new.to_client ≡ old.to_client) (k : new.to_controller ≡ old.to_controller)
     (text : new.lines ≡ with_lines old.lines (line_about asset client moment (Stray s because) ∷ [])) where
   abbrev stray_item : Judged
@@ -109,7 +110,7 @@ module _ (asset : Asset) (client : Endpoint) (moment : ℕ) (s : Side) (x : Fram
     no_segment t = rw stray (if_never (is_side t s) (user_of x.blocks ∷ []))
 
   -- a frame that is not served goes nowhere
-  pub takes_stray : TakesFrame asset client moment s x (fate.Stray because) old new
+  pub takes_stray : TakesFrame asset says client moment s x (fate.Stray because) old new
   takes_stray = record {
     uncut = refl;
     more = line_about asset client moment (Stray s because) ∷ [];
@@ -127,13 +128,14 @@ module _ (asset : Asset) (client : Endpoint) (moment : ℕ) (s : Side) (x : Fram
   }
 
 -- the same but for its line
-pub misses_stray : (asset : Asset) (client : Endpoint) (moment : ℕ) (s : Side) (x : FrameValue) (because : Why) → stray_of asset s x ≡ Some because → (old : Parts)
-    (log : Option (List (List ℕ))) (part : List ℕ) → MayHaveMore (line_about asset client moment (Stray s because) ∷ []) old.lines log part → MissesFrame asset client moment s x old log part
+pub misses_stray : (asset : Asset) (says : Says) (client : Endpoint) (moment : ℕ) (s : Side) (x : FrameValue) (because : Why) → stray_of asset s x ≡ Some because → (old : Parts)
+    (log : Option (List (List ℕ))) (part : List ℕ) → MayHaveMore (line_about asset client moment (Stray s because) ∷ []) old.lines log part → MissesFrame asset says client moment s x old log part
 unfolding takes_stray
-misses_stray asset client moment s x because stray old log part line = record {
+misses_stray asset says client moment s x because stray old log part line = record {
   fate = fate.Stray because;
+  unadmitted = refl;
   new = parts old.fragments old.to_client old.to_controller (with_lines old.lines (line_about asset client moment (Stray s because) ∷ []));
-  takes = takes_stray asset client moment s x because stray old
+  takes = takes_stray asset says client moment s x because stray old
       (parts old.fragments old.to_client old.to_controller (with_lines old.lines (line_about asset client moment (Stray s because) ∷ []))) refl refl refl refl;
   line = line;
 }
@@ -154,27 +156,27 @@ all_frames_mod asset to n [] = refl
 all_frames_mod asset to n (octets ∷ fragments) = rw (frames_mod asset to n octets, all_frames_mod asset to n fragments) refl
 
 -- no fragment cuts
-no_cut_refusal : (o : Option Refusal) → cut_by (by_refusal o) ≡ None
-no_cut_refusal None = refl
-no_cut_refusal (Some r) = refl
+no_cut_refusal : (used : List Bool) (o : Option Refusal) → cut_by (by_refusal used o) ≡ None
+no_cut_refusal used None = refl
+no_cut_refusal used (Some r) = refl
 
 cut_if : (b : Bool) (f g : Fate) → cut_by f ≡ None → cut_by g ≡ None → cut_by (if b then f else g) ≡ None
 cut_if true f g a b = a
 cut_if false f g a b = b
 
-no_cut_read : (asset : Asset) (client code : ℕ) (r : Result FragmentValue FragmentRefusal) → cut_by (fate_of_read asset client code r) ≡ None
-no_cut_read asset client code (Ok f) = cut_if (nat_eq f.code 0) fate.Carried (fate_of_acts asset client (acts f)) refl (no_cut_refusal (first_refusal asset client (acts f)))
-no_cut_read asset client code (Err e) = refl
+no_cut_read : (asset : Asset) (says : Says) (code : ℕ) (r : Result FragmentValue FragmentRefusal) → cut_by (fate_of_read asset says code r) ≡ None
+no_cut_read asset says code (Ok f) = cut_if (nat_eq f.code 0) fate.Carried (fate_of_acts asset says (acts f)) refl (no_cut_refusal (used_by (rated asset.rules) says (acts f)) (first_refusal says (acts f)))
+no_cut_read asset says code (Err e) = refl
 
-no_cut_fragment : (asset : Asset) (client : ℕ) (s : Side) (octets : List ℕ) → cut_by (fate_of_fragment asset client s octets) ≡ None
-no_cut_fragment asset client side.Client octets = no_cut_read asset client (slice_index octets 1) (read_octets octets)
-no_cut_fragment asset client side.Controller octets = refl
+no_cut_fragment : (asset : Asset) (says : Says) (s : Side) (octets : List ℕ) → cut_by (fate_of_fragment asset says s octets) ≡ None
+no_cut_fragment asset says side.Client octets = no_cut_read asset says (slice_index octets 1) (read_octets octets)
+no_cut_fragment asset says side.Controller octets = refl
 
-no_cut : (asset : Asset) (client : ℕ) (s : Side) (answer : SegmentAnswer) (whole : List (List ℕ)) → cut_by (fate_of_segment asset client s answer whole) ≡ None
-no_cut asset client s answers.More whole = refl
-no_cut asset client s (answers.Dropped because) whole = refl
-no_cut asset client s answers.Whole [] = refl
-no_cut asset client s answers.Whole (octets ∷ none) = cut_if (nat_lt (length octets) 2) (fate.Stray why.Short) (fate_of_fragment asset client s octets) refl (no_cut_fragment asset client s octets)
+no_cut : (asset : Asset) (says : Says) (s : Side) (answer : SegmentAnswer) (whole : List (List ℕ)) → cut_by (fate_of_segment asset says s answer whole) ≡ None
+no_cut asset says s answers.More whole = refl
+no_cut asset says s (answers.Dropped because) whole = refl
+no_cut asset says s answers.Whole [] = refl
+no_cut asset says s answers.Whole (octets ∷ none) = cut_if (nat_lt (length octets) 2) (fate.Stray why.Short) (fate_of_fragment asset says s octets) refl (no_cut_fragment asset says s octets)
 
 -- the fragment that is whole
 completed_is : (answer : SegmentAnswer) (v : AssemblyValue) (o : Option (List ℕ)) → (answer ≡ answers.Whole → o ≡ Some v.octets) → completed_by answer v ≡ completed answer o
@@ -188,9 +190,9 @@ own_segment asset s x served data_ = rw (same_side s, served, data_) refl
 other_segment : (asset : Asset) (s : Side) (x : FrameValue) → segment_in asset (other s) (Took s (Frame x)) ≡ []
 other_segment asset s x = rw (other_side s) refl
 
-module _ (asset : Asset) (client : Endpoint) (moment : ℕ) (s : Side) (x : FrameValue) (served : stray_of asset s x ≡ None) (data_ : is_data x ≡ true)
+module _ (asset : Asset) (says : Says) (client : Endpoint) (moment : ℕ) (s : Side) (x : FrameValue) (served : stray_of asset s x ≡ None) (data_ : is_data x ≡ true)
     (answer : SegmentAnswer) (f : Fate) (was : Fragments) (old new : Parts) (adds : AddsSegment s (user_of x.blocks) answer was old.fragments)
-    (takes : TakesSegment asset client moment s answer (completed_by answer (of_side s old.fragments)) f old new) where
+    (takes : TakesSegment asset says client moment s answer (completed_by answer (of_side s old.fragments)) f old new) where
   abbrev user : List ℕ
   user = user_of x.blocks
 
@@ -271,11 +273,11 @@ module _ (asset : Asset) (client : Endpoint) (moment : ℕ) (s : Side) (x : Fram
           to_controller = next_is side.Controller old.fragments.to_controller new.fragments.to_controller controller_sequence takes.to_controller.next_is;
         }
 
-    does_data : DoesFrame asset client earlier j s x (parts was old.to_client old.to_controller old.lines) new
+    does_data : DoesFrame asset says client earlier j s x (parts was old.to_client old.to_controller old.lines) new
     does_data = record {
       fragments = known;
-      fate = takes.fate ∙ ap (λ a. fate_of_segment asset client.address s a whole) answer_is ∙ ap (fate_of_segment asset client.address s (answer_now asset s earlier x)) whole_is
-          ∙ sym (fate_of_data asset client.address s earlier x served data_);
+      fate = takes.fate ∙ ap (λ a. fate_of_segment asset says s a whole) answer_is ∙ ap (fate_of_segment asset says s (answer_now asset s earlier x)) whole_is
+          ∙ sym (fate_of_data asset says s earlier x served data_);
       of_client = takes.to_client.put ∙ ap (after_push old.to_client) (output_is side.Client old.fragments.to_client client_sequence);
       of_controller = takes.to_controller.put ∙ ap (after_push old.to_controller) (output_is side.Controller old.fragments.to_controller controller_sequence);
       client_quiet = λ e. sym (output_is side.Client old.fragments.to_client client_sequence)
@@ -291,34 +293,35 @@ module _ (asset : Asset) (client : Endpoint) (moment : ℕ) (s : Side) (x : Fram
         ∙ ap (λ w. unit_lines asset client moment (frames_exist asset side.Client old.fragments.to_client (frame_fragment side.Client old.to_client.ended s f whole)) s (flat_map (λ octets. octets) w) f) (sym whole_is)
 
 -- a data frame that is served
-pub takes_data : (asset : Asset) (client : Endpoint) (moment : ℕ) (s : Side) (x : FrameValue) → stray_of asset s x ≡ None → is_data x ≡ true →
+pub takes_data : (asset : Asset) (says : Says) (client : Endpoint) (moment : ℕ) (s : Side) (x : FrameValue) → stray_of asset s x ≡ None → is_data x ≡ true →
     (answer : SegmentAnswer) (f : Fate) (was : Fragments) (old new : Parts) → AddsSegment s (user_of x.blocks) answer was old.fragments →
-    TakesSegment asset client moment s answer (completed_by answer (of_side s old.fragments)) f old new →
-    TakesFrame asset client moment s x f (parts was old.to_client old.to_controller old.lines) new
-takes_data asset client moment s x served data_ answer f was old new adds takes =
+    TakesSegment asset says client moment s answer (completed_by answer (of_side s old.fragments)) f old new →
+    TakesFrame asset says client moment s x f (parts was old.to_client old.to_controller old.lines) new
+takes_data asset says client moment s x served data_ answer f was old new adds takes =
     let whole = completed_by answer (of_side s old.fragments) in
     record {
-      uncut = ap cut_by takes.fate ∙ no_cut asset client.address s answer whole;
+      uncut = ap cut_by takes.fate ∙ no_cut asset says s answer whole;
       more = data_lines asset client moment s f whole old.fragments.to_client old.to_client;
       lines = takes.lines;
-      does = does_data asset client moment s x served data_ answer f was old new adds takes;
-      are_more = lines_are asset client moment s x served data_ answer f was old new adds takes;
+      does = does_data asset says client moment s x served data_ answer f was old new adds takes;
+      are_more = lines_are asset says client moment s x served data_ answer f was old new adds takes;
     }
 
-pub misses_data : (asset : Asset) (client : Endpoint) (moment : ℕ) (s : Side) (x : FrameValue) → stray_of asset s x ≡ None → is_data x ≡ true →
+pub misses_data : (asset : Asset) (says : Says) (client : Endpoint) (moment : ℕ) (s : Side) (x : FrameValue) → stray_of asset s x ≡ None → is_data x ≡ true →
     (answer : SegmentAnswer) (was : Fragments) (old : Parts) (log : Option (List (List ℕ))) (part : List ℕ) → AddsSegment s (user_of x.blocks) answer was old.fragments →
-    MissesSegment asset client moment s answer (completed_by answer (of_side s old.fragments)) old log part →
-    MissesFrame asset client moment s x (parts was old.to_client old.to_controller old.lines) log part
+    MissesSegment asset says client moment s answer (completed_by answer (of_side s old.fragments)) old log part →
+    MissesFrame asset says client moment s x (parts was old.to_client old.to_controller old.lines) log part
 unfolding takes_data
-misses_data asset client moment s x served data_ answer was old log part adds m = record {
+misses_data asset says client moment s x served data_ answer was old log part adds m = record {
   fate = m.fate;
+  unadmitted = m.unadmitted;
   new = m.new;
-  takes = takes_data asset client moment s x served data_ answer m.fate was old m.new adds m.takes;
+  takes = takes_data asset says client moment s x served data_ answer m.fate was old m.new adds m.takes;
   line = m.line;
 }
 
 -- a link status frame goes on as it is
-module _ (asset : Asset) (client : Endpoint) (moment : ℕ) (s : Side) (x : FrameValue) (served : stray_of asset s x ≡ None) (other_ : is_data x ≡ false) (old new : Parts)
+module _ (asset : Asset) (says : Says) (client : Endpoint) (moment : ℕ) (s : Side) (x : FrameValue) (served : stray_of asset s x ≡ None) (other_ : is_data x ≡ false) (old new : Parts)
     (goes : IsOpen s old.to_client old.to_controller) (fragments : new.fragments ≡ old.fragments)
     (c : new.to_client ≡ after_push old.to_client (if is_side side.Client s then [] else frame_spelling x))
     (k : new.to_controller ≡ after_push old.to_controller (if is_side side.Controller s then [] else frame_spelling x))
@@ -344,7 +347,7 @@ module _ (asset : Asset) (client : Endpoint) (moment : ℕ) (s : Side) (x : Fram
   controller_closed side.Client o e = cc (o, e)
   controller_closed side.Controller o e = refl
 
-  pub takes_status : TakesFrame asset client moment s x fate.Carried old new
+  pub takes_status : TakesFrame asset says client moment s x fate.Carried old new
   takes_status = record {
     uncut = refl;
     more = [];

@@ -1,4 +1,6 @@
 -- What becomes of a segment, and of the fragment that it completes.
+use Rattle.cf_lane.specs.Judged.{is_admitted}
+use Rattle.cf_lane.specs.Rates.{Says}
 use Rattle.cf_audit.specs.Line.{Stray}
 use Rattle.cf_audit.specs.declared.line.Why.{Why}
 use Rattle.cf_dnptrans.specs.AssemblyValue.{AssemblyValue}
@@ -66,11 +68,11 @@ more_fragment side.Client side.Controller b octets = refl
 more_fragment side.Controller side.Client b octets = refl
 more_fragment side.Controller side.Controller b octets = refl
 
-module _ (asset : Asset) (client : Endpoint) (moment : ℕ) (s : Side) (answer : SegmentAnswer) (whole : List (List ℕ)) (f : Fate) (old : Parts)
-    (is : f ≡ fate_of_segment asset client.address s answer whole) (none : (to : Side) → frame_fragment to old.to_client.ended s f whole ≡ [])
+module _ (asset : Asset) (says : Says) (client : Endpoint) (moment : ℕ) (s : Side) (answer : SegmentAnswer) (whole : List (List ℕ)) (f : Fate) (old : Parts)
+    (is : f ≡ fate_of_segment asset says s answer whole) (none : (to : Side) → frame_fragment to old.to_client.ended s f whole ≡ [])
     (to_client : old.fragments.to_client < 64) (to_controller : old.fragments.to_controller < 64) where
   pub takes_quietly : (new : Option (List (List ℕ))) → new ≡ with_lines old.lines (data_lines asset client moment s f whole old.fragments.to_client old.to_client) →
-      TakesSegment asset client moment s answer whole f old (parts old.fragments old.to_client old.to_controller new)
+      TakesSegment asset says client moment s answer whole f old (parts old.fragments old.to_client old.to_controller new)
   takes_quietly new text = record {
     fate = is;
     client_part = refl;
@@ -80,18 +82,18 @@ module _ (asset : Asset) (client : Endpoint) (moment : ℕ) (s : Side) (answer :
     lines = text;
   }
 
-  pub misses_quietly : (log : Option (List (List ℕ))) (part : List ℕ) → MayHaveMore (data_lines asset client moment s f whole old.fragments.to_client old.to_client) old.lines log part →
-      MissesSegment asset client moment s answer whole old log part
-  misses_quietly log part line = record { fate = f; new = _; takes = takes_quietly _ refl; line = line }
+  pub misses_quietly : is_admitted f ≡ false → (log : Option (List (List ℕ))) (part : List ℕ) → MayHaveMore (data_lines asset client moment s f whole old.fragments.to_client old.to_client) old.lines log part →
+      MissesSegment asset says client moment s answer whole old log part
+  misses_quietly unadmitted log part line = record { fate = f; unadmitted = unadmitted; new = _; takes = takes_quietly _ refl; line = line }
 
 -- the fate of a fragment by its length
-pub fate_short : (asset : Asset) (client : ℕ) (s : Side) (octets : List ℕ) → length octets < 2 → fate.Stray why.Short ≡ fate_of_segment asset client s answers.Whole (octets ∷ [])
-fate_short asset client s octets h = elim (cases_Bool (nat_lt (length octets) 2)) [ inl v ↦ rw v refl | inr v ↦ absurd (lt_true (length octets) h v) ] where
+pub fate_short : (asset : Asset) (says : Says) (s : Side) (octets : List ℕ) → length octets < 2 → fate.Stray why.Short ≡ fate_of_segment asset says s answers.Whole (octets ∷ [])
+fate_short asset says s octets h = elim (cases_Bool (nat_lt (length octets) 2)) [ inl v ↦ rw v refl | inr v ↦ absurd (lt_true (length octets) h v) ] where
   lt_true : (n : ℕ) → n < 2 → nat_lt n 2 ≡ false → ⊥
   lt_true n h e = grind (arith, nat_tests)
 
-pub fate_long : (asset : Asset) (client : ℕ) (s : Side) (octets : List ℕ) → 2 ≤ length octets → fate_of_fragment asset client s octets ≡ fate_of_segment asset client s answers.Whole (octets ∷ [])
-fate_long asset client s octets h = elim (cases_Bool (nat_lt (length octets) 2)) [ inl v ↦ absurd (lt_false (length octets) h v) | inr v ↦ rw v refl ] where
+pub fate_long : (asset : Asset) (says : Says) (s : Side) (octets : List ℕ) → 2 ≤ length octets → fate_of_fragment asset says s octets ≡ fate_of_segment asset says s answers.Whole (octets ∷ [])
+fate_long asset says s octets h = elim (cases_Bool (nat_lt (length octets) 2)) [ inl v ↦ absurd (lt_false (length octets) h v) | inr v ↦ rw v refl ] where
   lt_false : (n : ℕ) → 2 ≤ n → nat_lt n 2 ≡ true → ⊥
   lt_false n h e = grind (arith, nat_tests)
 
@@ -112,8 +114,8 @@ reply_exists asset sequence octets reason h =
     ap is_some_bytes (append-nil (frames_at asset side.Client sequence (reply octets reason)))
     ∙ frames_some asset side.Client (reply octets reason) sequence (omega (arith, (reply_sizes octets reason h).0))
 
-module _ (asset : Asset) (client : Endpoint) (moment : ℕ) (octets : List ℕ) (r : Refusal) (old : Parts) (sequence : ℕ) (queue : Queue)
-    (is : fate.Refused r ≡ fate_of_segment asset client.address side.Client answers.Whole (octets ∷ []))
+module _ (asset : Asset) (says : Says) (client : Endpoint) (moment : ℕ) (octets : List ℕ) (r : Refusal) (old : Parts) (sequence : ℕ) (queue : Queue)
+    (is : fate.Refused r ≡ fate_of_segment asset says side.Client answers.Whole (octets ∷ []))
     (sends : Sends asset side.Client (fragment_reply old.to_client.ended (fate.Refused r) (octets ∷ [])) old.fragments.to_client old.to_client sequence queue)
     (to_controller : old.fragments.to_controller < 64) where
   abbrev after_reply : Fragments
@@ -122,9 +124,10 @@ module _ (asset : Asset) (client : Endpoint) (moment : ℕ) (octets : List ℕ) 
   pub misses_reply : (replied : Bool) (log : Option (List (List ℕ))) (part : List ℕ) →
       replied ≡ frames_exist asset side.Client old.fragments.to_client (fragment_reply old.to_client.ended (fate.Refused r) (octets ∷ [])) →
       MayHaveMore (line_about asset client moment (refusal_line asset r replied octets) ∷ []) old.lines log part →
-      MissesSegment asset client moment side.Client answers.Whole (octets ∷ []) old log part
-  misses_reply replied log part says line = record {
+      MissesSegment asset says client moment side.Client answers.Whole (octets ∷ []) old log part
+  misses_reply replied log part told line = record {
     fate = fate.Refused r;
+    unadmitted = refl;
     new = parts after_reply queue old.to_controller
         (with_lines old.lines (data_lines asset client moment side.Client (fate.Refused r) (octets ∷ []) old.fragments.to_client old.to_client));
     takes = record {
@@ -136,23 +139,23 @@ module _ (asset : Asset) (client : Endpoint) (moment : ℕ) (octets : List ℕ) 
       lines = refl;
     };
     line = subst (λ m. MayHaveMore m old.lines log part)
-        (ap (λ b. line_about asset client moment (refusal_line asset r b octets) ∷ []) says
+        (ap (λ b. line_about asset client moment (refusal_line asset r b octets) ∷ []) told
         ∙ ap (λ xs. line_about asset client moment (refusal_line asset r (frames_exist asset side.Client old.fragments.to_client (fragment_reply old.to_client.ended (fate.Refused r) (octets ∷ []))) xs) ∷ []) (sym (append-nil octets)))
         line;
   }
 
 -- a segment that is dropped, but for its line
-pub misses_dropped : (asset : Asset) (client : Endpoint) (moment : ℕ) (s : Side) (answer : SegmentAnswer) (because : DropReason) (v : AssemblyValue) (old : Parts) →
-    old.fragments.to_client < 64 → old.fragments.to_controller < 64 → answer ≡ answers.Dropped because → (log : Option (List (List ℕ))) (part : List ℕ) (says : Why) → says ≡ drop_why because →
-    MayHaveMore (line_about asset client moment (Stray s says) ∷ []) old.lines log part → MissesSegment asset client moment s answer (completed_by answer v) old log part
-misses_dropped asset client moment s answer because v old m n is log part says why_is line =
-    subst (λ a. MissesSegment asset client moment s a (completed_by a v) old log part) (sym is)
-    (misses_quietly asset client moment s (answers.Dropped because) [] (fate.Stray (drop_why because)) old refl (λ to. stray_fragment to s old.to_client.ended (drop_why because) []) m n log part
+pub misses_dropped : (asset : Asset) (says : Says) (client : Endpoint) (moment : ℕ) (s : Side) (answer : SegmentAnswer) (because : DropReason) (v : AssemblyValue) (old : Parts) →
+    old.fragments.to_client < 64 → old.fragments.to_controller < 64 → answer ≡ answers.Dropped because → (log : Option (List (List ℕ))) (part : List ℕ) (told : Why) → told ≡ drop_why because →
+    MayHaveMore (line_about asset client moment (Stray s told) ∷ []) old.lines log part → MissesSegment asset says client moment s answer (completed_by answer v) old log part
+misses_dropped asset says client moment s answer because v old m n is log part told why_is line =
+    subst (λ a. MissesSegment asset says client moment s a (completed_by a v) old log part) (sym is)
+    (misses_quietly asset says client moment s (answers.Dropped because) [] (fate.Stray (drop_why because)) old refl (λ to. stray_fragment to s old.to_client.ended (drop_why because) []) m n refl log part
     (subst (λ w. MayHaveMore (line_about asset client moment (Stray s w) ∷ []) old.lines log part) why_is line))
 
 -- what was said of the controller's fragment, of the side that it is
-pub takes_of_controller : (asset : Asset) (client : Endpoint) (moment : ℕ) (s : Side) (answer : SegmentAnswer) (f : Fate) (was : Fragments) (old new : Parts) → s ≡ side.Controller → answer ≡ answers.Whole →
-    TakesSegment asset client moment side.Controller answers.Whole (was.controller.octets ∷ []) f old new → TakesSegment asset client moment s answer (completed_by answer (of_side s was)) f old new
-takes_of_controller asset client moment s answer f was old new is whole t =
-    subst (λ s. TakesSegment asset client moment s answer (completed_by answer (of_side s was)) f old new) (sym is)
-    (subst (λ a. TakesSegment asset client moment side.Controller a (completed_by a was.controller) f old new) (sym whole) t)
+pub takes_of_controller : (asset : Asset) (says : Says) (client : Endpoint) (moment : ℕ) (s : Side) (answer : SegmentAnswer) (f : Fate) (was : Fragments) (old new : Parts) → s ≡ side.Controller → answer ≡ answers.Whole →
+    TakesSegment asset says client moment side.Controller answers.Whole (was.controller.octets ∷ []) f old new → TakesSegment asset says client moment s answer (completed_by answer (of_side s was)) f old new
+takes_of_controller asset says client moment s answer f was old new is whole t =
+    subst (λ s. TakesSegment asset says client moment s answer (completed_by answer (of_side s was)) f old new) (sym is)
+    (subst (λ a. TakesSegment asset says client moment side.Controller a (completed_by a was.controller) f old new) (sym whole) t)

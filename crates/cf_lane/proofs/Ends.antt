@@ -1,4 +1,6 @@
 -- The law of an End.
+use Rattle.cf_lane.proofs.Saying.{still_known}
+use Rattle.cf_lane.specs.Rings.{KnowsRules}
 use Rattle.cf_lane.proofs.Earlier.{cut_of-append, in_turn-append, wire_stays}
 use Rattle.cf_lane.proofs.Handling.{count-more, fates-append, with_lines-both, with_lines-nothing}
 use Rattle.cf_lane.proofs.Histories.{bytes_of-append, goes_more, items_more, no_bytes, nothing_dropped, rest_by, same_stream, stands_end}
@@ -141,6 +143,7 @@ module _ (asset : Asset) (unfinished : Bool) (h : List Element) (rests : Rests) 
     refused = ap (λ l. l.refused) lane ∙ f.knows.refused ∙ sym (count-more (λ i. is_refused i.fate) f.judged j ∙ omega arith);
     client_ended = c;
     controller_ended = k;
+    rules = subst (λ r. KnowsRules r (f.judged ++ j ∷ [])) (sym (ap (λ l. l.rules) lane)) (still_known old.lane.rules f.judged j refl f.knows.rules);
     wire = λ e. subst (λ w. KnowsWire asset w (f.judged ++ j ∷ [])) (sym (ap (λ l. l.wire) lane))
         (wire_stays asset f.judged j (λ t. refl) (λ t. refl) (end_event s (length (rest_of s rests)) f.judged) old.lane.wire (f.knows.wire f.is_cut));
   }

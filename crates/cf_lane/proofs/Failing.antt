@@ -1,4 +1,5 @@
 -- What stands after a line failed.
+use Rattle.cf_lane.specs.Rings.{IsRulesOf, says_by}
 use Rattle.cf_lane.proofs.Taking.{takes_client, takes_refused}
 use Rattle.cf_lane.specs.Handled.{LaneValue, MayHaveMore, Misses, MissesCommand, State, state}
 use Rattle.cf_lane.specs.Log.{is_some_bytes, line_about, refusal_line, with_lines}
@@ -22,15 +23,16 @@ on_err (Err e) P p = p
 
 -- a command whose line failed
 pub misses_refused : (asset : Asset) (moment : ℕ) (a : AduValue) (r : Refusal) (old : State) (lane : LaneValue) (client controller : Queue) (log : Option (List (List ℕ))) (part : List ℕ) →
-    lane.client ≡ old.lane.client → lane.wire ≡ old.lane.wire → HasCommandFate asset old.lane.client.address a (fate.Refused r) →
+    lane.client ≡ old.lane.client → lane.wire ≡ old.lane.wire → IsRulesOf asset old.lane.client.address old.lane.rules →
+    HasCommandFate asset (says_by asset old.lane.client.address old.lane.rules moment) a (fate.Refused r) → lane.rules ≡ old.lane.rules →
     lane.admitted ≡ old.lane.admitted → lane.refused ≡ old.lane.refused + 1 →
     client ≡ after_push old.to_client (adu_reply old.to_client.ended (fate.Refused r) a) → controller ≡ old.to_controller →
     (line : List ℕ) → line ≡ line_about asset old.lane.client moment (refusal_line asset r (is_some_bytes (adu_reply old.to_client.ended (fate.Refused r) a)) (spelling a)) →
     MayHaveMore (line ∷ []) old.lines log part → MissesCommand asset moment a old log part
-misses_refused asset moment a r old lane client controller log part same wire has admitted refused c k line is either =
+misses_refused asset moment a r old lane client controller log part same wire of has rules admitted refused c k line is either =
     let new : State = state lane client controller (with_lines old.lines (line ∷ [])) in record {
       new = new;
-      takes = takes_refused asset moment a old new same wire r has admitted refused c k (ap (λ l. with_lines old.lines (l ∷ [])) is);
+      takes = takes_refused asset moment a old new same wire of r has rules admitted refused c k (ap (λ l. with_lines old.lines (l ∷ [])) is);
       more = line ∷ [];
       are_more = λ earlier uncut knows.
           ap (λ b. line_about asset old.lane.client moment (refusal_line asset r (is_some_bytes (adu_reply b (fate.Refused r) a)) (spelling a)) ∷ []) (sym knows.client_ended)

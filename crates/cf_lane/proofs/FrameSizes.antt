@@ -1,4 +1,5 @@
 -- What a DNP3 frame puts out, and what fragments that were begun may still put out.
+use Rattle.cf_lane.specs.Rates.{Says}
 use Rattle.cf_audit.specs.declared.line.Why.{Why}
 use Rattle.cf_dnplink.specs.LinkFrame.{FrameValue}
 use Rattle.cf_dnplink.specs.UserOctets.{user_of}
@@ -57,7 +58,7 @@ few_reply : (ended : Bool) (f : Fate) (xs : List ℕ) → 2 ≤ length xs → Is
 few_reply true f xs l = inl refl
 few_reply false (fate.Refused r) xs l = few_reply_if (wants_reply (slice_index xs 1)) (reply xs r.reason) (length xs + 2) (reply_sizes xs r.reason l).1
 few_reply false fate.Carried xs l = inl refl
-few_reply false fate.Admitted xs l = inl refl
+few_reply false (fate.Admitted used) xs l = inl refl
 few_reply false (fate.Stray w) xs l = inl refl
 few_reply false fate.Lengthens xs l = inl refl
 few_reply false (fate.Cuts w) xs l = inl refl
@@ -68,10 +69,10 @@ few_fragment side.Client side.Controller ended f xs l = few_if (goes_on f) xs (l
 few_fragment side.Controller side.Client ended f xs l = few_if (goes_on f) xs (length xs + 2) (omega arith)
 few_fragment side.Controller side.Controller ended f xs l = inl refl
 
-few_whole : (asset : Asset) (client : ℕ) (to s : Side) (ended : Bool) (xs : List ℕ) (b : Bool) → nat_lt (length xs) 2 ≡ b →
-    IsFew (length xs + 2) (frame_fragment to ended s (if b then fate.Stray why.Short else fate_of_fragment asset client s xs) (xs ∷ []))
-few_whole asset client to s ended xs true e = inl (stray_fragment to s ended why.Short (xs ∷ []))
-few_whole asset client to s ended xs false e = few_fragment to s ended (fate_of_fragment asset client s xs) xs (ltb-false (length xs) 2 e)
+few_whole : (asset : Asset) (says : Says) (to s : Side) (ended : Bool) (xs : List ℕ) (b : Bool) → nat_lt (length xs) 2 ≡ b →
+    IsFew (length xs + 2) (frame_fragment to ended s (if b then fate.Stray why.Short else fate_of_fragment asset says s xs) (xs ∷ []))
+few_whole asset says to s ended xs true e = inl (stray_fragment to s ended why.Short (xs ∷ []))
+few_whole asset says to s ended xs false e = few_fragment to s ended (fate_of_fragment asset says s xs) xs (ltb-false (length xs) 2 e)
 
 frames_size : (asset : Asset) (to : Side) (start most : ℕ) (ys : List (List ℕ)) → IsFew most ys → length (flat_map (frames_at asset to start) ys) ≤ recut_most most
 frames_size asset to start most ys (inl none) = omega (arith, ap (λ zs. length (flat_map (frames_at asset to start) zs)) none)
@@ -91,10 +92,10 @@ if_lengths true xs ys n a b = a
 if_lengths false xs ys n a b = b
 
 -- a segment after earlier ones of its side
-module _ (asset : Asset) (client : ℕ) (to s : Side) (ended : Bool) (start : ℕ) (es : List (List ℕ)) (u : List ℕ) where
+module _ (asset : Asset) (says : Says) (to s : Side) (ended : Bool) (start : ℕ) (es : List (List ℕ)) (u : List ℕ) where
   abbrev put : SegmentAnswer → Option (List ℕ) → List ℕ
   put answer last =
-      flat_map (frames_at asset to start) (frame_fragment to ended s (fate_of_segment asset client s answer (completed answer last)) (completed answer last))
+      flat_map (frames_at asset to start) (frame_fragment to ended s (fate_of_segment asset says s answer (completed answer last)) (completed answer last))
 
   open_step : size (unfinished (u ∷ es)) ≤ size (unfinished es) + (length u - 1)
   open_step = omega (arith, leaves_size (unfinished es) (last_sequence es) u, ap size (unfinished_next u es))
@@ -109,7 +110,7 @@ module _ (asset : Asset) (client : ℕ) (to s : Side) (ended : Bool) (start : �
   whole_fits xs is last =
       let final = final_answer (unfinished es) (last_sequence es) u is in
       let gone = ap size (unfinished_next u es ∙ final_leaves (unfinished es) (last_sequence es) u final.0 final.1) in
-      let few = few_whole asset client to s ended xs (nat_lt (length xs) 2) refl in
+      let few = few_whole asset says to s ended xs (nat_lt (length xs) 2) refl in
       omega (arith, gone, whole_size es u xs final.1 last, frames_size asset to start (length xs + 2) _ few, final.1)
 
   segment_fits : (answer : SegmentAnswer) (last : Option (List ℕ)) → answer_to es u ≡ answer → last_fragment (u ∷ es) ≡ last → Fits answer last
@@ -119,7 +120,7 @@ module _ (asset : Asset) (client : ℕ) (to s : Side) (ended : Bool) (start : �
   segment_fits answers.Whole None is e = quiet_fits answers.Whole None (ap (flat_map (frames_at asset to start)) (more_fragment to s ended []))
   segment_fits answers.Whole (Some xs) is e = whole_fits xs is e
 
-module _ (asset : Asset) (client : ℕ) (to : Side) (earlier : List Judged) (j : Judged) (s : Side) (x : FrameValue) (item : j.item ≡ Took s (Frame x)) where
+module _ (asset : Asset) (says : Says) (to : Side) (earlier : List Judged) (j : Judged) (s : Side) (x : FrameValue) (item : j.item ≡ Took s (Frame x)) where
   abbrev user : List ℕ
   user = user_of x.blocks
 
@@ -155,9 +156,9 @@ module _ (asset : Asset) (client : ℕ) (to : Side) (earlier : List Judged) (j :
 
   abbrev fate_by : Bool → Option Why → Fate
   fate_by d (Some because) = fate.Stray because
-  fate_by d None = if d then fate_of_segment asset client s (answer_now asset s earlier x) whole else fate.Carried
+  fate_by d None = if d then fate_of_segment asset says s (answer_now asset s earlier x) whole else fate.Carried
 
-  fate_is : (o : Option Why) → fate_of_frame asset client s earlier x o ≡ fate_by (is_data x) o
+  fate_is : (o : Option Why) → fate_of_frame asset says s earlier x o ≡ fate_by (is_data x) o
   fate_is None = refl
   fate_is (Some because) = refl
 
@@ -185,13 +186,13 @@ module _ (asset : Asset) (client : ℕ) (to : Side) (earlier : List Judged) (j :
       let same = no_segment true false refl in
       omega (arith, if_lengths (is_side to s) [] (frame_spelling x) (length (frame_spelling x)) (omega arith) (omega arith), ap owed (same side.Client), ap owed (same side.Controller))
 
-  data_grows : Grows true true (fate_of_segment asset client s (answer_now asset s earlier x) whole)
+  data_grows : Grows true true (fate_of_segment asset says s (answer_now asset s earlier x) whole)
   data_grows =
       let own : segments_by true true s ≡ user ∷ segments_of asset s earlier = rw (same_side s) refl in
       let others : segments_by true true (other s) ≡ segments_of asset (other s) earlier = rw (other_side s) refl in
       omega (
         arith,
-        segment_fits asset client to s ended start (segments_of asset s earlier) user (answer_now asset s earlier x) (last_fragment (user ∷ segments_of asset s earlier)) refl refl,
+        segment_fits asset says to s ended start (segments_of asset s earlier) user (answer_now asset s earlier x) (last_fragment (user ∷ segments_of asset s earlier)) refl refl,
         ap owed own,
         ap owed others,
         sum_sides s (λ t. owed (segments_by true true t)),
@@ -205,7 +206,7 @@ module _ (asset : Asset) (client : ℕ) (to : Side) (earlier : List Judged) (j :
   by_cases None false = status_grows
 
   -- what a frame puts out was owed, or is paid by its own octets
-  pub frame_grows : j.fate ≡ fate_of_frame asset client s earlier x (stray_of asset s x) →
+  pub frame_grows : j.fate ≡ fate_of_frame asset says s earlier x (stray_of asset s x) →
       length (frame_output asset to earlier j s x) + potential asset (earlier ++ j ∷ []) ≤ potential asset earlier + 2 * length (frame_spelling x)
   frame_grows f =
       let o = stray_of asset s x in

@@ -1,4 +1,5 @@
 -- Each history of octets has judged items: a history goes on with any octets.
+use Rattle.cf_lane.specs.Rates.{Says, says_at}
 use Rattle.cf_apci.proofs.Fronts.{apdu_octets}
 use Rattle.cf_audit.specs.declared.line.CutReason.{CutReason}
 use Rattle.cf_dnplink.proofs.Frames.{to_places}
@@ -9,7 +10,7 @@ use Rattle.cf_lane.proofs.Sides.{own_bytes}
 use Rattle.cf_lane.proofs.Units.{nothing_unit, units_of_octets}
 use Rattle.cf_lane.specs.Acts.{fate_of_acts}
 use Rattle.cf_lane.specs.Dnp3.{fate_of_frame, stray_of}
-use Rattle.cf_lane.specs.Fate.{HasItemFate, HasUnitFate, HaveFates}
+use Rattle.cf_lane.specs.Fate.{HasFate, HasItemFate, HasUnitFate, HaveFates}
 use Rattle.cf_lane.specs.Follows.{AreJudged, GoesOn, GoesOnAfter}
 use Rattle.cf_lane.specs.History.{Element, bytes_in, bytes_of, is_side}
 use Rattle.cf_lane.specs.Iec104.{fate_of_apdu}
@@ -116,7 +117,7 @@ now_all : (p : Protocol) (m : ℕ) (s : Side) (ended : Bool) (us : List UnitValu
 now_all p m s ended [] t a = last_all p m s ended t
 now_all p m s ended (u ∷ us) t a = (a.0, now_all p m s ended us t a.1)
 
-module _ (each : EachPduHasAnAnswer) (asset : Asset) (client : ℕ) where
+module _ (each : EachPduHasAnAnswer) (asset : Asset) (says : Says) where
   same_or_not : (m n : ℕ) → (m ≡ n) ⊎ (m ≡ n → ⊥)
   same_or_not m n =
       elim (cases_lt m n) [
@@ -124,31 +125,32 @@ module _ (each : EachPduHasAnAnswer) (asset : Asset) (client : ℕ) where
         | inr least ↦ elim (cases_lt n m) [ inl above ↦ inr (λ e. omega (arith, above, e)) | inr most ↦ inl (omega (arith, least, most)) ]
       ]
 
-  read_fate : (a : AduValue) → a.unit ≡ asset.station → (answer : Result RequestValue RequestRefusal) → Reads answer a.pdu → (f : Fate) × HasCommandFate asset client a f
-  read_fate a own (Ok r) reads = (fate_of_acts asset client (acts r), of_its_acts own r reads refl)
+  read_fate : (a : AduValue) → a.unit ≡ asset.station → (answer : Result RequestValue RequestRefusal) → Reads answer a.pdu → (f : Fate) × HasCommandFate asset says a f
+  read_fate a own (Ok r) reads = (fate_of_acts asset says (acts r), of_its_acts own r reads refl)
   read_fate a own (Err refusal) reads = (fate.Refused (form_refusal a refusal), of_no_form own refusal reads refl)
 
-  command_fate : (a : AduValue) → IsOctets a.pdu → (f : Fate) × HasCommandFate asset client a f
+  command_fate : (a : AduValue) → IsOctets a.pdu → (f : Fate) × HasCommandFate asset says a f
   command_fate a o =
       elim (same_or_not a.unit asset.station) [
         | inl own ↦ (let r = each a.pdu o in read_fate a own r.0 r.1)
         | inr other ↦ (fate.Refused (station_refusal a), of_other_station other refl)
       ]
 
-  adu_fate : (s : Side) (a : AduValue) → IsOctets a.pdu → (f : Fate) × HasAduFate asset client s a f
+  adu_fate : (s : Side) (a : AduValue) → IsOctets a.pdu → (f : Fate) × HasAduFate asset says s a f
   adu_fate side.Client a o = command_fate a o
   adu_fate side.Controller a o = (fate.Carried, refl)
 
-  unit_fate : (earlier : List Judged) (s : Side) (u : UnitValue) → IsSpelled asset.protocol u → (f : Fate) × HasUnitFate asset client earlier s u f
+  unit_fate : (earlier : List Judged) (s : Side) (u : UnitValue) → IsSpelled asset.protocol u → (f : Fate) × HasUnitFate asset says earlier s u f
   unit_fate earlier s (Adu a) is = adu_fate s a (pdu_octets asset.protocol a is.0 is.1)
-  unit_fate earlier s (Frame x) is = (fate_of_frame asset client s earlier x (stray_of asset s x), refl)
-  unit_fate earlier s (Apdu x) is = (fate_of_apdu asset client s earlier x, refl)
+  unit_fate earlier s (Frame x) is = (fate_of_frame asset says s earlier x (stray_of asset s x), refl)
+  unit_fate earlier s (Apdu x) is = (fate_of_apdu asset says s earlier x, refl)
 
-  item_fate : (earlier : List Judged) (i : Item) → IsItem asset.protocol i → (f : Fate) × HasItemFate asset client earlier i f
+  item_fate : (earlier : List Judged) (i : Item) → IsItem asset.protocol i → (f : Fate) × HasItemFate asset says earlier i f
   item_fate earlier (Took s u) is = unit_fate earlier s u is
   item_fate earlier (Ended s rest) is = (fate.Carried, refl)
   item_fate earlier (Broke s because) is = (_, refl)
 
+module _ (each : EachPduHasAnAnswer) (asset : Asset) (client : ℕ) where
   -- items judged up to the first that cuts
   record JudgesAll (earlier : List Judged) (places : List Placed) : Type 0 where
     js : List Judged
@@ -161,7 +163,7 @@ module _ (each : EachPduHasAnAnswer) (asset : Asset) (client : ℕ) where
   cut_here None going r e = cc
   cut_here (Some x) going r e = refl
 
-  judge_one : (earlier : List Judged) (x : Placed) (xs : List Placed) (f : Fate) → HasItemFate asset client earlier x.item f →
+  judge_one : (earlier : List Judged) (x : Placed) (xs : List Placed) (f : Fate) → HasFate asset client earlier x f →
       ((j : Judged) → JudgesAll (earlier ++ j ∷ []) xs) → (c : Option CutReason) → cut_by f ≡ c → JudgesAll earlier (x ∷ xs)
   judge_one earlier x xs f has rest None e =
       let j : Judged = record { moment = x.moment; item = x.item; fate = f } in
@@ -174,7 +176,7 @@ module _ (each : EachPduHasAnAnswer) (asset : Asset) (client : ℕ) where
   judge_all : (xs : List Placed) (earlier : List Judged) → AreAll asset.protocol xs → JudgesAll earlier xs
   judge_all [] earlier a = record { js = []; dropped = []; are = refl; goes = refl; fates = tt }
   judge_all (x ∷ xs) earlier a =
-      let f = item_fate earlier x.item a.0 in
+      let f = item_fate each asset (says_at asset client earlier x.moment) earlier x.item a.0 in
       judge_one earlier x xs f.0 f.1 (λ j. judge_all xs (earlier ++ j ∷ []) a.1) (cut_by f.0) refl
 
 -- ---- a side's bytes are units and a tail

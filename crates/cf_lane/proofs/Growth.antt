@@ -1,4 +1,5 @@
 -- The weights of items, and where a history goes on.
+use Rattle.cf_lane.specs.Rates.{says_at}
 use Rattle.cf_audit.specs.declared.line.CutReason.{CutReason}
 use Rattle.cf_dnplink.proofs.Frames.{user_is}
 use Rattle.cf_lane.proofs.Earlier.{in_turn-append}
@@ -6,7 +7,7 @@ use Rattle.cf_lane.proofs.Histories.{bytes_of-append}
 use Rattle.cf_lane.proofs.Judgements.{after_break, one_item_fate, one_items, one_units, same_judged}
 use Rattle.cf_lane.proofs.Sides.{own_bytes}
 use Rattle.cf_lane.proofs.Units.{free_unit, short_unit}
-use Rattle.cf_lane.specs.Fate.{HasItemFate, HaveFates}
+use Rattle.cf_lane.specs.Fate.{HasFate, HaveFates}
 use Rattle.cf_lane.specs.Follows.{GoesOn, GoesOnAfter}
 use Rattle.cf_lane.specs.History.{Element, bytes_in, bytes_of, is_side}
 use Rattle.cf_lane.specs.Item.{AreItems, Broke, Completes, Ended, Item, Placed, Took, last_after, placed}
@@ -236,7 +237,7 @@ further asset client earlier (j ∷ js) (k ∷ ks) ds es more same x y a b =
     let place : place_of j ≡ place_of k = cc in
     let places : (map place_of js ++ ds) ++ more ≡ map place_of ks ++ es = cc in
     let item : j.item ≡ k.item = ap (λ (p : Placed). p.item) place in
-    let fate : j.fate ≡ k.fate = one_item_fate asset client earlier k.item j.fate k.fate (subst (λ i. HasItemFate asset client earlier i j.fate) item x.0) y.0 in
+    let fate : j.fate ≡ k.fate = one_item_fate asset (says_at asset client earlier k.moment) earlier k.item j.fate k.fate (subst (λ p. HasFate asset client earlier p j.fate) place x.0) y.0 in
     let same_one : j ≡ k = same_judged j k place fate in
     let fates = subst (λ i. HaveFates asset client (earlier ++ i ∷ []) js) same_one x.1 in
     let goes = subst (λ f. GoesOnAfter (cut_by f) js (GoesOn js ds)) fate a in

@@ -1,4 +1,6 @@
 -- Laws of lanes over items.
+use Rattle.cf_lane.specs.Rings.{KnowsRules, RulesGoOn}
+use Rattle.cf_lane.specs.Rates.{says_at}
 use Rattle.cf_lane.proofs.Earlier.{cut_of-append, in_turn-append, wire_stays}
 use Rattle.cf_lane.specs.Fate.{HaveFates}
 use Rattle.cf_lane.specs.Handled.{Does, Handled, Knows, State, judged}
@@ -128,7 +130,8 @@ pub ended_stays : (t : Side) (js : List Judged) (j : Judged) → has_ended t js 
 ended_stays t js j e =
     list_any-append (λ i. ends t i.item) js (j ∷ []) ∙ true-or (has_ended t js) (list_any (λ i. ends t i.item) (j ∷ [])) e
 
-module _ (asset : Asset) (moment : ℕ) (s : Side) (a : AduValue) (f : Fate) (old new : State) (has : HasAduFate asset old.lane.client.address s a f)
+module _ (asset : Asset) (moment : ℕ) (s : Side) (a : AduValue) (f : Fate) (old new : State) (has : (earlier : List Judged) → KnowsRules old.lane.rules earlier → HasAduFate asset (says_at asset old.lane.client.address earlier moment) s a f)
+    (rules : RulesGoOn f moment old.lane.rules new.lane.rules)
     (client : new.lane.client ≡ old.lane.client) (wire : new.lane.wire ≡ old.lane.wire)
     (admitted : new.lane.admitted ≡ old.lane.admitted + one_if (is_admitted f)) (refused : new.lane.refused ≡ old.lane.refused + one_if (is_refused f))
     (of_client : new.to_client ≡ after_push old.to_client (adu_output side.Client old.to_client.ended s f a))
@@ -147,10 +150,11 @@ module _ (asset : Asset) (moment : ℕ) (s : Side) (a : AduValue) (f : Fate) (ol
           refused = refused ∙ ap (λ n. n + one_if (is_refused f)) knows.refused ∙ sym (count-more (λ i. is_refused i.fate) earlier j);
           client_ended = ap (λ (q : Queue). q.ended) of_client ∙ e ∙ sym (ended-more side.Controller earlier j refl);
           controller_ended = ap (λ (q : Queue). q.ended) of_controller ∙ knows.controller_ended ∙ sym (ended-more side.Client earlier j refl);
+          rules = rules.know earlier j refl refl knows.rules;
           wire = λ c. subst (λ w. KnowsWire asset w (earlier ++ j ∷ [])) (sym wire)
               (wire_stays asset earlier j (λ t. refl) (λ t. refl) (adu_event s a f earlier) old.lane.wire (knows.wire before));
         };
-        fates = (has, tt);
+        fates = (has earlier knows.rules, tt);
         of_client = of_client ∙ ap (λ b. after_push old.to_client (adu_output side.Client b s f a)) e ∙ ap (after_push old.to_client) (nil side.Client);
         of_controller = of_controller ∙ ap (λ b. after_push old.to_controller (adu_output side.Controller b s f a)) e ∙ ap (after_push old.to_controller) (nil side.Controller);
         of_lines = of_lines ∙ ap (λ b. with_lines old.lines (unit_lines asset old.lane.client moment (is_some_bytes (adu_output side.Client b s f a)) s (spelling a) f)) e

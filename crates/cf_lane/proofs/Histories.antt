@@ -1,4 +1,6 @@
 -- Laws of lanes over histories.
+use Rattle.cf_lane.proofs.Saying.{still_known}
+use Rattle.cf_lane.specs.Rings.{KnowsRules}
 use Rattle.cf_audit.specs.declared.line.CutReason.{CutReason}
 use Rattle.cf_lane.proofs.Earlier.{cut_of-append, first_none, in_turn-append}
 use Rattle.cf_lane.proofs.Handling.{count-more, ended-more, fates-append, handled_more, handled_none, push-nothing, with_lines-both, with_lines-nothing}
@@ -216,10 +218,10 @@ module _ (asset : Asset) (h : List Element) (rests : Rests) (first : Option (Lis
 
 -- what is known of earlier items does not read the log
 pub knows_over : (asset : Asset) (own : Option (List (List ℕ))) (s : State) (earlier : List Judged) → Knows asset (over own s) earlier → Knows asset s earlier
-knows_over asset own s earlier k = record { admitted = k.admitted; refused = k.refused; client_ended = k.client_ended; controller_ended = k.controller_ended; wire = k.wire }
+knows_over asset own s earlier k = record { admitted = k.admitted; refused = k.refused; client_ended = k.client_ended; controller_ended = k.controller_ended; rules = k.rules; wire = k.wire }
 
 over_knows : (asset : Asset) (own : Option (List (List ℕ))) (s : State) (earlier : List Judged) → Knows asset s earlier → Knows asset (over own s) earlier
-over_knows asset own s earlier k = record { admitted = k.admitted; refused = k.refused; client_ended = k.client_ended; controller_ended = k.controller_ended; wire = k.wire }
+over_knows asset own s earlier k = record { admitted = k.admitted; refused = k.refused; client_ended = k.client_ended; controller_ended = k.controller_ended; rules = k.rules; wire = k.wire }
 
 -- and items do the same over another log
 does_over : (asset : Asset) (own : Option (List (List ℕ))) (earlier js : List Judged) (old new : State) → Does asset earlier js old new →
@@ -277,6 +279,7 @@ handled_break asset moment s b now = record {
       refused = knows.refused ∙ sym (count-more (λ i. is_refused i.fate) earlier (judged moment (Broke s b) (fate.Cuts (cut.Framing s b))) ∙ omega arith);
       client_ended = knows.client_ended ∙ sym (ended-more side.Controller earlier (judged moment (Broke s b) (fate.Cuts (cut.Framing s b))) refl);
       controller_ended = knows.controller_ended ∙ sym (ended-more side.Client earlier (judged moment (Broke s b) (fate.Cuts (cut.Framing s b))) refl);
+      rules = still_known now.lane.rules earlier (judged moment (Broke s b) (fate.Cuts (cut.Framing s b))) refl knows.rules;
       wire = λ e. cc (e, cut_of-append earlier (judged moment (Broke s b) (fate.Cuts (cut.Framing s b)) ∷ []) before);
     };
     fates = (refl, tt);
@@ -470,17 +473,17 @@ module _ (asset : Asset) (h : List Element) (rests : Rests) (first own : Option 
       }
 
 -- at first nothing was taken
-pub follows_new : (asset : Asset) → IsPartial (SpellsUnit asset.protocol) [] → (lane : LaneValue) → lane.admitted ≡ 0 → lane.refused ≡ 0 → KnowsWire asset lane.wire [] →
+pub follows_new : (asset : Asset) → IsPartial (SpellsUnit asset.protocol) [] → (lane : LaneValue) → lane.admitted ≡ 0 → lane.refused ≡ 0 → KnowsRules lane.rules [] → KnowsWire asset lane.wire [] →
     (to_client to_controller : Queue) (first : Option (List (List ℕ))) → IsQueueOf to_client no_letters → IsQueueOf to_controller no_letters →
     Follows asset [] no_rests None first (state lane to_client to_controller first)
-follows_new asset nothing lane admitted refused wire to_client to_controller first c s =
+follows_new asset nothing lane admitted refused rules wire to_client to_controller first c s =
     let r : IsRest asset.protocol [] [] = record { units = []; cut = record { starts = refl; partial = nothing } } in
     record {
       judged = [];
       are_judged = record { items = []; are_items = refl; dropped = []; are_first = refl; goes_on = refl; fates = tt };
       is_cut = refl;
       are_rests = (r, r);
-      knows = record { admitted = admitted; refused = refused; client_ended = c.ended; controller_ended = s.ended; wire = λ e. wire };
+      knows = record { admitted = admitted; refused = refused; client_ended = c.ended; controller_ended = s.ended; rules = rules; wire = λ e. wire };
       client_stream = c;
       controller_stream = s;
       of_lines = sym (with_lines-nothing first);

@@ -1,10 +1,11 @@
 -- Laws of the items of histories.
+use Rattle.cf_lane.specs.Rates.{Says, says_at}
 use Rattle.cf_audit.specs.declared.line.CutReason.{CutReason}
 use Rattle.cf_lane.proofs.Commands.{has_one_fate}
 use Rattle.cf_lane.proofs.Histories.{bytes_of-append}
 use Rattle.cf_lane.proofs.Pieces.{units_stay}
 use Rattle.cf_lane.proofs.Units.{free_unit}
-use Rattle.cf_lane.specs.Fate.{HasItemFate, HasUnitFate, HaveFates}
+use Rattle.cf_lane.specs.Fate.{HasFate, HasItemFate, HasUnitFate, HaveFates}
 use Rattle.cf_lane.specs.Follows.{GoesOn, GoesOnAfter}
 use Rattle.cf_lane.specs.History.{Element, bytes_at, bytes_in, bytes_of, letters_at}
 use Rattle.cf_lane.specs.Item.{AreItems, Broke, Completes, Ended, Item, Placed, Took, last_after, last_items, placed}
@@ -165,20 +166,20 @@ pieces_join p earlier later m s xs ys ended items a =
       a.4 ∙ ap (λ zs. a.0 ++ zs) rest.4 ∙ sym (append_assoc a.0 rest.0 rest.1),
     )
 
-one_adu_fate : (asset : Asset) (client : ℕ) (s : Side) (a : AduValue) (f g : Fate) → HasAduFate asset client s a f → HasAduFate asset client s a g → f ≡ g
-one_adu_fate asset client side.Client a f g x y = has_one_fate asset client a f g x y
-one_adu_fate asset client side.Controller a f g x y = x ∙ sym y
+one_adu_fate : (asset : Asset) (says : Says) (s : Side) (a : AduValue) (f g : Fate) → HasAduFate asset says s a f → HasAduFate asset says s a g → f ≡ g
+one_adu_fate asset says side.Client a f g x y = has_one_fate asset says a f g x y
+one_adu_fate asset says side.Controller a f g x y = x ∙ sym y
 
-one_unit_fate : (asset : Asset) (client : ℕ) (earlier : List Judged) (s : Side) (u : UnitValue) (f g : Fate) → HasUnitFate asset client earlier s u f → HasUnitFate asset client earlier s u g → f ≡ g
-one_unit_fate asset client earlier s (Adu a) f g x y = one_adu_fate asset client s a f g x y
-one_unit_fate asset client earlier s (Frame a) f g x y = x ∙ sym y
-one_unit_fate asset client earlier s (Apdu a) f g x y = x ∙ sym y
+one_unit_fate : (asset : Asset) (says : Says) (earlier : List Judged) (s : Side) (u : UnitValue) (f g : Fate) → HasUnitFate asset says earlier s u f → HasUnitFate asset says earlier s u g → f ≡ g
+one_unit_fate asset says earlier s (Adu a) f g x y = one_adu_fate asset says s a f g x y
+one_unit_fate asset says earlier s (Frame a) f g x y = x ∙ sym y
+one_unit_fate asset says earlier s (Apdu a) f g x y = x ∙ sym y
 
 -- an item has one fate
-pub one_item_fate : (asset : Asset) (client : ℕ) (earlier : List Judged) (i : Item) (f g : Fate) → HasItemFate asset client earlier i f → HasItemFate asset client earlier i g → f ≡ g
-one_item_fate asset client earlier (Took s u) f g x y = one_unit_fate asset client earlier s u f g x y
-one_item_fate asset client earlier (Ended s n) f g x y = x ∙ sym y
-one_item_fate asset client earlier (Broke s b) f g x y = x ∙ sym y
+pub one_item_fate : (asset : Asset) (says : Says) (earlier : List Judged) (i : Item) (f g : Fate) → HasItemFate asset says earlier i f → HasItemFate asset says earlier i g → f ≡ g
+one_item_fate asset says earlier (Took s u) f g x y = one_unit_fate asset says earlier s u f g x y
+one_item_fate asset says earlier (Ended s n) f g x y = x ∙ sym y
+one_item_fate asset says earlier (Broke s b) f g x y = x ∙ sym y
 
 pub same_judged : (j k : Judged) → place_of j ≡ place_of k → j.fate ≡ k.fate → j ≡ k
 same_judged j k a b =
@@ -198,8 +199,7 @@ one_judged asset client earlier (j ∷ js) [] ds es same x y a b = cc
 one_judged asset client earlier (j ∷ js) (k ∷ ks) ds es same x y a b =
     let place : place_of j ≡ place_of k = cc in
     let places : map place_of js ++ ds ≡ map place_of ks ++ es = cc in
-    let item : j.item ≡ k.item = ap (λ (p : Placed). p.item) place in
-    let fate : j.fate ≡ k.fate = one_item_fate asset client earlier k.item j.fate k.fate (subst (λ i. HasItemFate asset client earlier i j.fate) item x.0) y.0 in
+    let fate : j.fate ≡ k.fate = one_item_fate asset (says_at asset client earlier k.moment) earlier k.item j.fate k.fate (subst (λ p. HasFate asset client earlier p j.fate) place x.0) y.0 in
     let same_one : j ≡ k = same_judged j k place fate in
     let fates = subst (λ i. HaveFates asset client (earlier ++ i ∷ []) js) same_one x.1 in
     let goes = subst (λ f. GoesOnAfter (cut_by f) js (GoesOn js ds)) fate a in

@@ -17,14 +17,18 @@ mod GoingOn
 pub mod Growth
 mod Handling
 mod Histories
+mod Holding
 mod Judgements
 mod LineFeeds
+mod Moments
 mod Pieces
 mod Quiet
+mod Rated
 mod Recuts
 mod Recutting
 mod Renumbering
 mod ReplySizes
+mod Saying
 mod Sides
 mod Sizes
 mod Taking

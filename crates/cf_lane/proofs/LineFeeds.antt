@@ -204,3 +204,4 @@ decider_plain a w decider.Default o = refl
 decider_plain a w decider.Station o = refl
 decider_plain a w decider.Form o = refl
 decider_plain a w (decider.Rule n) o = rule_plain a.rules w.rules.each n (slice_get a.rules n) refl
+decider_plain a w (decider.Spent n) o = rule_plain a.rules w.rules.each n (slice_get a.rules n) refl

@@ -1,4 +1,5 @@
 -- The law of growth: what an item puts out is at most twice its octets, and what fragments that were begun may still put out.
+use Rattle.cf_lane.specs.Rates.{Says, says_at}
 use Rattle.cf_apci.specs.Apdu.{Ack, ApduValue, Control, Info}
 use Rattle.cf_asdu.specs.Mirror.{mirror_octet, mirrored}
 use Rattle.cf_dnptrans.specs.Transport.{since_first, unfinished}
@@ -35,7 +36,7 @@ use Rattle.cf_view.specs.declared.Side.TheVariants as side
 reply_size : (ended : Bool) (f : Fate) (a : AduValue) → length (adu_reply ended f a) ≤ 2 * length (spelling a)
 reply_size true f a = omega arith
 reply_size false fate.Carried a = omega arith
-reply_size false fate.Admitted a = omega arith
+reply_size false (fate.Admitted used) a = omega arith
 reply_size false (fate.Refused r) a = omega arith
 reply_size false (fate.Stray w) a = omega arith
 reply_size false fate.Lengthens a = omega arith
@@ -65,7 +66,7 @@ mirror_size earlier (fate.Refused r) (Info send receive asdu) =
 mirror_size earlier (fate.Refused r) (Ack receive) = omega arith
 mirror_size earlier (fate.Refused r) (Control octet) = omega arith
 mirror_size earlier fate.Carried a = omega arith
-mirror_size earlier fate.Admitted a = omega arith
+mirror_size earlier (fate.Admitted used) a = omega arith
 mirror_size earlier (fate.Stray w) a = omega arith
 mirror_size earlier fate.Lengthens a = omega arith
 mirror_size earlier (fate.Cuts r) a = omega arith
@@ -82,7 +83,7 @@ least_size (Control octet) = omega arith
 owed_size : (earlier : List Judged) (f : Fate) (receive : ℕ) → length (ack_output earlier f receive) ≤ 6
 owed_size earlier (fate.Refused r) receive = ack_size (owed_ack (events_of earlier) receive)
 owed_size earlier fate.Carried receive = omega arith
-owed_size earlier fate.Admitted receive = omega arith
+owed_size earlier (fate.Admitted used) receive = omega arith
 owed_size earlier (fate.Stray w) receive = omega arith
 owed_size earlier fate.Lengthens receive = omega arith
 owed_size earlier (fate.Cuts r) receive = omega arith
@@ -119,7 +120,7 @@ potential_most asset earlier =
       size_most (unfinished (segments_of asset side.Controller earlier)) (left_most (since_first (segments_of asset side.Controller earlier))),
     )
 
-module _ (asset : Asset) (client : ℕ) (to : Side) (earlier : List Judged) (j : Judged) where
+module _ (asset : Asset) (says : Says) (to : Side) (earlier : List Judged) (j : Judged) where
   abbrev Grows : ℕ → Type 0
   Grows n = length (output asset to earlier j) + potential asset (earlier ++ j ∷ []) ≤ potential asset earlier + 2 * n
 
@@ -129,7 +130,7 @@ module _ (asset : Asset) (client : ℕ) (to : Side) (earlier : List Judged) (j :
       let same = λ (s : Side). segments_of-more asset s earlier j ∙ ap (λ xs. xs ++ segments_of asset s earlier) (none s) in
       omega (arith, l, ap owed (same side.Client), ap owed (same side.Controller))
 
-  item_grows : (p : Protocol) (i : Item) → j.item ≡ i → IsItemOf p i → HasItemFate asset client earlier i j.fate → Grows (weight i)
+  item_grows : (p : Protocol) (i : Item) → j.item ≡ i → IsItemOf p i → HasItemFate asset says earlier i j.fate → Grows (weight i)
   item_grows p (Took s (Adu a)) is of fate =
       no_segment (length (spelling a)) (λ t. ap (segment_in asset t) is)
       (omega (arith, ap (λ i. length (item_output asset to earlier j i)) is, adu_size to s (has_ended side.Controller earlier) j.fate a))
@@ -138,7 +139,7 @@ module _ (asset : Asset) (client : ℕ) (to : Side) (earlier : List Judged) (j :
       (omega (arith, ap (λ i. length (item_output asset to earlier j i)) is, apdu_size to s earlier j.fate a))
   item_grows protocol.Modbus (Took s (Frame x)) is of fate = absurd of.1
   item_grows protocol.Dnp3 (Took s (Frame x)) is of fate =
-      omega (arith, frame_grows asset client to earlier j s x is fate, ap (λ i. length (item_output asset to earlier j i)) is)
+      omega (arith, frame_grows asset says to earlier j s x is fate, ap (λ i. length (item_output asset to earlier j i)) is)
   item_grows protocol.Iec104 (Took s (Frame x)) is of fate = absurd of.1
   item_grows p (Ended s n) is of fate = no_segment 0 (λ t. ap (segment_in asset t) is) (omega (arith, ap (λ i. length (item_output asset to earlier j i)) is))
   item_grows p (Broke s b) is of fate = no_segment 0 (λ t. ap (segment_in asset t) is) (omega (arith, ap (λ i. length (item_output asset to earlier j i)) is))
@@ -149,7 +150,7 @@ items_grow asset client to p earlier [] of fates = omega (arith, ap (potential a
 items_grow asset client to p earlier (j ∷ js) of fates =
     omega (
       arith,
-      item_grows asset client to earlier j p j.item refl of.0 fates.0,
+      item_grows asset (says_at asset client earlier j.moment) to earlier j p j.item refl of.0 fates.0,
       items_grow asset client to p (earlier ++ j ∷ []) js of.1 fates.1,
       length-append (output asset to earlier j) (in_turn (output asset to) (earlier ++ j ∷ []) js),
       ap (potential asset) (append_assoc earlier (j ∷ []) js),

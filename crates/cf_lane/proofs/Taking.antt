@@ -4,7 +4,12 @@ use Rattle.cf_lane.proofs.Handling.{adu_handled, push-nothing, with_lines-nothin
 use Rattle.cf_lane.proofs.Units.{adus, begins_by}
 use Rattle.cf_lane.specs.Handled.{Grows, HasRoom, IsLaneOf, IsOpen, LaneValue, State, TakesCommand, TakesUnit, debt}
 use Rattle.cf_lane.specs.Log.{is_some_bytes, line_about, refusal_line, with_lines}
-use Rattle.cf_lane.specs.Modbus.{HasCommandFate, adu_reply}
+use Rattle.cf_lane.specs.Judged.{Judged}
+use Rattle.cf_lane.specs.Modbus.{HasAduFate, HasCommandFate, adu_reply}
+use Rattle.cf_lane.specs.Rates.{Says, says_at}
+use Rattle.cf_lane.specs.Rings.{IsRulesOf, KnowsRules, RulesGoOn, says_by}
+use Rattle.cf_lane.specs.declared.fate.Fate.{Fate}
+use Rattle.cf_lane.proofs.Saying.{rules_stay, says_same}
 use Rattle.cf_lane.specs.Unit.{Adu}
 use Rattle.cf_lane.specs.declared.fate.Refusal.{Refusal}
 use Rattle.cf_modbus.proofs.Framing.{own_length, own_octets}
@@ -20,35 +25,46 @@ use Rattle.cf_policy.specs.declared.Protocol.TheVariants as protocol
 use Rattle.cf_view.specs.declared.Side.TheVariants as side
 
 -- an admitted command has no reply
-admitted_reply : (b : Bool) (a : AduValue) → adu_reply b fate.Admitted a ≡ []
-admitted_reply true a = refl
-admitted_reply false a = refl
+admitted_reply : (b : Bool) (used : List Bool) (a : AduValue) → adu_reply b (fate.Admitted used) a ≡ []
+admitted_reply true used a = refl
+admitted_reply false used a = refl
 
-module _ (asset : Asset) (moment : ℕ) (a : AduValue) (old new : State) (client : new.lane.client ≡ old.lane.client) (wire : new.lane.wire ≡ old.lane.wire) where
+module _ (asset : Asset) (moment : ℕ) (a : AduValue) (old new : State) (client : new.lane.client ≡ old.lane.client) (wire : new.lane.wire ≡ old.lane.wire)
+    (of : IsRulesOf asset old.lane.client.address old.lane.rules) where
+  -- what the rules in memory say
+  abbrev pub says : Says
+  says = says_by asset old.lane.client.address old.lane.rules moment
+
+  pub has_fate : (f : Fate) → HasCommandFate asset says a f → (earlier : List Judged) → KnowsRules old.lane.rules earlier →
+      HasAduFate asset (says_at asset old.lane.client.address earlier moment) side.Client a f
+  has_fate f has earlier know =
+      subst (λ (x : Says). HasCommandFate asset x a f) (says_same asset old.lane.client.address old.lane.rules earlier moment of know) has
+
   -- an admitted command goes on, and nothing else does
-  pub takes_admitted : old.to_controller.ended ≡ false → HasCommandFate asset old.lane.client.address a fate.Admitted →
+  pub takes_admitted : (used : List Bool) → old.to_controller.ended ≡ false → HasCommandFate asset says a (fate.Admitted used) →
+      RulesGoOn (fate.Admitted used) moment old.lane.rules new.lane.rules →
       new.lane.admitted ≡ old.lane.admitted + 1 → new.lane.refused ≡ old.lane.refused →
       new.to_client ≡ old.to_client → new.to_controller ≡ after_push old.to_controller (spelling a) → new.lines ≡ old.lines →
       TakesCommand asset moment a old new
-  takes_admitted goes has admitted refused c s t = record {
-    fate = fate.Admitted;
+  takes_admitted used goes has rules admitted refused c s t = record {
+    fate = fate.Admitted used;
     uncut = refl;
-    handled = adu_handled asset moment side.Client a fate.Admitted old new has client wire admitted (refused ∙ omega arith)
-        (c ∙ sym (push-nothing old.to_client) ∙ ap (after_push old.to_client) (sym (admitted_reply old.to_client.ended a)))
-        s (t ∙ sym (with_lines-nothing old.lines)) (λ e. admitted_reply old.to_client.ended a) (λ e. cc (e, goes));
+    handled = adu_handled asset moment side.Client a (fate.Admitted used) old new (has_fate (fate.Admitted used) has) rules client wire admitted (refused ∙ omega arith)
+        (c ∙ sym (push-nothing old.to_client) ∙ ap (after_push old.to_client) (sym (admitted_reply old.to_client.ended used a)))
+        s (t ∙ sym (with_lines-nothing old.lines)) (λ e. admitted_reply old.to_client.ended used a) (λ e. cc (e, goes));
   }
 
   -- a refused command has its reply, where one may still go out, and its line
-  abbrev pub takes_refused : (r : Refusal) → HasCommandFate asset old.lane.client.address a (fate.Refused r) →
+  abbrev pub takes_refused : (r : Refusal) → HasCommandFate asset says a (fate.Refused r) → new.lane.rules ≡ old.lane.rules →
       new.lane.admitted ≡ old.lane.admitted → new.lane.refused ≡ old.lane.refused + 1 →
       new.to_client ≡ after_push old.to_client (adu_reply old.to_client.ended (fate.Refused r) a) → new.to_controller ≡ old.to_controller →
       new.lines ≡ with_lines old.lines (line_about asset old.lane.client moment
       (refusal_line asset r (is_some_bytes (adu_reply old.to_client.ended (fate.Refused r) a)) (spelling a)) ∷ []) →
       TakesCommand asset moment a old new
-  takes_refused r has admitted refused c s t = record {
+  takes_refused r has rules admitted refused c s t = record {
     fate = fate.Refused r;
     uncut = refl;
-    handled = adu_handled asset moment side.Client a (fate.Refused r) old new has client wire (admitted ∙ omega arith) refused
+    handled = adu_handled asset moment side.Client a (fate.Refused r) old new (has_fate (fate.Refused r) has) (rules_stay (fate.Refused r) moment old.lane.rules new.lane.rules refl rules) client wire (admitted ∙ omega arith) refused
         c (s ∙ sym (push-nothing old.to_controller)) t (λ e. ap (λ b. adu_reply b (fate.Refused r) a) e) (λ e. refl);
   }
 
@@ -108,7 +124,8 @@ module _ (asset : Asset) (modbus : asset.protocol ≡ protocol.Modbus) (moment :
     some_bytes = omega (arith, adu_least a bytes n b);
     fate = fate.Carried;
     is_cut = refl;
-    handled = adu_handled asset moment side.Controller a fate.Carried old new refl (ap (λ l. l.client) lane) (ap (λ l. l.wire) lane)
+    handled = adu_handled asset moment side.Controller a fate.Carried old new (λ earlier know. refl)
+        (rules_stay fate.Carried moment old.lane.rules new.lane.rules refl (ap (λ l. l.rules) lane)) (ap (λ l. l.client) lane) (ap (λ l. l.wire) lane)
         (ap (λ l. l.admitted) lane ∙ omega arith) (ap (λ l. l.refused) lane ∙ omega arith)
         c (s ∙ sym (push-nothing old.to_controller)) (t ∙ sym (with_lines-nothing old.lines)) (λ e. cc (e, goes)) (λ e. refl);
   }

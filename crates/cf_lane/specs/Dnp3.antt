@@ -1,5 +1,6 @@
 -- DNP3 in the lane: which frames are served, the fate of a frame, what it puts into the stream to each side, and what its
 -- line shows. IEEE 1815-2012; which frames are served, and fates, are this project's own.
+use Rattle.cf_lane.specs.Rates.{Says}
 use Rattle.cf_audit.specs.declared.line.Why.{Why}
 use Rattle.cf_dnplink.specs.LinkFrame.{FrameValue}
 use Rattle.cf_dnplink.specs.UserOctets.{user_of}
@@ -98,19 +99,19 @@ form_reason refusals.Object = reason.Point
 form_reason refusals.Parameter = reason.Value
 
 -- the fate of a client's DNP3 fragment by what it says: a confirmation goes on, and every other one is a command
-abbrev pub fate_of_read : Asset → ℕ → (code : ℕ) → Result FragmentValue FragmentRefusal → Fate
-fate_of_read asset client code (Ok f) = if nat_eq f.code 0 then fate.Carried else fate_of_acts asset client (acts f)
-fate_of_read asset client code (Err refusal) =
+abbrev pub fate_of_read : Asset → Says → (code : ℕ) → Result FragmentValue FragmentRefusal → Fate
+fate_of_read asset says code (Ok f) = if nat_eq f.code 0 then fate.Carried else fate_of_acts asset says (acts f)
+fate_of_read asset says code (Err refusal) =
     fate.Refused (record { decider = decider.Form; reason = form_reason refusal; act = act_of_code code 0 })
 
-abbrev pub fate_of_fragment : Asset → ℕ → Side → List ℕ → Fate
-fate_of_fragment asset client side.Controller octets = fate.Carried
-fate_of_fragment asset client side.Client octets = fate_of_read asset client (slice_index octets 1) (read_octets octets)
+abbrev pub fate_of_fragment : Asset → Says → Side → List ℕ → Fate
+fate_of_fragment asset says side.Controller octets = fate.Carried
+fate_of_fragment asset says side.Client octets = fate_of_read asset says (slice_index octets 1) (read_octets octets)
 
 -- the fates of a client's fragment of two octets or more: it goes on, or is refused for a reason that has a reply
 abbrev pub IsOfFragment : Fate → Type 0
 IsOfFragment fate.Carried = Unit {0}
-IsOfFragment fate.Admitted = Unit {0}
+IsOfFragment (fate.Admitted used) = Unit {0}
 IsOfFragment (fate.Refused refusal) = refusal.reason ≢ reason.Station
 IsOfFragment (fate.Stray because) = ⊥
 IsOfFragment fate.Lengthens = ⊥
@@ -124,20 +125,20 @@ drop_why drops.Order = why.Order
 drop_why drops.TooLong = why.TooLong
 
 -- the fate of the fragment that is whole
-abbrev pub fate_of_whole : Asset → ℕ → Side → List (List ℕ) → Fate
-fate_of_whole asset client s [] = fate.Lengthens
-fate_of_whole asset client s (octets ∷ none) = if nat_lt (length octets) 2 then fate.Stray why.Short else fate_of_fragment asset client s octets
+abbrev pub fate_of_whole : Asset → Says → Side → List (List ℕ) → Fate
+fate_of_whole asset says s [] = fate.Lengthens
+fate_of_whole asset says s (octets ∷ none) = if nat_lt (length octets) 2 then fate.Stray why.Short else fate_of_fragment asset says s octets
 
 -- the fate of a DNP3 data frame by what its segment does
-abbrev pub fate_of_segment : Asset → ℕ → Side → SegmentAnswer → List (List ℕ) → Fate
-fate_of_segment asset client s answers.More whole = fate.Lengthens
-fate_of_segment asset client s (answers.Dropped because) whole = fate.Stray (drop_why because)
-fate_of_segment asset client s answers.Whole whole = fate_of_whole asset client s whole
+abbrev pub fate_of_segment : Asset → Says → Side → SegmentAnswer → List (List ℕ) → Fate
+fate_of_segment asset says s answers.More whole = fate.Lengthens
+fate_of_segment asset says s (answers.Dropped because) whole = fate.Stray (drop_why because)
+fate_of_segment asset says s answers.Whole whole = fate_of_whole asset says s whole
 
-abbrev pub fate_of_frame : Asset → ℕ → Side → List Judged → FrameValue → Option Why → Fate
-fate_of_frame asset client s earlier f (Some because) = fate.Stray because
-fate_of_frame asset client s earlier f None =
-    if is_data f then fate_of_segment asset client s (answer_now asset s earlier f) (whole_now asset s earlier f) else fate.Carried
+abbrev pub fate_of_frame : Asset → Says → Side → List Judged → FrameValue → Option Why → Fate
+fate_of_frame asset says s earlier f (Some because) = fate.Stray because
+fate_of_frame asset says s earlier f None =
+    if is_data f then fate_of_segment asset says s (answer_now asset s earlier f) (whole_now asset s earlier f) else fate.Carried
 
 -- the fragments that a frame puts into the stream to a side: its own, or a response to it
 abbrev pub fragment_reply : (ended : Bool) → Fate → List (List ℕ) → List (List ℕ)
@@ -145,7 +146,7 @@ fragment_reply true f octets = []
 fragment_reply false (fate.Refused refusal) octets =
     flat_map (λ xs. if wants_reply (slice_index xs 1) then reply xs refusal.reason ∷ [] else []) octets
 fragment_reply false fate.Carried octets = []
-fragment_reply false fate.Admitted octets = []
+fragment_reply false (fate.Admitted used) octets = []
 fragment_reply false (fate.Stray because) octets = []
 fragment_reply false fate.Lengthens octets = []
 fragment_reply false (fate.Cuts because) octets = []

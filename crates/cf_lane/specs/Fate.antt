@@ -1,4 +1,5 @@
 -- The fate of each item. This project's own.
+use Rattle.cf_lane.specs.Rates.{Says, says_at}
 use Rattle.cf_lane.specs.Dnp3.{fate_of_frame, stray_of}
 use Rattle.cf_lane.specs.Iec104.{fate_of_apdu}
 use Rattle.cf_lane.specs.Item.{Broke, Ended, Item, Placed, Took}
@@ -15,19 +16,19 @@ use Rattle.cf_audit.specs.declared.line.CutReason.TheVariants as cut
 use Rattle.cf_lane.specs.declared.fate.Fate.TheVariants as fate
 
 -- the fate of a unit of a side after the earlier items, one case a protocol
-abbrev pub HasUnitFate : Asset → ℕ → List Judged → Side → UnitValue → Fate → Type 0
-HasUnitFate asset client earlier s (Adu a) f = HasAduFate asset client s a f
-HasUnitFate asset client earlier s (Frame x) f = f ≡ fate_of_frame asset client s earlier x (stray_of asset s x)
-HasUnitFate asset client earlier s (Apdu x) f = f ≡ fate_of_apdu asset client s earlier x
+abbrev pub HasUnitFate : Asset → Says → List Judged → Side → UnitValue → Fate → Type 0
+HasUnitFate asset says earlier s (Adu a) f = HasAduFate asset says s a f
+HasUnitFate asset says earlier s (Frame x) f = f ≡ fate_of_frame asset says s earlier x (stray_of asset s x)
+HasUnitFate asset says earlier s (Apdu x) f = f ≡ fate_of_apdu asset says s earlier x
 
-abbrev pub HasItemFate : Asset → ℕ → List Judged → Item → Fate → Type 0
-HasItemFate asset client earlier (Took s unit) f = HasUnitFate asset client earlier s unit f
-HasItemFate asset client earlier (Ended s rest) f = f ≡ fate.Carried
-HasItemFate asset client earlier (Broke s because) f = f ≡ fate.Cuts (cut.Framing s because)
+abbrev pub HasItemFate : Asset → Says → List Judged → Item → Fate → Type 0
+HasItemFate asset says earlier (Took s unit) f = HasUnitFate asset says earlier s unit f
+HasItemFate asset says earlier (Ended s rest) f = f ≡ fate.Carried
+HasItemFate asset says earlier (Broke s because) f = f ≡ fate.Cuts (cut.Framing s because)
 
--- the fate of any item after the earlier ones; the moment is for rules with a rate
+-- the fate of any item after the earlier ones, by what the policy says at its moment
 abbrev pub HasFate : Asset → ℕ → List Judged → Placed → Fate → Type 0
-HasFate asset client earlier p f = HasItemFate asset client earlier p.item f
+HasFate asset client earlier p f = HasItemFate asset (says_at asset client earlier p.moment) earlier p.item f
 
 -- each item has its fate after the earlier ones
 abbrev pub HaveFates : Asset → ℕ → (earlier js : List Judged) → Type 0
@@ -37,7 +38,7 @@ HaveFates asset client earlier (j ∷ js) = HasFate asset client earlier (place_
 -- a rule that decided is one of the rules
 abbrev pub HasOwnDecider : List Rule → Fate → Type 0
 HasOwnDecider rules fate.Carried = Unit {0}
-HasOwnDecider rules fate.Admitted = Unit {0}
+HasOwnDecider rules (fate.Admitted used) = Unit {0}
 HasOwnDecider rules (fate.Refused refusal) = IsOneOf rules refusal.decider
 HasOwnDecider rules (fate.Stray because) = Unit {0}
 HasOwnDecider rules fate.Lengthens = Unit {0}
@@ -46,7 +47,7 @@ HasOwnDecider rules (fate.Cuts because) = Unit {0}
 -- a command is admitted or refused
 abbrev pub IsOfCommand : Fate → Type 0
 IsOfCommand fate.Carried = ⊥
-IsOfCommand fate.Admitted = Unit {0}
+IsOfCommand (fate.Admitted used) = Unit {0}
 IsOfCommand (fate.Refused refusal) = Unit {0}
 IsOfCommand (fate.Stray because) = ⊥
 IsOfCommand fate.Lengthens = ⊥

@@ -1,5 +1,6 @@
 -- What a frame of DNP3 does to the fragments of a lane, to its two queues and to the log. The main definition is `TakesFrame`.
 -- This project's own.
+use Rattle.cf_lane.specs.Rates.{Says}
 use Rattle.cf_dnplink.specs.LinkFrame.{FrameValue}
 use Rattle.cf_dnptrans.specs.AssemblyValue.{AssemblyValue, IsAssemblyOf}
 use Rattle.cf_dnptrans.specs.Passing.{completed}
@@ -9,7 +10,7 @@ use Rattle.cf_dnptrans.specs.declared.assembly.SegmentAnswer.{SegmentAnswer}
 use Rattle.cf_lane.specs.Dnp3.{fate_of_frame, fate_of_segment, frame_fragment, frame_octets, frame_output, frames_at, stray_of}
 use Rattle.cf_lane.specs.Handled.{MayHaveMore, State, judged}
 use Rattle.cf_lane.specs.Item.{Took}
-use Rattle.cf_lane.specs.Judged.{Judged, cut_by, has_ended}
+use Rattle.cf_lane.specs.Judged.{Judged, cut_by, has_ended, is_admitted}
 use Rattle.cf_lane.specs.Kept.{KnowsFragments, of_side, owed_octets}
 use Rattle.cf_lane.specs.Log.{is_some_bytes, unit_lines, with_lines}
 use Rattle.cf_lane.specs.Output.{other}
@@ -21,7 +22,7 @@ use Rattle.cf_policy.specs.declared.Asset.{Asset}
 use Rattle.cf_view.specs.declared.Endpoint.{Endpoint}
 use Rattle.cf_view.specs.declared.Side.{Side}
 use Rattle.std.specs.List.{flat_map, sum_by}
-use Rattle.std.specs.Prelude.{Bool, List, None, Option, Some, [], length, true, ℕ, ◌%◌, ◌++◌, ◌+◌, ◌/◌, ◌∷◌, ◌≡◌}
+use Rattle.std.specs.Prelude.{Bool, List, None, Option, Some, [], false, length, true, ℕ, ◌%◌, ◌++◌, ◌+◌, ◌/◌, ◌∷◌, ◌≡◌}
 use Rattle.cf_dnptrans.specs.declared.assembly.SegmentAnswer.TheVariants as answers
 use Rattle.cf_lane.specs.declared.wire.Wire.TheVariants as wire
 use Rattle.cf_view.specs.declared.Side.TheVariants as side
@@ -84,8 +85,8 @@ pub record AddsSegment (s : Side) (user : List ℕ) (answer : SegmentAnswer) (ol
   pub to_controller : new.to_controller ≡ old.to_controller
 
 -- a segment that was put to its fragment was answered, and may have completed it: the fate, what goes out, and the lines
-pub record TakesSegment (asset : Asset) (client : Endpoint) (moment : ℕ) (s : Side) (answer : SegmentAnswer) (whole : List (List ℕ)) (f : Fate) (old new : Parts) : Type 0 where
-  pub fate : f ≡ fate_of_segment asset client.address s answer whole
+pub record TakesSegment (asset : Asset) (says : Says) (client : Endpoint) (moment : ℕ) (s : Side) (answer : SegmentAnswer) (whole : List (List ℕ)) (f : Fate) (old new : Parts) : Type 0 where
+  pub fate : f ≡ fate_of_segment asset says s answer whole
   pub client_part : new.fragments.client ≡ old.fragments.client
   pub controller_part : new.fragments.controller ≡ old.fragments.controller
   pub to_client : Sends asset side.Client (frame_fragment side.Client old.to_client.ended s f whole) old.fragments.to_client old.to_client new.fragments.to_client new.to_client
@@ -93,52 +94,56 @@ pub record TakesSegment (asset : Asset) (client : Endpoint) (moment : ℕ) (s : 
   pub lines : new.lines ≡ with_lines old.lines (data_lines asset client moment s f whole old.fragments.to_client old.to_client)
 
 -- so it was but for its line, of which the log may have a part or all
-pub record MissesSegment (asset : Asset) (client : Endpoint) (moment : ℕ) (s : Side) (answer : SegmentAnswer) (whole : List (List ℕ)) (old : Parts) (log : Option (List (List ℕ))) (part : List ℕ) : Type 0 where
+pub record MissesSegment (asset : Asset) (says : Says) (client : Endpoint) (moment : ℕ) (s : Side) (answer : SegmentAnswer) (whole : List (List ℕ)) (old : Parts) (log : Option (List (List ℕ))) (part : List ℕ) : Type 0 where
   pub fate : Fate
+  pub unadmitted : is_admitted fate ≡ false
   pub new : Parts
-  pub takes : TakesSegment asset client moment s answer whole fate old new
+  pub takes : TakesSegment asset says client moment s answer whole fate old new
   pub line : MayHaveMore (data_lines asset client moment s fate whole old.fragments.to_client old.to_client) old.lines log part
 
 -- what a frame does after the earlier items
-pub record DoesFrame (asset : Asset) (client : Endpoint) (earlier : List Judged) (j : Judged) (s : Side) (x : FrameValue) (old new : Parts) : Type 0 where
+pub record DoesFrame (asset : Asset) (says : Says) (client : Endpoint) (earlier : List Judged) (j : Judged) (s : Side) (x : FrameValue) (old new : Parts) : Type 0 where
   pub fragments : KnowsFragments asset new.fragments (earlier ++ j ∷ [])
-  pub fate : j.fate ≡ fate_of_frame asset client.address s earlier x (stray_of asset s x)
+  pub fate : j.fate ≡ fate_of_frame asset says s earlier x (stray_of asset s x)
   pub of_client : new.to_client ≡ after_push old.to_client (frame_output asset side.Client earlier j s x)
   pub of_controller : new.to_controller ≡ after_push old.to_controller (frame_output asset side.Controller earlier j s x)
   pub client_quiet : old.to_client.ended ≡ true → frame_output asset side.Client earlier j s x ≡ []
   pub controller_quiet : old.to_controller.ended ≡ true → frame_output asset side.Controller earlier j s x ≡ []
 
 -- a frame was taken with this fate, whatever came before it
-pub record TakesFrame (asset : Asset) (client : Endpoint) (moment : ℕ) (s : Side) (x : FrameValue) (f : Fate) (old new : Parts) : Type 0 where
+pub record TakesFrame (asset : Asset) (says : Says) (client : Endpoint) (moment : ℕ) (s : Side) (x : FrameValue) (f : Fate) (old new : Parts) : Type 0 where
   pub uncut : cut_by f ≡ None
   pub more : List (List ℕ)
   pub lines : new.lines ≡ with_lines old.lines more
   pub does : (earlier : List Judged) → KnowsFragments asset old.fragments earlier → old.to_client.ended ≡ has_ended side.Controller earlier →
-      DoesFrame asset client earlier (judged moment (Took s (Frame x)) f) s x old new
+      DoesFrame asset says client earlier (judged moment (Took s (Frame x)) f) s x old new
   pub are_more : (earlier : List Judged) → KnowsFragments asset old.fragments earlier → old.to_client.ended ≡ has_ended side.Controller earlier →
       unit_lines asset client moment (is_some_bytes (frame_output asset side.Client earlier (judged moment (Took s (Frame x)) f) s x)) s (frame_octets asset earlier s x) f ≡ more
 
 -- a frame was taken but for its line, of which the log may have a part or all
-pub record MissesFrame (asset : Asset) (client : Endpoint) (moment : ℕ) (s : Side) (x : FrameValue) (old : Parts) (log : Option (List (List ℕ))) (part : List ℕ) : Type 0 where
+pub record MissesFrame (asset : Asset) (says : Says) (client : Endpoint) (moment : ℕ) (s : Side) (x : FrameValue) (old : Parts) (log : Option (List (List ℕ))) (part : List ℕ) : Type 0 where
   pub fate : Fate
+  pub unadmitted : is_admitted fate ≡ false
   pub new : Parts
-  pub takes : TakesFrame asset client moment s x fate old new
+  pub takes : TakesFrame asset says client moment s x fate old new
   pub line : MayHaveMore takes.more old.lines log part
 
 -- a lane took a frame but for its numbers
-pub record LaneTakesFrame (asset : Asset) (moment : ℕ) (s : Side) (x : FrameValue) (f : Fate) (old new : State) : Type 0 where
+pub record LaneTakesFrame (asset : Asset) (says : Says) (moment : ℕ) (s : Side) (x : FrameValue) (f : Fate) (old new : State) : Type 0 where
   pub client : new.lane.client ≡ old.lane.client
   pub admitted : new.lane.admitted ≡ old.lane.admitted
   pub refused : new.lane.refused ≡ old.lane.refused
+  pub rules : new.lane.rules ≡ old.lane.rules
   pub before : Fragments
   pub now : Fragments
   pub was : old.lane.wire ≡ wire.Dnp3 before
   pub is : new.lane.wire ≡ wire.Dnp3 now
-  pub takes : TakesFrame asset old.lane.client moment s x f (parts before old.to_client old.to_controller old.lines) (parts now new.to_client new.to_controller new.lines)
+  pub takes : TakesFrame asset says old.lane.client moment s x f (parts before old.to_client old.to_controller old.lines) (parts now new.to_client new.to_controller new.lines)
 
 -- the same but for its line, of which the log may have a part or all
-pub record LaneMissesFrame (asset : Asset) (moment : ℕ) (s : Side) (x : FrameValue) (old : State) (log : Option (List (List ℕ))) (part : List ℕ) : Type 0 where
+pub record LaneMissesFrame (asset : Asset) (says : Says) (moment : ℕ) (s : Side) (x : FrameValue) (old : State) (log : Option (List (List ℕ))) (part : List ℕ) : Type 0 where
   pub fate : Fate
+  pub unadmitted : is_admitted fate ≡ false
   pub new : State
-  pub takes : LaneTakesFrame asset moment s x fate old new
+  pub takes : LaneTakesFrame asset says moment s x fate old new
   pub line : MayHaveMore takes.takes.more old.lines log part

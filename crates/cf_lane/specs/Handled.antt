@@ -14,9 +14,9 @@ use Rattle.cf_lane.specs.declared.wire.Wire.{Wire}
 use Rattle.cf_modbus.specs.Adu.{AduValue}
 use Rattle.cf_outq.specs.SendQueue.{Queue, after_end, after_push}
 use Rattle.cf_outside.specs.Desk.{DeskValue, KeepsDesk}
-use Rattle.cf_policy.specs.Index.{IsIndexOf}
+use Rattle.cf_lane.specs.Rings.{IsRulesOf, KnowsRules, RulesGoOn}
+use Rattle.cf_lane.specs.declared.rules.Rules.{Rules}
 use Rattle.cf_policy.specs.declared.Asset.{Asset}
-use Rattle.cf_policy.specs.declared.CodePair.{CodePair}
 use Rattle.cf_view.specs.Framing.{Begins, BreaksAt, IsPartial}
 use Rattle.cf_view.specs.declared.Endpoint.{Endpoint}
 use Rattle.cf_view.specs.declared.Side.{Side}
@@ -32,8 +32,8 @@ pub record LaneValue : Type 0 where
   pub client : Endpoint
   pub admitted : ℕ
   pub refused : ℕ
-  -- the rules of the asset by code, for the client
-  pub index : List CodePair
+  -- the rules of the asset, for the client
+  pub rules : Rules
   pub wire : Wire
 
 -- a lane with its two queues and the log
@@ -46,18 +46,19 @@ pub record State : Type 0 where
 abbrev pub state : LaneValue → Queue → Queue → Option (List (List ℕ)) → State
 state lane to_client to_controller lines = record { lane = lane; to_client = to_client; to_controller = to_controller; lines = lines }
 
--- the lane is one of the asset: its index and what it keeps for the protocol are the asset's
+-- the lane is one of the asset: its rules and what it keeps for the protocol are the asset's
 pub record IsLaneOf (asset : Asset) (lane : LaneValue) : Type 0 where
-  pub index : IsIndexOf asset lane.client.address lane.index
+  pub rules : IsRulesOf asset lane.client.address lane.rules
   pub wire : IsWireOf asset.protocol lane.wire
 
 -- what the lane and its queues know of earlier items: the numbers are counts, a queue has ended where the other side has, and
--- what the lane keeps for its protocol stands for them until one cuts
+-- the rules that were used are known, and what the lane keeps for its protocol stands for them until one cuts
 pub record Knows (asset : Asset) (s : State) (earlier : List Judged) : Type 0 where
   pub admitted : s.lane.admitted ≡ count_by (λ j. is_admitted j.fate) earlier
   pub refused : s.lane.refused ≡ count_by (λ j. is_refused j.fate) earlier
   pub client_ended : s.to_client.ended ≡ has_ended side.Controller earlier
   pub controller_ended : s.to_controller.ended ≡ has_ended side.Client earlier
+  pub rules : KnowsRules s.lane.rules earlier
   pub wire : cut_of earlier ≡ None → KnowsWire asset s.lane.wire earlier
 
 -- what judged items do after the earlier ones
@@ -131,9 +132,13 @@ pub record TakesCommand (asset : Asset) (moment : ℕ) (a : AduValue) (old new :
 abbrev pub CountsBy : ℕ → LaneValue → LaneValue → Type 0
 CountsBy most old new = new.admitted + new.refused ≤ old.admitted + old.refused + most
 
--- the numbers of a lane after an item of this fate
-abbrev pub counted_by : Fate → LaneValue → LaneValue
-counted_by f lane = record lane { admitted = lane.admitted + one_if (is_admitted f); refused = lane.refused + one_if (is_refused f) }
+-- a lane counts an item of this fate at a moment: its numbers and its rules go on
+pub record Counts (f : Fate) (moment : ℕ) (old new : LaneValue) : Type 0 where
+  pub client : new.client ≡ old.client
+  pub admitted : new.admitted ≡ old.admitted + one_if (is_admitted f)
+  pub refused : new.refused ≡ old.refused + one_if (is_refused f)
+  pub rules : RulesGoOn f moment old.rules new.rules
+  pub wire : new.wire ≡ old.wire
 
 -- the queue to the other side is open, so that the side's bytes may go on
 abbrev pub IsOpen : Side → (to_client to_controller : Queue) → Type 0

@@ -1,5 +1,6 @@
 -- IEC 104 in the lane: the fate of an APDU, what it puts into the stream to each side, and what its line shows.
 -- IEC 60870-5-104; fates are this project's own.
+use Rattle.cf_lane.specs.Rates.{Says}
 use Rattle.cf_apci.specs.Apdu.{Ack, ApduValue, Control, Info}
 use Rattle.cf_asdu.specs.Asdu.{AsduValue, refusal_reason, station_of}
 use Rattle.cf_asdu.specs.Mirror.{mirrored}
@@ -42,15 +43,15 @@ asdu_refused decided because octets point =
     fate.Refused (record { decider = decided; reason = because; act = act_of_code (slice_index octets 0) point })
 
 -- the fate of an ASDU of the right station by the rest of its form
-abbrev pub fate_by_form : Asset → ℕ → List ℕ → Option AsduRefusal → Fate
-fate_by_form asset client octets (Some refusal) = asdu_refused decider.Form (refusal_reason refusal) octets 0
-fate_by_form asset client octets None = fate_of_acts asset client (commands.acts (asdu_in octets))
+abbrev pub fate_by_form : Asset → Says → List ℕ → Option AsduRefusal → Fate
+fate_by_form asset says octets (Some refusal) = asdu_refused decider.Form (refusal_reason refusal) octets 0
+fate_by_form asset says octets None = fate_of_acts asset says (commands.acts (asdu_in octets))
 
 -- the fate of a client's ASDU: whether it is too short is tested before the station, the rest of the form after it
-abbrev pub fate_of_asdu : Asset → ℕ → List ℕ → Fate
-fate_of_asdu asset client octets =
+abbrev pub fate_of_asdu : Asset → Says → List ℕ → Fate
+fate_of_asdu asset says octets =
     if nat_lt (length octets) 9 then asdu_refused decider.Form (refusal_reason refusal.Short) octets 0
-    else (if nat_eq (station_of octets) asset.station then fate_by_form asset client octets (asdus.first_refusal (asdu_in octets))
+    else (if nat_eq (station_of octets) asset.station then fate_by_form asset says octets (asdus.first_refusal (asdu_in octets))
     else asdu_refused decider.Station reason.Station octets (station_of octets))
 
 abbrev pub or_cut : Option CutReason → Fate → Fate
@@ -58,14 +59,14 @@ or_cut None f = f
 or_cut (Some because) f = fate.Cuts because
 
 -- the fate of an I frame's ASDU, once its numbers are right
-abbrev pub fate_of_info : Asset → ℕ → Side → List ℕ → Fate
-fate_of_info asset client side.Client asdu = fate_of_asdu asset client asdu
-fate_of_info asset client side.Controller asdu = fate.Carried
+abbrev pub fate_of_info : Asset → Says → Side → List ℕ → Fate
+fate_of_info asset says side.Client asdu = fate_of_asdu asset says asdu
+fate_of_info asset says side.Controller asdu = fate.Carried
 
-abbrev pub fate_of_apdu : Asset → ℕ → Side → List Judged → ApduValue → Fate
-fate_of_apdu asset client s earlier (Control octet) = fate.Carried
-fate_of_apdu asset client s earlier (Ack receive) = or_cut (ack_cut s earlier receive) fate.Carried
-fate_of_apdu asset client s earlier (Info send receive asdu) = or_cut (info_cut s earlier send receive) (fate_of_info asset client s asdu)
+abbrev pub fate_of_apdu : Asset → Says → Side → List Judged → ApduValue → Fate
+fate_of_apdu asset says s earlier (Control octet) = fate.Carried
+fate_of_apdu asset says s earlier (Ack receive) = or_cut (ack_cut s earlier receive) fate.Carried
+fate_of_apdu asset says s earlier (Info send receive asdu) = or_cut (info_cut s earlier send receive) (fate_of_info asset says s asdu)
 
 -- the S unit that a refused command leaves towards the controller, where it acknowledges more
 abbrev pub ack_octets : Option ℕ → List ℕ
@@ -75,7 +76,7 @@ ack_octets (Some receive) = apdu_spelling (Ack receive)
 abbrev pub ack_output : List Judged → Fate → ℕ → List ℕ
 ack_output earlier (fate.Refused refusal) receive = ack_octets (owed_ack (events_of earlier) receive)
 ack_output earlier fate.Carried receive = []
-ack_output earlier fate.Admitted receive = []
+ack_output earlier (fate.Admitted used) receive = []
 ack_output earlier (fate.Stray because) receive = []
 ack_output earlier fate.Lengthens receive = []
 ack_output earlier (fate.Cuts because) receive = []
@@ -90,7 +91,7 @@ mirror_output earlier (fate.Refused refusal) (Info send receive asdu) =
 mirror_output earlier (fate.Refused refusal) (Ack receive) = []
 mirror_output earlier (fate.Refused refusal) (Control octet) = []
 mirror_output earlier fate.Carried a = []
-mirror_output earlier fate.Admitted a = []
+mirror_output earlier (fate.Admitted used) a = []
 mirror_output earlier (fate.Stray because) a = []
 mirror_output earlier fate.Lengthens a = []
 mirror_output earlier (fate.Cuts because) a = []

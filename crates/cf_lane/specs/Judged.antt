@@ -28,7 +28,7 @@ abbrev pub has_ended : Side → List Judged → Bool
 has_ended s js = list_any (λ j. ends s j.item) js
 
 abbrev pub is_admitted : Fate → Bool
-is_admitted fate.Admitted = true
+is_admitted (fate.Admitted used) = true
 is_admitted f = false
 
 abbrev pub is_refused : Fate → Bool
@@ -57,7 +57,7 @@ in_turn put earlier (j ∷ js) = put earlier j ++ in_turn put (earlier ++ j ∷ 
 -- an item of this fate goes on to the other side
 abbrev pub goes_on : Fate → Bool
 goes_on fate.Carried = true
-goes_on fate.Admitted = true
+goes_on (fate.Admitted used) = true
 goes_on (fate.Refused refusal) = false
 goes_on (fate.Stray because) = false
 goes_on fate.Lengthens = false

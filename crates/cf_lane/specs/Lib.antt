@@ -16,6 +16,9 @@ pub mod Modbus
 pub mod Numbers
 pub mod Output
 pub mod Passes
+pub mod Rates
 pub mod Renumbered
+pub mod Ring
+pub mod Rings
 pub mod Rows
 pub mod Unit

@@ -46,7 +46,7 @@ abbrev pub unit_lines : Asset → Endpoint → ℕ → (replied : Bool) → Side
 unit_lines asset client moment replied s octets (fate.Refused refusal) = line_about asset client moment (refusal_line asset refusal replied octets) ∷ []
 unit_lines asset client moment replied s octets (fate.Stray because) = line_about asset client moment (Stray s because) ∷ []
 unit_lines asset client moment replied s octets fate.Carried = []
-unit_lines asset client moment replied s octets fate.Admitted = []
+unit_lines asset client moment replied s octets (fate.Admitted used) = []
 unit_lines asset client moment replied s octets fate.Lengthens = []
 unit_lines asset client moment replied s octets (fate.Cuts because) = []
 

@@ -1,5 +1,6 @@
 -- Modbus in the lane: the fate of an ADU, what it puts into the stream to each side, and what its line shows.
 -- Modbus Application Protocol V1.1b3; fates are this project's own.
+use Rattle.cf_lane.specs.Rates.{Says}
 use Rattle.cf_lane.specs.Acts.{fate_of_acts}
 use Rattle.cf_lane.specs.Judged.{goes_on}
 use Rattle.cf_lane.specs.declared.fate.Fate.{Fate}
@@ -30,22 +31,22 @@ abbrev pub form_refusal : AduValue → RequestRefusal → Refusal
 form_refusal a refusal = record { decider = decider.Form; reason = refusal_reason refusal; act = whole_act a 0 }
 
 -- the fate of a client's ADU: the station is compared first, then the form is read, then the acts are judged
-pub data HasCommandFate (asset : Asset) (client : ℕ) (a : AduValue) (f : Fate) : Type 0 where
-  of_other_station : a.unit ≢ asset.station → f ≡ fate.Refused (station_refusal a) → HasCommandFate asset client a f
-  of_no_form : a.unit ≡ asset.station → (refusal : RequestRefusal) → Reads (Err refusal) a.pdu → f ≡ fate.Refused (form_refusal a refusal) → HasCommandFate asset client a f
-  of_its_acts : a.unit ≡ asset.station → (r : RequestValue) → Reads (Ok r) a.pdu → f ≡ fate_of_acts asset client (acts r) → HasCommandFate asset client a f
+pub data HasCommandFate (asset : Asset) (says : Says) (a : AduValue) (f : Fate) : Type 0 where
+  of_other_station : a.unit ≢ asset.station → f ≡ fate.Refused (station_refusal a) → HasCommandFate asset says a f
+  of_no_form : a.unit ≡ asset.station → (refusal : RequestRefusal) → Reads (Err refusal) a.pdu → f ≡ fate.Refused (form_refusal a refusal) → HasCommandFate asset says a f
+  of_its_acts : a.unit ≡ asset.station → (r : RequestValue) → Reads (Ok r) a.pdu → f ≡ fate_of_acts asset says (acts r) → HasCommandFate asset says a f
 
 -- the fate of an ADU: what the controller sends goes on
-abbrev pub HasAduFate : Asset → ℕ → Side → AduValue → Fate → Type 0
-HasAduFate asset client side.Client a f = HasCommandFate asset client a f
-HasAduFate asset client side.Controller a f = f ≡ fate.Carried
+abbrev pub HasAduFate : Asset → Says → Side → AduValue → Fate → Type 0
+HasAduFate asset says side.Client a f = HasCommandFate asset says a f
+HasAduFate asset says side.Controller a f = f ≡ fate.Carried
 
 -- a reply is the exception response; nothing follows an End
 abbrev pub adu_reply : (ended : Bool) → Fate → AduValue → List ℕ
 adu_reply true f a = []
 adu_reply false (fate.Refused refusal) a = spelling (exception_of a refusal.reason)
 adu_reply false fate.Carried a = []
-adu_reply false fate.Admitted a = []
+adu_reply false (fate.Admitted used) a = []
 adu_reply false (fate.Stray because) a = []
 adu_reply false fate.Lengthens a = []
 adu_reply false (fate.Cuts because) a = []

@@ -25,7 +25,7 @@ has_mirror earlier asdu = if has_ended side.Controller earlier then false else n
 
 -- a client's I frame, by its fate
 abbrev pub command_event : Fate → (receive : ℕ) → (mirrored : Bool) → List Event
-command_event fate.Admitted receive mirrored = Admitted receive ∷ []
+command_event (fate.Admitted used) receive mirrored = Admitted receive ∷ []
 command_event (fate.Refused refusal) receive mirrored = Refused receive mirrored ∷ []
 command_event fate.Carried receive mirrored = []
 command_event (fate.Stray because) receive mirrored = []

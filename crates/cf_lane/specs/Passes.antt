@@ -15,7 +15,7 @@ use Rattle.cf_lane.specs.Unit.{Adu, Apdu, Frame, apdu_spelling, frame_spelling}
 use Rattle.cf_modbus.specs.Adu.{AduValue, spelling}
 use Rattle.cf_modbus.specs.Request.{Reads, RequestValue}
 use Rattle.cf_policy.specs.Laws.{IsAllowed}
-use Rattle.cf_policy.specs.Verdict.{verdict_of}
+use Rattle.cf_lane.specs.Rates.{Says, says_at}
 use Rattle.cf_policy.specs.declared.Asset.{Asset}
 use Rattle.cf_renumber.specs.Counts.{admitted_stamp, client_translated, owed_ack}
 use Rattle.cf_view.specs.declared.Act.{Act}
@@ -26,29 +26,29 @@ use Rattle.cf_dnpobj.specs.Acts as fragments
 use Rattle.cf_modbus.specs.Acts as requests
 use Rattle.cf_view.specs.declared.Side.TheVariants as side
 
--- each act is allowed
-abbrev pub AreAllowed : Asset → ℕ → List Act → Type 0
-AreAllowed asset client acts = AllByRecursion (λ act. IsAllowed (verdict_of asset client act)) acts
+-- each act is allowed, by a rule that is not spent
+abbrev pub AreAllowed : Says → List Act → Type 0
+AreAllowed says acts = AllByRecursion (λ act. IsAllowed (says act)) acts
 
 -- Modbus: the station is the asset's, the form is read, and each act is allowed
-pub record IsAllowedCommand (asset : Asset) (client : ℕ) (a : AduValue) : Type 0 where
+pub record IsAllowedCommand (asset : Asset) (says : Says) (a : AduValue) : Type 0 where
   pub station : a.unit ≡ asset.station
   pub request : RequestValue
   pub form : Reads (Ok request) a.pdu
-  pub each : AreAllowed asset client (requests.acts request)
+  pub each : AreAllowed says (requests.acts request)
 
 -- DNP3: the form is read, and each act is allowed. The station is that of the frames
-pub record IsAllowedFragment (asset : Asset) (client : ℕ) (octets : List ℕ) : Type 0 where
+pub record IsAllowedFragment (asset : Asset) (says : Says) (octets : List ℕ) : Type 0 where
   pub value : FragmentValue
   pub form : read_octets octets ≡ Ok value
-  pub each : AreAllowed asset client (fragments.acts value)
+  pub each : AreAllowed says (fragments.acts value)
 
 -- IEC 60870-5-104: the station is the asset's, the form is right, and each act is allowed
-pub record IsAllowedAsdu (asset : Asset) (client : ℕ) (octets : List ℕ) : Type 0 where
+pub record IsAllowedAsdu (asset : Asset) (says : Says) (octets : List ℕ) : Type 0 where
   pub whole : 9 ≤ length octets
   pub station : station_of octets ≡ asset.station
   pub form : first_refusal (asdu_in octets) ≡ None
-  pub each : AreAllowed asset client (asdus.acts (asdu_in octets))
+  pub each : AreAllowed says (asdus.acts (asdu_in octets))
 
 -- these octets stand at the front, and what follows is right
 abbrev pub Leaves : List ℕ → (List ℕ → Type 0) → List ℕ → Type 0
@@ -63,53 +63,53 @@ abbrev pub confirms : Result FragmentValue FragmentRefusal → Bool
 confirms (Ok f) = nat_eq f.code 0
 confirms (Err refusal) = false
 
-abbrev pub CommandGoes : (confirming : Bool) → Asset → ℕ → List Judged → List ℕ → (List ℕ → Type 0) → List ℕ → Type 0
-CommandGoes true asset client earlier octets Rest out = Leaves (fragment_frames asset side.Controller earlier octets) Rest out
-CommandGoes false asset client earlier octets Rest out =
-    Goes (IsAllowedFragment asset client octets) (fragment_frames asset side.Controller earlier octets) [] Rest out
+abbrev pub CommandGoes : (confirming : Bool) → Asset → Says → List Judged → List ℕ → (List ℕ → Type 0) → List ℕ → Type 0
+CommandGoes true asset says earlier octets Rest out = Leaves (fragment_frames asset side.Controller earlier octets) Rest out
+CommandGoes false asset says earlier octets Rest out =
+    Goes (IsAllowedFragment asset says octets) (fragment_frames asset side.Controller earlier octets) [] Rest out
 
 -- fewer than two octets are no fragment
-abbrev pub FragmentGoes : (short : Bool) → Asset → ℕ → List Judged → List ℕ → (List ℕ → Type 0) → List ℕ → Type 0
-FragmentGoes true asset client earlier octets Rest out = Leaves [] Rest out
-FragmentGoes false asset client earlier octets Rest out = CommandGoes (confirms (read_octets octets)) asset client earlier octets Rest out
+abbrev pub FragmentGoes : (short : Bool) → Asset → Says → List Judged → List ℕ → (List ℕ → Type 0) → List ℕ → Type 0
+FragmentGoes true asset says earlier octets Rest out = Leaves [] Rest out
+FragmentGoes false asset says earlier octets Rest out = CommandGoes (confirms (read_octets octets)) asset says earlier octets Rest out
 
-abbrev pub WholeGoes : (whole : List (List ℕ)) → Asset → ℕ → List Judged → (List ℕ → Type 0) → List ℕ → Type 0
-WholeGoes [] asset client earlier Rest out = Leaves [] Rest out
-WholeGoes (octets ∷ none) asset client earlier Rest out = FragmentGoes (nat_lt (length octets) 2) asset client earlier octets Rest out
+abbrev pub WholeGoes : (whole : List (List ℕ)) → Asset → Says → List Judged → (List ℕ → Type 0) → List ℕ → Type 0
+WholeGoes [] asset says earlier Rest out = Leaves [] Rest out
+WholeGoes (octets ∷ none) asset says earlier Rest out = FragmentGoes (nat_lt (length octets) 2) asset says earlier octets Rest out
 
 -- a client's frame that is served: the fragment that it completes is cut anew, and a link status frame goes as it is
-abbrev pub FrameGoes : (served with_data : Bool) → Asset → ℕ → List Judged → FrameValue → (List ℕ → Type 0) → List ℕ → Type 0
-FrameGoes false with_data asset client earlier x Rest out = Leaves [] Rest out
-FrameGoes true true asset client earlier x Rest out = WholeGoes (whole_now asset side.Client earlier x) asset client earlier Rest out
-FrameGoes true false asset client earlier x Rest out = Leaves (frame_spelling x) Rest out
+abbrev pub FrameGoes : (served with_data : Bool) → Asset → Says → List Judged → FrameValue → (List ℕ → Type 0) → List ℕ → Type 0
+FrameGoes false with_data asset says earlier x Rest out = Leaves [] Rest out
+FrameGoes true true asset says earlier x Rest out = WholeGoes (whole_now asset side.Client earlier x) asset says earlier Rest out
+FrameGoes true false asset says earlier x Rest out = Leaves (frame_spelling x) Rest out
 
 -- a client's I frame whose numbers are right goes on with those of its place; a refused one may leave an S frame
-abbrev pub InfoGoes : (cut : Option CutReason) → Asset → ℕ → List Judged → (receive : ℕ) → (asdu : List ℕ) → (List ℕ → Type 0) → List ℕ → Type 0
-InfoGoes (Some because) asset client earlier receive asdu Rest out = Leaves [] Rest out
-InfoGoes None asset client earlier receive asdu Rest out =
-    Goes (IsAllowedAsdu asset client asdu) (apdu_spelling (stamped (admitted_stamp (events_of earlier) receive) asdu)) (ack_octets (owed_ack (events_of earlier) receive))
+abbrev pub InfoGoes : (cut : Option CutReason) → Asset → Says → List Judged → (receive : ℕ) → (asdu : List ℕ) → (List ℕ → Type 0) → List ℕ → Type 0
+InfoGoes (Some because) asset says earlier receive asdu Rest out = Leaves [] Rest out
+InfoGoes None asset says earlier receive asdu Rest out =
+    Goes (IsAllowedAsdu asset says asdu) (apdu_spelling (stamped (admitted_stamp (events_of earlier) receive) asdu)) (ack_octets (owed_ack (events_of earlier) receive))
     Rest out
 
 abbrev pub AckGoes : (cut : Option CutReason) → List Judged → (receive : ℕ) → (List ℕ → Type 0) → List ℕ → Type 0
 AckGoes (Some because) earlier receive Rest out = Leaves [] Rest out
 AckGoes None earlier receive Rest out = Leaves (apdu_spelling (Ack (client_translated (events_of earlier) receive % 32768))) Rest out
 
-abbrev pub ApduGoes : Asset → ℕ → List Judged → ApduValue → (List ℕ → Type 0) → List ℕ → Type 0
-ApduGoes asset client earlier (Info send receive asdu) Rest out =
-    InfoGoes (info_cut side.Client earlier send receive) asset client earlier receive asdu Rest out
-ApduGoes asset client earlier (Ack receive) Rest out = AckGoes (ack_cut side.Client earlier receive) earlier receive Rest out
-ApduGoes asset client earlier (Control octet) Rest out = Leaves (apdu_spelling (Control octet)) Rest out
+abbrev pub ApduGoes : Asset → Says → List Judged → ApduValue → (List ℕ → Type 0) → List ℕ → Type 0
+ApduGoes asset says earlier (Info send receive asdu) Rest out =
+    InfoGoes (info_cut side.Client earlier send receive) asset says earlier receive asdu Rest out
+ApduGoes asset says earlier (Ack receive) Rest out = AckGoes (ack_cut side.Client earlier receive) earlier receive Rest out
+ApduGoes asset says earlier (Control octet) Rest out = Leaves (apdu_spelling (Control octet)) Rest out
 
 -- what an item puts into the stream to the controller, and what follows it there
-abbrev pub ItemGoes : Asset → ℕ → List Judged → Item → (List ℕ → Type 0) → List ℕ → Type 0
-ItemGoes asset client earlier (Took side.Client (Adu a)) Rest out = Goes (IsAllowedCommand asset client a) (spelling a) [] Rest out
-ItemGoes asset client earlier (Took side.Client (Frame x)) Rest out = FrameGoes (is_none (stray_of asset side.Client x)) (is_data x) asset client earlier x Rest out
-ItemGoes asset client earlier (Took side.Client (Apdu a)) Rest out = ApduGoes asset client earlier a Rest out
-ItemGoes asset client earlier (Took side.Controller u) Rest out = Leaves [] Rest out
-ItemGoes asset client earlier (Ended s n) Rest out = Leaves [] Rest out
-ItemGoes asset client earlier (Broke s b) Rest out = Leaves [] Rest out
+abbrev pub ItemGoes : Asset → Says → List Judged → Item → (List ℕ → Type 0) → List ℕ → Type 0
+ItemGoes asset says earlier (Took side.Client (Adu a)) Rest out = Goes (IsAllowedCommand asset says a) (spelling a) [] Rest out
+ItemGoes asset says earlier (Took side.Client (Frame x)) Rest out = FrameGoes (is_none (stray_of asset side.Client x)) (is_data x) asset says earlier x Rest out
+ItemGoes asset says earlier (Took side.Client (Apdu a)) Rest out = ApduGoes asset says earlier a Rest out
+ItemGoes asset says earlier (Took side.Controller u) Rest out = Leaves [] Rest out
+ItemGoes asset says earlier (Ended s n) Rest out = Leaves [] Rest out
+ItemGoes asset says earlier (Broke s b) Rest out = Leaves [] Rest out
 
 -- what items put there one after the other, behind the earlier ones
 abbrev pub Passes : Asset → ℕ → (earlier js : List Judged) → List ℕ → Type 0
 Passes asset client earlier [] out = out ≡ []
-Passes asset client earlier (j ∷ js) out = ItemGoes asset client earlier j.item (Passes asset client (earlier ++ j ∷ []) js) out
+Passes asset client earlier (j ∷ js) out = ItemGoes asset (says_at asset client earlier j.moment) earlier j.item (Passes asset client (earlier ++ j ∷ []) js) out

@@ -1,12 +1,13 @@
 -- What an APDU does to the numbers, the queues and the log of an IEC 60870-5-104 lane, whatever items came before it: the main
 -- definition is TakesApdu.
+use Rattle.cf_lane.specs.Rates.{Says}
 use Rattle.cf_apci.specs.Apdu.{ApduValue}
 use Rattle.cf_asdu.specs.Mirror.{mirrored}
 use Rattle.cf_audit.specs.declared.line.CutReason.{CutReason}
 use Rattle.cf_lane.specs.Handled.{MayHaveMore}
 use Rattle.cf_lane.specs.Iec104.{apdu_octets, apdu_output, fate_of_apdu, stamped}
 use Rattle.cf_lane.specs.Item.{Took}
-use Rattle.cf_lane.specs.Judged.{Judged, cut_by, has_ended}
+use Rattle.cf_lane.specs.Judged.{Judged, cut_by, has_ended, is_admitted}
 use Rattle.cf_lane.specs.Log.{is_some_bytes, unit_lines, with_lines}
 use Rattle.cf_lane.specs.Numbers.{events_of, item_event}
 use Rattle.cf_lane.specs.Unit.{Apdu, apdu_spelling}
@@ -18,7 +19,7 @@ use Rattle.cf_renumber.specs.Numbers.{IsNumbersOf, NumbersValue}
 use Rattle.cf_renumber.specs.declared.answer.Stamp.{Stamp}
 use Rattle.cf_view.specs.declared.Endpoint.{Endpoint}
 use Rattle.cf_view.specs.declared.Side.{Side}
-use Rattle.std.specs.Prelude.{List, None, Option, Some, [], reverse, true, ℕ, ◌++◌, ◌≡◌}
+use Rattle.std.specs.Prelude.{List, None, Option, Some, [], false, reverse, true, ℕ, ◌++◌, ◌≡◌}
 use Rattle.cf_view.specs.declared.Side.TheVariants as side
 use Rattle.cf_lane.specs.declared.lane.Step.TheVariants as step
 
@@ -33,8 +34,8 @@ abbrev pub numbered : NumbersValue → Queue → Queue → Option (List (List �
 numbered numbers to_client to_controller lines = record { numbers = numbers; to_client = to_client; to_controller = to_controller; lines = lines }
 
 -- what an APDU of a side does after earlier items: its fate, the streams to both sides, its lines, and the numbers
-pub record DoesApdu (asset : Asset) (client : Endpoint) (moment : ℕ) (s : Side) (a : ApduValue) (f : Fate) (old new : Numbered) (earlier : List Judged) : Type 0 where
-  pub fate : f ≡ fate_of_apdu asset client.address s earlier a
+pub record DoesApdu (asset : Asset) (says : Says) (client : Endpoint) (moment : ℕ) (s : Side) (a : ApduValue) (f : Fate) (old new : Numbered) (earlier : List Judged) : Type 0 where
+  pub fate : f ≡ fate_of_apdu asset says s earlier a
   pub numbers : cut_by f ≡ None → IsNumbersOf new.numbers (reverse (item_event earlier f (Took s (Apdu a))) ++ events_of earlier)
   pub of_client : new.to_client ≡ after_push old.to_client (apdu_output side.Client earlier f s a)
   pub of_controller : new.to_controller ≡ after_push old.to_controller (apdu_output side.Controller earlier f s a)
@@ -44,17 +45,18 @@ pub record DoesApdu (asset : Asset) (client : Endpoint) (moment : ℕ) (s : Side
   pub controller_quiet : old.to_controller.ended ≡ true → apdu_output side.Controller earlier f s a ≡ []
 
 -- an APDU of a side was taken by its fate, whatever items came before
-abbrev pub TakesApdu : Asset → Endpoint → (moment : ℕ) → Side → ApduValue → Fate → (old new : Numbered) → Type 0
-TakesApdu asset client moment s a f old new =
+abbrev pub TakesApdu : Asset → Says → Endpoint → (moment : ℕ) → Side → ApduValue → Fate → (old new : Numbered) → Type 0
+TakesApdu asset says client moment s a f old new =
     (earlier : List Judged) → IsNumbersOf old.numbers (events_of earlier) → old.to_client.ended ≡ has_ended side.Controller earlier →
-    DoesApdu asset client moment s a f old new earlier
+    DoesApdu asset says client moment s a f old new earlier
 
 -- an APDU was taken but for its line, of which the log may have a part or all
-pub record MissesApdu (asset : Asset) (client : Endpoint) (moment : ℕ) (s : Side) (a : ApduValue) (old : Numbered) (log : Option (List (List ℕ))) (part : List ℕ) : Type 0 where
+pub record MissesApdu (asset : Asset) (says : Says) (client : Endpoint) (moment : ℕ) (s : Side) (a : ApduValue) (old : Numbered) (log : Option (List (List ℕ))) (part : List ℕ) : Type 0 where
   pub fate : Fate
   pub uncut : cut_by fate ≡ None
+  pub unadmitted : is_admitted fate ≡ false
   pub new : Numbered
-  pub takes : TakesApdu asset client moment s a fate old new
+  pub takes : TakesApdu asset says client moment s a fate old new
   pub more : List (List ℕ)
   pub are_more : (earlier : List Judged) → IsNumbersOf old.numbers (events_of earlier) → old.to_client.ended ≡ has_ended side.Controller earlier →
       unit_lines asset client moment (is_some_bytes (apdu_output side.Client earlier fate s a)) s (apdu_octets a) fate ≡ more

@@ -1,4 +1,5 @@
 -- Worked exchanges, evaluated: a check of the definitions alone.
+use Rattle.cf_lane.specs.Rates.{says_at}
 use Rattle.cf_apci.specs.Apdu.{Ack, ApduValue, Control, Info}
 use Rattle.cf_dnplink.specs.Crc.{crc_of}
 use Rattle.cf_dnplink.specs.LinkFrame.{FrameValue, frame_with}
@@ -17,7 +18,7 @@ use Rattle.cf_policy.specs.declared.Span.{Span}
 use Rattle.cf_view.specs.Octets.{u16_le_octets}
 use Rattle.cf_view.specs.declared.Endpoint.{Endpoint}
 use Rattle.cf_view.specs.declared.Side.{Side}
-use Rattle.std.specs.Prelude.{List, Some, [], codes, drop, pos, replicate, slice_index, take, true, ℕ, ◌++◌, ◌+◌, ◌∷◌, ◌≡◌}
+use Rattle.std.specs.Prelude.{List, None, Some, [], codes, drop, pos, replicate, slice_index, take, true, ℕ, ◌++◌, ◌+◌, ◌∷◌, ◌≡◌}
 use Rattle.cf_policy.specs.declared.Action.TheVariants as action
 use Rattle.cf_view.specs.declared.Break.TheVariants as break
 use Rattle.cf_audit.specs.declared.line.CutReason.TheVariants as cut
@@ -37,7 +38,7 @@ iec104_asset = record {
   protocol = protocol.Iec104;
   station = 1;
   master = 0;
-  rules = record { name = []; action = action.Allow; clients = []; codes = one 45 ∷ []; groups = one 6 ∷ []; points = one 1000 ∷ []; values = [] } ∷ [];
+  rules = record { name = []; action = action.Allow; clients = []; codes = one 45 ∷ []; groups = one 6 ∷ []; points = one 1000 ∷ []; values = []; rate = None } ∷ [];
 }
 
 abbrev pub dnp3_asset : Asset
@@ -45,8 +46,8 @@ dnp3_asset = record { name = []; endpoint = record { address = 0; port = 20000 }
 
 abbrev pub unit_fate : Asset → List Judged → Side → UnitValue → Fate
 unit_fate asset earlier s (Adu a) = fate.Carried
-unit_fate asset earlier s (Frame x) = fate_of_frame asset 0 s earlier x (stray_of asset s x)
-unit_fate asset earlier s (Apdu a) = fate_of_apdu asset 0 s earlier a
+unit_fate asset earlier s (Frame x) = fate_of_frame asset (says_at asset 0 earlier 0) s earlier x (stray_of asset s x)
+unit_fate asset earlier s (Apdu a) = fate_of_apdu asset (says_at asset 0 earlier 0) s earlier a
 
 abbrev pub judge_all : Asset → List Judged → List (Side × UnitValue) → List Judged
 judge_all asset earlier [] = []
@@ -122,13 +123,13 @@ abbrev pub by_default : Fate
 by_default = fate.Refused (record { decider = decider.Default; reason = reason.Point; act = record { code = 6; group = 0; point = 50; value = Some (pos 100) } })
 
 abbrev pub a_write_refused_then_one_admitted : List Judged
-a_write_refused_then_one_admitted = from_client (write_of 50 100) by_default ∷ from_client (write_of 40 100) fate.Admitted ∷ record { moment = 0; item = Ended side.Client 0; fate = fate.Carried } ∷ []
+a_write_refused_then_one_admitted = from_client (write_of 50 100) by_default ∷ from_client (write_of 40 100) (fate.Admitted []) ∷ record { moment = 0; item = Ended side.Client 0; fate = fate.Carried } ∷ []
 
 abbrev pub refused_behind_the_end : List Judged
 refused_behind_the_end = record { moment = 0; item = Ended side.Controller 0; fate = fate.Carried } ∷ from_client (write_of 50 100) by_default ∷ []
 
 abbrev pub broken_behind_a_write : List Judged
-broken_behind_a_write = from_client (write_of 40 100) fate.Admitted ∷ record { moment = 0; item = Broke side.Client break.Protocol; fate = fate.Cuts (cut.Framing side.Client break.Protocol) } ∷ []
+broken_behind_a_write = from_client (write_of 40 100) (fate.Admitted []) ∷ record { moment = 0; item = Broke side.Client break.Protocol; fate = fate.Cuts (cut.Framing side.Client break.Protocol) } ∷ []
 
 abbrev pub stored : Endpoint
 stored = record { address = 167772165; port = 0 }

@@ -6,6 +6,7 @@ ghost use Rattle.cf_policy.specs.Within.{IsAssetWithin};
 ghost use Rattle.cf_dnplink.specs.LinkFrame.{IsFrame, frame_value};
 ghost use Rattle.cf_lane.specs.Unit.{frame_spelling};
 ghost use Rattle.cf_lane.specs.Fragments.{LaneMissesFrame, LaneTakesFrame};
+ghost use Rattle.cf_lane.specs.Rings.{says_by};
 ghost use Rattle.cf_lane.specs.Handled.{IsLaneOf, Steps, Misses, Grows, CountsBy, HasRoom, IsOpen, WritesLog, debt, letters_in, state};
 
 mod fragments;
@@ -72,7 +73,7 @@ impl Lane {
                     to_controller,
                     desk,
                 )?;
-                self.count(&fate);
+                self.count(&fate, moment);
                 Ok(Step::Took(used))
             }
         }
@@ -99,10 +100,10 @@ impl Lane {
         requires open { IsOpen side to_client.old to_controller.old }
         requires client_room { HasRoom (debt self.old + 2 * length octets.now.bytes) to_client.old }
         requires controller_room { HasRoom (debt self.old + 2 * length octets.now.bytes) to_controller.old }
-        ensures takes { IfOk result (λ f. LaneTakesFrame asset.now moment side (frame_value frame.now) f
+        ensures takes { IfOk result (λ f. LaneTakesFrame asset.now (says_by asset.now self.old.client.address self.old.rules moment) moment side (frame_value frame.now) f
             (state self.old to_client.old to_controller.old (DeskValue.lines (D.value desk.old)))
             (state self.new to_client.new to_controller.new (DeskValue.lines (D.value desk.new)))) }
-        ensures misses { OnErr result (LaneMissesFrame asset.now moment side (frame_value frame.now)
+        ensures misses { OnErr result (LaneMissesFrame asset.now (says_by asset.now self.old.client.address self.old.rules moment) moment side (frame_value frame.now)
             (state self.old to_client.old to_controller.old (DeskValue.lines (D.value desk.old)))
             (DeskValue.lines (D.value desk.new)) (DeskValue.line_part (D.value desk.new))) }
         ensures of_asset { OnOk result (IsLaneOf asset.now self.new) }
@@ -116,7 +117,7 @@ impl Lane {
             Wire::Dnp3(fragments) => {
                 let fate = fragments.take_frame(
                     asset,
-                    &self.index,
+                    &self.rules,
                     &self.client,
                     moment,
                     side,

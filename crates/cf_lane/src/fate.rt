@@ -3,14 +3,16 @@ ghost use Rattle.std.specs.Prelude.{◌≡◌, ◌<◌, ◌≤◌, List, ℕ, le
 ghost use Rattle.cf_modbus.specs.Acts.{acts};
 ghost use Rattle.cf_modbus.specs.Adu.{adu_value};
 ghost use Rattle.cf_modbus.specs.Request.{IsRead, request_value};
-ghost use Rattle.cf_policy.specs.Index.{IsIndexOf};
+ghost use Rattle.cf_policy.specs.Within.{most_rated};
+ghost use Rattle.cf_lane.specs.Rings.{IsRulesOf, says_by};
 ghost use Rattle.cf_lane.specs.Acts.{GivesActs, fate_of_acts};
 ghost use Rattle.cf_lane.specs.Fate.{HasOwnDecider, IsOfCommand};
 ghost use Rattle.cf_lane.specs.Modbus.{HasCommandFate};
 
+use crate::rules::Rules;
 use cf_audit::{CutReason, Why};
 use cf_modbus::{Adu, Request, act_at, act_count, read_request};
-use cf_policy::{Asset, CodeIndex, Decider, Verdict};
+use cf_policy::{Asset, Decider, MOST_RATED, Verdict};
 use cf_view::{Act, Reason};
 
 /// Why a command is refused.
@@ -28,8 +30,8 @@ pub struct Refusal {
 pub enum Fate {
     /// It goes on unjudged.
     Carried,
-    /// A command that goes on.
-    Admitted,
+    /// A command that goes on. For each rule with a rate, in their order: whether it decided one of the command's acts.
+    Admitted([bool; MOST_RATED]),
     /// A command that is answered in the controller's place, and goes no further.
     Refused(Refusal),
     /// A DNP3 frame, segment or fragment that goes nowhere.
@@ -40,12 +42,13 @@ pub enum Fate {
     Cuts(CutReason),
 }
 
-/// The fate of an ADU of the client of the index. The station is compared first, then the form is read, then each act is judged in its
+/// The fate of an ADU of the client of the rules, at a moment. The station is compared first, then the form is read, then each act is judged in its
 /// order; the first that is not allowed decides. This project's own order.
-pub fn judge(asset: &Asset, index: &CodeIndex, adu: &Adu<'_>) -> Fate
+pub(crate) fn judge(asset: &Asset, rules: &Rules, moment: u64, adu: &Adu<'_>) -> Fate
     requires at_least { 1 ≤ length adu.now.pdu.bytes }
     requires at_most { length adu.now.pdu.bytes ≤ 253 }
-    ensures fate { (client : ℕ) → IsIndexOf asset.now client index.now → HasCommandFate asset.now client (adu_value adu.now) result }
+    requires few { length rules.now.rings.items ≤ most_rated }
+    ensures fate { (client : ℕ) → IsRulesOf asset.now client rules.now → HasCommandFate asset.now (says_by asset.now client rules.now moment) (adu_value adu.now) result }
     ensures decider { HasOwnDecider asset.now.rules result }
     ensures command { IsOfCommand result }
 {
@@ -55,7 +58,9 @@ pub fn judge(asset: &Asset, index: &CodeIndex, adu: &Adu<'_>) -> Fate
     }
     match read_request(adu) {
         Err(refusal) => refused(Decider::Form, refusal.reason(), code, 0),
-        Ok(request) => judge_acts(asset, index, act_count(&request), |i| act_at(&request, i)),
+        Ok(request) => judge_acts(asset, rules, moment, act_count(&request), |i| {
+            act_at(&request, i)
+        }),
     }
 }
 
@@ -79,20 +84,23 @@ pub(crate) fn refused(decider: Decider, reason: Reason, code: u16, point: u32) -
 /// allowed decides.
 pub(crate) fn judge_acts<F: Fn(u32) -> Act>(
     asset: &Asset,
-    index: &CodeIndex,
+    rules: &Rules,
+    moment: u64,
     count: u32,
     act_at: F,
 ) -> Fate
-    requires { (i : ℕ) → i < count → F.pre act_at i }
-    ensures fate { (client : ℕ) (acts : List Act) → IsIndexOf asset.now client index.now → length acts ≡ count → GivesActs (F.post act_at) acts
-        → result ≡ fate_of_acts asset.now client acts }
+    requires acts { (i : ℕ) → i < count → F.pre act_at i }
+    requires few { length rules.now.rings.items ≤ most_rated }
+    ensures fate { (client : ℕ) (acts : List Act) → IsRulesOf asset.now client rules.now → length acts ≡ count → GivesActs (F.post act_at) acts
+        → result ≡ fate_of_acts asset.now (says_by asset.now client rules.now moment) acts }
     ensures decider { HasOwnDecider asset.now.rules result }
     ensures command { IsOfCommand result }
 {
+    let mut used = [false; MOST_RATED];
     for i in 0..count {
         let act = act_at(i);
-        match index.verdict(asset, &act) {
-            Verdict::Allow(_) => {}
+        match rules.verdict(asset, moment, &act) {
+            Verdict::Allow(number) => rules.mark(number, &mut used),
             Verdict::Refuse(decider, reason) => {
                 return Fate::Refused(Refusal {
                     decider,
@@ -102,5 +110,5 @@ pub(crate) fn judge_acts<F: Fn(u32) -> Act>(
             }
         }
     }
-    Fate::Admitted
+    Fate::Admitted(used)
 }

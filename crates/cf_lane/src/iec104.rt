@@ -3,7 +3,7 @@ ghost use Rattle.std.specs.Prelude.{◌≡◌, ◌+◌, ◌*◌, ◌^◌, ◌<�
 ghost use Rattle.cf_apci.specs.Apdu.{Fits, apdu_value, spelling};
 ghost use Rattle.cf_outside.specs.Faults.{HasCause};
 ghost use Rattle.cf_outside.specs.Desk.{DeskValue};
-ghost use Rattle.cf_policy.specs.Index.{IsIndexOf};
+ghost use Rattle.cf_lane.specs.Rings.{IsRulesOf, says_by};
 ghost use Rattle.cf_policy.specs.Within.{IsAssetWithin};
 ghost use Rattle.cf_lane.specs.Handled.{IsLaneOf, Steps, Misses, Grows, CountsBy, HasRoom, IsOpen, WritesLog, debt, letters_in, state};
 ghost use Rattle.cf_lane.specs.Judged.{cut_by};
@@ -18,12 +18,13 @@ use crate::fate::Fate;
 use crate::iec104::carry::{carry_ack, carry_control, carry_info};
 use crate::iec104::command::take_command;
 use crate::lane::{Lane, Step, after};
+use crate::rules::Rules;
 use crate::wire::Wire;
 use cf_apci::{Apdu, next_apdu};
 use cf_audit::CutReason;
 use cf_outq::Outq;
 use cf_outside::Desk;
-use cf_policy::{Asset, CodeIndex, Protocol};
+use cf_policy::{Asset, Protocol};
 use cf_renumber::Numbers;
 use cf_view::{Endpoint, Framed, Side, View, WriteFault};
 
@@ -31,7 +32,7 @@ use cf_view::{Endpoint, Framed, Side, View, WriteFault};
 fn take_apdu<D: Desk>(
     numbers: &mut Numbers,
     asset: &Asset,
-    index: &CodeIndex,
+    rules: &Rules,
     client: &Endpoint,
     moment: u64,
     side: Side,
@@ -42,7 +43,7 @@ fn take_apdu<D: Desk>(
     desk: &mut D,
 ) -> Result<Fate, WriteFault>
     requires idle { numbers.old.owed ≡ None }
-    requires indexed { IsIndexOf asset.now client.now.address index.now }
+    requires rules { IsRulesOf asset.now client.now.address rules.now }
     requires within { IsAssetWithin asset.now }
     requires whole { DeskValue.whole (D.value desk.old) ≡ true }
     requires fits { Fits (apdu_value apdu.now) }
@@ -51,10 +52,10 @@ fn take_apdu<D: Desk>(
     requires client_room { HasRoom (length (spelling (apdu_value apdu.now))) to_client.old }
     requires controller_room { HasRoom (length (spelling (apdu_value apdu.now))) to_controller.old }
     ensures idle { OnOk result (numbers.new.owed ≡ None) }
-    ensures takes { IfOk result (λ f. TakesApdu asset.now client.now moment side (apdu_value apdu.now) f
+    ensures takes { IfOk result (λ f. TakesApdu asset.now (says_by asset.now client.now.address rules.now moment) client.now moment side (apdu_value apdu.now) f
         (numbered numbers.old to_client.old to_controller.old (DeskValue.lines (D.value desk.old)))
         (numbered numbers.new to_client.new to_controller.new (DeskValue.lines (D.value desk.new)))) }
-    ensures misses { OnErr result (MissesApdu asset.now client.now moment side (apdu_value apdu.now)
+    ensures misses { OnErr result (MissesApdu asset.now (says_by asset.now client.now.address rules.now moment) client.now moment side (apdu_value apdu.now)
         (numbered numbers.old to_client.old to_controller.old (DeskValue.lines (D.value desk.old)))
         (DeskValue.lines (D.value desk.new)) (DeskValue.line_part (D.value desk.new))) }
     ensures client_grows { IfOk result (λ f. Grows (unless_cut f (length (spelling (apdu_value apdu.now)))) 0 0 to_client.old to_client.new) }
@@ -84,7 +85,7 @@ fn take_apdu<D: Desk>(
             Side::Client => take_command(
                 numbers,
                 asset,
-                index,
+                rules,
                 client,
                 moment,
                 *send,
@@ -105,7 +106,7 @@ fn step_of(fate: &Fate, used: usize) -> Step
 {
     match fate {
         Fate::Cuts(reason) => Step::Cut(*reason),
-        Fate::Carried | Fate::Admitted | Fate::Refused(_) | Fate::Stray(_) | Fate::Lengthens => {
+        Fate::Carried | Fate::Admitted(_) | Fate::Refused(_) | Fate::Stray(_) | Fate::Lengthens => {
             Step::Took(used)
         }
     }
@@ -154,7 +155,7 @@ impl Lane {
                 let fate = take_apdu(
                     numbers,
                     asset,
-                    &self.index,
+                    &self.rules,
                     &self.client,
                     moment,
                     side,
@@ -164,7 +165,7 @@ impl Lane {
                     to_controller,
                     desk,
                 )?;
-                self.count(&fate);
+                self.count(&fate, moment);
                 Ok(step_of(&fate, used))
             }
         }

@@ -3,23 +3,25 @@ ghost use Rattle.std.specs.Prelude.{◌≡◌, ℕ, ◌+◌, ◌*◌, ◌^◌, �
 ghost use Rattle.cf_outq.specs.SendQueue.{Queue, IsQueueOf};
 ghost use Rattle.cf_outside.specs.Faults.{HasCause};
 ghost use Rattle.cf_outside.specs.Desk.{DeskValue};
-ghost use Rattle.cf_policy.specs.Within.{IsAssetWithin};
+ghost use Rattle.cf_policy.specs.Within.{IsAssetWithin, most_rated};
 ghost use Rattle.cf_stream.specs.Stream.{no_letters};
 ghost use Rattle.cf_view.specs.Octets.{IsOctets};
 ghost use Rattle.cf_lane.specs.Follows.{AddsTo, Began, BeganApart, FailsApart, Follows, FailsWithin, IsEndBehindCut, Rests, rest_of, with_rest, no_rests};
-ghost use Rattle.cf_lane.specs.Handled.{IsLaneOf, LaneValue, Steps, Misses, Grows, CountsBy, HasRoom, IsOpen, MayEnd, EndsOther, WritesLog, counted_by, cut_in, debt, letters_in, state};
+ghost use Rattle.cf_lane.specs.Handled.{IsLaneOf, LaneValue, Steps, Misses, Grows, CountsBy, HasRoom, IsOpen, MayEnd, EndsOther, WritesLog, cut_in, debt, letters_in, state};
 ghost use Rattle.cf_lane.specs.History.{Element, letters_at, end_at};
-ghost use Rattle.cf_lane.specs.Judged.{Judged};
+ghost use Rattle.cf_lane.specs.Judged.{Judged, is_admitted, is_refused, one_if};
+ghost use Rattle.cf_lane.specs.Rings.{RulesGoOn};
 ghost use Rattle.cf_lane.specs.Kept.{KnowsWire};
 ghost use Rattle.cf_lane.specs.Log.{has_unfinished};
 
 use crate::fate::Fate;
 use crate::log::log_end;
+use crate::rules::Rules;
 use crate::wire::Wire;
 use cf_audit::CutReason;
 use cf_outq::Outq;
 use cf_outside::Desk;
-use cf_policy::{Asset, CodeIndex, Protocol};
+use cf_policy::{Asset, Protocol};
 use cf_view::{Endpoint, NoMemory, Side, View, WriteFault};
 use std::alloc::Global;
 use std::marker::Model;
@@ -31,7 +33,7 @@ pub struct Lane {
     pub(crate) client: Endpoint,
     pub(crate) admitted: u64,
     pub(crate) refused: u64,
-    pub(crate) index: CodeIndex,
+    pub(crate) rules: Rules,
     pub(crate) wire: Wire,
 }
 
@@ -40,7 +42,7 @@ impl Model for Lane {
 
     ghost Value = { LaneValue };
 
-    ghost view = { λ l. record { client = l.client; admitted = l.admitted; refused = l.refused; index = l.index; wire = l.wire } };
+    ghost view = { λ l. record { client = l.client; admitted = l.admitted; refused = l.refused; rules = l.rules; wire = l.wire } };
 }
 
 /// What a lane made of bytes.
@@ -77,13 +79,13 @@ impl Lane {
             → IsQueueOf to_client no_letters → IsQueueOf to_controller no_letters
             → Follows asset.now [] no_rests None first (state lane to_client to_controller first)) }
     {
-        let index = CodeIndex::new(alloc, asset, client.address)?;
+        let rules = Rules::new(alloc, asset, client.address)?;
         let wire = Wire::new(alloc, &asset.protocol)?;
         Ok(Lane {
             client,
             admitted: 0,
             refused: 0,
-            index,
+            rules,
             wire,
         })
     }
@@ -266,16 +268,22 @@ impl Lane {
         }
     }
 
-    /// Counts a command by its fate.
-    pub(crate) fn count(&mut self, fate: &Fate)
-        requires { self.old.admitted + self.old.refused + 1 < 2 ^ 64 }
-        ensures { self.new ≡ counted_by fate.now self.old }
+    /// Counts a command by its fate, and notes the moment at the rules that it used.
+    pub(crate) fn count(&mut self, fate: &Fate, moment: u64)
+        requires counts { self.old.admitted + self.old.refused + 1 < 2 ^ 64 }
+        requires few { length self.old.rules.rings.items ≤ most_rated }
+        ensures client { self.new.client ≡ self.old.client }
+        ensures admitted { self.new.admitted ≡ self.old.admitted + one_if (is_admitted fate.now) }
+        ensures refused { self.new.refused ≡ self.old.refused + one_if (is_refused fate.now) }
+        ensures rules { RulesGoOn fate.now moment self.old.rules self.new.rules }
+        ensures wire { self.new.wire ≡ self.old.wire }
     {
         match fate {
-            Fate::Admitted => self.admitted += 1,
+            Fate::Admitted(_) => self.admitted += 1,
             Fate::Refused(_) => self.refused += 1,
             Fate::Carried | Fate::Stray(_) | Fate::Lengthens | Fate::Cuts(_) => {}
         }
+        self.rules.note(fate, moment);
     }
 
     /// Whether a fragment of a side is unfinished.

@@ -1,5 +1,5 @@
 //! Laws of the items of histories: each is the contract of a function that does nothing.
-ghost use Rattle.cf_lane.specs.Laws.{EndJoins, GrowsLittle, HasOneJudgement, JudgedJoin, JudgementsGoOn, LanePassesAllowed, NothingTaken, PiecesJoin, QuietBehindEnd, StreamsGoOn, UnitsArePrefixFree};
+ghost use Rattle.cf_lane.specs.Laws.{EndJoins, GrowsLittle, HasOneJudgement, JudgedJoin, JudgementsGoOn, LanePassesAllowed, NothingTaken, PiecesJoin, QuietBehindEnd, RatesHold, StreamsGoOn, UnitsArePrefixFree};
 
 use cf_modbus::each_pdu_has_an_answer;
 
@@ -43,4 +43,9 @@ pub fn streams_go_on()
 /// frames of DNP3, and the S and U frames of IEC 60870-5-104.
 pub fn lane_passes_allowed()
     ensures { LanePassesAllowed }
+{}
+
+/// A rule with a rate lets no more commands through than its rate.
+pub fn rates_hold()
+    ensures { RatesHold }
 {}

@@ -9,14 +9,16 @@ mod laws;
 mod limit;
 mod log;
 mod modbus;
+mod ring;
 mod rows;
+mod rules;
 mod wire;
 
-pub use fate::{Fate, Refusal, judge};
+pub use fate::{Fate, Refusal};
 pub use lane::{Fed, Lane};
 pub use laws::{
     grows_little, has_one_judgement, judgements_go_on, lane_passes_allowed, pieces_join,
-    streams_go_on,
+    rates_hold, streams_go_on,
 };
 pub use limit::{LETTER_LIMIT, Lengths, limit_cut};
 pub use log::put_line;

@@ -111,16 +111,18 @@ impl Lane {
         ensures log { WritesLog (D.value desk.old) (D.value desk.new) }
         ensures cause { HasCause (DeskValue.faults (D.value desk.old)) (DeskValue.faults (D.value desk.new)) (IsErr result) }
     {
-        match judge(asset, &self.index, adu) {
-            Fate::Admitted => {
+        let fate = judge(asset, &self.rules, moment, adu);
+        match &fate {
+            Fate::Admitted(_) => {
                 push_adu(adu, to_controller);
                 self.admitted += 1;
+                self.rules.note(&fate, moment);
                 Ok(())
             }
             Fate::Refused(refusal) => {
-                let replied = reply(adu, &refusal, to_client);
+                let replied = reply(adu, refusal, to_client);
                 self.refused += 1;
-                log_refusal(asset, &self.client, moment, &refusal, replied, octets, desk)?;
+                log_refusal(asset, &self.client, moment, refusal, replied, octets, desk)?;
                 Ok(())
             }
             Fate::Carried | Fate::Stray(_) | Fate::Lengthens | Fate::Cuts(_) => Ok(()),

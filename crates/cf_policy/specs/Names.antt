@@ -22,9 +22,10 @@ abbrev pub is_reserved : List ℕ → Bool
 is_reserved text =
     list_any (λ word. bytes_eq text word) (codes "default" ∷ codes "station" ∷ codes "form" ∷ [])
 
--- the deciding rule's name, or the word for what else decided
+-- the deciding rule's name, that of a spent one too, or the word for what else decided
 abbrev pub name_of : List Rule → Decider → List ℕ
 name_of rules (decider.Rule n) = option_map_or (λ r. r.name) (slice_get rules n) []
 name_of rules decider.Default = codes "default"
 name_of rules decider.Station = codes "station"
 name_of rules decider.Form = codes "form"
+name_of rules (decider.Spent n) = option_map_or (λ r. r.name) (slice_get rules n) []

@@ -93,6 +93,7 @@ verdict_of asset client act =
 -- a decider that is a rule is one of the rules
 abbrev pub IsOneOf : List Rule → Decider → Type 0
 IsOneOf rules (decider.Rule n) = n < length rules
+IsOneOf rules (decider.Spent n) = n < length rules
 IsOneOf rules _ = Unit {0}
 
 -- the rule that decided is one of the rules

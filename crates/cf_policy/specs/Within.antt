@@ -1,12 +1,15 @@
 -- What a policy keeps that was read from a text: IsWithin.
-use Rattle.std.specs.Prelude.{◌≡◌, ◌≢◌, ℕ, ◌^◌, ◌<◌, ◌≤◌, ℤ, pos, ◌≤ℤ◌, true, false, List, length, All, AllPairs}
+use Rattle.std.specs.Prelude.{◌≡◌, ◌≢◌, ℕ, ◌^◌, ◌<◌, ◌≤◌, ℤ, pos, ◌≤ℤ◌, true, false, List, length, All, AllPairs, Option, Some, None, is_some, count_by}
+use Rattle.cf_policy.specs.declared.policy.Action.{Action}
+use Rattle.cf_policy.specs.declared.policy.Action.TheVariants.{Allow, Refuse}
+use Rattle.cf_policy.specs.declared.policy.Rate.{Rate}
 use Rattle.cf_policy.specs.declared.policy.Span.{Span}
 use Rattle.cf_policy.specs.declared.policy.Rule.{Rule}
 use Rattle.cf_policy.specs.declared.policy.Asset.{Asset}
 use Rattle.cf_policy.specs.declared.policy.Policy.{Policy}
 use Rattle.cf_policy.specs.declared.policy.Protocol.{Protocol}
 use Rattle.cf_policy.specs.declared.policy.Protocol.TheVariants.{Modbus, Dnp3, Iec104}
-use Rattle.cf_policy.specs.declared.limits.TheConstants.{HIGHEST_ADDRESS, HIGHEST_CODE, HIGHEST_COMMON_ADDRESS, HIGHEST_GROUP, HIGHEST_LINK_ADDRESS, HIGHEST_POINT, HIGHEST_UNIT, HIGHEST_VALUE, LONGEST_NAME, LOWEST_VALUE, MOST_ASSETS, MOST_RULES, MOST_SPANS}
+use Rattle.cf_policy.specs.declared.limits.TheConstants.{HIGHEST_ADDRESS, HIGHEST_CODE, HIGHEST_COMMON_ADDRESS, HIGHEST_GROUP, HIGHEST_LINK_ADDRESS, HIGHEST_MOST, HIGHEST_POINT, HIGHEST_UNIT, HIGHEST_VALUE, LONGEST_NAME, LONGEST_RATE, LOWEST_VALUE, MOST_ASSETS, MOST_RATED, MOST_RULES, MOST_SPANS}
 use Rattle.cf_policy.specs.Names.{is_name, is_reserved}
 
 -- the limits, as the code has them, for the definitions of other crates
@@ -40,6 +43,15 @@ highest_value = HIGHEST_VALUE
 abbrev pub longest_name : ℕ
 longest_name = LONGEST_NAME
 
+abbrev pub highest_most : ℕ
+highest_most = HIGHEST_MOST
+
+abbrev pub longest_rate : ℕ
+longest_rate = LONGEST_RATE
+
+abbrev pub most_rated : ℕ
+most_rated = MOST_RATED
+
 -- the stations and masters of each protocol
 abbrev pub lowest_station : Protocol → ℕ
 lowest_station Modbus = 0
@@ -67,6 +79,22 @@ pub record AreSpansWithin (low high : ℤ) (spans : List Span) : Type 0 where
   pub count : length spans ≤ most_spans
   pub each : All (IsSpanWithin low high) spans
 
+pub record IsRateWithin (rate : Rate) : Type 0 where
+  pub some : 1 ≤ rate.most
+  pub most : rate.most ≤ highest_most
+  pub some_time : 1 ≤ rate.seconds
+  pub seconds : rate.seconds ≤ longest_rate
+
+-- a rate is one of an allow rule
+abbrev pub HasRateWithin : Action → Option Rate → Type 0
+HasRateWithin action None = Unit {0}
+HasRateWithin Allow (Some rate) = IsRateWithin rate
+HasRateWithin Refuse (Some rate) = ⊥
+
+-- how many rules have a rate
+abbrev pub rated_count : List Rule → ℕ
+rated_count rules = count_by (λ r. is_some r.rate) rules
+
 pub record IsRuleWithin (r : Rule) : Type 0 where
   pub name : is_name r.name ≡ true
   pub own : is_reserved r.name ≡ false
@@ -77,11 +105,13 @@ pub record IsRuleWithin (r : Rule) : Type 0 where
   pub groups : AreSpansWithin (pos 0) highest_group r.groups
   pub points : AreSpansWithin (pos 0) highest_point r.points
   pub values : AreSpansWithin lowest_value highest_value r.values
+  pub rate : HasRateWithin r.action r.rate
 
 pub record AreRulesWithin (rules : List Rule) : Type 0 where
   pub count : length rules ≤ most_rules
   pub each : All IsRuleWithin rules
   pub names : AllPairs (λ r s. r.name ≢ s.name) rules
+  pub rated : rated_count rules ≤ most_rated
 
 pub record IsAssetWithin (a : Asset) : Type 0 where
   pub name : is_name a.name ≡ true

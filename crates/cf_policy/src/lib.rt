@@ -14,12 +14,12 @@ pub use judge::{takes, verdict};
 pub use laws::{allows_by_first_rule, keeps_decided_acts};
 pub use limits::{
     HIGHEST_ADDRESS, HIGHEST_CODE, HIGHEST_COMMON_ADDRESS, HIGHEST_GROUP, HIGHEST_LINK_ADDRESS,
-    HIGHEST_POINT, HIGHEST_UNIT, HIGHEST_VALUE, LONGEST_NAME, LOWEST_VALUE, MOST_ASSETS,
-    MOST_RULES, MOST_SPANS,
+    HIGHEST_MOST, HIGHEST_POINT, HIGHEST_UNIT, HIGHEST_VALUE, LONGEST_NAME, LONGEST_RATE,
+    LOWEST_VALUE, MOST_ASSETS, MOST_RATED, MOST_RULES, MOST_SPANS,
 };
 pub use lists::{Items, Name};
 pub use names::decider_name;
-pub use policy::{Action, Asset, Decider, Policy, Protocol, Rule, Span, Verdict};
+pub use policy::{Action, Asset, Decider, Policy, Protocol, Rate, Rule, Span, Verdict};
 
 #[cfg(test)]
 mod tests;

@@ -26,3 +26,9 @@ pub const HIGHEST_UNIT: u16 = 255;
 pub const HIGHEST_LINK_ADDRESS: u16 = 65_519;
 /// The highest common address that names one station; 0 names none. IEC 60870-5-101, section 7.2.4.
 pub const HIGHEST_COMMON_ADDRESS: u16 = 65_534;
+/// The most commands that a rate lets through in its time.
+pub const HIGHEST_MOST: u32 = 64;
+/// The longest time of a rate, in seconds: a day.
+pub const LONGEST_RATE: u32 = 86_400;
+/// The most rules of an asset that have a rate.
+pub const MOST_RATED: usize = 16;

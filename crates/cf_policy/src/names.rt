@@ -6,7 +6,7 @@ ghost use Rattle.cf_policy.specs.declared.limits.TheConstants.{LONGEST_NAME};
 
 use crate::policy::{Asset, Decider};
 
-/// The deciding rule's name, or `default`, `station` or `form`. No rule of a policy that was read has one of these
+/// The deciding rule's name, that of a spent one too, or `default`, `station` or `form`. No rule of a policy that was read has one of these
 /// three names.
 pub fn decider_name<'a>(asset: &'a Asset, decider: &Decider) -> &'a str
     requires { IsOneOf asset.now.rules decider.now }
@@ -14,7 +14,9 @@ pub fn decider_name<'a>(asset: &'a Asset, decider: &Decider) -> &'a str
     ensures short { length result.now ≤ LONGEST_NAME }
 {
     match decider {
-        Decider::Rule(number) => asset.rules.as_slice()[*number].name.as_str(),
+        Decider::Rule(number) | Decider::Spent(number) => {
+            asset.rules.as_slice()[*number].name.as_str()
+        }
         Decider::Default => "default",
         Decider::Station => "station",
         Decider::Form => "form",

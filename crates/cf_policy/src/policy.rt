@@ -27,6 +27,13 @@ pub struct Span {
     pub high: i64,
 }
 
+/// How many commands of a session a rule lets through: at most `most` in any `seconds` seconds. This project's own.
+#[derive(Clone, Copy, PartialEq, Eq, Debug)]
+pub struct Rate {
+    pub most: u32,
+    pub seconds: u32,
+}
+
 /// A rule of an asset. It has an act of a client if each list that it states has the matching number. An empty list
 /// states nothing.
 #[derive(Debug, Drop)]
@@ -43,6 +50,8 @@ pub struct Rule {
     pub points: Items<Span>,
     /// The values that acts write. A rule that states some does not have an act without a value.
     pub values: Items<Span>,
+    /// How often it lets a command through; `None` where it may always.
+    pub rate: Option<Rate>,
 }
 
 /// A controller, and the rules about commands to it.
@@ -75,6 +84,8 @@ pub enum Decider {
     Station,
     /// The command's reader refuses it.
     Form,
+    /// The rule of this number, counted from 0, allows it, and has let through as many commands as its rate lets.
+    Spent(usize),
 }
 
 /// What becomes of an act.

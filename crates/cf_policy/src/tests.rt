@@ -33,6 +33,7 @@ fn rule(
         groups: spans(alloc, groups)?,
         points: spans(alloc, points)?,
         values: spans(alloc, values)?,
+        rate: None,
     })
 }
 
@@ -128,6 +129,7 @@ fn decides_by_the_first_rule(rt: HostRuntime) -> Result<(), Fail> {
     }
     assert_eq!(rt; decider_name(&asset, &Decider::Station), "station");
     assert_eq!(rt; decider_name(&asset, &Decider::Form), "form");
+    assert_eq!(rt; decider_name(&asset, &Decider::Spent(1)), "keep");
     Ok(())
 }
 
@@ -167,6 +169,7 @@ fn about(
         groups: Items::new(Vec::new(alloc)),
         points: span(alloc, low, high)?,
         values: Items::new(Vec::new(alloc)),
+        rate: None,
     })
 }
 

@@ -1,10 +1,11 @@
 -- What a policy that was read keeps: names and endpoints apart, and every number in its range.
-use Rattle.std.proofs.Common.{◌≡◌, ◌≢◌, ℕ, ◌+◌, ◌≤◌, nat_lt, ℤ, pos, Bool, true, false, if◌then◌else◌, List, [], ◌∷◌, ◌++◌, length, Option, Some, None, Result, Ok, Err, IfOk, is_some, bytes_eq, sym, ◌∙◌, ap, refl, arith, length-append}
+use Rattle.std.proofs.Common.{◌≡◌, ◌≢◌, ℕ, ◌+◌, ◌≤◌, nat_lt, ℤ, pos, Bool, true, false, if◌then◌else◌, List, [], ◌∷◌, ◌++◌, length, Option, Some, None, Result, Ok, Err, IfOk, is_some, not, cond, nat_le, bytes_eq, sym, subst, ◌∙◌, ap, refl, arith, length-append}
 use Rattle.std.specs.List.{All, AllPairs, list_any}
-use Rattle.std.proofs.lemmas.Bool.{or_parts, true≢false}
+use Rattle.std.proofs.lemmas.Bool.{leb-false, or_parts, true≢false}
 use Rattle.std.proofs.lemmas.Bool.Decides.{nat_tests}
 use Rattle.std.proofs.lemmas.List.Elements.{All-cons, All-nil, All-push, All-weaker}
 use Rattle.std.proofs.lemmas.List.Quantifiers.{all_pairs_push}
+use Rattle.std.proofs.lemmas.List.Sums.{sum_by-append}
 use Rattle.std.proofs.lemmas.Result.{IfOk-at_ok, IfOk-weaker}
 use Rattle.std.proofs.lemmas.Slice.Eq.{bytes_eq-Decides}
 use Rattle.toml.specs.Data.{Data, Items, no_items, item, Members}
@@ -13,10 +14,13 @@ use Rattle.cf_policy.specs.declared.policy.Asset.{Asset}
 use Rattle.cf_policy.specs.declared.policy.Policy.{Policy}
 use Rattle.cf_policy.specs.declared.policy.Protocol.{Protocol}
 use Rattle.cf_policy.specs.declared.policy.Protocol.TheVariants.{Modbus, Dnp3, Iec104}
+use Rattle.cf_policy.specs.declared.policy.Action.{Action}
+use Rattle.cf_policy.specs.declared.policy.Action.TheVariants.{Allow, Refuse}
+use Rattle.cf_policy.specs.declared.policy.Rate.{Rate}
 use Rattle.cf_policy.specs.declared.policy.Rule.{Rule}
 use Rattle.cf_policy.specs.declared.policy.Span.{Span}
 use Rattle.cf_policy.specs.Names.{is_name, is_reserved}
-use Rattle.cf_policy.specs.Within.{IsSpanWithin, AreSpansWithin, IsRuleWithin, AreRulesWithin, IsAssetWithin, IsWithin, lowest_station, highest_station, highest_master, highest_address, highest_code, highest_group, highest_point, lowest_value, highest_value}
+use Rattle.cf_policy.specs.Within.{HasRateWithin, IsRateWithin, IsSpanWithin, AreSpansWithin, IsRuleWithin, AreRulesWithin, IsAssetWithin, IsWithin, lowest_station, highest_station, highest_master, highest_address, highest_code, highest_group, highest_point, lowest_value, highest_value, highest_most, longest_rate, most_rated, rated_count}
 use Rattle.cf_policylang.specs.declared.fields.Kind.TheVariants as kind
 use Rattle.cf_policylang.specs.declared.lists.Entries.TheVariants as entries
 use Rattle.cf_policylang.specs.declared.refusal.Key.{Key}
@@ -30,6 +34,7 @@ use Rattle.cf_policylang.specs.Assets.{asset, asset_keys, asset_name, assets_fro
 use Rattle.cf_policylang.specs.Documents.{document, document_keys, asset_items, text_meaning, toml_of, version}
 use Rattle.cf_policylang.specs.Fields.{as_text, as_number, as_table, as_array_of, count, has_other, required, stated, number_in, tables_from}
 use Rattle.cf_policylang.specs.Numbers.{address}
+use Rattle.cf_policylang.specs.Rates.{rate, rate_number, rate_value, states_rate}
 use Rattle.cf_policylang.specs.Rules.{rule, rule_keys, rule_name, name, action, is_rule_taken, client_spans, code_spans, group_spans, point_spans, value_spans, rule_items, rules, rules_from}
 use Rattle.cf_policylang.proofs.Ranges.{and_then_if, and_then_any, unless_if, or_refused_if, IsNaturalIn, number_in_if, address_if, IsCode, AreRead as AreSpansRead, address_entry_if, code_entry_if, number_entry_if, spans_if, optional_spans_if}
 
@@ -58,38 +63,41 @@ name_if p ms =
 -- ---- lists that are read in order
 
 -- what was read so far, n in number: each keeps Each, and each is apart from those behind it
-record AreRead (n : ℕ) {X : Type 0} (Each : X → Type 0) (Apart : X → X → Type 0) (xs : List X) : Type 0 where
+record AreRead (n : ℕ) {X : Type 0} (Each : X → Type 0) (Apart : X → X → Type 0) (Also : List X → Type 0) (xs : List X) : Type 0 where
   count : length xs ≡ n
   each : All Each xs
   apart : AllPairs Apart xs
+  also : Also xs
 
 -- what comes behind those that were read
-record IsNext {X : Type 0} (Each : X → Type 0) (Apart : X → X → Type 0) (seen : List X) (x : X) : Type 0 where
+record IsNext {X : Type 0} (Each : X → Type 0) (Apart : X → X → Type 0) (Also : List X → Type 0) (seen : List X) (x : X) : Type 0 where
   within : Each x
   apart : All (λ y. Apart y x) seen
+  also : Also seen → Also (seen ++ x ∷ [])
 
-module _ {X : Type 0} (Each : X → Type 0) (Apart : X → X → Type 0) where
-  none_read : AreRead 0 Each Apart []
-  none_read = record { count = refl; each = All-nil Each; apart = λ i j d lt inside. absurd (omega arith) }
+module _ {X : Type 0} (Each : X → Type 0) (Apart : X → X → Type 0) (Also : List X → Type 0) where
+  none_read : Also [] → AreRead 0 Each Apart Also []
+  none_read h = record { count = refl; each = All-nil Each; apart = λ i j d lt inside. absurd (omega arith); also = h }
 
-  one_more : (n : ℕ) (xs : List X) (x : X) → AreRead n Each Apart xs → IsNext Each Apart xs x → AreRead (n + 1) Each Apart (xs ++ x ∷ [])
+  one_more : (n : ℕ) (xs : List X) (x : X) → AreRead n Each Apart Also xs → IsNext Each Apart Also xs x → AreRead (n + 1) Each Apart Also (xs ++ x ∷ [])
   one_more n xs x h next =
       record {
         count = let long = h.count in omega (arith, length-append xs (x ∷ []));
         each = All-push Each xs x h.each next.within;
         apart = all_pairs_push Apart xs x h.apart next.apart;
+        also = next.also h.also;
       }
 
   module _ (k : Key) (p : Place) (read : ℕ → List X → Members → Tested X)
-      (keeps : (n : ℕ) (seen : List X) (ms : Members) → IfOk (read n seen ms) (IsNext Each Apart seen)) where
-    tables_from_if : (n : ℕ) (ds : Items) (seen : List X) → AreRead n Each Apart seen
-        → IfOk (tables_from k p read n ds seen) (AreRead (n + count ds) Each Apart)
-    tables_from_if n no_items seen h = record { count = let long = h.count in omega arith; each = h.each; apart = h.apart }
+      (keeps : (n : ℕ) (seen : List X) (ms : Members) → IfOk (read n seen ms) (IsNext Each Apart Also seen)) where
+    tables_from_if : (n : ℕ) (ds : Items) (seen : List X) → AreRead n Each Apart Also seen
+        → IfOk (tables_from k p read n ds seen) (AreRead (n + count ds) Each Apart Also)
+    tables_from_if n no_items seen h = record { count = let long = h.count in omega arith; each = h.each; apart = h.apart; also = h.also }
     tables_from_if n (item d ds) seen h =
-        and_then_any (AreRead (n + (1 + count ds)) Each Apart) (as_table k p d) _
-        (λ ms. and_then_if (IsNext Each Apart seen) (AreRead (n + (1 + count ds)) Each Apart) (read (n + 1) seen ms) _ (keeps (n + 1) seen ms)
-        (λ x next. IfOk-weaker (tables_from k p read (n + 1) ds (seen ++ x ∷ [])) (AreRead ((n + 1) + count ds) Each Apart) (AreRead (n + (1 + count ds)) Each Apart)
-        (λ xs g. record { count = let long = g.count in omega arith; each = g.each; apart = g.apart })
+        and_then_any (AreRead (n + (1 + count ds)) Each Apart Also) (as_table k p d) _
+        (λ ms. and_then_if (IsNext Each Apart Also seen) (AreRead (n + (1 + count ds)) Each Apart Also) (read (n + 1) seen ms) _ (keeps (n + 1) seen ms)
+        (λ x next. IfOk-weaker (tables_from k p read (n + 1) ds (seen ++ x ∷ [])) (AreRead ((n + 1) + count ds) Each Apart Also) (AreRead (n + (1 + count ds)) Each Apart Also)
+        (λ xs g. record { count = let long = g.count in omega arith; each = g.each; apart = g.apart; also = g.also })
         (tables_from_if (n + 1) ds (seen ++ x ∷ []) (one_more n seen x h next))))
 
 -- ---- rules
@@ -115,8 +123,51 @@ rule_name_if p seen ms =
 are_within : (low high : ℤ) (n : ℕ) (ss : List Span) → AreSpansRead (IsSpanWithin low high) n ss → AreSpansWithin low high ss
 are_within low high n ss h = record { count = h.count; each = h.each }
 
+-- no more rules have a rate than may
+abbrev AreFewRated : List Rule → Type 0
+AreFewRated rules = rated_count rules ≤ most_rated
+
 abbrev IsNextRule : List Rule → Rule → Type 0
-IsNextRule = IsNext IsRuleWithin (λ r s. r.name ≢ s.name)
+IsNextRule = IsNext IsRuleWithin (λ r s. r.name ≢ s.name) AreFewRated
+
+-- the number of rated rules rises by one with one that has a rate
+rated-more : (seen : List Rule) (r : Rule) → rated_count (seen ++ r ∷ []) ≡ rated_count seen + (0 + cond (is_some r.rate) 1 0)
+rated-more seen r = sum_by-append (λ s. cond (is_some s.rate) 1 0) seen (r ∷ [])
+
+rate_number_if : (k : Key) (high : ℕ) (a : Action) (p : Place) (ms : Members) → IfOk (rate_number k high a p ms) (λ n. (a ≡ Allow) × IsNaturalIn 1 high n)
+rate_number_if k high Allow p ms =
+    and_then_any (λ n. (Allow ≡ Allow) × IsNaturalIn 1 high n) (rate_value k Allow p ms) _
+    (λ d. and_then_any (λ n. (Allow ≡ Allow) × IsNaturalIn 1 high n) (as_number k p d) _
+    (λ z. IfOk-weaker (or_refused cause.BadRange k p (number_in 1 high z)) (IsNaturalIn 1 high) (λ n. (Allow ≡ Allow) × IsNaturalIn 1 high n) (λ n h. (refl, h))
+    (or_refused_if (IsNaturalIn 1 high) cause.BadRange k p (number_in 1 high z) (number_in_if 1 high z))))
+rate_number_if k high Refuse p ms =
+    and_then_if (λ d. ⊥) (λ n. (Refuse ≡ Allow) × IsNaturalIn 1 high n) (rate_value k Refuse p ms) _
+    (and_then_any (λ d. ⊥) (required k p ms) _ (λ d. tt))
+    (λ d h. absurd h)
+
+-- a rate that was read is one of an allow rule, and with it no more rules have a rate than may
+record IsRateRead (seen : List Rule) (a : Action) (own : Option Rate) : Type 0 where
+  within : HasRateWithin a own
+  few : rated_count seen ≤ most_rated → rated_count seen + (0 + cond (is_some own) 1 0) ≤ most_rated
+
+rate_within : (a : Action) (own : Rate) → a ≡ Allow → IsRateWithin own → HasRateWithin a (Some own)
+rate_within Allow own is h = h
+rate_within Refuse own is h = cc
+
+either_if : {A : Type 0} (Q : A → Type 0) (b : Bool) (x : A) (t : Tested A) → Q x → IfOk t Q → IfOk (if b then Ok x else t) Q
+either_if Q true x t h g = h
+either_if Q false x t h g = g
+
+rate_if : (p : Place) (seen : List Rule) (a : Action) (ms : Members) → IfOk (rate p seen a ms) (IsRateRead seen a)
+rate_if p seen a ms =
+    either_if (IsRateRead seen a) (not (states_rate ms)) None _ (record { within = tt; few = λ h. omega (arith, h) })
+    (and_then_if (λ n. (a ≡ Allow) × IsNaturalIn 1 highest_most n) (IsRateRead seen a) (rate_number key.Most highest_most a p ms) _ (rate_number_if key.Most highest_most a p ms)
+    (λ most m. unless_if (IsRateRead seen a) (nat_le most_rated (rated_count seen)) _ _
+    (λ room. and_then_if (λ n. (a ≡ Allow) × IsNaturalIn 1 longest_rate n) (IsRateRead seen a) (rate_number key.Seconds longest_rate a p ms) _ (rate_number_if key.Seconds longest_rate a p ms)
+    (λ seconds s. record {
+      within = rate_within a _ m.0 (record { some = m.1.above; most = m.1.below; some_time = s.1.above; seconds = s.1.below });
+      few = λ h. (let under = leb-false most_rated (rated_count seen) room in omega (arith, under));
+    }))))
 
 rule_if : (p : Place) (seen : List Rule) (ms : Members) → IfOk (rule p seen ms) (IsNextRule seen)
 rule_if p seen ms =
@@ -133,7 +184,8 @@ rule_if p seen ms =
     (optional_spans_if (IsSpanWithin (pos 0) highest_point) (entries.Numbers (pos 0) highest_point) key.Points p (number_entry_if (pos 0) highest_point key.Points p) ms)
     (λ own_points po. and_then_if (AreSpansRead (IsSpanWithin lowest_value highest_value) 0) (IsNextRule seen) (value_spans p ms) _
     (optional_spans_if (IsSpanWithin lowest_value highest_value) (entries.Numbers lowest_value highest_value) key.Values p (number_entry_if lowest_value highest_value key.Values p) ms)
-    (λ own_values va. record {
+    (λ own_values va. and_then_if (IsRateRead seen own_action) (IsNextRule seen) (rate p seen own_action ms) _ (rate_if p seen own_action ms)
+    (λ own_rate ra. record {
       within = record {
         name = n.form;
         own = n.own;
@@ -144,9 +196,11 @@ rule_if p seen ms =
         groups = are_within (pos 0) highest_group 0 own_groups gr;
         points = are_within (pos 0) highest_point 0 own_points po;
         values = are_within lowest_value highest_value 0 own_values va;
+        rate = ra.within;
       };
       apart = n.apart;
-    }))))))))
+      also = λ few. subst (λ n. n ≤ most_rated) (sym (rated-more seen _)) (ra.few few);
+    })))))))))
 
 rule_items_if : (p : Place) (o : Option Data) → IfOk (rule_items p o) (λ ds. count ds ≤ 1024)
 rule_items_if p None = omega arith
@@ -157,10 +211,10 @@ rule_items_if p (Some d) =
 rules_if : (a : ℕ) (ms : Members) → IfOk (rules a ms) AreRulesWithin
 rules_if a ms =
     and_then_if (λ ds. count ds ≤ 1024) AreRulesWithin (rule_items (at_asset a) (stated key.Rule ms)) _ (rule_items_if (at_asset a) (stated key.Rule ms))
-    (λ ds short. IfOk-weaker (rules_from a 0 ds []) (AreRead (0 + count ds) IsRuleWithin (λ r s. r.name ≢ s.name)) AreRulesWithin
-    (λ rs h. record { count = let long = h.count in omega arith; each = h.each; names = h.apart })
-    (tables_from_if IsRuleWithin (λ r s. r.name ≢ s.name) key.Rule (at_asset a) (λ m. rule (at_rule a m))
-    (λ m. rule_if (at_rule a m)) 0 ds [] (none_read IsRuleWithin (λ r s. r.name ≢ s.name))))
+    (λ ds short. IfOk-weaker (rules_from a 0 ds []) (AreRead (0 + count ds) IsRuleWithin (λ r s. r.name ≢ s.name) AreFewRated) AreRulesWithin
+    (λ rs h. record { count = let long = h.count in omega arith; each = h.each; names = h.apart; rated = h.also })
+    (tables_from_if IsRuleWithin (λ r s. r.name ≢ s.name) AreFewRated key.Rule (at_asset a) (λ m. rule (at_rule a m))
+    (λ m. rule_if (at_rule a m)) 0 ds [] (none_read IsRuleWithin (λ r s. r.name ≢ s.name) AreFewRated (omega arith))))
 
 -- ---- assets
 
@@ -229,7 +283,7 @@ abbrev AreApart : Asset → Asset → Type 0
 AreApart a b = (a.name ≢ b.name) × (a.endpoint ≢ b.endpoint)
 
 abbrev IsNextAsset : List Asset → Asset → Type 0
-IsNextAsset = IsNext IsAssetWithin AreApart
+IsNextAsset = IsNext IsAssetWithin AreApart (λ seen. Unit {0})
 
 asset_if : (n : ℕ) (seen : List Asset) (ms : Members) → IfOk (asset n seen ms) (IsNextAsset seen)
 asset_if n seen ms =
@@ -255,6 +309,7 @@ asset_if n seen ms =
         rules = ru;
       };
       apart = λ i d lt. (na.apart i d lt, en.apart i d lt);
+      also = λ h. tt;
     })))))))
 
 -- ---- documents
@@ -270,8 +325,8 @@ document_if ms =
     and_then_any IsWithin (version ms) _
     (λ _. unless_if IsWithin (has_other document_keys ms) _ _
     (λ _. and_then_if (λ ds. count ds ≤ 256) IsWithin (asset_items ms) _ (asset_items_if ms)
-    (λ ds short. and_then_if (AreRead (0 + count ds) IsAssetWithin AreApart) IsWithin (assets_from 0 ds []) _
-    (tables_from_if IsAssetWithin AreApart key.Asset at_document asset asset_if 0 ds [] (none_read IsAssetWithin AreApart))
+    (λ ds short. and_then_if (AreRead (0 + count ds) IsAssetWithin AreApart (λ seen. Unit {0})) IsWithin (assets_from 0 ds []) _
+    (tables_from_if IsAssetWithin AreApart (λ seen. Unit {0}) key.Asset at_document asset asset_if 0 ds [] (none_read IsAssetWithin AreApart (λ seen. Unit {0}) tt))
     (λ xs h. record {
       count = let long = h.count in omega arith;
       each = h.each;

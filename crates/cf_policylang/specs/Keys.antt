@@ -24,6 +24,8 @@ key_text key.Codes = codes "codes"
 key_text key.Groups = codes "groups"
 key_text key.Points = codes "points"
 key_text key.Values = codes "values"
+key_text key.Most = codes "most"
+key_text key.Seconds = codes "seconds"
 
 abbrev pub cause_number : Cause → ℕ
 cause_number cause.NotToml = 1

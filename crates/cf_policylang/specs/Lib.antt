@@ -4,5 +4,6 @@ pub mod Fields
 pub mod Keys
 pub mod Lists
 pub mod Numbers
+pub mod Rates
 pub mod Rules
 pub mod Tested

@@ -16,11 +16,12 @@ use Rattle.cf_policylang.specs.declared.refusal.Cause.TheVariants as cause
 use Rattle.cf_policylang.specs.declared.refusal.Place.{Place}
 use Rattle.cf_policylang.specs.Fields.{as_text, as_array_of, count, has_other, required, stated, tables_from}
 use Rattle.cf_policylang.specs.Lists.{optional_spans, spans}
+use Rattle.cf_policylang.specs.Rates.{rate}
 use Rattle.cf_policylang.specs.Tested.{Tested, and_then, refused, or_refused, at_asset, at_rule}
 use Rattle.cf_policy.specs.Within.{most_rules}
 
 abbrev pub rule_keys : List Key
-rule_keys = key.Name ∷ key.Action ∷ key.Clients ∷ key.Codes ∷ key.Groups ∷ key.Points ∷ key.Values ∷ []
+rule_keys = key.Name ∷ key.Action ∷ key.Clients ∷ key.Codes ∷ key.Groups ∷ key.Points ∷ key.Values ∷ key.Most ∷ key.Seconds ∷ []
 
 -- a name, of an asset or a rule
 abbrev pub name : Place → Members → Tested (List ℕ)
@@ -75,6 +76,7 @@ rule place seen members =
     and_then (group_spans place members) (λ own_groups.
     and_then (point_spans place members) (λ own_points.
     and_then (value_spans place members) (λ own_values.
+    and_then (rate place seen own_action members) (λ own_rate.
     Ok (record {
       name = own_name;
       action = own_action;
@@ -83,7 +85,8 @@ rule place seen members =
       groups = own_groups;
       points = own_points;
       values = own_values;
-    }))))))))
+      rate = own_rate;
+    })))))))))
 
 -- the rules of the asset of this number in their order, behind n that were read
 abbrev pub rules_from : ℕ → ℕ → Items → List Rule → Tested (List Rule)

@@ -6,6 +6,7 @@ mod documents;
 mod fields;
 mod lists;
 mod numbers;
+mod rates;
 mod refusal;
 mod rules;
 

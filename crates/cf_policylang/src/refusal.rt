@@ -30,6 +30,8 @@ pub enum Key {
     Groups,
     Points,
     Values,
+    Most,
+    Seconds,
 }
 
 impl Key {
@@ -55,6 +57,8 @@ impl Key {
             Key::Groups => "groups",
             Key::Points => "points",
             Key::Values => "values",
+            Key::Most => "most",
+            Key::Seconds => "seconds",
         }
     }
 }
@@ -75,7 +79,7 @@ impl fmt::Display for Key {
 pub enum Cause {
     /// The text is no TOML document in UTF-8.
     NotToml = 1,
-    /// A key that this place does not have, `master` outside DNP3 included.
+    /// A key that this place does not have, `master` outside DNP3 and a rate of a refuse rule included.
     UnknownKey = 2,
     /// A key that this place must have is missing.
     MissingKey = 3,
@@ -87,8 +91,8 @@ pub enum Cause {
     BadRange = 6,
     /// A name or an endpoint that an earlier one has, or a rule's name that stands for another decider.
     Duplicate = 7,
-    /// A file of more than `LONGEST_TEXT` bytes, or more than `MOST_ASSETS` assets, `MOST_RULES` rules of an asset or
-    /// `MOST_SPANS` entries of a list.
+    /// A file of more than `LONGEST_TEXT` bytes, or more than `MOST_ASSETS` assets, `MOST_RULES` rules of an asset,
+    /// `MOST_RATED` of them with a rate, or `MOST_SPANS` entries of a list.
     TooMany = 8,
     /// A version other than 1.
     Version = 9,

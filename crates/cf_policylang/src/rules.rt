@@ -9,6 +9,7 @@ ghost use Rattle.cf_policylang.specs.Rules.{name, is_rule_taken, rule_name, acti
 
 use crate::fields::{Kind, as_array_of, as_table, as_text, count, has_other, required, stated};
 use crate::lists::{Entries, optional_spans, spans};
+use crate::rates::rate;
 use crate::refusal::{Cause, Key, Place, PolicyFault, PolicyRefusal, refusal};
 use cf_policy::{
     Action, HIGHEST_GROUP, HIGHEST_POINT, HIGHEST_VALUE, Items, LONGEST_NAME, LOWEST_VALUE,
@@ -18,7 +19,7 @@ use std::alloc::Global;
 use toml::value::Array;
 use toml::{Table, Value};
 
-const RULE_KEYS: [Key; 7] = [
+const RULE_KEYS: [Key; 9] = [
     Key::Name,
     Key::Action,
     Key::Clients,
@@ -26,6 +27,8 @@ const RULE_KEYS: [Key; 7] = [
     Key::Groups,
     Key::Points,
     Key::Values,
+    Key::Most,
+    Key::Seconds,
 ];
 
 /// A rule behind those of its asset that were read.
@@ -42,6 +45,7 @@ fn rule(alloc: Global, place: Place, earlier: &[Rule], table: &Table) -> Result<
     let groups = group_spans(alloc, place, table)?;
     let points = point_spans(alloc, place, table)?;
     let values = value_spans(alloc, place, table)?;
+    let rate = rate(place, earlier, action, table)?;
     Ok(Rule {
         name,
         action,
@@ -50,6 +54,7 @@ fn rule(alloc: Global, place: Place, earlier: &[Rule], table: &Table) -> Result<
         groups,
         points,
         values,
+        rate,
     })
 }
 

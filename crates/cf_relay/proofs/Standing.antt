@@ -1,5 +1,6 @@
 -- A relay stands for the longer list: behind answers that add nothing to the history, and behind an answer of a side that was
 -- asked.
+use Rattle.cf_lane.specs.Rings.{KnowsRules}
 use Rattle.std.proofs.Common.{Bool, List, None, Option, Some, [], ap, arith, cond, drop, false, inl, inr, length, refl, subst, sym, true, ℕ, ◌++◌, ◌+◌, ◌∙◌, ◌∷◌, ◌≡◌, ◌||◌, ◌⊎◌}
 use Rattle.std.specs.List.{flat_map}
 use Rattle.std.specs.Option.{option_or}
@@ -101,6 +102,7 @@ module _ (asset : Asset) (first : Option (List (List ℕ))) (es xs : List Entry)
         refused = ap (λ (l : LaneValue). l.refused) q.lane ∙ st.follows.knows.refused;
         client_ended = q.ended side.Client ∙ st.follows.knows.client_ended;
         controller_ended = q.ended side.Controller ∙ st.follows.knows.controller_ended;
+        rules = subst (λ (l : LaneValue). KnowsRules l.rules st.follows.judged) (sym q.lane) st.follows.knows.rules;
         wire = λ uncut. subst (λ (l : LaneValue). KnowsWire asset l.wire st.follows.judged) (sym q.lane) (st.follows.knows.wire uncut);
       };
       client_stream = q.stands side.Client (stream_to asset side.Client st.follows.judged) st.follows.client_stream;

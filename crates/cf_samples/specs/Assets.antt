@@ -1,5 +1,5 @@
 -- The assets as values: pump_asset, rtu_asset.
-use Rattle.std.specs.Prelude.{pos, [], ◌∷◌, codes}
+use Rattle.std.specs.Prelude.{None, pos, [], ◌∷◌, codes}
 use Rattle.cf_policy.specs.declared.policy.Action.TheVariants.{Allow}
 use Rattle.cf_policy.specs.declared.policy.Asset.{Asset}
 use Rattle.cf_policy.specs.declared.policy.Protocol.TheVariants.{Modbus, Dnp3}
@@ -16,6 +16,7 @@ set_rule = record {
   groups = [];
   points = record { low = pos 40; high = pos 49 } ∷ [];
   values = record { low = pos 0; high = pos 500 } ∷ [];
+  rate = None;
 }
 
 abbrev pub pump_asset : Asset

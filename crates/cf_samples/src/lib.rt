@@ -68,6 +68,7 @@ pub fn pump(alloc: Global) -> Result<Asset, AllocError>
         groups: Items::new(Vec::new(alloc)),
         points: one_span(alloc, 40, 49)?,
         values: one_span(alloc, 0, 500)?,
+        rate: None,
     })?;
     Ok(Asset {
         name: Name::from_text("pump"),

@@ -21,7 +21,7 @@ none_judged asset client js a = none_of js a.dropped (sym a.are_items ∙ a.are_
 -- what a lane knows hangs on its queues by their Ends alone
 pub knows_on : (asset : Asset) (lane : LaneValue) (c k c' k' : Queue) (log log' : Option (List (List ℕ))) (js : List Judged) → Knows asset (state lane c k log) js →
     c'.ended ≡ has_ended side.Controller js → k'.ended ≡ has_ended side.Client js → Knows asset (state lane c' k' log') js
-knows_on asset lane c k c' k' log log' js h a b = record { admitted = h.admitted; refused = h.refused; client_ended = a; controller_ended = b; wire = h.wire }
+knows_on asset lane c k c' k' log log' js h a b = record { admitted = h.admitted; refused = h.refused; client_ended = a; controller_ended = b; rules = h.rules; wire = h.wire }
 
 pub lane_begins : (asset : Asset) (client : Endpoint) (lane : LaneValue) (c k : Queue) → lane.client ≡ client →
     Follows asset [] no_rests None None (state lane c k None) → IsLaneAfter asset client lane no_rests [] no_work

@@ -1,4 +1,5 @@
 -- A sifting that took an element.
+use Rattle.cf_lane.specs.Rings.{KnowsRules}
 use Rattle.std.proofs.Common.{◌≡◌, ◌≤◌, ◌+◌, ◌<◌, ℕ, Bool, true, false, None, Some, Option, List, [], ◌∷◌, ◌++◌, length, take, drop, refl, sym, ap, ◌∙◌, append_assoc, subst, inl, inr, arith, cond}
 use Rattle.std.specs.Option.{option_or}
 use Rattle.std.specs.Prelude.{nat_le, ◌||◌, ◌&&◌, if◌then◌else◌}
@@ -283,6 +284,7 @@ module _ (asset : Asset) (client : Endpoint) (names : SiftNamesValue) (first : L
               refused = ap (λ (l : LaneValue). l.refused) lane_same ∙ fed.knows.refused;
               client_ended = client_drains.ended ∙ fed.knows.client_ended;
               controller_ended = controller_drains.ended ∙ fed.knows.controller_ended;
+              rules = subst (λ (l : LaneValue). KnowsRules l.rules are) (sym lane_same) fed.knows.rules;
               wire = λ none. subst (λ (l : LaneValue). KnowsWire asset l.wire are) (sym lane_same) (fed.knows.wire none);
             };
             client_stream = client_stands (stream_to asset side.Client are) fed.client_stream;

@@ -73,6 +73,7 @@ module _ (asset : Asset) (client : ℕ) (names : SiftNamesValue) (before mid : L
             refused = f.knows.refused;
             client_ended = f.knows.client_ended;
             controller_ended = f.knows.controller_ended;
+            rules = f.knows.rules;
             wire = f.knows.wire;
           };
           client_stream = f.client_stream;

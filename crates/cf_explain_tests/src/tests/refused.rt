@@ -89,7 +89,7 @@ p:4:1: PUMP "adress" is no key of an asset; did you mean `address`?
 
 11|code = [3]
 p:11:1: POLL "code" is no key of a rule; did you mean `codes`?
-  a rule has name, action, codes, and may have clients, groups, points and values
+  a rule has name, action, codes, and may have clients, groups, points, values, most and seconds
 
 11|
 p:8:1: POLL `codes` is missing
@@ -105,7 +105,7 @@ p:8:1: PUMP `master` is a key of DNP3 assets alone: leave it out
 
 10|action = "allow" / station = 1
 p:11:1: POLL "station" is no key of a rule: it stands in an asset, below [[asset]] and above its first [[asset.rule]]
-  a rule has name, action, codes, and may have clients, groups, points and values
+  a rule has name, action, codes, and may have clients, groups, points, values, most and seconds
 
 7|station = 1 / codes = [3]
 p:8:1: PUMP "codes" is no key of an asset: it stands in a rule, below [[asset.rule]]

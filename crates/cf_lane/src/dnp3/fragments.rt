@@ -5,7 +5,8 @@ ghost use Rattle.cf_dnplink.specs.UserOctets.{user_of};
 ghost use Rattle.cf_outq.specs.SendQueue.{Queue};
 ghost use Rattle.cf_outside.specs.Faults.{HasCause};
 ghost use Rattle.cf_outside.specs.Desk.{DeskValue};
-ghost use Rattle.cf_policy.specs.Index.{IsIndexOf};
+ghost use Rattle.cf_lane.specs.Rates.{Says};
+ghost use Rattle.cf_lane.specs.Rings.{IsRulesOf, says_by};
 ghost use Rattle.cf_policy.specs.Within.{IsAssetWithin};
 ghost use Rattle.cf_lane.specs.Dnp3.{drop_why, fragment_reply};
 ghost use Rattle.cf_lane.specs.Fragments.{AddsSegment, MissesSegment, Sends, TakesSegment, completed_by, frames_exist, parts, recut_most, sent_most};
@@ -16,6 +17,7 @@ use crate::dnp3::judge::judge_fragment;
 use crate::dnp3::recut::push_fragment;
 use crate::fate::{Fate, Refusal};
 use crate::log::{log_refusal, log_stray};
+use crate::rules::Rules;
 use crate::wire::Fragments;
 use arrayvec::ArrayVec;
 use cf_audit::Why;
@@ -24,7 +26,7 @@ use cf_dnpobj::{reply_for, wants_reply};
 use cf_dnptrans::{DropReason, SegmentAnswer};
 use cf_outq::Outq;
 use cf_outside::Desk;
-use cf_policy::{Asset, CodeIndex};
+use cf_policy::Asset;
 use cf_view::{Endpoint, Reason, Side, View, WriteFault};
 
 impl Fragments {
@@ -48,7 +50,7 @@ impl Fragments {
     pub(crate) fn take_answer<D: Desk>(
         &mut self,
         asset: &Asset,
-        index: &CodeIndex,
+        rules: &Rules,
         client: &Endpoint,
         moment: u64,
         side: Side,
@@ -57,7 +59,7 @@ impl Fragments {
         to_controller: &mut Outq,
         desk: &mut D,
     ) -> Result<Fate, WriteFault>
-        requires index { IsIndexOf asset.now client.now.address index.now }
+        requires rules { IsRulesOf asset.now client.now.address rules.now }
         requires within { IsAssetWithin asset.now }
         requires desk { DeskValue.whole (D.value desk.old) ≡ true }
         requires completed { answer.now ≡ SegmentAnswer.Whole → (of_side side self.old).whole ≡ true }
@@ -66,10 +68,10 @@ impl Fragments {
         requires open { IsOpen side to_client.old to_controller.old }
         requires client_room { HasRoom (sent_most answer.now (of_side side self.old)) to_client.old }
         requires controller_room { HasRoom (sent_most answer.now (of_side side self.old)) to_controller.old }
-        ensures takes { IfOk result (λ f. TakesSegment asset.now client.now moment side answer.now (completed_by answer.now (of_side side self.old)) f
+        ensures takes { IfOk result (λ f. TakesSegment asset.now (says_by asset.now client.now.address rules.now moment) client.now moment side answer.now (completed_by answer.now (of_side side self.old)) f
             (parts self.old to_client.old to_controller.old (DeskValue.lines (D.value desk.old)))
             (parts self.new to_client.new to_controller.new (DeskValue.lines (D.value desk.new)))) }
-        ensures misses { OnErr result (MissesSegment asset.now client.now moment side answer.now (completed_by answer.now (of_side side self.old))
+        ensures misses { OnErr result (MissesSegment asset.now (says_by asset.now client.now.address rules.now moment) client.now moment side answer.now (completed_by answer.now (of_side side self.old))
             (parts self.old to_client.old to_controller.old (DeskValue.lines (D.value desk.old)))
             (DeskValue.lines (D.value desk.new)) (DeskValue.line_part (D.value desk.new))) }
         ensures client_grows { OnOk result (Grows (sent_most answer.now (of_side side self.old)) 0 0 to_client.old to_client.new) }
@@ -89,7 +91,7 @@ impl Fragments {
                 Side::Client => {
                     let fate = self.take_client(
                         asset,
-                        index,
+                        rules,
                         client,
                         moment,
                         to_client,
@@ -110,14 +112,14 @@ impl Fragments {
     fn take_client<D: Desk>(
         &mut self,
         asset: &Asset,
-        index: &CodeIndex,
+        rules: &Rules,
         client: &Endpoint,
         moment: u64,
         to_client: &mut Outq,
         to_controller: &mut Outq,
         desk: &mut D,
     ) -> Result<Fate, WriteFault>
-        requires index { IsIndexOf asset.now client.now.address index.now }
+        requires rules { IsRulesOf asset.now client.now.address rules.now }
         requires within { IsAssetWithin asset.now }
         requires desk { DeskValue.whole (D.value desk.old) ≡ true }
         requires completed { self.old.client.whole ≡ true }
@@ -126,10 +128,10 @@ impl Fragments {
         requires open { to_controller.old.ended ≡ false }
         requires client_room { HasRoom (recut_most (length self.old.client.octets + 2)) to_client.old }
         requires controller_room { HasRoom (recut_most (length self.old.client.octets + 2)) to_controller.old }
-        ensures takes { IfOk result (λ f. TakesSegment asset.now client.now moment Side.Client SegmentAnswer.Whole (self.old.client.octets ∷ []) f
+        ensures takes { IfOk result (λ f. TakesSegment asset.now (says_by asset.now client.now.address rules.now moment) client.now moment Side.Client SegmentAnswer.Whole (self.old.client.octets ∷ []) f
             (parts self.old to_client.old to_controller.old (DeskValue.lines (D.value desk.old)))
             (parts self.new to_client.new to_controller.new (DeskValue.lines (D.value desk.new)))) }
-        ensures misses { OnErr result (MissesSegment asset.now client.now moment Side.Client SegmentAnswer.Whole (self.old.client.octets ∷ [])
+        ensures misses { OnErr result (MissesSegment asset.now (says_by asset.now client.now.address rules.now moment) client.now moment Side.Client SegmentAnswer.Whole (self.old.client.octets ∷ [])
             (parts self.old to_client.old to_controller.old (DeskValue.lines (D.value desk.old)))
             (DeskValue.lines (D.value desk.new)) (DeskValue.line_part (D.value desk.new))) }
         ensures client_grows { OnOk result (Grows (recut_most (length self.old.client.octets + 2)) 0 0 to_client.old to_client.new) }
@@ -143,14 +145,14 @@ impl Fragments {
             log_stray(asset, client, moment, Side::Client, Why::Short, desk)?;
             return Ok(Fate::Stray(Why::Short));
         }
-        let fate = judge_fragment(asset, index, &octets);
+        let fate = judge_fragment(asset, rules, moment, &octets);
         match fate {
             Fate::Refused(refusal) => {
                 let replied = reply(asset, &octets, &refusal, &mut self.to_client, to_client);
                 log_refusal(asset, client, moment, &refusal, replied, octets, desk)?;
                 Ok(fate)
             }
-            Fate::Carried | Fate::Admitted => {
+            Fate::Carried | Fate::Admitted(_) => {
                 self.to_controller = push_fragment(
                     asset,
                     Side::Controller,
@@ -180,10 +182,10 @@ impl Fragments {
         requires to_controller { self.old.to_controller < 64 }
         requires open { to_client.old.ended ≡ false }
         requires client_room { HasRoom (recut_most (length self.old.controller.octets + 2)) to_client.old }
-        ensures takes { IfOk result (λ f. (to_controller : Queue) → TakesSegment asset.now client.now moment Side.Controller SegmentAnswer.Whole (self.old.controller.octets ∷ []) f
+        ensures takes { IfOk result (λ f. (says : Says) (to_controller : Queue) → TakesSegment asset.now says client.now moment Side.Controller SegmentAnswer.Whole (self.old.controller.octets ∷ []) f
             (parts self.old to_client.old to_controller (DeskValue.lines (D.value desk.old)))
             (parts self.new to_client.new to_controller (DeskValue.lines (D.value desk.new)))) }
-        ensures misses { OnErr result ((to_controller : Queue) → MissesSegment asset.now client.now moment Side.Controller SegmentAnswer.Whole (self.old.controller.octets ∷ [])
+        ensures misses { OnErr result ((says : Says) (to_controller : Queue) → MissesSegment asset.now says client.now moment Side.Controller SegmentAnswer.Whole (self.old.controller.octets ∷ [])
             (parts self.old to_client.old to_controller (DeskValue.lines (D.value desk.old)))
             (DeskValue.lines (D.value desk.new)) (DeskValue.line_part (D.value desk.new))) }
         ensures client_grows { OnOk result (Grows (recut_most (length self.old.controller.octets + 2)) 0 0 to_client.old to_client.new) }

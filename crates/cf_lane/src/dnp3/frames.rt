@@ -4,7 +4,7 @@ ghost use Rattle.cf_dnplink.specs.LinkFrame.{IsFrame, frame_value};
 ghost use Rattle.cf_outq.specs.SendQueue.{after_push};
 ghost use Rattle.cf_outside.specs.Faults.{HasCause};
 ghost use Rattle.cf_outside.specs.Desk.{DeskValue};
-ghost use Rattle.cf_policy.specs.Index.{IsIndexOf};
+ghost use Rattle.cf_lane.specs.Rings.{IsRulesOf, says_by};
 ghost use Rattle.cf_policy.specs.Within.{IsAssetWithin};
 ghost use Rattle.cf_lane.specs.Dnp3.{is_data, stray_of};
 ghost use Rattle.cf_lane.specs.Fragments.{MissesFrame, TakesFrame, owed_by, parts};
@@ -16,11 +16,12 @@ ghost use Rattle.cf_lane.specs.Unit.{frame_spelling};
 use crate::dnp3::served::{is_data, stray_of};
 use crate::fate::Fate;
 use crate::log::log_stray;
+use crate::rules::Rules;
 use crate::wire::Fragments;
 use cf_dnplink::Frame;
 use cf_outq::Outq;
 use cf_outside::Desk;
-use cf_policy::{Asset, CodeIndex};
+use cf_policy::Asset;
 use cf_view::{Endpoint, Side, View, WriteFault};
 
 impl Fragments {
@@ -29,7 +30,7 @@ impl Fragments {
     pub(crate) fn take_frame<D: Desk>(
         &mut self,
         asset: &Asset,
-        index: &CodeIndex,
+        rules: &Rules,
         client: &Endpoint,
         moment: u64,
         side: Side,
@@ -39,7 +40,7 @@ impl Fragments {
         to_controller: &mut Outq,
         desk: &mut D,
     ) -> Result<Fate, WriteFault>
-        requires index { IsIndexOf asset.now client.now.address index.now }
+        requires rules { IsRulesOf asset.now client.now.address rules.now }
         requires within { IsAssetWithin asset.now }
         requires desk { DeskValue.whole (D.value desk.old) ≡ true }
         requires are { AreFragments self.old }
@@ -48,10 +49,10 @@ impl Fragments {
         requires open { IsOpen side to_client.old to_controller.old }
         requires client_room { HasRoom (owed_by self.old + 2 * length octets.now.bytes) to_client.old }
         requires controller_room { HasRoom (owed_by self.old + 2 * length octets.now.bytes) to_controller.old }
-        ensures takes { IfOk result (λ f. TakesFrame asset.now client.now moment side (frame_value frame.now) f
+        ensures takes { IfOk result (λ f. TakesFrame asset.now (says_by asset.now client.now.address rules.now moment) client.now moment side (frame_value frame.now) f
             (parts self.old to_client.old to_controller.old (DeskValue.lines (D.value desk.old)))
             (parts self.new to_client.new to_controller.new (DeskValue.lines (D.value desk.new)))) }
-        ensures misses { OnErr result (MissesFrame asset.now client.now moment side (frame_value frame.now)
+        ensures misses { OnErr result (MissesFrame asset.now (says_by asset.now client.now.address rules.now moment) client.now moment side (frame_value frame.now)
             (parts self.old to_client.old to_controller.old (DeskValue.lines (D.value desk.old)))
             (DeskValue.lines (D.value desk.new)) (DeskValue.line_part (D.value desk.new))) }
         ensures are { OnOk result (AreFragments self.new) }
@@ -72,7 +73,7 @@ impl Fragments {
         let answer = self.take_segment(side, frame);
         let fate = self.take_answer(
             asset,
-            index,
+            rules,
             client,
             moment,
             side,

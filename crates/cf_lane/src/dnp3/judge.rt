@@ -2,24 +2,27 @@
 ghost use Rattle.std.specs.Prelude.{◌≡◌, ◌≢◌, ◌≤◌, ℕ, if◌then◌else◌, length, nat_eq};
 ghost use Rattle.cf_dnpobj.specs.Acts.{acts};
 ghost use Rattle.cf_dnpobj.specs.Fragment.{fragment_value};
-ghost use Rattle.cf_policy.specs.Index.{IsIndexOf};
+ghost use Rattle.cf_policy.specs.Within.{most_rated};
+ghost use Rattle.cf_lane.specs.Rings.{IsRulesOf, says_by};
 ghost use Rattle.cf_lane.specs.Acts.{fate_of_acts};
 ghost use Rattle.cf_lane.specs.Dnp3.{IsOfFragment, fate_of_fragment, form_reason};
 ghost use Rattle.cf_lane.specs.Fate.{HasOwnDecider};
 
 use crate::fate::{Fate, judge_acts, refused};
+use crate::rules::Rules;
 use cf_dnpobj::{Fragment, FragmentRefusal, act_at, act_count, read_fragment};
-use cf_policy::{Asset, CodeIndex, Decider};
+use cf_policy::{Asset, Decider};
 use cf_view::{Reason, Side, View};
 
 /// The fate of a fragment of 2 to 2,048 octets of the client of the index: a confirmation goes on, and every other one is a command. Its form is
 /// read, then each act is judged in its order; the first that is not allowed decides. This project's own order.
-pub(crate) fn judge_fragment(asset: &Asset, index: &CodeIndex, octets: &View<'_>) -> Fate
+pub(crate) fn judge_fragment(asset: &Asset, rules: &Rules, moment: u64, octets: &View<'_>) -> Fate
     requires at_least { 2 ≤ length octets.now.bytes }
     requires at_most { length octets.now.bytes ≤ 2048 }
-    ensures fate { (client : ℕ) → IsIndexOf asset.now client index.now → result ≡ fate_of_fragment asset.now client Side.Client octets.now.bytes }
+    requires few { length rules.now.rings.items ≤ most_rated }
+    ensures fate { (client : ℕ) → IsRulesOf asset.now client rules.now → result ≡ fate_of_fragment asset.now (says_by asset.now client rules.now moment) Side.Client octets.now.bytes }
     ensures decider { HasOwnDecider asset.now.rules result }
-    ensures fragment { (client : ℕ) → IsIndexOf asset.now client index.now → IsOfFragment result }
+    ensures fragment { (client : ℕ) → IsRulesOf asset.now client rules.now → IsOfFragment result }
 {
     match read_fragment(octets.sub(0, octets.len())) {
         Err(refusal) => refused(
@@ -28,7 +31,7 @@ pub(crate) fn judge_fragment(asset: &Asset, index: &CodeIndex, octets: &View<'_>
             u16::from(octets.at(1)),
             0,
         ),
-        Ok(fragment) => judge_request(asset, index, &fragment),
+        Ok(fragment) => judge_request(asset, rules, moment, &fragment),
     }
 }
 
@@ -46,14 +49,21 @@ fn form_reason(refusal: &FragmentRefusal) -> Reason
 }
 
 /// The fate of a request whose form was read.
-fn judge_request(asset: &Asset, index: &CodeIndex, fragment: &Fragment<'_>) -> Fate
-    requires { length fragment.now.objects.bytes ≤ 2046 }
-    ensures fate { (client : ℕ) → IsIndexOf asset.now client index.now → result ≡ (if nat_eq fragment.now.code 0 then Fate.Carried else fate_of_acts asset.now client (acts (fragment_value fragment.now))) }
+fn judge_request(asset: &Asset, rules: &Rules, moment: u64, fragment: &Fragment<'_>) -> Fate
+    requires at_most { length fragment.now.objects.bytes ≤ 2046 }
+    requires few { length rules.now.rings.items ≤ most_rated }
+    ensures fate { (client : ℕ) → IsRulesOf asset.now client rules.now → result ≡ (if nat_eq fragment.now.code 0 then Fate.Carried else fate_of_acts asset.now (says_by asset.now client rules.now moment) (acts (fragment_value fragment.now))) }
     ensures decider { HasOwnDecider asset.now.rules result }
-    ensures fragment { (client : ℕ) → IsIndexOf asset.now client index.now → IsOfFragment result }
+    ensures fragment { (client : ℕ) → IsRulesOf asset.now client rules.now → IsOfFragment result }
 {
     if fragment.code == 0 {
         return Fate::Carried;
     }
-    judge_acts(asset, index, act_count(fragment), |i| act_at(fragment, i))
+    judge_acts(
+        asset,
+        rules,
+        moment,
+        act_count(fragment),
+        |i| act_at(fragment, i),
+    )
 }

@@ -4,6 +4,7 @@ ghost use Rattle.cf_apci.specs.Apdu.{Ack, Control, Info, is_control};
 ghost use Rattle.cf_outq.specs.SendQueue.{Queue};
 ghost use Rattle.cf_lane.specs.Handled.{Grows, HasRoom, IsOpen};
 ghost use Rattle.cf_lane.specs.Numbers.{control_event, number_cut};
+ghost use Rattle.cf_lane.specs.Rates.{Says};
 ghost use Rattle.cf_lane.specs.Renumbered.{TakesApdu, numbered, unless_cut};
 ghost use Rattle.cf_policy.specs.declared.Asset.{Asset};
 ghost use Rattle.cf_renumber.specs.Counts.{Event};
@@ -64,7 +65,7 @@ pub(crate) fn carry_control(
     requires controller_room { HasRoom 6 to_controller.old }
     ensures idle { numbers.new.owed ≡ None }
     ensures fate { result ≡ Fate.Carried }
-    ensures takes { (asset : Asset) (client : Endpoint) (moment : ℕ) (lines : Option (List (List ℕ))) → TakesApdu asset client moment side (Control octet) result
+    ensures takes { (asset : Asset) (says : Says) (client : Endpoint) (moment : ℕ) (lines : Option (List (List ℕ))) → TakesApdu asset says client moment side (Control octet) result
         (numbered numbers.old to_client.old to_controller.old lines) (numbered numbers.new to_client.new to_controller.new lines) }
     ensures client_grows { Grows 6 0 0 to_client.old to_client.new }
     ensures controller_grows { Grows 6 0 0 to_controller.old to_controller.new }
@@ -95,7 +96,7 @@ pub(crate) fn carry_ack(
     requires client_room { HasRoom 6 to_client.old }
     requires controller_room { HasRoom 6 to_controller.old }
     ensures idle { numbers.new.owed ≡ None }
-    ensures takes { (asset : Asset) (client : Endpoint) (moment : ℕ) (lines : Option (List (List ℕ))) → TakesApdu asset client moment side (Ack receive) result
+    ensures takes { (asset : Asset) (says : Says) (client : Endpoint) (moment : ℕ) (lines : Option (List (List ℕ))) → TakesApdu asset says client moment side (Ack receive) result
         (numbered numbers.old to_client.old to_controller.old lines) (numbered numbers.new to_client.new to_controller.new lines) }
     ensures client_grows { Grows (unless_cut result 6) 0 0 to_client.old to_client.new }
     ensures controller_grows { Grows (unless_cut result 6) 0 0 to_controller.old to_controller.new }
@@ -131,8 +132,8 @@ pub(crate) fn carry_info(
     requires open { to_client.old.ended ≡ false }
     requires room { HasRoom (length asdu.now.bytes + 6) to_client.old }
     ensures idle { numbers.new.owed ≡ None }
-    ensures takes { (asset : Asset) (client : Endpoint) (moment : ℕ) (to_controller : Queue) (lines : Option (List (List ℕ))) →
-        TakesApdu asset client moment Side.Controller (Info send receive asdu.now.bytes) result
+    ensures takes { (asset : Asset) (says : Says) (client : Endpoint) (moment : ℕ) (to_controller : Queue) (lines : Option (List (List ℕ))) →
+        TakesApdu asset says client moment Side.Controller (Info send receive asdu.now.bytes) result
         (numbered numbers.old to_client.old to_controller lines) (numbered numbers.new to_client.new to_controller lines) }
     ensures grows { Grows (unless_cut result (length asdu.now.bytes + 6)) 0 0 to_client.old to_client.new }
 {

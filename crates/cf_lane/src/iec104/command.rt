@@ -7,7 +7,7 @@ ghost use Rattle.cf_lane.specs.Renumbered.{mirror_octets, MissesApdu, TakesApdu,
 ghost use Rattle.cf_outq.specs.SendQueue.{after_push};
 ghost use Rattle.cf_outside.specs.Desk.{DeskValue};
 ghost use Rattle.cf_outside.specs.Faults.{HasCause};
-ghost use Rattle.cf_policy.specs.Index.{IsIndexOf};
+ghost use Rattle.cf_lane.specs.Rings.{IsRulesOf, says_by};
 ghost use Rattle.cf_policy.specs.Within.{IsAssetWithin};
 ghost use Rattle.cf_renumber.specs.Numbers.{IsSmall};
 
@@ -16,10 +16,11 @@ use crate::iec104::carry::number_cut;
 use crate::iec104::judge::judge_asdu;
 use crate::iec104::push::{push_ack, push_info, push_mirror};
 use crate::log::log_refusal;
+use crate::rules::Rules;
 use cf_audit::CutReason;
 use cf_outq::Outq;
 use cf_outside::Desk;
-use cf_policy::{Asset, CodeIndex};
+use cf_policy::Asset;
 use cf_renumber::{Numbers, RefusedStamp};
 use cf_view::{Endpoint, Side, View, WriteFault};
 
@@ -60,7 +61,7 @@ fn push_refused(
 pub(crate) fn take_command<D: Desk>(
     numbers: &mut Numbers,
     asset: &Asset,
-    index: &CodeIndex,
+    rules: &Rules,
     client: &Endpoint,
     moment: u64,
     send: u16,
@@ -72,7 +73,7 @@ pub(crate) fn take_command<D: Desk>(
     desk: &mut D,
 ) -> Result<Fate, WriteFault>
     requires idle { numbers.old.owed ≡ None }
-    requires indexed { IsIndexOf asset.now client.now.address index.now }
+    requires rules { IsRulesOf asset.now client.now.address rules.now }
     requires within { IsAssetWithin asset.now }
     requires whole { DeskValue.whole (D.value desk.old) ≡ true }
     requires at_most { length asdu.now.bytes ≤ 249 }
@@ -81,10 +82,10 @@ pub(crate) fn take_command<D: Desk>(
     requires client_room { HasRoom (length asdu.now.bytes + 6) to_client.old }
     requires controller_room { HasRoom (length asdu.now.bytes + 6) to_controller.old }
     ensures idle { OnOk result (numbers.new.owed ≡ None) }
-    ensures takes { IfOk result (λ f. TakesApdu asset.now client.now moment Side.Client (Info send receive asdu.now.bytes) f
+    ensures takes { IfOk result (λ f. TakesApdu asset.now (says_by asset.now client.now.address rules.now moment) client.now moment Side.Client (Info send receive asdu.now.bytes) f
         (numbered numbers.old to_client.old to_controller.old (DeskValue.lines (D.value desk.old)))
         (numbered numbers.new to_client.new to_controller.new (DeskValue.lines (D.value desk.new)))) }
-    ensures misses { OnErr result (MissesApdu asset.now client.now moment Side.Client (Info send receive asdu.now.bytes)
+    ensures misses { OnErr result (MissesApdu asset.now (says_by asset.now client.now.address rules.now moment) client.now moment Side.Client (Info send receive asdu.now.bytes)
         (numbered numbers.old to_client.old to_controller.old (DeskValue.lines (D.value desk.old)))
         (DeskValue.lines (D.value desk.new)) (DeskValue.line_part (D.value desk.new))) }
     ensures client_grows { IfOk result (λ f. Grows (unless_cut f (length asdu.now.bytes + 6)) 0 0 to_client.old to_client.new) }
@@ -99,9 +100,9 @@ pub(crate) fn take_command<D: Desk>(
     if let Err(refusal) = numbers.from_client(send, receive) {
         return Ok(Fate::Cuts(number_cut(Side::Client, refusal)));
     }
-    let fate = judge_asdu(asset, index, asdu);
+    let fate = judge_asdu(asset, rules, moment, asdu);
     match &fate {
-        Fate::Admitted => {
+        Fate::Admitted(_) => {
             let stamp = numbers.admitted();
             push_info(&stamp, asdu, to_controller);
             Ok(fate)

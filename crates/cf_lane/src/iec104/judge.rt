@@ -2,12 +2,14 @@
 ghost use Rattle.std.specs.Prelude.{◌≡◌, ◌≤◌, length, slice_index, ℕ};
 ghost use Rattle.cf_lane.specs.Fate.{HasOwnDecider, IsOfCommand};
 ghost use Rattle.cf_lane.specs.Iec104.{fate_of_asdu};
-ghost use Rattle.cf_policy.specs.Index.{IsIndexOf};
+ghost use Rattle.cf_policy.specs.Within.{most_rated};
+ghost use Rattle.cf_lane.specs.Rings.{IsRulesOf, says_by};
 
 use crate::fate::{Fate, judge_acts, refused};
 use crate::lane::after;
+use crate::rules::Rules;
 use cf_asdu::{AsduRefusal, act_at, act_count, read_asdu, station_of};
-use cf_policy::{Asset, CodeIndex, Decider};
+use cf_policy::{Asset, Decider};
 use cf_view::{Reason, View};
 
 /// The fewest octets of an ASDU with an information object.
@@ -15,9 +17,10 @@ const SHORTEST: usize = 9;
 
 /// The fate of a client's ASDU. Whether it is too short is tested first, then the station is compared, then the rest of its form
 /// is read, then each act is judged in its order; the first that is not allowed decides. This project's own order.
-pub(crate) fn judge_asdu(asset: &Asset, index: &CodeIndex, octets: &View<'_>) -> Fate
-    requires { length octets.now.bytes ≤ 249 }
-    ensures fate { (client : ℕ) → IsIndexOf asset.now client index.now → result ≡ fate_of_asdu asset.now client octets.now.bytes }
+pub(crate) fn judge_asdu(asset: &Asset, rules: &Rules, moment: u64, octets: &View<'_>) -> Fate
+    requires at_most { length octets.now.bytes ≤ 249 }
+    requires few { length rules.now.rings.items ≤ most_rated }
+    ensures fate { (client : ℕ) → IsRulesOf asset.now client rules.now → result ≡ fate_of_asdu asset.now (says_by asset.now client rules.now moment) octets.now.bytes }
     ensures decider { HasOwnDecider asset.now.rules result }
     ensures command { IsOfCommand result }
 {
@@ -40,7 +43,7 @@ pub(crate) fn judge_asdu(asset: &Asset, index: &CodeIndex, octets: &View<'_>) ->
     }
     match read_asdu(after(octets, 0)) {
         Err(refusal) => refused(Decider::Form, refusal.reason(), kind_of(octets), 0),
-        Ok(asdu) => judge_acts(asset, index, act_count(&asdu), |i| act_at(&asdu, i)),
+        Ok(asdu) => judge_acts(asset, rules, moment, act_count(&asdu), |i| act_at(&asdu, i)),
     }
 }
 

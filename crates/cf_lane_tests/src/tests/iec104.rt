@@ -37,6 +37,7 @@ pub(super) fn sub(alloc: Global) -> Result<Asset, AllocError>
         groups: one_span(alloc, 6, 6)?,
         points: one_span(alloc, 1000, 1000)?,
         values: Items::new(Vec::new(alloc)),
+        rate: None,
     })?;
     Ok(Asset {
         name: Name::from_text("sub"),

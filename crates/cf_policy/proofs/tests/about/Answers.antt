@@ -30,4 +30,5 @@ returns-clause-within c =
       groups = none _ _ _ (c.new-4.ensures ∙ c.new-3.ensures.items);
       points = single _ _ _ _ points (record { above = omega (arith, ints); ordered = omega (arith, ints); below = omega (arith, ints) });
       values = none _ _ _ (c.new-6.ensures ∙ c.new-5.ensures.items);
+      rate = search rules;
     }

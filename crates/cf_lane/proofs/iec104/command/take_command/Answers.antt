@@ -1,3 +1,4 @@
+use Rattle.cf_lane.specs.Rings.{says_by}
 use Rattle.std.proofs.Common.{rules, ◌≡◌, ◌+◌, ◌∷◌, [], List, Bool, ap, arith, length, refl, sym, subst, ◌∙◌, ℕ, false}
 use Rattle.cf_lane.proofs.Failing.{on_err}
 use Rattle.cf_lane.proofs.Taking.{grows_push}
@@ -32,24 +33,25 @@ returns-in_err-log_refusal-in-Refused-clause-misses g c =
     let line = line_about asset client moment (refusal_line asset r c.has_mirror-replied.result (apdu_octets (Info c.args.send c.args.receive asdu))) in
     let shown : line_about asset client moment (refusal_line asset r c.has_mirror-replied.result c.args.octets.bytes) ≡ line =
     ap (λ (o : List ℕ). line_about asset client moment (refusal_line asset r c.has_mirror-replied.result o)) c.requires.octets in
-    let missed : MissesApdu asset client moment side.Client (Info c.args.send c.args.receive asdu) old (DeskValue.lines (g.D.Desk.value c.log_refusal.new.desk)) (DeskValue.line_part (g.D.Desk.value c.log_refusal.new.desk)) = record {
+    let missed : MissesApdu asset (says_by c.args.asset.now c.args.client.now.address c.args.rules.now c.args.moment) client moment side.Client (Info c.args.send c.args.receive asdu) old (DeskValue.lines (g.D.Desk.value c.log_refusal.new.desk)) (DeskValue.line_part (g.D.Desk.value c.log_refusal.new.desk)) = record {
       fate = fate.Refused r;
       uncut = refl;
+      unadmitted = refl;
       new = numbered c.refused-stamp.new.self c.push_refused.new.to_client c.push_refused.new.to_controller (with_lines text (line ∷ []));
       takes = λ earlier stands ended.
           (let right : AreRight c.args.send c.args.receive earlier = record { may = search rules; none = c.in_default.ensures.answer (events_of earlier) stands } in
           let awaits = c.in_default.ensures.stands (events_of earlier) stands in
           let here : c.has_mirror-replied.result ≡ has_mirror earlier asdu = c.has_mirror-replied.ensures ∙ ap (λ (b : Bool). if b then false else nat_lt 8 (length asdu)) ended in
-          does_refused asset client moment c.args.send c.args.receive asdu old earlier right r c.has_mirror-replied.result here c.refused-stamp.result
+          does_refused asset (says_by c.args.asset.now c.args.client.now.address c.args.rules.now c.args.moment) client moment c.args.send c.args.receive asdu old earlier right r c.has_mirror-replied.result here c.refused-stamp.result
           (c.refused-stamp.ensures.stamp (events_of earlier) c.args.receive awaits) (fate.Refused r) refl _ _ _ _
-          (sym c.in-Refused.is ∙ c.judge_asdu-fate.ensures.fate c.args.client.now.address c.requires.indexed) (c.refused-stamp.ensures.stands (events_of earlier) c.args.receive awaits)
+          (sym c.in-Refused.is ∙ c.judge_asdu-fate.ensures.fate c.args.client.now.address c.requires.rules) (c.refused-stamp.ensures.stands (events_of earlier) c.args.receive awaits)
           c.push_refused.ensures.client c.push_refused.ensures.controller refl ended c.requires.«open»);
       more = line ∷ [];
       are_more = λ earlier stands ended.
           (let right : AreRight c.args.send c.args.receive earlier = record { may = search rules; none = c.in_default.ensures.answer (events_of earlier) stands } in
           let awaits = c.in_default.ensures.stands (events_of earlier) stands in
           let here : c.has_mirror-replied.result ≡ has_mirror earlier asdu = c.has_mirror-replied.ensures ∙ ap (λ (b : Bool). if b then false else nat_lt 8 (length asdu)) ended in
-          refused_lines asset client moment c.args.send c.args.receive asdu old earlier right r c.has_mirror-replied.result here c.refused-stamp.result
+          refused_lines asset (says_by c.args.asset.now c.args.client.now.address c.args.rules.now c.args.moment) client moment c.args.send c.args.receive asdu old earlier right r c.has_mirror-replied.result here c.refused-stamp.result
           (c.refused-stamp.ensures.stamp (events_of earlier) c.args.receive awaits));
       line = subst (λ (l : List ℕ). MayHaveMore (l ∷ []) text (DeskValue.lines (g.D.Desk.value c.log_refusal.new.desk)) (DeskValue.line_part (g.D.Desk.value c.log_refusal.new.desk))) shown
           c.in_err-log_refusal-in-Refused.ensures.fails;
@@ -64,8 +66,8 @@ returns-in-Admitted-clause-takes g c = λ earlier stands ended.
     } in
     let awaits = c.in_default.ensures.stands (events_of earlier) stands in
     let old = numbered c.args.numbers.now c.args.to_client.now c.args.to_controller.now (DeskValue.lines (g.D.Desk.value c.args.desk.now)) in
-    does_admitted c.args.asset.now c.args.client.now c.args.moment c.args.send c.args.receive c.args.asdu.now.bytes old earlier right _ c.in-Admitted.is c.admitted-stamp.result _ _
-    (c.judge_asdu-fate.ensures.fate c.args.client.now.address c.requires.indexed) (c.admitted-stamp.ensures.stamp (events_of earlier) c.args.receive awaits)
+    does_admitted c.args.asset.now (says_by c.args.asset.now c.args.client.now.address c.args.rules.now c.args.moment) c.args.client.now c.args.moment c.args.send c.args.receive c.args.asdu.now.bytes old earlier right _ _ c.in-Admitted.is c.admitted-stamp.result _ _
+    (c.judge_asdu-fate.ensures.fate c.args.client.now.address c.requires.rules) (c.admitted-stamp.ensures.stamp (events_of earlier) c.args.receive awaits)
     (c.admitted-stamp.ensures.stands (events_of earlier) c.args.receive awaits) c.push_info.ensures.queue c.requires.«open»)
 
 pub returns-in_ok-log_refusal-in-Refused-clause-takes :
@@ -80,9 +82,9 @@ returns-in_ok-log_refusal-in-Refused-clause-takes g c = λ earlier stands ended.
     let old = numbered c.args.numbers.now c.args.to_client.now c.args.to_controller.now text in
     let r = c.in-Refused.refusal in
     let here : c.has_mirror-replied.result ≡ has_mirror earlier c.args.asdu.now.bytes = c.has_mirror-replied.ensures ∙ ap (λ (b : Bool). if b then false else nat_lt 8 (length c.args.asdu.now.bytes)) ended in
-    does_refused c.args.asset.now c.args.client.now c.args.moment c.args.send c.args.receive c.args.asdu.now.bytes old earlier right r c.has_mirror-replied.result here c.refused-stamp.result
+    does_refused c.args.asset.now (says_by c.args.asset.now c.args.client.now.address c.args.rules.now c.args.moment) c.args.client.now c.args.moment c.args.send c.args.receive c.args.asdu.now.bytes old earlier right r c.has_mirror-replied.result here c.refused-stamp.result
     (c.refused-stamp.ensures.stamp (events_of earlier) c.args.receive awaits) _ c.in-Refused.is _ _ _ _
-    (c.judge_asdu-fate.ensures.fate c.args.client.now.address c.requires.indexed) (c.refused-stamp.ensures.stands (events_of earlier) c.args.receive awaits)
+    (c.judge_asdu-fate.ensures.fate c.args.client.now.address c.requires.rules) (c.refused-stamp.ensures.stands (events_of earlier) c.args.receive awaits)
     c.push_refused.ensures.client c.push_refused.ensures.controller
     (c.in_ok-log_refusal-in-Refused.ensures.lines
     ∙ ap (λ (o : List ℕ). with_lines text (line_about c.args.asset.now c.args.client.now c.args.moment (refusal_line c.args.asset.now r c.has_mirror-replied.result o) ∷ [])) c.requires.octets)

@@ -3,7 +3,8 @@ use Rattle.cf_modbus.specs.Adu.{adu_value, spelling}
 use Rattle.cf_outside.specs.Desk.{DeskValue}
 use Rattle.cf_lane.specs.Log.{line_about, refusal_line, is_some_bytes, with_lines}
 use Rattle.cf_lane.specs.Modbus.{adu_reply, HasCommandFate}
-use Rattle.cf_policy.specs.Index.{IsIndexOf}
+use Rattle.cf_lane.specs.Rings.{IsRulesOf, RulesGoOn, says_by}
+use Rattle.cf_lane.specs.declared.fate.Fate.{Fate}
 use Rattle.cf_policy.specs.declared.Asset.{Asset}
 use Rattle.cf_lane.specs.Handled.{IsLaneOf, LaneValue}
 use Rattle.cf_lane.specs.declared.fate.Fate.TheVariants as fate
@@ -11,15 +12,22 @@ use Rattle.cf_lane.proofs.Failing.{on_err, misses_refused}
 use Rattle.cf_lane.proofs.Taking.{takes_admitted, takes_refused}
 use Rattle.cf_lane.proofs.lane.Lane.take_command.Goals as goal
 
--- the index is that of the client
-of_inside : (asset : Asset) (lane same : LaneValue) → lane ≡ same → IsLaneOf asset lane → IsIndexOf asset same.client.address same.index
-of_inside asset lane same is of = subst (λ (l : LaneValue). IsIndexOf asset l.client.address l.index) is of.index
+-- the rules are those of the client
+of_inside : (asset : Asset) (lane same : LaneValue) → lane ≡ same → IsLaneOf asset lane → IsRulesOf asset same.client.address same.rules
+of_inside asset lane same is of = subst (λ (l : LaneValue). IsRulesOf asset l.client.address l.rules) is of.rules
 
 pub returns-in-Admitted-clause-takes : goal.returns-in-Admitted-clause-takes
 returns-in-Admitted-clause-takes g c =
-    let P : LaneValue → Type 0 = λ l. HasCommandFate c.args.asset.now l.client.address (adu_value c.args.adu.now) fate.Admitted in
-    takes_admitted c.args.asset.now c.args.moment (adu_value c.args.adu.now) _ _ (ap (λ (l : LaneValue). l.client) c.self.view_is) (ap (λ (l : LaneValue). l.wire) c.self.view_is) c.requires.«open»
-    (subst P c.self.view_is (c.in-Admitted.ensures.fate c.self.inside.client.address (of_inside c.args.asset.now _ _ (sym c.self.view_is) c.requires.of_asset)))
+    let asset = c.args.asset.now in
+    let used = c.in-Admitted.field-0 in
+    let f = c.judge-fate.result in
+    let P : LaneValue → Type 0 = λ l. HasCommandFate asset (says_by asset l.client.address l.rules c.args.moment) (adu_value c.args.adu.now) (fate.Admitted used) in
+    let has = subst (λ (x : Fate). HasCommandFate asset (says_by asset c.self.inside.client.address c.self.inside.rules c.args.moment) (adu_value c.args.adu.now) x) c.in-Admitted.is
+    (c.judge-fate.ensures.fate c.self.inside.client.address (of_inside asset _ _ (sym c.self.view_is) c.requires.of_asset)) in
+    takes_admitted asset c.args.moment (adu_value c.args.adu.now) _ _ (ap (λ (l : LaneValue). l.client) c.self.view_is) (ap (λ (l : LaneValue). l.wire) c.self.view_is) c.requires.of_asset.rules
+    used c.requires.«open» (subst P c.self.view_is has)
+    (subst (λ (x : Fate). RulesGoOn x c.args.moment c.args.self.now.rules c.note.new.self) c.in-Admitted.is
+    (subst (λ (l : LaneValue). RulesGoOn f c.args.moment l.rules c.note.new.self) c.self.view_is c.note.ensures))
     (ap (λ (l : LaneValue). l.admitted + 1) c.self.view_is) (ap (λ (l : LaneValue). l.refused) c.self.view_is) refl c.push_adu.ensures.queue refl
 
 pub returns-in_ok-log_refusal-in-Refused-clause-takes : goal.returns-in_ok-log_refusal-in-Refused-clause-takes
@@ -29,9 +37,11 @@ returns-in_ok-log_refusal-in-Refused-clause-takes g c =
     let asset = c.args.asset.now in
     let moment = c.args.moment in
     let text = DeskValue.lines (g.D.Desk.value c.args.desk.now) in
-    let P : LaneValue → Type 0 = λ l. HasCommandFate asset l.client.address a (fate.Refused r) in
-    takes_refused asset moment a _ _ (ap (λ (l : LaneValue). l.client) c.self.view_is) (ap (λ (l : LaneValue). l.wire) c.self.view_is) r
-    (subst P c.self.view_is (c.in-Refused.ensures.fate c.self.inside.client.address (of_inside asset _ _ (sym c.self.view_is) c.requires.of_asset)))
+    let P : LaneValue → Type 0 = λ l. HasCommandFate asset (says_by asset l.client.address l.rules moment) a (fate.Refused r) in
+    let has = subst (λ (x : Fate). HasCommandFate asset (says_by asset c.self.inside.client.address c.self.inside.rules moment) a x) c.in-Refused.is
+    (c.judge-fate.ensures.fate c.self.inside.client.address (of_inside asset _ _ (sym c.self.view_is) c.requires.of_asset)) in
+    takes_refused asset moment a _ _ (ap (λ (l : LaneValue). l.client) c.self.view_is) (ap (λ (l : LaneValue). l.wire) c.self.view_is) c.requires.of_asset.rules r
+    (subst P c.self.view_is has) (ap (λ (l : LaneValue). l.rules) c.self.view_is)
     (ap (λ (l : LaneValue). l.admitted) c.self.view_is) (ap (λ (l : LaneValue). l.refused + 1) c.self.view_is)
     c.reply-replied.ensures.queue refl
     (c.in_ok-log_refusal-in-Refused.ensures.lines
@@ -44,12 +54,14 @@ returns-in_err-log_refusal-in-Refused-clause-misses g c =
     let a = adu_value c.args.adu.now in
     let r = c.in-Refused.refusal in
     let asset = c.args.asset.now in
-    let P : LaneValue → Type 0 = λ l. HasCommandFate asset l.client.address a (fate.Refused r) in
+    let P : LaneValue → Type 0 = λ l. HasCommandFate asset (says_by asset l.client.address l.rules c.args.moment) a (fate.Refused r) in
+    let has = subst (λ (x : Fate). HasCommandFate asset (says_by asset c.self.inside.client.address c.self.inside.rules c.args.moment) a x) c.in-Refused.is
+    (c.judge-fate.ensures.fate c.self.inside.client.address (of_inside asset _ _ (sym c.self.view_is) c.requires.of_asset)) in
     let reply = adu_reply c.args.to_client.now.ended (fate.Refused r) a in
     on_err _ _ (misses_refused asset c.args.moment a r _
-    (record { client = c.self.inside.client; admitted = c.self.inside.admitted; refused = c.self.inside.refused + 1; index = c.self.inside.index; wire = c.self.inside.wire }) _ c.args.to_controller.now _ _
-    (ap (λ (l : LaneValue). l.client) c.self.view_is) (ap (λ (l : LaneValue). l.wire) c.self.view_is)
-    (subst P c.self.view_is (c.in-Refused.ensures.fate c.self.inside.client.address (of_inside asset _ _ (sym c.self.view_is) c.requires.of_asset)))
+    (record { client = c.self.inside.client; admitted = c.self.inside.admitted; refused = c.self.inside.refused + 1; rules = c.self.inside.rules; wire = c.self.inside.wire }) _ c.args.to_controller.now _ _
+    (ap (λ (l : LaneValue). l.client) c.self.view_is) (ap (λ (l : LaneValue). l.wire) c.self.view_is) c.requires.of_asset.rules
+    (subst P c.self.view_is has) (ap (λ (l : LaneValue). l.rules) c.self.view_is)
     (ap (λ (l : LaneValue). l.admitted) c.self.view_is) (ap (λ (l : LaneValue). l.refused + 1) c.self.view_is)
     c.reply-replied.ensures.queue refl
     (line_about asset c.self.inside.client c.args.moment (refusal_line asset r c.reply-replied.result c.args.octets.bytes))

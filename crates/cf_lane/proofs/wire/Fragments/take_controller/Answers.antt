@@ -1,4 +1,5 @@
-use Rattle.std.proofs.Common.{[], ap, arith, length, ◌+◌, ◌<◌, ◌∷◌}
+use Rattle.cf_lane.specs.Rates.{Says}
+use Rattle.std.proofs.Common.{[], ap, arith, length, refl, ◌+◌, ◌<◌, ◌∷◌}
 use Rattle.cf_audit.specs.declared.line.Why.TheVariants as why
 use Rattle.cf_dnptrans.specs.declared.assembly.SegmentAnswer.TheVariants as answers
 use Rattle.cf_lane.proofs.Dnp3Segments.{fate_short, misses_quietly, recut_grows, recut_room, stray_fragment}
@@ -15,13 +16,13 @@ returns-in_err-log_stray-clause-misses g c =
     let f = c.args.self.now in
     let short : length f.controller.octets < 2 = omega (arith, c.if-len-lt2.true, c.len.ensures.length, ap length c.fragment-octets.ensures.octets) in
     let old : Queue → Parts = λ to_controller. parts f c.args.to_client.now to_controller (DeskValue.lines (g.D.Desk.value c.args.desk.now)) in
-    let all : (to_controller : Queue) → MissesSegment c.args.asset.now c.args.client.now c.args.moment side.Controller answers.Whole (f.controller.octets ∷ []) (old to_controller)
+    let all : (says : Says) (to_controller : Queue) → MissesSegment c.args.asset.now says c.args.client.now c.args.moment side.Controller answers.Whole (f.controller.octets ∷ []) (old to_controller)
     (DeskValue.lines (g.D.Desk.value c.log_stray.new.desk)) (DeskValue.line_part (g.D.Desk.value c.log_stray.new.desk)) =
-    λ to_controller. misses_quietly c.args.asset.now c.args.client.now c.args.moment side.Controller answers.Whole (f.controller.octets ∷ []) (fate.Stray why.Short)
+    λ says to_controller. misses_quietly c.args.asset.now says c.args.client.now c.args.moment side.Controller answers.Whole (f.controller.octets ∷ []) (fate.Stray why.Short)
     (old to_controller)
-    (fate_short c.args.asset.now c.args.client.now.address side.Controller f.controller.octets short)
+    (fate_short c.args.asset.now says side.Controller f.controller.octets short)
     (λ to. stray_fragment to side.Controller c.args.to_client.now.ended why.Short (f.controller.octets ∷ []))
-    c.requires.to_client c.requires.to_controller _ _ c.in_err-log_stray.ensures.fails in
+    c.requires.to_client c.requires.to_controller refl _ _ c.in_err-log_stray.ensures.fails in
     on_err _ _ all
 
 pub push_fragment-self-requires-clause-room : goal.push_fragment-self-requires-clause-room

@@ -1,3 +1,4 @@
+use Rattle.cf_lane.specs.Rings.{says_by}
 use Rattle.std.proofs.Common.{List, [], ap, arith, length, refl, subst, sym, ℕ, ◌*◌, ◌+◌, ◌∙◌}
 use Rattle.std.specs.Prelude.{if◌then◌else◌}
 use Rattle.cf_dnplink.specs.LinkFrame.{frame_value}
@@ -14,18 +15,18 @@ use Rattle.cf_lane.proofs.wire.Fragments.take_frame.Goals as goal
 
 pub returns-in-Some-clause-takes : goal.returns-in-Some-clause-takes
 returns-in-Some-clause-takes g c =
-    takes_stray c.args.asset.now c.args.client.now c.args.moment c.args.side (frame_value c.args.frame.now) c.in-Some.why (sym c.stray_of.ensures ∙ c.in-Some.is) _ _
+    takes_stray c.args.asset.now (says_by c.args.asset.now c.args.client.now.address c.args.rules.now c.args.moment) c.args.client.now c.args.moment c.args.side (frame_value c.args.frame.now) c.in-Some.why (sym c.stray_of.ensures ∙ c.in-Some.is) _ _
     refl refl refl c.in_ok-log_stray.ensures.lines
 
 pub returns-in_err-log_stray-clause-misses : goal.returns-in_err-log_stray-clause-misses
 returns-in_err-log_stray-clause-misses g c =
-    on_err _ _ (misses_stray c.args.asset.now c.args.client.now c.args.moment c.args.side (frame_value c.args.frame.now) c.in-Some.why (sym c.stray_of.ensures ∙ c.in-Some.is) _ _ _
+    on_err _ _ (misses_stray c.args.asset.now (says_by c.args.asset.now c.args.client.now.address c.args.rules.now c.args.moment) c.args.client.now c.args.moment c.args.side (frame_value c.args.frame.now) c.in-Some.why (sym c.stray_of.ensures ∙ c.in-Some.is) _ _ _
     c.in_err-log_stray.ensures.fails)
 
 pub returns-then-not-is_data-clause-takes : goal.returns-then-not-is_data-clause-takes
 returns-then-not-is_data-clause-takes g c =
     let old = parts c.args.self.now c.args.to_client.now c.args.to_controller.now (DeskValue.lines (g.D.Desk.value c.args.desk.now)) in
-    takes_status c.args.asset.now c.args.client.now c.args.moment c.args.side (frame_value c.args.frame.now) (sym c.stray_of.ensures ∙ none_by c.stray_of.result c.in_default.not-Some) (sym c.is_data.ensures ∙ c.if-not-is_data.true) old _
+    takes_status c.args.asset.now (says_by c.args.asset.now c.args.client.now.address c.args.rules.now c.args.moment) c.args.client.now c.args.moment c.args.side (frame_value c.args.frame.now) (sym c.stray_of.ensures ∙ none_by c.stray_of.result c.in_default.not-Some) (sym c.is_data.ensures ∙ c.if-not-is_data.true) old _
     c.requires.«open» refl
     (c.pass_on.ensures.client ∙ ap (λ xs. after_push c.args.to_client.now (if is_side side.Client c.args.side then [] else xs)) c.requires.octets)
     (c.pass_on.ensures.controller ∙ ap (λ xs. after_push c.args.to_controller.now (if is_side side.Controller c.args.side then [] else xs)) c.requires.octets)
@@ -43,14 +44,14 @@ take_answer-requires-clause-controller_room g c =
 
 pub returns-clause-takes : goal.returns-clause-takes
 returns-clause-takes g c =
-    takes_data c.args.asset.now c.args.client.now c.args.moment c.args.side (frame_value c.args.frame.now) (sym c.stray_of.ensures ∙ none_by c.stray_of.result c.in_default.not-Some) (sym c.is_data.ensures ∙ c.if-not-is_data.false)
+    takes_data c.args.asset.now (says_by c.args.asset.now c.args.client.now.address c.args.rules.now c.args.moment) c.args.client.now c.args.moment c.args.side (frame_value c.args.frame.now) (sym c.stray_of.ensures ∙ none_by c.stray_of.result c.in_default.not-Some) (sym c.is_data.ensures ∙ c.if-not-is_data.false)
     c.take_segment-answer.result c.in_ok-fate.fate c.args.self.now
     (parts c.take_segment-answer.new.self c.args.to_client.now c.args.to_controller.now (DeskValue.lines (g.D.Desk.value c.args.desk.now))) _
     c.take_segment-answer.ensures c.in_ok-fate.ensures.takes
 
 pub returns-in_err-fate-clause-misses : goal.returns-in_err-fate-clause-misses
 returns-in_err-fate-clause-misses g c =
-    on_err _ _ (misses_data c.args.asset.now c.args.client.now c.args.moment c.args.side (frame_value c.args.frame.now) (sym c.stray_of.ensures ∙ none_by c.stray_of.result c.in_default.not-Some) (sym c.is_data.ensures ∙ c.if-not-is_data.false)
+    on_err _ _ (misses_data c.args.asset.now (says_by c.args.asset.now c.args.client.now.address c.args.rules.now c.args.moment) c.args.client.now c.args.moment c.args.side (frame_value c.args.frame.now) (sym c.stray_of.ensures ∙ none_by c.stray_of.result c.in_default.not-Some) (sym c.is_data.ensures ∙ c.if-not-is_data.false)
     c.take_segment-answer.result c.args.self.now
     (parts c.take_segment-answer.new.self c.args.to_client.now c.args.to_controller.now (DeskValue.lines (g.D.Desk.value c.args.desk.now))) _ _
     c.take_segment-answer.ensures c.in_err-fate.ensures.misses)
