@@ -193,6 +193,12 @@ def adu(transaction, unit, pdu):
     return struct.pack(">HHHB", transaction, 0, 1 + len(pdu), unit) + pdu
 
 
+def openings():
+    """What one client sends to the tank: a valve is moved three times, and coils are read before and behind it."""
+    requests = (b"\x01\0\0\0\x08", b"\x05\0\x03\xff\0", b"\x05\0\x03\0\0", b"\x05\0\x03\xff\0", b"\x01\0\0\0\x08", b"\x05\0\x04\xff\0")
+    return b"".join(adu(number, 1, pdu) for number, pdu in enumerate(requests, 1))
+
+
 def waterworks():
     capture = Capture()
     room = (10, 20, 1, 5)
@@ -246,9 +252,10 @@ def waterworks():
 
 def main():
     folder = sys.argv[1]
-    for name, octets in (("reservoir.bin", reservoir()), ("substation.bin", substation()), ("waterworks.pcap", waterworks())):
+    made = {"reservoir.bin": reservoir, "substation.bin": substation, "openings.bin": openings, "waterworks.pcap": waterworks}
+    for name, octets in made.items():
         with open(f"{folder}/{name}", "wb") as file:
-            file.write(octets)
+            file.write(octets())
 
 
 if __name__ == "__main__":

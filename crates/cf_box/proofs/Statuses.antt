@@ -3,7 +3,7 @@ use Rattle.std.proofs.lemmas.List.{append-nil}
 use Rattle.std.proofs.Common.{◌≡◌, ◌≢◌, ◌⊎◌, ◌++◌, [], ℕ, List, Option, None, Some, Result, Ok, Err, sym, subst, ◌≤◌, ◌∙◌, ap, inl, inr, arith}
 use Rattle.cf_audit.specs.declared.line.CutReason.{CutReason}
 use Rattle.cf_lane.specs.Follows.{AreJudged}
-use Rattle.cf_lane.specs.Laws.{LanePassesAllowed}
+use Rattle.cf_lane.specs.Laws.{LanePassesAllowed, RatesHold}
 use Rattle.cf_lane.specs.Output.{outputs}
 use Rattle.cf_view.specs.declared.Side.TheVariants as side
 use Rattle.cf_sift.specs.Names.{SiftNamesValue}
@@ -137,10 +137,10 @@ module _ (failed : Type 0) (status : ℕ) where
     stream_from r meets h is = absurd (other r 12 h is (omega arith) (omega arith))
 
   -- what was filtered is what the policy allows
-  passes_from : LanePassesAllowed → (before middle after : Outside) (policy name : List ℕ) (client : ℕ) (names : SiftNamesValue) → after.files ≡ middle.files →
+  passes_from : LanePassesAllowed → RatesHold → (before middle after : Outside) (policy name : List ℕ) (client : ℕ) (names : SiftNamesValue) → after.files ≡ middle.files →
       (r : Result Done Stop) → Meets (Sift policy name client names) before middle r → IsOf r failed status → status ≡ 0 →
       SiftPassesAllowed policy name client names before after
-  passes_from law before middle after policy name client names same (Ok d) m h is =
+  passes_from law keep before middle after policy name client names same (Ok d) m h is =
       let t = m.takes in
       let s = t.sifted in
       let whole : stored_history s.bytes ≡ s.history = s.goes.begins ∙ ap (λ l. s.history ++ l) (s.goes.all t.is_cut) ∙ append-nil s.history in
@@ -154,9 +154,10 @@ module _ (failed : Type 0) (status : ℕ) where
         are_judged = are;
         passed = outputs t.asset side.Controller [] s.judged;
         passes = law t.asset client (stored_history s.bytes) s.judged are;
+        rates = keep t.asset client (stored_history s.bytes) s.judged are;
         output = ap (λ f. f.content names.out) same ∙ s.have.of_out;
       }
-  passes_from law before middle after policy name client names same (Err s) m h is = absurd (not_done s h is)
+  passes_from law keep before middle after policy name client names same (Err s) m h is = absurd (not_done s h is)
 
   -- each record of a capture has its line, and nothing else was told
   lists_from : (before middle after : Outside) (file : List ℕ) (r : Result Done Stop) → Meets (Packets file) before middle r → Reports r middle
@@ -225,10 +226,10 @@ module _ {c : Command} {before after : Outside} {status : ℕ} (e : Explains c b
       subst (λ p. (reason : CutReason) × CutsStream c before p reason) (sym e.reports.pair)
       (stream_from Unprinted status c before e.middle e.r e.meets explained is)
 
-  pub passes_told : LanePassesAllowed → (policy name : List ℕ) (client : ℕ) (names : SiftNamesValue) → c ≡ Sift policy name client names → status ≡ 0 →
+  pub passes_told : LanePassesAllowed → RatesHold → (policy name : List ℕ) (client : ℕ) (names : SiftNamesValue) → c ≡ Sift policy name client names → status ≡ 0 →
       SiftPassesAllowed policy name client names before after
-  passes_told law policy name client names is =
-      passes_from Unprinted status law before e.middle after policy name client names e.reports.files e.r
+  passes_told law keep policy name client names is =
+      passes_from Unprinted status law keep before e.middle after policy name client names e.reports.files e.r
       (subst (λ k. Meets k before e.middle e.r) is e.meets) explained
 
   pub lists_told : (file : List ℕ) → c ≡ Packets file → status ≡ 0 → Lists file before after done.Listed

@@ -4,6 +4,7 @@ use Rattle.cf_audit.specs.declared.line.CutReason.{CutReason}
 use Rattle.cf_lane.specs.Follows.{AreJudged}
 use Rattle.cf_lane.specs.Judged.{Judged}
 use Rattle.cf_lane.specs.Passes.{Passes}
+use Rattle.cf_lane.specs.Rates.{KeepsRates}
 use Rattle.cf_outside.specs.Files.{holds, untold, IsWhole, content_after_write}
 use Rattle.cf_outside.specs.PairValue.{PairValue}
 use Rattle.cf_pcap.specs.Header.{header_of}
@@ -52,7 +53,7 @@ abbrev pub AsksItsPair : Option Command → Type 0
 AsksItsPair words = OfCommand words AsksPair
 
 -- of the commands in the stream exactly those went to the output that the bytes of the policy allow, in their spelling
--- and at their place
+-- and at their place; and no rule let more of them through than its rate
 pub record SiftPassesAllowed (policy name : List ℕ) (client : ℕ) (names : SiftNamesValue) (before after : Outside) : Type 0 where
   pub asset : Asset
   pub finds : FindsAsset (before.files.content policy) name asset
@@ -62,6 +63,7 @@ pub record SiftPassesAllowed (policy name : List ℕ) (client : ℕ) (names : Si
   pub are_judged : AreJudged asset client (stored_history bytes) judged
   pub passed : List ℕ
   pub passes : Passes asset client [] judged passed
+  pub rates : KeepsRates asset judged
   pub output : after.files.content names.out ≡ content_after_write (before.files.content names.out) passed
 
 -- a capture's records, up to the end of its bytes; and the same where each has its moment

@@ -21,7 +21,7 @@ use crate::relay::relay;
 use crate::run::run;
 use crate::sift::sift;
 use crate::world::world;
-use cf_lane::{has_one_judgement, lane_passes_allowed};
+use cf_lane::{has_one_judgement, lane_passes_allowed, rates_hold};
 use cf_outside::{Files, Pair, Sink};
 use cf_run::runs_have_headline;
 use cf_sift::has_one_cut;
@@ -120,7 +120,7 @@ pub fn box_main<F: Files, O: Sink, P: Pair>(
         Lists capture (outside_value F.Files O.Sink P.Pair files.old out.old pair.old)
         (outside_value F.Files O.Sink P.Pair files.new out.new pair.new) Done.Listed }
 
-    // Of the commands of a stream exactly those went on that the policy's bytes allow.
+    // Of the commands of a stream exactly those went on that the policy's bytes allow, and no rule let more through than its rate.
     ensures passes { (policy asset : List ℕ) (client : ℕ) (names : SiftNamesValue) → command_of (map string_bytes words.now) ≡ Some
         (Sift policy asset client names) → result ≡ 0 →
         SiftPassesAllowed policy asset client names (outside_value F.Files O.Sink P.Pair files.old out.old pair.old)
@@ -148,6 +148,7 @@ pub fn box_main<F: Files, O: Sink, P: Pair>(
     ensures pair { AsksItsPair (command_of (map string_bytes words.now)) ⊎ (pair.new ≡ pair.old) }
 {
     lane_passes_allowed();
+    rates_hold();
     has_one_cut();
     has_one_judgement();
     runs_have_headline();

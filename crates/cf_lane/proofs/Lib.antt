@@ -33,3 +33,4 @@ mod Sides
 mod Sizes
 mod Taking
 pub mod Units
+mod Unrated

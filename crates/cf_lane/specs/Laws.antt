@@ -7,17 +7,16 @@ use Rattle.cf_lane.specs.Item.{AreItems, Placed}
 use Rattle.cf_lane.specs.Judged.{Judged, has_ended}
 use Rattle.cf_lane.specs.Log.{lines}
 use Rattle.cf_lane.specs.Passes.{Passes}
-use Rattle.cf_lane.specs.Rates.{moments_of, rated, uses}
+use Rattle.cf_lane.specs.Rates.{KeepsRates}
 use Rattle.cf_lane.specs.Output.{other, outputs}
 use Rattle.cf_lane.specs.Unit.{SpellsUnit}
 use Rattle.cf_policy.specs.declared.Asset.{Asset}
 use Rattle.cf_policy.specs.declared.Protocol.{Protocol}
-use Rattle.cf_policy.specs.declared.Rate.{Rate}
 use Rattle.cf_view.specs.Framing.{IsPrefixFree}
 use Rattle.cf_view.specs.Octets.{IsOctets}
 use Rattle.cf_view.specs.declared.Endpoint.{Endpoint}
 use Rattle.cf_view.specs.declared.Side.{Side}
-use Rattle.std.specs.Prelude.{Bool, List, Option, Some, [], count_by, length, nat_lt, slice_get, true, ℕ, ◌*◌, ◌++◌, ◌+◌, ◌<◌, ◌∷◌, ◌≡◌, ◌≤◌}
+use Rattle.std.specs.Prelude.{Bool, List, Option, [], length, true, ℕ, ◌*◌, ◌++◌, ◌+◌, ◌∷◌, ◌≡◌, ◌≤◌}
 use Rattle.cf_view.specs.declared.Side.TheVariants as side
 
 -- a history has one list of judged items
@@ -101,9 +100,6 @@ abbrev pub LanePassesAllowed : Type 0
 LanePassesAllowed =
     (asset : Asset) (client : ℕ) (h : List Element) (js : List Judged) → AreJudged asset client h js → Passes asset client [] js (outputs asset side.Controller [] js)
 
--- a command that uses a rule with a rate has fewer than its most earlier ones that used it within its time before
+-- whatever a history's commands are, no rule lets more of them through than its rate
 abbrev pub RatesHold : Type 0
-RatesHold =
-    (asset : Asset) (client : ℕ) (h : List Element) (earlier later : List Judged) (j : Judged) (place number : ℕ) (rate : Rate) →
-    AreJudged asset client h (earlier ++ j ∷ later) → slice_get (rated asset.rules) place ≡ Some (number, rate) → uses place j.fate ≡ true →
-    count_by (λ t. nat_lt j.moment (t + rate.seconds * 1000000)) (moments_of place earlier) < rate.most
+RatesHold = (asset : Asset) (client : ℕ) (h : List Element) (js : List Judged) → AreJudged asset client h js → KeepsRates asset js

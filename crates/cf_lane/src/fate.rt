@@ -1,18 +1,20 @@
 //! The fate of a command.
-ghost use Rattle.std.specs.Prelude.{◌≡◌, ◌<◌, ◌≤◌, List, ℕ, length};
+ghost use Rattle.std.specs.Prelude.{◌≡◌, ◌<◌, ◌≤◌, Bool, List, ℕ, length, replicate};
 ghost use Rattle.cf_modbus.specs.Acts.{acts};
 ghost use Rattle.cf_modbus.specs.Adu.{adu_value};
 ghost use Rattle.cf_modbus.specs.Request.{IsRead, request_value};
+ghost use Rattle.cf_policy.specs.Index.{IsIndexOf};
+ghost use Rattle.cf_policy.specs.Verdict.{verdict_of};
 ghost use Rattle.cf_policy.specs.Within.{most_rated};
 ghost use Rattle.cf_lane.specs.Rings.{IsRulesOf, says_by};
-ghost use Rattle.cf_lane.specs.Acts.{GivesActs, fate_of_acts};
+ghost use Rattle.cf_lane.specs.Acts.{GivesActs, by_refusal, fate_of_acts, first_refusal};
 ghost use Rattle.cf_lane.specs.Fate.{HasOwnDecider, IsOfCommand};
 ghost use Rattle.cf_lane.specs.Modbus.{HasCommandFate};
 
 use crate::rules::Rules;
 use cf_audit::{CutReason, Why};
 use cf_modbus::{Adu, Request, act_at, act_count, read_request};
-use cf_policy::{Asset, Decider, MOST_RATED, Verdict};
+use cf_policy::{Asset, CodeIndex, Decider, MOST_RATED, Verdict};
 use cf_view::{Act, Reason};
 
 /// Why a command is refused.
@@ -42,8 +44,8 @@ pub enum Fate {
     Cuts(CutReason),
 }
 
-/// The fate of an ADU of the client of the rules, at a moment. The station is compared first, then the form is read, then each act is judged in its
-/// order; the first that is not allowed decides. This project's own order.
+/// The fate of an ADU of the client of the rules, at a moment in microseconds. The station is compared first, then the form is
+/// read, then each act is judged in its order; the first that is not allowed decides. This project's own order.
 pub(crate) fn judge(asset: &Asset, rules: &Rules, moment: u64, adu: &Adu<'_>) -> Fate
     requires at_least { 1 ≤ length adu.now.pdu.bytes }
     requires at_most { length adu.now.pdu.bytes ≤ 253 }
@@ -80,9 +82,55 @@ pub(crate) fn refused(decider: Decider, reason: Reason, code: u16, point: u32) -
     })
 }
 
-/// The fate of a command of so many acts, of which the call gives each by its place: each is judged in its order, and the first that is not
-/// allowed decides.
+/// The fate of a command of so many acts, of which the call gives each by its place: each is judged in its order, and the first
+/// that is not allowed decides. Whether there are rules with a rate is asked once.
 pub(crate) fn judge_acts<F: Fn(u32) -> Act>(
+    asset: &Asset,
+    rules: &Rules,
+    moment: u64,
+    count: u32,
+    act_at: F,
+) -> Fate
+    requires acts { (i : ℕ) → i < count → F.pre act_at i }
+    requires few { length rules.now.rings.items ≤ most_rated }
+    ensures fate { (client : ℕ) (acts : List Act) → IsRulesOf asset.now client rules.now → length acts ≡ count → GivesActs (F.post act_at) acts
+        → result ≡ fate_of_acts asset.now (says_by asset.now client rules.now moment) acts }
+    ensures decider { HasOwnDecider asset.now.rules result }
+    ensures command { IsOfCommand result }
+{
+    if rules.rings.is_empty() {
+        judge_unrated(asset, &rules.index, count, act_at)
+    } else {
+        judge_rated(asset, rules, moment, count, act_at)
+    }
+}
+
+/// The same where no rule has a rate.
+fn judge_unrated<F: Fn(u32) -> Act>(asset: &Asset, index: &CodeIndex, count: u32, act_at: F) -> Fate
+    requires acts { (i : ℕ) → i < count → F.pre act_at i }
+    ensures fate { (client : ℕ) (acts : List Act) → IsIndexOf asset.now client index.now → length acts ≡ count → GivesActs (F.post act_at) acts
+        → result ≡ by_refusal (replicate most_rated Bool.false) (first_refusal (verdict_of asset.now client) acts) }
+    ensures decider { HasOwnDecider asset.now.rules result }
+    ensures command { IsOfCommand result }
+{
+    for i in 0..count {
+        let act = act_at(i);
+        match index.verdict(asset, &act) {
+            Verdict::Allow(_) => {}
+            Verdict::Refuse(decider, reason) => {
+                return Fate::Refused(Refusal {
+                    decider,
+                    reason,
+                    act,
+                });
+            }
+        }
+    }
+    Fate::Admitted([false; MOST_RATED])
+}
+
+/// The same where a rule that allows an act may be spent, or is marked.
+fn judge_rated<F: Fn(u32) -> Act>(
     asset: &Asset,
     rules: &Rules,
     moment: u64,

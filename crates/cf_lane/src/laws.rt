@@ -45,7 +45,7 @@ pub fn lane_passes_allowed()
     ensures { LanePassesAllowed }
 {}
 
-/// A rule with a rate lets no more commands through than its rate.
+/// No rule lets more commands of a session through than its rate, at any moment.
 pub fn rates_hold()
     ensures { RatesHold }
 {}

@@ -6,8 +6,8 @@ ghost use Rattle.cf_policy.specs.declared.limits.TheConstants.{LONGEST_NAME};
 
 use crate::policy::{Asset, Decider};
 
-/// The deciding rule's name, that of a spent one too, or `default`, `station` or `form`. No rule of a policy that was read has one of these
-/// three names.
+/// The deciding rule's name, that of a spent one too, or `default`, `station` or `form`. No rule of a policy that was read has
+/// one of these three names.
 pub fn decider_name<'a>(asset: &'a Asset, decider: &Decider) -> &'a str
     requires { IsOneOf asset.now.rules decider.now }
     ensures name { result.now ≡ name_of asset.now.rules decider.now }

@@ -27,10 +27,12 @@ pub struct Span {
     pub high: i64,
 }
 
-/// How many commands of a session a rule lets through: at most `most` in any `seconds` seconds. This project's own.
+/// How often a rule lets commands of a session through. This project's own.
 #[derive(Clone, Copy, PartialEq, Eq, Debug)]
 pub struct Rate {
+    /// The most commands that it lets through in any `seconds` seconds, 1 to `HIGHEST_MOST`.
     pub most: u32,
+    /// That time, in seconds, 1 to `LONGEST_RATE`.
     pub seconds: u32,
 }
 
@@ -50,7 +52,7 @@ pub struct Rule {
     pub points: Items<Span>,
     /// The values that acts write. A rule that states some does not have an act without a value.
     pub values: Items<Span>,
-    /// How often it lets a command through; `None` where it may always.
+    /// How often it lets a command through; `None`: as often as one comes. A rule that refuses has none.
     pub rate: Option<Rate>,
 }
 

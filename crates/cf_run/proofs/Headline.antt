@@ -1,6 +1,7 @@
 -- The headline of a run.
 use Rattle.std.proofs.Common.{◌≡◌, ℕ, ◌^◌, ◌≤◌, true, false, List, [], ◌∷◌, ◌++◌, map, refl, sym, ap, ◌∙◌}
 use Rattle.cf_decode.specs.Laws.{FragmentsDecode}
+use Rattle.cf_lane.specs.Laws.{RatesHold}
 use Rattle.cf_lane.specs.Output.{outputs}
 use Rattle.cf_policy.specs.declared.Asset.{Asset}
 use Rattle.cf_session.specs.Event.{AreEvents as AreSessionEvents}
@@ -39,7 +40,7 @@ front_bytes whole taken h = sym (bytes-letters whole.bytes whole.ended) ∙ ap b
 
 -- ---- one session
 
-module _ (one : SessionHasOneStream) (works : WorkIsOfTheTaken) (fragments : FragmentsDecode) (limit : ℕ) (small : limit ≤ 2 ^ 30) where
+module _ (one : SessionHasOneStream) (works : WorkIsOfTheTaken) (fragments : FragmentsDecode) (keep : RatesHold) (limit : ℕ) (small : limit ≤ 2 ^ 30) where
   faithful : (f : Flow) (es : List SessionEvent) → HasEvents limit f es → IsFaithful (record { flow = f; events = es })
   faithful f es h =
       let are : AreSessionEvents f limit es = right_events limit f es h in
@@ -47,6 +48,7 @@ module _ (one : SessionHasOneStream) (works : WorkIsOfTheTaken) (fragments : Fra
       record {
         judged = w.judged;
         is_judged = record { are_judged = w.are_judged; is_work = w.is_work };
+        rates = keep f.asset (client_of f).address (history es) w.judged w.are_judged;
         decodes = λ taken re.
             (let front : IsFront (work_of es).to_controller taken = (one f limit es taken small are (uncut_before limit f es h)).0 re in
             let bytes : outputs f.asset side.Controller [] w.judged ≡ bytes_among taken ++ bytes_among front.more =
@@ -59,5 +61,5 @@ module _ (one : SessionHasOneStream) (works : WorkIsOfTheTaken) (fragments : Fra
   headline assets (e ∷ es) h =
       (each-map (IsRight limit) IsFaithful (λ s right. faithful s.flow s.events right) (sessions_of (e ∷ es)) (sessions_right assets limit (e ∷ es) h), headline assets es h.1)
 
-pub has_headline : SessionHasOneStream → WorkIsOfTheTaken → FragmentsDecode → RunsHaveHeadline
-has_headline one works fragments assets limit es small h = headline one works fragments limit small assets es h
+pub has_headline : SessionHasOneStream → WorkIsOfTheTaken → FragmentsDecode → RatesHold → RunsHaveHeadline
+has_headline one works fragments keep assets limit es small h = headline one works fragments keep limit small assets es h

@@ -10,6 +10,7 @@ use Rattle.cf_decode.specs.Laws.{MakesFirstOf}
 use Rattle.cf_decode.specs.Passed.{passed}
 use Rattle.cf_lane.specs.Follows.{AreJudged}
 use Rattle.cf_lane.specs.Judged.{Judged}
+use Rattle.cf_lane.specs.Rates.{KeepsRates}
 use Rattle.cf_policy.specs.declared.Asset.{Asset}
 use Rattle.cf_session.specs.Laws.{IsFront, IsReassembly, parts_of}
 use Rattle.cf_session.specs.Session.{client_of, controller_ends, controllers, history, work_of}
@@ -35,10 +36,11 @@ pub record Decodes (session : Session) (judged : List Judged) (taken : List Lett
   pub front : IsFront (work_of session.events).to_controller taken
   pub makes : MakesFirstOf session.flow.asset (passed session.flow.asset judged) (bytes_among taken)
 
--- so it is whatever copies of letters it takes of all segments that went to it
+-- so it is whatever copies of letters it takes of all segments that went to it; and no rule let more through than its rate
 pub record IsFaithful (session : Session) : Type 0 where
   pub judged : List Judged
   pub is_judged : IsJudged session judged
+  pub rates : KeepsRates session.flow.asset judged
   pub decodes :
       (taken : List Letter) → IsReassembly (parts_of (controller_ends session.flow).role (controllers session.events)) taken →
       Decodes session judged taken

@@ -5,6 +5,7 @@ ghost use Rattle.cf_run.specs.Selected.{SelectsByMoment};
 ghost use Rattle.cf_run.specs.Sessions.{SessionsAreIsolated, SessionsAreRight, SessionsHaveOneStream};
 
 use cf_decode::fragments_decode;
+use cf_lane::rates_hold;
 use cf_session::{events_are_fixed, has_one_stream, work_is_of_what_was_taken};
 
 /// The packets that an event sent in each of its halves are those of all that the run sent which have the moment of that half.
@@ -48,7 +49,8 @@ pub fn runs_isolate_sessions()
 
 /// The headline: after each event of a run, whatever copies of letters a controller takes in a session of all segments that were
 /// sent to it, it puts together a beginning of one stream, and that decodes to the first of the items that the policy let through
-/// of the client's stream of first copies, in order, and then to a proper prefix of the next.
+/// of the client's stream of first copies, in order, and then to a proper prefix of the next; and no rule let more commands of a
+/// session through than its rate.
 #[tactic(auto, using(crate::proofs::Headline::has_headline))]
 pub fn runs_have_headline()
     ensures { RunsHaveHeadline }
@@ -56,4 +58,5 @@ pub fn runs_have_headline()
     has_one_stream();
     work_is_of_what_was_taken();
     fragments_decode();
+    rates_hold();
 }

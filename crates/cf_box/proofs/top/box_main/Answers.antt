@@ -77,7 +77,7 @@ pub returns-in-Some-clause-lists : goal.returns-in-Some-clause-lists
 returns-in-Some-clause-lists g c = λ capture is. lists_told (explains g c) capture (let known = c.in-Some.ensures.command in cc)
 
 pub returns-in-Some-clause-passes : goal.returns-in-Some-clause-passes
-returns-in-Some-clause-passes g c = λ policy name client names is. passes_told (explains g c) c.lane_passes_allowed.ensures policy name client names
+returns-in-Some-clause-passes g c = λ policy name client names is. passes_told (explains g c) c.lane_passes_allowed.ensures c.rates_hold.ensures policy name client names
     (let known = c.in-Some.ensures.command in cc)
 
 pub returns-in-Some-clause-kept : goal.returns-in-Some-clause-kept
