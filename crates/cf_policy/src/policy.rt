@@ -28,7 +28,7 @@ pub struct Span {
 }
 
 /// How often a rule lets commands of a session through. This project's own.
-#[derive(Clone, Copy, PartialEq, Eq, Debug)]
+#[derive(Clone, Copy, Debug)]
 pub struct Rate {
     /// The most commands that it lets through in any `seconds` seconds, 1 to `HIGHEST_MOST`.
     pub most: u32,
@@ -70,7 +70,7 @@ pub struct Asset {
 }
 
 /// The assets that the firewall stands before.
-#[derive(Debug, Drop)]
+#[derive(Drop)]
 pub struct Policy {
     pub assets: Items<Asset>,
 }
@@ -91,7 +91,7 @@ pub enum Decider {
 }
 
 /// What becomes of an act.
-#[derive(Clone, Copy, PartialEq, Eq, Debug)]
+#[derive(Clone, Copy)]
 pub enum Verdict {
     /// The rule of this number, counted from 0, allows it.
     Allow(usize),
