@@ -28,6 +28,7 @@ mod Recuts
 mod Recutting
 mod Renumbering
 mod ReplySizes
+mod Runs
 mod Saying
 mod Sides
 mod Sizes

@@ -21,4 +21,5 @@ pub mod Renumbered
 pub mod Ring
 pub mod Rings
 pub mod Rows
+pub mod Run
 pub mod Unit

@@ -12,6 +12,7 @@ ghost use Rattle.cf_lane.specs.Fate.{HasOwnDecider, IsOfCommand};
 ghost use Rattle.cf_lane.specs.Modbus.{HasCommandFate};
 
 use crate::rules::Rules;
+use crate::run::{judge_runs, takes_any_value};
 use cf_audit::{CutReason, Why};
 use cf_modbus::{Adu, Request, act_at, act_count, read_request};
 use cf_policy::{Asset, CodeIndex, Decider, MOST_RATED, Verdict};
@@ -60,10 +61,26 @@ pub(crate) fn judge(asset: &Asset, rules: &Rules, moment: u64, adu: &Adu<'_>) ->
     }
     match read_request(adu) {
         Err(refusal) => refused(Decider::Form, refusal.reason(), code, 0),
-        Ok(request) => judge_acts(asset, rules, moment, act_count(&request), |i| {
-            act_at(&request, i)
-        }),
+        Ok(request) => judge_request(asset, rules, moment, &request),
     }
+}
+
+/// The fate of a request. Where some of its acts are known to differ in nothing that rules of its code state but the point, they
+/// are judged together.
+fn judge_request(asset: &Asset, rules: &Rules, moment: u64, request: &Request<'_>) -> Fate
+    requires read { IsRead (request_value request.now) }
+    requires few { length rules.now.rings.items ≤ most_rated }
+    ensures fate { (client : ℕ) → IsRulesOf asset.now client rules.now → result ≡ fate_of_acts asset.now (says_by asset.now client rules.now moment) (acts (request_value request.now)) }
+    ensures decider { HasOwnDecider asset.now.rules result }
+    ensures command { IsOfCommand result }
+{
+    let any_value = takes_any_value(asset, &rules.index, request);
+    if any_value || request.values.is_empty() {
+        return judge_runs(asset, rules, moment, request, any_value);
+    }
+    judge_acts(asset, rules, moment, act_count(request), |i| {
+        act_at(request, i)
+    })
 }
 
 /// A refusal of a whole command: its act is the function code with this point.

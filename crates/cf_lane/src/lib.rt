@@ -12,6 +12,7 @@ mod modbus;
 mod ring;
 mod rows;
 mod rules;
+mod run;
 mod wire;
 
 pub use fate::{Fate, Refusal};

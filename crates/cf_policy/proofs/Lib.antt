@@ -3,3 +3,4 @@ pub mod ByCode
 pub mod CodePart
 pub mod Pairs
 pub mod FirstRule
+pub mod Runs

@@ -1,5 +1,5 @@
 -- The rules of an asset by the codes that they name for one client: IsIndexOf.
-use Rattle.std.specs.Prelude.{◌≡◌, ℕ, ◌<◌, ◌⊎◌, ◌↔◌, pos, Bool, true, false, not, ◌&&◌, if◌then◌else◌, List, Option, Some, slice_get, option_and_then, AllPairs, Contains}
+use Rattle.std.specs.Prelude.{◌≡◌, ℕ, ◌+◌, ◌<◌, ◌⊎◌, ◌↔◌, pos, Bool, true, false, not, ◌&&◌, if◌then◌else◌, List, Option, None, Some, take, slice_get, option_and_then, AllPairs, Contains}
 use Rattle.std.specs.List.{Any, list_any, position}
 use Rattle.std.specs.Option.{option_map_or}
 use Rattle.cf_view.specs.declared.base.Act.{Act}
@@ -61,6 +61,11 @@ pub record IsPartOfCode (code : ℕ) (pairs part : List CodePair) : Type 0 where
 abbrev pub first_of_pairs : List CodePair → List Rule → Act → Option (ℕ × Rule)
 first_of_pairs pairs rules act =
     option_and_then (λ k. option_and_then (λ p. numbered rules p.rule) (slice_get pairs k)) (position (λ p. rule_at rules p.rule (λ r. has_group_to_value r act)) pairs)
+
+-- the pairs up to a place, that one included, or all of them
+abbrev pub tried : Option ℕ → List CodePair → List CodePair
+tried None pairs = pairs
+tried (Some k) pairs = take (k + 1) pairs
 
 -- what of the act no allow rule of these pairs has
 abbrev pub reason_of_pairs : List CodePair → List Rule → Act → Reason

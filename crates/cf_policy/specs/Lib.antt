@@ -1,5 +1,6 @@
 pub mod Index
 pub mod Laws
 pub mod Names
+pub mod Run
 pub mod Verdict
 pub mod Within

@@ -1,9 +1,9 @@
 //! The rules of an asset by code: for each code the rules that have it and one client, found without looking at the
 //! others.
-ghost use Rattle.std.specs.Prelude.{◌≡◌, ℕ, ◌<◌, ◌≤◌, ◌&&◌, pos, Bool, List, length, All, AllPairs, option_map, position, IfOk, IfSome, OnOk};
+ghost use Rattle.std.specs.Prelude.{◌≡◌, ℕ, ◌<◌, ◌≤◌, ◌&&◌, pos, Bool, List, length, All, AllPairs, option_and_then, option_map, position, slice_get, IfOk, IfSome, OnOk};
 ghost use Rattle.std.specs.List.{list_any};
-ghost use Rattle.cf_policy.specs.Index.{IsIndexOf, AddsCodes, HasPairsBelow, IsPairBefore, IsPartOfCode, rule_at, has_group, has_group_and_point, has_group_to_value, first_of_pairs, reason_of_pairs, verdict_by};
-ghost use Rattle.cf_policy.specs.Verdict.{verdict_of, is_allow, IsInside};
+ghost use Rattle.cf_policy.specs.Index.{IsIndexOf, AddsCodes, HasPairsBelow, IsPairBefore, IsPartOfCode, rule_at, has_group, has_group_and_point, has_group_to_value, reason_of_pairs, verdict_by};
+ghost use Rattle.cf_policy.specs.Verdict.{verdict_of, is_allow, numbered, IsInside};
 ghost use Rattle.cf_policy.specs.Within.{IsAssetWithin, IsRuleWithin};
 
 use crate::judge::{rule_reason, takes, takes_value};
@@ -67,11 +67,25 @@ impl CodeIndex {
 }
 
 /// What these rules say about an act of their client and code.
-fn verdict_by(pairs: &[CodePair], rules: &[Rule], act: &Act) -> Verdict
+pub(crate) fn verdict_by(pairs: &[CodePair], rules: &[Rule], act: &Act) -> Verdict
     ensures decides { result ≡ verdict_by pairs.now rules.now act.now }
     ensures inside { IsInside rules.now result }
 {
-    match first_rule(pairs, rules, act) {
+    verdict_at(pairs, rules, act, first_place(pairs, rules, act))
+}
+
+/// What these rules say about the act, of whose pairs this one is the first whose rule has it.
+pub(crate) fn verdict_at(
+    pairs: &[CodePair],
+    rules: &[Rule],
+    act: &Act,
+    place: Option<usize>,
+) -> Verdict
+    requires first { place ≡ position (λ p. rule_at rules.now p.rule (λ r. has_group_to_value r act.now)) pairs.now }
+    ensures decides { result ≡ verdict_by pairs.now rules.now act.now }
+    ensures inside { IsInside rules.now result }
+{
+    match rule_of(pairs, rules, place) {
         Some((number, rule)) => match rule.action {
             Action::Allow => Verdict::Allow(number),
             Action::Refuse => Verdict::Refuse(Decider::Rule(number), rule_reason(rule)),
@@ -81,7 +95,7 @@ fn verdict_by(pairs: &[CodePair], rules: &[Rule], act: &Act) -> Verdict
 }
 
 /// The pairs of a code, of pairs that ascend by code.
-fn pairs_of(pairs: &[CodePair], code: u16) -> &[CodePair]
+pub(crate) fn pairs_of(pairs: &[CodePair], code: u16) -> &[CodePair]
     ensures { AllPairs IsPairBefore pairs.now → IsPartOfCode code pairs.now result.now }
 {
     let (_, rest) = pairs.split_at(pairs.partition_point(|pair| pair.code < code));
@@ -89,16 +103,20 @@ fn pairs_of(pairs: &[CodePair], code: u16) -> &[CodePair]
     part
 }
 
-fn first_rule<'a>(pairs: &[CodePair], rules: &'a [Rule], act: &Act) -> Option<(usize, &'a Rule)>
-    ensures first { option_map (λ p. (p.0, p.1.now)) result ≡ first_of_pairs pairs.now rules.now act.now }
+/// The rule of the pair of this place.
+fn rule_of<'a>(
+    pairs: &[CodePair],
+    rules: &'a [Rule],
+    place: Option<usize>,
+) -> Option<(usize, &'a Rule)>
+    ensures rule { option_map (λ p. (p.0, p.1.now)) result ≡ option_and_then (λ k. option_and_then (λ p. numbered rules.now p.rule) (slice_get pairs.now k)) place }
     ensures inside { IfSome result (λ p. p.0 < length rules.now) }
 {
-    let place = first_place(pairs, rules, act)?;
-    let number = pairs[place].rule;
+    let number = pairs.get(place?)?.rule;
     Some((number, rules.get(number)?))
 }
 
-fn first_place(pairs: &[CodePair], rules: &[Rule], act: &Act) -> Option<usize>
+pub(crate) fn first_place(pairs: &[CodePair], rules: &[Rule], act: &Act) -> Option<usize>
     ensures { result ≡ position (λ p. rule_at rules.now p.rule (λ r. has_group_to_value r act.now)) pairs.now }
 {
     pairs

@@ -8,6 +8,7 @@ mod limits;
 mod lists;
 mod names;
 mod policy;
+mod run;
 
 pub use index::{CodeIndex, CodePair};
 pub use judge::{takes, verdict};

@@ -1,5 +1,4 @@
-use Rattle.std.proofs.Common.{rules, sym, ◌≡◌}
-use Rattle.cf_modbus.specs.Acts.{acts}
+use Rattle.std.proofs.Common.{◌≡◌}
 use Rattle.cf_modbus.specs.Request.{request_value}
 use Rattle.cf_lane.specs.Modbus.{of_no_form, of_its_acts}
 use Rattle.cf_lane.proofs.fate.judge.Goals as goal
@@ -12,4 +11,4 @@ returns-in-Err-clause-fate c = λ client is.
 pub returns-in-Ok-clause-fate : goal.returns-in-Ok-clause-fate
 returns-in-Ok-clause-fate c = λ client is.
     (let station : c.args.adu.now.unit ≡ c.args.asset.now.station = cc in
-    of_its_acts station (request_value c.in-Ok.request) c.in-Ok.ensures.true_answer (c.judge_acts.ensures.fate client (acts (request_value c.in-Ok.request)) is (sym c.act_count.ensures.count) (λ i act inside gives. search rules)))
+    of_its_acts station (request_value c.in-Ok.request) c.in-Ok.ensures.true_answer (c.judge_request.ensures.fate client is))

@@ -1,0 +1,17 @@
+use Rattle.std.proofs.Common.{◌∙◌, sym, subst, ap, true, List}
+use Rattle.std.specs.Prelude.{slice_get}
+use Rattle.std.specs.List.{list_all}
+use Rattle.std.specs.Option.{option_map_or}
+use Rattle.cf_policy.specs.Verdict.{is_empty}
+use Rattle.cf_policy.specs.declared.policy.Rule.{Rule}
+use Rattle.cf_policy.specs.Index.{IsIndexOf}
+use Rattle.cf_policy.proofs.Runs.{any_value_taken}
+use Rattle.cf_policy.proofs.index.CodeIndex.takes_any_value.Goals as goal
+
+pub returns : goal.returns
+returns c = λ client index yes.
+    let own : IsIndexOf c.args.asset.now client c.pairs.result.now = subst (IsIndexOf c.args.asset.now client) (sym c.pairs.ensures) index in
+    let part = c.pairs_of-pairs.ensures own.ascending in
+    any_value_taken c.args.asset.now client c.args.code c.pairs.result.now c.pairs_of-pairs.result.now own part
+    (ap (λ (rules : List Rule). list_all (λ p. option_map_or (λ r. is_empty r.values) (slice_get rules p.rule) true) c.pairs_of-pairs.result.now) (sym c.as_slice.ensures)
+    ∙ sym c.all_without_values.ensures ∙ yes)
