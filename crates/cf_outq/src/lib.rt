@@ -4,8 +4,6 @@
 mod laws;
 mod outq;
 mod piece;
-#[cfg(test)]
-mod tests;
 
 pub use laws::{every_queue_run, pushes_join};
 pub use outq::Outq;

@@ -4,7 +4,7 @@ ghost use Rattle.cf_outq.specs.SendQueue.{piece_letters};
 
 /// The letters of one segment: `len` bytes from place `at` on, counted from the first byte ever pushed, and after them
 /// End where `end` holds. RFC 9293, section 3.4: its sequence number is that of the SYN, and `at` + 1 more.
-#[derive(Clone, Copy, PartialEq, Eq, Debug)]
+#[derive(Clone, Copy)]
 pub struct Piece {
     pub at: i64,
     pub len: usize,

@@ -11,7 +11,7 @@ use crate::script::{Fail, left_by};
 use std::alloc::{AllocError, Global};
 
 /// A packet that was emitted, and its moment in microseconds.
-#[derive(Debug, Drop)]
+#[derive(Drop)]
 pub struct Sent {
     /// In microseconds.
     pub moment: u64,
@@ -22,7 +22,7 @@ pub struct Sent {
 /// A desk in memory. Calls are numbered from 1; those that `fails` names fail, and add the packet or line all the same
 /// where their `left` is above 0. A call fails besides where memory ran out, which raises `lacks` too. It is whole where
 /// `faults` is 0. This project's own.
-#[derive(Debug, Drop)]
+#[derive(Drop)]
 pub struct MemoryDesk {
     /// The packets that were emitted, in their order.
     pub packets: Vec<Sent>,

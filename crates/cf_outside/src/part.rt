@@ -19,7 +19,7 @@ pub fn fill<F: Files>(
     requires some { 0 < size }
     requires room { size ≤ length buffer.old }
     requires near { place ≤ 2 ^ 40 }
-    requires short { length buffer.old ≤ 2 ^ 20 }
+    requires short { length buffer.old ≤ 2 ^ 24 }
     requires begun { HasRead (F.content files.old name.now) place (take before buffer.old) }
     ensures inside { IfSome result (λ have. have ≤ size) }
     ensures filled { IfSome result (λ have. IsFilled (F.content files.old name.now) place size (take have buffer.new)) }

@@ -1,5 +1,20 @@
-//! Tests of `cf_outside`, which stand beside it: a crate that has tests is proved twice.
+//! Tests of `cf_view`, `cf_outside`, `cf_outq`, `cf_rebuild`, `cf_pcap` and `cf_packet`, which stand beside them: a crate
+//! that has tests is proved twice.
 #![tactic(auto)]
 
 #[cfg(test)]
-mod tests;
+mod capture;
+#[cfg(test)]
+mod files;
+#[cfg(test)]
+mod lines;
+#[cfg(test)]
+mod packet;
+#[cfg(test)]
+mod queue;
+#[cfg(test)]
+mod streams;
+#[cfg(test)]
+mod view;
+#[cfg(test)]
+mod window;

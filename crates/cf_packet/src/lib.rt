@@ -8,8 +8,6 @@ mod packet;
 mod read;
 mod segment;
 mod sequence;
-#[cfg(test)]
-mod tests;
 mod write;
 
 pub use packet::{ACK, FIN, PSH, Packet, PacketRefusal, RST, SYN, URG};

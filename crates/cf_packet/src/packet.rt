@@ -17,7 +17,7 @@ pub const URG: u8 = 0x20;
 
 /// A TCP segment with the addresses of its IPv4 packet. RFC 791, section 3.1, and RFC 9293, section 3.1. Fields that
 /// are not here are not used.
-#[derive(Debug, Drop)]
+#[derive(Drop)]
 pub struct Packet<'a> {
     /// Who sent it.
     pub source: Endpoint,
@@ -38,7 +38,7 @@ pub struct Packet<'a> {
 }
 
 /// Why the octets of a record are no TCP segment in an IPv4 packet. They are tested in this order.
-#[derive(Clone, Copy, PartialEq, Eq, Debug)]
+#[derive(Clone, Copy)]
 pub enum PacketRefusal {
     /// An Ethernet header is cut or its type is not 0800, or the version is not 4.
     NotIpv4,

@@ -5,7 +5,7 @@ ghost use Rattle.cf_pcap.specs.Header.{fields_of, header_of, is_magic, u16_at, u
 use cf_view::{LinkKind, View};
 
 /// What the header of a capture file says about its records.
-#[derive(Clone, Copy, PartialEq, Eq, Debug)]
+#[derive(Clone, Copy)]
 pub struct Header {
     /// Whether numbers stand with their high octet first.
     pub big_endian: bool,

@@ -4,8 +4,6 @@
 mod header;
 mod laws;
 mod record;
-#[cfg(test)]
-mod tests;
 mod write;
 
 pub use header::{Header, HeaderRefusal, MICROSECONDS, NANOSECONDS, read_header};

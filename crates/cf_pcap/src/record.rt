@@ -10,7 +10,7 @@ use cf_view::View;
 pub const CAPTURED_LIMIT: u32 = 262_144;
 
 /// What octets of a file say about the record that they begin.
-#[derive(Debug, Drop)]
+#[derive(Drop)]
 pub enum RecordAnswer<'a> {
     /// A record.
     Whole {

@@ -6,8 +6,6 @@ mod laws;
 mod marks;
 mod rebuild;
 mod ring;
-#[cfg(test)]
-mod tests;
 
 pub use laws::every_window_run;
 pub use rebuild::Rebuild;
