@@ -9,7 +9,7 @@ use Rattle.cf_policy.specs.Verdict.{verdict_of}
 use Rattle.cf_policy.specs.declared.Asset.{Asset}
 use Rattle.cf_policy.specs.declared.Verdict.{Verdict}
 use Rattle.cf_view.specs.declared.Act.{Act}
-use Rattle.std.proofs.Common.{Bool, List, [], ap, arith, false, length, map, refl, replicate, sym, take, ℕ, ◌||◌, ◌∙◌, ◌∷◌, ◌≡◌}
+use Rattle.std.proofs.Common.{List, [], ap, arith, false, length, map, refl, replicate, sym, take, ℕ, ◌||◌, ◌∙◌, ◌∷◌, ◌≡◌}
 use Rattle.std.proofs.Math.Path.{fun_ext}
 use Rattle.std.specs.List.{list_any}
 use Rattle.cf_policy.specs.declared.Verdict.TheVariants as verdict
