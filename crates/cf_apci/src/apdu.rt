@@ -13,7 +13,7 @@ use cf_view::{Break, Framed, View};
 pub const START: u8 = 0x68;
 
 /// An APDU of IEC 60870-5-104, section 5.
-#[derive(Debug, Drop)]
+#[derive(Drop)]
 pub enum Apdu<'a> {
     /// Format I: the send and the receive sequence number, each below 32,768, and an ASDU of at most 249 octets.
     Info {

@@ -2,8 +2,6 @@
 #![tactic(auto)]
 
 mod apdu;
-#[cfg(test)]
-mod tests;
 mod write;
 
 pub use apdu::{Apdu, each_stream_has_apdus, next_apdu, no_apdu_begins_another};

@@ -17,7 +17,7 @@ const SEQUENCE: u8 = 0x80;
 const CAUSE: u8 = 0x40;
 
 /// The ASDU of a command. IEC 60870-5-101, section 7.2, in the sizes of IEC 60870-5-104.
-#[derive(Debug, Drop)]
+#[derive(Drop)]
 pub struct Asdu<'a> {
     /// The type identification.
     pub kind: u8,
@@ -34,7 +34,7 @@ pub struct Asdu<'a> {
 }
 
 /// Why octets are no command that is served. They are tested in this order.
-#[derive(Clone, Copy, PartialEq, Eq, Debug)]
+#[derive(Clone, Copy)]
 pub enum AsduRefusal {
     /// They are fewer than nine.
     Short,

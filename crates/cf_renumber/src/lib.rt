@@ -7,8 +7,6 @@ mod mark;
 mod marks;
 mod number;
 mod numbers;
-#[cfg(test)]
-mod tests;
 
 pub use answer::{NumberRefusal, RefusedStamp, Stamp};
 pub use laws::{covers_the_most, every_numbers_run, one_count, one_count_in_every_run};
