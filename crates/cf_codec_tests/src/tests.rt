@@ -1,6 +1,11 @@
 //! Rows of octets, and what the codecs make of them.
 mod apci;
 mod asdu;
+mod dnplink;
+mod dnpobj;
+mod dnptrans;
+mod found;
+mod modbus;
 mod renumber;
 
 use cf_samples::rows::{octets, row};

@@ -21,7 +21,7 @@ const BLOCK_WITH_CRC: usize = 18;
 const LEAST_LENGTH: u8 = 5;
 
 /// A data link frame of DNP3. IEEE 1815-2012, section 9.2.
-#[derive(Debug, Drop)]
+#[derive(Drop)]
 pub struct Frame<'a> {
     /// The control octet: DIR 80, PRM 40, two bits of the flow, and the link function code in its low four bits.
     pub control: u8,

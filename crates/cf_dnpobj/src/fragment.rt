@@ -10,7 +10,7 @@ use cf_view::View;
 const SINGLE: u8 = 0xC0;
 
 /// A request of one fragment. IEEE 1815-2012, section 4.2.
-#[derive(Debug, Drop)]
+#[derive(Drop)]
 pub struct Fragment<'a> {
     /// The application control octet: FIR 80, FIN 40, CON 20, UNS 10, and the sequence in its low four bits.
     pub control: u8,
@@ -21,7 +21,7 @@ pub struct Fragment<'a> {
 }
 
 /// Why octets are no request that is served. They are tested in this order. This project's own division.
-#[derive(Clone, Copy, PartialEq, Eq, Debug)]
+#[derive(Clone, Copy)]
 pub enum FragmentRefusal {
     /// There are fewer than two octets.
     Short,

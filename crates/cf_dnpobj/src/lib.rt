@@ -10,8 +10,3 @@ mod reply;
 pub use acts::{act_at, act_count};
 pub use fragment::{Fragment, FragmentRefusal, read_fragment, requests_are_spelled};
 pub use reply::{reply_for, wants_reply};
-
-#[cfg(test)]
-mod reply_tests;
-#[cfg(test)]
-mod tests;

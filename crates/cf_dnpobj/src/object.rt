@@ -3,7 +3,7 @@ ghost use Rattle.std.specs.Prelude.{◌≡◌, ◌≤◌, ◌<◌, ◌+◌, ◌*
 ghost use Rattle.cf_dnpobj.specs.Objects.{is_function, is_command, is_write, is_object, layout_of, is_span, is_all, is_counted, is_indexed, takes, width, range_size, index_size, objects_size};
 
 /// How the objects of a header lie.
-#[derive(Clone, Copy, PartialEq, Eq, Debug)]
+#[derive(Clone, Copy)]
 pub enum Layout {
     /// Each has so many octets behind its index. Qualifiers 17 and 28.
     Indexed(usize),

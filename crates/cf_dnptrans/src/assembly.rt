@@ -14,7 +14,7 @@ use std::marker::Model;
 const CAPACITY: usize = 2_048;
 
 /// Why a segment is dropped. This project's own, where IEEE 1815-2012, section 8.2.2, only says that it is.
-#[derive(Clone, Copy, PartialEq, Eq, Debug)]
+#[derive(Clone, Copy)]
 pub enum DropReason {
     /// It has no octet.
     Empty,
@@ -27,7 +27,7 @@ pub enum DropReason {
 }
 
 /// What became of a segment.
-#[derive(Clone, Copy, PartialEq, Eq, Debug)]
+#[derive(Clone, Copy)]
 pub enum SegmentAnswer {
     /// The fragment is whole.
     Whole,

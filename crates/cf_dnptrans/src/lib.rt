@@ -10,6 +10,3 @@ mod segment;
 pub use assembly::{Assembly, DropReason, SegmentAnswer};
 pub use laws::{first_segments_make_the_first_fragments, segments_are_put_together};
 pub use segment::{segment_count, segment_octet};
-
-#[cfg(test)]
-mod tests;

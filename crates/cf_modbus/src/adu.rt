@@ -11,7 +11,7 @@ use cf_view::{Break, Framed, View};
 const AFTER_LENGTH: usize = 6;
 
 /// One application data unit of Modbus TCP. MODBUS Messaging on TCP/IP Implementation Guide V1.0b, section 3.1.3.
-#[derive(Debug, Drop)]
+#[derive(Drop)]
 pub struct Adu<'a> {
     /// The transaction identifier: a reply has that of its request.
     pub transaction: u16,
