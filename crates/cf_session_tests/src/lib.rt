@@ -1,4 +1,4 @@
-//! Tests of `cf_session`, which stand beside it: a crate that has tests is proved twice.
+//! Tests of the TCP end, the lane, the session and the run, as rows of text: what comes, and what goes.
 #![tactic(auto)]
 
 #[cfg(test)]

@@ -1,0 +1,171 @@
+//! Packets, as the lines of an exchange spell them.
+
+use super::{Place, digits, same, text};
+use arrayvec::ArrayVec;
+use cf_outside::MemoryDesk;
+use cf_packet::{ACK, FIN, PSH, Packet, RST, SYN, URG, write_packet};
+use cf_samples::rows::octets;
+use cf_samples::{CLIENT, PUMP};
+use cf_view::Endpoint;
+use std::alloc::Global;
+use std::process::Abort;
+
+/// The sequence numbers of the SYNs of the client and of the controller.
+#[derive(Clone, Copy)]
+pub struct Origins {
+    pub client: u32,
+    pub controller: u32,
+}
+
+/// A packet between the client and the controller.
+#[derive(Drop)]
+pub struct Segment {
+    pub source: Endpoint,
+    pub dest: Endpoint,
+    pub seq: u32,
+    pub ack: u32,
+    pub flags: u8,
+    pub window: u16,
+    pub mss: Option<u16>,
+    pub text: Vec<u8>,
+}
+
+impl Segment {
+    pub fn packet(&self) -> Packet<'_> {
+        Packet {
+            source: self.source,
+            dest: self.dest,
+            seq: self.seq,
+            ack: self.ack,
+            flags: self.flags,
+            window: self.window,
+            mss: self.mss,
+            text: &self.text,
+        }
+    }
+}
+
+/// A number below 2^32.
+pub fn number(rt: &impl Abort, spelled: &str) -> u32 {
+    spelled.parse::<u32>().expect(rt, spelled)
+}
+
+/// A number below 65,536.
+fn word(rt: &impl Abort, spelled: &str) -> u16 {
+    spelled.parse::<u16>().expect(rt, spelled)
+}
+
+/// The sequence numbers of the SYNs, as two numbers.
+pub fn read_origins(rt: &impl Abort, spelled: &str) -> Origins {
+    let (client, controller) = spelled.split_once(' ').expect(rt, spelled);
+    Origins {
+        client: number(rt, client),
+        controller: number(rt, controller),
+    }
+}
+
+/// A moment in microseconds, and what stands behind it.
+pub fn moment<'a>(rt: &impl Abort, line: &'a str) -> (u64, &'a str) {
+    let (moment, rest) = line.split_once(' ').unwrap_or((line, ""));
+    let (seconds, micros) = moment.split_once('.').expect(rt, line);
+    let micros = u64::from(number(rt, micros));
+    (u64::from(number(rt, seconds)) * 1_000_000 + micros, rest)
+}
+
+/// A number as it stands, or that of the letter at a place, with its sign before it.
+fn sequence(rt: &impl Abort, spelled: &str, origin: u32) -> u32 {
+    let first = origin.wrapping_add(1);
+    if let Some(place) = spelled.strip_prefix('+') {
+        first.wrapping_add(number(rt, place))
+    } else if let Some(place) = spelled.strip_prefix('-') {
+        first.wrapping_sub(number(rt, place))
+    } else {
+        number(rt, spelled)
+    }
+}
+
+fn flags(rt: &impl Abort, letters: &str) -> u8 {
+    let mut flags = 0;
+    for letter in letters.chars() {
+        flags |= match letter {
+            'F' => FIN,
+            'S' => SYN,
+            'R' => RST,
+            'P' => PSH,
+            'A' => ACK,
+            'U' => URG,
+            '-' => 0,
+            _ => panic!(rt; "no flag in {letters}"),
+        };
+    }
+    flags
+}
+
+/// The packet that a line spells behind its moment.
+pub fn read_segment(rt: &impl Abort, alloc: Global, origins: &Origins, spelled: &str) -> Segment {
+    let mut fields = spelled.splitn(6, ' ');
+    let is_client = fields.next() == Some("c");
+    let (source, dest, origin, other) = if is_client {
+        (CLIENT, PUMP, origins.client, origins.controller)
+    } else {
+        (PUMP, CLIENT, origins.controller, origins.client)
+    };
+    let flags = flags(rt, fields.next().unwrap_or(""));
+    let seq = sequence(rt, fields.next().unwrap_or(""), origin);
+    let ack = sequence(rt, fields.next().unwrap_or(""), other);
+    let window = word(rt, fields.next().unwrap_or(""));
+    let last = fields.next().unwrap_or("");
+    let mss = last.strip_prefix("mss").map(|size| word(rt, size));
+    Segment {
+        source,
+        dest,
+        seq,
+        ack,
+        flags,
+        window,
+        mss,
+        text: text(rt, alloc, if mss.is_some() { "" } else { last }),
+    }
+}
+
+/// The octets of the packet that a line spells behind its moment; `ip` and octets are a packet as it stands.
+pub fn packet(rt: &impl Abort, alloc: Global, origins: &Origins, spelled: &str) -> Vec<u8> {
+    if let Some(spelled) = spelled.strip_prefix("ip ") {
+        return octets(alloc, spelled).expect(rt, spelled);
+    }
+    let segment = read_segment(rt, alloc, origins, spelled);
+    assert!(rt;
+        segment.text.len() <= 1460 && segment.flags < 64,
+        "{spelled}"
+    );
+    assert!(rt;
+        segment.mss.is_none() || segment.text.is_empty(),
+        "{spelled}"
+    );
+    let mut octets = ArrayVec::new();
+    write_packet(&segment.packet(), &mut octets);
+    octets.as_slice().to_vec(alloc).expect(rt, "memory")
+}
+
+/// The next packet that went out is that of a line.
+pub fn goes(
+    rt: &impl Abort,
+    alloc: Global,
+    origins: &Origins,
+    desk: &mut MemoryDesk,
+    place: &Place<'_>,
+    line: &str,
+) {
+    assert!(rt; !desk.packets.is_empty(), "{}, {}", place.row, place.line);
+    let sent = desk.packets.remove(0);
+    let (moment, spelled) = moment(rt, line);
+    let found = if sent.moment == moment {
+        ""
+    } else {
+        "another moment"
+    };
+    same(rt, place, found, "");
+    let wanted = packet(rt, alloc, origins, spelled);
+    let wanted = digits(rt, alloc, &wanted);
+    same(rt, place, &digits(rt, alloc, &sent.bytes), &wanted);
+}
