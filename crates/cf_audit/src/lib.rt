@@ -6,6 +6,3 @@ mod write;
 
 pub use line::{CutReason, Line, NAME_LIMIT, What, Why};
 pub use write::{push_cut, write_line};
-
-#[cfg(test)]
-mod tests;

@@ -50,7 +50,7 @@ pub enum CutReason {
 }
 
 /// What happened.
-#[derive(Debug, Drop)]
+#[derive(Drop)]
 pub enum What<'a> {
     /// A session began.
     Begun,
@@ -86,7 +86,7 @@ pub enum What<'a> {
 }
 
 /// A line of the log.
-#[derive(Debug, Drop)]
+#[derive(Drop)]
 pub struct Line<'a> {
     /// Microseconds.
     pub moment: u64,

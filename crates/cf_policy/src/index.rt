@@ -13,7 +13,7 @@ use std::alloc::Global;
 use std::marker::Model;
 
 /// A code and a rule that has it.
-#[derive(Clone, Copy, PartialEq, Eq, PartialOrd, Ord, Debug)]
+#[derive(Clone, Copy, PartialEq, Eq, PartialOrd, Ord)]
 pub struct CodePair {
     /// A function code of Modbus or DNP3, or a type identification of IEC 60870-5-104.
     pub code: u16,
@@ -22,7 +22,7 @@ pub struct CodePair {
 }
 
 /// The pairs of the rules of an asset that have one client. Contracts see the list of pairs.
-#[derive(Debug, Drop)]
+#[derive(Drop)]
 pub struct CodeIndex {
     pairs: Vec<CodePair>,
 }

@@ -20,6 +20,3 @@ pub use limits::{
 pub use lists::{Items, Name};
 pub use names::decider_name;
 pub use policy::{Action, Asset, Decider, Policy, Protocol, Rate, Rule, Span, Verdict};
-
-#[cfg(test)]
-mod tests;

@@ -28,7 +28,7 @@ pub struct Span {
 }
 
 /// How many commands of a session a rule lets through: at most `most` in any `seconds` seconds. This project's own.
-#[derive(Clone, Copy, PartialEq, Eq, Debug)]
+#[derive(Clone, Copy, Debug)]
 pub struct Rate {
     pub most: u32,
     pub seconds: u32,
@@ -68,7 +68,7 @@ pub struct Asset {
 }
 
 /// The assets that the firewall stands before.
-#[derive(Debug, Drop)]
+#[derive(Drop)]
 pub struct Policy {
     pub assets: Items<Asset>,
 }
@@ -89,7 +89,7 @@ pub enum Decider {
 }
 
 /// What becomes of an act.
-#[derive(Clone, Copy, PartialEq, Eq, Debug)]
+#[derive(Clone, Copy)]
 pub enum Verdict {
     /// The rule of this number, counted from 0, allows it.
     Allow(usize),
