@@ -1,4 +1,5 @@
-//! Relays, sifts and worlds over objects in memory: rows of text.
+//! Relays, sifts and worlds over objects in memory as rows of text, and the files and streams of the machine.
+mod machine;
 mod relays;
 mod sifts;
 mod texts;
