@@ -1,20 +1,13 @@
-//! The program `cmdwall`: real files, standard output, streams, and the words that it was given.
+//! The program `cmdwall`: the words that it was given, over the files, the standard output and the streams of the machine.
 #![tactic(auto)]
 
-mod files;
 mod help;
-mod link;
-mod peer;
-mod sink;
-mod streams;
 mod why;
 
-use crate::files::{Gather, RealFiles};
 use crate::help::{Asked, print_help, print_topic, print_version, question_of};
-use crate::link::LinkPair;
-use crate::sink::RealSink;
 use crate::why::{expect_files, explain};
 use cf_box::{Command, box_main, read_words};
+use cf_machine::{Gather, LinkPair, RealFiles, RealSink};
 use std::env::Env;
 use std::process::ExitCode;
 use std::{env, io};
@@ -78,6 +71,3 @@ fn printed(done: io::Result<()>) -> ExitCode {
         Err(_) => ExitCode::from(4),
     }
 }
-
-#[cfg(test)]
-mod tests;

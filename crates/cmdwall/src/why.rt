@@ -1,11 +1,10 @@
 //! What standard error says beside what standard output has. A line that cannot be said changes nothing.
 
-use crate::files::RealFiles;
-use crate::link::{LinkFault, Part};
 use cf_box::{Command, read_words};
 use cf_explain::{
     asset_message, capture_message, outputs_message, policy_message, policy_warnings, words_message,
 };
+use cf_machine::{LinkFault, Part, RealFiles};
 use cf_outside::{WholeFault, read_whole};
 use cf_policy::Policy;
 use cf_policylang::{Cause, Key, LONGEST_TEXT, PolicyFault, PolicyRefusal, read_policy};

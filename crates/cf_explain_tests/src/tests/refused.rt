@@ -1,425 +1,352 @@
-//! Messages about refused policies.
+//! Messages about refused policies, each by hand from `docs/POLICY.md`.
+use crate::tests::changes::policy_octets;
 use cf_explain::policy_message;
 use cf_policylang::{PolicyFault, read_policy};
 use std::alloc::{AllocError, Global};
-use std::process::Abort;
 use std::test::Fail;
 
 /// A policy, each line with its number in front.
-const LINES: &str = r#"1|version = 1
-2|[[asset]]
-3|name = "pump"
-4|address = "10.0.0.9"
-5|port = 502
-6|protocol = "modbus"
-7|station = 1
-8|[[asset.rule]]
-9|name = "poll"
-10|action = "allow"
-11|codes = [3]
-12|[[asset.rule]]
-13|name = "set"
-14|action = "allow"
-15|clients = ["10.0.0.5"]
-16|codes = [6, 16]
-17|groups = ["0"]
-18|points = ["40..49"]
-19|values = ["0..500"]
-20|[[asset]]
-21|name = "rtu"
-22|address = "10.0.0.10"
-23|port = 502
-24|protocol = "dnp3"
-25|station = 10
-26|master = 1"#;
+const LINES: &str = r#"1: version = 1
+2: [[asset]]
+3: name = "pump"
+4: address = "10.0.0.9"
+5: port = 502
+6: protocol = "modbus"
+7: station = 1
+8: [[asset.rule]]
+9: name = "poll"
+10: action = "allow"
+11: codes = [3]
+12: [[asset.rule]]
+13: name = "set"
+14: action = "allow"
+15: clients = ["10.0.0.5"]
+16: codes = [6, 16]
+17: groups = ["0"]
+18: points = ["40..49"]
+19: values = ["0..500"]
+20: [[asset]]
+21: name = "rtu"
+22: address = "10.0.0.10"
+23: port = 502
+24: protocol = "dnp3"
+25: station = 10
+26: master = 1"#;
 
-/// A row: the number of a line, what stands in its place (` / ` begins a line, `MANY` is 65 numbers), and its message. PUMP,
-/// POLL, SET and RTU are the assets and rules by number and name.
-const ROWS: &str = r#"1|version 1
+/// A row: a change of the policy, and its message.
+pub(super) const ROWS: &str = r#"1: version 1
 p:1:9: this is no TOML: key with no value, expected `=`
   in the line: version 1
 
-6|protocol = modbus
-p:6:12: this is no TOML: invalid value, expected a string, number, boolean, date-time, array or inline table; a text stands between quotation marks, as "allow"
+6: protocol = modbus
+p:6:12: this is no TOML: invalid value, expected a string, number, boolean, date-time, array or inline table; a text stands between
+    quotation marks, as "allow"
   in the line: protocol = modbus
 
-1|version = 2
+1: version = 2
 p:1:1: `version` is the number 2
   write version = 1 above the first table
 
-1|
+1:
 p: `version` is missing
   write version = 1 above the first table
 
-1|versoin = 1
+1: versoin = 1
 p: `version` is missing; did you write "versoin" for it?
   write version = 1 above the first table
 
-1|version = "1"
+1: version = "1"
 p:1:1: `version` is the text "1", and has to be a whole number
   write version = 1 above the first table
 
-2|[asset]
+2: [asset]
 p:20:1: this is no TOML: duplicate key; write [[asset]] and [[asset.rule]] with two brackets each time
   in the line: [[asset]]
 
-20|[[assets]]
+20: [[assets]]
 p:20:1: "assets" is no key of the document; did you mean `asset`?
   above the first table the document has version = 1, and then tables [[asset]]
 
-12|[[rule]]
+12: [[rule]]
 p:12:1: "rule" is no key of the document: a rule is a table [[asset.rule]]
   above the first table the document has version = 1, and then tables [[asset]]
 
-8|[asset.rule]
+8: [asset.rule]
 p:12:1: this is no TOML: duplicate key; write [[asset]] and [[asset.rule]] with two brackets each time
   in the line: [[asset.rule]]
 
-8|[[asset.rules]]
-p:8:1: PUMP "rules" is no key of an asset; did you mean `rule`?
+8: [[asset.rules]]
+p:8:1: asset 1 "pump": "rules" is no key of an asset; did you mean `rule`?
   an asset has name, address, port, protocol, station, for DNP3 master, and tables [[asset.rule]]
 
-3|nam = "pump"
+3: nam = "pump"
 p:3:1: asset 1: "nam" is no key of an asset; did you mean `name`?
   an asset has name, address, port, protocol, station, for DNP3 master, and tables [[asset.rule]]
 
-4|adress = "10.0.0.9"
-p:4:1: PUMP "adress" is no key of an asset; did you mean `address`?
+4: adress = "10.0.0.9"
+p:4:1: asset 1 "pump": "adress" is no key of an asset; did you mean `address`?
   an asset has name, address, port, protocol, station, for DNP3 master, and tables [[asset.rule]]
 
-11|code = [3]
-p:11:1: POLL "code" is no key of a rule; did you mean `codes`?
+11: code = [3]
+p:11:1: asset 1 "pump", rule 1 "poll": "code" is no key of a rule; did you mean `codes`?
   a rule has name, action, codes, and may have clients, groups, points, values, most and seconds
 
-11|
-p:8:1: POLL `codes` is missing
+11:
+p:8:1: asset 1 "pump", rule 1 "poll": `codes` is missing
   codes are 1 to 64 whole numbers from 0 to 255, as codes = [3, 16]
 
-26|
-p:20:1: RTU `master` is missing
+26:
+p:20:1: asset 2 "rtu": `master` is missing
   a DNP3 asset has its master's link address, 0 to 65519, as master = 1
 
-7|station = 1 / master = 1
-p:8:1: PUMP `master` is a key of DNP3 assets alone: leave it out
+7: station = 1 / master = 1
+p:8:1: asset 1 "pump": `master` is a key of DNP3 assets alone: leave it out
   an asset has name, address, port, protocol, station, for DNP3 master, and tables [[asset.rule]]
 
-10|action = "allow" / station = 1
-p:11:1: POLL "station" is no key of a rule: it stands in an asset, below [[asset]] and above its first [[asset.rule]]
+10: action = "allow" / station = 1
+p:11:1: asset 1 "pump", rule 1 "poll": "station" is no key of a rule: it stands in an asset, below [[asset]] and above its first
+    [[asset.rule]]
   a rule has name, action, codes, and may have clients, groups, points, values, most and seconds
 
-7|station = 1 / codes = [3]
-p:8:1: PUMP "codes" is no key of an asset: it stands in a rule, below [[asset.rule]]
+7: station = 1 / codes = [3]
+p:8:1: asset 1 "pump": "codes" is no key of an asset: it stands in a rule, below [[asset.rule]]
   an asset has name, address, port, protocol, station, for DNP3 master, and tables [[asset.rule]]
 
-5|port = "502"
-p:5:1: PUMP `port` is the text "502", and has to be a whole number
+5: port = "502"
+p:5:1: asset 1 "pump": `port` is the text "502", and has to be a whole number
   a port is a whole number from 1 to 65535, as port = 502
 
-5|port = 70000
-p:5:1: PUMP `port` is the number 70000, out of its range
+5: port = 70000
+p:5:1: asset 1 "pump": `port` is the number 70000, out of its range
   a port is a whole number from 1 to 65535, as port = 502
 
-18|points = [40]
-p:18:1: SET entry 1 of `points` is the number 40, and has to be a text between quotation marks
+18: points = [40]
+p:18:1: asset 1 "pump", rule 2 "set": entry 1 of `points` is the number 40, and has to be a text between quotation marks
   points are 1 to 64 numbers or ranges from 0 to 4294967295, as points = ["7", "40..49"]
 
-18|points = "40..49"
-p:18:1: SET `points` is the text "40..49", and has to be a list of texts
+18: points = "40..49"
+p:18:1: asset 1 "pump", rule 2 "set": `points` is the text "40..49", and has to be a list of texts
   points are 1 to 64 numbers or ranges from 0 to 4294967295, as points = ["7", "40..49"]
 
-16|codes = 3
-p:16:1: SET `codes` is the number 3, and has to be a list of whole numbers
+16: codes = 3
+p:16:1: asset 1 "pump", rule 2 "set": `codes` is the number 3, and has to be a list of whole numbers
   codes are 1 to 64 whole numbers from 0 to 255, as codes = [3, 16]
 
-16|codes = ["3"]
-p:16:1: SET entry 1 of `codes` is the text "3", and has to be a whole number
+16: codes = ["3"]
+p:16:1: asset 1 "pump", rule 2 "set": entry 1 of `codes` is the text "3", and has to be a whole number
   codes are 1 to 64 whole numbers from 0 to 255, as codes = [3, 16]
 
-16|codes = [6, 256]
-p:16:1: SET entry 2 of `codes` is the number 256: the number is too high
+16: codes = [6, 256]
+p:16:1: asset 1 "pump", rule 2 "set": entry 2 of `codes` is the number 256: the number is too high
   codes are 1 to 64 whole numbers from 0 to 255, as codes = [3, 16]
 
-16|codes = []
-p:16:1: SET `codes` is an empty list
+16: codes = []
+p:16:1: asset 1 "pump", rule 2 "set": `codes` is an empty list
   codes are 1 to 64 whole numbers from 0 to 255, as codes = [3, 16]
 
-4|address = "10.0.0.256"
-p:4:1: PUMP `address` is "10.0.0.256": a number of it is none from 0 to 255
+4: address = "10.0.0.256"
+p:4:1: asset 1 "pump": `address` is "10.0.0.256": a number of it is none from 0 to 255
   an address is four numbers from 0 to 255, without leading zeros, as address = "10.0.0.9"
 
-4|address = "10.0.0.09"
-p:4:1: PUMP `address` is "10.0.0.09": a number has no leading zero
+4: address = "10.0.0.09"
+p:4:1: asset 1 "pump": `address` is "10.0.0.09": a number has no leading zero
   an address is four numbers from 0 to 255, without leading zeros, as address = "10.0.0.9"
 
-4|address = "10.0.0.9:502"
-p:4:1: PUMP `address` is "10.0.0.9:502": the port is a key of its own, and addresses of IPv6 are not served
+4: address = "10.0.0.9:502"
+p:4:1: asset 1 "pump": `address` is "10.0.0.9:502": the port is a key of its own, and addresses of IPv6 are not served
   an address is four numbers from 0 to 255, without leading zeros, as address = "10.0.0.9"
 
-4|address = "pump.local"
-p:4:1: PUMP `address` is "pump.local": it has not four numbers
+4: address = "pump.local"
+p:4:1: asset 1 "pump": `address` is "pump.local": it has not four numbers
   an address is four numbers from 0 to 255, without leading zeros, as address = "10.0.0.9"
 
-15|clients = ["10.0.0.0/24"]
-p:15:1: SET entry 1 of `clients` is the text "10.0.0.0/24": a network is written as a range, as 10.0.0.0..10.0.0.255
+15: clients = ["10.0.0.0/24"]
+p:15:1: asset 1 "pump", rule 2 "set": entry 1 of `clients` is the text "10.0.0.0/24": a network is written as a range, as
+    10.0.0.0..10.0.0.255
   clients are 1 to 64 addresses or ranges, as clients = ["10.0.0.5", "10.0.0.8..10.0.0.9"]
 
-15|clients = ["10.0.0.5", "10.0.0.x"]
-p:15:1: SET entry 2 of `clients` is the text "10.0.0.x": it is no address
+15: clients = ["10.0.0.5", "10.0.0.x"]
+p:15:1: asset 1 "pump", rule 2 "set": entry 2 of `clients` is the text "10.0.0.x": it is no address
   clients are 1 to 64 addresses or ranges, as clients = ["10.0.0.5", "10.0.0.8..10.0.0.9"]
 
-15|clients = ["10.0.0.9..10.0.0.5"]
-p:15:1: SET entry 1 of `clients` is the text "10.0.0.9..10.0.0.5": the first address is above the second
+15: clients = ["10.0.0.9..10.0.0.5"]
+p:15:1: asset 1 "pump", rule 2 "set": entry 1 of `clients` is the text "10.0.0.9..10.0.0.5": the first address is above the second
   clients are 1 to 64 addresses or ranges, as clients = ["10.0.0.5", "10.0.0.8..10.0.0.9"]
 
-7|station = 256
-p:7:1: PUMP `station` is the number 256, out of its range
+7: station = 256
+p:7:1: asset 1 "pump": `station` is the number 256, out of its range
   the station of Modbus is its unit identifier, 0 to 255, as station = 1
 
-25|station = 65520
-p:25:1: RTU `station` is the number 65520, out of its range
+25: station = 65520
+p:25:1: asset 2 "rtu": `station` is the number 65520, out of its range
   the station of DNP3 is the outstation's link address, 0 to 65519, as station = 10
 
-14|action = "deny"
-p:14:1: SET `action` is "deny"
+14: action = "deny"
+p:14:1: asset 1 "pump", rule 2 "set": `action` is "deny"
   an action is "allow" or "refuse"
 
-14|action = "alow"
-p:14:1: SET `action` is "alow"; did you mean "allow"?
+14: action = "alow"
+p:14:1: asset 1 "pump", rule 2 "set": `action` is "alow"; did you mean "allow"?
   an action is "allow" or "refuse"
 
-6|protocol = "Modbus"
-p:6:1: PUMP `protocol` is "Modbus"; did you mean "modbus"?
+6: protocol = "Modbus"
+p:6:1: asset 1 "pump": `protocol` is "Modbus"; did you mean "modbus"?
   a protocol is "modbus", "dnp3" or "iec104"
 
-6|protocol = "iec-104"
-p:6:1: PUMP `protocol` is "iec-104"; did you mean "iec104"?
+6: protocol = "iec-104"
+p:6:1: asset 1 "pump": `protocol` is "iec-104"; did you mean "iec104"?
   a protocol is "modbus", "dnp3" or "iec104"
 
-18|points = ["49..40"]
-p:18:1: SET entry 1 of `points` is the text "49..40": the first number is above the second
+18: points = ["49..40"]
+p:18:1: asset 1 "pump", rule 2 "set": entry 1 of `points` is the text "49..40": the first number is above the second
   points are 1 to 64 numbers or ranges from 0 to 4294967295, as points = ["7", "40..49"]
 
-18|points = ["40-49"]
-p:18:1: SET entry 1 of `points` is the text "40-49": a range has two points between its numbers, as 40..49
+18: points = ["40-49"]
+p:18:1: asset 1 "pump", rule 2 "set": entry 1 of `points` is the text "40-49": a range has two points between its numbers, as 40..49
   points are 1 to 64 numbers or ranges from 0 to 4294967295, as points = ["7", "40..49"]
 
-18|points = ["0..9", "0x28"]
-p:18:1: SET entry 2 of `points` is the text "0x28": numbers are decimal
+18: points = ["0..9", "0x28"]
+p:18:1: asset 1 "pump", rule 2 "set": entry 2 of `points` is the text "0x28": numbers are decimal
   points are 1 to 64 numbers or ranges from 0 to 4294967295, as points = ["7", "40..49"]
 
-18|points = ["040"]
-p:18:1: SET entry 1 of `points` is the text "040": a number has no leading zero
+18: points = ["040"]
+p:18:1: asset 1 "pump", rule 2 "set": entry 1 of `points` is the text "040": a number has no leading zero
   points are 1 to 64 numbers or ranges from 0 to 4294967295, as points = ["7", "40..49"]
 
-18|points = ["-1"]
-p:18:1: SET entry 1 of `points` is the text "-1": the number is too low
+18: points = ["-1"]
+p:18:1: asset 1 "pump", rule 2 "set": entry 1 of `points` is the text "-1": the number is too low
   points are 1 to 64 numbers or ranges from 0 to 4294967295, as points = ["7", "40..49"]
 
-18|points = ["4294967296"]
-p:18:1: SET entry 1 of `points` is the text "4294967296": the number is too high
+18: points = ["4294967296"]
+p:18:1: asset 1 "pump", rule 2 "set": entry 1 of `points` is the text "4294967296": the number is too high
   points are 1 to 64 numbers or ranges from 0 to 4294967295, as points = ["7", "40..49"]
 
-18|points = ["99999999999999999999"]
-p:18:1: SET entry 1 of `points` is the text "99999999999999999999": the number is too high
+18: points = ["99999999999999999999"]
+p:18:1: asset 1 "pump", rule 2 "set": entry 1 of `points` is the text "99999999999999999999": the number is too high
   points are 1 to 64 numbers or ranges from 0 to 4294967295, as points = ["7", "40..49"]
 
-18|points = ["@set"]
-p:18:1: SET entry 1 of `points` is the text "@set": there are no sets of points in version 1
+18: points = ["@set"]
+p:18:1: asset 1 "pump", rule 2 "set": entry 1 of `points` is the text "@set": there are no sets of points in version 1
   points are 1 to 64 numbers or ranges from 0 to 4294967295, as points = ["7", "40..49"]
 
-18|points = ["40,41"]
-p:18:1: SET entry 1 of `points` is the text "40,41": each number or range is a text of its own
+18: points = ["40,41"]
+p:18:1: asset 1 "pump", rule 2 "set": entry 1 of `points` is the text "40,41": each number or range is a text of its own
   points are 1 to 64 numbers or ranges from 0 to 4294967295, as points = ["7", "40..49"]
 
-18|points = ["40 .. 49"]
-p:18:1: SET entry 1 of `points` is the text "40 .. 49": there are no spaces in it
+18: points = ["40 .. 49"]
+p:18:1: asset 1 "pump", rule 2 "set": entry 1 of `points` is the text "40 .. 49": there are no spaces in it
   points are 1 to 64 numbers or ranges from 0 to 4294967295, as points = ["7", "40..49"]
 
-17|groups = ["12.1"]
-p:17:1: SET entry 1 of `groups` is the text "12.1": a group of DNP3 is 256 times the object group, and the variation: 3073 for g12v1
+17: groups = ["12.1"]
+p:17:1: asset 1 "pump", rule 2 "set": entry 1 of `groups` is the text "12.1": a group of DNP3 is 256 times the object group, and the
+    variation: 3073 for g12v1
   groups are 1 to 64 numbers or ranges from 0 to 65535, as groups = ["1", "3..5"]
 
-19|values = ["1.5"]
-p:19:1: SET entry 1 of `values` is the text "1.5": numbers have no point
+19: values = ["1.5"]
+p:19:1: asset 1 "pump", rule 2 "set": entry 1 of `values` is the text "1.5": numbers have no point
   values are 1 to 64 numbers or ranges from -2147483648 to 4294967295, as values = ["-5..5"]
 
-3|name = "Pump"
+3: name = "Pump"
 p:3:1: asset 1 "Pump": `name` is "Pump": it has capital letters
   a name has 1 to 32 of the letters a to z, the digits, _ and -, as name = "pump"
 
-3|name = "pump 1"
+3: name = "pump 1"
 p:3:1: asset 1 "pump 1": `name` is "pump 1": it has a space
   a name has 1 to 32 of the letters a to z, the digits, _ and -, as name = "pump"
 
-3|name = "pump/1"
+3: name = "pump/1"
 p:3:1: asset 1 "pump/1": `name` is "pump/1": it has a character that names do not have
   a name has 1 to 32 of the letters a to z, the digits, _ and -, as name = "pump"
 
-9|name = "default"
+9: name = "default"
 p:9:1: asset 1 "pump", rule 1 "default": `name` is the text "default", which the log uses for what is no rule
   no two rules of an asset have the same name, and none has the name default, station or form
 
-13|name = "poll"
+13: name = "poll"
 p:13:1: asset 1 "pump", rule 2 "poll": `name` is the text "poll", which rule 1 of this asset has
   no two rules of an asset have the same name, and none has the name default, station or form
 
-21|name = "pump"
+21: name = "pump"
 p:21:1: asset 2 "pump": `name` is the text "pump", which asset 1 has
   no two assets have the same name
 
-22|address = "10.0.0.9"
-p:23:1: RTU asset 1 has the same address and port
+22: address = "10.0.0.9"
+p:23:1: asset 2 "rtu": asset 1 has the same address and port
   no two assets have the same address and port
 
-6|protocol = “modbus”
-p:6:12: this is no TOML: invalid value, expected a string, number, boolean, date-time, array or inline table; quotation marks are the straight ones, as "allow"
+6: protocol = “modbus”
+p:6:12: this is no TOML: invalid value, expected a string, number, boolean, date-time, array or inline table; quotation marks are the
+    straight ones, as "allow"
   in the line: protocol = “modbus”
 
-17|groups = ["g12v1"]
-p:17:1: SET entry 1 of `groups` is the text "g12v1": a group of DNP3 is 256 times the object group, and the variation: 3073 for g12v1
+17: groups = ["g12v1"]
+p:17:1: asset 1 "pump", rule 2 "set": entry 1 of `groups` is the text "g12v1": a group of DNP3 is 256 times the object group, and the
+    variation: 3073 for g12v1
   groups are 1 to 64 numbers or ranges from 0 to 65535, as groups = ["1", "3..5"]
 
-19|values = ["-0"]
-p:19:1: SET entry 1 of `values` is the text "-0": 0 has no sign
+19: values = ["-0"]
+p:19:1: asset 1 "pump", rule 2 "set": entry 1 of `values` is the text "-0": 0 has no sign
   values are 1 to 64 numbers or ranges from -2147483648 to 4294967295, as values = ["-5..5"]
 
-15|clients = ["10.0.0.1-10.0.0.5"]
-p:15:1: SET entry 1 of `clients` is the text "10.0.0.1-10.0.0.5": a range has two points between its addresses, as 10.0.0.5..10.0.0.9
+15: clients = ["10.0.0.1-10.0.0.5"]
+p:15:1: asset 1 "pump", rule 2 "set": entry 1 of `clients` is the text "10.0.0.1-10.0.0.5": a range has two points between its
+    addresses, as 10.0.0.5..10.0.0.9
   clients are 1 to 64 addresses or ranges, as clients = ["10.0.0.5", "10.0.0.8..10.0.0.9"]
 
-5|port =
+5: port =
 p:5:7: this is no TOML: invalid value, expected a string, number, boolean, date-time, array or inline table
   in the line: port =
 
-25|station = -1
-p:25:1: RTU `station` is the number -1, out of its range
+25: station = -1
+p:25:1: asset 2 "rtu": `station` is the number -1, out of its range
   the station of DNP3 is the outstation's link address, 0 to 65519, as station = 10
 
-6|station = 1 / station = 2
+6: station = 1 / station = 2
 p:7:1: this is no TOML: duplicate key
   in the line: station = 2
 
-8|[[asset.rule]
+8: [[asset.rule]
 p:8:14: this is no TOML: unclosed array table, expected `]]`; write [[asset]] and [[asset.rule]] with two brackets each time
   in the line: [[asset.rule]
 
-10|action = true
-p:10:1: POLL `action` is the boolean true, and has to be a text between quotation marks
+10: action = true
+p:10:1: asset 1 "pump", rule 1 "poll": `action` is the boolean true, and has to be a text between quotation marks
   an action is "allow" or "refuse"
 
-17|groups = ["0"] / groups = ["1"]
+17: groups = ["0"] / groups = ["1"]
 p:18:1: this is no TOML: duplicate key
   in the line: groups = ["1"]
 
-18|points = ["40..49", # a list in lines / "x"]
-p:18:1: SET entry 2 of `points` is the text "x": it is no number
+18: points = ["40..49", # a list in lines / "x"]
+p:18:1: asset 1 "pump", rule 2 "set": entry 2 of `points` is the text "x": it is no number
   points are 1 to 64 numbers or ranges from 0 to 4294967295, as points = ["7", "40..49"]
 
-18|points = """ / points = 1"""
-p:18:1: SET `points` is the text "points = 1", and has to be a list of texts
+18: points = """ / points = 1"""
+p:18:1: asset 1 "pump", rule 2 "set": `points` is the text "points = 1", and has to be a list of texts
   points are 1 to 64 numbers or ranges from 0 to 4294967295, as points = ["7", "40..49"]
 
-16|codes = [MANY]
-p:16:1: SET `codes` has 65 entries
+16: codes = [ * 65 1, * ]
+p:16:1: asset 1 "pump", rule 2 "set": `codes` has 65 entries
   codes are 1 to 64 whole numbers from 0 to 255, as codes = [3, 16]
 
-8|[[ asset . rule ]] / points = [40]
-p: POLL entry 1 of `points` is the number 40, and has to be a text between quotation marks
+8: [[ asset . rule ]] / points = [40]
+p: asset 1 "pump", rule 1 "poll": entry 1 of `points` is the number 40, and has to be a text between quotation marks
   points are 1 to 64 numbers or ranges from 0 to 4294967295, as points = ["7", "40..49"]
 
-11|codes = [3] / values = """ / [[asset.rule]] / codes = 1"""
-p:12:1: POLL `values` is the text "[[asset.rule]]\ncodes = 1", and has to be a list of texts
-  values are 1 to 64 numbers or ranges from -2147483648 to 4294967295, as values = ["-5..5"]"#;
+11: codes = [3] / values = """ / [[asset.rule]] / codes = 1"""
+p:12:1: asset 1 "pump", rule 1 "poll": `values` is the text "[[asset.rule]]\ncodes = 1", and has to be a list of texts
+  values are 1 to 64 numbers or ranges from -2147483648 to 4294967295, as values = ["-5..5"]
 
-/// The policy with a line changed.
-fn policy_text(alloc: Global, number: &str, change: &str) -> Result<String, AllocError> {
-    let mut text = String::new(alloc);
-    for line in LINES.lines() {
-        let (own, old) = line.split_once("|").unwrap_or(("", line));
-        if own == number {
-            push_parts(&mut text, change)?;
-        } else {
-            push_parts(&mut text, old)?;
-        }
+text: version = 1 / asset = [{ name = "A" }]
+p: asset 1 "A": `name` is "A": it has capital letters
+  a name has 1 to 32 of the letters a to z, the digits, _ and -, as name = "pump""#;
+
+/// The message about a policy that is refused.
+pub(super) fn message(alloc: Global, changes: &str) -> Result<String, Fail> {
+    let octets = policy_octets(alloc, LINES, changes)?;
+    match read_policy(alloc, &octets) {
+        Ok(_) => Ok(String::from_str(alloc, "ok")?),
+        Err(PolicyFault::Refused(refusal)) => Ok(policy_message(alloc, "p", &octets, &refusal)?),
+        Err(PolicyFault::NoMemory) => Err(AllocError.into()),
     }
-    Ok(text)
-}
-
-/// Lines, which stand between ` / `.
-fn push_parts(text: &mut String, lines: &str) -> Result<(), AllocError> {
-    for line in lines.split(" / ") {
-        push_part(text, line)?;
-        text.push_str("\n")?;
-    }
-    Ok(())
-}
-
-/// A line, with 65 numbers in place of `MANY`.
-fn push_part(text: &mut String, part: &str) -> Result<(), AllocError> {
-    let Some((front, rest)) = part.split_once("MANY") else {
-        return text.push_str(part);
-    };
-    text.push_str(front)?;
-    for _ in 0..65 {
-        text.push_str("1, ")?;
-    }
-    text.push_str(rest)
-}
-
-/// What a short name stands for.
-fn heading(word: &str) -> Option<&'static str> {
-    match word {
-        "PUMP" => Some("asset 1 \"pump\""),
-        "POLL" => Some("asset 1 \"pump\", rule 1 \"poll\""),
-        "SET" => Some("asset 1 \"pump\", rule 2 \"set\""),
-        "RTU" => Some("asset 2 \"rtu\""),
-        _ => None,
-    }
-}
-
-/// A message with the short name behind its place written out.
-fn wanted(alloc: Global, short: &str) -> Result<String, AllocError> {
-    let (place, rest) = short.split_once(": ").unwrap_or((short, ""));
-    let (word, more) = rest.split_once(" ").unwrap_or((rest, ""));
-    match heading(word) {
-        Some(heading) => format!(in alloc; "{place}: {heading}: {more}"),
-        None => String::from_str(alloc, short),
-    }
-}
-
-fn message(alloc: Global, text: &str) -> Result<String, AllocError> {
-    match read_policy(alloc, text.as_bytes()) {
-        Ok(_) => String::from_str(alloc, "ok"),
-        Err(PolicyFault::Refused(refusal)) => policy_message(alloc, "p", text.as_bytes(), &refusal),
-        Err(PolicyFault::NoMemory) => Err(AllocError),
-    }
-}
-
-fn check_row(rt: &impl Abort, alloc: Global, row: &str) -> Result<(), AllocError> {
-    let (change, short) = row.split_once("\n").unwrap_or((row, ""));
-    let (number, change) = change.split_once("|").unwrap_or((change, ""));
-    let text = policy_text(alloc, number, change)?;
-    let got = message(alloc, text.as_str())?;
-    let want = wanted(alloc, short)?;
-    assert!(rt; got.as_str() == want.as_str(), "{row}\n{got}");
-    Ok(())
-}
-
-#[test]
-fn says_what_is_wrong(rt: HostRuntime) -> Result<(), Fail> {
-    let alloc = rt.alloc();
-    for row in ROWS.split("\n\n") {
-        check_row(&rt, alloc, row)?;
-    }
-    Ok(())
-}
-
-#[test]
-fn tells_no_place_that_it_cannot_tell(rt: HostRuntime) -> Result<(), Fail> {
-    let alloc = rt.alloc();
-    let inline = message(alloc, "version = 1\nasset = [{ name = \"A\" }]\n")?;
-    let want = "p: asset 1 \"A\": `name` is \"A\": it has capital letters
-  a name has 1 to 32 of the letters a to z, the digits, _ and -, as name = \"pump\"";
-    assert!(rt; inline.as_str() == want, "{inline}");
-    Ok(())
 }

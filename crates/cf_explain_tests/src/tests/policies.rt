@@ -1,10 +1,10 @@
 //! Texts of policies and what they mean, by hand from the rules of the language.
+use crate::tests::changes::policy_octets;
 use cf_policylang::{PolicyFault, read_policy};
 use std::alloc::{AllocError, Global};
-use std::process::Abort;
 use std::test::Fail;
 
-/// A policy that is read, with a word before each line that the cases below replace.
+/// A policy that is read, with a word before each line that the rows replace.
 const LINES: &str = r#"version: version = 1
 : [[asset]]
 name: name = "pump"
@@ -33,11 +33,8 @@ rtu.protocol: protocol = "dnp3"
 rtu.station: station = 10
 rtu.master: master = 1"#;
 
-// A case is `WORD: TEXT => ANSWER`: the policy with TEXT in place of that line, or two such with ` | ` between them,
-// or after `text` a whole text. ` / ` ends a line of TEXT, and `FRONT * N PART * END` repeats a part.
-
 /// Whole texts.
-const DOCUMENTS: &str = r#"text: => 3 version asset 0 rule 0
+pub(super) const DOCUMENTS: &str = r#"text: => 3 version asset 0 rule 0
 text: asset = [] => 3 version asset 0 rule 0
 text: Version = 1 / asset = [] => 3 version asset 0 rule 0
 text: version = 1 => 3 asset asset 0 rule 0
@@ -75,10 +72,12 @@ text: version = 1 / asset = 1.5 => 4 asset asset 0 rule 0
 text: version = 1 / asset = true => 4 asset asset 0 rule 0
 text: version = 1 / asset = 2026-01-01 => 4 asset asset 0 rule 0
 text: version = 1 / asset = [] / asset = [] => 1 - asset 0 rule 0
-text: version = 1 / asset = [] / [[asset]] => 1 - asset 0 rule 0"#;
+text: version = 1 / asset = [] / [[asset]] => 1 - asset 0 rule 0
+octets: efbbbf 76657273696f6e203d20310a 6173736574203d205b5d => ok
+octets: 76657273696f6e203d20310a 6173736574203d205b5d 2023 20ff => 1 - asset 0 rule 0"#;
 
 /// Each key of an asset: missing, of other kinds, and at its bounds.
-const ASSETS: &str = r#"version: version = 1 => ok
+pub(super) const ASSETS: &str = r#"version: version = 1 => ok
 master: colour = 1 => 2 - asset 1 rule 0
 master: master = 0 => 2 - asset 1 rule 0
 master: master = "x" => 2 - asset 1 rule 0
@@ -181,7 +180,7 @@ rtu.master: master = {} => 4 master asset 2 rule 0
 rtu.master: master = 1 / master = 1 => 1 - asset 0 rule 0"#;
 
 /// Each key of a rule: missing, of other kinds, and at its bounds.
-const RULES: &str = r#"poll.name: => 3 name asset 1 rule 1
+pub(super) const RULES: &str = r#"poll.name: => 3 name asset 1 rule 1
 poll.name: name = 1 => 4 name asset 1 rule 1
 poll.name: name = "" => 6 name asset 1 rule 1
 poll.name: name = "a b" => 6 name asset 1 rule 1
@@ -356,7 +355,8 @@ rtu.master: master = 1 / rule = 2026-01-01 => 4 rule asset 2 rule 0
 rtu.master: master = 1 / rule = [] / rule = [] => 1 - asset 0 rule 0"#;
 
 /// Two faults, of which the first test decides; and lines that only change together.
-const ORDER: &str = r#"version: version = 2 | master: colour = 1 => 9 version asset 0 rule 0
+pub(super) const ORDER: &str =
+    r#"version: version = 2 | master: colour = 1 => 9 version asset 0 rule 0
 version: version = 1 / colour = 1 | name: => 2 - asset 0 rule 0
 master: colour = 1 | name: => 2 - asset 1 rule 0
 name: name = "" | address: => 6 name asset 1 rule 0
@@ -385,7 +385,7 @@ rtu.master: master = -1 / rule = 1 => 6 master asset 2 rule 0
 rtu.protocol: protocol = "x" | rtu.master: => 6 protocol asset 2 rule 0"#;
 
 /// Lengths and counts at their bounds and past them.
-const LIMITS: &str = r#"name: name = " * 32 a * " => ok
+pub(super) const LIMITS: &str = r#"name: name = " * 32 a * " => ok
 name: name = " * 33 a * " => 6 name asset 1 rule 0
 set.name: name = " * 32 a * " => ok
 set.name: name = " * 33 a * " => 6 name asset 1 rule 2
@@ -405,88 +405,18 @@ rtu.master: master = 1 / rule = [ * 1024 {}, * ] => 3 name asset 2 rule 1
 rtu.master: master = 1 / rule = [ * 1025 {}, * ] => 8 rule asset 2 rule 0
 text: version = 1 / asset = [ * 256 {}, * ] => 3 name asset 1 rule 0
 text: version = 1 / asset = [ * 257 {}, * ] => 8 asset asset 0 rule 0
-text: version = 1 / asset = [] / #  * 4194278 x * => ok
-text: version = 1 / asset = [] / #  * 4194279 x * => 8 - asset 0 rule 0
+text: version = 1 / asset = [] / #  * 131071 xxxxxxxxxxxxxxxxxxxxxxxxxxxxxxxx * xxxxxx => ok
+text: version = 1 / asset = [] / #  * 131071 xxxxxxxxxxxxxxxxxxxxxxxxxxxxxxxx * xxxxxxx => 8 - asset 0 rule 0
 text: version = 1 / asset = [ * 257 {}, * 1] => 4 asset asset 0 rule 0
 rtu.master: master = 1 / rule = [ * 1025 {}, * 1] => 4 rule asset 2 rule 0
-text: = * 4194304 x * => 8 - asset 0 rule 0"#;
+text: = * 131072 xxxxxxxxxxxxxxxxxxxxxxxxxxxxxxxx * => 8 - asset 0 rule 0"#;
 
-/// Adds a text, with its line ends and its repetition written out, and ends the line.
-fn push_text(out: &mut String, text: &str) -> Result<(), AllocError> {
-    let Some((front, rest)) = text.split_once(" * ") else {
-        return push_lines(out, text);
-    };
-    let (count, rest) = rest.split_once(' ').unwrap_or((rest, ""));
-    let (part, end) = rest.split_once(" *").unwrap_or((rest, ""));
-    push_lines(out, front)?;
-    out.pop();
-    for _ in 0..count.parse::<usize>().unwrap_or(0) {
-        out.push_str(part)?;
+/// What a text means: `ok`, or its refusal.
+pub(super) fn meaning(alloc: Global, changes: &str) -> Result<String, Fail> {
+    let octets = policy_octets(alloc, LINES, changes)?;
+    match read_policy(alloc, &octets) {
+        Ok(_) => Ok(String::from_str(alloc, "ok")?),
+        Err(PolicyFault::Refused(refusal)) => Ok(format!(in alloc; "{refusal}")?),
+        Err(PolicyFault::NoMemory) => Err(AllocError.into()),
     }
-    push_lines(out, end.trim_start())
-}
-
-fn push_lines(out: &mut String, text: &str) -> Result<(), AllocError> {
-    for line in text.split(" / ") {
-        out.push_str(line)?;
-        out.push_str("\n")?;
-    }
-    Ok(())
-}
-
-/// The text that a case has in place of the line with this word.
-fn replacement<'a>(changes: &'a str, word: &str, line: &'a str) -> &'a str {
-    for change in changes.split(" | ") {
-        if let Some((place, text)) = change.split_once(':') {
-            if place == word {
-                return text.trim_start();
-            }
-        }
-    }
-    line
-}
-
-fn policy_text(alloc: Global, changes: &str) -> Result<String, AllocError> {
-    let mut text = String::new(alloc);
-    if let Some(whole) = changes.strip_prefix("text:") {
-        push_text(&mut text, whole.trim_start())?;
-        return Ok(text);
-    }
-    for line in LINES.lines() {
-        if let Some((word, old)) = line.split_once(':') {
-            push_text(&mut text, replacement(changes, word, old.trim_start()))?;
-        }
-    }
-    Ok(text)
-}
-
-fn answer(alloc: Global, bytes: &[u8]) -> Result<String, AllocError> {
-    match read_policy(alloc, bytes) {
-        Ok(_) => String::from_str(alloc, "ok"),
-        Err(PolicyFault::Refused(refusal)) => format!(in alloc; "{refusal}"),
-        Err(PolicyFault::NoMemory) => String::from_str(alloc, "no memory"),
-    }
-}
-
-fn check_case(rt: &impl Abort, alloc: Global, case: &str) -> Result<(), AllocError> {
-    let (changes, want) = case.split_once(" => ").unwrap_or((case, ""));
-    let text = policy_text(alloc, changes)?;
-    let got = answer(alloc, text.as_bytes())?;
-    assert!(rt; got.as_str() == want, "{case}: {got}");
-    Ok(())
-}
-
-#[test]
-fn tells_what_texts_mean(rt: HostRuntime) -> Result<(), Fail> {
-    let alloc = rt.alloc();
-    for table in [DOCUMENTS, ASSETS, RULES, ORDER, LIMITS] {
-        for case in table.lines() {
-            check_case(&rt, alloc, case)?;
-        }
-    }
-    let marked = answer(alloc, b"\xEF\xBB\xBFversion = 1\nasset = []")?;
-    assert!(rt; marked.as_str() == "ok");
-    let no_text = answer(alloc, b"version = 1\nasset = [] # \xFF")?;
-    assert!(rt; no_text.as_str() == "1 - asset 0 rule 0");
-    Ok(())
 }

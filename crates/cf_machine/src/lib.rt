@@ -1,0 +1,12 @@
+//! The outside as the machine has it: its files, a writer as a sink, and a pair of streams over TCP.
+#![tactic(auto)]
+
+mod files;
+mod link;
+mod peer;
+mod sink;
+mod streams;
+
+pub use files::{Fault, Gather, RealFiles, Twins};
+pub use link::{LinkFault, LinkPair, Part};
+pub use sink::RealSink;
