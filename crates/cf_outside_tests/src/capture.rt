@@ -1,13 +1,13 @@
 //! Headers and records of captures by hand, and the front of a capture that another program wrote.
 
-use crate::lines::{parted, same};
+use crate::lines::{octets, parted, same};
 use cf_pcap::{
     Header, HeaderRefusal, RecordAnswer, read_header, read_record, write_header, write_record_head,
 };
-use cf_samples::rows::{hex, octets, row};
+use cf_samples::rows::row;
 use cf_view::LinkKind;
-use std::alloc::{AllocError, Global};
-use std::test::Fail;
+use std::alloc::Global;
+use std::process::Abort;
 
 /// A header, and what it says or the first test that it fails; or a record in a file of this byte order (`nanos`: the high octet
 /// first, fractions in nanoseconds), and its stamp, the length of its body and its own, or how many octets are needed. The last
@@ -51,11 +51,7 @@ nanos 00000002 000007cf 00000000 00000000 = 2000001 0 16
 nanos 00000002 000007d0 00000000 00000000 = 2000002 0 16
 ";
 
-fn header_text(alloc: Global, octets: &[u8]) -> Result<String, AllocError> {
-    let header = match read_header(octets) {
-        Ok(header) => header,
-        Err(refusal) => return String::from_str(alloc, refusal_word(refusal)),
-    };
+fn header_text(rt: &impl Abort, alloc: Global, header: Header) -> String {
     let order = if header.big_endian { "big" } else { "little" };
     let fraction = if header.nanos {
         "nanoseconds"
@@ -66,7 +62,7 @@ fn header_text(alloc: Global, octets: &[u8]) -> Result<String, AllocError> {
         LinkKind::Ethernet => "ethernet",
         LinkKind::RawIp => "raw",
     };
-    format!(in alloc; "{order} {fraction} {link}")
+    format!(in alloc; "{order} {fraction} {link}").expect(rt, "memory")
 }
 
 fn refusal_word(refusal: HeaderRefusal) -> &'static str {
@@ -78,67 +74,68 @@ fn refusal_word(refusal: HeaderRefusal) -> &'static str {
     }
 }
 
-fn record_text(alloc: Global, order: &str, octets: &[u8]) -> Result<String, AllocError> {
+fn record_text(rt: &impl Abort, alloc: Global, record: &RecordAnswer<'_>) -> String {
+    let text = match record {
+        RecordAnswer::Whole { stamp, body, used } => {
+            format!(in alloc; "{stamp} {} {used}", body.len())
+        }
+        RecordAnswer::Need(size) => format!(in alloc; "need {size}"),
+        RecordAnswer::TooLong => String::from_str(alloc, "too long"),
+    };
+    text.expect(rt, "memory")
+}
+
+fn check_header(rt: &impl Abort, alloc: Global, line: &str, octets: &[u8], wanted: &str) {
+    match read_header(octets) {
+        Ok(header) => same(rt, line, header_text(rt, alloc, header).as_str(), wanted),
+        Err(refusal) => same(rt, line, refusal_word(refusal), wanted),
+    }
+}
+
+fn check_record(
+    rt: &impl Abort,
+    alloc: Global,
+    line: &str,
+    order: &str,
+    octets: &[u8],
+    wanted: &str,
+) {
     let nanos = order == "nanos";
     let header = Header {
         big_endian: nanos || order == "big",
         nanos,
         link: LinkKind::RawIp,
     };
-    match read_record(&header, octets) {
-        RecordAnswer::Whole { stamp, body, used } => {
-            format!(in alloc; "{stamp} {} {used}", body.len())
-        }
-        RecordAnswer::Need(size) => format!(in alloc; "need {size}"),
-        RecordAnswer::TooLong => String::from_str(alloc, "too long"),
-    }
-}
-
-fn read_text(alloc: Global, given: &str) -> Result<String, Fail> {
-    let (what, spelled) = parted(given);
-    let octets = octets(alloc, spelled)?;
-    let text = if what == "header" {
-        header_text(alloc, octets.as_slice())
-    } else {
-        record_text(alloc, what, octets.as_slice())
-    };
-    Ok(text?)
+    let found = record_text(rt, alloc, &read_record(&header, octets));
+    same(rt, line, found.as_str(), wanted);
 }
 
 #[test]
-fn reads_and_refuses_headers_and_records(rt: HostRuntime) -> Result<(), Fail> {
+fn reads_and_refuses_headers_and_records(rt: HostRuntime) {
     for line in READ.lines() {
         if let Some((given, wanted)) = row(line) {
-            let found = read_text(rt.alloc(), given)?;
-            same(&rt, line, found.as_str(), wanted);
+            let (what, spelled) = parted(given);
+            let octets = octets(&rt, rt.alloc(), spelled);
+            if what == "header" {
+                check_header(&rt, rt.alloc(), line, octets.as_slice(), wanted);
+            } else {
+                check_record(&rt, rt.alloc(), line, what, octets.as_slice(), wanted);
+            }
         }
     }
-    Ok(())
 }
 
 #[test]
-fn writes_a_header_and_the_head_of_a_record(rt: HostRuntime) -> Result<(), Fail> {
+fn writes_a_header_and_the_head_of_a_record(rt: HostRuntime) {
     let mut header = [0; 24];
     write_header(&mut header);
-    let found = hex(rt.alloc(), &header)?;
-    let wanted = "d4c3b2a10200040000000000000000000000040065000000";
-    same(&rt, "header", found.as_str(), wanted);
+    assert!(rt;
+        &header
+            == b"\xd4\xc3\xb2\xa1\x02\x00\x04\x00\x00\x00\x00\x00\x00\x00\x00\x00\x00\x00\x04\x00\x65\x00\x00\x00"
+    );
     let mut head = [0; 16];
     write_record_head(4_294_967_295_999_999, 262_144, &mut head);
-    let found = hex(rt.alloc(), &head)?;
-    same(
-        &rt,
-        "the last moment",
-        found.as_str(),
-        "ffffffff3f420f000000040000000400",
-    );
+    assert!(rt; &head == b"\xff\xff\xff\xff\x3f\x42\x0f\x00\x00\x00\x04\x00\x00\x00\x04\x00");
     write_record_head(1_010_000, 44, &mut head);
-    let found = hex(rt.alloc(), &head)?;
-    same(
-        &rt,
-        "a record of 44",
-        found.as_str(),
-        "01000000102700002c0000002c000000",
-    );
-    Ok(())
+    assert!(rt; &head == b"\x01\x00\x00\x00\x10\x27\x00\x00\x2c\x00\x00\x00\x2c\x00\x00\x00");
 }

@@ -1,13 +1,14 @@
 //! Packets by hand, packets whose sums a program in Python filled in, and a record of a capture that it wrote.
 
-use crate::lines::{parted, same};
+use crate::lines::{call_in, hex, octets, parted, same, size};
 use arrayvec::{ArrayString, ArrayVec};
-use cf_packet::{Packet, PacketRefusal, position, read_packet, sequence_number, write_packet};
-use cf_samples::rows::{hex, octets, row};
+use cf_packet::{
+    ACK, FIN, Packet, PacketRefusal, position, read_packet, sequence_number, write_packet,
+};
+use cf_samples::rows::row;
 use cf_view::{Endpoint, LinkKind, View, push_endpoint};
-use std::alloc::{AllocError, Global};
+use std::alloc::Global;
 use std::process::Abort;
-use std::test::Fail;
 
 /// Blocks: what stands before the packet of a record, and the octets of one. Then the rows of its block: how many of the octets
 /// are there and which are changed, each as `PLACE:OCTET`, and the flags, the maximum segment size and the length of the text, or
@@ -125,19 +126,23 @@ raw 450000310000400040063ac800000000000000000000000000000000000000005000afdc000d
 49 = 00 None 9
 49 48:23 = bad tcp sum";
 
-fn changed(alloc: Global, spelled: &str, changes: &str) -> Result<Vec<u8>, Fail> {
-    let mut all = octets(alloc, spelled)?;
-    for change in changes.split_whitespace() {
-        let Some((place, octet)) = change.split_once(':') else {
-            all.truncate(change.parse::<usize>()?);
-            continue;
-        };
-        let octet = u8::from_str_radix(octet, 16)?;
-        if let Some(there) = all.as_mut_slice().get_mut(place.parse::<usize>()?) {
-            *there = octet;
-        }
+/// Makes a change, or cuts the octets to a length.
+fn change(rt: &impl Abort, all: &mut Vec<u8>, change: &str) {
+    let Some((place, octet)) = change.split_once(':') else {
+        return all.truncate(size(rt, change));
+    };
+    let octet = u8::from_str_radix(octet, 16).expect(rt, change);
+    if let Some(there) = all.as_mut_slice().get_mut(size(rt, place)) {
+        *there = octet;
     }
-    Ok(all)
+}
+
+fn changed(rt: &impl Abort, alloc: Global, spelled: &str, changes: &str) -> Vec<u8> {
+    let mut all = octets(rt, alloc, spelled);
+    for word in changes.split_whitespace() {
+        change(rt, &mut all, word);
+    }
+    all
 }
 
 fn refusal_word(refusal: PacketRefusal) -> &'static str {
@@ -161,66 +166,55 @@ fn link_of(word: &str) -> LinkKind {
     }
 }
 
-fn read_text(alloc: Global, link: &LinkKind, octets: &[u8]) -> Result<String, AllocError> {
+fn short_text(rt: &impl Abort, alloc: Global, packet: &Packet<'_>) -> String {
+    let text = packet.text.len();
+    format!(in alloc; "{:02x} {:?} {text}", packet.flags, packet.mss).expect(rt, "memory")
+}
+
+fn check(rt: &impl Abort, alloc: Global, line: &str, link: &LinkKind, octets: &[u8], wanted: &str) {
     match read_packet(link, octets) {
-        Ok(packet) => format!(in alloc;
-            "{:02x} {:?} {}",
-            packet.flags,
-            packet.mss,
-            packet.text.len()
-        ),
-        Err(refusal) => String::from_str(alloc, refusal_word(refusal)),
+        Ok(packet) => same(rt, line, short_text(rt, alloc, &packet).as_str(), wanted),
+        Err(refusal) => same(rt, line, refusal_word(refusal), wanted),
     }
 }
 
 #[test]
-fn reads_and_refuses_packets(rt: HostRuntime) -> Result<(), Fail> {
+fn reads_and_refuses_packets(rt: HostRuntime) {
     for block in READ.split("\n\n") {
         let (head, rows) = block.split_once('\n').unwrap_or((block, ""));
         let (link, spelled) = parted(head);
         let link = link_of(link);
         for line in rows.lines() {
-            let (changes, wanted) = row(line).unwrap_or((line, ""));
-            let octets = changed(rt.alloc(), spelled, changes)?;
-            let found = read_text(rt.alloc(), &link, octets.as_slice())?;
-            same(&rt, line, found.as_str(), wanted);
+            let (changes, wanted) = call_in(line);
+            let octets = changed(&rt, rt.alloc(), spelled, changes);
+            check(&rt, rt.alloc(), line, &link, octets.as_slice(), wanted);
         }
     }
-    Ok(())
 }
 
-/// The record that a program in Python wrote: its two ends, sequence number, acknowledgment number, flags, window, maximum
-/// segment size and text.
+/// The record that a program in Python wrote.
 const FOREIGN: &str =
     "02000000000902000000000508004500002b00004000400626b80a0900020a0800030964f0abdf122bd8b1095a28501103e8c3430000616263";
 
-fn packet_text(alloc: Global, packet: &Packet<'_>) -> Result<String, Fail> {
+fn ends_text(packet: &Packet<'_>) -> ArrayString<64> {
     let mut ends = ArrayString::<64>::new();
     push_endpoint(&mut ends, &packet.source);
     ends.push_str(" ");
     push_endpoint(&mut ends, &packet.dest);
-    let text = hex(alloc, packet.text)?;
-    Ok(format!(in alloc;
-        "{} {} {} {:02x} {} {:?} {text}",
-        ends.as_str(),
-        packet.seq,
-        packet.ack,
-        packet.flags,
-        packet.window,
-        packet.mss
-    )?)
+    ends
 }
 
 #[test]
-fn reads_what_another_program_wrote(rt: HostRuntime) -> Result<(), Fail> {
-    let octets = octets(rt.alloc(), FOREIGN)?;
+fn reads_what_another_program_wrote(rt: HostRuntime) {
+    let octets = octets(&rt, rt.alloc(), FOREIGN);
     let Ok(packet) = read_packet(&LinkKind::Ethernet, octets.as_slice()) else {
-        return Ok(same(&rt, FOREIGN, "none", "a packet"));
+        return same(&rt, FOREIGN, "none", "a packet");
     };
-    let found = packet_text(rt.alloc(), &packet)?;
-    let wanted = "10.9.0.2:2404 10.8.0.3:61611 3742510040 2970180136 11 1000 None 616263";
-    same(&rt, FOREIGN, found.as_str(), wanted);
-    Ok(())
+    let ends = ends_text(&packet);
+    same(&rt, FOREIGN, ends.as_str(), "10.9.0.2:2404 10.8.0.3:61611");
+    assert!(rt; packet.seq == 3_742_510_040 && packet.ack == 2_970_180_136);
+    assert!(rt; packet.flags == FIN | ACK && packet.window == 1000);
+    assert!(rt; packet.mss.is_none() && packet.text == b"abc".as_slice());
 }
 
 /// Blocks: the address and port of the source and of the destination, the sequence number, the acknowledgment number, the flags,
@@ -253,9 +247,8 @@ ffff3ad10000 000000000000 00000000 00000000 00 0000 0000
 ffff3ad20000 000000000000 00000000 00000000 00 0000 0000
  = 45000028000040004006fffeffff3ad2000000000000000000000000000000005000000075130000";
 
-fn written(rt: &impl Abort, alloc: Global, given: &str) -> Result<String, Fail> {
-    let octets = octets(alloc, given)?;
-    let fields = View::one(octets.as_slice());
+fn check_written(rt: &impl Abort, alloc: Global, row: &str, octets: &[u8], wanted: &str) {
+    let fields = View::one(octets);
     assert!(rt; fields.len() >= 25 && fields.len() <= 1485);
     let mss = fields.u16_be(23);
     let packet = Packet {
@@ -272,22 +265,21 @@ fn written(rt: &impl Abort, alloc: Global, given: &str) -> Result<String, Fail> 
         flags: fields.at(20),
         window: fields.u16_be(21),
         mss: if mss == 0 { None } else { Some(mss) },
-        text: &octets.as_slice()[25..],
+        text: &octets[25..],
     };
     assert!(rt; packet.flags < 64 && (packet.mss.is_none() || packet.text.is_empty()));
     let mut out = ArrayVec::new();
     write_packet(&packet, &mut out);
-    Ok(hex(alloc, out.as_slice())?)
+    same(rt, row, hex(rt, alloc, out.as_slice()).as_str(), wanted);
 }
 
 #[test]
-fn writes_packets(rt: HostRuntime) -> Result<(), Fail> {
+fn writes_packets(rt: HostRuntime) {
     for block in WRITTEN.split("\n\n") {
-        let (given, wanted) = row(block).unwrap_or((block, ""));
-        let found = written(&rt, rt.alloc(), given)?;
-        same(&rt, block, found.as_str(), wanted);
+        let (given, wanted) = call_in(block);
+        let octets = octets(&rt, rt.alloc(), given);
+        check_written(&rt, rt.alloc(), block, octets.as_slice(), wanted);
     }
-    Ok(())
 }
 
 /// A sequence number, the number of the SYN, a base and the place nearest to it; or the number of the SYN, a place in eight octets
@@ -312,30 +304,28 @@ number ffffffff 00000000 ffffffff = 4294967295
 number ffffffff 00000001 00000000 = 0
 ";
 
-fn counted(rt: &impl Abort, alloc: Global, given: &str) -> Result<String, Fail> {
-    let (what, spelled) = parted(given);
-    let octets = octets(alloc, spelled)?;
-    let octets = View::one(octets.as_slice());
+/// The number that a row's three numbers of four octets are read to.
+fn counted(rt: &impl Abort, what: &str, octets: &View<'_>) -> i64 {
     assert!(rt; octets.len() == 12);
     let (first, second, third) = (octets.u32_be(0), octets.u32_be(4), octets.u32_be(8));
-    let found = if what == "place" {
+    if what == "place" {
         assert!(rt; third <= 0x8000_0000);
-        position(first, second, i64::from(third))
-    } else {
-        let place = (u64::from(second) << 32) + u64::from(third);
-        assert!(rt; place <= 0x1_0000_0000);
-        i64::from(sequence_number(first, place))
-    };
-    Ok(format!(in alloc; "{found}")?)
+        return position(first, second, i64::from(third));
+    }
+    let place = u64::from(second) * 0x1_0000_0000 + u64::from(third);
+    assert!(rt; place <= 0x1_0000_0000);
+    i64::from(sequence_number(first, place))
 }
 
 #[test]
-fn counts_places_and_sequence_numbers(rt: HostRuntime) -> Result<(), Fail> {
+fn counts_places_and_sequence_numbers(rt: HostRuntime) {
     for line in PLACES.lines() {
         if let Some((given, wanted)) = row(line) {
-            let found = counted(&rt, rt.alloc(), given)?;
+            let (what, spelled) = parted(given);
+            let octets = octets(&rt, rt.alloc(), spelled);
+            let found = counted(&rt, what, &View::one(octets.as_slice()));
+            let found = format!(in rt.alloc(); "{found}").expect(&rt, "memory");
             same(&rt, line, found.as_str(), wanted);
         }
     }
-    Ok(())
 }

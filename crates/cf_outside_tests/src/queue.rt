@@ -2,12 +2,11 @@
 ghost use Rattle.std.specs.Prelude.{◌≤◌, length};
 ghost use Rattle.cf_outq.specs.SendQueue.{IsUnacked};
 
-use crate::lines::{call_in, parted, same};
+use crate::lines::{call_in, octets, parted, same, size};
 use cf_outq::{Outq, Piece};
-use cf_samples::rows::{octets, row};
-use std::alloc::{AllocError, Global};
+use cf_samples::rows::row;
+use std::alloc::Global;
 use std::process::Abort;
-use std::test::Fail;
 
 /// Blocks, each on a new queue: calls, and what they answer. A piece is `PLACE+BYTES`, with `end` where End follows. The octets are
 /// those of a Modbus write of one register, or the first of them.
@@ -133,20 +132,25 @@ next 6 = none
 first 6 = 0+6
 length = 13";
 
-fn text(alloc: Global, piece: Option<Piece>) -> Result<String, AllocError> {
-    let Some(piece) = piece else {
-        return String::from_str(alloc, "none");
+fn text(rt: &impl Abort, alloc: Global, piece: Option<Piece>) -> String {
+    let text = match piece {
+        Some(piece) => {
+            let end = if piece.end { " end" } else { "" };
+            format!(in alloc; "{}+{}{end}", piece.at, piece.len)
+        }
+        None => String::from_str(alloc, "none"),
     };
-    let end = if piece.end { " end" } else { "" };
-    format!(in alloc; "{}+{}{end}", piece.at, piece.len)
+    text.expect(rt, "memory")
 }
 
-fn push(rt: &impl Abort, alloc: Global, queue: &mut Outq, spelled: &str) -> Result<(), Fail> {
-    let octets = octets(alloc, spelled)?;
-    assert!(rt; !queue.is_ended() && queue.length() < 1_000_000);
-    assert!(rt; octets.len() <= queue.room());
+fn new_queue(rt: &impl Abort, alloc: Global) -> Outq {
+    Outq::new(alloc).expect(rt, "memory")
+}
+
+fn push(rt: &impl Abort, alloc: Global, queue: &mut Outq, spelled: &str) {
+    let octets = octets(rt, alloc, spelled);
+    assert!(rt; !queue.is_ended() && queue.length() < 1_000_000 && octets.len() <= queue.room());
     queue.push(octets.as_slice());
-    Ok(())
 }
 
 /// A number that the queue tells.
@@ -174,42 +178,41 @@ fn change(rt: &impl Abort, queue: &mut Outq, verb: &str, number: i64) {
     }
 }
 
-fn called(rt: &impl Abort, alloc: Global, queue: &mut Outq, call: &str) -> Result<String, Fail> {
-    let (verb, rest) = parted(call);
-    match verb {
-        "next" | "first" => {
-            let mss = rest.parse::<usize>()?;
-            assert!(rt; mss > 0);
-            let piece = if verb == "next" {
-                queue.next_piece(mss)
-            } else {
-                queue.first_piece(mss)
-            };
-            Ok(text(alloc, piece)?)
-        }
-        "push" => {
-            push(rt, alloc, queue, rest)?;
-            Ok(String::new(alloc))
-        }
-        "shown" | "acked" | "end" => {
-            change(rt, queue, verb, rest.parse::<i64>().unwrap_or(0));
-            Ok(String::new(alloc))
-        }
-        _ => Ok(format!(in alloc; "{}", told(queue, verb))?),
+fn piece(rt: &impl Abort, queue: &mut Outq, verb: &str, mss: usize) -> Option<Piece> {
+    assert!(rt; mss > 0);
+    if verb == "next" {
+        queue.next_piece(mss)
+    } else {
+        queue.first_piece(mss)
     }
 }
 
+/// Makes the call of a line, and compares what it answers.
+fn call(rt: &impl Abort, alloc: Global, queue: &mut Outq, line: &str) {
+    let (call, wanted) = call_in(line);
+    let (verb, rest) = parted(call);
+    let found = match verb {
+        "next" | "first" => {
+            let piece = piece(rt, queue, verb, size(rt, rest));
+            text(rt, alloc, piece)
+        }
+        "push" => return push(rt, alloc, queue, rest),
+        "shown" | "acked" | "end" => {
+            return change(rt, queue, verb, rest.parse::<i64>().unwrap_or(0));
+        }
+        _ => format!(in alloc; "{}", told(queue, verb)).expect(rt, "memory"),
+    };
+    same(rt, line, found.as_str(), wanted);
+}
+
 #[test]
-fn gives_letters_in_pieces(rt: HostRuntime) -> Result<(), Fail> {
+fn gives_letters_in_pieces(rt: HostRuntime) {
     for block in QUEUES.split("\n\n") {
-        let mut queue = Outq::new(rt.alloc())?;
+        let mut queue = new_queue(&rt, rt.alloc());
         for line in block.lines() {
-            let (call, wanted) = call_in(line);
-            let found = called(&rt, rt.alloc(), &mut queue, call)?;
-            same(&rt, line, found.as_str(), wanted);
+            call(&rt, rt.alloc(), &mut queue, line);
         }
     }
-    Ok(())
 }
 
 /// Pushes what there is room for, and End after the last byte.
@@ -261,44 +264,55 @@ fn look_back(rt: &impl Abort, queue: &Outq, mss: usize, acked: i64, bytes: &[u8]
 }
 
 /// The most bytes of a piece, how many letters are acknowledged at once, and how many letters of
-/// 400,000 bytes and End are sent, acknowledged and left.
+/// 400,000 bytes and End there are, are sent, and are left.
 const ROUND: &str = "
-1460 30001 = 400001 400001 0
-997 131073 = 400001 400001 0
-64 7777 = 400001 400001 0
-1 131072 = 400001 400001 0
+1460 30001 = [400001, 400001, 0]
+997 131073 = [400001, 400001, 0]
+64 7777 = [400001, 400001, 0]
+1 131072 = [400001, 400001, 0]
 ";
 
 /// The bytes go three times round the ring, in pieces that are acknowledged step by step.
-fn round(rt: &impl Abort, alloc: Global, given: &str, bytes: &[u8]) -> Result<String, Fail> {
-    let (mss, step) = parted(given);
-    let mss = mss.parse::<usize>()?;
-    let step = step.parse::<i64>()?;
+fn round(rt: &impl Abort, queue: &mut Outq, mss: usize, step: i64, bytes: &[u8]) {
     let mut out = [0; 1460];
-    let mut queue = Outq::new(alloc)?;
     let (mut pushed, mut acked) = (0, 0i64);
     for _round in 0..100 {
         assert!(rt; pushed <= bytes.len());
-        pushed += push_some(&mut queue, &bytes[pushed..]);
+        pushed += push_some(queue, &bytes[pushed..]);
         queue.shown(acked.saturating_add(100_000));
-        take_pieces(rt, &mut queue, mss, bytes, &mut out);
-        look_back(rt, &queue, mss, acked, bytes, &mut out);
+        take_pieces(rt, queue, mss, bytes, &mut out);
+        look_back(rt, queue, mss, acked, bytes, &mut out);
         acked = queue.sent().min(acked.saturating_add(step));
         queue.acked(acked);
     }
-    Ok(format!(in alloc; "{} {acked} {}", queue.sent(), queue.unacked())?)
+}
+
+fn round_text(rt: &impl Abort, alloc: Global, given: &str, bytes: &[u8]) -> String {
+    let (mss, step) = parted(given);
+    let mut queue = new_queue(rt, alloc);
+    round(
+        rt,
+        &mut queue,
+        size(rt, mss),
+        step.parse::<i64>().unwrap_or(0),
+        bytes,
+    );
+    let counts = [queue.length(), queue.sent(), queue.unacked()];
+    format!(in alloc; "{counts:?}").expect(rt, "memory")
+}
+
+fn long_text(rt: &impl Abort, alloc: Global) -> Vec<u8> {
+    let bytes = (0..400_000u32).map(|i| (i % 251) as u8).collect(alloc);
+    bytes.expect(rt, "memory")
 }
 
 #[test]
-fn goes_round_the_ring(rt: HostRuntime) -> Result<(), Fail> {
-    let bytes: Vec<u8> = (0..400_000u32)
-        .map(|i| (i % 251) as u8)
-        .collect(rt.alloc())?;
+fn goes_round_the_ring(rt: HostRuntime) {
+    let bytes = long_text(&rt, rt.alloc());
     for line in ROUND.lines() {
         if let Some((given, wanted)) = row(line) {
-            let found = round(&rt, rt.alloc(), given, bytes.as_slice())?;
+            let found = round_text(&rt, rt.alloc(), given, bytes.as_slice());
             same(&rt, line, found.as_str(), wanted);
         }
     }
-    Ok(())
 }

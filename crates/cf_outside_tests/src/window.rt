@@ -1,11 +1,9 @@
 //! Windows by hand: what was offered, and what was taken of it.
 
-use crate::lines::{call_in, parted, same};
+use crate::lines::{call_in, hex, octets, parted, same, size};
 use cf_rebuild::Rebuild;
-use cf_samples::rows::{hex, octets};
 use std::alloc::Global;
 use std::process::Abort;
-use std::test::Fail;
 
 /// Blocks, each on a new window: calls, and what they answer. `last` is an offer with End. A state is the base and the pending
 /// bytes, with `end` where End was taken. The first block goes step by step; behind it come bytes below the base and past the
@@ -206,81 +204,75 @@ fn open(rt: &impl Abort, window: &mut Rebuild, edge: i64) {
     window.open_to(edge);
 }
 
-fn offer(
-    rt: &impl Abort,
-    alloc: Global,
-    window: &mut Rebuild,
-    rest: &str,
-    end: bool,
-) -> Result<(), Fail> {
+fn offer(rt: &impl Abort, alloc: Global, window: &mut Rebuild, rest: &str, end: bool) {
     let (at, spelled) = parted(rest);
-    let at = at.parse::<i64>()?;
-    let text = octets(alloc, spelled)?;
+    let at = place(rt, at);
+    let text = octets(rt, alloc, spelled);
     assert!(rt; -0x1_0000_0000 <= at && at <= 0x1_0000_0000 && text.len() <= 65_535);
     window.offer(at, text.as_slice(), end);
-    Ok(())
 }
 
-fn state(alloc: Global, window: &Rebuild) -> Result<String, Fail> {
+fn place(rt: &impl Abort, text: &str) -> i64 {
+    text.parse::<i64>().expect(rt, text)
+}
+
+fn consume(rt: &impl Abort, window: &mut Rebuild, count: usize) {
+    assert!(rt; count <= window.pending().len());
+    window.consume(count);
+}
+
+fn state(rt: &impl Abort, alloc: Global, window: &Rebuild) -> String {
     let (first, second) = window.pending().pieces();
-    let first = hex(alloc, first)?;
-    let second = hex(alloc, second)?;
+    let first = hex(rt, alloc, first);
+    let second = hex(rt, alloc, second);
     let end = if window.ended() { " end" } else { "" };
-    Ok(format!(in alloc; "{} [{first}{second}]{end}", window.base())?)
+    format!(in alloc; "{} [{first}{second}]{end}", window.base()).expect(rt, "memory")
 }
 
-/// Whether the pending bytes are these, and the base; or how many lie in each of their two pieces.
-fn told(alloc: Global, window: &Rebuild, what: &str, rest: &str) -> Result<String, Fail> {
-    let pending = window.pending();
-    if what == "holds" {
-        let octets = octets(alloc, rest)?;
-        let right = pending.equals(octets.as_slice());
-        return Ok(format!(in alloc; "{right} {}", window.base())?);
-    }
-    let (first, second) = pending.pieces();
-    Ok(format!(in alloc; "{} {}", first.len(), second.len())?)
+/// Whether the pending bytes are these, and the base.
+fn holds(rt: &impl Abort, alloc: Global, window: &Rebuild, spelled: &str) -> String {
+    let octets = octets(rt, alloc, spelled);
+    let right = window.pending().equals(octets.as_slice());
+    format!(in alloc; "{right} {}", window.base()).expect(rt, "memory")
 }
 
-fn called(
-    rt: &impl Abort,
-    alloc: Global,
-    window: &mut Rebuild,
-    call: &str,
-) -> Result<String, Fail> {
+/// How many pending bytes lie in each of their two pieces.
+fn pieces(rt: &impl Abort, alloc: Global, window: &Rebuild) -> String {
+    let (first, second) = window.pending().pieces();
+    format!(in alloc; "{} {}", first.len(), second.len()).expect(rt, "memory")
+}
+
+/// Makes the call of a line, and compares what it answers.
+fn call(rt: &impl Abort, alloc: Global, window: &mut Rebuild, line: &str) {
+    let (call, wanted) = call_in(line);
     let (verb, rest) = parted(call);
-    match verb {
-        "open" => open(rt, window, rest.parse::<i64>()?),
-        "offer" => offer(rt, alloc, window, rest, false)?,
-        "last" => offer(rt, alloc, window, rest, true)?,
-        "consume" => {
-            let count = rest.parse::<usize>()?;
-            assert!(rt; count <= window.pending().len());
-            window.consume(count);
-        }
-        "state" => return state(alloc, window),
-        _ => return told(alloc, window, verb, rest),
-    }
-    Ok(String::new(alloc))
+    let found = match verb {
+        "open" => return open(rt, window, place(rt, rest)),
+        "offer" => return offer(rt, alloc, window, rest, false),
+        "last" => return offer(rt, alloc, window, rest, true),
+        "consume" => return consume(rt, window, size(rt, rest)),
+        "state" => state(rt, alloc, window),
+        "holds" => holds(rt, alloc, window, rest),
+        _ => pieces(rt, alloc, window),
+    };
+    same(rt, line, found.as_str(), wanted);
 }
 
-fn check(rt: &impl Abort, alloc: Global, rows: &str) -> Result<(), Fail> {
+fn check(rt: &impl Abort, alloc: Global, rows: &str) {
     for block in rows.split("\n\n") {
-        let mut window = Rebuild::new(alloc)?;
+        let mut window = Rebuild::new(alloc).expect(rt, "memory");
         for line in block.lines() {
-            let (call, wanted) = call_in(line);
-            let found = called(rt, alloc, &mut window, call)?;
-            same(rt, line, found.as_str(), wanted);
+            call(rt, alloc, &mut window, line);
         }
     }
-    Ok(())
 }
 
 #[test]
-fn takes_what_was_offered_first(rt: HostRuntime) -> Result<(), Fail> {
-    check(&rt, rt.alloc(), WINDOWS)
+fn takes_what_was_offered_first(rt: HostRuntime) {
+    check(&rt, rt.alloc(), WINDOWS);
 }
 
 #[test]
-fn goes_round_its_ring(rt: HostRuntime) -> Result<(), Fail> {
-    check(&rt, rt.alloc(), RING)
+fn goes_round_its_ring(rt: HostRuntime) {
+    check(&rt, rt.alloc(), RING);
 }
