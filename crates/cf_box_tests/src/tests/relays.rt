@@ -123,7 +123,7 @@ fn pair_of(alloc: Global, row: &str) -> Result<MemoryPair, Fail> {
     pair.moments = numbers(alloc, field(row, "moments:"))?;
     pair.idle = numbers(alloc, field(row, "idle:"))?;
     for piece in numbers(alloc, field(row, "pieces:"))? {
-        pair.pieces.push(piece as usize)?;
+        pair.pieces.push(usize::try_from(piece)?)?;
     }
     for call in numbers(alloc, field(row, "fails:"))? {
         pair.fails.push(Scripted { call, left: 0 })?;

@@ -1,6 +1,4 @@
 //! Lines of the log: each form, each reason, each cause of a drop and each cut.
-ghost use Rattle.std.specs.Prelude.{◌≡◌};
-
 use arrayvec::ArrayString;
 use cf_audit::{CutReason, Line, NAME_LIMIT, What, Why, write_line};
 use cf_samples::CLIENT;
@@ -119,6 +117,10 @@ fn number(given: &str, place: usize) -> u64 {
     word(given, place).parse::<u64>().unwrap_or(0)
 }
 
+fn small(given: &str, place: usize) -> u16 {
+    word(given, place).parse::<u16>().unwrap_or(0)
+}
+
 /// The line of what happened, behind its moment, client and asset, which are always the same.
 pub(super) fn line(alloc: Global, given: &str) -> Result<String, Fail> {
     let unit = octets(alloc, word(given, 5))?;
@@ -181,12 +183,12 @@ fn cut(given: &str) -> CutReason {
     let side = side(given);
     match word(given, 0) {
         "Framing" => CutReason::Framing(side, broken(word(given, 2))),
-        "WrongSend" => CutReason::WrongSend(side, number(given, 2) as u16, number(given, 3) as u16),
+        "WrongSend" => CutReason::WrongSend(side, small(given, 2), small(given, 3)),
         "WrongReceive" => CutReason::WrongReceive(
             side,
-            number(given, 2) as u16,
-            number(given, 3) as u16,
-            number(given, 4) as u16,
+            small(given, 2),
+            small(given, 3),
+            small(given, 4),
         ),
         "Outstanding" => CutReason::Outstanding(side),
         "NotStarted" => CutReason::NotStarted(side),

@@ -1,5 +1,5 @@
 //! Verdicts about acts, by all rules of an asset and by the index of a client.
-ghost use Rattle.std.specs.Prelude.{◌≡◌, IfSome};
+ghost use Rattle.std.specs.Prelude.{IfSome};
 ghost use Rattle.cf_policy.specs.Verdict.{IsInside};
 ghost use Rattle.cf_policy.specs.Within.{AreAssetsWithin, IsAssetWithin};
 
@@ -38,40 +38,40 @@ rule = [
   { name = "poll", action = "allow", codes = [3], points = ["0..65535"] },
 ]"#;
 
-/// A row: the place of the asset, the client, code, group, point and value of an act; and the name of what decides, with the reason
+/// A row: the asset, the client, code, group, point and value of an act; and the name of what decides, with the reason
 /// where the act is refused.
-pub(super) const ACTS: &str = "0 1 3 0 0 - => poll
-0 9 3 1 7 1 => poll
-0 9 4 0 0 - => none function
-0 9 7 0 0 - => default function
-0 9 6 0 0 - => none function
-0 1 6 0 47 399 => set
-0 5 16 0 40 500 => set
-0 5 16 0 49 -2 => set
-0 1 6 0 48 399 => keep point
-0 1 6 0 48 400 => keep point
-0 1 6 0 47 400 => top value
-0 1 6 0 47 - => default value
-0 1 16 0 47 501 => default value
-0 1 16 0 47 -3 => default value
-0 1 16 0 50 501 => default point
-0 1 16 0 39 1 => default point
-0 1 16 1 40 1 => default function
-0 6 16 0 40 1 => default function
-1 5 6 0 45 1 => a point
-1 5 6 0 46 1 => set
-1 5 0 0 45 1 => default function
-1 5 2 0 45 1 => default function
-1 5 3 0 44 1 => poll
-1 5 3 0 45 1 => poll
-1 5 3 0 46 1 => poll
-1 5 4 0 45 1 => default function
-1 5 5 0 45 1 => default function
-1 5 6 0 44 1 => set
-1 5 6 0 39 1 => default point
-1 5 6 0 50 1 => default point
-1 5 7 0 45 1 => default function
-1 5 255 0 45 1 => default function";
+pub(super) const ACTS: &str = "pump 1 3 0 0 - => poll
+pump 9 3 1 7 1 => poll
+pump 9 4 0 0 - => none function
+pump 9 7 0 0 - => default function
+pump 9 6 0 0 - => none function
+pump 1 6 0 47 399 => set
+pump 5 16 0 40 500 => set
+pump 5 16 0 49 -2 => set
+pump 1 6 0 48 399 => keep point
+pump 1 6 0 48 400 => keep point
+pump 1 6 0 47 400 => top value
+pump 1 6 0 47 - => default value
+pump 1 16 0 47 501 => default value
+pump 1 16 0 47 -3 => default value
+pump 1 16 0 50 501 => default point
+pump 1 16 0 39 1 => default point
+pump 1 16 1 40 1 => default function
+pump 6 16 0 40 1 => default function
+gate 5 6 0 45 1 => a point
+gate 5 6 0 46 1 => set
+gate 5 0 0 45 1 => default function
+gate 5 2 0 45 1 => default function
+gate 5 3 0 44 1 => poll
+gate 5 3 0 45 1 => poll
+gate 5 3 0 46 1 => poll
+gate 5 4 0 45 1 => default function
+gate 5 5 0 45 1 => default function
+gate 5 6 0 44 1 => set
+gate 5 6 0 39 1 => default point
+gate 5 6 0 50 1 => default point
+gate 5 7 0 45 1 => default function
+gate 5 255 0 45 1 => default function";
 
 fn word(given: &str, place: usize) -> &str {
     given.split(' ').nth(place).unwrap_or("")
@@ -82,15 +82,19 @@ fn number(given: &str, place: usize) -> u32 {
     word(given, place).parse::<u32>().unwrap_or(0)
 }
 
+fn small(given: &str, place: usize) -> u16 {
+    word(given, place).parse::<u16>().unwrap_or(0)
+}
+
 /// What decides about an act; both where all rules and the index differ.
 pub(super) fn decided(alloc: Global, given: &str) -> Result<String, Fail> {
     let policy = read_policy(alloc, POLICY)?;
-    let Some(asset) = asset_at(policy.assets.as_slice(), number(given, 0)) else {
+    let Some(asset) = asset_named(policy.assets.as_slice(), word(given, 0)) else {
         return Err("no asset".into());
     };
     let act = Act {
-        code: number(given, 2) as u16,
-        group: number(given, 3) as u16,
+        code: small(given, 2),
+        group: small(given, 3),
         point: number(given, 4),
         value: word(given, 5).parse::<i64>().ok(),
     };
@@ -105,11 +109,11 @@ pub(super) fn decided(alloc: Global, given: &str) -> Result<String, Fail> {
     Ok(text)
 }
 
-fn asset_at(assets: &[Asset], place: u32) -> Option<&Asset>
+fn asset_named<'a>(assets: &'a [Asset], name: &str) -> Option<&'a Asset>
     requires { AreAssetsWithin assets.now }
     ensures { IfSome result (λ asset. IsAssetWithin asset.now) }
 {
-    assets.get(place as usize)
+    assets.iter().find(|asset| asset.name.as_str() == name)
 }
 
 /// The name of what decides, and the reason of a refusal.
@@ -137,16 +141,16 @@ fn reason_word(reason: Reason) -> &'static str {
     }
 }
 
-/// A row: the place of an asset and a client; the pairs of code and rule of its index; and the names of what decides by no rule, and of
+/// A row: an asset and a client; the pairs of code and rule of its index; and the names of what decides by no rule, and of
 /// what does where rule 1 is spent.
-pub(super) const INDEXES: &str = "0 1 => 3 0, 6 1, 6 2, 6 4, 16 4; station form default keep
-0 9 => 3 0, 3 3, 4 3, 5 3, 6 1, 6 2, 6 3; station form default keep
-1 5 => 3 2, 6 0, 6 1; station form default set";
+pub(super) const INDEXES: &str = "pump 1 => 3 0, 6 1, 6 2, 6 4, 16 4; station form default keep
+pump 9 => 3 0, 3 3, 4 3, 5 3, 6 1, 6 2, 6 3; station form default keep
+gate 5 => 3 2, 6 0, 6 1; station form default set";
 
 /// The pairs of an index, and names.
 pub(super) fn indexed(alloc: Global, given: &str) -> Result<String, Fail> {
     let policy = read_policy(alloc, POLICY)?;
-    let Some(asset) = asset_at(policy.assets.as_slice(), number(given, 0)) else {
+    let Some(asset) = asset_named(policy.assets.as_slice(), word(given, 0)) else {
         return Err("no asset".into());
     };
     let index = CodeIndex::new(alloc, asset, number(given, 1))?;
@@ -155,13 +159,19 @@ pub(super) fn indexed(alloc: Global, given: &str) -> Result<String, Fail> {
         let mark = if text.is_empty() { "" } else { ", " };
         write!(&mut text, "{mark}{} {}", pair.code, pair.rule)?;
     }
-    text.push_str(";")?;
-    for decider in [Decider::Station, Decider::Form, Decider::Default] {
-        text.push_str(" ")?;
-        text.push_str(decider_name(asset, &decider))?;
+    let names = [
+        "; ",
+        decider_name(asset, &Decider::Station),
+        " ",
+        decider_name(asset, &Decider::Form),
+        " ",
+        decider_name(asset, &Decider::Default),
+        " ",
+    ];
+    for name in names {
+        text.push_str(name)?;
     }
     if asset.rules.len() > 1 {
-        text.push_str(" ")?;
         text.push_str(decider_name(asset, &Decider::Spent(1)))?;
     }
     Ok(text)
