@@ -3,7 +3,7 @@
 use cf_audit::CutReason;
 
 /// How a session stands. After `Expired` and `Cut` it is dropped.
-#[derive(Clone, Copy, PartialEq, Eq, Debug)]
+#[derive(Clone, Copy)]
 pub enum Life {
     Live,
     /// Both sides have ended, and both ends are acknowledged.

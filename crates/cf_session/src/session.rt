@@ -49,7 +49,7 @@ impl Model for Session {
 }
 
 /// Why no session began.
-#[derive(Clone, Copy, PartialEq, Eq, Debug)]
+#[derive(Clone, Copy)]
 pub enum BeginFault {
     /// Nothing was sent or logged.
     NoMemory,
