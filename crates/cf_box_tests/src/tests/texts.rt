@@ -148,7 +148,9 @@ fn texts(alloc: Global, given: &str) -> Result<String, Fail> {
         let NextRecord::Whole(_) = reader.next(&mut files, "c") else {
             break;
         };
-        let packet = read_packet(&LinkKind::RawIp, reader.body())?;
+        let packet = read_packet(&LinkKind::RawIp, reader.body())
+            .ok()
+            .ok_or("no packet")?;
         push_text(alloc, &mut text, &packet, side == "client")?;
     }
     Ok(text)
