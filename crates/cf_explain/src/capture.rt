@@ -1,11 +1,11 @@
 //! Why a capture was refused or cut, and what to do.
 ghost use Rattle.std.specs.Prelude.{◌≤◌, ◌^◌};
 
+use crate::page::Page;
 use cf_outside::{Files, ReadAnswer};
 use cf_pcap::{CAPTURED_LIMIT, HeaderRefusal};
 use cf_run::{MOMENT_LIMIT, NextRecord, OpenFault, RecordReader};
 use std::alloc::{AllocError, Global};
-use std::fmt::Write;
 
 /// The first octets of a pcapng file: the type of its section header. draft-ietf-opsawg-pcapng, section 4.1.
 const PCAPNG: [u8; 4] = [0x0A, 0x0D, 0x0D, 0x0A];
@@ -30,27 +30,31 @@ pub fn capture_message<F: Files>(
     file: &str,
     has_moments: bool,
 ) -> Result<Option<String>, AllocError> {
-    let mut out = String::from_str(alloc, file)?;
-    out.push_str(": ")?;
-    let is_told = match RecordReader::open(alloc, files, file) {
-        Err(OpenFault::Refused(refusal)) => push_header(&mut out, refusal, files, file)?,
+    let mut out = Page::new(alloc);
+    out.push_all(&[file, ": "]);
+    let is_told = push_why(&mut out, files, file, has_moments);
+    let text = out.finish()?;
+    Ok(if is_told { Some(text) } else { None })
+}
+
+/// Says why a capture is refused or where it is cut, if it is, and whether it did.
+fn push_why<F: Files>(out: &mut Page, files: &mut F, file: &str, has_moments: bool) -> bool {
+    match RecordReader::open(out.alloc, files, file) {
+        Err(OpenFault::Refused(refusal)) => {
+            out.push(header_fault(refusal, files, file));
+            true
+        }
         Err(OpenFault::Read | OpenFault::NoMemory) => false,
         Ok(mut reader) => {
             let (number, place, last) = last_record(&mut reader, files, file, has_moments);
-            push_record(&mut out, number, place, last)?
+            push_record(out, number, place, last)
         }
-    };
-    Ok(if is_told { Some(out) } else { None })
+    }
 }
 
-/// Says why a header is refused, and that it did.
-fn push_header<F: Files>(
-    out: &mut String,
-    refusal: HeaderRefusal,
-    files: &mut F,
-    file: &str,
-) -> Result<bool, AllocError> {
-    out.push_str(match refusal {
+/// Why a header is refused.
+fn header_fault<F: Files>(refusal: HeaderRefusal, files: &mut F, file: &str) -> &'static str {
+    match refusal {
         HeaderRefusal::Short => "it has fewer than 24 bytes, and so is no capture",
         HeaderRefusal::Magic => magic(files, file),
         HeaderRefusal::Version => {
@@ -60,8 +64,7 @@ fn push_header<F: Files>(
             "its link type is neither 1 (Ethernet) nor 101 (raw IP)\n  \
              capture on one interface, as 'tcpdump -i eth0 -w OUT'; '-i any' has another link type"
         }
-    })?;
-    Ok(true)
+    }
 }
 
 /// What a file is that does not begin as a capture.
@@ -105,36 +108,42 @@ fn last_record<F: Files>(
     }
 }
 
-/// What is wrong with the record at a place, if something is, and whether it was told.
-fn push_record(out: &mut String, number: u64, place: u64, last: Last) -> Result<bool, AllocError> {
+/// Says what is wrong with the record at a place, if something is, and whether it did.
+fn push_record(out: &mut Page, number: u64, place: u64, last: Last) -> bool {
     match last {
-        Last::Found(NextRecord::Whole(_) | NextRecord::End | NextRecord::Failed) => {
-            return Ok(false);
+        Last::Found(NextRecord::Whole(_) | NextRecord::End | NextRecord::Failed) => return false,
+        Last::Found(NextRecord::Cut) => {
+            push_placed(out, "the file ends inside record ", number, place);
         }
-        Last::Found(NextRecord::Cut) => write!(
-            out,
-            "the file ends inside record {number}, which begins at byte {place}"
-        )?,
-        Last::Found(NextRecord::TooLong) => write!(
-            out,
-            "record {number}, which begins at byte {place}, has more than {CAPTURED_LIMIT} bytes"
-        )?,
-        Last::Found(NextRecord::Large) => write!(
-            out,
-            "record {number}, which begins at byte {place}, goes past the first 2^40 bytes of the file"
-        )?,
+        Last::Found(NextRecord::TooLong) => {
+            push_placed(out, "record ", number, place);
+            out.push(", has more than ");
+            out.push_number(u64::from(CAPTURED_LIMIT));
+            out.push(" bytes");
+        }
+        Last::Found(NextRecord::Large) => {
+            push_placed(out, "record ", number, place);
+            out.push(", goes past the first 2^40 bytes of the file");
+        }
         Last::TooLate => {
-            write!(
-                out,
-                "record {number}, which begins at byte {place}, comes at a moment past 4294967295.999999, \
-                 the last that a capture can have\n  \
-                 'editcap -F pcap -t -SECONDS IN OUT' sets the moments of all records back"
-            )?;
-            return Ok(true);
+            push_placed(out, "record ", number, place);
+            out.push(
+                ", comes at a moment past 4294967295.999999, the last that a capture can have\n  \
+                 'editcap -F pcap -t -SECONDS IN OUT' sets the moments of all records back",
+            );
+            return true;
         }
     }
     if number > 1 {
-        out.push_str("\n  'editcap -F pcap IN OUT' writes the records before it")?;
+        out.push("\n  'editcap -F pcap IN OUT' writes the records before it");
     }
-    Ok(true)
+    true
+}
+
+/// A record with its number and its place.
+fn push_placed(out: &mut Page, before: &str, number: u64, place: u64) {
+    out.push(before);
+    out.push_number(number);
+    out.push(", which begins at byte ");
+    out.push_number(place);
 }

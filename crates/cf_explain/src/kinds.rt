@@ -1,8 +1,7 @@
 //! A value of another kind than its key's.
+use crate::page::Page;
 use crate::quote::push_value;
 use cf_policylang::Key;
-use std::alloc::AllocError;
-use std::fmt::Write;
 use toml::Value;
 
 /// What a key's value is.
@@ -43,29 +42,47 @@ fn first_other(key: Key, entries: &[Value]) -> Option<(usize, &Value)> {
     Some((index.saturating_add(1), entry))
 }
 
+/// The entries of a list; none of what is no list.
+fn entries_of(value: &Value) -> &[Value] {
+    match value {
+        Value::Array(entries) => entries.as_slice(),
+        _ => &[],
+    }
+}
+
 /// What is wrong with the kind of a value.
-pub(crate) fn push_wrong_kind(out: &mut String, key: Key, value: &Value) -> Result<(), AllocError> {
-    let name = key.as_str();
-    if let Value::Array(entries) = value {
-        if let Some((number, entry)) = first_other(key, entries.as_slice()) {
-            write!(out, "entry {number} of `{name}` is ")?;
-            push_value(out, entry)?;
-            let wanted = wanted_entry(key);
-            return write!(out, ", and has to be {wanted}");
+pub(crate) fn push_wrong_kind(out: &mut Page, key: Key, value: &Value) {
+    match first_other(key, entries_of(value)) {
+        Some((number, entry)) => {
+            push_entry(out, key, number, entry);
+            out.push_all(&[", and has to be ", wanted_entry(key)]);
+        }
+        None => {
+            push_keyed(out, key.as_str(), value);
+            out.push_all(&[", and has to be ", wanted(key), brackets(key, value)]);
         }
     }
-    write!(out, "`{name}` is ")?;
-    push_value(out, value)?;
-    let wanted = wanted(key);
-    write!(out, ", and has to be {wanted}")?;
-    push_brackets(out, key, value)
+}
+
+/// An entry of a key's list, with its number.
+pub(crate) fn push_entry(out: &mut Page, key: Key, number: usize, entry: &Value) {
+    out.push("entry ");
+    out.push_number(number as u64);
+    out.push_all(&[" of `", key.as_str(), "` is "]);
+    push_value(out, entry);
+}
+
+/// A key with its value.
+pub(crate) fn push_keyed(out: &mut Page, name: &str, value: &Value) {
+    out.push_all(&["`", name, "` is "]);
+    push_value(out, value);
 }
 
 /// A table in single brackets where a list of tables stands.
-fn push_brackets(out: &mut String, key: Key, value: &Value) -> Result<(), AllocError> {
+fn brackets(key: Key, value: &Value) -> &'static str {
     match (key, value) {
-        (Key::Asset, Value::Table(_)) => out.push_str(": write [[asset]], with two brackets"),
-        (Key::Rule, Value::Table(_)) => out.push_str(": write [[asset.rule]], with two brackets"),
-        _ => Ok(()),
+        (Key::Asset, Value::Table(_)) => ": write [[asset]], with two brackets",
+        (Key::Rule, Value::Table(_)) => ": write [[asset.rule]], with two brackets",
+        _ => "",
     }
 }

@@ -12,6 +12,7 @@ mod kinds;
 mod laws;
 mod nearest;
 mod outputs;
+mod page;
 mod place;
 mod policy;
 mod quote;

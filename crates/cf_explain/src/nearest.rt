@@ -1,5 +1,5 @@
 //! The word that somebody may have meant.
-use std::alloc::{AllocError, Global};
+use crate::page::Page;
 use strsim::osa_distance;
 
 /// The most characters of a word that is looked for.
@@ -9,23 +9,37 @@ const LONGEST: usize = 32;
 const EDITS: usize = 2;
 
 /// The first of the known words that are nearest to this one: at most two letters are added, left out, changed or swapped,
-/// and fewer than it has.
-pub(crate) fn nearest<'a>(
-    alloc: Global,
-    word: &str,
-    known: &[&'a str],
-) -> Result<Option<&'a str>, AllocError> {
+/// and fewer than it has. Where memory runs out, the text does not become whole.
+pub(crate) fn nearest<'a>(out: &mut Page, word: &str, known: &[&'a str]) -> Option<&'a str> {
     if word.len() > LONGEST {
-        return Ok(None);
+        return None;
     }
     let mut best = None;
     let mut least = word.len().min(EDITS + 1);
     for candidate in known {
-        let edits = osa_distance(alloc, word, candidate)?;
+        let edits = distance(out, word, candidate);
         if edits < least {
             least = edits;
             best = Some(*candidate);
         }
     }
-    Ok(best)
+    best
+}
+
+/// How many edits lie between two words; more than any word has where memory runs out.
+fn distance(out: &mut Page, word: &str, other: &str) -> usize {
+    match osa_distance(out.alloc, word, other) {
+        Ok(edits) => edits,
+        Err(_) => {
+            out.run_out();
+            usize::MAX
+        }
+    }
+}
+
+/// Asks whether the known word that is nearest to this one was meant, between marks, if there is one.
+pub(crate) fn push_meant(out: &mut Page, word: &str, known: &[&str], mark: &str) {
+    if let Some(meant) = nearest(out, word, known) {
+        out.push_all(&["; did you mean ", mark, meant, mark, "?"]);
+    }
 }

@@ -10,7 +10,7 @@ use toml::{Table, Value};
 const TRIES: u32 = 8;
 
 /// A place in a text: its line and its column, both from 1. A column counts characters.
-#[derive(Clone, Copy, PartialEq, Eq, Debug)]
+#[derive(Clone, Copy)]
 pub(crate) struct TextPlace {
     pub(crate) line: usize,
     pub(crate) column: usize,
@@ -33,7 +33,7 @@ impl TextPlace {
 }
 
 /// What is looked for: a table by its numbers as a refusal has them, or a key in it.
-#[derive(Clone, Copy, Debug)]
+#[derive(Clone, Copy)]
 pub(crate) struct Target<'a> {
     pub(crate) asset: u32,
     pub(crate) rule: u32,
@@ -100,7 +100,7 @@ fn joined(alloc: Global, front: &[u8], added: &[u8]) -> Option<Vec<u8>> {
 }
 
 /// What a line looks like: a table's header with its name, a key with its value, or neither.
-#[derive(Clone, Copy, PartialEq, Eq, Debug)]
+#[derive(Clone, Copy)]
 enum Look<'a> {
     Header(&'a str),
     Pair(&'a str),
@@ -135,7 +135,7 @@ fn last_part(name: &str) -> &str {
 }
 
 /// The table whose lines are scanned: by the headers of assets and rules so far.
-#[derive(Clone, Copy, PartialEq, Eq, Debug)]
+#[derive(Clone, Copy, PartialEq, Eq)]
 struct Section {
     asset: u32,
     rule: u32,

@@ -1,12 +1,12 @@
 //! Why a policy was refused, and how its text is mended.
 use crate::allowed::{allowed, apart};
+use crate::page::Page;
 use crate::place::{Target, TextPlace, find_place, table_at};
 use crate::quote::push_shown;
 use crate::unknown::{Level, unknown_key};
 use crate::wrong::{Case, cause_of, push_where, push_wrong};
 use cf_policylang::{Cause, Key, LONGEST_TEXT, PolicyRefusal};
 use std::alloc::{AllocError, Global};
-use std::fmt::Write;
 use toml::Table;
 
 /// What a refusal of a policy's text means to its writer, in two lines: the file with line and column, the asset, the rule
@@ -21,33 +21,46 @@ pub fn policy_message(
     text: &[u8],
     refusal: &PolicyRefusal,
 ) -> Result<String, AllocError> {
-    let mut out = String::from_str(alloc, file)?;
+    let mut out = Page::new(alloc);
+    out.push(file);
     if refusal.number == Cause::TooMany.number() && refusal.key == Key::Nothing {
-        write!(out, ": the file has more than {LONGEST_TEXT} bytes")?;
-        return Ok(out);
+        out.push(": the file has more than ");
+        out.push_number(LONGEST_TEXT as u64);
+        out.push(" bytes");
+    } else {
+        push_why(&mut out, text, refusal);
     }
-    match toml::table_from_slice(alloc, text) {
-        Ok(document) => push_refused(alloc, &mut out, text, &document, refusal)?,
-        Err(error) => push_no_toml(&mut out, text, &error)?,
-    }
-    Ok(out)
+    out.finish()
 }
 
-/// What the reader of TOML says, and the line at which it stopped.
-fn push_no_toml(out: &mut String, text: &[u8], error: &toml::de::Error) -> Result<(), AllocError> {
-    let Some(span) = error.span() else {
-        return Err(AllocError);
-    };
-    let before = text.get(..span.start).unwrap_or(text);
-    let line = line_of(text, before);
-    push_place(out, TextPlace::behind(before))?;
-    out.push_str(": this is no TOML: ")?;
-    push_line(out, error.message())?;
-    if let Some(hint) = toml_hint(line) {
-        write!(out, "; {hint}")?;
+/// Why a text is refused, which is no TOML, or a document that means no policy.
+fn push_why(out: &mut Page, text: &[u8], refusal: &PolicyRefusal) {
+    match toml::table_from_slice(out.alloc, text) {
+        Ok(document) => push_refused(out, text, &document, refusal),
+        Err(error) => push_no_toml(out, text, &error),
     }
-    out.push_str("\n  in the line: ")?;
-    push_shown(out, line)
+}
+
+/// What the reader of TOML says, and the line at which it stopped; without a place memory ran out.
+fn push_no_toml(out: &mut Page, text: &[u8], error: &toml::de::Error) {
+    match error.span() {
+        Some(span) => push_toml_fault(out, text, span.start, error.message()),
+        None => out.run_out(),
+    }
+}
+
+/// What the reader of TOML says of a place in a text, with the line.
+fn push_toml_fault(out: &mut Page, text: &[u8], start: usize, message: &str) {
+    let before = text.get(..start).unwrap_or(text);
+    let line = line_of(text, before);
+    push_place(out, TextPlace::behind(before));
+    out.push(": this is no TOML: ");
+    push_line(out, message);
+    if let Some(hint) = toml_hint(line) {
+        out.push_all(&["; ", hint]);
+    }
+    out.push("\n  in the line: ");
+    push_shown(out, line);
 }
 
 /// What is often meant by a line that is no TOML.
@@ -69,14 +82,13 @@ fn toml_hint(line: &str) -> Option<&'static str> {
 }
 
 /// A message in one line.
-fn push_line(out: &mut String, message: &str) -> Result<(), AllocError> {
+fn push_line(out: &mut Page, message: &str) {
     for (index, part) in message.lines().enumerate() {
         if index > 0 {
-            out.push_str(", ")?;
+            out.push(", ");
         }
-        out.push_str(part)?;
+        out.push(part);
     }
-    Ok(())
 }
 
 /// The line of a text in which its front ends; an empty one where it is no UTF-8.
@@ -90,49 +102,64 @@ fn line_of<'a>(text: &'a [u8], before: &[u8]) -> &'a str {
         .trim()
 }
 
-fn push_place(out: &mut String, place: TextPlace) -> Result<(), AllocError> {
-    let (line, column) = (place.line, place.column);
-    write!(out, ":{line}:{column}")
+fn push_place(out: &mut Page, place: TextPlace) {
+    out.push(":");
+    out.push_number(place.line as u64);
+    out.push(":");
+    out.push_number(place.column as u64);
 }
 
 /// What is wrong with a document, and what is allowed.
-fn push_refused(
-    alloc: Global,
-    out: &mut String,
-    text: &[u8],
-    document: &Table,
-    refusal: &PolicyRefusal,
-) -> Result<(), AllocError> {
+fn push_refused(out: &mut Page, text: &[u8], document: &Table, refusal: &PolicyRefusal) {
     let table = table_at(document, refusal.asset, refusal.rule);
-    let (Some(cause), Some(table)) = (cause_of(refusal.number), table) else {
-        return write!(out, ": policy refused {refusal}");
-    };
-    let level = Level::of(refusal.asset, refusal.rule);
-    let name = match cause {
-        Cause::UnknownKey => unknown_key(level, table),
-        _ => refusal.key.as_str(),
-    };
-    let case = Case {
-        cause,
-        key: refusal.key,
-        asset: refusal.asset,
-        rule: refusal.rule,
-        name,
-        document,
-        table,
-    };
-    if let Some(place) = case_place(alloc, text, &case) {
-        push_place(out, place)?;
+    match (cause_of(refusal.number), table) {
+        (Some(cause), Some(table)) => push_case(
+            out,
+            text,
+            refusal,
+            &Case {
+                cause,
+                key: refusal.key,
+                asset: refusal.asset,
+                rule: refusal.rule,
+                name: name_in(cause, refusal, table),
+                document,
+                table,
+            },
+        ),
+        _ => {
+            out.push(": policy refused ");
+            out.push_refusal(refusal);
+        }
     }
-    out.push_str(": ")?;
-    push_where(out, document, refusal)?;
-    push_wrong(alloc, out, &case)?;
-    out.push_str("\n  ")?;
-    out.push_str(match cause {
-        Cause::UnknownKey => level.allowed(),
+}
+
+/// The name of the key, also of one that its table does not have.
+fn name_in<'a>(cause: Cause, refusal: &PolicyRefusal, table: &'a Table) -> &'a str {
+    match cause {
+        Cause::UnknownKey => unknown_key(Level::of(refusal.asset, refusal.rule), table),
+        _ => refusal.key.as_str(),
+    }
+}
+
+/// What is wrong at a place of a document, and what is allowed there.
+fn push_case(out: &mut Page, text: &[u8], refusal: &PolicyRefusal, case: &Case<'_>) {
+    if let Some(place) = case_place(out.alloc, text, case) {
+        push_place(out, place);
+    }
+    out.push(": ");
+    push_where(out, case.document, refusal);
+    push_wrong(out, case);
+    out.push_all(&["\n  ", allowed_at(case)]);
+}
+
+/// What is allowed instead.
+fn allowed_at(case: &Case<'_>) -> &'static str {
+    match case.cause {
+        Cause::UnknownKey => Level::of(case.asset, case.rule).allowed(),
         Cause::Duplicate => apart(case.key, case.rule),
-        _ => allowed(case.key, table),
-    })
+        _ => allowed(case.key, case.table),
+    }
 }
 
 /// The place of the header of an asset's table (its rule 0) or of a rule's.
@@ -142,16 +169,9 @@ fn table_place(alloc: Global, text: &[u8], asset: u32, rule: u32) -> Option<Text
 }
 
 /// Adds the place of a rule's header, if a line says it.
-pub(crate) fn push_rule_place(
-    alloc: Global,
-    out: &mut String,
-    text: &[u8],
-    asset: u32,
-    rule: u32,
-) -> Result<(), AllocError> {
-    match table_place(alloc, text, asset, rule) {
-        Some(place) => push_place(out, place),
-        None => Ok(()),
+pub(crate) fn push_rule_place(out: &mut Page, text: &[u8], asset: u32, rule: u32) {
+    if let Some(place) = table_place(out.alloc, text, asset, rule) {
+        push_place(out, place);
     }
 }
 

@@ -1,8 +1,7 @@
 //! A key that its table does not have.
-use crate::nearest::nearest;
+use crate::nearest::push_meant;
+use crate::page::Page;
 use crate::quote::push_quoted;
-use std::alloc::{AllocError, Global};
-use std::fmt::Write;
 use toml::Table;
 
 const DOCUMENT_KEYS: [&str; 2] = ["version", "asset"];
@@ -16,7 +15,7 @@ const RULE_KEYS: [&str; 9] = [
 ];
 
 /// What a key stands in.
-#[derive(Clone, Copy, PartialEq, Eq, Debug)]
+#[derive(Clone, Copy, PartialEq, Eq)]
 pub(crate) enum Level {
     Document,
     Asset,
@@ -76,25 +75,17 @@ pub(crate) fn unknown_key(level: Level, table: &Table) -> &str {
 }
 
 /// What is wrong with a key, and what may have been meant.
-pub(crate) fn push_unknown(
-    alloc: Global,
-    out: &mut String,
-    level: Level,
-    key: &str,
-) -> Result<(), AllocError> {
+pub(crate) fn push_unknown(out: &mut Page, level: Level, key: &str) {
     if level == Level::Asset && key == "master" {
-        return out.push_str("`master` is a key of DNP3 assets alone: leave it out");
+        out.push("`master` is a key of DNP3 assets alone: leave it out");
+        return;
     }
-    push_quoted(out, key)?;
-    let level_name = level.name();
-    write!(out, " is no key of {level_name}")?;
-    if let Some(place) = other_level(level, key) {
-        return out.push_str(place);
+    push_quoted(out, key);
+    out.push_all(&[" is no key of ", level.name()]);
+    match other_level(level, key) {
+        Some(place) => out.push(place),
+        None => push_meant(out, key, level.keys(), "`"),
     }
-    if let Some(meant) = nearest(alloc, key, level.keys())? {
-        write!(out, "; did you mean `{meant}`?")?;
-    }
-    Ok(())
 }
 
 /// Where a key belongs that another level has.

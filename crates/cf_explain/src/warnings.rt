@@ -1,25 +1,25 @@
 //! What `check` warns of: rules that decide nothing, or less than they seem to.
 use crate::acts::{Groups, Kind, kinds};
 use crate::found::{What, findings};
+use crate::page::Page;
 use crate::policy::push_rule_place;
 use crate::quote::push_quoted;
 use crate::unmet::{Unmet, reaches_place};
 use cf_policy::{Action, Asset, Policy, Protocol, Rule, Span};
 use std::alloc::{AllocError, Global};
-use std::fmt::Write;
 
 /// How many warnings are written out.
 const MOST: u32 = 20;
 
 /// A policy's file: its name and its text.
-#[derive(Clone, Copy, Debug)]
+#[derive(Clone, Copy)]
 struct Source<'a> {
     file: &'a str,
     text: &'a [u8],
 }
 
 /// A rule that is warned of, with its number and that of its asset, both from 1.
-#[derive(Clone, Copy, Debug)]
+#[derive(Clone, Copy)]
 struct Subject<'a> {
     asset_number: u32,
     asset: &'a Asset,
@@ -28,9 +28,9 @@ struct Subject<'a> {
 }
 
 /// Warnings so far: their lines, and how many there are.
-#[derive(Debug, Drop)]
+#[derive(Drop)]
 struct Report {
-    lines: String,
+    lines: Page,
     count: u32,
 }
 
@@ -45,92 +45,86 @@ pub fn policy_warnings(
 ) -> Result<String, AllocError> {
     let source = Source { file, text };
     let mut report = Report {
-        lines: String::new(alloc),
+        lines: Page::new(alloc),
         count: 0,
     };
     let mut number = 0u32;
     for asset in policy.assets.as_slice() {
         number = number.saturating_add(1);
-        push_asset(alloc, &mut report, &source, number, asset)?;
+        push_asset(&mut report, &source, number, asset);
     }
+    push_more(&mut report, file);
+    report.lines.finish()
+}
+
+/// How many warnings there are beside those that are written out.
+fn push_more(report: &mut Report, file: &str) {
     if report.count > MOST {
-        let more = report.count - MOST;
-        write!(&mut report.lines, "{file}: warning: and {more} more\n")?;
+        report.lines.push_all(&[file, ": warning: and "]);
+        report.lines.push_number(u64::from(report.count - MOST));
+        report.lines.push(" more\n");
     }
-    Ok(report.lines)
 }
 
 /// The warnings about an asset's rules.
-fn push_asset(
-    alloc: Global,
-    report: &mut Report,
-    source: &Source<'_>,
-    asset_number: u32,
-    asset: &Asset,
-) -> Result<(), AllocError> {
+fn push_asset(report: &mut Report, source: &Source<'_>, asset_number: u32, asset: &Asset) {
     let rules = asset.rules.as_slice();
     let mut rule_number = 0u32;
     for number in 0..rules.len() {
         rule_number = rule_number.saturating_add(1);
-        let found = findings(alloc, asset, number)?;
         let subject = Subject {
             asset_number,
             asset,
             rule_number,
             rule: &rules[number],
         };
-        push_rule(alloc, report, source, &subject, found.as_slice())?;
+        match findings(report.lines.alloc, asset, number) {
+            Ok(found) => push_rule(report, source, &subject, found.as_slice()),
+            Err(_) => report.lines.run_out(),
+        }
     }
-    Ok(())
 }
 
 /// The warnings about one rule.
-fn push_rule(
-    alloc: Global,
-    report: &mut Report,
-    source: &Source<'_>,
-    subject: &Subject<'_>,
-    found: &[What],
-) -> Result<(), AllocError> {
+fn push_rule(report: &mut Report, source: &Source<'_>, subject: &Subject<'_>, found: &[What]) {
     for what in found {
         if report.count < MOST {
-            push_warning(alloc, &mut report.lines, source, subject, *what)?;
+            push_warning(&mut report.lines, source, subject, *what);
         }
         report.count = report.count.saturating_add(1);
     }
-    Ok(())
 }
 
-fn push_warning(
-    alloc: Global,
-    out: &mut String,
-    source: &Source<'_>,
-    subject: &Subject<'_>,
-    what: What,
-) -> Result<(), AllocError> {
+fn push_warning(out: &mut Page, source: &Source<'_>, subject: &Subject<'_>, what: What) {
     let (asset, rule) = (subject.asset_number, subject.rule_number);
-    out.push_str(source.file)?;
-    push_rule_place(alloc, out, source.text, asset, rule)?;
-    write!(out, ": warning: asset {asset} ")?;
-    push_quoted(out, subject.asset.name.as_str())?;
-    write!(out, ", rule {rule} ")?;
-    push_quoted(out, subject.rule.name.as_str())?;
-    out.push_str(": ")?;
-    push_what(out, subject, what)?;
-    out.push_str("\n")
+    out.push(source.file);
+    push_rule_place(out, source.text, asset, rule);
+    out.push(": warning: asset ");
+    out.push_number(u64::from(asset));
+    out.push(" ");
+    push_quoted(out, subject.asset.name.as_str());
+    out.push(", rule ");
+    out.push_number(u64::from(rule));
+    out.push(" ");
+    push_quoted(out, subject.rule.name.as_str());
+    out.push(": ");
+    push_what(out, subject, what);
+    out.push("\n");
 }
 
-fn push_what(out: &mut String, subject: &Subject<'_>, what: What) -> Result<(), AllocError> {
+fn push_what(out: &mut Page, subject: &Subject<'_>, what: What) {
     match what {
         What::Never(code, why) => {
-            out.push_str("no command meets it: ")?;
-            push_reason(out, subject.asset.protocol, subject.rule, code, why)
+            out.push("no command meets it: ");
+            push_reason(out, subject, code, why);
         }
         What::Code(code, why) => {
-            write!(out, "no command with code {code} meets it: ")?;
-            push_reason(out, subject.asset.protocol, subject.rule, code, why)
+            out.push("no command with code ");
+            out.push_number(u64::from(code));
+            out.push(" meets it: ");
+            push_reason(out, subject, code, why);
         }
-        What::Reads => out.push_str(
+        What::Reads => out.push(
             "the reads of code 23 have no value, so it has the writes alone; without values it has both",
         ),
         What::Covered(earlier) => push_covered(out, subject, earlier),
@@ -138,50 +132,53 @@ fn push_what(out: &mut String, subject: &Subject<'_>, what: What) -> Result<(), 
 }
 
 /// That an earlier rule has all that this one has.
-fn push_covered(out: &mut String, subject: &Subject<'_>, earlier: usize) -> Result<(), AllocError> {
-    let number = earlier.saturating_add(1);
-    write!(out, "it decides nothing: rule {number} ")?;
-    let Some(first) = subject.asset.rules.as_slice().get(earlier) else {
-        return out.push_str("stands before it and has all that it has");
-    };
-    push_quoted(out, first.name.as_str())?;
-    out.push_str(match (first.action, subject.rule.action) {
-        (Action::Allow, Action::Refuse) => " stands before it and allows all that it would refuse",
-        (Action::Refuse, Action::Allow) => " stands before it and refuses all that it would allow",
-        _ => " stands before it and has all that it has",
-    })
+fn push_covered(out: &mut Page, subject: &Subject<'_>, earlier: usize) {
+    out.push("it decides nothing: rule ");
+    out.push_number((earlier as u64).saturating_add(1));
+    out.push(" ");
+    match subject.asset.rules.as_slice().get(earlier) {
+        Some(first) => {
+            push_quoted(out, first.name.as_str());
+            out.push(" ");
+            out.push(before_it(first.action, subject.rule.action));
+        }
+        None => out.push("stands before it and has all that it has"),
+    }
+}
+
+/// What an earlier rule does of all that a later one has.
+fn before_it(first: Action, later: Action) -> &'static str {
+    match (first, later) {
+        (Action::Allow, Action::Refuse) => "stands before it and allows all that it would refuse",
+        (Action::Refuse, Action::Allow) => "stands before it and refuses all that it would allow",
+        _ => "stands before it and has all that it has",
+    }
 }
 
 /// Why no act with a code meets a rule, with what acts of that code have.
-fn push_reason(
-    out: &mut String,
-    protocol: Protocol,
-    rule: &Rule,
-    code: u16,
-    why: Unmet,
-) -> Result<(), AllocError> {
+fn push_reason(out: &mut Page, subject: &Subject<'_>, code: u16, why: Unmet) {
+    let protocol = subject.asset.protocol;
     let kinds = kinds(protocol, code);
+    out.push("code ");
+    out.push_number(u64::from(code));
+    out.push(lack(why));
     match why {
-        Unmet::Code => {
-            let served = served_codes(protocol);
-            write!(out, "code {code} is not served; {served}")
-        }
-        Unmet::Group => {
-            write!(out, "code {code} has no groups but ")?;
-            push_groups(out, kinds)
-        }
-        Unmet::Point => {
-            write!(out, "code {code} has no points but ")?;
-            push_points(out, kinds)
-        }
-        Unmet::NoValue => write!(
-            out,
-            "code {code} has no value there, and the rule states values"
-        ),
-        Unmet::Value => {
-            write!(out, "code {code} has no values but ")?;
-            push_values(out, rule, kinds)
-        }
+        Unmet::Code => out.push(served_codes(protocol)),
+        Unmet::Group => push_groups(out, kinds),
+        Unmet::Point => push_points(out, kinds),
+        Unmet::NoValue => {}
+        Unmet::Value => push_values(out, subject.rule, kinds),
+    }
+}
+
+/// What acts with a code lack, before what they have.
+fn lack(why: Unmet) -> &'static str {
+    match why {
+        Unmet::Code => " is not served; ",
+        Unmet::Group => " has no groups but ",
+        Unmet::Point => " has no points but ",
+        Unmet::NoValue => " has no value there, and the rule states values",
+        Unmet::Value => " has no values but ",
     }
 }
 
@@ -196,53 +193,50 @@ fn served_codes(protocol: Protocol) -> &'static str {
     }
 }
 
-fn push_groups(out: &mut String, kinds: &[Kind]) -> Result<(), AllocError> {
-    for (index, kind) in kinds.iter().enumerate() {
-        push_comma(out, index)?;
+fn push_groups(out: &mut Page, kinds: &[Kind]) {
+    let mut between = "";
+    for kind in kinds {
+        out.push(between);
         match kind.groups {
-            Groups::Span(span) => push_span(out, span)?,
-            Groups::Causes => out.push_str("5, 6, 8")?,
+            Groups::Span(span) => push_span(out, span),
+            Groups::Causes => out.push("5, 6, 8"),
         }
+        between = ", ";
     }
-    Ok(())
 }
 
 /// The points, which are the same for all kinds of acts of a code.
-fn push_points(out: &mut String, kinds: &[Kind]) -> Result<(), AllocError> {
-    match kinds.first() {
-        Some(kind) => push_span(out, kind.points),
-        None => Ok(()),
+fn push_points(out: &mut Page, kinds: &[Kind]) {
+    if let Some(kind) = kinds.first() {
+        push_span(out, kind.points);
     }
 }
 
 /// The values of the kinds of acts whose groups and points a rule has.
-fn push_values(out: &mut String, rule: &Rule, kinds: &[Kind]) -> Result<(), AllocError> {
-    let mut count = 0usize;
+fn push_values(out: &mut Page, rule: &Rule, kinds: &[Kind]) {
+    let mut between = "";
     for kind in kinds {
-        if reaches_place(rule, kind) {
-            if let Some(span) = kind.values {
-                push_comma(out, count)?;
-                push_span(out, span)?;
-                count = count.saturating_add(1);
-            }
+        if let Some(span) = values_of(rule, kind) {
+            out.push(between);
+            push_span(out, span);
+            between = ", ";
         }
     }
-    Ok(())
 }
 
-fn push_comma(out: &mut String, index: usize) -> Result<(), AllocError> {
-    if index > 0 {
-        out.push_str(", ")
+/// The values of a kind of acts, if a rule has its groups and points.
+fn values_of(rule: &Rule, kind: &Kind) -> Option<Span> {
+    if reaches_place(rule, kind) {
+        kind.values
     } else {
-        Ok(())
+        None
     }
 }
 
-fn push_span(out: &mut String, span: Span) -> Result<(), AllocError> {
-    let (low, high) = (span.low, span.high);
-    if low == high {
-        write!(out, "{low}")
-    } else {
-        write!(out, "{low} to {high}")
+fn push_span(out: &mut Page, span: Span) {
+    out.push_signed(span.low);
+    if span.low != span.high {
+        out.push(" to ");
+        out.push_signed(span.high);
     }
 }

@@ -1,12 +1,12 @@
 //! Words that are no command.
 use crate::entries::address_fault;
-use crate::nearest::nearest;
+use crate::nearest::push_meant;
+use crate::page::Page;
 use crate::quote::push_quoted;
 use std::alloc::{AllocError, Global};
-use std::fmt::Write;
 
 /// What a word behind a command is.
-#[derive(Clone, Copy, PartialEq, Eq, Debug)]
+#[derive(Clone, Copy)]
 enum Role {
     /// The name of a file, which is not empty and differs from the others.
     File,
@@ -19,7 +19,7 @@ enum Role {
 }
 
 /// A word behind a command: what help calls it, and what it is.
-#[derive(Clone, Copy, Debug)]
+#[derive(Clone, Copy)]
 struct Slot {
     name: &'static str,
     role: Role,
@@ -115,109 +115,112 @@ fn slots_of(command: &str) -> Option<&'static [Slot]> {
 /// What is wrong with words that are no command: which word, and why. Behind it stands the form of the command that the
 /// first word names, or the commands. Words that are a command get a message all the same.
 pub fn words_message(alloc: Global, words: &[String]) -> Result<String, AllocError> {
-    let mut out = String::new(alloc);
-    let Some((command, rest)) = words.split_first() else {
-        out.push_str("there are no words; a first one names the command\n  ")?;
-        push_commands(&mut out)?;
-        return Ok(out);
-    };
-    match slots_of(command.as_str()) {
-        Some(slots) => push_command_fault(&mut out, command.as_str(), slots, rest)?,
-        None => push_no_command(alloc, &mut out, command.as_str())?,
-    }
-    Ok(out)
-}
-
-fn push_commands(out: &mut String) -> Result<(), AllocError> {
-    out.push_str("commands are ")?;
-    for (index, command) in COMMANDS.iter().enumerate() {
-        if index > 0 {
-            out.push_str(", ")?;
+    let mut out = Page::new(alloc);
+    match words.split_first() {
+        Some((command, rest)) => push_command(&mut out, command.as_str(), rest),
+        None => {
+            out.push("there are no words; a first one names the command\n  ");
+            push_commands(&mut out);
         }
-        out.push_str(command)?;
     }
-    out.push_str("; 'cmdwall --help' says more")
+    out.finish()
 }
 
-fn push_no_command(alloc: Global, out: &mut String, word: &str) -> Result<(), AllocError> {
-    push_quoted(out, word)?;
-    out.push_str(" is no command")?;
-    if let Some(meant) = nearest(alloc, word, &COMMANDS)? {
-        write!(out, "; did you mean {meant}?")?;
+fn push_command(out: &mut Page, command: &str, words: &[String]) {
+    match slots_of(command) {
+        Some(slots) => push_command_fault(out, command, slots, words),
+        None => push_no_command(out, command),
     }
-    out.push_str("\n  ")?;
-    push_commands(out)
+}
+
+fn push_commands(out: &mut Page) {
+    out.push("commands are ");
+    out.push_list(&COMMANDS);
+    out.push("; 'cmdwall --help' says more");
+}
+
+fn push_no_command(out: &mut Page, word: &str) {
+    push_quoted(out, word);
+    out.push(" is no command");
+    push_meant(out, word, &COMMANDS, "");
+    out.push("\n  ");
+    push_commands(out);
 }
 
 /// What is wrong with the words behind a command, and its form.
-fn push_command_fault(
-    out: &mut String,
-    command: &str,
-    slots: &[Slot],
-    words: &[String],
-) -> Result<(), AllocError> {
-    push_words_fault(out, command, slots, words)?;
-    write!(out, "\n  cmdwall {command}")?;
+fn push_command_fault(out: &mut Page, command: &str, slots: &[Slot], words: &[String]) {
+    if slots.len() == words.len() {
+        push_words_fault(out, command, slots, words);
+    } else {
+        push_wrong_count(out, command, slots.len(), words.len());
+    }
+    out.push_all(&["\n  cmdwall ", command]);
     for slot in slots {
-        let name = slot.name;
-        write!(out, " {name}")?;
+        out.push_all(&[" ", slot.name]);
     }
-    Ok(())
 }
 
-/// The first of these that holds: too few or too many words, a word that is none of its role, two files of one name.
-fn push_words_fault(
-    out: &mut String,
-    command: &str,
-    slots: &[Slot],
-    words: &[String],
-) -> Result<(), AllocError> {
-    let (wanted, count) = (slots.len(), words.len());
-    if wanted != count {
-        let words = if wanted == 1 { "word" } else { "words" };
-        return write!(out, "{command} takes {wanted} {words}, and has {count}");
+/// Too few or too many words.
+fn push_wrong_count(out: &mut Page, command: &str, wanted: usize, count: usize) {
+    out.push_all(&[command, " takes "]);
+    out.push_number(wanted as u64);
+    out.push(if wanted == 1 { " word" } else { " words" });
+    out.push(", and has ");
+    out.push_number(count as u64);
+}
+
+/// The first of these that holds: a word that is none of its role, two files of one name.
+fn push_words_fault(out: &mut Page, command: &str, slots: &[Slot], words: &[String]) {
+    if !push_word_faults(out, slots, words) && !push_twins(out, slots, words) {
+        out.push_all(&["the words behind ", command, " have no form"]);
     }
+}
+
+/// Says what is wrong with the first word that is none of its role, if there is one, and whether it did.
+fn push_word_faults(out: &mut Page, slots: &[Slot], words: &[String]) -> bool {
     for (slot, word) in slots.iter().zip(words) {
-        if push_word_fault(out, slot, word.as_str())? {
-            return Ok(());
+        if !has_role(slot.role, word.as_str()) {
+            push_word_fault(out, slot, word.as_str());
+            return true;
         }
     }
-    if push_twins(out, slots, words)? {
-        return Ok(());
-    }
-    write!(out, "the words behind {command} have no form")
+    false
 }
 
-/// Says what is wrong with a word, if something is, and whether it did.
-fn push_word_fault(out: &mut String, slot: &Slot, word: &str) -> Result<bool, AllocError> {
-    let name = slot.name;
-    match slot.role {
-        Role::Asset => Ok(false),
-        Role::File => {
-            if !word.is_empty() {
-                return Ok(false);
-            }
-            write!(out, "the name of {name} is empty")?;
-            Ok(true)
-        }
-        Role::Client => {
-            let Some(fault) = address_fault(word) else {
-                return Ok(false);
-            };
-            write!(out, "{name} is ")?;
-            push_quoted(out, word)?;
-            write!(out, ", no IPv4 address as 10.0.0.5: {fault}")?;
-            Ok(true)
-        }
+/// Whether a word can be what stands there.
+fn has_role(role: Role, word: &str) -> bool {
+    match role {
+        Role::Asset => true,
+        Role::File => !word.is_empty(),
+        Role::Client => address_fault(word).is_none(),
+        Role::Number(low, high) => is_number(low, high, word),
+    }
+}
+
+/// Says what is wrong with a word.
+fn push_word_fault(out: &mut Page, slot: &Slot, word: &str) {
+    if word.is_empty() && is_file(slot) {
+        out.push_all(&["the name of ", slot.name, " is empty"]);
+        return;
+    }
+    out.push_all(&[slot.name, " is "]);
+    push_quoted(out, word);
+    push_role(out, slot.role, word);
+}
+
+/// What a word has to be that is an address or a number.
+fn push_role(out: &mut Page, role: Role, word: &str) {
+    match role {
         Role::Number(low, high) => {
-            if is_number(low, high, word) {
-                return Ok(false);
-            }
-            write!(out, "{name} is ")?;
-            push_quoted(out, word)?;
-            write!(out, ", no whole number from {low} to {high}")?;
-            Ok(true)
+            out.push(", no whole number from ");
+            out.push_number(low);
+            out.push(" to ");
+            out.push_number(high);
         }
+        _ => out.push_all(&[
+            ", no IPv4 address as 10.0.0.5: ",
+            address_fault(word).unwrap_or(""),
+        ]),
     }
 }
 
@@ -233,41 +236,42 @@ fn is_number(low: u64, high: u64, word: &str) -> bool {
 }
 
 /// Says which two files have one name, if two have, and whether it did.
-fn push_twins(out: &mut String, slots: &[Slot], words: &[String]) -> Result<bool, AllocError> {
+fn push_twins(out: &mut Page, slots: &[Slot], words: &[String]) -> bool {
     for (index, word) in words.iter().enumerate() {
         if let Some(earlier) = twin_of(slots, words, index) {
-            let first = name_at(slots, earlier);
-            let second = name_at(slots, index);
-            write!(out, "{first} and {second} are both ")?;
-            push_quoted(out, word.as_str())?;
-            out.push_str(", and each file has a name of its own")?;
-            return Ok(true);
+            out.push_all(&[
+                name_at(slots, earlier),
+                " and ",
+                name_at(slots, index),
+                " are both ",
+            ]);
+            push_quoted(out, word.as_str());
+            out.push(", and each file has a name of its own");
+            return true;
         }
     }
-    Ok(false)
+    false
 }
 
 /// The first file before that of an index that has the same name.
 fn twin_of(slots: &[Slot], words: &[String], index: usize) -> Option<usize> {
-    if !is_file(slots, index) {
-        return None;
-    }
     let word = words.get(index)?;
     let earlier = words
         .iter()
         .position(|other| other.as_str() == word.as_str())?;
-    if earlier < index && is_file(slots, earlier) {
+    if earlier < index && is_file_at(slots, index) && is_file_at(slots, earlier) {
         Some(earlier)
     } else {
         None
     }
 }
 
-fn is_file(slots: &[Slot], index: usize) -> bool {
-    match slots.get(index) {
-        Some(slot) => slot.role == Role::File,
-        None => false,
-    }
+fn is_file_at(slots: &[Slot], index: usize) -> bool {
+    slots.get(index).is_some_and(is_file)
+}
+
+fn is_file(slot: &Slot) -> bool {
+    matches!(slot.role, Role::File)
 }
 
 fn name_at(slots: &[Slot], index: usize) -> &'static str {

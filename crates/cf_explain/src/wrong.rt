@@ -1,13 +1,12 @@
 //! What is wrong with a policy that is TOML, by the cause of its refusal.
 use crate::entries::{address_fault, first_fault, name_fault};
-use crate::kinds::push_wrong_kind;
-use crate::nearest::nearest;
+use crate::kinds::{push_entry, push_keyed, push_wrong_kind};
+use crate::nearest::{nearest, push_meant};
+use crate::page::Page;
 use crate::place::table_at;
 use crate::quote::{push_quoted, push_value};
 use crate::unknown::{Level, push_unknown};
 use cf_policylang::{Cause, Key, PolicyRefusal};
-use std::alloc::{AllocError, Global};
-use std::fmt::Write;
 use toml::{Table, Value};
 
 const ACTIONS: [&str; 2] = ["allow", "refuse"];
@@ -31,7 +30,7 @@ pub(crate) fn cause_of(number: u8) -> Option<Cause> {
 }
 
 /// What is known of a refusal: where it stands, and the tables that were read.
-#[derive(Clone, Copy, Debug)]
+#[derive(Clone, Copy)]
 pub(crate) struct Case<'a> {
     pub(crate) cause: Cause,
     pub(crate) key: Key,
@@ -45,90 +44,81 @@ pub(crate) struct Case<'a> {
 }
 
 /// What is wrong.
-pub(crate) fn push_wrong(
-    alloc: Global,
-    out: &mut String,
-    case: &Case<'_>,
-) -> Result<(), AllocError> {
-    let name = case.name;
+pub(crate) fn push_wrong(out: &mut Page, case: &Case<'_>) {
     if case.cause == Cause::UnknownKey {
-        return push_unknown(alloc, out, Level::of(case.asset, case.rule), name);
+        push_unknown(out, Level::of(case.asset, case.rule), case.name);
+        return;
     }
-    let Some(value) = case.table.get(name) else {
-        return push_missing(alloc, out, case);
-    };
+    match case.table.get(case.name) {
+        Some(value) => push_wrong_value(out, case, value),
+        None => push_missing(out, case),
+    }
+}
+
+/// What is wrong with the value of the key.
+fn push_wrong_value(out: &mut Page, case: &Case<'_>, value: &Value) {
     match case.cause {
         Cause::WrongKind => push_wrong_kind(out, case.key, value),
-        Cause::BadAddress | Cause::BadRange => push_bad(alloc, out, case.key, value),
+        Cause::BadAddress | Cause::BadRange => push_bad(out, case.key, value),
         Cause::Duplicate => push_duplicate(out, case, value),
         Cause::TooMany => push_too_many(out, case.key, value),
-        _ => {
-            write!(out, "`{name}` is ")?;
-            push_value(out, value)
-        }
+        _ => push_keyed(out, case.name, value),
     }
 }
 
 /// A key that is missing, and one that may be meant for it.
-fn push_missing(alloc: Global, out: &mut String, case: &Case<'_>) -> Result<(), AllocError> {
-    let name = case.name;
-    write!(out, "`{name}` is missing")?;
+fn push_missing(out: &mut Page, case: &Case<'_>) {
+    out.push_all(&["`", case.name, "` is missing"]);
     for key in case.table.keys() {
-        if nearest(alloc, key.as_str(), &[name])?.is_some() {
-            out.push_str("; did you write ")?;
-            push_quoted(out, key.as_str())?;
-            return out.push_str(" for it?");
+        if nearest(out, key.as_str(), &[case.name]).is_some() {
+            out.push("; did you write ");
+            push_quoted(out, key.as_str());
+            out.push(" for it?");
+            break;
         }
     }
-    Ok(())
 }
 
 /// A value outside its range, or an address that is none.
-fn push_bad(alloc: Global, out: &mut String, key: Key, value: &Value) -> Result<(), AllocError> {
+fn push_bad(out: &mut Page, key: Key, value: &Value) {
     match value {
         Value::Array(entries) => push_bad_list(out, key, entries.as_slice()),
-        Value::String(text) => push_bad_text(alloc, out, key, text.as_str()),
+        Value::String(text) => push_bad_text(out, key, text.as_str()),
         _ => {
-            let name = key.as_str();
-            write!(out, "`{name}` is ")?;
-            push_value(out, value)?;
-            out.push_str(", out of its range")
+            push_keyed(out, key.as_str(), value);
+            out.push(", out of its range");
         }
     }
 }
 
 /// A list without entries, or its first entry that is refused.
-fn push_bad_list(out: &mut String, key: Key, entries: &[Value]) -> Result<(), AllocError> {
-    let name = key.as_str();
-    if entries.is_empty() {
-        return write!(out, "`{name}` is an empty list");
-    }
+fn push_bad_list(out: &mut Page, key: Key, entries: &[Value]) {
     match first_fault(key, entries) {
         Some((number, entry, fault)) => {
-            write!(out, "entry {number} of `{name}` is ")?;
-            push_value(out, entry)?;
-            write!(out, ": {fault}")
+            push_entry(out, key, number, entry);
+            out.push_all(&[": ", fault]);
         }
-        None => write!(out, "an entry of `{name}` is out of its range"),
+        None if entries.is_empty() => out.push_all(&["`", key.as_str(), "` is an empty list"]),
+        None => out.push_all(&["an entry of `", key.as_str(), "` is out of its range"]),
     }
 }
 
 /// A text that is none of those that a key takes.
-fn push_bad_text(alloc: Global, out: &mut String, key: Key, text: &str) -> Result<(), AllocError> {
-    let name = key.as_str();
-    write!(out, "`{name}` is ")?;
-    push_quoted(out, text)?;
-    let fault = match key {
+fn push_bad_text(out: &mut Page, key: Key, text: &str) {
+    out.push_all(&["`", key.as_str(), "` is "]);
+    push_quoted(out, text);
+    match text_fault(key, text) {
+        Some(fault) => out.push_all(&[": ", fault]),
+        None => push_meant(out, text, known_texts(key), "\""),
+    }
+}
+
+/// Why a text is no name or no address, if it has to be one and is none.
+fn text_fault(key: Key, text: &str) -> Option<&'static str> {
+    match key {
         Key::Name => name_fault(text),
         Key::Address => address_fault(text),
         _ => None,
-    };
-    if let Some(fault) = fault {
-        return write!(out, ": {fault}");
-    }
-    match nearest(alloc, text, known_texts(key))? {
-        Some(meant) => write!(out, "; did you mean \"{meant}\"?"),
-        None => Ok(()),
     }
 }
 
@@ -142,17 +132,31 @@ fn known_texts(key: Key) -> &'static [&'static str] {
 }
 
 /// A name or an address with its port that an earlier asset or rule has, or a name that no rule may have.
-fn push_duplicate(out: &mut String, case: &Case<'_>, value: &Value) -> Result<(), AllocError> {
+fn push_duplicate(out: &mut Page, case: &Case<'_>, value: &Value) {
     if case.key == Key::Port {
-        return push_same_endpoint(out, case);
+        push_same_endpoint(out, case);
+        return;
     }
-    out.push_str("`name` is ")?;
-    push_value(out, value)?;
+    push_keyed(out, "name", value);
     match earlier_name(case, value) {
-        Some(number) if case.rule == 0 => write!(out, ", which asset {number} has"),
-        Some(number) => write!(out, ", which rule {number} of this asset has"),
-        None => out.push_str(", which the log uses for what is no rule"),
+        Some(number) => push_holder(out, case.rule, number),
+        None => out.push(", which the log uses for what is no rule"),
     }
+}
+
+/// The asset, or the rule of the same asset, that has a name.
+fn push_holder(out: &mut Page, rule: u32, number: u32) {
+    out.push(if rule == 0 {
+        ", which asset "
+    } else {
+        ", which rule "
+    });
+    out.push_number(u64::from(number));
+    out.push(if rule == 0 {
+        " has"
+    } else {
+        " of this asset has"
+    });
 }
 
 /// The first asset, or rule of this asset, before this one that has the same name.
@@ -170,61 +174,58 @@ fn at_key<'a>(document: &'a Table, asset: u32, rule: u32, key: &str) -> Option<&
     table_at(document, asset, rule)?.get(key)
 }
 
-fn push_same_endpoint(out: &mut String, case: &Case<'_>) -> Result<(), AllocError> {
+fn push_same_endpoint(out: &mut Page, case: &Case<'_>) {
+    match earlier_endpoint(case) {
+        Some(number) => {
+            out.push("asset ");
+            out.push_number(u64::from(number));
+        }
+        None => out.push("an earlier asset"),
+    }
+    out.push(" has the same address and port");
+}
+
+/// The first asset before this one that has the same address and port.
+fn earlier_endpoint(case: &Case<'_>) -> Option<u32> {
     let address = case.table.get("address");
     let port = case.table.get("port");
-    let earlier = (1..case.asset).find(|number| {
+    (1..case.asset).find(|number| {
         at_key(case.document, *number, 0, "address") == address
             && at_key(case.document, *number, 0, "port") == port
-    });
-    match earlier {
-        Some(number) => write!(out, "asset {number} has the same address and port"),
-        None => out.push_str("an earlier asset has the same address and port"),
-    }
+    })
 }
 
 /// A list of more entries than it may have.
-fn push_too_many(out: &mut String, key: Key, value: &Value) -> Result<(), AllocError> {
-    let name = key.as_str();
+fn push_too_many(out: &mut Page, key: Key, value: &Value) {
+    out.push_all(&["`", key.as_str(), "` has "]);
     match value {
-        Value::Array(entries) => {
-            let count = entries.len();
-            write!(out, "`{name}` has {count} entries")
-        }
-        _ => write!(out, "`{name}` has too many entries"),
+        Value::Array(entries) => out.push_number(entries.len() as u64),
+        _ => out.push("too many"),
     }
+    out.push(" entries");
 }
 
 /// The name of a table, if it states one.
-pub(crate) fn push_named(out: &mut String, table: Option<&Table>) -> Result<(), AllocError> {
-    let Some(table) = table else {
-        return Ok(());
-    };
-    match table.get("name") {
-        Some(Value::String(name)) => {
-            out.push_str(" ")?;
-            push_quoted(out, name.as_str())
-        }
-        _ => Ok(()),
+pub(crate) fn push_named(out: &mut Page, table: Option<&Table>) {
+    if let Some(Value::String(name)) = table.and_then(|table| table.get("name")) {
+        out.push(" ");
+        push_quoted(out, name.as_str());
     }
 }
 
 /// The asset and the rule of a refusal, by number and name.
-pub(crate) fn push_where(
-    out: &mut String,
-    document: &Table,
-    refusal: &PolicyRefusal,
-) -> Result<(), AllocError> {
-    let asset = refusal.asset;
-    let rule = refusal.rule;
+pub(crate) fn push_where(out: &mut Page, document: &Table, refusal: &PolicyRefusal) {
+    let (asset, rule) = (refusal.asset, refusal.rule);
     if asset == 0 {
-        return Ok(());
+        return;
     }
-    write!(out, "asset {asset}")?;
-    push_named(out, table_at(document, asset, 0))?;
+    out.push("asset ");
+    out.push_number(u64::from(asset));
+    push_named(out, table_at(document, asset, 0));
     if rule != 0 {
-        write!(out, ", rule {rule}")?;
-        push_named(out, table_at(document, asset, rule))?;
+        out.push(", rule ");
+        out.push_number(u64::from(rule));
+        push_named(out, table_at(document, asset, rule));
     }
-    out.push_str(": ")
+    out.push(": ");
 }
