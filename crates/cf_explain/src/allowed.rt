@@ -30,9 +30,11 @@ pub(crate) fn allowed(key: Key, table: &Table) -> &'static str {
         Key::Points => {
             "points are 1 to 64 numbers or ranges from 0 to 4294967295, as points = [\"7\", \"40..49\"]"
         }
-        Key::Most =>
-            "an allow rule lets 1 to 64 commands of a session through, as most = 2, beside seconds",
-        Key::Seconds => "the time of a rate is 1 to 86400 seconds, as seconds = 60, beside most",
+        Key::Most => {
+            "a rule that allows may have a rate, most 1 to 64 in seconds 1 to 86400, as most = 2 and seconds = 60; at most 16 rules"
+        }
+        Key::Seconds =>
+            "the time of a rate is 1 to 86400 seconds, as seconds = 60, beside most = 2",
         Key::Values => {
             "values are 1 to 64 numbers or ranges from -2147483648 to 4294967295, as values = [\"-5..5\"]"
         }

@@ -64,20 +64,24 @@ impl Level {
     }
 }
 
-/// The first key of a table, in the order of its letters, that its level does not have; else `master`, which only DNP3 has.
+/// The first key of a table, in the order of its letters, that its level does not have. Else it is one that the level has in some
+/// tables alone: of a rule `most`, of an asset `master`.
 pub(crate) fn unknown_key(level: Level, table: &Table) -> &str {
     for key in table.keys() {
         if !level.keys().contains(&key.as_str()) {
             return key.as_str();
         }
     }
-    "master"
+    match level {
+        Level::Rule => "most",
+        Level::Document | Level::Asset => "master",
+    }
 }
 
 /// What is wrong with a key, and what may have been meant.
 pub(crate) fn push_unknown(out: &mut Page, level: Level, key: &str) {
-    if level == Level::Asset && key == "master" {
-        out.push("`master` is a key of DNP3 assets alone: leave it out");
+    if let Some(text) = of_some(level, key) {
+        out.push(text);
         return;
     }
     push_quoted(out, key);
@@ -85,6 +89,17 @@ pub(crate) fn push_unknown(out: &mut Page, level: Level, key: &str) {
     match other_level(level, key) {
         Some(place) => out.push(place),
         None => push_meant(out, key, level.keys(), "`"),
+    }
+}
+
+/// Which tables of a level have a key that not all of them have.
+fn of_some(level: Level, key: &str) -> Option<&'static str> {
+    match (level, key) {
+        (Level::Asset, "master") => Some("`master` is a key of DNP3 assets alone: leave it out"),
+        (Level::Rule, "most") => {
+            Some("`most` is a key of rules that allow alone, as `seconds` is: leave both out")
+        }
+        _ => None,
     }
 }
 

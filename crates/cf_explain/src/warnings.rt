@@ -141,6 +141,9 @@ fn push_covered(out: &mut Page, subject: &Subject<'_>, earlier: usize) {
             push_quoted(out, first.name.as_str());
             out.push(" ");
             out.push(before_it(first.action, subject.rule.action));
+            if subject.rule.rate.is_some() {
+                out.push(", so its rate bounds nothing");
+            }
         }
         None => out.push("stands before it and has all that it has"),
     }

@@ -197,6 +197,10 @@ fn earlier_endpoint(case: &Case<'_>) -> Option<u32> {
 
 /// A list of more entries than it may have.
 fn push_too_many(out: &mut Page, key: Key, value: &Value) {
+    if key == Key::Most {
+        out.push("16 rules of this asset before it have a rate");
+        return;
+    }
     out.push_all(&["`", key.as_str(), "` has "]);
     match value {
         Value::Array(entries) => out.push_number(entries.len() as u64),

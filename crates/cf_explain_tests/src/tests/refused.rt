@@ -337,6 +337,30 @@ p: asset 1 "pump", rule 1 "poll": entry 1 of `points` is the number 40, and has 
 p:12:1: asset 1 "pump", rule 1 "poll": `values` is the text "[[asset.rule]]\ncodes = 1", and has to be a list of texts
   values are 1 to 64 numbers or ranges from -2147483648 to 4294967295, as values = ["-5..5"]
 
+10: action = "refuse" / most = 2 / seconds = 60
+p:11:1: asset 1 "pump", rule 1 "poll": `most` is a key of rules that allow alone, as `seconds` is: leave both out
+  a rule has name, action, codes, and may have clients, groups, points, values, most and seconds
+
+19: most = 2
+p:12:1: asset 1 "pump", rule 2 "set": `seconds` is missing
+  the time of a rate is 1 to 86400 seconds, as seconds = 60, beside most = 2
+
+19: seconds = 60
+p:12:1: asset 1 "pump", rule 2 "set": `most` is missing
+  a rule that allows may have a rate, most 1 to 64 in seconds 1 to 86400, as most = 2 and seconds = 60; at most 16 rules
+
+19: most = 65 / seconds = 60
+p:19:1: asset 1 "pump", rule 2 "set": `most` is the number 65, out of its range
+  a rule that allows may have a rate, most 1 to 64 in seconds 1 to 86400, as most = 2 and seconds = 60; at most 16 rules
+
+19: most = 64 / seconds = 86401
+p:20:1: asset 1 "pump", rule 2 "set": `seconds` is the number 86401, out of its range
+  the time of a rate is 1 to 86400 seconds, as seconds = 60, beside most = 2
+
+19: most = "2" / seconds = 60
+p:19:1: asset 1 "pump", rule 2 "set": `most` is the text "2", and has to be a whole number
+  a rule that allows may have a rate, most 1 to 64 in seconds 1 to 86400, as most = 2 and seconds = 60; at most 16 rules
+
 text: version = 1 / asset = [{ name = "A" }]
 p: asset 1 "A": `name` is "A": it has capital letters
   a name has 1 to 32 of the letters a to z, the digits, _ and -, as name = "pump""#;

@@ -64,6 +64,11 @@ action: action="refuse" | lists:codes=[6] / points=["0..9"] | more: [[asset.rule
 p:13:1: warning: asset 1 "x", rule 2 "b": it decides nothing: rule 1 "a" stands before it and refuses all that it would allow
 .
 
+lists: codes = [6] | more: [[asset.rule]] / name = "b" / action = "allow" / codes = [6] / most = 1 / seconds = 1
+p:12:1: warning: asset 1 "x", rule 2 "b": it decides nothing: rule 1 "a" stands before it and has all that it has, so its rate
+    bounds nothing
+.
+
 lists: codes = [3] / clients = ["10.0.0.5"] | more: [[asset.rule]] / name = "b" / action = "allow" / codes = [3]
 .
 
