@@ -1,4 +1,5 @@
 //! What is allowed at a key.
+use crate::unknown::Level;
 use cf_policylang::Key;
 use toml::{Table, Value};
 
@@ -6,7 +7,9 @@ use toml::{Table, Value};
 pub(crate) fn allowed(key: Key, table: &Table) -> &'static str {
     match key {
         Key::Nothing => "keys are in docs/POLICY.md",
-        Key::Version => "write version = 1 above the first table",
+        Key::Version =>
+            "write version = 1 above the first table, or version = 2 where rules name sets of points",
+        Key::Set => "each set of points is a table [[set]] with a name and points, at most 64",
         Key::Asset =>
             "each controller is a table [[asset]], at most 256; a policy of none has asset = []",
         Key::Name =>
@@ -42,13 +45,13 @@ pub(crate) fn allowed(key: Key, table: &Table) -> &'static str {
 }
 
 /// What has to differ at a key.
-pub(crate) fn apart(key: Key, rule: u32) -> &'static str {
-    if key == Key::Port {
-        "no two assets have the same address and port"
-    } else if rule == 0 {
-        "no two assets have the same name"
-    } else {
-        "no two rules of an asset have the same name, and none has the name default, station or form"
+pub(crate) fn apart(key: Key, level: Level) -> &'static str {
+    match (key, level) {
+        (Key::Port, _) => "no two assets have the same address and port",
+        (_, Level::Set) => "no two sets have the same name",
+        (_, Level::Rule) =>
+            "no two rules of an asset have the same name, and none has the name default, station or form",
+        _ => "no two assets have the same name",
     }
 }
 

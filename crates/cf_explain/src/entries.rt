@@ -37,7 +37,7 @@ fn misread(key: Key, text: &str) -> &'static str {
     } else if text.contains(".") {
         "numbers have no point"
     } else if text.starts_with("@") {
-        "there are no sets of points in version 1"
+        "sets are named in the points of rules alone, and in version 2"
     } else if text.contains("-") {
         "a range has two points between its numbers, as 40..49"
     } else if text.contains(" ") {
@@ -84,8 +84,24 @@ fn client_fault(text: &str) -> Option<&'static str> {
     }
 }
 
-/// Why an entry of the kind of a key's list is refused, if it is.
-fn entry_fault(key: Key, value: &Value) -> Option<&'static str> {
+/// Why a text behind `@` is no name of a set, if it is none.
+fn set_fault(name: &str) -> Option<&'static str> {
+    if name.is_empty() {
+        return Some("behind @ stands the name of a set");
+    }
+    name_fault(name)
+}
+
+/// Why a text is no point, no range of points and, where sets may be named, no set, if it is none.
+fn point_fault(names_sets: bool, text: &str) -> Option<&'static str> {
+    match text.strip_prefix("@") {
+        Some(name) if names_sets => set_fault(name),
+        _ => span_fault(Key::Points, 0, HIGHEST_POINT, text),
+    }
+}
+
+/// Why an entry of the kind of a key's list is refused, if it is; in the points of some rules sets may be named.
+fn entry_fault(key: Key, names_sets: bool, value: &Value) -> Option<&'static str> {
     match (key, value) {
         (Key::Codes, Value::Integer(code)) if *code < 0 => Some("the number is too low"),
         (Key::Codes, Value::Integer(code)) if *code > HIGHEST_CODE => Some(
@@ -93,7 +109,7 @@ fn entry_fault(key: Key, value: &Value) -> Option<&'static str> {
         ),
         (Key::Clients, Value::String(text)) => client_fault(text.as_str()),
         (Key::Groups, Value::String(text)) => span_fault(key, 0, HIGHEST_GROUP, text.as_str()),
-        (Key::Points, Value::String(text)) => span_fault(key, 0, HIGHEST_POINT, text.as_str()),
+        (Key::Points, Value::String(text)) => point_fault(names_sets, text.as_str()),
         (Key::Values, Value::String(text)) => span_fault(
             key,
             LOWEST_VALUE,
@@ -105,12 +121,16 @@ fn entry_fault(key: Key, value: &Value) -> Option<&'static str> {
 }
 
 /// The first entry of a list that is refused: its number from 1, and why.
-pub(crate) fn first_fault(key: Key, entries: &[Value]) -> Option<(usize, &Value, &'static str)> {
+pub(crate) fn first_fault(
+    key: Key,
+    names_sets: bool,
+    entries: &[Value],
+) -> Option<(usize, &Value, &'static str)> {
     let index = entries
         .iter()
-        .position(|entry| entry_fault(key, entry).is_some())?;
+        .position(|entry| entry_fault(key, names_sets, entry).is_some())?;
     let entry = entries.get(index)?;
-    let fault = entry_fault(key, entry)?;
+    let fault = entry_fault(key, names_sets, entry)?;
     Some((index.saturating_add(1), entry, fault))
 }
 

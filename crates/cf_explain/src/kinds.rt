@@ -11,7 +11,7 @@ fn wanted(key: Key) -> &'static str {
         Key::Version | Key::Port | Key::Station | Key::Master | Key::Most | Key::Seconds =>
             "a whole number",
         Key::Name | Key::Address | Key::Protocol | Key::Action => "a text between quotation marks",
-        Key::Asset | Key::Rule => "a list of tables",
+        Key::Set | Key::Asset | Key::Rule => "a list of tables",
         Key::Clients | Key::Groups | Key::Points | Key::Values => "a list of texts",
         Key::Codes => "a list of whole numbers",
     }
@@ -21,7 +21,7 @@ fn wanted(key: Key) -> &'static str {
 fn wanted_entry(key: Key) -> &'static str {
     match key {
         Key::Codes => "a whole number",
-        Key::Asset | Key::Rule => "a table",
+        Key::Set | Key::Asset | Key::Rule => "a table",
         _ => "a text between quotation marks",
     }
 }
@@ -30,7 +30,7 @@ fn wanted_entry(key: Key) -> &'static str {
 fn is_entry(key: Key, value: &Value) -> bool {
     match key {
         Key::Codes => matches!(value, Value::Integer(_)),
-        Key::Asset | Key::Rule => matches!(value, Value::Table(_)),
+        Key::Set | Key::Asset | Key::Rule => matches!(value, Value::Table(_)),
         _ => matches!(value, Value::String(_)),
     }
 }
@@ -43,7 +43,7 @@ fn first_other(key: Key, entries: &[Value]) -> Option<(usize, &Value)> {
 }
 
 /// The entries of a list; none of what is no list.
-fn entries_of(value: &Value) -> &[Value] {
+pub(crate) fn entries_of(value: &Value) -> &[Value] {
     match value {
         Value::Array(entries) => entries.as_slice(),
         _ => &[],
@@ -81,6 +81,7 @@ pub(crate) fn push_keyed(out: &mut Page, name: &str, value: &Value) {
 /// A table in single brackets where a list of tables stands.
 fn brackets(key: Key, value: &Value) -> &'static str {
     match (key, value) {
+        (Key::Set, Value::Table(_)) => ": write [[set]], with two brackets",
         (Key::Asset, Value::Table(_)) => ": write [[asset]], with two brackets",
         (Key::Rule, Value::Table(_)) => ": write [[asset.rule]], with two brackets",
         _ => "",

@@ -40,10 +40,13 @@ pub(crate) struct Target<'a> {
     pub(crate) key: Option<&'a str>,
 }
 
-/// The table of the document (0 and 0), of an asset (its rule 0) or of a rule.
+/// The table of the document (0 and 0), of a set (the asset 0), of an asset (its rule 0) or of a rule.
 pub(crate) fn table_at(document: &Table, asset: u32, rule: u32) -> Option<&Table> {
-    if asset == 0 {
+    if asset == 0 && rule == 0 {
         return Some(document);
+    }
+    if asset == 0 {
+        return entry_at(document, "set", rule);
     }
     let asset = entry_at(document, "asset", asset)?;
     if rule == 0 {
@@ -134,24 +137,40 @@ fn last_part(name: &str) -> &str {
     }
 }
 
-/// The table whose lines are scanned: by the headers of assets and rules so far.
+/// The table whose lines are scanned, numbered as a refusal has it, and how many headers of assets and of sets there were so far.
 #[derive(Clone, Copy, PartialEq, Eq)]
 struct Section {
     asset: u32,
     rule: u32,
+    assets: u32,
+    sets: u32,
 }
 
 impl Section {
     /// The section behind a line.
     fn behind(self, look: Look<'_>) -> Section {
         match look {
-            Look::Header("asset") => Section {
-                asset: self.asset.saturating_add(1),
-                rule: 0,
-            },
+            Look::Header("set") => {
+                let sets = self.sets.saturating_add(1);
+                Section {
+                    asset: 0,
+                    rule: sets,
+                    assets: self.assets,
+                    sets,
+                }
+            }
+            Look::Header("asset") => {
+                let assets = self.assets.saturating_add(1);
+                Section {
+                    asset: assets,
+                    rule: 0,
+                    assets,
+                    sets: self.sets,
+                }
+            }
             Look::Header("asset.rule") => Section {
-                asset: self.asset,
                 rule: self.rule.saturating_add(1),
+                ..self
             },
             _ => self,
         }
@@ -176,7 +195,12 @@ impl Section {
 
 /// Where a table or a key begins in a text, if a line says so.
 pub(crate) fn find_place(alloc: Global, text: &[u8], target: &Target<'_>) -> Option<TextPlace> {
-    let mut section = Section { asset: 0, rule: 0 };
+    let mut section = Section {
+        asset: 0,
+        rule: 0,
+        assets: 0,
+        sets: 0,
+    };
     let mut tries = TRIES;
     let mut start = 0usize;
     for line in text.split(|byte| *byte == b'\n') {

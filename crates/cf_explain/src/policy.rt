@@ -157,7 +157,9 @@ fn push_case(out: &mut Page, text: &[u8], refusal: &PolicyRefusal, case: &Case<'
 fn allowed_at(case: &Case<'_>) -> &'static str {
     match case.cause {
         Cause::UnknownKey => Level::of(case.asset, case.rule).allowed(),
-        Cause::Duplicate => apart(case.key, case.rule),
+        Cause::Duplicate => apart(case.key, Level::of(case.asset, case.rule)),
+        Cause::UnknownSet =>
+            "a set of points is a table [[set]] with a name and points, and a rule names it as points = [\"@low\"]",
         _ => allowed(case.key, case.table),
     }
 }

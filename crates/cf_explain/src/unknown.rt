@@ -4,7 +4,10 @@ use crate::page::Page;
 use crate::quote::push_quoted;
 use toml::Table;
 
-const DOCUMENT_KEYS: [&str; 2] = ["version", "asset"];
+/// The keys of the document, of which version 1 does not have `set`.
+const DOCUMENT_KEYS: [&str; 3] = ["version", "asset", "set"];
+
+const SET_KEYS: [&str; 2] = ["name", "points"];
 
 const ASSET_KEYS: [&str; 7] = [
     "name", "address", "port", "protocol", "station", "master", "rule",
@@ -18,6 +21,7 @@ const RULE_KEYS: [&str; 9] = [
 #[derive(Clone, Copy, PartialEq, Eq)]
 pub(crate) enum Level {
     Document,
+    Set,
     Asset,
     Rule,
 }
@@ -25,18 +29,18 @@ pub(crate) enum Level {
 impl Level {
     /// The level of a refusal's numbers.
     pub(crate) fn of(asset: u32, rule: u32) -> Level {
-        if asset == 0 {
-            Level::Document
-        } else if rule == 0 {
-            Level::Asset
-        } else {
-            Level::Rule
+        match (asset, rule) {
+            (0, 0) => Level::Document,
+            (0, _) => Level::Set,
+            (_, 0) => Level::Asset,
+            _ => Level::Rule,
         }
     }
 
     fn keys(self) -> &'static [&'static str] {
         match self {
             Level::Document => &DOCUMENT_KEYS,
+            Level::Set => &SET_KEYS,
             Level::Asset => &ASSET_KEYS,
             Level::Rule => &RULE_KEYS,
         }
@@ -45,6 +49,7 @@ impl Level {
     fn name(self) -> &'static str {
         match self {
             Level::Document => "the document",
+            Level::Set => "a set of points",
             Level::Asset => "an asset",
             Level::Rule => "a rule",
         }
@@ -54,7 +59,8 @@ impl Level {
     pub(crate) fn allowed(self) -> &'static str {
         match self {
             Level::Document =>
-                "above the first table the document has version = 1, and then tables [[asset]]",
+                "above the first table the document has version = 1, and then tables [[asset]]; version = 2 has tables [[set]] too",
+            Level::Set => "a set of points has a name and points, and no other keys",
             Level::Asset => {
                 "an asset has name, address, port, protocol, station, for DNP3 master, and tables [[asset.rule]]"
             }
@@ -64,8 +70,8 @@ impl Level {
     }
 }
 
-/// The first key of a table, in the order of its letters, that its level does not have. Else it is one that the level has in some
-/// tables alone: of a rule `most`, of an asset `master`.
+/// The first key of a table, in the order of its letters, that its level does not have; else the one that only some tables of the
+/// level have: `set` of version 2, `master` of DNP3, `most` of rules that allow.
 pub(crate) fn unknown_key(level: Level, table: &Table) -> &str {
     for key in table.keys() {
         if !level.keys().contains(&key.as_str()) {
@@ -73,15 +79,28 @@ pub(crate) fn unknown_key(level: Level, table: &Table) -> &str {
         }
     }
     match level {
+        Level::Document => "set",
         Level::Rule => "most",
-        Level::Document | Level::Asset => "master",
+        Level::Set | Level::Asset => "master",
+    }
+}
+
+/// What is wrong with a key that only some tables of a level have.
+fn not_here(level: Level, key: &str) -> Option<&'static str> {
+    match (level, key) {
+        (Level::Document, "set") => Some("`set` is a key of version 2 alone"),
+        (Level::Asset, "master") => Some("`master` is a key of DNP3 assets alone: leave it out"),
+        (Level::Rule, "most") => Some(
+            "`most` is a key of rules that allow alone: leave it and `seconds` out",
+        ),
+        _ => None,
     }
 }
 
 /// What is wrong with a key, and what may have been meant.
 pub(crate) fn push_unknown(out: &mut Page, level: Level, key: &str) {
-    if let Some(text) = of_some(level, key) {
-        out.push(text);
+    if let Some(fault) = not_here(level, key) {
+        out.push(fault);
         return;
     }
     push_quoted(out, key);
@@ -89,17 +108,6 @@ pub(crate) fn push_unknown(out: &mut Page, level: Level, key: &str) {
     match other_level(level, key) {
         Some(place) => out.push(place),
         None => push_meant(out, key, level.keys(), "`"),
-    }
-}
-
-/// Which tables of a level have a key that not all of them have.
-fn of_some(level: Level, key: &str) -> Option<&'static str> {
-    match (level, key) {
-        (Level::Asset, "master") => Some("`master` is a key of DNP3 assets alone: leave it out"),
-        (Level::Rule, "most") => {
-            Some("`most` is a key of rules that allow alone, as `seconds` is: leave both out")
-        }
-        _ => None,
     }
 }
 
@@ -113,6 +121,9 @@ fn other_level(level: Level, key: &str) -> Option<&'static str> {
     }
     if level != Level::Asset && ASSET_KEYS.contains(&key) {
         return Some(": it stands in an asset, below [[asset]] and above its first [[asset.rule]]");
+    }
+    if level != Level::Document && key == "set" {
+        return Some(": a set of points is a table [[set]]");
     }
     if level != Level::Document && DOCUMENT_KEYS.contains(&key) {
         return Some(": it stands above the first [[asset]]");

@@ -1,11 +1,12 @@
 //! What is wrong with a policy that is TOML, by the cause of its refusal.
 use crate::entries::{address_fault, first_fault, name_fault};
-use crate::kinds::{push_entry, push_keyed, push_wrong_kind};
+use crate::kinds::{entries_of, push_entry, push_keyed, push_wrong_kind};
 use crate::nearest::{nearest, push_meant};
 use crate::page::Page;
 use crate::place::table_at;
 use crate::quote::{push_quoted, push_value};
 use crate::unknown::{Level, push_unknown};
+use cf_policy::MOST_SPANS;
 use cf_policylang::{Cause, Key, PolicyRefusal};
 use toml::{Table, Value};
 
@@ -25,6 +26,7 @@ pub(crate) fn cause_of(number: u8) -> Option<Cause> {
         7 => Some(Cause::Duplicate),
         8 => Some(Cause::TooMany),
         9 => Some(Cause::Version),
+        10 => Some(Cause::UnknownSet),
         _ => None,
     }
 }
@@ -39,7 +41,7 @@ pub(crate) struct Case<'a> {
     /// The name of the key, also of one that its table does not have.
     pub(crate) name: &'a str,
     pub(crate) document: &'a Table,
-    /// The table of the document, of the asset or of the rule.
+    /// The table of the document, of the set, of the asset or of the rule.
     pub(crate) table: &'a Table,
 }
 
@@ -59,9 +61,10 @@ pub(crate) fn push_wrong(out: &mut Page, case: &Case<'_>) {
 fn push_wrong_value(out: &mut Page, case: &Case<'_>, value: &Value) {
     match case.cause {
         Cause::WrongKind => push_wrong_kind(out, case.key, value),
-        Cause::BadAddress | Cause::BadRange => push_bad(out, case.key, value),
+        Cause::BadAddress | Cause::BadRange => push_bad(out, case, value),
         Cause::Duplicate => push_duplicate(out, case, value),
-        Cause::TooMany => push_too_many(out, case.key, value),
+        Cause::TooMany => push_too_many(out, case.name, value),
+        Cause::UnknownSet => push_unknown_set(out, case, value),
         _ => push_keyed(out, case.name, value),
     }
 }
@@ -80,26 +83,75 @@ fn push_missing(out: &mut Page, case: &Case<'_>) {
 }
 
 /// A value outside its range, or an address that is none.
-fn push_bad(out: &mut Page, key: Key, value: &Value) {
+fn push_bad(out: &mut Page, case: &Case<'_>, value: &Value) {
     match value {
-        Value::Array(entries) => push_bad_list(out, key, entries.as_slice()),
-        Value::String(text) => push_bad_text(out, key, text.as_str()),
+        Value::Array(entries) => push_bad_list(out, case, entries.as_slice()),
+        Value::String(text) => push_bad_text(out, case.key, text.as_str()),
         _ => {
-            push_keyed(out, key.as_str(), value);
+            push_keyed(out, case.name, value);
             out.push(", out of its range");
         }
     }
 }
 
 /// A list without entries, or its first entry that is refused.
-fn push_bad_list(out: &mut Page, key: Key, entries: &[Value]) {
-    match first_fault(key, entries) {
+fn push_bad_list(out: &mut Page, case: &Case<'_>, entries: &[Value]) {
+    match first_fault(case.key, names_sets(case), entries) {
         Some((number, entry, fault)) => {
-            push_entry(out, key, number, entry);
+            push_entry(out, case.key, number, entry);
             out.push_all(&[": ", fault]);
         }
-        None if entries.is_empty() => out.push_all(&["`", key.as_str(), "` is an empty list"]),
-        None => out.push_all(&["an entry of `", key.as_str(), "` is out of its range"]),
+        None if entries.is_empty() => out.push_all(&["`", case.name, "` is an empty list"]),
+        None => out.push_all(&["an entry of `", case.name, "` is out of its range"]),
+    }
+}
+
+/// Whether the points of the table may name sets: those of a rule of version 2.
+fn names_sets(case: &Case<'_>) -> bool {
+    case.asset != 0 && case.document.get("version") == Some(&Value::Integer(2))
+}
+
+/// The first entry that names no set of the document, and a set that may be meant.
+fn push_unknown_set(out: &mut Page, case: &Case<'_>, value: &Value) {
+    let sets = case.document.get("set").map_or(&[][..], entries_of);
+    for (index, entry) in entries_of(value).iter().enumerate() {
+        if let Some(name) = set_named(entry) {
+            if !sets.iter().any(|set| name_of(set) == Some(name)) {
+                push_entry(out, case.key, index.saturating_add(1), entry);
+                out.push(": no set has this name");
+                push_near_set(out, name, sets);
+                return;
+            }
+        }
+    }
+    push_keyed(out, case.name, value);
+}
+
+/// The name behind `@` of an entry that names a set.
+fn set_named(entry: &Value) -> Option<&str> {
+    match entry {
+        Value::String(text) => text.strip_prefix("@"),
+        _ => None,
+    }
+}
+
+/// The name that a set's table states.
+fn name_of(set: &Value) -> Option<&str> {
+    match set {
+        Value::Table(table) => table.get("name")?.as_str(),
+        _ => None,
+    }
+}
+
+/// The first set whose name may be meant by this one.
+fn push_near_set(out: &mut Page, name: &str, sets: &[Value]) {
+    for set in sets {
+        if let Some(meant) = name_of(set) {
+            if nearest(out, name, &[meant]).is_some() {
+                out.push_all(&["; did you mean \"@", meant, "\"?"]);
+                return;
+            }
+        }
     }
 }
 
@@ -131,7 +183,7 @@ fn known_texts(key: Key) -> &'static [&'static str] {
     }
 }
 
-/// A name or an address with its port that an earlier asset or rule has, or a name that no rule may have.
+/// A name or an address with its port that an earlier set, asset or rule has, or a name that no rule may have.
 fn push_duplicate(out: &mut Page, case: &Case<'_>, value: &Value) {
     if case.key == Key::Port {
         push_same_endpoint(out, case);
@@ -139,27 +191,27 @@ fn push_duplicate(out: &mut Page, case: &Case<'_>, value: &Value) {
     }
     push_keyed(out, "name", value);
     match earlier_name(case, value) {
-        Some(number) => push_holder(out, case.rule, number),
+        Some(number) => push_holder(out, Level::of(case.asset, case.rule), number),
         None => out.push(", which the log uses for what is no rule"),
     }
 }
 
-/// The asset, or the rule of the same asset, that has a name.
-fn push_holder(out: &mut Page, rule: u32, number: u32) {
-    out.push(if rule == 0 {
-        ", which asset "
-    } else {
-        ", which rule "
+/// The set, the asset, or the rule of the same asset, that has a name.
+fn push_holder(out: &mut Page, level: Level, number: u32) {
+    out.push(match level {
+        Level::Set => ", which set ",
+        Level::Rule => ", which rule ",
+        _ => ", which asset ",
     });
     out.push_number(u64::from(number));
-    out.push(if rule == 0 {
-        " has"
-    } else {
+    out.push(if level == Level::Rule {
         " of this asset has"
+    } else {
+        " has"
     });
 }
 
-/// The first asset, or rule of this asset, before this one that has the same name.
+/// The first set, asset, or rule of this asset, before this one that has the same name.
 fn earlier_name(case: &Case<'_>, name: &Value) -> Option<u32> {
     if case.rule == 0 {
         (1..case.asset).find(|number| at_key(case.document, *number, 0, "name") == Some(name))
@@ -169,7 +221,7 @@ fn earlier_name(case: &Case<'_>, name: &Value) -> Option<u32> {
     }
 }
 
-/// The value at a key of an asset or a rule.
+/// The value at a key of a set, an asset or a rule.
 fn at_key<'a>(document: &'a Table, asset: u32, rule: u32, key: &str) -> Option<&'a Value> {
     table_at(document, asset, rule)?.get(key)
 }
@@ -196,17 +248,18 @@ fn earlier_endpoint(case: &Case<'_>) -> Option<u32> {
 }
 
 /// A list of more entries than it may have.
-fn push_too_many(out: &mut Page, key: Key, value: &Value) {
-    if key == Key::Most {
+fn push_too_many(out: &mut Page, name: &str, value: &Value) {
+    if name == "most" {
         out.push("16 rules of this asset before it have a rate");
         return;
     }
-    out.push_all(&["`", key.as_str(), "` has "]);
-    match value {
-        Value::Array(entries) => out.push_number(entries.len() as u64),
-        _ => out.push("too many"),
-    }
+    let count = entries_of(value).len();
+    out.push_all(&["`", name, "` has "]);
+    out.push_number(count as u64);
     out.push(" entries");
+    if count <= MOST_SPANS {
+        out.push(", and with the points of the sets that they name more than 64");
+    }
 }
 
 /// The name of a table, if it states one.
@@ -217,19 +270,24 @@ pub(crate) fn push_named(out: &mut Page, table: Option<&Table>) {
     }
 }
 
-/// The asset and the rule of a refusal, by number and name.
+/// The set, or the asset and the rule, of a refusal, by number and name.
 pub(crate) fn push_where(out: &mut Page, document: &Table, refusal: &PolicyRefusal) {
     let (asset, rule) = (refusal.asset, refusal.rule);
-    if asset == 0 {
-        return;
-    }
-    out.push("asset ");
-    out.push_number(u64::from(asset));
-    push_named(out, table_at(document, asset, 0));
-    if rule != 0 {
-        out.push(", rule ");
-        out.push_number(u64::from(rule));
-        push_named(out, table_at(document, asset, rule));
+    match Level::of(asset, rule) {
+        Level::Document => return,
+        Level::Set => push_table(out, "set ", rule, table_at(document, 0, rule)),
+        Level::Asset => push_table(out, "asset ", asset, table_at(document, asset, 0)),
+        Level::Rule => {
+            push_table(out, "asset ", asset, table_at(document, asset, 0));
+            push_table(out, ", rule ", rule, table_at(document, asset, rule));
+        }
     }
     out.push(": ");
+}
+
+/// A table by its number, and its name if it states one.
+fn push_table(out: &mut Page, word: &str, number: u32, table: Option<&Table>) {
+    out.push(word);
+    out.push_number(u64::from(number));
+    push_named(out, table);
 }

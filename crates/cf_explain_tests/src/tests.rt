@@ -96,6 +96,7 @@ fn policies_mean_what_they_say(rt: HostRuntime) -> Result<(), Fail> {
         policies::RULES,
         policies::ORDER,
         policies::LIMITS,
+        policies::SETS,
     ] {
         play_lines(&rt, alloc, Subject::Meaning, rows)?;
     }

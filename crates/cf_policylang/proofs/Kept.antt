@@ -32,10 +32,13 @@ use Rattle.cf_policylang.specs.declared.refusal.PolicyRefusal.{PolicyRefusal}
 use Rattle.cf_policylang.specs.Tested.{Answers, Tested, or_refused, at_asset, at_document, at_rule}
 use Rattle.cf_policylang.specs.Assets.{asset, asset_keys, asset_name, assets_from, asset_address, endpoint, is_asset_taken, is_endpoint_taken, is_same_endpoint, master, no_master, number_at, protocol}
 use Rattle.cf_policylang.specs.Documents.{document, document_keys, asset_items, text_meaning, toml_of, version}
-use Rattle.cf_policylang.specs.Fields.{as_text, as_number, as_table, as_array_of, count, has_other, required, stated, number_in, tables_from}
+use Rattle.cf_policylang.specs.Fields.{name, as_text, as_number, as_table, as_array_of, count, has_other, required, stated, number_in, tables_from}
 use Rattle.cf_policylang.specs.Numbers.{address}
 use Rattle.cf_policylang.specs.Rates.{rate, rate_number, rate_value, states_rate}
-use Rattle.cf_policylang.specs.Rules.{rule, rule_keys, rule_name, name, action, is_rule_taken, client_spans, code_spans, group_spans, point_spans, value_spans, rule_items, rules, rules_from}
+use Rattle.cf_policylang.specs.Rules.{rule, rule_keys, rule_name, action, is_rule_taken, client_spans, code_spans, group_spans, value_spans, rule_items, rules, rules_from}
+use Rattle.cf_policylang.specs.declared.sets.Named.{Named}
+use Rattle.cf_policylang.specs.Sets.{rule_points, sets}
+use Rattle.cf_policylang.proofs.SetsKept.{IsSetWithin, rule_points_if, sets_if}
 use Rattle.cf_policylang.proofs.Ranges.{and_then_if, and_then_any, unless_if, or_refused_if, IsNaturalIn, number_in_if, address_if, IsCode, AreRead as AreSpansRead, address_entry_if, code_entry_if, number_entry_if, spans_if, optional_spans_if}
 
 -- ---- names
@@ -169,8 +172,8 @@ rate_if p seen a ms =
       few = λ h. (let under = leb-false most_rated (rated_count seen) room in omega (arith, under));
     }))))
 
-rule_if : (p : Place) (seen : List Rule) (ms : Members) → IfOk (rule p seen ms) (IsNextRule seen)
-rule_if p seen ms =
+rule_if : (named : Named) → All IsSetWithin named.sets → (p : Place) (seen : List Rule) (ms : Members) → IfOk (rule named p seen ms) (IsNextRule seen)
+rule_if named kept p seen ms =
     unless_if (IsNextRule seen) (has_other rule_keys ms) _ _
     (λ _. and_then_if (IsRuleName seen) (IsNextRule seen) (rule_name p seen ms) _ (rule_name_if p seen ms)
     (λ own_name n. and_then_any (IsNextRule seen) (action p ms) _
@@ -180,8 +183,8 @@ rule_if p seen ms =
     (and_then_any (AreSpansRead IsCode 1) (required key.Codes p ms) _ (λ d. spans_if IsCode entries.Codes key.Codes p (code_entry_if key.Codes p) d))
     (λ own_codes co. and_then_if (AreSpansRead (IsSpanWithin (pos 0) highest_group) 0) (IsNextRule seen) (group_spans p ms) _
     (optional_spans_if (IsSpanWithin (pos 0) highest_group) (entries.Numbers (pos 0) highest_group) key.Groups p (number_entry_if (pos 0) highest_group key.Groups p) ms)
-    (λ own_groups gr. and_then_if (AreSpansRead (IsSpanWithin (pos 0) highest_point) 0) (IsNextRule seen) (point_spans p ms) _
-    (optional_spans_if (IsSpanWithin (pos 0) highest_point) (entries.Numbers (pos 0) highest_point) key.Points p (number_entry_if (pos 0) highest_point key.Points p) ms)
+    (λ own_groups gr. and_then_if (AreSpansRead (IsSpanWithin (pos 0) highest_point) 0) (IsNextRule seen) (rule_points named p ms) _
+    (rule_points_if named kept p ms)
     (λ own_points po. and_then_if (AreSpansRead (IsSpanWithin lowest_value highest_value) 0) (IsNextRule seen) (value_spans p ms) _
     (optional_spans_if (IsSpanWithin lowest_value highest_value) (entries.Numbers lowest_value highest_value) key.Values p (number_entry_if lowest_value highest_value key.Values p) ms)
     (λ own_values va. and_then_if (IsRateRead seen own_action) (IsNextRule seen) (rate p seen own_action ms) _ (rate_if p seen own_action ms)
@@ -208,13 +211,13 @@ rule_items_if p (Some d) =
     and_then_any (λ ds. count ds ≤ 1024) (as_array_of kind.Table key.Rule p d) _
     (λ ds. unless_if (λ es. count es ≤ 1024) (nat_lt 1024 (count ds)) _ _ (λ e. grind (arith, nat_tests)))
 
-rules_if : (a : ℕ) (ms : Members) → IfOk (rules a ms) AreRulesWithin
-rules_if a ms =
+rules_if : (named : Named) → All IsSetWithin named.sets → (a : ℕ) (ms : Members) → IfOk (rules named a ms) AreRulesWithin
+rules_if named kept a ms =
     and_then_if (λ ds. count ds ≤ 1024) AreRulesWithin (rule_items (at_asset a) (stated key.Rule ms)) _ (rule_items_if (at_asset a) (stated key.Rule ms))
-    (λ ds short. IfOk-weaker (rules_from a 0 ds []) (AreRead (0 + count ds) IsRuleWithin (λ r s. r.name ≢ s.name) AreFewRated) AreRulesWithin
+    (λ ds short. IfOk-weaker (rules_from named a 0 ds []) (AreRead (0 + count ds) IsRuleWithin (λ r s. r.name ≢ s.name) AreFewRated) AreRulesWithin
     (λ rs h. record { count = let long = h.count in omega arith; each = h.each; names = h.apart; rated = h.also })
-    (tables_from_if IsRuleWithin (λ r s. r.name ≢ s.name) AreFewRated key.Rule (at_asset a) (λ m. rule (at_rule a m))
-    (λ m. rule_if (at_rule a m)) 0 ds [] (none_read IsRuleWithin (λ r s. r.name ≢ s.name) AreFewRated (omega arith))))
+    (tables_from_if IsRuleWithin (λ r s. r.name ≢ s.name) AreFewRated key.Rule (at_asset a) (λ m. rule named (at_rule a m))
+    (λ m. rule_if named kept (at_rule a m)) 0 ds [] (none_read IsRuleWithin (λ r s. r.name ≢ s.name) AreFewRated (omega arith))))
 
 -- ---- assets
 
@@ -285,8 +288,8 @@ AreApart a b = (a.name ≢ b.name) × (a.endpoint ≢ b.endpoint)
 abbrev IsNextAsset : List Asset → Asset → Type 0
 IsNextAsset = IsNext IsAssetWithin AreApart (λ seen. Unit {0})
 
-asset_if : (n : ℕ) (seen : List Asset) (ms : Members) → IfOk (asset n seen ms) (IsNextAsset seen)
-asset_if n seen ms =
+asset_if : (named : Named) → All IsSetWithin named.sets → (n : ℕ) (seen : List Asset) (ms : Members) → IfOk (asset named n seen ms) (IsNextAsset seen)
+asset_if named kept n seen ms =
     let p = at_asset n in
     unless_if (IsNextAsset seen) (has_other asset_keys ms) _ _
     (λ _. and_then_if (IsAssetName seen) (IsNextAsset seen) (asset_name p seen ms) _ (asset_name_if p seen ms)
@@ -296,7 +299,7 @@ asset_if n seen ms =
     (number_at key.Station (lowest_station own_protocol) (highest_station own_protocol) p ms) _
     (number_at_if key.Station (lowest_station own_protocol) (highest_station own_protocol) p ms)
     (λ own_station st. and_then_if (λ n. n ≤ highest_master own_protocol) (IsNextAsset seen) (master own_protocol p ms) _ (master_if own_protocol p ms)
-    (λ own_master ma. and_then_if AreRulesWithin (IsNextAsset seen) (rules n ms) _ (rules_if n ms)
+    (λ own_master ma. and_then_if AreRulesWithin (IsNextAsset seen) (rules named n ms) _ (rules_if named kept n ms)
     (λ own_rules ru. record {
       within = record {
         name = na.form;
@@ -323,16 +326,17 @@ asset_items_if ms =
 document_if : (ms : Members) → IfOk (document ms) IsWithin
 document_if ms =
     and_then_any IsWithin (version ms) _
-    (λ _. unless_if IsWithin (has_other document_keys ms) _ _
-    (λ _. and_then_if (λ ds. count ds ≤ 256) IsWithin (asset_items ms) _ (asset_items_if ms)
-    (λ ds short. and_then_if (AreRead (0 + count ds) IsAssetWithin AreApart (λ seen. Unit {0})) IsWithin (assets_from 0 ds []) _
-    (tables_from_if IsAssetWithin AreApart (λ seen. Unit {0}) key.Asset at_document asset asset_if 0 ds [] (none_read IsAssetWithin AreApart (λ seen. Unit {0}) tt))
+    (λ own_edition. unless_if IsWithin (has_other (document_keys own_edition) ms) _ _
+    (λ _. and_then_if (All IsSetWithin) IsWithin (sets ms) _ (sets_if ms)
+    (λ own_sets kept. let named : Named = record { edition = own_edition; sets = own_sets } in and_then_if (λ ds. count ds ≤ 256) IsWithin (asset_items ms) _ (asset_items_if ms)
+    (λ ds short. and_then_if (AreRead (0 + count ds) IsAssetWithin AreApart (λ seen. Unit {0})) IsWithin (assets_from named 0 ds []) _
+    (tables_from_if IsAssetWithin AreApart (λ seen. Unit {0}) key.Asset at_document (asset named) (asset_if named kept) 0 ds [] (none_read IsAssetWithin AreApart (λ seen. Unit {0}) tt))
     (λ xs h. record {
       count = let long = h.count in omega arith;
       each = h.each;
       names = λ i j d lt inside. (h.apart i j d lt inside).0;
       endpoints = λ i j d lt inside. (h.apart i j d lt inside).1;
-    }))))
+    })))))
 
 meaning_if : (bytes : List ℕ) → IfOk (text_meaning bytes) IsWithin
 meaning_if bytes = and_then_any IsWithin (or_refused cause.NotToml key.Nothing at_document (toml_of bytes)) _ document_if

@@ -9,6 +9,7 @@ use Rattle.std.proofs.lemmas.Result.{IfOk-weaker}
 use Rattle.toml.specs.Data.{Data, Items, no_items, item, Members}
 use Rattle.cf_policy.specs.declared.policy.Span.{Span}
 use Rattle.cf_policy.specs.Within.{IsSpanWithin, highest_address, highest_code}
+use Rattle.cf_policylang.specs.declared.fields.Kind.{Kind}
 use Rattle.cf_policylang.specs.declared.lists.Entries.{Entries}
 use Rattle.cf_policylang.specs.declared.lists.Entries.TheVariants as entries
 use Rattle.cf_policylang.specs.declared.refusal.Key.{Key}
@@ -17,7 +18,7 @@ use Rattle.cf_policylang.specs.declared.refusal.Cause.TheVariants as cause
 use Rattle.cf_policylang.specs.declared.refusal.Place.{Place}
 use Rattle.cf_policylang.specs.declared.refusal.PolicyRefusal.{PolicyRefusal}
 use Rattle.cf_policylang.specs.Fields.{as_text, as_number, as_array_of, count, stated, number_in}
-use Rattle.cf_policylang.specs.Lists.{kind_of, address_span, code_span, entry, entries_from, spans, spans_if_any, optional_spans}
+use Rattle.cf_policylang.specs.Lists.{kind_of, address_span, code_span, entry, entries_from, listed, spans, spans_if_any, optional_spans}
 use Rattle.cf_policylang.specs.Numbers.{printed_number, printed_number_in, within, span, ends, number_span, octet, octets, joined, address, split_at_mark}
 use Rattle.cf_policylang.specs.Tested.{Tested, and_then, or_refused}
 use Rattle.cf_policylang.proofs.Printed.{within_cases}
@@ -38,6 +39,11 @@ and_then_any Q (Err r) next step = tt
 pub unless_if : {A : Type 0} (Q : A → Type 0) (b : Bool) (r : PolicyRefusal) (t : Tested A) → (b ≡ false → IfOk t Q) → IfOk (if b then Err r else t) Q
 unless_if Q true r t h = tt
 unless_if Q false r t h = h refl
+
+-- what follows where a test passes
+pub when_if : {A : Type 0} (Q : A → Type 0) (b : Bool) (t : Tested A) (r : PolicyRefusal) → IfOk t Q → IfOk (if b then t else Err r) Q
+when_if Q true t r h = h
+when_if Q false t r h = tt
 
 pub or_refused_if : {A : Type 0} (P : A → Type 0) (c : Cause) (k : Key) (p : Place) (o : Option A) → IfSome o P → IfOk (or_refused c k p o) P
 or_refused_if P c k p None h = tt
@@ -160,6 +166,18 @@ pub record AreRead (P : Span → Type 0) (least : ℕ) (ss : List Span) : Type 0
   pub some : least ≤ length ss
   pub each : All P ss
 
+-- the entries of a list as written: one at least and 64 at most
+record IsListed (ds : Items) : Type 0 where
+  some : 1 ≤ count ds
+  few : count ds ≤ 64
+
+listed_if : (kind : Kind) (k : Key) (p : Place) (d : Data) → IfOk (listed kind k p d) IsListed
+listed_if kind k p d =
+    and_then_any IsListed (as_array_of kind k p d) _
+    (λ ds. unless_if IsListed (nat_eq (count ds) 0) _ _
+    (λ some. unless_if IsListed (nat_lt 64 (count ds)) _ _
+    (λ short. record { some = grind (arith, nat_tests); few = grind (arith, nat_tests) })))
+
 module _ (P : Span → Type 0) (e : Entries) (k : Key) (p : Place) (keeps : (d : Data) → IfOk (entry e k p d) P) where
   entries_from_if : (ds : Items) (seen : List Span) → All P seen
       → IfOk (entries_from e k p ds seen) (λ ss. All P ss × (length ss ≡ length seen + count ds))
@@ -172,12 +190,10 @@ module _ (P : Span → Type 0) (e : Entries) (k : Key) (p : Place) (keeps : (d :
 
   pub spans_if : (d : Data) → IfOk (spans e k p d) (AreRead P 1)
   spans_if d =
-      and_then_any (AreRead P 1) (as_array_of (kind_of e) k p d) _
-      (λ ds. unless_if (AreRead P 1) (nat_eq (count ds) 0) _ _
-      (λ some. unless_if (AreRead P 1) (nat_lt 64 (count ds)) _ _
-      (λ short. IfOk-weaker (entries_from e k p ds []) _ (AreRead P 1)
-      (λ ss g. let long = g.1 in record { count = grind (arith, nat_tests); some = grind (arith, nat_tests); each = g.0 })
-      (entries_from_if ds [] (All-nil P)))))
+      and_then_if IsListed (AreRead P 1) (listed (kind_of e) k p d) _ (listed_if (kind_of e) k p d)
+      (λ ds h. IfOk-weaker (entries_from e k p ds []) _ (AreRead P 1)
+      (λ ss g. let long = g.1 in let some = h.some in let few = h.few in record { count = omega arith; some = omega arith; each = g.0 })
+      (entries_from_if ds [] (All-nil P)))
 
   spans_if_any_if : (o : Option Data) → IfOk (spans_if_any e k p o) (AreRead P 0)
   spans_if_any_if None = record { count = omega arith; some = omega arith; each = All-nil P }

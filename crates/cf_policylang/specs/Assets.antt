@@ -13,7 +13,9 @@ use Rattle.cf_policylang.specs.declared.refusal.Cause.TheVariants as cause
 use Rattle.cf_policylang.specs.declared.refusal.Place.{Place}
 use Rattle.cf_policylang.specs.Fields.{as_text, as_number, has_other, required, stated, number_in, tables_from}
 use Rattle.cf_policylang.specs.Numbers.{address}
-use Rattle.cf_policylang.specs.Rules.{name, rules}
+use Rattle.cf_policylang.specs.declared.sets.Named.{Named}
+use Rattle.cf_policylang.specs.Fields.{name}
+use Rattle.cf_policylang.specs.Rules.{rules}
 use Rattle.cf_policylang.specs.Tested.{Tested, and_then, refused, or_refused, at_asset, at_document}
 
 abbrev pub asset_keys : List Key
@@ -75,8 +77,8 @@ master Dnp3 place members = number_at key.Master 0 (highest_master Dnp3) place m
 master _ place members = no_master place members
 
 -- the asset of this number, from 1, behind those that were read
-abbrev pub asset : ℕ → List Asset → Members → Tested Asset
-asset n seen members =
+abbrev pub asset : Named → ℕ → List Asset → Members → Tested Asset
+asset named n seen members =
     let place = at_asset n in
     if has_other asset_keys members then refused cause.UnknownKey key.Nothing place else
     and_then (asset_name place seen members) (λ own_name.
@@ -84,7 +86,7 @@ asset n seen members =
     and_then (protocol place members) (λ own_protocol.
     and_then (number_at key.Station (lowest_station own_protocol) (highest_station own_protocol) place members) (λ own_station.
     and_then (master own_protocol place members) (λ own_master.
-    and_then (rules n members) (λ own_rules.
+    and_then (rules named n members) (λ own_rules.
     Ok (record {
       name = own_name;
       endpoint = own_endpoint;
@@ -95,5 +97,5 @@ asset n seen members =
     })))))))
 
 -- the assets in their order, behind n that were read
-abbrev pub assets_from : ℕ → Items → List Asset → Tested (List Asset)
-assets_from n items seen = tables_from key.Asset at_document asset n items seen
+abbrev pub assets_from : Named → ℕ → Items → List Asset → Tested (List Asset)
+assets_from named n items seen = tables_from key.Asset at_document (asset named) n items seen

@@ -1,5 +1,5 @@
 -- What the bytes of a policy's text mean, a policy or the first refusal: policy_meaning. The text is TOML 1.1 in UTF-8.
-use Rattle.std.specs.Prelude.{ℕ, pos, nat_lt, if◌then◌else◌, List, [], ◌∷◌, length, Option, None, Ok}
+use Rattle.std.specs.Prelude.{ℕ, ℤ, pos, nat_lt, if◌then◌else◌, List, [], ◌∷◌, length, Option, Some, None, Ok}
 use Rattle.std.specs.Ordering.{int_eq}
 use Rattle.std.specs.Str.{is_utf8}
 use Rattle.toml.specs.Data.{Members, Items}
@@ -11,19 +11,25 @@ use Rattle.cf_policylang.specs.declared.refusal.Key.TheVariants as key
 use Rattle.cf_policylang.specs.declared.refusal.Cause.TheVariants as cause
 use Rattle.cf_policylang.specs.Assets.{assets_from}
 use Rattle.cf_policylang.specs.Fields.{as_number, as_array_of, count, has_other, required}
+use Rattle.cf_policylang.specs.declared.sets.Edition.{Edition}
+use Rattle.cf_policylang.specs.declared.sets.Edition.TheVariants as edition
+use Rattle.cf_policylang.specs.Sets.{sets}
 use Rattle.cf_policylang.specs.Tested.{Tested, and_then, refused, or_refused, at_document}
 use Rattle.cf_policy.specs.Within.{most_assets}
 use Rattle.cf_policylang.specs.declared.documents.TheConstants.{LONGEST_TEXT}
 
-abbrev pub document_keys : List Key
-document_keys = key.Version ∷ key.Asset ∷ []
+abbrev pub document_keys : Edition → List Key
+document_keys edition.First = key.Version ∷ key.Asset ∷ []
+document_keys edition.Second = key.Version ∷ key.Asset ∷ key.Set ∷ []
 
--- the version, which is 1
-abbrev pub version : Members → Tested (Unit {0})
+-- the edition of a version, which is 1 or 2
+abbrev pub edition_of : ℤ → Option Edition
+edition_of z = if int_eq z (pos 1) then Some edition.First else if int_eq z (pos 2) then Some edition.Second else None
+
+abbrev pub version : Members → Tested Edition
 version members =
     and_then (required key.Version at_document members) (λ value.
-    and_then (as_number key.Version at_document value) (λ z.
-    if int_eq z (pos 1) then Ok tt else refused cause.Version key.Version at_document))
+    and_then (as_number key.Version at_document value) (λ z. or_refused cause.Version key.Version at_document (edition_of z)))
 
 -- the array of the assets
 abbrev pub asset_items : Members → Tested Items
@@ -34,11 +40,12 @@ asset_items members =
 
 abbrev pub document : Members → Tested Policy
 document members =
-    and_then (version members) (λ _.
-    if has_other document_keys members then refused cause.UnknownKey key.Nothing at_document else
+    and_then (version members) (λ own_edition.
+    if has_other (document_keys own_edition) members then refused cause.UnknownKey key.Nothing at_document else
+    and_then (sets members) (λ own_sets.
     and_then (asset_items members) (λ items.
-    and_then (assets_from 0 items []) (λ own_assets.
-    Ok (record { assets = own_assets }))))
+    and_then (assets_from (record { edition = own_edition; sets = own_sets }) 0 items []) (λ own_assets.
+    Ok (record { assets = own_assets })))))
 
 -- the table that bytes in UTF-8 are as TOML
 abbrev pub toml_of : List ℕ → Option Members

@@ -3,9 +3,11 @@
 use Rattle.std.specs.Prelude.{ℕ, ◌+◌, ℤ, pos, negsuc, Bool, true, false, not, ◌&&◌, ◌||◌, nat_le, if◌then◌else◌, List, [], ◌∷◌, ◌++◌, Option, Some, None, Ok, bytes_eq}
 use Rattle.std.specs.List.{list_any}
 use Rattle.toml.specs.Data.{Data, string, integer, array, table, Items, no_items, item, Members, no_members, member, get_member}
+use Rattle.cf_policy.specs.Names.{is_name}
 use Rattle.cf_policylang.specs.declared.fields.Kind.{Kind}
 use Rattle.cf_policylang.specs.declared.fields.Kind.TheVariants as kind
 use Rattle.cf_policylang.specs.declared.refusal.Key.{Key}
+use Rattle.cf_policylang.specs.declared.refusal.Key.TheVariants as key
 use Rattle.cf_policylang.specs.declared.refusal.Cause.TheVariants as cause
 use Rattle.cf_policylang.specs.declared.refusal.Place.{Place}
 use Rattle.cf_policylang.specs.Keys.{key_text}
@@ -38,6 +40,13 @@ as_number key place _ = refused cause.WrongKind key place
 abbrev pub as_table : Key → Place → Data → Tested Members
 as_table key place (table members) = Ok members
 as_table key place _ = refused cause.WrongKind key place
+
+-- a name, of an asset, a rule or a set
+abbrev pub name : Place → Members → Tested (List ℕ)
+name place members =
+    and_then (required key.Name place members) (λ value.
+    and_then (as_text key.Name place value) (λ text.
+    if is_name text then Ok text else refused cause.BadRange key.Name place))
 
 -- the value is of the kind
 abbrev pub is_kind : Kind → Data → Bool

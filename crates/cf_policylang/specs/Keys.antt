@@ -26,6 +26,7 @@ key_text key.Points = codes "points"
 key_text key.Values = codes "values"
 key_text key.Most = codes "most"
 key_text key.Seconds = codes "seconds"
+key_text key.Set = codes "set"
 
 abbrev pub cause_number : Cause → ℕ
 cause_number cause.NotToml = 1
@@ -37,6 +38,7 @@ cause_number cause.BadRange = 6
 cause_number cause.Duplicate = 7
 cause_number cause.TooMany = 8
 cause_number cause.Version = 9
+cause_number cause.UnknownSet = 10
 
 -- a refusal as it is printed
 abbrev pub refusal_text : PolicyRefusal → List ℕ

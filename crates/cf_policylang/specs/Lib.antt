@@ -6,4 +6,5 @@ pub mod Lists
 pub mod Numbers
 pub mod Rates
 pub mod Rules
+pub mod Sets
 pub mod Tested

@@ -45,13 +45,17 @@ entries_from entries key place no_items seen = Ok seen
 entries_from entries key place (item value items) seen =
     and_then (entry entries key place value) (λ s. entries_from entries key place items (seen ++ s ∷ []))
 
--- a list: the kind of all its entries, then how many there are, then the first bad entry
-abbrev pub spans : Entries → Key → Place → Data → Tested (List Span)
-spans entries key place value =
-    and_then (as_array_of (kind_of entries) key place value) (λ items.
+-- the entries of a list as written: the kind of all of them, then how many there are
+abbrev pub listed : Kind → Key → Place → Data → Tested Items
+listed kind key place value =
+    and_then (as_array_of kind key place value) (λ items.
     if nat_eq (count items) 0 then refused cause.BadRange key place
     else if nat_lt most_spans (count items) then refused cause.TooMany key place
-    else entries_from entries key place items [])
+    else Ok items)
+
+-- a list: its form, and then the first bad entry
+abbrev pub spans : Entries → Key → Place → Data → Tested (List Span)
+spans entries key place value = and_then (listed (kind_of entries) key place value) (λ items. entries_from entries key place items [])
 
 abbrev pub spans_if_any : Entries → Key → Place → Option Data → Tested (List Span)
 spans_if_any entries key place None = Ok []

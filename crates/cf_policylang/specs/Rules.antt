@@ -6,29 +6,24 @@ use Rattle.cf_policy.specs.declared.policy.Action.{Action}
 use Rattle.cf_policy.specs.declared.policy.Action.TheVariants.{Allow, Refuse}
 use Rattle.cf_policy.specs.declared.policy.Rule.{Rule}
 use Rattle.cf_policy.specs.declared.policy.Span.{Span}
-use Rattle.cf_policy.specs.Names.{is_name, is_reserved}
-use Rattle.cf_policy.specs.Within.{highest_group, highest_point, lowest_value, highest_value}
+use Rattle.cf_policy.specs.Names.{is_reserved}
+use Rattle.cf_policy.specs.Within.{highest_group, lowest_value, highest_value}
 use Rattle.cf_policylang.specs.declared.fields.Kind.TheVariants as kind
 use Rattle.cf_policylang.specs.declared.lists.Entries.TheVariants as entries
 use Rattle.cf_policylang.specs.declared.refusal.Key.{Key}
 use Rattle.cf_policylang.specs.declared.refusal.Key.TheVariants as key
 use Rattle.cf_policylang.specs.declared.refusal.Cause.TheVariants as cause
 use Rattle.cf_policylang.specs.declared.refusal.Place.{Place}
-use Rattle.cf_policylang.specs.Fields.{as_text, as_array_of, count, has_other, required, stated, tables_from}
+use Rattle.cf_policylang.specs.Fields.{as_text, as_array_of, count, has_other, name, required, stated, tables_from}
 use Rattle.cf_policylang.specs.Lists.{optional_spans, spans}
 use Rattle.cf_policylang.specs.Rates.{rate}
+use Rattle.cf_policylang.specs.declared.sets.Named.{Named}
+use Rattle.cf_policylang.specs.Sets.{rule_points}
 use Rattle.cf_policylang.specs.Tested.{Tested, and_then, refused, or_refused, at_asset, at_rule}
 use Rattle.cf_policy.specs.Within.{most_rules}
 
 abbrev pub rule_keys : List Key
 rule_keys = key.Name ∷ key.Action ∷ key.Clients ∷ key.Codes ∷ key.Groups ∷ key.Points ∷ key.Values ∷ key.Most ∷ key.Seconds ∷ []
-
--- a name, of an asset or a rule
-abbrev pub name : Place → Members → Tested (List ℕ)
-name place members =
-    and_then (required key.Name place members) (λ value.
-    and_then (as_text key.Name place value) (λ text.
-    if is_name text then Ok text else refused cause.BadRange key.Name place))
 
 -- an earlier rule has the name, or it stands for another decider
 abbrev pub is_rule_taken : List Rule → List ℕ → Bool
@@ -59,22 +54,19 @@ code_spans place members = and_then (required key.Codes place members) (λ value
 abbrev pub group_spans : Place → Members → Tested (List Span)
 group_spans place members = optional_spans (entries.Numbers (pos 0) highest_group) key.Groups place members
 
-abbrev pub point_spans : Place → Members → Tested (List Span)
-point_spans place members = optional_spans (entries.Numbers (pos 0) highest_point) key.Points place members
-
 abbrev pub value_spans : Place → Members → Tested (List Span)
 value_spans place members = optional_spans (entries.Numbers lowest_value highest_value) key.Values place members
 
 -- a rule behind those of its asset that were read
-abbrev pub rule : Place → List Rule → Members → Tested Rule
-rule place seen members =
+abbrev pub rule : Named → Place → List Rule → Members → Tested Rule
+rule named place seen members =
     if has_other rule_keys members then refused cause.UnknownKey key.Nothing place else
     and_then (rule_name place seen members) (λ own_name.
     and_then (action place members) (λ own_action.
     and_then (client_spans place members) (λ own_clients.
     and_then (code_spans place members) (λ own_codes.
     and_then (group_spans place members) (λ own_groups.
-    and_then (point_spans place members) (λ own_points.
+    and_then (rule_points named place members) (λ own_points.
     and_then (value_spans place members) (λ own_values.
     and_then (rate place seen own_action members) (λ own_rate.
     Ok (record {
@@ -89,8 +81,8 @@ rule place seen members =
     })))))))))
 
 -- the rules of the asset of this number in their order, behind n that were read
-abbrev pub rules_from : ℕ → ℕ → Items → List Rule → Tested (List Rule)
-rules_from a n items seen = tables_from key.Rule (at_asset a) (λ m. rule (at_rule a m)) n items seen
+abbrev pub rules_from : Named → ℕ → ℕ → Items → List Rule → Tested (List Rule)
+rules_from named a n items seen = tables_from key.Rule (at_asset a) (λ m. rule named (at_rule a m)) n items seen
 
 -- the array of the rules, which may be absent
 abbrev pub rule_items : Place → Option Data → Tested Items
@@ -99,5 +91,5 @@ rule_items place (Some value) =
     and_then (as_array_of kind.Table key.Rule place value) (λ items.
     if nat_lt most_rules (count items) then refused cause.TooMany key.Rule place else Ok items)
 
-abbrev pub rules : ℕ → Members → Tested (List Rule)
-rules a members = and_then (rule_items (at_asset a) (stated key.Rule members)) (λ items. rules_from a 0 items [])
+abbrev pub rules : Named → ℕ → Members → Tested (List Rule)
+rules named a members = and_then (rule_items (at_asset a) (stated key.Rule members)) (λ items. rules_from named a 0 items [])

@@ -31,6 +31,10 @@ or_refused cause key place (Some x) = Ok x
 abbrev pub at_document : Place
 at_document = record { asset = 0; rule = 0 }
 
+-- a set of the document, counted from 1
+abbrev pub at_set : ℕ → Place
+at_set n = record { asset = 0; rule = n }
+
 abbrev pub at_asset : ℕ → Place
 at_asset n = record { asset = n; rule = 0 }
 

@@ -6,10 +6,11 @@ ghost use Rattle.cf_policy.specs.Within.{lowest_station, highest_station, highes
 ghost use Rattle.cf_policylang.specs.Tested.{Answers, AnswersPlainly};
 ghost use Rattle.cf_policylang.specs.Assets.{is_asset_taken, asset_name, asset_address, number_at, is_same_endpoint, is_endpoint_taken, endpoint, protocol_of, protocol, no_master, master, asset, assets_from};
 
-use crate::fields::{as_number, as_table, as_text, has_other, number_in, required, stated};
+use crate::fields::{as_number, as_table, as_text, has_other, name, number_in, required, stated};
 use crate::numbers::address;
 use crate::refusal::{Cause, Key, Place, PolicyFault, PolicyRefusal, refusal};
-use crate::rules::{name, rules};
+use crate::rules::rules;
+use crate::sets::Named;
 use cf_policy::{
     Asset, HIGHEST_COMMON_ADDRESS, HIGHEST_LINK_ADDRESS, HIGHEST_UNIT, Items, Name, Protocol,
 };
@@ -29,22 +30,32 @@ const ASSET_KEYS: [Key; 7] = [
 ];
 
 /// The assets of a policy.
-pub(crate) fn assets_from(alloc: Global, array: &Array) -> Result<Items<Asset>, PolicyFault>
+pub(crate) fn assets_from(
+    alloc: Global,
+    named: &Named,
+    array: &Array,
+) -> Result<Items<Asset>, PolicyFault>
     requires { vec_len array.now ≤ most_assets }
-    ensures { Answers (λ a. a) (assets_from 0 (array_view array.now) []) result }
+    ensures { Answers (λ a. a) (assets_from named.now 0 (array_view array.now) []) result }
 {
     let mut assets = Vec::new(alloc);
     for (index, value) in array.iter().enumerate() {
         let table = as_table(Key::Asset, Place::DOCUMENT, value)?;
-        let asset = asset(alloc, index as u32 + 1, assets.as_slice(), table)?;
+        let asset = asset(alloc, named, index as u32 + 1, assets.as_slice(), table)?;
         assets.push(asset)?;
     }
     Ok(Items::new(assets))
 }
 
 /// The asset of this number, from 1, behind those that were read.
-fn asset(alloc: Global, number: u32, earlier: &[Asset], table: &Table) -> Result<Asset, PolicyFault>
-    ensures { Answers (λ a. a) (asset number earlier.now (table_view table.now)) result }
+fn asset(
+    alloc: Global,
+    named: &Named,
+    number: u32,
+    earlier: &[Asset],
+    table: &Table,
+) -> Result<Asset, PolicyFault>
+    ensures { Answers (λ a. a) (asset named.now number earlier.now (table_view table.now)) result }
 {
     let place = Place::asset(number);
     if has_other(&ASSET_KEYS, table) {
@@ -55,7 +66,7 @@ fn asset(alloc: Global, number: u32, earlier: &[Asset], table: &Table) -> Result
     let protocol = protocol(place, table)?;
     let station = station(protocol, place, table)?;
     let master = master(protocol, place, table)?;
-    let rules = rules(alloc, number, table)?;
+    let rules = rules(alloc, named, number, table)?;
     Ok(Asset {
         name,
         endpoint,

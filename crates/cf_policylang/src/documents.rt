@@ -3,11 +3,13 @@ ghost use Rattle.std.specs.Prelude.{◌≡◌, ◌≤◌, IfOk, vec_len};
 ghost use Rattle.toml.specs.View.{table_view, array_view};
 ghost use Rattle.cf_policy.specs.Within.{IsWithin, most_assets};
 ghost use Rattle.cf_policylang.specs.Tested.{Answers, AnswersPlainly, or_refused, at_document};
-ghost use Rattle.cf_policylang.specs.Documents.{version, asset_items, document, toml_of, text_meaning, policy_meaning};
+ghost use Rattle.cf_policylang.specs.Fields.{has_other};
+ghost use Rattle.cf_policylang.specs.Documents.{document_keys, edition_of, version, asset_items, document, toml_of, text_meaning, policy_meaning};
 
 use crate::assets::assets_from;
 use crate::fields::{Kind, as_array_of, as_number, count, has_other, required};
 use crate::refusal::{Cause, Key, Place, PolicyFault, PolicyRefusal, refusal};
+use crate::sets::{Edition, Named, sets};
 use cf_policy::{MOST_ASSETS, Policy};
 use std::alloc::Global;
 use toml::Table;
@@ -16,7 +18,9 @@ use toml::value::Array;
 /// The most bytes that a policy's text has.
 pub const LONGEST_TEXT: usize = 4_194_304;
 
-const DOCUMENT_KEYS: [Key; 2] = [Key::Version, Key::Asset];
+const FIRST_KEYS: [Key; 2] = [Key::Version, Key::Asset];
+
+const SECOND_KEYS: [Key; 3] = [Key::Version, Key::Asset, Key::Set];
 
 /// Reads a policy from its text: a TOML 1.1 document in UTF-8 with the keys of this project's own policy language.
 ///
@@ -59,24 +63,43 @@ fn toml_of(alloc: Global, bytes: &[u8]) -> Result<Table, PolicyFault>
 fn document(alloc: Global, table: &Table) -> Result<Policy, PolicyFault>
     ensures { Answers (λ p. p) (document (table_view table.now)) result }
 {
-    version(table)?;
-    if has_other(&DOCUMENT_KEYS, table) {
+    let edition = version(table)?;
+    if has_other_key(edition, table) {
         return Err(refusal(Cause::UnknownKey, Key::Nothing, Place::DOCUMENT).into());
     }
-    let assets = assets_from(alloc, asset_array(table)?)?;
+    let sets = sets(alloc, table)?;
+    let named = Named { edition, sets };
+    let assets = assets_from(alloc, &named, asset_array(table)?)?;
     Ok(Policy { assets })
 }
 
-/// The version of the document, which is 1.
-fn version(table: &Table) -> Result<(), PolicyRefusal>
+/// The version of the document, which is 1 or 2.
+fn version(table: &Table) -> Result<Edition, PolicyRefusal>
     ensures { result ≡ version (table_view table.now) }
 {
     let value = required(Key::Version, Place::DOCUMENT, table)?;
-    let version = as_number(Key::Version, Place::DOCUMENT, value)?;
-    if version != 1 {
-        return Err(refusal(Cause::Version, Key::Version, Place::DOCUMENT));
+    let number = as_number(Key::Version, Place::DOCUMENT, value)?;
+    edition_of(number).ok_or(refusal(Cause::Version, Key::Version, Place::DOCUMENT))
+}
+
+fn edition_of(number: i64) -> Option<Edition>
+    ensures { result ≡ edition_of number }
+{
+    match number {
+        1 => Some(Edition::First),
+        2 => Some(Edition::Second),
+        _ => None,
     }
-    Ok(())
+}
+
+/// Whether the document has a key that its version does not have.
+fn has_other_key(edition: Edition, table: &Table) -> bool
+    ensures { result ≡ has_other (document_keys edition) (table_view table.now) }
+{
+    match edition {
+        Edition::First => has_other(&FIRST_KEYS, table),
+        Edition::Second => has_other(&SECOND_KEYS, table),
+    }
 }
 
 fn asset_array(table: &Table) -> Result<&Array, PolicyRefusal>

@@ -1,17 +1,20 @@
 //! The keys of a table and the kinds of their values, as they are tested.
-ghost use Rattle.std.specs.Prelude.{◌≡◌, not, option_map, string_bytes, vec_len};
+ghost use Rattle.std.specs.Prelude.{◌≡◌, ◌≤◌, IsTrue, length, not, option_map, string_bytes, vec_len};
 ghost use Rattle.std.specs.List.{list_all, list_any};
 ghost use Rattle.std.specs.BTreeMap.{keys};
 ghost use Rattle.toml.specs.View.{view, table_view, array_view};
+ghost use Rattle.cf_policy.specs.Names.{is_name, is_name_byte};
+ghost use Rattle.cf_policy.specs.Within.{longest_name};
 ghost use Rattle.cf_policylang.specs.Tested.{AnswersPlainly};
-ghost use Rattle.cf_policylang.specs.Fields.{is_among, has_other, stated, required, as_text, as_number, as_table, is_kind, all_kind, as_array_of, count, number_in};
+ghost use Rattle.cf_policylang.specs.Fields.{is_among, has_other, stated, required, as_text, as_number, as_table, is_kind, all_kind, as_array_of, count, name, number_in};
 
 use crate::refusal::{Cause, Key, Place, PolicyRefusal, refusal};
+use cf_policy::{LONGEST_NAME, Name};
 use toml::value::Array;
 use toml::{Table, Value};
 
 /// A kind of values that arrays have here.
-#[derive(Clone, Copy, PartialEq, Eq, Debug)]
+#[derive(Clone, Copy)]
 pub(crate) enum Kind {
     Text,
     Number,
@@ -76,6 +79,37 @@ pub(crate) fn as_table(key: Key, place: Place, value: &Value) -> Result<&Table, 
         Value::Table(table) => Ok(table),
         _ => Err(refusal(Cause::WrongKind, key, place)),
     }
+}
+
+/// The name of an asset, a rule or a set.
+pub(crate) fn name(place: Place, table: &Table) -> Result<Name, PolicyRefusal>
+    ensures { AnswersPlainly (λ n. n) (name place (table_view table.now)) result }
+{
+    let text = as_text(Key::Name, place, required(Key::Name, place, table)?)?;
+    if !is_name(text) {
+        return Err(refusal(Cause::BadRange, Key::Name, place));
+    }
+    Ok(Name::from_text(text))
+}
+
+/// Whether the text is a name.
+pub(crate) fn is_name(text: &str) -> bool
+    ensures form { result ≡ is_name text.now }
+    ensures short { IsTrue result → length text.now ≤ longest_name }
+{
+    !text.is_empty() && text.len() <= LONGEST_NAME && all_name_bytes(text.as_bytes())
+}
+
+fn all_name_bytes(text: &[u8]) -> bool
+    ensures { result ≡ list_all is_name_byte text.now }
+{
+    text.iter().all(|byte| is_name_byte(*byte))
+}
+
+fn is_name_byte(byte: u8) -> bool
+    ensures { result ≡ is_name_byte byte }
+{
+    matches!(byte, b'a'..=b'z' | b'0'..=b'9' | b'_' | b'-')
 }
 
 fn is_kind(kind: Kind, value: &Value) -> bool

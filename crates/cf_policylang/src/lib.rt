@@ -6,10 +6,13 @@ mod documents;
 mod fields;
 mod lists;
 mod numbers;
+mod printing;
 mod rates;
 mod refusal;
 mod rules;
+mod sets;
 
 pub use documents::{LONGEST_TEXT, read_policy};
 pub use numbers::address;
+pub use printing::document_text;
 pub use refusal::{Cause, Key, PolicyFault, PolicyRefusal, push_refusal};

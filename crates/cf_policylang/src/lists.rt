@@ -1,8 +1,8 @@
 //! The lists of a rule.
 ghost use Rattle.std.specs.Prelude.{◌≡◌, []};
 ghost use Rattle.toml.specs.View.{view, table_view, array_view};
-ghost use Rattle.cf_policylang.specs.Tested.{Answers};
-ghost use Rattle.cf_policylang.specs.Lists.{kind_of, address_span, code_span, entry, entries_from, spans, optional_spans};
+ghost use Rattle.cf_policylang.specs.Tested.{Answers, AnswersPlainly};
+ghost use Rattle.cf_policylang.specs.Lists.{kind_of, address_span, code_span, entry, entries_from, listed, spans, optional_spans};
 
 use crate::fields::{Kind, as_array_of, as_number, as_text, count, stated};
 use crate::numbers::{address, ends, number_span, span, within};
@@ -13,7 +13,7 @@ use toml::value::Array;
 use toml::{Table, Value};
 
 /// What the entries of a list are.
-#[derive(Clone, Copy, PartialEq, Eq, Debug)]
+#[derive(Clone, Copy)]
 pub(crate) enum Entries {
     /// Texts: addresses and ranges of addresses.
     Addresses,
@@ -51,7 +51,7 @@ pub(crate) fn optional_spans(
     }
 }
 
-/// The list that a value is: the kind of its entries is tested, then how many there are, then each.
+/// The list that a value is: its form is tested, and then each entry.
 pub(crate) fn spans(
     alloc: Global,
     entries: Entries,
@@ -61,15 +61,28 @@ pub(crate) fn spans(
 ) -> Result<Items<Span>, PolicyFault>
     ensures { Answers (λ s. s) (spans entries key place (view value.now)) result }
 {
-    let array = as_array_of(entries.kind(), key, place, value)?;
+    let array = listed(entries.kind(), key, place, value)?;
+    entries_from(alloc, entries, key, place, array)
+}
+
+/// The entries of a list as written: the kind of all of them is tested, then how many there are.
+pub(crate) fn listed(
+    kind: Kind,
+    key: Key,
+    place: Place,
+    value: &Value,
+) -> Result<&Array, PolicyRefusal>
+    ensures { AnswersPlainly (λ a. array_view a.now) (listed kind key place (view value.now)) result }
+{
+    let array = as_array_of(kind, key, place, value)?;
     let entries_count = count(array);
     if entries_count == 0 {
-        return Err(refusal(Cause::BadRange, key, place).into());
+        return Err(refusal(Cause::BadRange, key, place));
     }
     if entries_count > MOST_SPANS {
-        return Err(refusal(Cause::TooMany, key, place).into());
+        return Err(refusal(Cause::TooMany, key, place));
     }
-    entries_from(alloc, entries, key, place, array)
+    Ok(array)
 }
 
 fn entries_from(

@@ -2,7 +2,7 @@
 ghost use Rattle.std.specs.Prelude.{◌≡◌, ◌+◌, ◌≤◌, ◌++◌, codes, length};
 ghost use Rattle.arrayvec.specs.ArrayString.{array_string_len};
 ghost use Rattle.cf_policylang.specs.Keys.{cause_number, key_text, refusal_text};
-ghost use Rattle.cf_policylang.specs.Tested.{refusal};
+ghost use Rattle.cf_policylang.specs.Tested.{refusal, at_set};
 
 use arrayvec::ArrayString;
 use cf_view::{push_u16, push_u32};
@@ -32,6 +32,7 @@ pub enum Key {
     Values,
     Most,
     Seconds,
+    Set,
 }
 
 impl Key {
@@ -59,6 +60,7 @@ impl Key {
             Key::Values => "values",
             Key::Most => "most",
             Key::Seconds => "seconds",
+            Key::Set => "set",
         }
     }
 }
@@ -91,15 +93,17 @@ pub enum Cause {
     BadRange = 6,
     /// A name or an endpoint that an earlier one has, or a rule's name that stands for another decider.
     Duplicate = 7,
-    /// A file of more than `LONGEST_TEXT` bytes, or more than `MOST_ASSETS` assets, `MOST_RULES` rules of an asset,
-    /// `MOST_RATED` of them with a rate, or `MOST_SPANS` entries of a list.
+    /// A file of more than `LONGEST_TEXT` bytes, or more than `MOST_SETS` sets, `MOST_ASSETS` assets, `MOST_RULES` rules of an
+    /// asset, `MOST_RATED` of them with a rate, `MOST_SPANS` entries of a list, or as many spans of a rule's points.
     TooMany = 8,
-    /// A version other than 1.
+    /// A version other than 1 and 2.
     Version = 9,
+    /// An entry of a rule's points that names a set which the document does not have.
+    UnknownSet = 10,
 }
 
 impl Cause {
-    /// The cause's number, from 1 to 9.
+    /// The cause's number, from 1 to 10.
     pub fn number(self) -> u8
         ensures { result ≡ cause_number self }
     {
@@ -116,7 +120,7 @@ pub struct PolicyRefusal {
     pub key: Key,
     /// The number of the asset, from 1, or 0 for none.
     pub asset: u32,
-    /// The number of the rule in its asset, from 1, or 0 for none.
+    /// The number of the rule in its asset or, where the asset is 0, of the set in the document, from 1, or 0 for none.
     pub rule: u32,
 }
 
@@ -193,7 +197,7 @@ impl<T: Drop> From<AllocFailed<T>> for PolicyFault {
 }
 
 /// Where in a policy a test stands: its asset and rule, from 1, and 0 for none.
-#[derive(Clone, Copy, PartialEq, Eq, Debug)]
+#[derive(Clone, Copy)]
 pub(crate) struct Place {
     pub(crate) asset: u32,
     pub(crate) rule: u32,
@@ -201,6 +205,16 @@ pub(crate) struct Place {
 
 impl Place {
     pub(crate) const DOCUMENT: Place = Place { asset: 0, rule: 0 };
+
+    /// The set of this number in the document.
+    pub(crate) fn set(number: u32) -> Place
+        ensures { result ≡ at_set number }
+    {
+        Place {
+            asset: 0,
+            rule: number,
+        }
+    }
 
     pub(crate) fn asset(asset: u32) -> Place
         ensures { result ≡ record { asset = asset; rule = 0 } }

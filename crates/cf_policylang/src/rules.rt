@@ -1,19 +1,21 @@
 //! The rules of an asset.
-ghost use Rattle.std.specs.Prelude.{◌≡◌, ◌+◌, ◌<◌, ◌≤◌, [], IfOk, IsTrue, bytes_eq, length, vec_len};
-ghost use Rattle.std.specs.List.{list_any, list_all};
+ghost use Rattle.std.specs.Prelude.{◌≡◌, ◌+◌, ◌<◌, ◌≤◌, [], IfOk, bytes_eq, vec_len};
+ghost use Rattle.std.specs.List.{list_any};
 ghost use Rattle.toml.specs.View.{view, table_view, array_view};
-ghost use Rattle.cf_policy.specs.Within.{longest_name, most_rules};
-ghost use Rattle.cf_policy.specs.Names.{is_name, is_name_byte, is_reserved};
+ghost use Rattle.cf_policy.specs.Within.{most_rules};
+ghost use Rattle.cf_policy.specs.Names.{is_reserved};
 ghost use Rattle.cf_policylang.specs.Tested.{Answers, AnswersPlainly, at_rule};
-ghost use Rattle.cf_policylang.specs.Rules.{name, is_rule_taken, rule_name, action_of, action, client_spans, code_spans, group_spans, point_spans, value_spans, rule, rules_from, rule_items, rules};
+ghost use Rattle.cf_policylang.specs.Rules.{is_rule_taken, rule_name, action_of, action, client_spans, code_spans, group_spans, value_spans, rule, rules_from, rule_items, rules};
 
-use crate::fields::{Kind, as_array_of, as_table, as_text, count, has_other, required, stated};
+use crate::fields::{
+    Kind, as_array_of, as_table, as_text, count, has_other, name, required, stated,
+};
 use crate::lists::{Entries, optional_spans, spans};
 use crate::rates::rate;
 use crate::refusal::{Cause, Key, Place, PolicyFault, PolicyRefusal, refusal};
+use crate::sets::{Named, rule_points};
 use cf_policy::{
-    Action, HIGHEST_GROUP, HIGHEST_POINT, HIGHEST_VALUE, Items, LONGEST_NAME, LOWEST_VALUE,
-    MOST_RULES, Name, Rule, Span,
+    Action, HIGHEST_GROUP, HIGHEST_VALUE, Items, LOWEST_VALUE, MOST_RULES, Name, Rule, Span,
 };
 use std::alloc::Global;
 use toml::value::Array;
@@ -32,8 +34,14 @@ const RULE_KEYS: [Key; 9] = [
 ];
 
 /// A rule behind those of its asset that were read.
-fn rule(alloc: Global, place: Place, earlier: &[Rule], table: &Table) -> Result<Rule, PolicyFault>
-    ensures { Answers (λ r. r) (rule place earlier.now (table_view table.now)) result }
+fn rule(
+    alloc: Global,
+    named: &Named,
+    place: Place,
+    earlier: &[Rule],
+    table: &Table,
+) -> Result<Rule, PolicyFault>
+    ensures { Answers (λ r. r) (rule named.now place earlier.now (table_view table.now)) result }
 {
     if has_other(&RULE_KEYS, table) {
         return Err(refusal(Cause::UnknownKey, Key::Nothing, place).into());
@@ -43,7 +51,7 @@ fn rule(alloc: Global, place: Place, earlier: &[Rule], table: &Table) -> Result<
     let clients = client_spans(alloc, place, table)?;
     let codes = code_spans(alloc, place, table)?;
     let groups = group_spans(alloc, place, table)?;
-    let points = point_spans(alloc, place, table)?;
+    let points = rule_points(alloc, named, place, table)?;
     let values = value_spans(alloc, place, table)?;
     let rate = rate(place, earlier, action, table)?;
     Ok(Rule {
@@ -88,36 +96,6 @@ fn is_reserved(text: &str) -> bool
     text == "default" || text == "station" || text == "form"
 }
 
-/// The name of an asset or a rule.
-pub(crate) fn name(place: Place, table: &Table) -> Result<Name, PolicyRefusal>
-    ensures { AnswersPlainly (λ n. n) (name place (table_view table.now)) result }
-{
-    let text = as_text(Key::Name, place, required(Key::Name, place, table)?)?;
-    if !is_name(text) {
-        return Err(refusal(Cause::BadRange, Key::Name, place));
-    }
-    Ok(Name::from_text(text))
-}
-
-fn is_name(text: &str) -> bool
-    ensures form { result ≡ is_name text.now }
-    ensures short { IsTrue result → length text.now ≤ longest_name }
-{
-    !text.is_empty() && text.len() <= LONGEST_NAME && all_name_bytes(text.as_bytes())
-}
-
-fn all_name_bytes(text: &[u8]) -> bool
-    ensures { result ≡ list_all is_name_byte text.now }
-{
-    text.iter().all(|byte| is_name_byte(*byte))
-}
-
-fn is_name_byte(byte: u8) -> bool
-    ensures { result ≡ is_name_byte byte }
-{
-    matches!(byte, b'a'..=b'z' | b'0'..=b'9' | b'_' | b'-')
-}
-
 fn action(place: Place, table: &Table) -> Result<Action, PolicyRefusal>
     ensures { result ≡ action place (table_view table.now) }
 {
@@ -158,16 +136,6 @@ fn group_spans(alloc: Global, place: Place, table: &Table) -> Result<Items<Span>
     optional_spans(alloc, groups, Key::Groups, place, table)
 }
 
-fn point_spans(alloc: Global, place: Place, table: &Table) -> Result<Items<Span>, PolicyFault>
-    ensures { Answers (λ s. s) (point_spans place (table_view table.now)) result }
-{
-    let points = Entries::Numbers {
-        low: 0,
-        high: HIGHEST_POINT,
-    };
-    optional_spans(alloc, points, Key::Points, place, table)
-}
-
 fn value_spans(alloc: Global, place: Place, table: &Table) -> Result<Items<Span>, PolicyFault>
     ensures { Answers (λ s. s) (value_spans place (table_view table.now)) result }
 {
@@ -179,13 +147,18 @@ fn value_spans(alloc: Global, place: Place, table: &Table) -> Result<Items<Span>
 }
 
 /// The rules of the asset of this number.
-pub(crate) fn rules(alloc: Global, asset: u32, table: &Table) -> Result<Items<Rule>, PolicyFault>
-    ensures { Answers (λ r. r) (rules asset (table_view table.now)) result }
+pub(crate) fn rules(
+    alloc: Global,
+    named: &Named,
+    asset: u32,
+    table: &Table,
+) -> Result<Items<Rule>, PolicyFault>
+    ensures { Answers (λ r. r) (rules named.now asset (table_view table.now)) result }
 {
     let Some(value) = stated(Key::Rule, table) else {
         return Ok(Items::new(Vec::new(alloc)));
     };
-    rules_from(alloc, asset, rule_array(Place::asset(asset), value)?)
+    rules_from(alloc, named, asset, rule_array(Place::asset(asset), value)?)
 }
 
 /// The array of the rules.
@@ -200,15 +173,20 @@ fn rule_array(place: Place, value: &Value) -> Result<&Array, PolicyRefusal>
     Ok(array)
 }
 
-fn rules_from(alloc: Global, asset: u32, array: &Array) -> Result<Items<Rule>, PolicyFault>
+fn rules_from(
+    alloc: Global,
+    named: &Named,
+    asset: u32,
+    array: &Array,
+) -> Result<Items<Rule>, PolicyFault>
     requires { vec_len array.now ≤ most_rules }
-    ensures { Answers (λ r. r) (rules_from asset 0 (array_view array.now) []) result }
+    ensures { Answers (λ r. r) (rules_from named.now asset 0 (array_view array.now) []) result }
 {
     let mut rules = Vec::new(alloc);
     for (index, value) in array.iter().enumerate() {
         let table = as_table(Key::Rule, Place::asset(asset), value)?;
         let place = rule_place(asset, index);
-        let rule = rule(alloc, place, rules.as_slice(), table)?;
+        let rule = rule(alloc, named, place, rules.as_slice(), table)?;
         rules.push(rule)?;
     }
     Ok(Items::new(rules))

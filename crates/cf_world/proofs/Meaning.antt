@@ -1,14 +1,11 @@
 -- What the document of a world means, and how long its text is at most.
-use Rattle.std.proofs.Common.{◌≡◌, ℕ, ◌≤◌, true, false, nat_lt, List, length, Some, Ok, refl, subst, arith}
+use Rattle.std.proofs.Common.{◌≡◌, ℕ, ◌≤◌, true, false, nat_lt, List, length, Ok, refl, subst, arith}
 use Rattle.std.proofs.lemmas.Bool.Decides.{nat_tests}
 use Rattle.std.specs.Fmt.{digits}
-use Rattle.std.specs.Str.{IsUtf8}
 use Rattle.toml.specs.Data.{Members, members_depth}
-use Rattle.toml.specs.Parse.{parse_document}
 use Rattle.toml.specs.Text.{IsDocumentText, expressions}
 use Rattle.toml_writer.specs.Text.{string_text, key_text, encoding_of, escaped, needs_escape, quotes_after}
-use Rattle.cf_policylang.proofs.Texts.{toml_read}
-use Rattle.cf_policylang.specs.Documents.{document}
+use Rattle.cf_policylang.specs.Documents.{document, text_meaning}
 use Rattle.cf_world.proofs.Lengths.{are_plain_lines, lines_room, lines_short}
 use Rattle.cf_world.specs.Document.{IsDocument, made_policy}
 use Rattle.cf_world.specs.Tables.{document_table}
@@ -34,9 +31,9 @@ is_short text h =
 is_shallow : members_depth document_table ≤ 80
 is_shallow = omega arith
 
-pub text_means : (text : List ℕ) (ms : Members) → ms ≡ document_table → IsUtf8 text → (members_depth ms ≤ 80 → parse_document text ≡ Some ms) → IsDocumentText false ms text → IsDocument text
-text_means text ms e utf8 read is =
-    let here = rw e at read in
-    let reads : parse_document text ≡ Some document_table = here is_shallow in
+pub text_means : (text : List ℕ) (ms : Members) → ms ≡ document_table → (members_depth ms ≤ 80 → text_meaning text ≡ document ms) → IsDocumentText false ms text → IsDocument text
+text_means text ms e means is =
+    let here = rw e at means in
+    let same : text_meaning text ≡ document document_table = here is_shallow in
     let is_text : IsDocumentText false document_table text = subst (λ m. IsDocumentText false m text) e is in
-    rw (is_short text is_text, toml_read text document_table utf8 reads) document_means
+    rw (is_short text is_text, same) document_means

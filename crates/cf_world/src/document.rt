@@ -7,7 +7,7 @@ ghost use Rattle.toml.specs.Data.{array, no_members};
 ghost use Rattle.toml.specs.View.{array_view, table_view, view};
 
 use cf_policy::Policy;
-use cf_policylang::{PolicyFault, read_policy};
+use cf_policylang::{PolicyFault, document_text, read_policy};
 use std::alloc::{AllocError, Global};
 use toml::value::Array;
 use toml::{Table, Value};
@@ -28,7 +28,7 @@ pub fn make_document(alloc: Global) -> Result<Document, AllocError>
     ensures policy { IfOk result (λ d. d.policy ≡ made_policy) }
     ensures within { IfOk result (λ d. IsWithin d.policy) }
 {
-    let text = document_text(alloc)?;
+    let text = made_text(alloc)?;
     match read_policy(alloc, text.as_bytes()) {
         Ok(policy) => Ok(Document { text, policy }),
         Err(PolicyFault::NoMemory) => Err(AllocError),
@@ -36,14 +36,12 @@ pub fn make_document(alloc: Global) -> Result<Document, AllocError>
     }
 }
 
-fn document_text(alloc: Global) -> Result<String, AllocError>
+fn made_text(alloc: Global) -> Result<String, AllocError>
     ensures { IfOk result (λ t. IsDocument (string_bytes t)) }
 {
     let table = document_table(alloc)?;
-    match toml::table_to_string(alloc, &table) {
-        Ok(text) => Ok(text),
-        Err(_) => Err(AllocError),
-    }
+    let text = document_text(alloc, &table)?;
+    Ok(text)
 }
 
 fn document_table(alloc: Global) -> Result<Table, AllocError>

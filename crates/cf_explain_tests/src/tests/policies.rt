@@ -45,13 +45,15 @@ text: version = 1 / version = 1 / asset = [] => 1 - asset 0 rule 0
 text: version = 9223372036854775808 / asset = [] => 1 - asset 0 rule 0
 text: version = 9223372036854775807 / asset = [] => 9 version asset 0 rule 0
 text: version = 0 / asset = [] => 9 version asset 0 rule 0
-text: version = 2 / asset = [] => 9 version asset 0 rule 0
+text: version = 3 / asset = [] => 9 version asset 0 rule 0
+text: version = 2 / asset = [] => ok
 text: version = -1 / asset = [] => 9 version asset 0 rule 0
 text: version = "1" / asset = [] => 4 version asset 0 rule 0
 text: version = 1.0 / asset = [] => 4 version asset 0 rule 0
 text: version = true / asset = [] => 4 version asset 0 rule 0
 text: version = "1" / set = [] => 4 version asset 0 rule 0
-text: version = 2 / set = [] => 9 version asset 0 rule 0
+text: version = 3 / set = [] => 9 version asset 0 rule 0
+text: version = 2 / set = [] => 3 asset asset 0 rule 0
 text: version = 1 / set = [] => 2 - asset 0 rule 0
 text: version = 1 / set = [] / asset = 1 => 2 - asset 0 rule 0
 text: version = 1 / - = 1 / asset = [] => 2 - asset 0 rule 0
@@ -356,7 +358,7 @@ rtu.master: master = 1 / rule = [] / rule = [] => 1 - asset 0 rule 0"#;
 
 /// Two faults, of which the first test decides; and lines that only change together.
 pub(super) const ORDER: &str =
-    r#"version: version = 2 | master: colour = 1 => 9 version asset 0 rule 0
+    r#"version: version = 3 | master: colour = 1 => 9 version asset 0 rule 0
 version: version = 1 / colour = 1 | name: => 2 - asset 0 rule 0
 master: colour = 1 | name: => 2 - asset 1 rule 0
 name: name = "" | address: => 6 name asset 1 rule 0
@@ -410,6 +412,65 @@ text: version = 1 / asset = [] / #  * 131071 xxxxxxxxxxxxxxxxxxxxxxxxxxxxxxxx * 
 text: version = 1 / asset = [ * 257 {}, * 1] => 4 asset asset 0 rule 0
 rtu.master: master = 1 / rule = [ * 1025 {}, * 1] => 4 rule asset 2 rule 0
 text: = * 131072 xxxxxxxxxxxxxxxxxxxxxxxxxxxxxxxx * => 8 - asset 0 rule 0"#;
+
+/// Sets of points, which version 2 has.
+pub(super) const SETS: &str = r#"version: version = 2 => ok
+points: points = ["@none"] | version: version = 2 => 10 points asset 1 rule 2
+points: points = ["@none"] => 6 points asset 1 rule 2
+points: points = ["@a"] | version: version = 2 / set = [{ name = "a", points = ["1"] }] => ok
+points: points = ["@a"] | version: version = 1 / set = [{ name = "a", points = ["1"] }] => 2 - asset 0 rule 0
+points: points = ["7", "@a", "8..9", "@a"] | version: version = 2 / set = [{ points = ["1", "2..3"], name = "a" }] => ok
+points: points = ["@a "] | version: version = 2 / set = [{ name = "a", points = ["1"] }] => 6 points asset 1 rule 2
+points: points = ["@"] | version: version = 2 => 6 points asset 1 rule 2
+points: points = ["@A"] | version: version = 2 => 6 points asset 1 rule 2
+points: points = ["@@a"] | version: version = 2 => 6 points asset 1 rule 2
+points: points = ["1@a"] | version: version = 2 => 6 points asset 1 rule 2
+points: points = ["x", "@none"] | version: version = 2 => 6 points asset 1 rule 2
+points: points = ["@none", "x"] | version: version = 2 => 10 points asset 1 rule 2
+points: points = ["@none", 1] | version: version = 2 => 4 points asset 1 rule 2
+points: points = [] | version: version = 2 => 6 points asset 1 rule 2
+points: points = [ * 65 "@none", * ] | version: version = 2 => 8 points asset 1 rule 2
+points: points = [ * 64 "@none", * ] | version: version = 2 => 10 points asset 1 rule 2
+points: points = [ * 64 "@a", * ] | version: version = 2 / set = [{ name = "a", points = ["1"] }] => ok
+points: points = [ * 64 "@a", * ] | version: version = 2 / set = [{ name = "a", points = ["1", "2"] }] => 8 points asset 1 rule 2
+points: points = [ * 33 "@a", * "x"] | version: version = 2 / set = [{ name = "a", points = ["1", "2"] }] => 6 points asset 1 rule 2
+points: points = [ * 33 "@a", * ] / values = 1 | values: | version: version = 2 / set = [{ name = "a", points = ["1", "2"] }] => 8 points asset 1 rule 2
+groups: groups = ["@a"] | version: version = 2 / set = [{ name = "a", points = ["1"] }] => 6 groups asset 1 rule 2
+text: version = 2 / set = [] / asset = [] => ok
+text: version = 2 / set = [{ name = "a", points = ["1"] }] / asset = [] => ok
+text: version = 2 / set = 1 / x = 1 => 2 - asset 0 rule 0
+text: version = 2 / sets = [] / asset = [] => 2 - asset 0 rule 0
+text: version = 2 / set = 1 => 4 set asset 0 rule 0
+text: version = 2 / set = {} / asset = 1 => 4 set asset 0 rule 0
+text: version = 2 / set = ["a"] => 4 set asset 0 rule 0
+text: version = 2 / set = [ * 64 {}, * ] => 3 name asset 0 rule 1
+text: version = 2 / set = [ * 65 {}, * ] => 8 set asset 0 rule 0
+text: version = 2 / set = [ * 65 {}, * 1] => 4 set asset 0 rule 0
+text: version = 2 / set = [{ name = 1, colour = 1 }] => 2 - asset 0 rule 1
+text: version = 2 / set = [{ points = 1 }] => 3 name asset 0 rule 1
+text: version = 2 / set = [{ name = 1 }] => 4 name asset 0 rule 1
+text: version = 2 / set = [{ name = "A" }] => 6 name asset 0 rule 1
+text: version = 2 / set = [{ name = "a" }] => 3 points asset 0 rule 1
+text: version = 2 / set = [{ name = "a", points = ["1"] }, { name = "a" }] => 7 name asset 0 rule 2
+text: version = 2 / set = [{ name = "default", points = ["1"] }] / asset = [] => ok
+text: version = 2 / set = [{ name = "a", points = "1" }] => 4 points asset 0 rule 1
+text: version = 2 / set = [{ name = "a", points = [1] }] => 4 points asset 0 rule 1
+text: version = 2 / set = [{ name = "a", points = [] }] => 6 points asset 0 rule 1
+text: version = 2 / set = [{ name = "a", points = [ * 65 "x", * ] }] => 8 points asset 0 rule 1
+text: version = 2 / set = [{ name = "a", points = ["1"] }, { name = "b", points = ["@a"] }] => 6 points asset 0 rule 2
+text: version = 2 / set = [{ name = "a", points = ["4294967296"] }] => 6 points asset 0 rule 1
+text: version = 2 / set = [{ name = "a", points = ["x"] }] / asset = 1 => 6 points asset 0 rule 1
+text: version = 2 / set = [{ name = "a", points = ["1"], colour = 1 }] => 2 - asset 0 rule 1
+text: version = 2 / set = [{ name = "a", points = ["2..1"] }] / asset = [] => 6 points asset 0 rule 1
+text: version = 2 / set = [{ name = "a", points = ["1"] }, 1] / asset = [] => 4 set asset 0 rule 0
+text: version = 2 / set = [{ name = "a", points = ["1"] }, { name = "b", points = ["1"] }] / asset = [] => ok
+text: version = 2 / set = [{ name = "a", points = [ * 64 "1", * ] }] / asset = [] => ok
+points: points = ["@b"] | version: version = 2 / set = [{ name = "a", points = ["1"] }] => 10 points asset 1 rule 2
+points: points = ["@a", "@b"] | version: version = 2 / set = [{ name = "b", points = ["1"] }, { name = "a", points = ["2"] }] => ok
+points: points = ["@none"] / values = 1 | values: | version: version = 2 => 10 points asset 1 rule 2
+codes: codes = [] | points: points = ["@none"] | version: version = 2 => 6 codes asset 1 rule 2
+values: values = ["@a"] | version: version = 2 / set = [{ name = "a", points = ["1"] }] => 6 values asset 1 rule 2
+clients: clients = ["@a"] | version: version = 2 / set = [{ name = "a", points = ["1"] }] => 5 clients asset 1 rule 2"#;
 
 /// What a text means: `ok`, or its refusal.
 pub(super) fn meaning(alloc: Global, changes: &str) -> Result<String, Fail> {

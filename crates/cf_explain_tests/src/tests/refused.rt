@@ -43,21 +43,21 @@ p:6:12: this is no TOML: invalid value, expected a string, number, boolean, date
     quotation marks, as "allow"
   in the line: protocol = modbus
 
-1: version = 2
-p:1:1: `version` is the number 2
-  write version = 1 above the first table
+1: version = 3
+p:1:1: `version` is the number 3
+  write version = 1 above the first table, or version = 2 where rules name sets of points
 
 1:
 p: `version` is missing
-  write version = 1 above the first table
+  write version = 1 above the first table, or version = 2 where rules name sets of points
 
 1: versoin = 1
 p: `version` is missing; did you write "versoin" for it?
-  write version = 1 above the first table
+  write version = 1 above the first table, or version = 2 where rules name sets of points
 
 1: version = "1"
 p:1:1: `version` is the text "1", and has to be a whole number
-  write version = 1 above the first table
+  write version = 1 above the first table, or version = 2 where rules name sets of points
 
 2: [asset]
 p:20:1: this is no TOML: duplicate key; write [[asset]] and [[asset.rule]] with two brackets each time
@@ -65,11 +65,11 @@ p:20:1: this is no TOML: duplicate key; write [[asset]] and [[asset.rule]] with 
 
 20: [[assets]]
 p:20:1: "assets" is no key of the document; did you mean `asset`?
-  above the first table the document has version = 1, and then tables [[asset]]
+  above the first table the document has version = 1, and then tables [[asset]]; version = 2 has tables [[set]] too
 
 12: [[rule]]
 p:12:1: "rule" is no key of the document: a rule is a table [[asset.rule]]
-  above the first table the document has version = 1, and then tables [[asset]]
+  above the first table the document has version = 1, and then tables [[asset]]; version = 2 has tables [[set]] too
 
 8: [asset.rule]
 p:12:1: this is no TOML: duplicate key; write [[asset]] and [[asset.rule]] with two brackets each time
@@ -226,7 +226,7 @@ p:18:1: asset 1 "pump", rule 2 "set": entry 1 of `points` is the text "999999999
   points are 1 to 64 numbers or ranges from 0 to 4294967295, as points = ["7", "40..49"]
 
 18: points = ["@set"]
-p:18:1: asset 1 "pump", rule 2 "set": entry 1 of `points` is the text "@set": there are no sets of points in version 1
+p:18:1: asset 1 "pump", rule 2 "set": entry 1 of `points` is the text "@set": sets are named in the points of rules alone, and in version 2
   points are 1 to 64 numbers or ranges from 0 to 4294967295, as points = ["7", "40..49"]
 
 18: points = ["40,41"]
@@ -338,7 +338,7 @@ p:12:1: asset 1 "pump", rule 1 "poll": `values` is the text "[[asset.rule]]\ncod
   values are 1 to 64 numbers or ranges from -2147483648 to 4294967295, as values = ["-5..5"]
 
 10: action = "refuse" / most = 2 / seconds = 60
-p:11:1: asset 1 "pump", rule 1 "poll": `most` is a key of rules that allow alone, as `seconds` is: leave both out
+p:11:1: asset 1 "pump", rule 1 "poll": `most` is a key of rules that allow alone: leave it and `seconds` out
   a rule has name, action, codes, and may have clients, groups, points, values, most and seconds
 
 19: most = 2
@@ -363,7 +363,59 @@ p:19:1: asset 1 "pump", rule 2 "set": `most` is the text "2", and has to be a wh
 
 text: version = 1 / asset = [{ name = "A" }]
 p: asset 1 "A": `name` is "A": it has capital letters
-  a name has 1 to 32 of the letters a to z, the digits, _ and -, as name = "pump""#;
+  a name has 1 to 32 of the letters a to z, the digits, _ and -, as name = "pump"
+
+1: version = 1 / [[set]] / name = "low" / points = ["1"]
+p:2:1: `set` is a key of version 2 alone
+  above the first table the document has version = 1, and then tables [[asset]]; version = 2 has tables [[set]] too
+
+1: version = 2 / set = 1
+p:2:1: `set` is the number 1, and has to be a list of tables
+  each set of points is a table [[set]] with a name and points, at most 64
+
+1: version = 2 / [[set]] / name = "low"
+p:2:1: set 1 "low": `points` is missing
+  points are 1 to 64 numbers or ranges from 0 to 4294967295, as points = ["7", "40..49"]
+
+1: version = 2 / [[set]] / name = "low" / points = ["1"] / codes = [3]
+p:5:1: set 1 "low": "codes" is no key of a set of points: it stands in a rule, below [[asset.rule]]
+  a set of points has a name and points, and no other keys
+
+1: version = 2 / [[set]] / name = "low" / points = ["1"] / [[set]] / name = "low" / points = ["2"]
+p:6:1: set 2 "low": `name` is the text "low", which set 1 has
+  no two sets have the same name
+
+1: version = 2 / [[set]] / name = "low" / points = ["1", "@low"]
+p:4:1: set 1 "low": entry 2 of `points` is the text "@low": sets are named in the points of rules alone, and in version 2
+  points are 1 to 64 numbers or ranges from 0 to 4294967295, as points = ["7", "40..49"]
+
+1: version = 2 / [[set]] / name = "low" / points = ["1"] | 18: points = ["7", "@low", "@lwo"]
+p:21:1: asset 1 "pump", rule 2 "set": entry 3 of `points` is the text "@lwo": no set has this name; did you mean "@low"?
+  a set of points is a table [[set]] with a name and points, and a rule names it as points = ["@low"]
+
+1: version = 2 | 18: points = ["@high"]
+p:18:1: asset 1 "pump", rule 2 "set": entry 1 of `points` is the text "@high": no set has this name
+  a set of points is a table [[set]] with a name and points, and a rule names it as points = ["@low"]
+
+1: version = 2 / [[set]] / name = "low" / points = ["1"] | 18: points = ["@low", "40-49"]
+p:21:1: asset 1 "pump", rule 2 "set": entry 2 of `points` is the text "40-49": a range has two points between its numbers, as 40..49
+  points are 1 to 64 numbers or ranges from 0 to 4294967295, as points = ["7", "40..49"]
+
+1: version = 2 | 18: points = ["@Low"]
+p:18:1: asset 1 "pump", rule 2 "set": entry 1 of `points` is the text "@Low": it has capital letters
+  points are 1 to 64 numbers or ranges from 0 to 4294967295, as points = ["7", "40..49"]
+
+1: version = 2 | 18: points = ["@"]
+p:18:1: asset 1 "pump", rule 2 "set": entry 1 of `points` is the text "@": behind @ stands the name of a set
+  points are 1 to 64 numbers or ranges from 0 to 4294967295, as points = ["7", "40..49"]
+
+1: version = 2 / [[set]] / name = "low" / points = ["1", "2"] | 18: points = [ * 33 "@low", * ]
+p:21:1: asset 1 "pump", rule 2 "set": `points` has 33 entries, and with the points of the sets that they name more than 64
+  points are 1 to 64 numbers or ranges from 0 to 4294967295, as points = ["7", "40..49"]
+
+14: action = "refuse" | 19: most = 2
+p:19:1: asset 1 "pump", rule 2 "set": `most` is a key of rules that allow alone: leave it and `seconds` out
+  a rule has name, action, codes, and may have clients, groups, points, values, most and seconds"#;
 
 /// The message about a policy that is refused.
 pub(super) fn message(alloc: Global, changes: &str) -> Result<String, Fail> {

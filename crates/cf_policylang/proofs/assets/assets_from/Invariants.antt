@@ -6,5 +6,5 @@ use Rattle.cf_policylang.proofs.assets.assets_from.Given as goal
 -- what is left, read behind what was read, means what the whole does
 abbrev pub invariant-loop-index : goal.invariant-loop-index
 invariant-loop-index l =
-    assets_from l.index (items_view (drop l.index l.array.items)) l.assets.items
-    ≡ assets_from 0 (items_view l.array.items) []
+    assets_from l.named l.index (items_view (drop l.index l.array.items)) l.assets.items
+    ≡ assets_from l.named 0 (items_view l.array.items) []
