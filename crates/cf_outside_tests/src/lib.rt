@@ -1,4 +1,4 @@
-//! Tests of `cf_view`, `cf_outside`, `cf_outq`, `cf_rebuild`, `cf_pcap` and `cf_packet`, which stand beside them: a crate
+//! Tests of `cf_view`, `cf_outside`, `cf_outq`, `cf_rebuild`, `cf_pcap`, `cf_pcapng` and `cf_packet`, which stand beside them: a crate
 //! that has tests is proved twice.
 #![tactic(auto)]
 
@@ -10,6 +10,8 @@ mod files;
 mod lines;
 #[cfg(test)]
 mod packet;
+#[cfg(test)]
+mod pcapng;
 #[cfg(test)]
 mod queue;
 #[cfg(test)]

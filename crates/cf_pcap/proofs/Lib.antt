@@ -1,3 +1,1 @@
-pub mod Capture
-mod Moments
 mod Written

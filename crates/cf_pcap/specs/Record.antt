@@ -1,17 +1,12 @@
 -- What octets of a capture file say about the record that they begin: record_of. draft-ietf-opsawg-pcap, section 5; that
 -- a record has at most so many captured octets is this project's own.
-use Rattle.std.specs.Prelude.{ℕ, ◌≤◌, ◌+◌, ◌*◌, ◌/◌, ◌%◌, nat_lt, if◌then◌else◌, List, ◌++◌, length, slice_range}
+use Rattle.std.specs.Prelude.{ℕ, ◌≤◌, ◌+◌, ◌*◌, ◌^◌, ◌/◌, ◌%◌, nat_lt, if◌then◌else◌, List, ◌++◌, length, slice_range}
 use Rattle.cf_view.specs.Octets.{u32_le_octets}
 use Rattle.cf_pcap.specs.declared.header.Header.{Header}
 use Rattle.cf_pcap.specs.declared.record.RecordAnswer.{RecordAnswer}
 use Rattle.cf_pcap.specs.declared.record.RecordAnswer.TheVariants as answer
 use Rattle.cf_pcap.specs.declared.record.TheConstants.{CAPTURED_LIMIT}
 use Rattle.cf_pcap.specs.Header.{u32_at}
-
--- a record of a capture: its stamp in microseconds, and its captured octets
-pub record Record : Type 0 where
-  pub stamp : ℕ
-  pub body : List ℕ
 
 -- what a contract sees of the answer about a record
 pub data RecordAnswerValue : Type 0 where
@@ -50,6 +45,10 @@ record_of header octets =
 abbrev pub IsInside : RecordAnswerValue → ℕ → Type 0
 IsInside (Whole stamp body used) count = (16 ≤ used) × (used ≤ count)
 IsInside other count = Unit {0}
+
+-- the moments of records that are written, in microseconds, are below 2^32 seconds
+abbrev pub moment_limit : ℕ
+moment_limit = 2 ^ 32 * 1000000
 
 -- the head of a record that is written, at a moment in microseconds: both its lengths are that of its octets
 abbrev pub head_octets : ℕ → ℕ → List ℕ

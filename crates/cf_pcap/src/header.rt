@@ -80,7 +80,7 @@ fn fields(bytes: &View<'_>, big_endian: bool) -> Result<Header, HeaderRefusal>
 }
 
 /// The number of two octets in a file's byte order.
-fn u16_at(bytes: &View<'_>, i: usize, big_endian: bool) -> u16
+pub fn u16_at(bytes: &View<'_>, i: usize, big_endian: bool) -> u16
     requires { i + 2 ≤ length bytes.now.bytes }
     ensures { result ≡ u16_at big_endian bytes.now.bytes i }
 {
@@ -92,7 +92,7 @@ fn u16_at(bytes: &View<'_>, i: usize, big_endian: bool) -> u16
 }
 
 /// The number of four octets in a file's byte order.
-pub(crate) fn u32_at(bytes: &View<'_>, i: usize, big_endian: bool) -> u32
+pub fn u32_at(bytes: &View<'_>, i: usize, big_endian: bool) -> u32
     requires { i + 4 ≤ length bytes.now.bytes }
     ensures { result ≡ u32_at big_endian bytes.now.bytes i }
 {

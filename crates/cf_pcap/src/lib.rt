@@ -2,11 +2,11 @@
 #![tactic(auto)]
 
 mod header;
-mod laws;
 mod record;
 mod write;
 
-pub use header::{Header, HeaderRefusal, MICROSECONDS, NANOSECONDS, read_header};
-pub use laws::{moments_rise, octets_have_one_list_of_records};
+pub use header::{
+    Header, HeaderRefusal, MICROSECONDS, NANOSECONDS, read_header, u16_at, u32_at,
+};
 pub use record::{CAPTURED_LIMIT, RecordAnswer, read_record};
 pub use write::{write_header, write_record_head};

@@ -1,6 +1,5 @@
 //! The records of a capture file.
-ghost use Rattle.std.specs.Prelude.{◌≡◌, ℕ, ◌+◌, ◌^◌, ◌<◌, ◌≤◌, length};
-ghost use Rattle.cf_pcap.specs.Capture.{at_place, at_place_by};
+ghost use Rattle.std.specs.Prelude.{◌≡◌, ◌≤◌, length};
 ghost use Rattle.cf_pcap.specs.Record.{IsInside, captured_at, record_answer_value, record_of, stamp_at};
 
 use crate::header::{Header, u32_at};
@@ -29,13 +28,9 @@ pub enum RecordAnswer<'a> {
 
 /// The record that begins the octets, in a file with this header. draft-ietf-opsawg-pcap, section 5; the original
 /// length is not used.
-#[tactic(auto, using(crate::proofs::Capture::at_near_place))]
 pub fn read_record<'a>(header: &Header, bytes: &'a [u8]) -> RecordAnswer<'a>
     ensures value { record_answer_value result ≡ record_of header.now bytes.now }
     ensures inside { IsInside (record_answer_value result) (length bytes.now) }
-    // Of a file's octets it is what stands at their place, while that file ends at place 2^40 or before.
-    ensures here { (place : ℕ) → 0 < length bytes.now → place + length bytes.now ≤ 2 ^ 40
-        → at_place header.now place bytes.now ≡ at_place_by (record_answer_value result) }
 {
     if bytes.len() < 16 {
         return RecordAnswer::Need(16);

@@ -1,9 +1,8 @@
 //! Writers of capture files: little-endian, microseconds, raw IP.
 ghost use Rattle.std.specs.Prelude.{◌≡◌, ℕ, ◌+◌, ◌<◌, ◌≤◌, ◌++◌, List, Ok, length};
 ghost use Rattle.cf_view.specs.Octets.{u32_le_octets};
-ghost use Rattle.cf_pcap.specs.Capture.{moment_limit};
 ghost use Rattle.cf_pcap.specs.Header.{header_of, output_header, output_octets};
-ghost use Rattle.cf_pcap.specs.Record.{Whole, head_octets, record_of};
+ghost use Rattle.cf_pcap.specs.Record.{Whole, head_octets, moment_limit, record_of};
 ghost use Rattle.cf_pcap.specs.declared.record.TheConstants.{CAPTURED_LIMIT};
 
 /// The header of every file that is written.

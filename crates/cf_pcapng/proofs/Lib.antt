@@ -1,0 +1,6 @@
+mod Calls
+pub mod Deciding
+pub mod Fronts
+pub mod Insides
+mod OptionLists
+mod Spelled
