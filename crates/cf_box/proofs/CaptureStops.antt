@@ -1,15 +1,16 @@
 -- The answer of a listing, as the answer of the command.
 use Rattle.std.proofs.Common.{◌≡◌, ◌≢◌, ℕ, List, Result, Ok, Err, refl, ap, subst, inl, inr}
 use Rattle.cf_outside.specs.Files.{Content}
-use Rattle.cf_pcap.specs.Capture.{AtPlace, Large, LastPlace, TooLong}
-use Rattle.cf_pcap.specs.Record.{Record}
-use Rattle.cf_pcap.specs.declared.Header.{Header}
-use Rattle.cf_pcap.specs.declared.HeaderRefusal.{HeaderRefusal}
-use Rattle.cf_pcap.specs.declared.HeaderRefusal.TheVariants as header
-use Rattle.cf_run.specs.Reader.{HasHeader, OpensAs}
+use Rattle.cf_run.specs.Capture.{AtPlace, Large, LastPlace, Record, Refused, TooLong}
+use Rattle.cf_run.specs.Reader.{HasForm, OpensAs}
+use Rattle.cf_run.specs.declared.BlockRefusal.{BlockRefusal}
+use Rattle.cf_run.specs.declared.BlockRefusal.TheVariants as block
+use Rattle.cf_run.specs.declared.Form.{Form}
+use Rattle.cf_run.specs.declared.FormRefusal.{FormRefusal}
+use Rattle.cf_run.specs.declared.FormRefusal.TheVariants as form
 use Rattle.cf_run.specs.declared.record_reader.OpenFault.{OpenFault}
 use Rattle.cf_run.specs.declared.record_reader.OpenFault.TheVariants as opened
-use Rattle.cf_box.specs.Captures.{EndsAt, Refuses, header_refusal}
+use Rattle.cf_box.specs.Captures.{EndsAt, EndsSomewhere, Refuses, block_refusal, form_refusal}
 use Rattle.cf_box.specs.Command.{Packets}
 use Rattle.cf_box.specs.Ends.{Meets, PassesPolicy, StopsFor}
 use Rattle.cf_box.specs.Outside.{Outside, ReadFailed}
@@ -19,19 +20,27 @@ use Rattle.cf_box.specs.declared.ending.Done.{Done}
 use Rattle.cf_box.specs.declared.ending.Stop.{Stop}
 use Rattle.cf_box.specs.declared.ending.Stop.TheVariants as stop
 
--- a header that is refused refuses the capture
-pub header_refuses : (Has : Content → Header → List Record → LastPlace → Type 0) (file : Content) (of : HeaderRefusal) → HasHeader file (Err of) → Refuses Has file (header_refusal of)
-header_refuses Has file header.Short h = h
-header_refuses Has file header.Magic h = h
-header_refuses Has file header.Version h = h
-header_refuses Has file header.LinkType h = h
+-- a header that is refused refuses the capture, and so does a block
+pub form_refuses : (Has : Content → Form → List Record → LastPlace → Type 0) (file : Content) (of : FormRefusal) → HasForm file (Err of) → Refuses Has file (form_refusal of)
+form_refuses Has file form.Short h = h
+form_refuses Has file form.Magic h = h
+form_refuses Has file form.Version h = h
+form_refuses Has file form.LinkType h = h
+form_refuses Has file form.Section h = inl h
+
+pub block_refuses : (Has : Content → Form → List Record → LastPlace → Type 0) (file : Content) (of : BlockRefusal) → EndsSomewhere Has file (Refused of) → Refuses Has file (block_refusal of)
+block_refuses Has file block.Block h = h
+block_refuses Has file block.Section h = inr h
+block_refuses Has file block.Interface h = h
+block_refuses Has file block.Resolution h = h
 
 -- by no moment
-no_clock : (of : HeaderRefusal) → header_refusal of ≢ refusal.Clock
-no_clock header.Short e = cc e
-no_clock header.Magic e = cc e
-no_clock header.Version e = cc e
-no_clock header.LinkType e = cc e
+no_clock : (of : FormRefusal) → form_refusal of ≢ refusal.Clock
+no_clock form.Short e = cc e
+no_clock form.Magic e = cc e
+no_clock form.Version e = cc e
+no_clock form.LinkType e = cc e
+no_clock form.Section e = cc e
 
 module _ (file : List ℕ) (before after : Outside) (content : after.files.content ≡ before.files.content) (pair : after.pair ≡ before.pair) where
   abbrev capture : Content
@@ -42,24 +51,32 @@ module _ (file : List ℕ) (before after : Outside) (content : after.files.conte
   passes_none = record { policy = λ other e. cc e; asset = λ other name e f. cc e }
 
   -- where the records end so
-  ended : (found : AtPlace) (l : (header : Header) × (records : List Record) × (last : LastPlace) × HasHeader capture (Ok header) × HasListedRecords capture header records last × (last.found ≡ found)) →
+  ended : (found : AtPlace) (l : (of : Form) × (records : List Record) × (last : LastPlace) × HasForm capture (Ok of) × HasListedRecords capture of records last × (last.found ≡ found)) →
       EndsAt HasListedRecords capture found l.2.place
-  ended found (header, records, last, has, are, is) = record {
-    header = header;
-    has_header = has;
+  ended found (of, records, last, has, are, is) = record {
+    form = of;
+    has_form = has;
     records = records;
-    are_records = subst (λ f. HasListedRecords capture header records (record { place = last.place; found = f })) is are;
+    are_records = subst (λ f. HasListedRecords capture of records (record { place = last.place; found = f })) is are;
   }
 
   stops : (s : Stop) → (s ≡ stop.ReadFault → ReadFailed before after) → ListsFile capture before.sink after.sink (Err s) → StopsFor (Packets file) before after s
   stops stop.ReadFault read l = read refl
   stops stop.WriteFault read l = (inr l.answers.0, passes_none)
   stops (stop.CaptureRefused refusal.TooLong) read l =
-      (((l.last.place, ended TooLong (l.header, l.records, l.last, l.has_header, l.are_records, l.answers.0)), λ e. cc e), passes_none)
+      (((l.last.place, ended TooLong (l.form, l.records, l.last, l.has_form, l.are_records, l.answers.0)), λ e. cc e), passes_none)
   stops (stop.CaptureRefused refusal.Large) read l =
-      (((l.last.place, ended Large (l.header, l.records, l.last, l.has_header, l.are_records, l.answers.0)), λ e. cc e), passes_none)
+      (((l.last.place, ended Large (l.form, l.records, l.last, l.has_form, l.are_records, l.answers.0)), λ e. cc e), passes_none)
+  stops (stop.CaptureRefused refusal.Block) read l =
+      (((l.last.place, ended (Refused block.Block) (l.form, l.records, l.last, l.has_form, l.are_records, l.answers.0)), λ e. cc e), passes_none)
+  stops (stop.CaptureRefused refusal.Section) read l =
+      ((inr (l.last.place, ended (Refused block.Section) (l.form, l.records, l.last, l.has_form, l.are_records, l.answers.0)), λ e. cc e), passes_none)
+  stops (stop.CaptureRefused refusal.Interface) read l =
+      (((l.last.place, ended (Refused block.Interface) (l.form, l.records, l.last, l.has_form, l.are_records, l.answers.0)), λ e. cc e), passes_none)
+  stops (stop.CaptureRefused refusal.Resolution) read l =
+      (((l.last.place, ended (Refused block.Resolution) (l.form, l.records, l.last, l.has_form, l.are_records, l.answers.0)), λ e. cc e), passes_none)
   stops (stop.CaptureCut place) read l = (
-    record { header = l.header; has_header = l.has_header; records = l.records; are_records = subst (HasListedRecords capture l.header l.records) l.answers.0 l.are_records },
+    record { form = l.form; has_form = l.has_form; records = l.records; are_records = subst (HasListedRecords capture l.form l.records) l.answers.0 l.are_records },
     passes_none,
   )
   stops (stop.CaptureRefused why) read l = absurd l.answers
@@ -73,7 +90,7 @@ module _ (file : List ℕ) (before after : Outside) (content : after.files.conte
   unopened : (fault : OpenFault) → (fault ≡ opened.Read → ReadFailed before after) → OpensAs capture (Err fault) → StopsFor (Packets file) before after (open_stop fault)
   unopened opened.NoMemory read h = tt
   unopened opened.Read read h = read refl
-  unopened (opened.Refused of) read h = ((header_refuses HasListedRecords capture of h, no_clock of), passes_none)
+  unopened (opened.Refused of) read h = ((form_refuses HasListedRecords capture of h, no_clock of), passes_none)
 
   pub closed_meets : (fault : OpenFault) → (fault ≡ opened.Read → ReadFailed before after) → OpensAs capture (Err fault) → after.sink ≡ before.sink → Meets (Packets file) before after (Err (open_stop fault))
   closed_meets fault read h same = (

@@ -1,13 +1,14 @@
 -- Where all is in form and nothing fails, the work is done.
 use Rattle.std.proofs.Common.{◌≡◌, ◌⊎◌, ℕ, List, Some, Result, Ok, Err, drop, refl, sym, subst, ◌∙◌, ap, inl, inr}
 use Rattle.cf_outside.specs.Files.{Content, holds, IsWhole}
-use Rattle.cf_pcap.proofs.Capture.{one_list, one_timed_list}
-use Rattle.cf_pcap.specs.Header.{header_of}
-use Rattle.cf_pcap.specs.Capture.{AreRecords, AreTimed, AtPlace, Clock, Cut, FileEnd, Large, LastPlace, TooLong, at_place, first_moment}
-use Rattle.cf_pcap.specs.Record.{Record}
-use Rattle.cf_pcap.specs.declared.Header.{Header}
-use Rattle.cf_pcap.specs.declared.HeaderRefusal.{HeaderRefusal}
-use Rattle.cf_pcap.specs.declared.HeaderRefusal.TheVariants as header
+use Rattle.cf_run.proofs.RecordLists.{one_list, one_timed_list}
+use Rattle.cf_run.specs.Capture.{AreRecords, AtPlace, Clock, Cut, FileEnd, Large, LastPlace, Record, Refused, TooLong}
+use Rattle.cf_run.specs.Form.{first_place, form_of}
+use Rattle.cf_run.specs.Moments.{AreTimed, first_moment}
+use Rattle.cf_run.specs.declared.BlockRefusal.TheVariants as block
+use Rattle.cf_run.specs.declared.Form.{Form}
+use Rattle.cf_run.specs.declared.FormRefusal.{FormRefusal}
+use Rattle.cf_run.specs.declared.FormRefusal.TheVariants as form
 use Rattle.cf_policy.specs.declared.Policy.{Policy}
 use Rattle.cf_policylang.specs.Documents.{policy_meaning}
 use Rattle.cf_policylang.specs.declared.PolicyRefusal.{PolicyRefusal}
@@ -59,19 +60,24 @@ not_lacking c before file name t of_policy of_asset cause =
     cc
 
 -- a capture whose header is read and whose records end with the file is not refused, nor cut
-module _ (Has : Content → Header → List Record → LastPlace → Type 0) (bytes : List ℕ) (h : Header) (read : header_of bytes ≡ Ok h)
+module _ (Has : Content → Form → List Record → LastPlace → Type 0) (bytes : List ℕ) (of_file : Form) (read : form_of bytes ≡ Ok of_file)
     (ends : (found : AtPlace) (place : ℕ) → EndsAt Has (holds bytes) found place → found ≡ FileEnd) where
-  no_refusal : (of : HeaderRefusal) → header_of bytes ≡ Err of → ⊥
+  no_refusal : (of : FormRefusal) → form_of bytes ≡ Err of → ⊥
   no_refusal of refused = let here = read in cc
 
   not_refused_by : (r : CaptureRefusal) → Refuses Has (holds bytes) r → ⊥
-  not_refused_by refusal.Short h = no_refusal header.Short h
-  not_refused_by refusal.Magic h = no_refusal header.Magic h
-  not_refused_by refusal.Version h = no_refusal header.Version h
-  not_refused_by refusal.LinkType h = no_refusal header.LinkType h
+  not_refused_by refusal.Short h = no_refusal form.Short h
+  not_refused_by refusal.Magic h = no_refusal form.Magic h
+  not_refused_by refusal.Version h = no_refusal form.Version h
+  not_refused_by refusal.LinkType h = no_refusal form.LinkType h
   not_refused_by refusal.TooLong h = cc (ends TooLong h.0 h.1)
   not_refused_by refusal.Clock h = cc (ends Clock h.0 h.1)
   not_refused_by refusal.Large h = cc (ends Large h.0 h.1)
+  not_refused_by refusal.Block h = cc (ends (Refused block.Block) h.0 h.1)
+  not_refused_by refusal.Section (inl h) = no_refusal form.Section h
+  not_refused_by refusal.Section (inr h) = cc (ends (Refused block.Section) h.0 h.1)
+  not_refused_by refusal.Interface h = cc (ends (Refused block.Interface) h.0 h.1)
+  not_refused_by refusal.Resolution h = cc (ends (Refused block.Resolution) h.0 h.1)
 
   not_cut_at : (place : ℕ) → EndsAt Has (holds bytes) Cut place → ⊥
   not_cut_at place h = cc (ends Cut place h)
@@ -80,20 +86,22 @@ module _ (Has : Content → Header → List Record → LastPlace → Type 0) (by
 listing_ends : (bytes : List ℕ) (has : HasRecords bytes) (found : AtPlace) (place : ℕ) → EndsAt HasListedRecords (holds bytes) found place → found ≡ FileEnd
 listing_ends bytes has found place e =
     let here = has.1 in
-    let there = e.has_header in
-    let same : e.header ≡ has.0 = cc in
+    let there = e.has_form in
+    let same : e.form ≡ has.0 = cc in
+    let start = first_place has.0 in
     let ends : LastPlace = record { place = has.2.1; found = FileEnd } in
-    ap (λ e. e.found) (one_list (at_place has.0) 24 (drop 24 bytes) e.records has.2.0 (record { place = place; found = found }) ends
-    (subst (λ x. AreRecords (at_place x) 24 (drop 24 bytes) e.records (record { place = place; found = found })) same e.are_records) has.2.2).1
+    ap (λ e. e.found) (one_list has.0 start (drop start bytes) e.records has.2.0 (record { place = place; found = found }) ends
+    (subst (λ x. AreRecords x (first_place x) (drop (first_place x) bytes) e.records (record { place = place; found = found })) same e.are_records) has.2.2).1
 
 run_ends : (bytes : List ℕ) (has : HasTimedRecords bytes) (found : AtPlace) (place : ℕ) → EndsAt HasRunRecords (holds bytes) found place → found ≡ FileEnd
 run_ends bytes has found place e =
     let here = has.1 in
-    let there = e.has_header in
-    let same : e.header ≡ has.0 = cc in
+    let there = e.has_form in
+    let same : e.form ≡ has.0 = cc in
+    let start = first_place has.0 in
     let ends : LastPlace = record { place = has.2.1; found = FileEnd } in
-    ap (λ e. e.found) (one_timed_list has.0 first_moment 24 (drop 24 bytes) e.records has.2.0 (record { place = place; found = found }) ends
-    (subst (λ x. AreTimed x first_moment 24 (drop 24 bytes) e.records (record { place = place; found = found })) same e.are_records) has.2.2).1
+    ap (λ e. e.found) (one_timed_list has.0 first_moment start (drop start bytes) e.records has.2.0 (record { place = place; found = found }) ends
+    (subst (λ x. AreTimed x first_moment (first_place x) (drop (first_place x) bytes) e.records (record { place = place; found = found })) same e.are_records) has.2.2).1
 
 pub not_refused_run : (bytes : List ℕ) → HasTimedRecords bytes → (r : CaptureRefusal) → RunRefuses (holds bytes) r → ⊥
 not_refused_run bytes has r h = not_refused_by HasRunRecords bytes has.0 has.1 (run_ends bytes has) r h
@@ -111,21 +119,21 @@ record EndsInForm (c : Command) (before : Outside) : Type 0 where
   run_cut : (place : ℕ) → CutsRun c before place → ⊥
 
 ends_in_form : (c : Command) (before : Outside) → IsInForm c before → TellsMade c before → EndsInForm c before
-ends_in_form (Packets capture) before form tells =
-    let (bytes, told, has) = form capture refl in
+ends_in_form (Packets capture) before good tells =
+    let (bytes, told, has) = good capture refl in
     record {
       refused = λ r h. not_refused_by HasListedRecords bytes has.0 has.1 (listing_ends bytes has) r (subst (λ f. Refuses HasListedRecords f r) told h.0);
       cut = λ place h. not_cut_at HasListedRecords bytes has.0 has.1 (listing_ends bytes has) place (subst (λ f. EndsAt HasListedRecords f Cut place) told h);
       run_cut = λ place h. h;
     }
-ends_in_form (Run policy names) before form tells =
-    let (bytes, told, has) = form names.capture refl in
+ends_in_form (Run policy names) before good tells =
+    let (bytes, told, has) = good names.capture refl in
     let uncut : (place : ℕ) → RunCuts (before.files.content names.capture) place → ⊥ = λ place h. not_cut_run bytes has place (subst (λ f. RunCuts f place) told h) in
     record { refused = λ r h. not_refused_run bytes has r (subst (λ f. RunRefuses f r) told h); cut = uncut; run_cut = uncut }
-ends_in_form (Check policy) before form tells = record { refused = λ r h. h; cut = λ place h. h; run_cut = λ place h. h }
-ends_in_form (Relay policy asset port idles log) before form tells = record { refused = λ r h. h; cut = λ place h. h; run_cut = λ place h. h }
-ends_in_form (World seed sessions policy names) before form tells = record { refused = λ r h. tells.1 h; cut = λ place h. tells.1 h; run_cut = λ place h. tells.1 h }
-ends_in_form (Sift policy asset client names) before form tells = record { refused = λ r h. h; cut = λ place h. h; run_cut = λ place h. h }
+ends_in_form (Check policy) before good tells = record { refused = λ r h. h; cut = λ place h. h; run_cut = λ place h. h }
+ends_in_form (Relay policy asset port idles log) before good tells = record { refused = λ r h. h; cut = λ place h. h; run_cut = λ place h. h }
+ends_in_form (World seed sessions policy names) before good tells = record { refused = λ r h. tells.1 h; cut = λ place h. tells.1 h; run_cut = λ place h. tells.1 h }
+ends_in_form (Sift policy asset client names) before good tells = record { refused = λ r h. h; cut = λ place h. h; run_cut = λ place h. h }
 
 -- nor is a policy that has a meaning, or that the command made
 made_none : (c : Command) (before : Outside) → TellsMade c before → RefusesMadePolicy c before → ⊥
@@ -144,8 +152,8 @@ refusal_none c before middle r input (inr made) = made_none c before input.made 
 
 module _ (c : Command) (before middle : Outside) (failed : Type 0) (status : ℕ) (input : HasInput c before middle)
     (reads : ReadFailed before middle → ⊥) (writes : WriteFailed before middle → ⊥) (links : LinkFails c before middle.pair → ⊥) (puts : failed → ⊥) where
-  form : EndsInForm c before
-  form = ends_in_form c before input.capture input.made
+  in_form : EndsInForm c before
+  in_form = ends_in_form c before input.capture input.made
 
   is_complete : (r : Result Done Stop) → Meets c before middle r → IsOf r failed status → (status ≡ 0) ⊎ (status ≡ 13)
   is_complete (Ok d) meets (inl h) = inl h
@@ -161,9 +169,9 @@ module _ (c : Command) (before middle : Outside) (failed : Type 0) (status : ℕ
       let here = input.policy cause.0 cause.2 in
       let found = here.2.2 cause.1 cause.3 in
       absurd (not_lacking c before cause.0 cause.1 (record { bytes = here.0; policy = here.2.0; asset = found.0; told = here.1; means = here.2.1; named = found.1 }) cause.2 cause.3 cause)
-  is_complete (Err (stop.CaptureRefused r)) meets h = absurd (form.refused r meets.0.0)
-  is_complete (Err (stop.CaptureCut place)) meets h = absurd (form.cut place meets.0.0)
-  is_complete (Err (stop.RunCut place summary)) meets h = absurd (form.run_cut place meets.0.0)
+  is_complete (Err (stop.CaptureRefused r)) meets h = absurd (in_form.refused r meets.0.0)
+  is_complete (Err (stop.CaptureCut place)) meets h = absurd (in_form.cut place meets.0.0)
+  is_complete (Err (stop.RunCut place summary)) meets h = absurd (in_form.run_cut place meets.0.0)
   is_complete (Err stop.LinkFault) meets h = absurd (links meets.0.0)
   is_complete (Err stop.IdleEnd) meets h = absurd (input.idle meets.0.0)
   is_complete (Err (stop.Cut reason)) meets h = absurd (input.stream reason meets.0.0)

@@ -36,6 +36,7 @@ not_of_run fault.NoMemory w = none_of 13 w (omega arith) (omega arith) (omega ar
 not_of_run fault.Read w = none_of 3 w (omega arith) (omega arith) (omega arith)
 not_of_run fault.Write w = none_of 4 w (omega arith) (omega arith) (omega arith)
 not_of_run (fault.Refused (by.Header of)) w = none_of 6 w (omega arith) (omega arith) (omega arith)
+not_of_run (fault.Refused (by.Block of)) w = none_of 6 w (omega arith) (omega arith) (omega arith)
 not_of_run (fault.Refused by.TooLong) w = none_of 6 w (omega arith) (omega arith) (omega arith)
 not_of_run (fault.Refused by.Clock) w = none_of 6 w (omega arith) (omega arith) (omega arith)
 not_of_run (fault.Refused by.Large) w = none_of 6 w (omega arith) (omega arith) (omega arith)

@@ -2,7 +2,7 @@
 use Rattle.std.proofs.Common.{◌≡◌, ℕ, ◌^◌, ◌≤◌, List, [], ◌∷◌, Result, Ok, Err, sym, subst, ◌∙◌, ap, inl, inr, arith}
 use Rattle.cf_lane.specs.declared.limit.TheConstants.{LETTER_LIMIT}
 use Rattle.cf_outside.specs.Sink.{printed_with}
-use Rattle.cf_pcap.specs.Capture.{FileEnd}
+use Rattle.cf_run.specs.Capture.{FileEnd}
 use Rattle.cf_run.specs.Headline.{RunsHaveHeadline}
 use Rattle.cf_run.specs.RunCapture.{RunNamesValue, RunsTo}
 use Rattle.cf_run.specs.declared.summary.Summary.{Summary}

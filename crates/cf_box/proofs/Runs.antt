@@ -5,7 +5,7 @@ use Rattle.cf_lane.specs.declared.limit.TheConstants.{LETTER_LIMIT}
 use Rattle.cf_outside.specs.Desk.{IsNoneOf}
 use Rattle.cf_outside.specs.Faults.{Rose}
 use Rattle.cf_outside.specs.Files.{Content}
-use Rattle.cf_pcap.specs.Capture.{AtPlace}
+use Rattle.cf_run.specs.Capture.{AtPlace}
 use Rattle.cf_policy.specs.declared.Policy.{Policy}
 use Rattle.cf_run.specs.RunCapture.{HasRecords, RunNamesValue, RunsAs, RunsTo}
 use Rattle.cf_run.specs.declared.run.RunFault.{RunFault}
@@ -22,7 +22,7 @@ use Rattle.cf_box.specs.Run.{HasRun, run_stop}
 use Rattle.cf_box.specs.declared.ending.Done.{Done}
 use Rattle.cf_box.specs.declared.ending.Done.TheVariants as done
 use Rattle.cf_box.specs.declared.ending.Stop.{Stop}
-use Rattle.cf_box.proofs.CaptureStops.{header_refuses}
+use Rattle.cf_box.proofs.CaptureStops.{block_refuses, form_refuses}
 
 -- the answer of the command
 abbrev pub run_answer : Result Summary RunFault → Result Done Stop
@@ -43,7 +43,7 @@ module _ (policy_name : List ℕ) (names : RunNamesValue) (before after : Outsid
 
   -- where the records ended
   ends_at : (found : AtPlace) (place : ℕ) (summary : Summary) → RunsTo policy.assets LETTER_LIMIT names before.files.content after.files.content found place summary → EndsAt HasRecords (before.files.content names.capture) found place
-  ends_at found place summary r = record { header = r.header; has_header = r.has_header; records = r.records; are_records = r.are_records }
+  ends_at found place summary r = record { form = r.form; has_form = r.has_form; records = r.records; are_records = r.are_records }
 
   stops : (f : RunFault) → RunsAs policy.assets LETTER_LIMIT names before.files.content after.files.content (Err f) →
       (f ≡ fault.Read → Rose before.files.read_faults after.files.read_faults) → (f ≡ fault.Write → Rose before.files.write_faults after.files.write_faults) →
@@ -51,7 +51,9 @@ module _ (policy_name : List ℕ) (names : RunNamesValue) (before after : Outsid
   stops fault.NoMemory h read write = tt
   stops fault.Read h read write = read refl
   stops fault.Write h read write = (inl (write refl), passes)
-  stops (fault.Refused (by.Header of)) h read write = (header_refuses HasRecords (before.files.content names.capture) of h.0, passes)
+  stops (fault.Refused (by.Header of)) h read write = (form_refuses HasRecords (before.files.content names.capture) of h.0, passes)
+  stops (fault.Refused (by.Block of)) h read write =
+      (block_refuses HasRecords (before.files.content names.capture) of (h.0, ends_at _ h.0 h.1 h.2), passes)
   stops (fault.Refused by.TooLong) h read write = ((h.0, ends_at _ h.0 h.1 h.2), passes)
   stops (fault.Refused by.Clock) h read write = ((h.0, ends_at _ h.0 h.1 h.2), passes)
   stops (fault.Refused by.Large) h read write = ((h.0, ends_at _ h.0 h.1 h.2), passes)

@@ -1,11 +1,14 @@
 -- A run of a world, as the answer of `world`.
-use Rattle.std.proofs.Common.{◌≡◌, ◌⊎◌, ℕ, ◌≤◌, nat_lt, false, List, [], ◌∷◌, ◌++◌, length, take, drop, Result, Ok, Err, refl, sym, ap, ◌∙◌, subst, arith, inl, inr}
+use Rattle.std.proofs.Common.{◌≡◌, ◌⊎◌, ℕ, ◌≤◌, nat_lt, true, false, List, [], ◌∷◌, ◌++◌, length, take, drop, Result, Ok, Err, refl, sym, ap, ◌∙◌, subst, arith, inl, inr}
 use Rattle.std.proofs.lemmas.Bool.Decides.{nat_tests}
 use Rattle.std.proofs.lemmas.List.{take-append-drop}
 use Rattle.cf_outside.specs.Desk.{IsNoneOf}
 use Rattle.cf_outside.specs.Faults.{Rose}
 use Rattle.cf_outside.specs.Files.{Content, untold, absent, holds}
 use Rattle.cf_pcap.specs.Header.{header_of, output_header, output_octets}
+use Rattle.cf_pcapng.specs.Block.{is_section}
+use Rattle.cf_run.specs.Form.{form_of}
+use Rattle.cf_run.specs.declared.Form.TheVariants as form
 use Rattle.cf_policylang.specs.declared.PolicyRefusal.{PolicyRefusal}
 use Rattle.cf_run.specs.RunCapture.{RunNamesValue}
 use Rattle.cf_sift.specs.Outputs.{KeepsAllBut}
@@ -35,10 +38,20 @@ long rest = grind (arith, nat_tests)
 header_read : (rest : List ℕ) → header_of (output_octets ++ rest) ≡ Ok output_header
 header_read rest = rw (long rest) refl
 
-pub header_told : (octets : List ℕ) → take 24 octets ≡ output_octets → header_of octets ≡ Ok output_header
-header_told octets first =
+some : (rest : List ℕ) → nat_lt 3 (length (output_octets ++ rest)) ≡ true
+some rest = grind (arith, nat_tests)
+
+no_section_first : (rest : List ℕ) → is_section (output_octets ++ rest) ≡ false
+unfolding is_section
+no_section_first rest = rw (some rest) refl
+
+form_read : (rest : List ℕ) → form_of (output_octets ++ rest) ≡ Ok (form.Classic output_header)
+form_read rest = rw (no_section_first rest, header_read rest) refl
+
+pub form_told : (octets : List ℕ) → take 24 octets ≡ output_octets → form_of octets ≡ Ok (form.Classic output_header)
+form_told octets first =
     let whole : output_octets ++ drop 24 octets ≡ octets = ap (λ (l : List ℕ). l ++ drop 24 octets) (sym first) ∙ take-append-drop 24 octets in
-    subst (λ o. header_of o ≡ Ok output_header) whole (header_read (drop 24 octets))
+    subst (λ o. form_of o ≡ Ok (form.Classic output_header)) whole (form_read (drop 24 octets))
 
 untold_policy : (old new : Content) (r : PolicyRefusal) → HoldsPolicy old new → IsRefusedBy new r → old ≡ untold
 untold_policy untold new r h refused = refl
@@ -46,7 +59,7 @@ untold_policy absent new r h refused = absurd (not_refused new h.text made_polic
 untold_policy (holds all) new r h refused = absurd (not_refused new h.text made_policy r h.in_file h.means refused)
 
 in_form : (sessions : ℕ) (old new : Content) (h : HoldsCapture sessions old new) → HasTimedRecords h.octets
-in_form sessions old new h = (output_header, header_told h.octets h.is_capture.header, (h.records, length h.octets, h.is_capture.timed))
+in_form sessions old new h = (form.Classic output_header, form_told h.octets h.is_capture.header, (h.records, length h.octets, h.is_capture.timed))
 
 untold_refused : (sessions : ℕ) (old new : Content) (r : CaptureRefusal) → HoldsCapture sessions old new → RunRefuses new r → old ≡ untold
 untold_refused sessions untold new r h refused = refl

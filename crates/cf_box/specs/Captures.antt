@@ -1,40 +1,53 @@
 -- Why the capture of a command is refused, and where its records end: `Refuses` and `EndsAt`.
-use Rattle.std.specs.Prelude.{ℕ, List, Ok, Err}
+use Rattle.std.specs.Prelude.{◌⊎◌, ℕ, List, Ok, Err}
 use Rattle.cf_outside.specs.Files.{Content}
-use Rattle.cf_pcap.specs.Capture.{AtPlace, Clock, Large, LastPlace, TooLong}
-use Rattle.cf_pcap.specs.Record.{Record}
-use Rattle.cf_pcap.specs.declared.Header.{Header}
-use Rattle.cf_pcap.specs.declared.HeaderRefusal.{HeaderRefusal}
-use Rattle.cf_pcap.specs.declared.HeaderRefusal.TheVariants as header
-use Rattle.cf_run.specs.Reader.{HasHeader}
+use Rattle.cf_run.specs.Capture.{AtPlace, Clock, Large, LastPlace, Record, Refused, TooLong}
+use Rattle.cf_run.specs.Reader.{HasForm}
+use Rattle.cf_run.specs.declared.BlockRefusal.{BlockRefusal}
+use Rattle.cf_run.specs.declared.BlockRefusal.TheVariants as block
+use Rattle.cf_run.specs.declared.Form.{Form}
+use Rattle.cf_run.specs.declared.FormRefusal.{FormRefusal}
+use Rattle.cf_run.specs.declared.FormRefusal.TheVariants as form
 use Rattle.cf_box.specs.declared.ending.CaptureRefusal.{CaptureRefusal}
 use Rattle.cf_box.specs.declared.ending.CaptureRefusal.TheVariants as refusal
 
--- why the header of a capture is refused
-abbrev pub header_refusal : HeaderRefusal → CaptureRefusal
-header_refusal header.Short = refusal.Short
-header_refusal header.Magic = refusal.Magic
-header_refusal header.Version = refusal.Version
-header_refusal header.LinkType = refusal.LinkType
+-- why a capture is refused by its header, or by its first section header
+abbrev pub form_refusal : FormRefusal → CaptureRefusal
+form_refusal form.Short = refusal.Short
+form_refusal form.Magic = refusal.Magic
+form_refusal form.Version = refusal.Version
+form_refusal form.LinkType = refusal.LinkType
+form_refusal form.Section = refusal.Section
 
--- of a file whose records behind a header, up to the last place, are told by `Has`: a run tests their moments, a listing does not
-module _ (Has : Content → Header → List Record → LastPlace → Type 0) (file : Content) where
-  -- it has a header, and records up to this place, at which this stands
+-- and by a block
+abbrev pub block_refusal : BlockRefusal → CaptureRefusal
+block_refusal block.Block = refusal.Block
+block_refusal block.Section = refusal.Section
+block_refusal block.Interface = refusal.Interface
+block_refusal block.Resolution = refusal.Resolution
+
+-- of a file whose records, up to the last place, are told by `Has`: a run tests their moments, a listing does not
+module _ (Has : Content → Form → List Record → LastPlace → Type 0) (file : Content) where
+  -- it has a form, and records up to this place, at which this stands
   pub record EndsAt (found : AtPlace) (place : ℕ) : Type 0 where
-    pub header : Header
-    pub has_header : HasHeader file (Ok header)
+    pub form : Form
+    pub has_form : HasForm file (Ok form)
     pub records : List Record
-    pub are_records : Has file header records (record { place = place; found = found })
+    pub are_records : Has file form records (record { place = place; found = found })
 
   abbrev pub EndsSomewhere : AtPlace → Type 0
   EndsSomewhere found = (place : ℕ) × EndsAt found place
 
-  -- its header or a record is refused so
+  -- its header, a record or a block is refused so
   abbrev pub Refuses : CaptureRefusal → Type 0
-  Refuses refusal.Short = HasHeader file (Err header.Short)
-  Refuses refusal.Magic = HasHeader file (Err header.Magic)
-  Refuses refusal.Version = HasHeader file (Err header.Version)
-  Refuses refusal.LinkType = HasHeader file (Err header.LinkType)
+  Refuses refusal.Short = HasForm file (Err form.Short)
+  Refuses refusal.Magic = HasForm file (Err form.Magic)
+  Refuses refusal.Version = HasForm file (Err form.Version)
+  Refuses refusal.LinkType = HasForm file (Err form.LinkType)
   Refuses refusal.TooLong = EndsSomewhere TooLong
   Refuses refusal.Clock = EndsSomewhere Clock
   Refuses refusal.Large = EndsSomewhere Large
+  Refuses refusal.Block = EndsSomewhere (Refused block.Block)
+  Refuses refusal.Section = HasForm file (Err form.Section) ⊎ EndsSomewhere (Refused block.Section)
+  Refuses refusal.Interface = EndsSomewhere (Refused block.Interface)
+  Refuses refusal.Resolution = EndsSomewhere (Refused block.Resolution)

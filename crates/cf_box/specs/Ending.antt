@@ -45,6 +45,10 @@ capture_number refusal.LinkType = 4
 capture_number refusal.TooLong = 5
 capture_number refusal.Clock = 6
 capture_number refusal.Large = 7
+capture_number refusal.Block = 9
+capture_number refusal.Section = 10
+capture_number refusal.Interface = 11
+capture_number refusal.Resolution = 12
 
 -- what was counted, a line each
 abbrev pub count_line : (word : List ℕ) → (number : ℕ) → List ℕ

@@ -3,9 +3,8 @@ use Rattle.std.specs.Prelude.{ℕ, ◌+◌, ◌/◌, ◌%◌, ◌==◌, List, []
 use Rattle.cf_packet.specs.Packet.{PacketValue, read_record}
 use Rattle.cf_packet.specs.declared.PacketRefusal.{PacketRefusal}
 use Rattle.cf_packet.specs.declared.PacketRefusal.TheVariants as packet
-use Rattle.cf_pcap.specs.Record.{Record}
+use Rattle.cf_run.specs.Capture.{Record}
 use Rattle.cf_view.specs.Text.{endpoint_text, moment_text}
-use Rattle.cf_view.specs.declared.LinkKind.{LinkKind}
 
 -- the letter of a flag, which is a power of two, if it is set
 abbrev pub flag_text : ℕ → ℕ → List ℕ → List ℕ
@@ -42,11 +41,11 @@ packet_text (Ok p) =
 packet_text (Err r) = codes "dropped " ++ refusal_name r
 
 -- the line of the record of a number
-abbrev pub record_line : LinkKind → ℕ → Record → List ℕ
-record_line link n r =
-    decimal n ++ codes " " ++ moment_text r.stamp ++ codes " " ++ packet_text (read_record link r.body) ++ codes "\n"
+abbrev pub record_line : ℕ → Record → List ℕ
+record_line n r =
+    decimal n ++ codes " " ++ moment_text r.stamp ++ codes " " ++ packet_text (read_record r.link r.body) ++ codes "\n"
 
 -- the lines of records that are numbered from n on
-abbrev pub lines_from : LinkKind → ℕ → List Record → List ℕ
-lines_from link n [] = []
-lines_from link n (r ∷ rs) = record_line link n r ++ lines_from link (n + 1) rs
+abbrev pub lines_from : ℕ → List Record → List ℕ
+lines_from n [] = []
+lines_from n (r ∷ rs) = record_line n r ++ lines_from (n + 1) rs

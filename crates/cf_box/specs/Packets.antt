@@ -3,16 +3,16 @@ use Rattle.std.specs.Prelude.{◌≡◌, ◌≢◌, ◌⊎◌, ℕ, List, [], �
 use Rattle.cf_outside.specs.Faults.{Rose}
 use Rattle.cf_outside.specs.Files.{Content, untold, absent, holds}
 use Rattle.cf_outside.specs.Sink.{printed_with}
-use Rattle.cf_pcap.specs.Capture.{FileEnd, Cut, TooLong, Large, LastPlace, AreRecords, at_place}
-use Rattle.cf_pcap.specs.Record.{Record}
-use Rattle.cf_pcap.specs.declared.Header.{Header}
-use Rattle.cf_run.specs.Reader.{HasHeader, OpensAs}
+use Rattle.cf_run.specs.Capture.{AreRecords, Cut, FileEnd, Large, LastPlace, Record, Refused, TooLong}
+use Rattle.cf_run.specs.Form.{first_place}
+use Rattle.cf_run.specs.Reader.{HasForm, OpensAs}
+use Rattle.cf_run.specs.declared.BlockRefusal.TheVariants as block
+use Rattle.cf_run.specs.declared.Form.{Form}
 use Rattle.cf_run.specs.declared.record_reader.OpenFault.{OpenFault}
 use Rattle.cf_run.specs.declared.record_reader.OpenFault.TheVariants as opened
-use Rattle.cf_view.specs.declared.LinkKind.{LinkKind}
 use Rattle.cf_box.specs.declared.ending.CaptureRefusal.{CaptureRefusal}
 use Rattle.cf_box.specs.declared.ending.CaptureRefusal.TheVariants as refusal
-use Rattle.cf_box.specs.Captures.{EndsAt, Refuses, header_refusal}
+use Rattle.cf_box.specs.Captures.{EndsAt, Refuses, form_refusal}
 use Rattle.cf_box.specs.Command.{Command, Packets}
 use Rattle.cf_box.specs.Names.{are_names}
 use Rattle.cf_box.specs.Outside.{Outside, SinkValue}
@@ -28,11 +28,11 @@ packets_of _ = None
 
 -- ---- why a capture is not listed, or not to its end
 
--- a file with this header has these records up to its last place, as far as it is told; no moment is tested
-abbrev pub HasListedRecords : Content → Header → List Record → LastPlace → Type 0
-HasListedRecords untold header records last = Unit {0}
-HasListedRecords absent header records last = ⊥
-HasListedRecords (holds all) header records last = AreRecords (at_place header) 24 (drop 24 all) records last
+-- a file of this form has these records up to its last place, as far as it is told; no moment is tested
+abbrev pub HasListedRecords : Content → Form → List Record → LastPlace → Type 0
+HasListedRecords untold form records last = Unit {0}
+HasListedRecords absent form records last = ⊥
+HasListedRecords (holds all) form records last = AreRecords form (first_place form) (drop (first_place form) all) records last
 
 -- a listing tests no moments, so none refuses it
 abbrev pub ListingRefuses : Content → CaptureRefusal → Type 0
@@ -45,35 +45,43 @@ ListingCuts file place = EndsAt HasListedRecords file Cut place
 abbrev pub open_stop : OpenFault → Stop
 open_stop opened.NoMemory = stop.NoMemory
 open_stop opened.Read = stop.ReadFault
-open_stop (opened.Refused of) = stop.CaptureRefused (header_refusal of)
+open_stop (opened.Refused of) = stop.CaptureRefused (form_refusal of)
 
 -- ---- what a listing did
 
 -- what an answer tells of a capture's records, which end so, and of what was put: the lines of all of them; where a read failed,
 -- those of the first ones; where a put failed, a prefix of the lines
-abbrev pub ListingAnswers : LinkKind → List Record → LastPlace → (before after : Option (List ℕ)) → (failed : Type 0) → Result Done Stop → Type 0
-ListingAnswers link records last before after failed (Ok d) =
-    (d ≡ done.Listed) × (last.found ≡ FileEnd) × (after ≡ printed_with before (lines_from link 1 records))
-ListingAnswers link records last before after failed (Err (stop.CaptureCut place)) =
-    (last ≡ record { place = place; found = Cut }) × (after ≡ printed_with before (lines_from link 1 records))
-ListingAnswers link records last before after failed (Err (stop.CaptureRefused refusal.TooLong)) =
-    (last.found ≡ TooLong) × (after ≡ printed_with before (lines_from link 1 records))
-ListingAnswers link records last before after failed (Err (stop.CaptureRefused refusal.Large)) =
-    (last.found ≡ Large) × (after ≡ printed_with before (lines_from link 1 records))
-ListingAnswers link records last before after failed (Err stop.ReadFault) =
-    (n : ℕ) × (after ≡ printed_with before (lines_from link 1 (take n records)))
-ListingAnswers link records last before after failed (Err stop.WriteFault) =
-    failed × ((k : ℕ) × (after ≡ printed_with before (take k (lines_from link 1 records))))
-ListingAnswers link records last before after failed _ = ⊥
+abbrev pub ListingAnswers : List Record → LastPlace → (before after : Option (List ℕ)) → (failed : Type 0) → Result Done Stop → Type 0
+ListingAnswers records last before after failed (Ok d) =
+    (d ≡ done.Listed) × (last.found ≡ FileEnd) × (after ≡ printed_with before (lines_from 1 records))
+ListingAnswers records last before after failed (Err (stop.CaptureCut place)) =
+    (last ≡ record { place = place; found = Cut }) × (after ≡ printed_with before (lines_from 1 records))
+ListingAnswers records last before after failed (Err (stop.CaptureRefused refusal.TooLong)) =
+    (last.found ≡ TooLong) × (after ≡ printed_with before (lines_from 1 records))
+ListingAnswers records last before after failed (Err (stop.CaptureRefused refusal.Large)) =
+    (last.found ≡ Large) × (after ≡ printed_with before (lines_from 1 records))
+ListingAnswers records last before after failed (Err (stop.CaptureRefused refusal.Block)) =
+    (last.found ≡ Refused block.Block) × (after ≡ printed_with before (lines_from 1 records))
+ListingAnswers records last before after failed (Err (stop.CaptureRefused refusal.Section)) =
+    (last.found ≡ Refused block.Section) × (after ≡ printed_with before (lines_from 1 records))
+ListingAnswers records last before after failed (Err (stop.CaptureRefused refusal.Interface)) =
+    (last.found ≡ Refused block.Interface) × (after ≡ printed_with before (lines_from 1 records))
+ListingAnswers records last before after failed (Err (stop.CaptureRefused refusal.Resolution)) =
+    (last.found ≡ Refused block.Resolution) × (after ≡ printed_with before (lines_from 1 records))
+ListingAnswers records last before after failed (Err stop.ReadFault) =
+    (n : ℕ) × (after ≡ printed_with before (lines_from 1 (take n records)))
+ListingAnswers records last before after failed (Err stop.WriteFault) =
+    failed × ((k : ℕ) × (after ≡ printed_with before (take k (lines_from 1 records))))
+ListingAnswers records last before after failed _ = ⊥
 
 -- the capture was opened, and its records were listed up to their end, a failed read or a failed put
 pub record HasListed (file : Content) (before after : Option (List ℕ)) (failed : Type 0) (answer : Result Done Stop) : Type 0 where
-  pub header : Header
-  pub has_header : HasHeader file (Ok header)
+  pub form : Form
+  pub has_form : HasForm file (Ok form)
   pub records : List Record
   pub last : LastPlace
-  pub are_records : HasListedRecords file header records last
-  pub answers : ListingAnswers header.link records last before after failed answer
+  pub are_records : HasListedRecords file form records last
+  pub answers : ListingAnswers records last before after failed answer
 
 -- the capture was not opened, and nothing was put
 pub record StaysClosed (file : Content) (before after : SinkValue) (s : Stop) : Type 0 where

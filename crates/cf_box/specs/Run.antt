@@ -2,14 +2,14 @@
 use Rattle.std.specs.Prelude.{◌≡◌, ◌⊎◌, ℕ, List, [], ◌∷◌, Option, None, Some, Result, Ok, Err, if◌then◌else◌}
 use Rattle.cf_lane.specs.declared.limit.TheConstants.{LETTER_LIMIT}
 use Rattle.cf_outside.specs.Files.{Content}
-use Rattle.cf_pcap.specs.Capture.{Cut}
+use Rattle.cf_run.specs.Capture.{Cut}
 use Rattle.cf_policy.specs.declared.Policy.{Policy}
 use Rattle.cf_run.specs.RunCapture.{HasRecords, RunNamesValue, RunsAs}
 use Rattle.cf_run.specs.declared.run.RunFault.{RunFault}
 use Rattle.cf_run.specs.declared.run.RunFault.TheVariants as fault
 use Rattle.cf_run.specs.declared.run.RunRefusal.TheVariants as by
 use Rattle.cf_run.specs.declared.summary.Summary.{Summary}
-use Rattle.cf_box.specs.Captures.{EndsAt, Refuses, header_refusal}
+use Rattle.cf_box.specs.Captures.{EndsAt, Refuses, block_refusal, form_refusal}
 use Rattle.cf_box.specs.Check.{ChangesNothing}
 use Rattle.cf_box.specs.Command.{Command, Run}
 use Rattle.cf_box.specs.Names.{are_names}
@@ -44,7 +44,8 @@ abbrev pub run_stop : RunFault → Stop
 run_stop fault.NoMemory = stop.NoMemory
 run_stop fault.Read = stop.ReadFault
 run_stop fault.Write = stop.WriteFault
-run_stop (fault.Refused (by.Header of)) = stop.CaptureRefused (header_refusal of)
+run_stop (fault.Refused (by.Header of)) = stop.CaptureRefused (form_refusal of)
+run_stop (fault.Refused (by.Block of)) = stop.CaptureRefused (block_refusal of)
 run_stop (fault.Refused by.TooLong) = stop.CaptureRefused refusal.TooLong
 run_stop (fault.Refused by.Clock) = stop.CaptureRefused refusal.Clock
 run_stop (fault.Refused by.Large) = stop.CaptureRefused refusal.Large

@@ -2,7 +2,7 @@
 use Rattle.std.specs.Prelude.{◌≡◌, ℕ, List, [], ◌∷◌}
 use Rattle.cf_lane.specs.declared.limit.TheConstants.{LETTER_LIMIT}
 use Rattle.cf_outside.specs.Sink.{printed_with}
-use Rattle.cf_pcap.specs.Capture.{FileEnd}
+use Rattle.cf_run.specs.Capture.{FileEnd}
 use Rattle.cf_policy.specs.declared.Policy.{Policy}
 use Rattle.cf_run.specs.Headline.{HasHeadline}
 use Rattle.cf_run.specs.RunCapture.{RunNamesValue, RunsTo}

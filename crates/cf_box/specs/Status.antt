@@ -7,10 +7,10 @@ use Rattle.cf_lane.specs.Passes.{Passes}
 use Rattle.cf_lane.specs.Rates.{KeepsRates}
 use Rattle.cf_outside.specs.Files.{holds, untold, IsWhole, content_after_write}
 use Rattle.cf_outside.specs.PairValue.{PairValue}
-use Rattle.cf_pcap.specs.Header.{header_of}
-use Rattle.cf_pcap.specs.Capture.{FileEnd, AreRecords, AreTimed, at_place, first_moment}
-use Rattle.cf_pcap.specs.Record.{Record}
-use Rattle.cf_pcap.specs.declared.Header.{Header}
+use Rattle.cf_run.specs.Capture.{AreRecords, FileEnd, Record}
+use Rattle.cf_run.specs.Form.{first_place, form_of}
+use Rattle.cf_run.specs.Moments.{AreTimed, first_moment}
+use Rattle.cf_run.specs.declared.Form.{Form}
 use Rattle.cf_policy.specs.declared.Asset.{Asset}
 use Rattle.cf_policy.specs.declared.Policy.{Policy}
 use Rattle.cf_policylang.specs.Documents.{policy_meaning}
@@ -69,13 +69,15 @@ pub record SiftPassesAllowed (policy name : List ℕ) (client : ℕ) (names : Si
 -- a capture's records, up to the end of its bytes; and the same where each has its moment
 abbrev pub HasRecords : List ℕ → Type 0
 HasRecords bytes =
-    (h : Header) × (header_of bytes ≡ Ok h)
-    × ((records : List Record) × (place : ℕ) × AreRecords (at_place h) 24 (drop 24 bytes) records (record { place = place; found = FileEnd }))
+    (form : Form) × (form_of bytes ≡ Ok form)
+    × ((records : List Record) × (place : ℕ)
+    × AreRecords form (first_place form) (drop (first_place form) bytes) records (record { place = place; found = FileEnd }))
 
 abbrev pub HasTimedRecords : List ℕ → Type 0
 HasTimedRecords bytes =
-    (h : Header) × (header_of bytes ≡ Ok h)
-    × ((records : List Record) × (place : ℕ) × AreTimed h first_moment 24 (drop 24 bytes) records (record { place = place; found = FileEnd }))
+    (form : Form) × (form_of bytes ≡ Ok form)
+    × ((records : List Record) × (place : ℕ)
+    × AreTimed form first_moment (first_place form) (drop (first_place form) bytes) records (record { place = place; found = FileEnd }))
 
 -- the capture of a command that reads one ends so
 abbrev pub EndsWell : Command → List ℕ → Type 0

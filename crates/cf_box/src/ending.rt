@@ -8,9 +8,8 @@ ghost use Rattle.cf_policylang.specs.Keys.{refusal_text};
 use arrayvec::ArrayString;
 use cf_audit::{CutReason, push_cut};
 use cf_outside::{Sink, WriteAnswer};
-use cf_pcap::HeaderRefusal;
 use cf_policylang::{PolicyRefusal, push_refusal};
-use cf_run::Summary;
+use cf_run::{BlockRefusal, FormRefusal, Summary};
 use cf_view::push_number;
 
 /// Work that was done.
@@ -55,10 +54,11 @@ pub enum Stop {
     NoMemory,
 }
 
-/// Why a capture is refused. The tests stand in this order, those of records at each record.
+/// Why a capture is refused. The tests of a classic file stand in this order, those of records at each record; those of a block stand
+/// in `cf_pcapng/specs/Block.antt`.
 #[derive(Clone, Copy, PartialEq, Eq, Debug)]
 pub enum CaptureRefusal {
-    /// It has fewer than 24 octets.
+    /// It has fewer than 24 octets, or fewer than 28 of a pcapng file.
     Short,
     /// Its magic is none of a capture file.
     Magic,
@@ -72,21 +72,47 @@ pub enum CaptureRefusal {
     Clock,
     /// An octet of a record stands at place 2^40 or above.
     Large,
+    /// The length of a block is not allowed, its second length differs, or the bytes of a packet do not fit it.
+    Block,
+    /// A section header has a wrong magic, or another major version than 1.
+    Section,
+    /// A section has too many interfaces; or a packet's is not described, or of a link type that is not read.
+    Interface,
+    /// The unit of time of a packet's interface is not read.
+    Resolution,
 }
 
-impl From<HeaderRefusal> for Stop {
+impl From<FormRefusal> for Stop {
     ghost use Rattle.std.specs.Prelude.{◌≡◌};
-    ghost use Rattle.cf_box.specs.Captures.{header_refusal};
+    ghost use Rattle.cf_box.specs.Captures.{form_refusal};
     ghost use Rattle.cf_box.specs.declared.ending.Stop.TheVariants.{CaptureRefused};
 
-    ghost from_gives = { λ r s. s ≡ CaptureRefused (header_refusal r) };
+    ghost from_gives = { λ r s. s ≡ CaptureRefused (form_refusal r) };
 
-    fn from(refusal: HeaderRefusal) -> Self {
+    fn from(refusal: FormRefusal) -> Self {
         Stop::CaptureRefused(match refusal {
-            HeaderRefusal::Short => CaptureRefusal::Short,
-            HeaderRefusal::Magic => CaptureRefusal::Magic,
-            HeaderRefusal::Version => CaptureRefusal::Version,
-            HeaderRefusal::LinkType => CaptureRefusal::LinkType,
+            FormRefusal::Short => CaptureRefusal::Short,
+            FormRefusal::Magic => CaptureRefusal::Magic,
+            FormRefusal::Version => CaptureRefusal::Version,
+            FormRefusal::LinkType => CaptureRefusal::LinkType,
+            FormRefusal::Section => CaptureRefusal::Section,
+        })
+    }
+}
+
+impl From<BlockRefusal> for Stop {
+    ghost use Rattle.std.specs.Prelude.{◌≡◌};
+    ghost use Rattle.cf_box.specs.Captures.{block_refusal};
+    ghost use Rattle.cf_box.specs.declared.ending.Stop.TheVariants.{CaptureRefused};
+
+    ghost from_gives = { λ r s. s ≡ CaptureRefused (block_refusal r) };
+
+    fn from(refusal: BlockRefusal) -> Self {
+        Stop::CaptureRefused(match refusal {
+            BlockRefusal::Block => CaptureRefusal::Block,
+            BlockRefusal::Section => CaptureRefusal::Section,
+            BlockRefusal::Interface => CaptureRefusal::Interface,
+            BlockRefusal::Resolution => CaptureRefusal::Resolution,
         })
     }
 }
@@ -177,6 +203,10 @@ fn capture_number(refusal: CaptureRefusal) -> u64
         CaptureRefusal::TooLong => 5,
         CaptureRefusal::Clock => 6,
         CaptureRefusal::Large => 7,
+        CaptureRefusal::Block => 9,
+        CaptureRefusal::Section => 10,
+        CaptureRefusal::Interface => 11,
+        CaptureRefusal::Resolution => 12,
     }
 }
 

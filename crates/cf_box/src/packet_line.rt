@@ -19,7 +19,7 @@ pub(crate) fn spell_line(
     body: &[u8],
     out: &mut [u8; LONGEST_LINE],
 ) -> usize
-    ensures line { drop result out.new ≡ record_line link.now number (record { stamp = stamp; body = body.now }) }
+    ensures line { drop result out.new ≡ record_line number (record { stamp = stamp; link = link.now; body = body.now }) }
     ensures inside { result ≤ 192 }
 {
     let at = spell_text("\n", out, LONGEST_LINE);

@@ -10,7 +10,8 @@ ghost use Rattle.cf_box.specs.Words.{HasFitWords, command_value};
 ghost use Rattle.cf_outside.specs.Faults.{HasCause, Rose};
 ghost use Rattle.cf_outside.specs.PairValue.{PairValue};
 ghost use Rattle.cf_outside.specs.Sink.{Puts, printed_with};
-ghost use Rattle.cf_run.specs.Reader.{HasHeader};
+ghost use Rattle.cf_run.specs.Form.{first_place};
+ghost use Rattle.cf_run.specs.Reader.{HasForm};
 
 use crate::command::Command;
 use crate::ending::{CaptureRefusal, Done, Stop};
@@ -84,8 +85,8 @@ fn list_records<F: Files, O: Sink>(
     files: &mut F,
     out: &mut O,
 ) -> Result<Done, Stop>
-    requires header { HasHeader (F.content files.old name.now) (Ok reader.old.header) }
-    requires place { reader.old.place ≡ 24 }
+    requires form { HasForm (F.content files.old name.now) (Ok reader.old.form) }
+    requires place { reader.old.place ≡ first_place reader.old.form }
     ensures lists { ListsFile (F.content files.old name.now) (sink_value O.Sink out.old) (sink_value O.Sink out.new) result }
     ensures same { F.content files.new ≡ F.content files.old }
     ensures read { HasCause (F.read_faults files.old) (F.read_faults files.new) (IsErrOf result Stop.ReadFault) }
@@ -100,8 +101,7 @@ fn list_records<F: Files, O: Sink>(
                 match make_room(&mut lines, out) {
                     WriteAnswer::Failed => return Err(Stop::WriteFault),
                     WriteAnswer::Done => {
-                        let link = &reader.header().link;
-                        gather_line(&mut lines, link, number, stamp, reader.body());
+                        gather_line(&mut lines, &reader.link(), number, stamp, reader.body());
                         number += 1;
                     }
                 }
@@ -109,6 +109,9 @@ fn list_records<F: Files, O: Sink>(
             NextRecord::End => return finish(Ok(Done::Listed), &lines, out),
             NextRecord::Cut => {
                 return finish(Err(Stop::CaptureCut(reader.place())), &lines, out);
+            }
+            NextRecord::Refused(refusal) => {
+                return finish(Err(Stop::from(refusal)), &lines, out);
             }
             NextRecord::TooLong => {
                 return finish(
@@ -154,7 +157,7 @@ fn make_room<O: Sink>(lines: &mut Lines, out: &mut O) -> WriteAnswer
 /// Gathers the line of the record of a number.
 fn gather_line(lines: &mut Lines, link: &LinkKind, number: u64, stamp: u64, body: &[u8])
     requires { array_vec_len lines.old + 192 ≤ 32768 }
-    ensures { lines.new.items ≡ lines.old.items ++ record_line link.now number (record { stamp = stamp; body = body.now }) }
+    ensures { lines.new.items ≡ lines.old.items ++ record_line number (record { stamp = stamp; link = link.now; body = body.now }) }
 {
     let mut line = [0u8; LONGEST_LINE];
     let start = spell_line(link, number, stamp, body, &mut line);

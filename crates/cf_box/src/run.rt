@@ -28,6 +28,7 @@ impl From<RunFault> for Stop {
             RunFault::Read => Stop::ReadFault,
             RunFault::Write => Stop::WriteFault,
             RunFault::Refused(RunRefusal::Header(refusal)) => Stop::from(refusal),
+            RunFault::Refused(RunRefusal::Block(refusal)) => Stop::from(refusal),
             RunFault::Refused(RunRefusal::TooLong) => {
                 Stop::CaptureRefused(CaptureRefusal::TooLong)
             }

@@ -1,9 +1,15 @@
 mod Begun
+pub mod Behind
+mod BlockPieces
+mod ClassicPieces
 mod Counting
 mod Created
 mod Due
 mod Faults
 mod FileDesks
+mod FilePieces
+mod Finding
+mod Forms
 mod HalfFiles
 mod Headline
 mod Isolating
@@ -13,9 +19,10 @@ mod Matched
 mod OutputFiles
 mod Packets
 mod Pairs
-mod Places
+mod Passing
 mod Received
 mod ReceivedAmid
+pub mod RecordLists
 mod Running
 mod Selection
 mod Sessions

@@ -1,5 +1,5 @@
 -- The records of a capture that were run over so far.
-use Rattle.std.proofs.Common.{◌≡◌, ◌+◌, ◌*◌, ◌^◌, ◌<◌, ◌≤◌, max, ℕ, true, List, [], ◌∷◌, ◌++◌, map, drop, take, length, Some, Ok, Err, refl, sym, ap, ◌∙◌, subst, append_assoc, arith, Result, IsErrAnd}
+use Rattle.std.proofs.Common.{◌≡◌, ◌+◌, ◌*◌, ◌^◌, ◌<◌, ◌≤◌, max, ℕ, zero, suc, true, List, [], ◌∷◌, ◌++◌, map, drop, take, length, Some, None, Ok, Err, refl, sym, ap, ◌∙◌, subst, append_assoc, arith, Result, IsErrAnd}
 use Rattle.std.specs.List.{concat}
 use Rattle.std.proofs.lemmas.List.{append-nil, drop-drop}
 use Rattle.std.proofs.lemmas.List.Folds.{flat_map-map}
@@ -8,11 +8,14 @@ use Rattle.cf_outside.proofs.Lines.{file_lines-whole}
 use Rattle.cf_outside.specs.Files.{Content, untold, absent, holds, IsWhole}
 use Rattle.cf_outside.specs.Lines.{ends_with_line, file_lines, file_part}
 use Rattle.cf_packet.specs.Packet.{read_record}
-use Rattle.cf_pcap.proofs.Capture.{have_timed_records}
-use Rattle.cf_pcap.specs.Capture.{AreTimed, AtPlace, Clock, FileEnd, Fits, IsLast, LastPlace, first_moment, moment_from, timed}
+use Rattle.cf_run.proofs.RecordLists.{have_timed_records}
+use Rattle.cf_run.specs.declared.blocks.BlockRefusal.{BlockRefusal}
+use Rattle.cf_run.specs.Capture.{AtPlace, Clock, Cut, FileEnd, Fits, IsLast, Large, LastPlace, Record, Refused, TooLong, at_place, form_behind}
+use Rattle.cf_run.specs.Form.{first_place}
+use Rattle.cf_run.specs.Moments.{AreTimed, first_moment, moment_from, timed}
+use Rattle.cf_run.specs.declared.form.Form.{Form}
+use Rattle.cf_run.specs.declared.form.Form.TheVariants as form
 use Rattle.cf_pcap.specs.Header.{output_octets}
-use Rattle.cf_pcap.specs.Record.{Record}
-use Rattle.cf_pcap.specs.declared.header.Header.{Header}
 use Rattle.cf_policy.specs.declared.Asset.{Asset}
 use Rattle.cf_session.specs.Broken.{octets_of}
 use Rattle.cf_session.specs.Sent.{Sent}
@@ -20,7 +23,7 @@ use Rattle.cf_session.specs.Told.{emitted, with_both, with_more}
 use Rattle.cf_run.specs.FileDesk.{are_whole, files_desk, files_told}
 use Rattle.cf_run.specs.Half.{StepBreaks, StepStops}
 use Rattle.cf_run.specs.OutputFile.{ends_with_record, file_packets, packet_part, record_octets}
-use Rattle.cf_run.specs.Reader.{FindsRecord, HasHeader, ReaderValue, StandsAt}
+use Rattle.cf_run.specs.Reader.{FindsRecord, HasForm, PassesTo, ReaderValue, StopsAt}
 use Rattle.cf_run.specs.Run.{capture_of, input_of, inputs, inputs_from, inputs_of}
 use Rattle.cf_run.specs.RunCapture.{BeginsWithRecords, BreaksOff, HasRecords, HoldsOctets, LeavesRun, RunNamesValue, RunsPartly, RunsRecords, RunsTo, StopsBetween, StopsIn, step_fault}
 use Rattle.cf_run.specs.Step.{EngineValue, IsEngineOf, StepsOn}
@@ -30,21 +33,23 @@ use Rattle.cf_run.specs.declared.engine.StepFault.TheVariants as stepped
 use Rattle.cf_run.specs.declared.record_reader.NextRecord.TheVariants as answer
 use Rattle.cf_run.specs.declared.run.RunFault.{RunFault}
 use Rattle.cf_run.specs.declared.summary.Summary.{Summary}
+use Rattle.cf_run.proofs.Behind.{StandsBehind}
 use Rattle.cf_run.proofs.HalfFiles.{capture_amid, log_amid, no_line_part, no_packet_part}
 use Rattle.cf_run.proofs.OutputFiles.{both, file_packets-whole}
 use Rattle.cf_run.proofs.Timers.{both_both, both_nothing}
 
--- with these records in front, the records from a place on are those of the file, as far as it is told
-abbrev pub Leads : Content → Header → (least place : ℕ) → List Record → Type 0
-Leads untold header least place records = Unit {0}
-Leads absent header least place records = ⊥
-Leads (holds all) header least place records =
-    (more : List Record) (last : LastPlace) → AreTimed header least place (drop place all) more last → AreTimed header first_moment 24 (drop 24 all) (records ++ more) last
+-- with these records in front, the records from a place on are those of the file, as far as it is told; there its form is this one
+abbrev pub Leads : Content → (start form : Form) → (least place : ℕ) → List Record → Type 0
+Leads untold start form least place records = Unit {0}
+Leads absent start form least place records = ⊥
+Leads (holds all) start form least place records =
+    (more : List Record) (last : LastPlace) → AreTimed form least place (drop place all) more last →
+    AreTimed start first_moment (first_place start) (drop (first_place start) all) (records ++ more) last
 
-leads_first : (file : Content) (header : Header) → HasHeader file (Ok header) → Leads file header first_moment 24 []
-leads_first untold header h = tt
-leads_first absent header h = absurd h
-leads_first (holds all) header h = λ more last are. are
+leads_first : (file : Content) (start : Form) → HasForm file (Ok start) → Leads file start start first_moment (first_place start) []
+leads_first untold start h = tt
+leads_first absent start h = absurd h
+leads_first (holds all) start h = λ more last are. are
 
 pub in_time : (least used : ℕ) (r : Record) → moment_from least r < 2 ^ 32 * 1000000 → timed least (Fits r used) ≡ Fits r used
 in_time least used r early = grind (arith, nat_tests)
@@ -52,27 +57,43 @@ in_time least used r early = grind (arith, nat_tests)
 pub too_late : (least used : ℕ) (r : Record) → 2 ^ 32 * 1000000 ≤ moment_from least r → timed least (Fits r used) ≡ Clock
 too_late least used r late = grind (arith, nat_tests)
 
-leads_on : (file : Content) (header : Header) (least place used : ℕ) (records : List Record) (r : Record) → Leads file header least place records →
-    StandsAt file header place (Fits r used) → moment_from least r < 2 ^ 32 * 1000000 → Leads file header (moment_from least r + 2) (place + used) (records ++ r ∷ [])
-leads_on untold header least place used records r leads stands early = tt
-leads_on absent header least place used records r leads stands early = absurd leads
-leads_on (holds all) header least place used records r leads stands early = λ more last are.
-    rw append_assoc (leads (r ∷ more) last (used, ap (timed least) stands ∙ in_time least used r early, rw drop-drop are))
+-- behind blocks that are passed over stand the records that stand before them
+passed_back : (all : List ℕ) (count : ℕ) (old form : Form) (least from place : ℕ) (rs : List Record) (last : LastPlace) → PassesTo all count old from form place →
+    AreTimed form least place (drop place all) rs last → AreTimed old least from (drop from all) rs last
+passed_back all zero old form least from place rs last (same, here) are =
+    subst (λ n. AreTimed old least n (drop n all) rs last) here (subst (λ x. AreTimed x least place (drop place all) rs last) same are)
+passed_back all (suc count) old form least from place rs last (used, at, rest) are =
+    let (pieces, behind, is) = passed_back all count (form_behind old (drop from all)) form least (from + used) place rs last rest are in
+    (None ∷ pieces, (used, ap (timed least) at, rw drop-drop behind), is)
+
+leads_on : (file : Content) (start : Form) (old new : ReaderValue) (least stamp : ℕ) (records : List Record) → Leads file start old.form least old.place records →
+    FindsRecord file old new (answer.Whole stamp) → max stamp least < 2 ^ 32 * 1000000 →
+    Leads file start new.form (max stamp least + 2) new.place (records ++ record { stamp = stamp; link = new.link; body = new.body } ∷ [])
+leads_on untold start old new least stamp records leads found early = tt
+leads_on absent start old new least stamp records leads found early = absurd leads
+leads_on (holds all) start old new least stamp records leads (count, f, place, used, passes, at, behind, there) early = λ more last are.
+    let r : Record = record { stamp = stamp; link = new.link; body = new.body } in
+    let (pieces, rest, is) = subst (λ n. AreTimed (form_behind f (drop place all)) (max stamp least + 2) n (drop n all) more last) there
+    (subst (λ x. AreTimed x (max stamp least + 2) new.place (drop new.place all) more last) behind are) in
+    let here : AreTimed f least place (drop place all) (r ∷ more) last =
+    (Some r ∷ pieces, (used, ap (timed least) at ∙ in_time least used r early, rw drop-drop rest), ap (λ rs. r ∷ rs) is) in
+    rw append_assoc (leads (r ∷ more) last (passed_back all count old.form f least old.place place (r ∷ more) last passes here))
 
 -- the records end where something else stands
-leads_to : (file : Content) (header : Header) (least place : ℕ) (records : List Record) (found last : AtPlace) → Leads file header least place records →
-    StandsAt file header place found → timed least found ≡ last → IsLast last → HasRecords file header records (record { place = place; found = last })
-leads_to untold header least place records found last leads stands e is = tt
-leads_to absent header least place records found last leads stands e is = absurd leads
-leads_to (holds all) header least place records found last leads stands e is =
-    rw append-nil at (leads [] (record { place = place; found = last }) (refl, ap (timed least) stands ∙ e, is))
+leads_to : (file : Content) (start : Form) (old : ReaderValue) (least place : ℕ) (records : List Record) (found last : AtPlace) → Leads file start old.form least old.place records →
+    StandsBehind file old place found → timed least found ≡ last → IsLast last → HasRecords file start records (record { place = place; found = last })
+leads_to untold start old least place records found last leads stands e is = tt
+leads_to absent start old least place records found last leads stands e is = absurd leads
+leads_to (holds all) start old least place records found last leads (count, f, passes, at) e is =
+    rw append-nil at (leads [] (record { place = place; found = last })
+    (passed_back all count old.form f least old.place place [] (record { place = place; found = last }) passes ([], (refl, ap (timed least) at ∙ e, is), refl)))
 
 -- whatever follows, they are the first
-leads_somewhere : (file : Content) (header : Header) (least place : ℕ) (records : List Record) → Leads file header least place records → BeginsWithRecords file header records
-leads_somewhere untold header least place records leads = ([], record { place = 0; found = FileEnd }, tt)
-leads_somewhere absent header least place records leads = absurd leads
-leads_somewhere (holds all) header least place records leads =
-    let (more, last, are) = have_timed_records header least place (drop place all) in
+leads_somewhere : (file : Content) (start form : Form) (least place : ℕ) (records : List Record) → Leads file start form least place records → BeginsWithRecords file start records
+leads_somewhere untold start form least place records leads = ([], record { place = 0; found = FileEnd }, tt)
+leads_somewhere absent start form least place records leads = absurd leads
+leads_somewhere (holds all) start form least place records leads =
+    let (more, last, are) = have_timed_records form least place (drop place all) in
     (more, last, leads more last are)
 
 -- ---- what the two files hold
@@ -111,81 +132,69 @@ whole_first out log content o l = rw (record_end_first (content out) o, line_end
 
 -- what holds of the files before and now, behind the records that were read, where the next moment is this one at least: each was
 -- an event, and what they sent and logged was put behind the header of the one file and into the empty other
-pub record SoFar (assets : List Asset) (limit : ℕ) (names : RunNamesValue) (before now : List ℕ → Content) (header : Header) (least : ℕ)
+pub record SoFar (assets : List Asset) (limit : ℕ) (names : RunNamesValue) (before now : List ℕ → Content) (start : Form) (least : ℕ)
     (reader : ReaderValue) (engine : EngineValue) : Type 0 where
-  pub has_header : HasHeader (before names.capture) (Ok header)
+  pub has_form : HasForm (before names.capture) (Ok start)
   pub out : IsWhole (before names.out) output_octets
   pub log : IsWhole (before names.log) []
   pub capture : now names.capture ≡ before names.capture
-  pub reads_on : reader.header ≡ header
   pub records : List Record
   pub events : List Event
-  pub leads : Leads (before names.capture) header least reader.place records
-  pub given : (more : List Record) → inputs header.link (records ++ more) ≡ inputs_of events ++ inputs_from header.link least more
+  pub leads : Leads (before names.capture) start reader.form least reader.place records
+  pub given : (more : List Record) → inputs (records ++ more) ≡ inputs_of events ++ inputs_from least more
   pub stands : IsEngineOf assets engine events
   pub limited : engine.limit ≡ limit
   pub told : files_told names.out names.log now ≡ with_both (files_told names.out names.log before) (sent events) (logged events)
 
 -- no record yet
 pub nothing_so_far : {assets : List Asset} {names : RunNamesValue} {files : List ℕ → Content} {reader : ReaderValue} {engine : EngineValue} →
-    HasHeader (files names.capture) (Ok reader.header) → IsWhole (files names.out) output_octets → IsWhole (files names.log) [] → reader.place ≡ 24 →
-    IsEngineOf assets engine [] → SoFar assets engine.limit names files files reader.header first_moment reader engine
+    HasForm (files names.capture) (Ok reader.form) → IsWhole (files names.out) output_octets → IsWhole (files names.log) [] → reader.place ≡ first_place reader.form →
+    IsEngineOf assets engine [] → SoFar assets engine.limit names files files reader.form first_moment reader engine
 nothing_so_far {assets} {names} {files} {reader} {engine} h out log place stands = record {
-  has_header = h;
+  has_form = h;
   out = out;
   log = log;
   capture = refl;
-  reads_on = refl;
   records = [];
   events = [];
-  leads = subst (λ n. Leads (files names.capture) reader.header first_moment n []) (sym place) (leads_first (files names.capture) reader.header h);
+  leads = subst (λ n. Leads (files names.capture) reader.form reader.form first_moment n []) (sym place) (leads_first (files names.capture) reader.form h);
   given = λ more. refl;
   stands = stands;
   limited = refl;
   told = sym (both_nothing (files_told names.out names.log files));
 }
 
--- what a reader finds stood there before
-found_before : (now file : Content) → now ≡ file → (read header : Header) → read ≡ header → (place : ℕ) (found : AtPlace) → StandsAt now read place found →
-    StandsAt file header place found
-found_before now file n read header h place found stands =
-    subst (λ f. StandsAt f header place found) n (subst (λ x. StandsAt now x place found) h stands)
-
-module _ {assets : List Asset} {limit : ℕ} {names : RunNamesValue} {before now : List ℕ → Content} {header : Header} {least : ℕ} {reader : ReaderValue} {engine : EngineValue}
-    (a : SoFar assets limit names before now header least reader engine) where
+module _ {assets : List Asset} {limit : ℕ} {names : RunNamesValue} {before now : List ℕ → Content} {start : Form} {least : ℕ} {reader : ReaderValue} {engine : EngineValue}
+    (a : SoFar assets limit names before now start least reader engine) where
   -- one record more: it is read, it is in time, and its event is handled
   pub one_so_far : (stamp : ℕ) {next : ReaderValue} {moment : ℕ} {files after : List ℕ → Content} {new : EngineValue} → FindsRecord (now names.capture) reader next (answer.Whole stamp) →
       files ≡ now → moment ≡ max stamp least → moment < 2 ^ 32 * 1000000 →
-      ((events : List Event) → IsEngineOf assets engine events → (event : Event) × StepsOn assets moment (read_record next.header.link next.body) events new
+      ((events : List Event) → IsEngineOf assets engine events → (event : Event) × StepsOn assets moment (read_record next.link next.body) events new
       (files_told names.out names.log files) (files_told names.out names.log after) event) →
-      new.limit ≡ engine.limit → after names.capture ≡ files names.capture → SoFar assets limit names before after header (moment + 2) next new
-  one_so_far stamp {next} {moment} {files} {after} {new} (found, same, place) still is early steps limited kept =
-      let r : Record = record { stamp = stamp; body = next.body } in
-      let used : ℕ = 16 + length next.body in
+      new.limit ≡ engine.limit → after names.capture ≡ files names.capture → SoFar assets limit names before after start (moment + 2) next new
+  one_so_far stamp {next} {moment} {files} {after} {new} found still is early steps limited kept =
+      let r : Record = record { stamp = stamp; link = next.link; body = next.body } in
       let (event, step) = steps a.events a.stands in
       let packets = sent_in_first event ++ sent_in_second event in
       let lines = logged_in_first (table_after a.events) event ++ logged_in_second (table_after a.events) event in
-      let stands : StandsAt (before names.capture) header reader.place (Fits r used) =
-      found_before (now names.capture) (before names.capture) a.capture reader.header header a.reads_on reader.place (Fits r used) found in
-      let on : Leads (before names.capture) header (moment_from least r + 2) (reader.place + used) (a.records ++ r ∷ []) =
-      leads_on (before names.capture) header least reader.place used a.records r a.leads stands (omega (arith, is, early)) in
-      let input : event.input ≡ input_of header.link least r =
-      rw (step.input, is, same, a.reads_on) refl in
+      let on : Leads (before names.capture) start next.form (moment_from least r + 2) next.place (a.records ++ r ∷ []) =
+      leads_on (before names.capture) start reader next least stamp a.records a.leads
+      (subst (λ f. FindsRecord f reader next (answer.Whole stamp)) a.capture found) (omega (arith, is, early)) in
+      let input : event.input ≡ input_of least r =
+      rw (step.input, is) refl in
       record {
-        has_header = a.has_header;
+        has_form = a.has_form;
         out = a.out;
         log = a.log;
         capture = kept ∙ ap (λ (f : List ℕ → Content). f names.capture) still ∙ a.capture;
-        reads_on = same ∙ a.reads_on;
         records = a.records ++ r ∷ [];
         events = event ∷ a.events;
-        leads = subst (λ n. Leads (before names.capture) header (n + 2) next.place (a.records ++ r ∷ [])) (sym is)
-            (subst (λ n. Leads (before names.capture) header (moment_from least r + 2) n (a.records ++ r ∷ [])) (sym place) on);
-        given = subst (λ n. (more : List Record) → inputs header.link ((a.records ++ r ∷ []) ++ more) ≡ inputs_of (event ∷ a.events) ++ inputs_from header.link (n + 2) more) (sym is)
+        leads = subst (λ n. Leads (before names.capture) start next.form (n + 2) next.place (a.records ++ r ∷ [])) (sym is) on;
+        given = subst (λ n. (more : List Record) → inputs ((a.records ++ r ∷ []) ++ more) ≡ inputs_of (event ∷ a.events) ++ inputs_from (n + 2) more) (sym is)
             (λ more.
-            ap (inputs header.link) (append_assoc a.records (r ∷ []) more) ∙ a.given (r ∷ more)
-            ∙ sym (append_assoc (inputs_of a.events) (input_of header.link least r ∷ []) (inputs_from header.link (moment_from least r + 2) more))
-            ∙ ap (λ i. (inputs_of a.events ++ i ∷ []) ++ inputs_from header.link (moment_from least r + 2) more) (sym input));
+            ap inputs (append_assoc a.records (r ∷ []) more) ∙ a.given (r ∷ more)
+            ∙ sym (append_assoc (inputs_of a.events) (input_of least r ∷ []) (inputs_from (moment_from least r + 2) more))
+            ∙ ap (λ i. (inputs_of a.events ++ i ∷ []) ++ inputs_from (moment_from least r + 2) more) (sym input));
         stands = step.stands;
         limited = limited ∙ a.limited;
         told = step.told ∙ ap (λ (f : List ℕ → Content). with_both (files_told names.out names.log f) packets lines) still ∙ ap (λ t. with_both t packets lines) a.told
@@ -197,25 +206,22 @@ module _ {assets : List Asset} {limit : ℕ} {names : RunNamesValue} {before now
   module _ (stamp : ℕ) (next : ReaderValue) (moment : ℕ) (files after : List ℕ → Content) (read : FindsRecord (now names.capture) reader next (answer.Whole stamp))
       (still : files ≡ now) (is : moment ≡ max stamp least) (early : moment < 2 ^ 32 * 1000000) where
     abbrev input : Input
-    input = record { moment = moment; packet = read_record next.header.link next.body }
+    input = record { moment = moment; packet = read_record next.link next.body }
 
     stops_in : StopsIn assets limit names before after a.events input
     stops_in =
-        let (found, same, place) = read in
-        let r : Record = record { stamp = stamp; body = next.body } in
-        let used : ℕ = 16 + length next.body in
-        let stands : StandsAt (before names.capture) header reader.place (Fits r used) =
-        found_before (now names.capture) (before names.capture) a.capture reader.header header a.reads_on reader.place (Fits r used) found in
-        let on : Leads (before names.capture) header (moment_from least r + 2) (reader.place + used) (a.records ++ r ∷ []) =
-        leads_on (before names.capture) header least reader.place used a.records r a.leads stands (omega (arith, is, early)) in
-        let given : ℕ → Header → Input = λ n h. record { moment = n; packet = read_record h.link next.body } in
-        let same_input : input ≡ input_of header.link least r = ap (λ n. given n next.header) is ∙ ap (given (max stamp least)) (same ∙ a.reads_on) in
+        let r : Record = record { stamp = stamp; link = next.link; body = next.body } in
+        let on : Leads (before names.capture) start next.form (moment_from least r + 2) next.place (a.records ++ r ∷ []) =
+        leads_on (before names.capture) start reader next least stamp a.records a.leads
+        (subst (λ f. FindsRecord f reader next (answer.Whole stamp)) a.capture read) (omega (arith, is, early)) in
+        let given : ℕ → Input = λ n. record { moment = n; packet = read_record next.link next.body } in
+        let same_input : input ≡ input_of least r = ap given is in
         record {
-          header = header;
-          has_header = a.has_header;
+          form = start;
+          has_form = a.has_form;
           records = a.records;
           next = r;
-          are_first = leads_somewhere (before names.capture) header (moment_from least r + 2) (reader.place + used) (a.records ++ r ∷ []) on;
+          are_first = leads_somewhere (before names.capture) start next.form (moment_from least r + 2) next.place (a.records ++ r ∷ []) on;
           are = subst (λ n. AreEvents assets n a.events) a.limited a.stands.are;
           rises = a.stands.rises;
           are_inputs = ap (λ i. inputs_of a.events ++ i ∷ []) same_input ∙ sym (a.given (r ∷ []));
@@ -268,10 +274,10 @@ module _ {assets : List Asset} {limit : ℕ} {names : RunNamesValue} {before now
 
   module _ (whole : are_whole names.out names.log now ≡ true) where
     -- the two files are those of a run over the records so far
-    leaves : {files : List ℕ → Content} → files ≡ now → LeavesRun assets limit names before files header a.records engine.summary
+    leaves : {files : List ℕ → Content} → files ≡ now → LeavesRun assets limit names before files a.records engine.summary
     leaves {files} still =
         let (record_end, line_end) = both _ _ whole in
-        let held : LeavesRun assets limit names before now header a.records engine.summary = record {
+        let held : LeavesRun assets limit names before now a.records engine.summary = record {
           out = capture_of (sent a.events);
           log = concat (logged a.events);
           is_run = record {
@@ -286,29 +292,29 @@ module _ {assets : List Asset} {limit : ℕ} {names : RunNamesValue} {before now
           in_out = capture_told (before names.out) (now names.out) (sent a.events) a.out (ap (λ t. t.packets) a.told) record_end;
           in_log = log_told (before names.log) (now names.log) (logged a.events) a.log (ap (λ t. t.lines) a.told) line_end;
         } in
-        subst (λ f. LeavesRun assets limit names before f header a.records engine.summary) (sym still) held
+        subst (λ f. LeavesRun assets limit names before f a.records engine.summary) (sym still) held
 
     -- something else stands behind them
-    pub runs_to : (found : AtPlace) {files : List ℕ → Content} {last : AtPlace} {place : ℕ} {summary : Summary} → files ≡ now → StandsAt (now names.capture) reader.header reader.place found →
-        timed least found ≡ last → IsLast last → place ≡ reader.place → summary ≡ engine.summary → RunsTo assets limit names before files last place summary
-    runs_to found {files} {last} {place} {summary} still stands e is p s =
-        let stood = found_before (now names.capture) (before names.capture) a.capture reader.header header a.reads_on reader.place found stands in
+    pub runs_to : (found : AtPlace) {files : List ℕ → Content} {last : AtPlace} {place : ℕ} {summary : Summary} → files ≡ now → (at : ℕ) → StandsBehind (now names.capture) reader at found →
+        timed least found ≡ last → IsLast last → place ≡ at → summary ≡ engine.summary → RunsTo assets limit names before files last place summary
+    runs_to found {files} {last} {place} {summary} still at stands e is p s =
+        let stood = subst (λ f. StandsBehind f reader at found) a.capture stands in
         record {
-          header = header;
-          has_header = a.has_header;
+          form = start;
+          has_form = a.has_form;
           records = a.records;
-          are_records = subst (λ (n : ℕ). HasRecords (before names.capture) header a.records (record { place = n; found = last })) (sym p)
-              (leads_to (before names.capture) header least reader.place a.records found last a.leads stood e is);
-          leaves = subst (λ counts. LeavesRun assets limit names before files header a.records counts) (sym s) (leaves still);
+          are_records = subst (λ (n : ℕ). HasRecords (before names.capture) start a.records (record { place = n; found = last })) (sym p)
+              (leads_to (before names.capture) start reader least at a.records found last a.leads stood e is);
+          leaves = subst (λ counts. LeavesRun assets limit names before files a.records counts) (sym s) (leaves still);
         }
 
     -- nothing is known of what follows
     pub runs_partly : {files : List ℕ → Content} → files ≡ now → RunsPartly assets limit names before files
     runs_partly still = record {
-      header = header;
-      has_header = a.has_header;
+      form = start;
+      has_form = a.has_form;
       records = a.records;
-      are_first = leads_somewhere (before names.capture) header least reader.place a.records a.leads;
+      are_first = leads_somewhere (before names.capture) start reader.form least reader.place a.records a.leads;
       summary = engine.summary;
       leaves = leaves still;
     }

@@ -4,15 +4,16 @@ use Rattle.std.specs.List.{concat}
 use Rattle.cf_outside.specs.Desk.{IsNoneOf}
 use Rattle.cf_outside.specs.Files.{Appends, Content, Creates, absent, content_after_create, holds, untold}
 use Rattle.cf_outside.specs.declared.files.WriteAnswer.TheVariants as write
-use Rattle.cf_pcap.specs.Capture.{AreTimed, AtPlace, Clock, Cut, FileEnd, Large, LastPlace, TooLong, first_moment}
 use Rattle.cf_pcap.specs.Header.{output_octets}
-use Rattle.cf_pcap.specs.Record.{Record}
-use Rattle.cf_pcap.specs.declared.header.Header.{Header}
 use Rattle.cf_policy.specs.declared.Asset.{Asset}
 use Rattle.cf_session.specs.Broken.{octets_of}
+use Rattle.cf_run.specs.Capture.{AtPlace, Clock, Cut, FileEnd, Large, LastPlace, Record, Refused, TooLong}
+use Rattle.cf_run.specs.Form.{first_place}
+use Rattle.cf_run.specs.Moments.{AreTimed, first_moment}
+use Rattle.cf_run.specs.declared.form.Form.{Form}
 use Rattle.cf_run.specs.Half.{Half, IsFirstHalf, IsHalfOf}
 use Rattle.cf_run.specs.OutputFile.{record_octets}
-use Rattle.cf_run.specs.Reader.{HasHeader}
+use Rattle.cf_run.specs.Reader.{HasForm}
 use Rattle.cf_run.specs.Run.{IsRun, capture_of, inputs, inputs_of}
 use Rattle.cf_run.specs.Selected.{Rises}
 use Rattle.cf_run.specs.Trace.{AreEvents, Event, Input, logged, sent, table_after}
@@ -55,15 +56,15 @@ pub record AreApart (names : RunNamesValue) : Type 0 where
 abbrev pub KeepsOtherFiles : RunNamesValue → (before after : List ℕ → Content) → Type 0
 KeepsOtherFiles names before after = (other : List ℕ) → IsNoneOf (names.out ∷ names.log ∷ []) other → after other ≡ before other
 
--- a file with this header has these records up to its last place, as far as it is told
-abbrev pub HasRecords : Content → Header → List Record → LastPlace → Type 0
-HasRecords untold header records last = Unit {0}
-HasRecords absent header records last = ⊥
-HasRecords (holds all) header records last = AreTimed header first_moment 24 (drop 24 all) records last
+-- a file of this form has these records up to its last place, as far as it is told
+abbrev pub HasRecords : Content → Form → List Record → LastPlace → Type 0
+HasRecords untold form records last = Unit {0}
+HasRecords absent form records last = ⊥
+HasRecords (holds all) form records last = AreTimed form first_moment (first_place form) (drop (first_place form) all) records last
 
 -- these are its first records
-abbrev pub BeginsWithRecords : Content → Header → List Record → Type 0
-BeginsWithRecords file header records = (more : List Record) × (last : LastPlace) × HasRecords file header (records ++ more) last
+abbrev pub BeginsWithRecords : Content → Form → List Record → Type 0
+BeginsWithRecords file form records = (more : List Record) × (last : LastPlace) × HasRecords file form (records ++ more) last
 
 -- a creation failed, or the append of the header: OUT is created first, then LOG, and then OUT gets its header
 pub data IsCreatedInPart (names : RunNamesValue) (before after : List ℕ → Content) : Type 0 where
@@ -80,40 +81,40 @@ HoldsOctets (holds all) after octets = after ≡ holds octets
 
 module _ (assets : List Asset) (limit : ℕ) (names : RunNamesValue) (before after : List ℕ → Content) where
   -- the two output files are those of a run over these records
-  pub record LeavesRun (header : Header) (records : List Record) (summary : Summary) : Type 0 where
+  pub record LeavesRun (records : List Record) (summary : Summary) : Type 0 where
     pub out : List ℕ
     pub log : List ℕ
-    pub is_run : IsRun assets limit (inputs header.link records) out log summary
+    pub is_run : IsRun assets limit (inputs records) out log summary
     pub in_out : HoldsOctets (before names.out) (after names.out) out
     pub in_log : HoldsOctets (before names.log) (after names.log) log
 
   -- the capture was read up to a place, and its records were run over
   pub record RunsTo (found : AtPlace) (place : ℕ) (summary : Summary) : Type 0 where
-    pub header : Header
-    pub has_header : HasHeader (before names.capture) (Ok header)
+    pub form : Form
+    pub has_form : HasForm (before names.capture) (Ok form)
     pub records : List Record
-    pub are_records : HasRecords (before names.capture) header records (record { place = place; found = found })
-    pub leaves : LeavesRun header records summary
+    pub are_records : HasRecords (before names.capture) form records (record { place = place; found = found })
+    pub leaves : LeavesRun records summary
 
   -- a read failed behind records that were run over
   pub record RunsPartly : Type 0 where
-    pub header : Header
-    pub has_header : HasHeader (before names.capture) (Ok header)
+    pub form : Form
+    pub has_form : HasForm (before names.capture) (Ok form)
     pub records : List Record
-    pub are_first : BeginsWithRecords (before names.capture) header records
+    pub are_first : BeginsWithRecords (before names.capture) form records
     pub summary : Summary
-    pub leaves : LeavesRun header records summary
+    pub leaves : LeavesRun records summary
 
   -- these first records were run over, and the run stopped in the event of the next one
   pub record StopsIn (events : List Event) (input : Input) : Type 0 where
-    pub header : Header
-    pub has_header : HasHeader (before names.capture) (Ok header)
+    pub form : Form
+    pub has_form : HasForm (before names.capture) (Ok form)
     pub records : List Record
     pub next : Record
-    pub are_first : BeginsWithRecords (before names.capture) header (records ++ next ∷ [])
+    pub are_first : BeginsWithRecords (before names.capture) form (records ++ next ∷ [])
     pub are : AreEvents assets limit events
     pub rises : Rises events
-    pub are_inputs : inputs_of events ++ input ∷ [] ≡ inputs header.link (records ++ next ∷ [])
+    pub are_inputs : inputs_of events ++ input ∷ [] ≡ inputs (records ++ next ∷ [])
 
   -- a write failed amid a half of that event: the two files have what the events and the event before that half gave, and a
   -- beginning of what is right in that half
@@ -138,7 +139,7 @@ module _ (assets : List Asset) (limit : ℕ) (names : RunNamesValue) (before aft
     pub in_out : HoldsOctets (before names.out) (after names.out) (capture_of (sent events ++ half.sent))
     pub in_log : HoldsOctets (before names.log) (after names.log) (concat (logged events ++ half.logged))
 
-  -- the record at a place is refused by its length, its moment or its place
+  -- the record or the block at a place is refused
   abbrev pub RunsToRefusal : AtPlace → Type 0
   RunsToRefusal found = (place : ℕ) × (summary : Summary) × RunsTo found place summary
 
@@ -149,6 +150,7 @@ module _ (assets : List Asset) (limit : ℕ) (names : RunNamesValue) (before aft
   RunsRecords (Err (fault.Refused refusal.TooLong)) = RunsToRefusal TooLong
   RunsRecords (Err (fault.Refused refusal.Clock)) = RunsToRefusal Clock
   RunsRecords (Err (fault.Refused refusal.Large)) = RunsToRefusal Large
+  RunsRecords (Err (fault.Refused (refusal.Block of))) = RunsToRefusal (Refused of)
   RunsRecords (Err (fault.Refused (refusal.Header of))) = ⊥
   RunsRecords (Err fault.Read) = RunsPartly
   RunsRecords (Err fault.Write) = BreaksOff
@@ -157,7 +159,7 @@ module _ (assets : List Asset) (limit : ℕ) (names : RunNamesValue) (before aft
   -- what an answer means, and what then stands in the two files: before they are created the header can be refused, a read can
   -- fail, and memory can run out; and their creation can fail
   abbrev pub RunsAs : Result Summary RunFault → Type 0
-  RunsAs (Err (fault.Refused (refusal.Header of))) = HasHeader (before names.capture) (Err of) × (after ≡ before)
+  RunsAs (Err (fault.Refused (refusal.Header of))) = HasForm (before names.capture) (Err of) × (after ≡ before)
   RunsAs (Err fault.Read) = (after ≡ before) ⊎ RunsPartly
   RunsAs (Err fault.NoMemory) = (after ≡ before) ⊎ StopsBetween
   RunsAs (Err fault.Write) = IsCreatedInPart names before after ⊎ BreaksOff

@@ -2,10 +2,13 @@
 //! the reading of a capture record by record.
 #![tactic(auto)]
 
+mod blocks;
+mod classic;
 mod engine;
 mod entry;
 mod file_desk;
 mod first_half;
+mod form;
 mod laws;
 mod matching;
 mod record_reader;
@@ -13,13 +16,15 @@ mod run;
 mod second_half;
 mod summary;
 
+pub use blocks::BlockRefusal;
 pub use engine::{Engine, StepFault};
 pub use entry::{Entry, Table};
 pub use file_desk::FileDesk;
 pub use first_half::tick_all;
+pub use form::{Form, FormRefusal};
 pub use laws::{
-    runs_have_headline, runs_isolate_sessions, selects_by_moment, sessions_are_isolated,
-    sessions_are_right, sessions_have_one_stream,
+    moments_rise, octets_have_one_list_of_records, runs_have_headline, runs_isolate_sessions,
+    selects_by_moment, sessions_are_isolated, sessions_are_right, sessions_have_one_stream,
 };
 pub use matching::{Match, TABLE_SIZE, match_packet};
 pub use record_reader::{NextRecord, OpenFault, RecordReader};

@@ -8,18 +8,21 @@ ghost use Rattle.cf_pcap.specs.Header.{output_octets};
 ghost use Rattle.cf_policy.specs.Within.{AreAssetsWithin};
 ghost use Rattle.cf_run.specs.FileDesk.{are_whole, files_desk, files_told};
 ghost use Rattle.cf_run.specs.Half.{StepBreaks, StepStops};
-ghost use Rattle.cf_run.specs.Reader.{HasHeader, ReaderValue};
+ghost use Rattle.cf_run.specs.Form.{first_place};
+ghost use Rattle.cf_run.specs.Reader.{HasForm, ReaderValue};
 ghost use Rattle.cf_run.specs.RunCapture.{AreApart, IsCreatedInPart, KeepsOtherFiles, RunsAs, RunsRecords, open_fault, run_names_value, step_fault};
 ghost use Rattle.cf_run.specs.Step.{EngineValue, IsEngineOf, IsSoundEngine, StepsOn};
 ghost use Rattle.cf_run.specs.Trace.{Event, table_after};
 
+use crate::blocks::BlockRefusal;
 use crate::engine::{Engine, StepFault};
 use crate::file_desk::FileDesk;
+use crate::form::FormRefusal;
 use crate::record_reader::{NextRecord, OpenFault, RecordReader};
 use crate::summary::Summary;
 use cf_lane::LETTER_LIMIT;
 use cf_outside::{Files, WriteAnswer};
-use cf_pcap::{HeaderRefusal, write_header};
+use cf_pcap::write_header;
 use cf_policy::Policy;
 use std::alloc::Global;
 use thiserror::Error;
@@ -38,8 +41,10 @@ pub struct RunNames<'a> {
 /// Why a capture is refused.
 #[derive(Clone, Copy, PartialEq, Eq, Debug)]
 pub enum RunRefusal {
-    /// By its header.
-    Header(HeaderRefusal),
+    /// By its header, or its first section header.
+    Header(FormRefusal),
+    /// By a block of a pcapng file.
+    Block(BlockRefusal),
     /// By the captured length of a record, which is above `CAPTURED_LIMIT`.
     TooLong,
     /// By the moment of a record, which reaches 2^32 seconds.
@@ -155,8 +160,8 @@ fn run_records<F: Files>(
     requires apart { AreApart (run_names_value names.now) }
     requires sound { IsSoundEngine policy.now.assets engine.old }
     requires stands { IsEngineOf policy.now.assets engine.old [] }
-    requires header { HasHeader (F.content files.old names.now.capture.now) (Ok reader.old.header) }
-    requires place { reader.old.place ≡ 24 }
+    requires form { HasForm (F.content files.old names.now.capture.now) (Ok reader.old.form) }
+    requires place { reader.old.place ≡ first_place reader.old.form }
     requires out { IsWhole (F.content files.old names.now.out.now) output_octets }
     requires log { IsWhole (F.content files.old names.now.log.now) [] }
     ensures runs { RunsRecords policy.now.assets engine.old.limit (run_names_value names.now)
@@ -183,6 +188,9 @@ fn run_records<F: Files>(
                     summary: engine.summary(),
                 });
             }
+            NextRecord::Refused(refusal) => {
+                return Err(RunFault::Refused(RunRefusal::Block(refusal)));
+            }
             NextRecord::TooLong => return Err(RunFault::Refused(RunRefusal::TooLong)),
             NextRecord::Large => return Err(RunFault::Refused(RunRefusal::Large)),
             NextRecord::Failed => return Err(RunFault::Read),
@@ -207,15 +215,15 @@ fn run_record<F: Files>(
     requires moment { moment < 2 ^ 32 * 1000000 }
     requires whole { are_whole names.now.out.now names.now.log.now (F.content files.old) ≡ true }
     ensures steps { OnOk result ((events : List Event) → IsEngineOf policy.now.assets engine.old events →
-        (event : Event) × StepsOn policy.now.assets moment (read_record reader.now.header.link reader.now.body) events engine.new
+        (event : Event) × StepsOn policy.now.assets moment (read_record reader.now.link reader.now.body) events engine.new
         (files_told names.now.out.now names.now.log.now (F.content files.old))
         (files_told names.now.out.now names.now.log.now (F.content files.new)) event) }
     ensures broken { IsErrOf result StepFault.Write → (events : List Event) → IsEngineOf policy.now.assets engine.old events
         → StepBreaks policy.now.assets engine.old.limit (table_after events)
-        (record { moment = moment; packet = read_record reader.now.header.link reader.now.body })
+        (record { moment = moment; packet = read_record reader.now.link reader.now.body })
         (files_desk names.now.out.now names.now.log.now (F.content files.old)) (files_desk names.now.out.now names.now.log.now (F.content files.new)) }
     ensures stops { IsErrOf result StepFault.NoMemory → (events : List Event) → IsEngineOf policy.now.assets engine.old events
-        → StepStops (table_after events) (record { moment = moment; packet = read_record reader.now.header.link reader.now.body })
+        → StepStops (table_after events) (record { moment = moment; packet = read_record reader.now.link reader.now.body })
         (files_told names.now.out.now names.now.log.now (F.content files.old)) (files_told names.now.out.now names.now.log.now (F.content files.new)) }
     ensures stops_whole { IsErrOf result StepFault.NoMemory → are_whole names.now.out.now names.now.log.now (F.content files.new) ≡ true }
     ensures sound { OnOk result (IsSoundEngine policy.now.assets engine.new) }
@@ -236,7 +244,7 @@ fn run_record<F: Files>(
         alloc,
         policy,
         moment,
-        &reader.header().link,
+        &reader.link(),
         reader.body(),
         &mut desk,
     )

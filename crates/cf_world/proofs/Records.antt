@@ -1,15 +1,18 @@
 -- The octets of records that are made are a capture.
-use Rattle.std.proofs.Common.{◌≡◌, ℕ, ◌+◌, ◌*◌, ◌^◌, ◌≤◌, nat_lt, true, false, Ok, List, [], ◌∷◌, ◌++◌, length, drop, refl, sym, ap, ◌∙◌, subst, arith}
+use Rattle.std.proofs.Common.{◌≡◌, ℕ, ◌+◌, ◌*◌, ◌^◌, ◌<◌, ◌≤◌, nat_eq, nat_lt, true, false, Ok, Some, List, [], ◌∷◌, ◌++◌, length, drop, map, refl, sym, ap, ◌∙◌, subst, arith, inl, inr}
 use Rattle.std.specs.List.{AllByRecursion, flat_map}
 use Rattle.std.proofs.lemmas.Grind.{flat_map-append}
 use Rattle.std.proofs.lemmas.List.{append-nil, length-append}
 use Rattle.std.proofs.lemmas.List.Concat.{flat_map-cons}
 use Rattle.std.proofs.Math.Seq.{take-append_seam, drop-append_seam}
+use Rattle.std.proofs.lemmas.Bool.{cases_Bool}
 use Rattle.std.proofs.lemmas.Bool.Decides.{nat_tests}
-use Rattle.cf_pcap.specs.Capture.{AreTimed, FileEnd, Fits, at_place, at_place_by, first_moment, moment_from, moment_limit, timed}
 use Rattle.cf_pcap.specs.Header.{header_of, output_header, output_octets}
-use Rattle.cf_pcap.specs.Record.{Record}
-use Rattle.cf_pcap.proofs.Capture.{at_near_place}
+use Rattle.cf_pcap.specs.Record.{Need, RecordAnswerValue, TooLong as NotAllowed, Whole, captured_at, moment_limit, record_of}
+use Rattle.cf_pcap.specs.declared.Header.{Header}
+use Rattle.cf_run.specs.Capture.{AtPlace, Cut, FileEnd, Fits, Record, TooLong, classic_at, is_past, records_among}
+use Rattle.cf_run.specs.Moments.{AreTimed, AreTimedPieces, first_moment, moment_from, timed}
+use Rattle.cf_run.specs.declared.Form.TheVariants as form
 use Rattle.cf_world.specs.Capture.{AreApart, HasPacket, IsCaptureOf}
 use Rattle.cf_world.specs.Making.{AreMade, IsMade, least_after, record_octets, records_octets}
 
@@ -45,43 +48,76 @@ octets_short least (r ∷ rs) (a, b, made) =
     ap length (octets_first r rs) ∙ length-append (record_octets r) (records_octets rs) in
     omega (arith, all, record_long r, b.short, octets_short (r.stamp + 2000) rs made)
 
+-- what stands at a place of a classic file that ends at place 2^40 or before
+abbrev at_by : Header → RecordAnswerValue → AtPlace
+at_by h (Whole stamp body used) = Fits (record { stamp = stamp; link = h.link; body = body }) used
+at_by h (Need size) = Cut
+at_by h NotAllowed = TooLong
+
+at_near_place : (h : Header) (xs : List ℕ) (place : ℕ) → 0 < length xs → place + length xs ≤ 2 ^ 40 → classic_at h place xs ≡ at_by h (record_of h xs)
+at_near_place h xs place a b =
+    let size = 16 + captured_at h xs in
+    let some : nat_eq (length xs) 0 ≡ false = grind (arith, nat_tests) in
+    let head : is_past place 16 xs ≡ false = grind (arith, nat_tests) in
+    let body : is_past place size xs ≡ false = grind (arith, nat_tests) in
+    elim (cases_Bool (nat_lt (length xs) 16)) as (λ _. classic_at h place xs ≡ at_by h (record_of h xs)) [
+      | inl e ↦ rw (some, head, e) refl
+      | inr e ↦ elim (cases_Bool (nat_lt 262144 (captured_at h xs))) as (λ _. classic_at h place xs ≡ at_by h (record_of h xs)) [
+        | inl f ↦ rw (some, head, e, f) refl
+        | inr f ↦ elim (cases_Bool (nat_lt (length xs) size)) as (λ _. classic_at h place xs ≡ at_by h (record_of h xs)) [
+          | inl g ↦ rw (some, head, e, f, body, g) refl
+          | inr g ↦ rw (some, head, e, f, body, g) refl
+        ]
+      ]
+    ]
+
 -- what stands at the place of the first of them
 fits_here : (place : ℕ) (r : Record) (rest : List ℕ) → IsMade r → place + length (record_octets r ++ rest) ≤ 2 ^ 40 →
-    at_place output_header place (record_octets r ++ rest) ≡ Fits r (16 + length r.body)
+    classic_at output_header place (record_octets r ++ rest) ≡ Fits r (16 + length r.body)
 fits_here place r rest is near =
     let long : length (record_octets r ++ rest) ≡ 16 + length r.body + length rest = length-append (record_octets r) rest ∙ ap (λ n. n + length rest) (record_long r) in
-    at_near_place output_header (record_octets r ++ rest) place (omega (arith, long)) near ∙ ap at_place_by (is.again rest)
+    at_near_place output_header (record_octets r ++ rest) place (omega (arith, long)) near ∙ ap (at_by output_header) (is.again rest)
+    ∙ ap (λ l. Fits (record { stamp = r.stamp; link = l; body = r.body }) (16 + length r.body)) (sym is.link)
 
 timed_here : (least place : ℕ) (r : Record) (rest : List ℕ) → least ≤ r.stamp → IsMade r → place + length (record_octets r ++ rest) ≤ 2 ^ 40 →
-    timed least (at_place output_header place (record_octets r ++ rest)) ≡ Fits r (16 + length r.body)
+    timed least (classic_at output_header place (record_octets r ++ rest)) ≡ Fits r (16 + length r.body)
 timed_here least place r rest later is near =
     let below : nat_lt (moment_from least r) moment_limit ≡ true = grind (arith, nat_tests, is.below) in
     rw (fits_here place r rest is near, below) refl
 
-pub are_timed : (least place : ℕ) (rs : List Record) → AreMade least rs → place + length (records_octets rs) ≤ 2 ^ 40 →
-    AreTimed output_header least place (records_octets rs) rs (record { place = place + length (records_octets rs); found = FileEnd })
-are_timed least place [] made near = (omega arith, refl, tt)
-are_timed least place (r ∷ rs) (a, b, made) near =
+timed_pieces : (least place : ℕ) (rs : List Record) → AreMade least rs → place + length (records_octets rs) ≤ 2 ^ 40 →
+    AreTimedPieces (form.Classic output_header) least place (records_octets rs) (map Some rs) (record { place = place + length (records_octets rs); found = FileEnd })
+timed_pieces least place [] made near = (omega arith, refl, tt)
+timed_pieces least place (r ∷ rs) (a, b, made) near =
     let rest = records_octets rs in
     let first = octets_first r rs in
     let used : length (record_octets r) ≡ 16 + length r.body = record_long r in
     let all : length (records_octets (r ∷ rs)) ≡ 16 + length r.body + length rest =
     ap length first ∙ length-append (record_octets r) rest ∙ ap (λ n. n + length rest) used in
-    let here : timed least (at_place output_header place (records_octets (r ∷ rs))) ≡ Fits r (16 + length r.body) =
-    subst (λ xs. timed least (at_place output_header place xs) ≡ Fits r (16 + length r.body)) (sym first)
+    let here : timed least (classic_at output_header place (records_octets (r ∷ rs))) ≡ Fits r (16 + length r.body) =
+    subst (λ xs. timed least (classic_at output_header place xs) ≡ Fits r (16 + length r.body)) (sym first)
     (timed_here least place r rest a b (omega (arith, near, all, ap length first))) in
     let behind : drop (16 + length r.body) (records_octets (r ∷ rs)) ≡ rest =
     ap (λ xs. drop (16 + length r.body) xs) first ∙ ap (λ n. drop n (record_octets r ++ rest)) (sym used) ∙ drop-append_seam (record_octets r) rest in
     let same : place + (16 + length r.body) + length rest ≡ place + length (records_octets (r ∷ rs)) = omega (arith, all) in
     let moment : moment_from least r ≡ r.stamp = omega (arith, a) in
     let later = made_earlier (r.stamp + 2000) (moment_from least r + 2) rs (omega (arith, moment)) made in
-    let more = are_timed (moment_from least r + 2) (place + (16 + length r.body)) rs later (omega (arith, near, same)) in
-    let there = subst (λ n. AreTimed output_header (moment_from least r + 2) (place + (16 + length r.body)) rest rs (record { place = n; found = FileEnd })) same more in (
+    let more = timed_pieces (moment_from least r + 2) (place + (16 + length r.body)) rs later (omega (arith, near, same)) in
+    let there = subst (λ n. AreTimedPieces (form.Classic output_header) (moment_from least r + 2) (place + (16 + length r.body)) rest (map Some rs) (record { place = n; found = FileEnd })) same more in (
       16 + length r.body,
       here,
-      subst (λ xs. AreTimed output_header (moment_from least r + 2) (place + (16 + length r.body)) xs rs
+      subst (λ xs. AreTimedPieces (form.Classic output_header) (moment_from least r + 2) (place + (16 + length r.body)) xs (map Some rs)
           (record { place = place + length (records_octets (r ∷ rs)); found = FileEnd })) (sym behind) there,
     )
+
+-- each piece is a record
+all_among : (rs : List Record) → rs ≡ records_among (map Some rs)
+all_among [] = refl
+all_among (r ∷ rs) = ap (λ more. r ∷ more) (all_among rs)
+
+pub are_timed : (least place : ℕ) (rs : List Record) → AreMade least rs → place + length (records_octets rs) ≤ 2 ^ 40 →
+    AreTimed (form.Classic output_header) least place (records_octets rs) rs (record { place = place + length (records_octets rs); found = FileEnd })
+are_timed least place rs made near = (map Some rs, timed_pieces least place rs made near, all_among rs)
 
 are_packets : (least : ℕ) (rs : List Record) → AreMade least rs → AllByRecursion HasPacket rs
 are_packets least [] made = tt
@@ -107,7 +143,7 @@ is_capture rs made few =
     record {
       header = take-append_seam output_octets xs;
       read = header_read xs;
-      timed = rw behind (subst (λ n. AreTimed output_header first_moment 24 xs rs (record { place = n; found = FileEnd })) size timed);
+      timed = rw behind (subst (λ n. AreTimed (form.Classic output_header) first_moment 24 xs rs (record { place = n; found = FileEnd })) size timed);
       packets = are_packets first_moment rs made;
       apart = are_apart first_moment rs made;
     }

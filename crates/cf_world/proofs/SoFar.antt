@@ -5,11 +5,12 @@ use Rattle.std.proofs.lemmas.List.Elements.{Contains-append_left, Contains-push}
 use Rattle.std.proofs.Math.Seq.{take-append-add}
 use Rattle.cf_outside.specs.Files.{Content, IsPartly, KeepsOthers, content_after_create, content_after_write, with_appended}
 use Rattle.cf_outside.proofs.Content.{with_appended-twice, with_appended-nothing}
-use Rattle.cf_pcap.specs.Capture.{first_moment, moment_limit}
 use Rattle.cf_pcap.specs.Header.{output_octets}
-use Rattle.cf_pcap.specs.Record.{Record}
+use Rattle.cf_run.specs.Capture.{Record}
+use Rattle.cf_pcap.specs.Record.{moment_limit}
+use Rattle.cf_run.specs.Moments.{first_moment}
 use Rattle.cf_world.specs.Capture.{BeginsEach, IsSyn}
-use Rattle.cf_world.specs.Making.{AppendsAll, AppendsPart, AppendsRecords, AreMade, IsReadAgain, IsSent, least_after, record_octets, records_octets}
+use Rattle.cf_world.specs.Making.{AppendsAll, AppendsPart, AppendsRecords, AreMade, IsReadAgain, IsSent, least_after, made_record, record_octets, records_octets}
 use Rattle.cf_world.specs.World.{HoldsCapture, HoldsCapturePart, HoldsPolicy, LeavesCapturePart, MakesWorld, WorldNamesValue}
 use Rattle.cf_world.specs.declared.world.WorldFault.{WorldFault}
 use Rattle.cf_world.proofs.Records.{after_more, is_capture, made_more, octets_more}
@@ -44,14 +45,14 @@ begins_more begun after rs r begins is session below =
     ]
 
 pub one_so_far : (count begun sessions last moment after : ℕ) (packet : List ℕ) (old now new : Content) → SoFar count begun last old now →
-    IsSent begun sessions last moment after packet → moment < moment_limit → IsReadAgain (record { stamp = moment; body = packet }) →
-    new ≡ with_appended now (record_octets (record { stamp = moment; body = packet })) → SoFar (count + 1) after moment old new
+    IsSent begun sessions last moment after packet → moment < moment_limit → IsReadAgain (made_record moment packet) →
+    new ≡ with_appended now (record_octets (made_record moment packet)) → SoFar (count + 1) after moment old new
 one_so_far count begun sessions last moment after packet old now new so_far sent below again appended =
-    let r : Record = record { stamp = moment; body = packet } in
+    let r : Record = made_record moment packet in
     let rs = so_far.records in
     record {
       records = rs ++ r ∷ [];
-      made = made_more first_moment rs r so_far.made (omega (arith, so_far.behind, sent.later)) (record { below = below; short = sent.short; packet = sent.has; again = again });
+      made = made_more first_moment rs r so_far.made (omega (arith, so_far.behind, sent.later)) (record { link = refl; below = below; short = sent.short; packet = sent.has; again = again });
       counted = length-append rs (r ∷ []) ∙ ap (λ n. n + 1) so_far.counted;
       behind = omega (arith, after_more first_moment rs r);
       begins = begins_more begun after rs r so_far.begins sent.begins;
@@ -76,15 +77,15 @@ all_made count begun last sessions old now so_far few all = record {
 
 -- and what is made where the last record is appended in part
 pub part_made : (count begun sessions last moment after : ℕ) (packet : List ℕ) (old now new : Content) → SoFar count begun last old now → count < 1000000 →
-    IsSent begun sessions last moment after packet → moment < moment_limit → IsReadAgain (record { stamp = moment; body = packet }) →
-    ((k : ℕ) × (new ≡ with_appended now (take k (record_octets (record { stamp = moment; body = packet }))))) → AppendsPart old new
+    IsSent begun sessions last moment after packet → moment < moment_limit → IsReadAgain (made_record moment packet) →
+    ((k : ℕ) × (new ≡ with_appended now (take k (record_octets (made_record moment packet))))) → AppendsPart old new
 part_made count begun sessions last moment after packet old now new so_far fewer sent below again (k, appended) =
-    let r : Record = record { stamp = moment; body = packet } in
+    let r : Record = made_record moment packet in
     let rs = so_far.records in
     let xs = records_octets rs in
     record {
       records = rs ++ r ∷ [];
-      made = made_more first_moment rs r so_far.made (omega (arith, so_far.behind, sent.later)) (record { below = below; short = sent.short; packet = sent.has; again = again });
+      made = made_more first_moment rs r so_far.made (omega (arith, so_far.behind, sent.later)) (record { link = refl; below = below; short = sent.short; packet = sent.has; again = again });
       few = omega (arith, length-append rs (r ∷ []), so_far.counted, fewer);
       count = length xs + k;
       in_file = appended ∙ ap (λ file. with_appended file (take k (record_octets r))) so_far.in_file ∙ with_appended-twice old xs (take k (record_octets r))

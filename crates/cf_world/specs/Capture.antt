@@ -3,15 +3,16 @@
 use Rattle.std.specs.Prelude.{◌≡◌, ◌≤◌, ◌<◌, ◌⊎◌, ℕ, ◌+◌, ◌*◌, List, [], ◌∷◌, Ok, true, length, take, drop}
 use Rattle.std.specs.List.{AllByRecursion, Contains}
 use Rattle.cf_packet.specs.Packet.{PacketValue, read_record}
-use Rattle.cf_pcap.specs.Capture.{AreTimed, FileEnd, first_moment}
 use Rattle.cf_pcap.specs.Header.{header_of, output_header, output_octets}
-use Rattle.cf_pcap.specs.Record.{Record}
+use Rattle.cf_run.specs.Capture.{FileEnd, Record}
+use Rattle.cf_run.specs.Moments.{AreTimed, first_moment}
 use Rattle.cf_run.specs.Table.{is_opening}
+use Rattle.cf_run.specs.declared.Form.TheVariants as form
 use Rattle.cf_world.specs.Flows.{client_endpoint, controller_endpoint}
 
 -- the octets of a record are this packet
 abbrev pub Has : Record → PacketValue → Type 0
-Has r packet = read_record output_header.link r.body ≡ Ok packet
+Has r packet = read_record r.link r.body ≡ Ok packet
 
 -- a packet is from a session's client to its controller, or back
 abbrev pub IsBetween : (session : ℕ) → PacketValue → Type 0
@@ -37,7 +38,7 @@ AreApart least (r ∷ rs) = (least ≤ r.stamp) × AreApart (r.stamp + 2000) rs
 pub record IsCaptureOf (records : List Record) (octets : List ℕ) : Type 0 where
   pub header : take 24 octets ≡ output_octets
   pub read : header_of octets ≡ Ok output_header
-  pub timed : AreTimed output_header first_moment 24 (drop 24 octets) records (record { place = length octets; found = FileEnd })
+  pub timed : AreTimed (form.Classic output_header) first_moment 24 (drop 24 octets) records (record { place = length octets; found = FileEnd })
   pub packets : AllByRecursion HasPacket records
   pub apart : AreApart first_moment records
 

@@ -2,9 +2,10 @@
 use Rattle.std.specs.Prelude.{◌≡◌, ◌≤◌, ◌<◌, ◌⊎◌, ℕ, ◌+◌, ◌*◌, List, [], ◌∷◌, ◌++◌, Result, Ok, Err, length, take}
 use Rattle.std.specs.List.{flat_map}
 use Rattle.cf_outside.specs.Files.{Content, with_appended}
-use Rattle.cf_pcap.specs.Capture.{first_moment, moment_limit}
 use Rattle.cf_pcap.specs.Header.{output_header}
-use Rattle.cf_pcap.specs.Record.{Record, Whole, head_octets, record_of}
+use Rattle.cf_pcap.specs.Record.{Whole, head_octets, moment_limit, record_of}
+use Rattle.cf_run.specs.Capture.{Record}
+use Rattle.cf_run.specs.Moments.{first_moment}
 use Rattle.cf_world.specs.Capture.{BeginsEach, HasPacket, IsSyn}
 use Rattle.cf_world.specs.declared.next.Next.{Next}
 use Rattle.cf_world.specs.declared.next.Next.TheVariants as next
@@ -13,6 +14,10 @@ use Rattle.cf_world.specs.declared.sending.Chance.{Chance}
 use Rattle.cf_world.specs.declared.sending.Chance.TheVariants as chances
 use Rattle.cf_world.specs.declared.world.TheConstants.{RECORD_LIMIT}
 use Rattle.cf_world.specs.declared.world.WorldFault.{WorldFault}
+
+-- the record of a packet at a moment: its link kind is that of the header
+abbrev pub made_record : (moment : ℕ) → (packet : List ℕ) → Record
+made_record moment packet = record { stamp = moment; link = output_header.link; body = packet }
 
 -- the octets of a record
 abbrev pub record_octets : Record → List ℕ
@@ -25,8 +30,10 @@ records_octets rs = flat_map record_octets rs
 abbrev pub IsReadAgain : Record → Type 0
 IsReadAgain r = (rest : List ℕ) → record_of output_header (record_octets r ++ rest) ≡ Whole r.stamp r.body (16 + length r.body)
 
--- a record that is made: its moment is below the limit, it has at most 1,500 octets, and they are a packet
+-- a record that is made: its link kind is that of the header, its moment is below the limit, it has at most 1,500 octets, and they are a
+-- packet
 pub record IsMade (r : Record) : Type 0 where
+  pub link : r.link ≡ output_header.link
   pub below : r.stamp < moment_limit
   pub short : length r.body ≤ 1500
   pub packet : HasPacket r
@@ -73,15 +80,15 @@ pub record IsSent (begun sessions last moment after : ℕ) (packet : List ℕ) :
   pub later : last + 2000 ≤ moment
   pub soon : moment ≤ last + 10000000
   pub short : length packet ≤ 1500
-  pub has : HasPacket (record { stamp = moment; body = packet })
+  pub has : HasPacket (made_record moment packet)
   pub few : after ≤ sessions
   pub near : 20000 * after ≤ moment + 9000000
-  pub begins : (session : ℕ) → session < after → (session < begun) ⊎ IsSyn session (record { stamp = moment; body = packet })
+  pub begins : (session : ℕ) → session < after → (session < begun) ⊎ IsSyn session (made_record moment packet)
 
 -- what comes of a host: a packet at that moment, with which no session begins, or one that may be lost
 abbrev pub Speaks : (moment begun : ℕ) → (chance : Chance) → (packet : List ℕ) → Next → Type 0
 Speaks moment begun chance packet (next.Sends at after) =
-    (at ≡ moment) × (after ≡ begun) × (length packet ≤ 1500) × HasPacket (record { stamp = moment; body = packet })
+    (at ≡ moment) × (after ≡ begun) × (length packet ≤ 1500) × HasPacket (made_record moment packet)
 Speaks moment begun chance packet next.Loses = chance ≡ chances.MayLose
 Speaks moment begun chance packet next.Ends = ⊥
 

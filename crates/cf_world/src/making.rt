@@ -4,7 +4,7 @@ ghost use Rattle.cf_outside.specs.Faults.{HasCause};
 ghost use Rattle.cf_outside.specs.Files.{KeepsOthers};
 ghost use Rattle.cf_policy.specs.Within.{AreAssetsWithin};
 ghost use Rattle.cf_run.specs.Step.{IsSoundEngine};
-ghost use Rattle.cf_world.specs.Making.{AppendsRecord, AppendsRecords, IsReadAgain};
+ghost use Rattle.cf_world.specs.Making.{AppendsRecord, AppendsRecords, IsReadAgain, made_record};
 
 use crate::hosts::Hosts;
 use crate::next::{Next, comes_next};
@@ -79,9 +79,9 @@ fn send<F: Files>(
     requires later { engine.old.last + 2 ≤ moment }
     requires moment { moment < 2 ^ 32 * 1000000 }
     requires short { length packet.now ≤ 1500 }
-    ensures file { AppendsRecord (record { stamp = moment; body = packet.now })
+    ensures file { AppendsRecord (made_record moment packet.now)
         (F.content files.old capture.now) (F.content files.new capture.now) result }
-    ensures again { IsReadAgain (record { stamp = moment; body = packet.now }) }
+    ensures again { IsReadAgain (made_record moment packet.now) }
     ensures sound { OnOk result (IsSoundEngine policy.now.assets engine.new) }
     ensures last { OnOk result (engine.new.last ≡ moment) }
     ensures others { KeepsOthers capture.now (F.content files.old) (F.content files.new) }

@@ -1,7 +1,7 @@
 //! What comes next in a capture.
 ghost use Rattle.std.specs.Prelude.{◌≡◌, ◌≤◌, ◌<◌, ◌+◌, ◌*◌, length};
 ghost use Rattle.cf_world.specs.Capture.{IsSyn};
-ghost use Rattle.cf_world.specs.Making.{IsNext, Speaks};
+ghost use Rattle.cf_world.specs.Making.{IsNext, Speaks, made_record};
 ghost use Rattle.cf_world.specs.declared.next.Next.TheVariants as next;
 
 use crate::flows::{client_endpoint, controller_endpoint, first_number};
@@ -91,7 +91,7 @@ fn begins(hosts: &mut Hosts, session: u32, moment: u64, packet: &mut ArrayVec<u8
     requires few { session < 200 }
     requires begun { 1000000 + 20000 * session ≤ moment }
     ensures sends { result ≡ next.Sends moment (session + 1) }
-    ensures syn { IsSyn session (record { stamp = moment; body = packet.new.items }) }
+    ensures syn { IsSyn session (made_record moment packet.new.items) }
     ensures short { length packet.new.items ≤ 1500 }
 {
     let number = session as usize;

@@ -2,8 +2,8 @@
 ghost use Rattle.std.specs.Prelude.{◌≡◌, ◌<◌, ◌≤◌, length};
 ghost use Rattle.cf_outside.specs.Faults.{HasCause};
 ghost use Rattle.cf_outside.specs.Files.{Appends, KeepsOthers};
-ghost use Rattle.cf_pcap.specs.Capture.{moment_limit};
-ghost use Rattle.cf_world.specs.Making.{IsReadAgain, record_octets};
+ghost use Rattle.cf_pcap.specs.Record.{moment_limit};
+ghost use Rattle.cf_world.specs.Making.{IsReadAgain, made_record, record_octets};
 
 use arrayvec::ArrayVec;
 use cf_outside::{Files, WriteAnswer};
@@ -19,9 +19,9 @@ pub(crate) fn append_record<F: Files>(
 ) -> WriteAnswer
     requires moment { moment < moment_limit }
     requires packet { length packet.now ≤ 1500 }
-    ensures file { Appends (record_octets (record { stamp = moment; body = packet.now }))
+    ensures file { Appends (record_octets (made_record moment packet.now))
         (F.content files.old name.now) (F.content files.new name.now) result }
-    ensures again { IsReadAgain (record { stamp = moment; body = packet.now }) }
+    ensures again { IsReadAgain (made_record moment packet.now) }
     ensures others { KeepsOthers name.now (F.content files.old) (F.content files.new) }
     ensures cause { HasCause (F.write_faults files.old) (F.write_faults files.new) (result ≡ WriteAnswer.Failed) }
     ensures reads { F.read_faults files.new ≡ F.read_faults files.old }
@@ -34,8 +34,8 @@ pub(crate) fn append_record<F: Files>(
 fn record_of(moment: u64, packet: &[u8]) -> ArrayVec<u8, 1516>
     requires moment { moment < moment_limit }
     requires packet { length packet.now ≤ 1500 }
-    ensures octets { result.items ≡ record_octets (record { stamp = moment; body = packet.now }) }
-    ensures again { IsReadAgain (record { stamp = moment; body = packet.now }) }
+    ensures octets { result.items ≡ record_octets (made_record moment packet.now) }
+    ensures again { IsReadAgain (made_record moment packet.now) }
 {
     let mut head = [0u8; 16];
     write_record_head(moment, packet.len() as u32, &mut head);

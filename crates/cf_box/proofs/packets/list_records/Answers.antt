@@ -1,14 +1,16 @@
 use Rattle.std.proofs.Common.{◌≡◌, ◌+◌, ◌++◌, ℕ, List, Ok, Err, length, refl, sym, subst, ap, ◌∙◌, arith}
 use Rattle.cf_outside.specs.Faults.{Rose}
 use Rattle.cf_outside.specs.Files.{Content}
-use Rattle.cf_pcap.specs.Capture.{Cut, FileEnd, Fits, Large, LastPlace, TooLong}
-use Rattle.cf_pcap.specs.Record.{Record}
-use Rattle.cf_run.specs.Reader.{StandsAt}
+use Rattle.cf_run.proofs.Behind.{StandsBehind, first_near, stands_cut, stands_end, stands_large, stands_long, stands_refused}
+use Rattle.cf_run.specs.Capture.{Cut, FileEnd, Large, LastPlace, Refused, TooLong}
+use Rattle.cf_run.specs.Reader.{FindsRecord, ReaderValue}
+use Rattle.cf_run.specs.declared.NextRecord.TheVariants as next
+use Rattle.cf_box.specs.Captures.{block_refusal}
 use Rattle.cf_box.specs.PacketLine.{record_line}
 use Rattle.cf_box.specs.declared.ending.CaptureRefusal.TheVariants as refusal
 use Rattle.cf_box.specs.declared.ending.Done.TheVariants as done
 use Rattle.cf_box.specs.declared.ending.Stop.TheVariants as stop
-use Rattle.cf_box.proofs.Listing.{AreListed, ends_unput, finished, finished_partly, more_put, none_listed, not_read, one_listed}
+use Rattle.cf_box.proofs.Listing.{AreListed, block_answers, ends_unput, finished, finished_partly, more_put, none_listed, not_read, one_listed}
 use Rattle.cf_box.proofs.packets.list_records.Goals as goal
 
 -- where a capture is cut
@@ -17,9 +19,9 @@ the_last place = record { place = place; found = Cut }
 
 pub records-init : goal.records-init
 records-init g c = record {
-  listed = none_listed c.requires.header c.requires.place c.new-lines.ensures;
-  near = omega (arith, c.requires.place);
-  few = omega (arith, c.requires.place);
+  listed = none_listed c.requires.form c.requires.place c.new-lines.ensures;
+  near = first_near c.args.reader.now.form c.args.reader.now.place c.requires.place;
+  few = omega arith;
   same = refl;
   reads = omega arith;
   writes = refl;
@@ -28,29 +30,22 @@ records-init g c = record {
 
 pub records-preserved : goal.records-preserved
 records-preserved g c =
-    let file = g.F.Files.content c.args.files.now c.args.name.now in
-    let old = g.O.Sink.text c.args.out.now in
     let now = g.O.Sink.text c.make_room.new.out in
     let before = c.records.invariant in
     let read = c.in-Whole.ensures in
-    let (found, same, place) = read.found in
     let (some, first, put) = c.in-Done.ensures.kept refl in
-    let r : Record = record { stamp = c.in-Whole.stamp; body = c.next.new.self.body } in
-    let used : ℕ = 16 + length c.next.new.self.body in
-    let header = c.records.reader.header in
-    let stands : StandsAt file header c.records.reader.place (Fits r used) =
-    subst (λ (content : List ℕ → Content). StandsAt (content c.args.name.now) header c.records.reader.place (Fits r used)) before.same found in
-    let line : c.gather_line.new.lines.items ≡ c.make_room.new.lines.items ++ record_line header.link c.records.number r =
-    subst (λ h. c.gather_line.new.lines.items ≡ c.make_room.new.lines.items ++ record_line h.link c.records.number r) (c.header.ensures ∙ same)
-    (subst (λ b. c.gather_line.new.lines.items ≡ c.make_room.new.lines.items ++ record_line c.header.result.now.link c.records.number (record { stamp = c.in-Whole.stamp; body = b }))
-    c.body.ensures c.gather_line.ensures) in
-    let one : AreListed file header (c.records.reader.place + used) (c.records.number + 1) old now c.gather_line.new.lines.items =
-    one_listed (more_put before.listed some first put) r used stands line in
+    let stamp = c.in-Whole.stamp in
+    let reader : ReaderValue = c.next.new.self in
+    let found : FindsRecord (g.F.Files.content c.args.files.now c.args.name.now) c.records.reader reader (next.Whole stamp) =
+    subst (λ (content : List ℕ → Content). FindsRecord (content c.args.name.now) c.records.reader reader (next.Whole stamp)) before.same read.found in
+    let with_line : List ℕ → Type 0 = λ line. c.gather_line.new.lines.items ≡ c.make_room.new.lines.items ++ line in
+    let line : with_line (record_line c.records.number (record { stamp = stamp; link = reader.link; body = reader.body })) =
+    subst (λ l. with_line (record_line c.records.number (record { stamp = stamp; link = l; body = reader.body }))) c.link.ensures
+    (subst (λ b. with_line (record_line c.records.number (record { stamp = stamp; link = c.link.result; body = b }))) c.body.ensures c.gather_line.ensures) in
     record {
-      listed = subst (λ h. AreListed file h c.next.new.self.place (c.records.number + 1) old now c.gather_line.new.lines.items) (sym same)
-          (subst (λ n. AreListed file header n (c.records.number + 1) old now c.gather_line.new.lines.items) (sym place) one);
+      listed = one_listed (more_put before.listed some first put) reader stamp found line;
       near = read.near;
-      few = omega (arith, before.few, place);
+      few = omega (arith, before.few, read.on);
       same = read.same ∙ before.same;
       reads = omega (arith, before.reads, read.cause.later);
       writes = read.writes ∙ before.writes;
@@ -66,9 +61,9 @@ returns-in-Failed-make_room-clause-lists g c =
 pub returns-in-End-clause-lists : goal.returns-in-End-clause-lists
 returns-in-End-clause-lists g c =
     let before = c.records.invariant in
-    let found = c.in-End.ensures.found in
-    let stands = subst (λ (content : List ℕ → Content). StandsAt (content c.args.name.now) c.records.reader.header c.records.reader.place FileEnd) before.same found.0 in
-    finished before.listed c.finish.result (Ok done.Listed) FileEnd stands tt (λ put. (refl, refl, put)) (λ rose. omega (arith, before.puts, rose)) c.finish.ensures.ends
+    let stands = subst (λ (content : List ℕ → Content). StandsBehind (content c.args.name.now) c.records.reader c.next.new.self.place FileEnd) before.same
+    (stands_end (g.F.Files.content c.records.files c.args.name.now) c.records.reader c.next.new.self c.in-End.ensures.found) in
+    finished before.listed c.finish.result (Ok done.Listed) c.next.new.self.place FileEnd stands tt (λ put. (refl, refl, put)) (λ rose. omega (arith, before.puts, rose)) c.finish.ensures.ends
 
 pub returns-in-End-clause-read : goal.returns-in-End-clause-read
 returns-in-End-clause-read g c = record {
@@ -79,9 +74,9 @@ returns-in-End-clause-read g c = record {
 pub returns-in-Cut-clause-lists : goal.returns-in-Cut-clause-lists
 returns-in-Cut-clause-lists g c =
     let before = c.records.invariant in
-    let found = c.in-Cut.ensures.found in
-    let stands = subst (λ (content : List ℕ → Content). StandsAt (content c.args.name.now) c.records.reader.header c.records.reader.place Cut) before.same found.0 in
-    finished before.listed c.finish-in-Cut.result (Err (stop.CaptureCut c.place.result)) Cut stands tt (λ put. (ap (λ (n : ℕ). the_last n) (sym (c.place.ensures ∙ found.1.1)), put)) (λ rose. omega (arith, before.puts, rose)) c.finish-in-Cut.ensures.ends
+    let stands = subst (λ (content : List ℕ → Content). StandsBehind (content c.args.name.now) c.records.reader c.next.new.self.place Cut) before.same
+    (stands_cut (g.F.Files.content c.records.files c.args.name.now) c.records.reader c.next.new.self c.in-Cut.ensures.found) in
+    finished before.listed c.finish-in-Cut.result (Err (stop.CaptureCut c.place.result)) c.next.new.self.place Cut stands tt (λ put. (ap (λ (n : ℕ). the_last n) (sym c.place.ensures), put)) (λ rose. omega (arith, before.puts, rose)) c.finish-in-Cut.ensures.ends
 
 pub returns-in-Cut-clause-read : goal.returns-in-Cut-clause-read
 returns-in-Cut-clause-read g c = record {
@@ -89,12 +84,28 @@ returns-in-Cut-clause-read g c = record {
   rose = λ is. absurd (not_read c.finish-in-Cut.result (Err (stop.CaptureCut c.place.result)) c.finish-in-Cut.ensures.ends (λ e. cc e) is);
 }
 
+pub returns-in-Refused-clause-lists : goal.returns-in-Refused-clause-lists
+returns-in-Refused-clause-lists g c =
+    let before = c.records.invariant in
+    let of = c.in-Refused.refusal in
+    let stands = subst (λ (content : List ℕ → Content). StandsBehind (content c.args.name.now) c.records.reader c.next.new.self.place (Refused of)) before.same
+    (stands_refused (g.F.Files.content c.records.files c.args.name.now) c.records.reader c.next.new.self of c.in-Refused.ensures.found) in
+    finished before.listed c.finish-in-Refused.result (Err (stop.CaptureRefused (block_refusal of))) c.next.new.self.place (Refused of) stands tt
+    (λ put. block_answers of before.listed.records (record { place = c.next.new.self.place; found = Refused of }) (g.O.Sink.text c.args.out.now) _ _ refl put)
+    (λ rose. omega (arith, before.puts, rose)) (rw c.from.ensures at c.finish-in-Refused.ensures.ends)
+
+pub returns-in-Refused-clause-read : goal.returns-in-Refused-clause-read
+returns-in-Refused-clause-read g c = record {
+  later = omega (arith, c.records.invariant.reads, c.in-Refused.ensures.cause.later);
+  rose = λ is. absurd (not_read c.finish-in-Refused.result (Err c.from.result) c.finish-in-Refused.ensures.ends (λ e. let of = c.from.ensures in cc (e, of)) is);
+}
+
 pub returns-in-TooLong-clause-lists : goal.returns-in-TooLong-clause-lists
 returns-in-TooLong-clause-lists g c =
     let before = c.records.invariant in
-    let found = c.in-TooLong.ensures.found in
-    let stands = subst (λ (content : List ℕ → Content). StandsAt (content c.args.name.now) c.records.reader.header c.records.reader.place TooLong) before.same found.0 in
-    finished before.listed c.finish-in-TooLong.result (Err (stop.CaptureRefused refusal.TooLong)) TooLong stands tt (λ put. (refl, put)) (λ rose. omega (arith, before.puts, rose)) c.finish-in-TooLong.ensures.ends
+    let stands = subst (λ (content : List ℕ → Content). StandsBehind (content c.args.name.now) c.records.reader c.next.new.self.place TooLong) before.same
+    (stands_long (g.F.Files.content c.records.files c.args.name.now) c.records.reader c.next.new.self c.in-TooLong.ensures.found) in
+    finished before.listed c.finish-in-TooLong.result (Err (stop.CaptureRefused refusal.TooLong)) c.next.new.self.place TooLong stands tt (λ put. (refl, put)) (λ rose. omega (arith, before.puts, rose)) c.finish-in-TooLong.ensures.ends
 
 pub returns-in-TooLong-clause-read : goal.returns-in-TooLong-clause-read
 returns-in-TooLong-clause-read g c = record {
@@ -105,9 +116,9 @@ returns-in-TooLong-clause-read g c = record {
 pub returns-in-Large-clause-lists : goal.returns-in-Large-clause-lists
 returns-in-Large-clause-lists g c =
     let before = c.records.invariant in
-    let found = c.in-Large.ensures.found in
-    let stands = subst (λ (content : List ℕ → Content). StandsAt (content c.args.name.now) c.records.reader.header c.records.reader.place Large) before.same found.0 in
-    finished before.listed c.finish-in-Large.result (Err (stop.CaptureRefused refusal.Large)) Large stands tt (λ put. (refl, put)) (λ rose. omega (arith, before.puts, rose)) c.finish-in-Large.ensures.ends
+    let stands = subst (λ (content : List ℕ → Content). StandsBehind (content c.args.name.now) c.records.reader c.next.new.self.place Large) before.same
+    (stands_large (g.F.Files.content c.records.files c.args.name.now) c.records.reader c.next.new.self c.in-Large.ensures.found) in
+    finished before.listed c.finish-in-Large.result (Err (stop.CaptureRefused refusal.Large)) c.next.new.self.place Large stands tt (λ put. (refl, put)) (λ rose. omega (arith, before.puts, rose)) c.finish-in-Large.ensures.ends
 
 pub returns-in-Large-clause-read : goal.returns-in-Large-clause-read
 returns-in-Large-clause-read g c = record {

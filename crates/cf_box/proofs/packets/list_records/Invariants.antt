@@ -1,4 +1,4 @@
-use Rattle.std.proofs.Common.{◌≡◌, ◌-◌, ◌^◌, ◌≤◌}
+use Rattle.std.proofs.Common.{◌≡◌, ◌+◌, ◌-◌, ◌^◌, ◌≤◌}
 use Rattle.cf_box.proofs.Listing.{AreListed}
 use Rattle.cf_box.proofs.packets.list_records.Given as goal
 
@@ -6,9 +6,9 @@ abbrev pub invariant-records : goal.invariant-records
 invariant-records g l =
     let content = g.F.Files.content in
     record {
-      listed : AreListed (content l.fn.files l.name) l.reader.header l.reader.place l.number (g.O.Sink.text l.fn.out) (g.O.Sink.text l.out) l.lines.items;
+      listed : AreListed (content l.fn.files l.name) l.fn.reader.form l.reader l.number (g.O.Sink.text l.fn.out) (g.O.Sink.text l.out) l.lines.items;
       near : l.reader.place ≤ 2 ^ 40;
-      few : l.number ≤ l.reader.place;
+      few : l.number ≤ l.reader.place + 1;
       same : content l.files ≡ content l.fn.files;
       reads : g.F.Files.read_faults l.fn.files ≤ g.F.Files.read_faults l.files;
       writes : g.F.Files.write_faults l.files ≡ g.F.Files.write_faults l.fn.files;

@@ -1,19 +1,20 @@
 use Rattle.std.proofs.Common.{List, ℕ, ◌≡◌, ◌<◌, ◌*◌, ◌^◌, true, Err, refl, sym, ap, ◌∙◌, subst, arith}
 use Rattle.cf_outside.specs.Files.{Content}
-use Rattle.cf_pcap.specs.Capture.{Cut, FileEnd, Large, TooLong}
+use Rattle.cf_run.specs.Capture.{Cut, FileEnd, Large, Refused, TooLong}
 use Rattle.cf_packet.specs.Packet.{read_record}
 use Rattle.cf_run.specs.FileDesk.{are_whole, files_desk}
 use Rattle.cf_run.specs.Half.{StepBreaks}
 use Rattle.cf_run.specs.Reader.{ReaderValue}
 use Rattle.cf_run.specs.RunCapture.{RunNamesValue, run_names_value}
 use Rattle.cf_run.specs.Trace.{Input, table_after}
+use Rattle.cf_run.proofs.Behind.{first_near, stands_cut, stands_end, stands_large, stands_late, stands_long, stands_refused}
 use Rattle.cf_run.proofs.Running.{breaks_off, nothing_so_far, one_so_far, runs_partly, runs_to, stopped, stops_between, told_on, too_late, whole_first}
 use Rattle.cf_run.proofs.run.run_records.Goals as goal
 
 pub records-init : goal.records-init
 records-init g c = record {
-  so_far = nothing_so_far c.requires.header c.requires.out c.requires.log c.requires.place c.requires.stands;
-  near = omega (arith, c.requires.place);
+  so_far = nothing_so_far c.requires.form c.requires.out c.requires.log c.requires.place c.requires.stands;
+  near = first_near c.args.reader.now.form c.args.reader.now.place c.requires.place;
   later = omega (arith, c.requires.stands.last);
   sound = c.requires.sound;
   whole = whole_first c.args.names.now.out.now c.args.names.now.log.now (g.F.Files.content c.args.files.now) c.requires.out c.requires.log;
@@ -44,33 +45,44 @@ pub returns-in-End-clause-runs : goal.returns-in-End-clause-runs
 returns-in-End-clause-runs g c =
     let before = c.records.invariant in
     let read = c.in-End.ensures in
-    (_, runs_to before.so_far before.whole FileEnd read.same read.found.0 refl tt refl c.summary.ensures)
+    (_, runs_to before.so_far before.whole FileEnd read.same c.next.new.self.place (stands_end (g.F.Files.content c.records.files c.args.names.now.capture.now) c.records.reader c.next.new.self read.found) refl tt refl c.summary.ensures)
 
 pub returns-in-Cut-clause-runs : goal.returns-in-Cut-clause-runs
 returns-in-Cut-clause-runs g c =
     let before = c.records.invariant in
     let read = c.in-Cut.ensures in
-    runs_to before.so_far before.whole Cut read.same read.found.0 refl tt (c.place.ensures ∙ read.found.1.1) c.summary-in-Cut.ensures
+    runs_to before.so_far before.whole Cut read.same c.next.new.self.place (stands_cut (g.F.Files.content c.records.files c.args.names.now.capture.now) c.records.reader c.next.new.self read.found) refl tt c.place.ensures c.summary-in-Cut.ensures
 
 pub returns-then-moment-ge-MOMENT_LIMIT-clause-runs :
     goal.returns-then-moment-ge-MOMENT_LIMIT-clause-runs
 returns-then-moment-ge-MOMENT_LIMIT-clause-runs g c =
     let before = c.records.invariant in
     let read = c.in-Whole.ensures in
-    let late = too_late c.records.least _ _ (omega (arith, c.if-moment-ge-MOMENT_LIMIT.true, c.max-moment.ensures)) in
-    (_, _, runs_to before.so_far before.whole _ read.same read.found.0 late tt refl refl)
+    let (place, used, stands) = stands_late (g.F.Files.content c.records.files c.args.names.now.capture.now) c.records.reader c.next.new.self c.in-Whole.stamp read.found in
+    let late = too_late c.records.least used _ (omega (arith, c.if-moment-ge-MOMENT_LIMIT.true, c.max-moment.ensures)) in
+    (_, _, runs_to before.so_far before.whole _ read.same place stands late tt refl refl)
 
 pub returns-in-TooLong-clause-runs : goal.returns-in-TooLong-clause-runs
 returns-in-TooLong-clause-runs g c =
     let before = c.records.invariant in
     let read = c.in-TooLong.ensures in
-    (_, _, runs_to before.so_far before.whole TooLong read.same read.found.0 refl tt refl refl)
+    (_, _, runs_to before.so_far before.whole TooLong read.same c.next.new.self.place (stands_long (g.F.Files.content c.records.files c.args.names.now.capture.now) c.records.reader c.next.new.self read.found) refl tt refl refl)
 
 pub returns-in-Large-clause-runs : goal.returns-in-Large-clause-runs
 returns-in-Large-clause-runs g c =
     let before = c.records.invariant in
     let read = c.in-Large.ensures in
-    (_, _, runs_to before.so_far before.whole Large read.same read.found.0 refl tt refl refl)
+    (_, _, runs_to before.so_far before.whole Large read.same c.next.new.self.place (stands_large (g.F.Files.content c.records.files c.args.names.now.capture.now) c.records.reader c.next.new.self read.found) refl tt refl refl)
+
+pub returns-in-Refused-clause-runs : goal.returns-in-Refused-clause-runs
+returns-in-Refused-clause-runs g c =
+    let before = c.records.invariant in
+    let read = c.in-Refused.ensures in (
+      _,
+      _,
+      runs_to before.so_far before.whole (Refused c.in-Refused.refusal) read.same c.next.new.self.place
+          (stands_refused (g.F.Files.content c.records.files c.args.names.now.capture.now) c.records.reader c.next.new.self c.in-Refused.refusal read.found) refl tt refl refl,
+    )
 
 pub returns-in-Failed-clause-runs : goal.returns-in-Failed-clause-runs
 returns-in-Failed-clause-runs g c =
@@ -93,7 +105,7 @@ returns-in_err-run_record-in-Whole-clause-runs g c =
     let after = content c.run_record.new.files in
     let next : ReaderValue = c.next.new.self in
     let moment = c.max-moment.result in
-    let given : Input = record { moment = moment; packet = read_record next.header.link next.body } in
+    let given : Input = record { moment = moment; packet = read_record next.link next.body } in
     let early : moment < 2 ^ 32 * 1000000 = omega (arith, c.if-moment-ge-MOMENT_LIMIT.false) in
     let whole : are_whole names.out names.log files ≡ true = subst (λ (f : List ℕ → Content). are_whole names.out names.log f ≡ true) (sym read.same) before.whole in
     told_on assets limit names first after fault c.from_residual.result c.from_residual.ensures.1
