@@ -1,19 +1,24 @@
 //! Why a capture was refused or cut, and what to do.
 ghost use Rattle.std.specs.Prelude.{◌≤◌, ◌^◌};
 
+use crate::block::push_refused;
+use crate::link::{link_hint, link_name};
 use crate::page::Page;
 use cf_outside::{Files, ReadAnswer};
-use cf_pcap::{CAPTURED_LIMIT, HeaderRefusal};
-use cf_run::{MOMENT_LIMIT, NextRecord, OpenFault, RecordReader};
+use cf_pcap::{CAPTURED_LIMIT, u32_at};
+use cf_pcapng::is_section;
+use cf_run::{FormRefusal, MOMENT_LIMIT, NextRecord, OpenFault, RecordReader};
+use cf_view::View;
 use std::alloc::{AllocError, Global};
-
-/// The first octets of a pcapng file: the type of its section header. draft-ietf-opsawg-pcapng, section 4.1.
-const PCAPNG: [u8; 4] = [0x0A, 0x0D, 0x0D, 0x0A];
 
 /// The first octets of a file that gzip made. RFC 1952, section 2.3.1.
 const GZIP: [u8; 2] = [0x1F, 0x8B];
 
+/// The octets of the header of a classic capture. draft-ietf-opsawg-pcap, section 4.
+const HEADER_OCTETS: usize = 24;
+
 /// What ended the records of a capture.
+#[derive(Clone, Copy)]
 enum Last {
     /// This stands behind them.
     Found(NextRecord),
@@ -39,49 +44,77 @@ pub fn capture_message<F: Files>(
 
 /// Says why a capture is refused or where it is cut, if it is, and whether it did.
 fn push_why<F: Files>(out: &mut Page, files: &mut F, file: &str, has_moments: bool) -> bool {
+    let first = first_octets(files, file);
     match RecordReader::open(out.alloc, files, file) {
         Err(OpenFault::Refused(refusal)) => {
-            out.push(header_fault(refusal, files, file));
+            push_header(out, refusal, &first);
             true
         }
         Err(OpenFault::Read | OpenFault::NoMemory) => false,
         Ok(mut reader) => {
             let (number, place, last) = last_record(&mut reader, files, file, has_moments);
-            push_record(out, number, place, last)
+            if let Last::Found(NextRecord::Refused(refusal)) = last {
+                push_block(out, number, place);
+                push_refused(out, &reader, files, file, refusal);
+                push_before(out, number);
+                return true;
+            }
+            push_record(out, is_section(&first), number, place, last)
         }
     }
 }
 
-/// Why a header is refused.
-fn header_fault<F: Files>(refusal: HeaderRefusal, files: &mut F, file: &str) -> &'static str {
+/// The first octets of a file; zeros where it cannot be read again.
+fn first_octets<F: Files>(files: &mut F, file: &str) -> [u8; HEADER_OCTETS] {
+    let mut first = [0u8; HEADER_OCTETS];
+    match files.read_at(file, 0, &mut first) {
+        ReadAnswer::Got(_) => first,
+        ReadAnswer::End | ReadAnswer::Failed => [0; HEADER_OCTETS],
+    }
+}
+
+/// Says why a header is refused.
+fn push_header(out: &mut Page, refusal: FormRefusal, first: &[u8; HEADER_OCTETS]) {
     match refusal {
-        HeaderRefusal::Short => "it has fewer than 24 bytes, and so is no capture",
-        HeaderRefusal::Magic => magic(files, file),
-        HeaderRefusal::Version => {
-            "its version is not 2.4\n  'editcap -F pcap IN OUT' writes a capture of this version"
-        }
-        HeaderRefusal::LinkType => {
-            "its link type is neither 1 (Ethernet) nor 101 (raw IP)\n  \
-             capture on one interface, as 'tcpdump -i eth0 -w OUT'; '-i any' has another link type"
-        }
+        FormRefusal::LinkType => push_link(out, first),
+        FormRefusal::Short => out.push(if is_section(first) {
+            "it has fewer than 28 bytes, and so is no pcapng capture"
+        } else {
+            "it has fewer than 24 bytes, and so is no capture"
+        }),
+        FormRefusal::Magic => out.push(magic(first)),
+        FormRefusal::Version => out.push(
+            "its version is not 2.4\n  'editcap -F pcap IN OUT' writes a capture of this version",
+        ),
+        FormRefusal::Section => out.push(
+            "it begins as a pcapng capture, but the byte order of its section header is not known, or its version is not 1",
+        ),
     }
 }
 
 /// What a file is that does not begin as a capture.
-fn magic<F: Files>(files: &mut F, file: &str) -> &'static str {
-    let mut first = [0u8; 4];
-    if let ReadAnswer::Got(_) = files.read_at(file, 0, &mut first) {
-        if first == PCAPNG {
-            return "it is a pcapng file\n  'editcap -F pcap IN OUT' writes it as pcap";
-        }
-        if first.starts_with(&GZIP) {
-            return "it is compressed\n  'gunzip' writes it as it was";
-        }
+fn magic(first: &[u8; HEADER_OCTETS]) -> &'static str {
+    if first.starts_with(&GZIP) {
+        "it is compressed\n  'gunzip' writes it as it was"
+    } else {
+        "it does not begin as a pcap file\n  'editcap -F pcap IN OUT' writes other captures as pcap"
     }
-    "it does not begin as a pcap file\n  'editcap -F pcap IN OUT' writes other captures as pcap"
 }
 
-/// What ended the records of a capture, with the number from 1 that a record there has, and its place.
+/// Says which link type a header has: in the byte order in which its magic stands.
+fn push_link(out: &mut Page, first: &[u8; HEADER_OCTETS]) {
+    let link = u32_at(&View::one(first), 20, first[0] == 0xA1);
+    out.push("its link type is ");
+    out.push_number(u64::from(link));
+    out.push_all(&[
+        link_name(link),
+        ", and only 1 (Ethernet) and 101 (raw IP) are read",
+        link_hint(link),
+    ]);
+}
+
+/// What ended the records of a capture, with the number from 1 that a record there has, and its place. Where a record comes too late, it
+/// is the place of the record, or of a pcapng file the place where its block ends.
 fn last_record<F: Files>(
     reader: &mut RecordReader,
     files: &mut F,
@@ -90,6 +123,7 @@ fn last_record<F: Files>(
 ) -> (u64, u64, Last)
     requires near { reader.old.place ≤ 2 ^ 40 }
 {
+    let has_blocks = reader.place() == 0;
     let mut number = 1u64;
     let mut least = 2u64;
     'records: loop {
@@ -98,52 +132,84 @@ fn last_record<F: Files>(
             NextRecord::Whole(stamp) => {
                 let moment = stamp.max(least);
                 if has_moments && moment >= MOMENT_LIMIT {
+                    let place = if has_blocks { reader.place() } else { place };
                     return (number, place, Last::TooLate);
                 }
                 least = moment.saturating_add(2);
                 number = number.saturating_add(1);
             }
-            found => return (number, place, Last::Found(found)),
+            found => return (number, reader.place(), Last::Found(found)),
         }
     }
 }
 
-/// Says what is wrong with the record at a place, if something is, and whether it did.
-fn push_record(out: &mut Page, number: u64, place: u64, last: Last) -> bool {
+/// Says what is wrong with the record or the block at a place, if something is, and whether it did.
+fn push_record(out: &mut Page, has_blocks: bool, number: u64, place: u64, last: Last) -> bool {
     match last {
-        Last::Found(NextRecord::Whole(_) | NextRecord::End | NextRecord::Failed) => return false,
         Last::Found(NextRecord::Cut) => {
-            push_placed(out, "the file ends inside record ", number, place);
+            out.push("the file ends inside ");
+            push_placed(out, has_blocks, number, place);
         }
         Last::Found(NextRecord::TooLong) => {
-            push_placed(out, "record ", number, place);
+            push_placed(out, has_blocks, number, place);
             out.push(", has more than ");
             out.push_number(u64::from(CAPTURED_LIMIT));
             out.push(" bytes");
         }
         Last::Found(NextRecord::Large) => {
-            push_placed(out, "record ", number, place);
+            push_placed(out, has_blocks, number, place);
             out.push(", goes past the first 2^40 bytes of the file");
         }
         Last::TooLate => {
-            push_placed(out, "record ", number, place);
-            out.push(
-                ", comes at a moment past 4294967295.999999, the last that a capture can have\n  \
-                 'editcap -F pcap -t -SECONDS IN OUT' sets the moments of all records back",
-            );
+            push_late(out, has_blocks, number, place);
             return true;
         }
+        Last::Found(_) => return false,
     }
-    if number > 1 {
-        out.push("\n  'editcap -F pcap IN OUT' writes the records before it");
-    }
+    push_before(out, number);
     true
 }
 
-/// A record with its number and its place.
-fn push_placed(out: &mut Page, before: &str, number: u64, place: u64) {
+/// A record with its number and its place, or a block.
+fn push_placed(out: &mut Page, has_blocks: bool, number: u64, place: u64) {
+    if has_blocks {
+        push_block(out, number, place);
+    } else {
+        push_numbers(out, "record ", number, ", which begins at byte ", place);
+    }
+}
+
+/// A block with its place and how many records stand before it.
+fn push_block(out: &mut Page, number: u64, place: u64) {
+    let before = number.saturating_sub(1);
+    push_numbers(out, "the block at byte ", place, ", behind ", before);
+    out.push(if before == 1 { " record" } else { " records" });
+}
+
+/// Says that a record comes too late.
+fn push_late(out: &mut Page, has_blocks: bool, number: u64, place: u64) {
+    let that = if has_blocks {
+        ", whose block ends at byte "
+    } else {
+        ", which begins at byte "
+    };
+    push_numbers(out, "record ", number, that, place);
+    out.push(
+        ", comes at a moment past 4294967295.999999, the last that a capture can have\n  \
+         'editcap -F pcap -t -SECONDS IN OUT' sets the moments of all records back",
+    );
+}
+
+fn push_numbers(out: &mut Page, before: &str, first: u64, between: &str, second: u64) {
     out.push(before);
-    out.push_number(number);
-    out.push(", which begins at byte ");
-    out.push_number(place);
+    out.push_number(first);
+    out.push(between);
+    out.push_number(second);
+}
+
+/// Says what writes the records that stand before.
+fn push_before(out: &mut Page, number: u64) {
+    if number > 1 {
+        out.push("\n  'editcap -F pcap IN OUT' writes the records before it");
+    }
 }

@@ -4,12 +4,14 @@
 
 mod acts;
 mod allowed;
+mod block;
 mod capture;
 mod covered;
 mod entries;
 mod found;
 mod kinds;
 mod laws;
+mod link;
 mod nearest;
 mod outputs;
 mod page;

@@ -33,7 +33,7 @@ usage:
   cmdwall --version
 
 CLIENT is an IPv4 address, as 10.0.0.5. POLICY is a text in the policy language
-(docs/POLICY.md). CAPTURE is a classic pcap file, of Ethernet or raw IP. OUT, REPLIES and
+(docs/POLICY.md). CAPTURE is a pcap or pcapng file, of Ethernet or raw IP. OUT, REPLIES and
 LOG are created, by world POLICY and CAPTURE too; all names of files differ.
 
 status:
@@ -44,8 +44,9 @@ status:
    5  the policy's text means no policy; what is printed names the place
    6  the capture is refused: 1 it is short, 2 its magic, 3 its version, 4 its link type,
       5 a record of more than 262,144 bytes, 6 a moment of 2^32 seconds or more, 7 a byte
-      at place 2^40
-   7  the capture ends inside the record that begins at the printed place
+      at place 2^40, 9 the length of a pcapng block or what stands in it, 10 a section
+      header, 11 an interface, 12 a unit of time
+   7  the capture ends inside the record or the block that begins at the printed place
    8  the port, the client or the controller of a relay failed
    9  so many turns of a relay came in which nothing moved that it ended
   10  the policy has no asset of that name

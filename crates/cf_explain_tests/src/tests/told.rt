@@ -82,8 +82,31 @@ run d4c3b2a1 02000400
 c: it has fewer than 24 bytes, and so is no capture
 
 run 0a0d0d0a 1c000000 4d3c2b1a01000000ffffffff ffffffff
-c: it is a pcapng file
-  'editcap -F pcap IN OUT' writes it as pcap
+c: it has fewer than 28 bytes, and so is no pcapng capture
+
+run 0a0d0d0a 1c000000 4d3c2b1a02000000ffffffff ffffffff 1c000000
+c: it begins as a pcapng capture, but the byte order of its section header is not known, or its version is not 1
+
+run 0a0d0d0a 1c000000 4d3c2b1a01000000ffffffff ffffffff 1c000000
+nothing
+
+run 0a0d0d0a 1c000000 4d3c2b1a01000000ffffffff ffffffff 1d000000
+c: the block at byte 0, behind 0 records, has a length that is not allowed, another one at its end, or a packet that does not fit it
+
+run 0a0d0d0a 1c000000 4d3c2b1a01000000ffffffff ffffffff 1c000000 06000000 20000000 00000000 00000000 07000000 00000000 00000000 20000000
+c: the block at byte 28, behind 0 records, has a packet of interface 0, which its section does not describe
+
+run 0a0d0d0a 1c000000 4d3c2b1a01000000ffffffff ffffffff 1c000000 01000000 14000000 01000000 00000400 14000000 01000000 14000000 71000000 00000400 14000000 06000000 20000000 00000000 00000000 07000000 00000000 00000000 20000000 06000000 20000000 01000000 00000000 07000000 00000000 00000000 20000000
+c: the block at byte 100, behind 1 record, has a packet of interface 1, whose link type is 113 (Linux cooked, that of '-i any'); only 1 (Ethernet) and 101 (raw IP) are read
+  'tshark -r IN -Y "frame.interface_id == 0" -w OUT' writes the packets of interface 0
+  'editcap -F pcap IN OUT' writes the records before it
+
+packets 0a0d0d0a 0000001c 1a2b3c4d00010000ffffffff ffffffff 0000001c 00000001 0000001c 00010000 00040000 000900010a000000 0000001c 00000006 00000020 00000000 00000000 00000007 00000000 00000000 00000020
+c: the block at byte 56, behind 0 records, has a packet of an interface whose unit of time is no power of ten from a second to a nanosecond
+  'editcap -F pcap IN OUT' writes its times in microseconds
+
+packets 0a0d0d0a 1c000000 4d3c2b1a01000000ffffffff ffffffff 1c000000 03000000 14000000 00
+c: the file ends inside the block at byte 28, behind 0 records
 
 run 1f8b0800 00000000 000000000000000000000000 00000000
 c: it is compressed
@@ -98,8 +121,16 @@ c: its version is not 2.4
   'editcap -F pcap IN OUT' writes a capture of this version
 
 run d4c3b2a1 02000400 0000000000000000ffff0000 71000000
-c: its link type is neither 1 (Ethernet) nor 101 (raw IP)
+c: its link type is 113 (Linux cooked, that of '-i any'), and only 1 (Ethernet) and 101 (raw IP) are read
   capture on one interface, as 'tcpdump -i eth0 -w OUT'; '-i any' has another link type
+
+run d4c3b2a1 02000400 0000000000000000ffff0000 e4000000
+c: its link type is 228 (raw IPv4), and only 1 (Ethernet) and 101 (raw IP) are read
+  'editcap -F pcap -T rawip IN OUT' writes it as raw IP
+
+run a1b2c3d4 00020004 00000000000000000000ffff 54000001
+c: its link type is 1409286145 (Ethernet with a frame check sequence), and only 1 (Ethernet) and 101 (raw IP) are read
+  'editcap -F pcap -T ether IN OUT' writes it as Ethernet
 
 run d4c3b2a1 02000400 0000000000000000ffff0000 01000000 0000000000000000 02000000 02000000 abcd
 nothing

@@ -1,0 +1,62 @@
+//! Why a block of a pcapng file was refused.
+
+use crate::link::link_name;
+use crate::page::Page;
+use cf_outside::Files;
+use cf_run::{BlockRefusal, RecordReader};
+
+/// Says why the block at the place of a reader is refused, and what to do.
+pub(crate) fn push_refused<F: Files>(
+    out: &mut Page,
+    reader: &RecordReader,
+    files: &mut F,
+    file: &str,
+    refusal: BlockRefusal,
+) {
+    match refusal {
+        BlockRefusal::Block => out.push(
+            ", has a length that is not allowed, another one at its end, or a packet that does not fit it",
+        ),
+        BlockRefusal::Section => out.push(
+            ", begins a section whose byte order is not known, or whose version is not 1",
+        ),
+        BlockRefusal::Interface => match packet_interface(reader.place(), files, file) {
+            Some(number) => push_interface(out, reader, number),
+            None => out.push(", describes one interface more than 64, which a section has at most"),
+        },
+        BlockRefusal::Resolution => out.push(
+            ", has a packet of an interface whose unit of time is no power of ten from a second to a nanosecond\n  \
+             'editcap -F pcap IN OUT' writes its times in microseconds",
+        ),
+    }
+}
+
+/// Says why packets of an interface are not read.
+fn push_interface(out: &mut Page, reader: &RecordReader, number: u32) {
+    out.push(", has a packet of interface ");
+    out.push_number(u64::from(number));
+    let Some(interface) = reader.interface(number) else {
+        out.push(", which its section does not describe");
+        return;
+    };
+    out.push(", whose link type is ");
+    out.push_number(u64::from(interface.link));
+    out.push_all(&[
+        link_name(u32::from(interface.link)),
+        "; only 1 (Ethernet) and 101 (raw IP) are read\n  \
+         'tshark -r IN -Y \"frame.interface_id == 0\" -w OUT' writes the packets of interface 0",
+    ]);
+}
+
+/// The number of the interface of the enhanced packet at a place of a file, in the byte order in which its type stands; none where
+/// another block stands there.
+fn packet_interface<F: Files>(place: u64, files: &mut F, file: &str) -> Option<u32> {
+    let mut head = [0u8; 12];
+    files.read_at(file, place, &mut head);
+    let [a, b, c, d, _, _, _, _, e, f, g, h] = head;
+    match [a, b, c, d] {
+        [6, 0, 0, 0] => Some(u32::from_le_bytes([e, f, g, h])),
+        [0, 0, 0, 6] => Some(u32::from_be_bytes([e, f, g, h])),
+        _ => None,
+    }
+}
