@@ -173,7 +173,10 @@ fn link_word(link: LinkKind) -> &'static str {
 fn interface_text(rt: &impl Abort, alloc: Global, interface: Option<Interface>) -> String {
     match interface {
         None => String::from_str(alloc, "none"),
-        Some(described) => format!(in alloc; "link {} unit {}", described.link, described.resolution),
+        Some(described) => format!(in alloc;
+            "link {} unit {}",
+            described.link, described.resolution
+        ),
     }
     .expect(rt, "memory")
 }

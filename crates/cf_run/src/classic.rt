@@ -6,7 +6,6 @@ ghost use Rattle.cf_run.specs.declared.form.Form.TheVariants as form;
 ghost use Rattle.cf_run.specs.declared.record_reader.NextRecord.TheVariants as next;
 ghost use Rattle.cf_run.specs.declared.record_reader.Piece.TheVariants as piece;
 
-
 use crate::record_reader::{NextRecord, PLACE_LIMIT, Piece};
 use cf_outside::{Files, fill};
 use cf_pcap::{Header, RecordAnswer, read_record};

@@ -10,7 +10,6 @@ ghost use Rattle.cf_run.specs.declared.record_reader.Piece.TheVariants as piece;
 use crate::blocks::{BlockRefusal, block_piece};
 use crate::classic::classic_piece;
 use crate::form::{FORM_OCTETS, Form, FormRefusal, first_place, read_form, room};
-
 use cf_outside::{Files, fill};
 use cf_pcapng::Interface;
 use cf_view::LinkKind;

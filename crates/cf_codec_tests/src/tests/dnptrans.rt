@@ -1,6 +1,6 @@
 //! Segments by hand, one of another program, and fragments at the limits.
-use super::same;
 use super::found::{each_row, put, put_octets};
+use super::same;
 use cf_dnptrans::{Assembly, DropReason, SegmentAnswer, segment_count, segment_octet};
 use cf_samples::rows::{octets, row};
 use cf_view::View;
