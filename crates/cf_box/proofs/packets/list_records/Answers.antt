@@ -91,7 +91,8 @@ returns-in-Refused-clause-lists g c =
     let stands = subst (λ (content : List ℕ → Content). StandsBehind (content c.args.name.now) c.records.reader c.next.new.self.place (Refused of)) before.same
     (stands_refused (g.F.Files.content c.records.files c.args.name.now) c.records.reader c.next.new.self of c.in-Refused.ensures.found) in
     finished before.listed c.finish-in-Refused.result (Err (stop.CaptureRefused (block_refusal of))) c.next.new.self.place (Refused of) stands tt
-    (λ put. block_answers of before.listed.records (record { place = c.next.new.self.place; found = Refused of }) (g.O.Sink.text c.args.out.now) _ _ refl put)
+    (λ put. block_answers of before.listed.records (record { place = c.next.new.self.place; found = Refused of }) (g.O.Sink.text c.args.out.now) _
+    (Rose (g.O.Sink.faults c.args.out.now) (g.O.Sink.faults c.finish-in-Refused.new.out)) refl put)
     (λ rose. omega (arith, before.puts, rose)) (rw c.from.ensures at c.finish-in-Refused.ensures.ends)
 
 pub returns-in-Refused-clause-read : goal.returns-in-Refused-clause-read

@@ -1,7 +1,7 @@
 use Rattle.std.proofs.Common.{Ok, Err, List, ℕ, refl, sym, subst, ap, ◌∙◌, arith}
 use Rattle.cf_outside.specs.Faults.{Rose}
 use Rattle.cf_outside.specs.Files.{Content}
-use Rattle.cf_run.specs.Reader.{HasHeader}
+use Rattle.cf_run.specs.Reader.{HasForm}
 use Rattle.cf_box.specs.Command.{Packets}
 use Rattle.cf_box.specs.Ends.{Meets}
 use Rattle.cf_box.specs.Outside.{files_value, outside, sink_value}
@@ -9,9 +9,9 @@ use Rattle.cf_box.specs.Packets.{ListsFile}
 use Rattle.cf_box.proofs.CaptureStops.{closed_meets, listing_meets}
 use Rattle.cf_box.proofs.packets.packets.Goals as goal
 
-pub list_records-requires-clause-header : goal.list_records-requires-clause-header
-list_records-requires-clause-header g c =
-    subst (λ (content : List ℕ → Content). HasHeader (content c.args.name.now) (Ok c.in-Ok.reader.header)) (sym c.in-Ok.ensures.same) c.in-Ok.ensures.opened.0
+pub list_records-requires-clause-form : goal.list_records-requires-clause-form
+list_records-requires-clause-form g c =
+    subst (λ (content : List ℕ → Content). HasForm (content c.args.name.now) (Ok c.in-Ok.reader.form)) (sym c.in-Ok.ensures.same) c.in-Ok.ensures.opened.0
 
 pub returns-in-Ok-clause-meets : goal.returns-in-Ok-clause-meets
 returns-in-Ok-clause-meets g c = λ pair.
