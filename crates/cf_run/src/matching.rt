@@ -13,7 +13,7 @@ use cf_view::{Endpoint, Side};
 pub const TABLE_SIZE: usize = 256;
 
 /// What a packet is to the table.
-#[derive(Clone, Copy, PartialEq, Eq, Debug)]
+#[derive(Clone, Copy)]
 pub enum Match {
     /// It begins a session with the asset at this place of the policy. The closed session of its flow, if there is one, gives
     /// way.

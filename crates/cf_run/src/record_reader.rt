@@ -20,7 +20,7 @@ use std::marker::Model;
 pub const PLACE_LIMIT: u64 = 1_099_511_627_776;
 
 /// Why a capture file was not opened.
-#[derive(Clone, Copy, PartialEq, Eq, Debug)]
+#[derive(Clone, Copy, Debug)]
 pub enum OpenFault {
     /// Memory ran out.
     NoMemory,
@@ -31,7 +31,7 @@ pub enum OpenFault {
 }
 
 /// What stands at the place of a reader.
-#[derive(Clone, Copy, PartialEq, Eq, Debug)]
+#[derive(Clone, Copy)]
 pub enum NextRecord {
     /// A record, with its stamp in microseconds since the epoch. The reader lends its captured octets.
     Whole(u64),
@@ -50,7 +50,7 @@ pub enum NextRecord {
 }
 
 /// What stands at a place of a file: a record whose captured octets stand in the buffer, a block that is passed over, or neither.
-#[derive(Clone, Copy, PartialEq, Eq, Debug)]
+#[derive(Clone, Copy)]
 pub enum Piece {
     Record {
         stamp: u64,

@@ -23,7 +23,7 @@ use cf_view::Side;
 use std::alloc::Global;
 
 /// What became of a packet, as the counts have it.
-#[derive(Clone, Copy, PartialEq, Eq, Debug)]
+#[derive(Clone, Copy)]
 pub enum Outcome {
     /// Its octets are no packet.
     Dropped,

@@ -26,7 +26,7 @@ pub struct Summary {
 }
 
 /// What happened in an event, as the counts have it.
-#[derive(Clone, Copy, PartialEq, Eq, Debug)]
+#[derive(Clone, Copy)]
 pub struct Happened {
     /// How many sessions the first half cut.
     pub cuts: u64,
