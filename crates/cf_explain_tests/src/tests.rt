@@ -1,5 +1,7 @@
-//! What policies mean, what they say about acts, what the log says of it, and what is said of typical mistakes: rows of text.
+//! What policies mean, what they say about acts, how two compare, what the log says, and what is said of typical mistakes: rows of
+//! text.
 mod changes;
+mod compare;
 mod lines;
 mod policies;
 mod refused;
@@ -34,6 +36,10 @@ enum Subject {
     Index,
     /// A line of the log.
     Line,
+    /// What the comparison of two policies says.
+    Comparison,
+    /// How many cells the first assets of two policies have.
+    Cells,
 }
 
 /// What is found of what a row gives.
@@ -49,6 +55,8 @@ fn found(alloc: Global, subject: Subject, given: &str) -> Result<String, Fail> {
         Subject::Verdict => verdicts::decided(alloc, given),
         Subject::Index => verdicts::indexed(alloc, given),
         Subject::Line => lines::line(alloc, given),
+        Subject::Comparison => compare::compared(alloc, given),
+        Subject::Cells => compare::counted(alloc, given),
     }
 }
 
@@ -108,6 +116,15 @@ fn rules_decide(rt: HostRuntime) -> Result<(), Fail> {
     let alloc = rt.alloc();
     play_lines(&rt, alloc, Subject::Verdict, verdicts::ACTS)?;
     play_lines(&rt, alloc, Subject::Index, verdicts::INDEXES)
+}
+
+#[test]
+fn policies_are_compared(rt: HostRuntime) -> Result<(), Fail> {
+    let alloc = rt.alloc();
+    let rows = compare::COMPARISONS.replace(alloc, "\n    ", " ")?;
+    play_lines(&rt, alloc, Subject::Comparison, &rows)?;
+    let rows = compare::CELLS.replace(alloc, "\n    ", " ")?;
+    play_lines(&rt, alloc, Subject::Cells, &rows)
 }
 
 #[test]

@@ -1,0 +1,9 @@
+mod Lists
+mod CornerLists
+mod Capped
+mod Floor
+mod SameRules
+mod Least
+mod Found
+mod Lookup
+mod Whole

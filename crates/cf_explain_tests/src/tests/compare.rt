@@ -1,0 +1,153 @@
+//! Comparisons of two policies, and how many cells the first assets of two have: by hand from what each is said to mean.
+ghost use Rattle.std.specs.Prelude.{IfOk};
+ghost use Rattle.cf_policy.specs.Within.{IsWithin};
+
+use crate::tests::changes::policy_octets;
+use cf_compare::{cells, compare};
+use cf_policy::Policy;
+use cf_policylang::read_policy;
+use std::alloc::Global;
+use std::fmt::Write;
+use std::test::Fail;
+
+/// A policy with a word before each line that the rows replace. `more` stands before the first asset, `last` behind it.
+const LINES: &str = r#"version: version = 1
+more:
+: [[asset]]
+name: name = "pump"
+address: address = "10.0.0.9"
+port: port = 502
+protocol: protocol = "modbus"
+station: station = 1
+master:
+poll: [[asset.rule]] / name = "poll" / action = "allow" / codes = [3]
+set: [[asset.rule]] / name = "set" / action = "allow" / codes = [6, 16]
+points: points = ["40..49"]
+values: values = ["0..500"]
+last:"#;
+
+/// A row: the changes of the first policy, `-` for none, those of the second, and what their comparison says. `@numbers` and
+/// `@addresses` are 64 of them that do not touch. A line that begins with four spaces goes on with the one before it.
+pub(super) const COMPARISONS: &str = r#"- ; - => Ok(Included)
+text: version = 1 / asset = [] ; - => Ok(Included)
+- ; text: version = 1 / asset = [] => Ok(Missing(0))
+poll: [[asset.rule]] / name = "r1" / action = "allow" / clients = ["10.0.0.5"] / codes = [3] / groups = ["0"] / points =
+    ["0..1"] | set: [[asset.rule]] / name = "r2" / action = "allow" / clients = ["10.0.0.5"] / codes = [6] / groups = ["0"] |
+    points: points = ["40"] | values: values = ["100"] ; - => Ok(Included)
+- ; poll: [[asset.rule]] / name = "r1" / action = "allow" / clients = ["10.0.0.5"] / codes = [3] / groups = ["0"] / points =
+    ["0..1"] => Ok(Shown { asset: 0, client: 0, act: Act { code: 3, group: 0, point: 0, value: None } })
+- ; values: values = ["0..400"] => Ok(Shown { asset: 0, client: 0, act: Act { code: 6, group: 0, point: 40, value: Some(401) } })
+values: values = ["0..400"] ; - => Ok(Included)
+- ; values: values = ["-5..399", "401..500"] => Ok(Shown { asset: 0, client: 0, act: Act { code: 6, group: 0, point: 40,
+    value: Some(400) } })
+values: ; - => Ok(Shown { asset: 0, client: 0, act: Act { code: 6, group: 0, point: 40, value: None } })
+values: ; values: values = ["-2147483648..4294967295"] => Ok(Shown { asset: 0, client: 0, act: Act { code: 6, group: 0, point:
+    40, value: None } })
+values: values = ["-7..500"] ; - => Ok(Shown { asset: 0, client: 0, act: Act { code: 6, group: 0, point: 40, value: Some(-7) } })
+- ; points: points = ["40..44", "46..49"] => Ok(Shown { asset: 0, client: 0, act: Act { code: 6, group: 0, point: 45, value:
+    Some(0) } })
+- ; points: groups = ["0..6", "8..65535"] / points = ["40..49"] => Ok(Shown { asset: 0, client: 0, act: Act { code: 6, group:
+    7, point: 40, value: Some(0) } })
+- ; points: clients = ["0.0.0.0..10.0.0.4", "10.0.0.6..255.255.255.255"] / points = ["40..49"] => Ok(Shown { asset: 0, client:
+    167772165, act: Act { code: 6, group: 0, point: 40, value: Some(0) } })
+points: points = ["0..4294967295"] ; points: points = ["0..4294967294"] => Ok(Shown { asset: 0, client: 0, act: Act { code: 6,
+    group: 0, point: 4294967295, value: Some(0) } })
+poll: [[asset.rule]] / name = "poll" / action = "allow" / clients = ["10.0.0.5"] / codes = [3] ; poll: | set: | points: |
+    values: => Ok(Shown { asset: 0, client: 167772165, act: Act { code: 3, group: 0, point: 0, value: None } })
+- ; points: points = ["40..49"] | set: [[asset.rule]] / name = "set" / action = "allow" / codes = [6] => Ok(Shown { asset: 0,
+    client: 0, act: Act { code: 16, group: 0, point: 40, value: Some(0) } })
+- ; poll: [[asset.rule]] / name = "no" / action = "refuse" / codes = [3] / points = ["7"] / [[asset.rule]] / name = "poll" /
+    action = "allow" / codes = [3] => Ok(Shown { asset: 0, client: 0, act: Act { code: 3, group: 0, point: 7, value: None } })
+- ; values: values = ["0..500"] / [[asset.rule]] / name = "no" / action = "refuse" / codes = [3, 6, 16] => Ok(Included)
+poll: [[asset.rule]] / name = "no" / action = "refuse" / codes = [3] / points = ["7"] / [[asset.rule]] / name = "poll" /
+    action = "allow" / codes = [3] ; poll: [[asset.rule]] / name = "poll" / action = "allow" / codes = [3] / points = ["0..6",
+    "8..4294967295"] => Ok(Included)
+- ; values: values = ["0..500"] / most = 1 / seconds = 60 => Ok(Included)
+values: values = ["0..500"] / most = 1 / seconds = 60 ; - => Ok(Included)
+- ; name: name = "pomp" => Ok(Missing(0))
+- ; address: address = "10.0.0.8" => Ok(Missing(0))
+- ; port: port = 503 => Ok(Missing(0))
+- ; protocol: protocol = "iec104" => Ok(Missing(0))
+- ; station: station = 2 => Ok(Missing(0))
+protocol: protocol = "dnp3" | master: master = 1 ; protocol: protocol = "dnp3" | master: master = 2 => Ok(Missing(0))
+- ; more: [[asset]] / name = "a" / address = "10.0.0.7" / port = 502 / protocol = "modbus" / station = 1 => Ok(Included)
+last: [[asset]] / name = "b" / address = "10.0.0.7" / port = 502 / protocol = "modbus" / station = 1 ; - => Ok(Missing(1))
+last: [[asset]] / name = "b" / address = "10.0.0.7" / port = 502 / protocol = "modbus" / station = 1 ; values: values =
+    ["0..400"] => Ok(Shown { asset: 0, client: 0, act: Act { code: 6, group: 0, point: 40, value: Some(401) } })
+more: [[asset]] / name = "a" / address = "10.0.0.7" / port = 502 / protocol = "modbus" / station = 1 ; more: [[asset]] / name
+    = "a" / address = "10.0.0.7" / port = 502 / protocol = "modbus" / station = 1 | values: values = ["0..400"] => Ok(Shown {
+    asset: 1, client: 0, act: Act { code: 6, group: 0, point: 40, value: Some(401) } })
+poll: [[asset.rule]] / name = "many" / action = "allow" / codes = [3] / clients = [@addresses] / groups = [@numbers] / points
+    = [@numbers] / values = [@numbers] | set: | points: | values: ; poll: [[asset.rule]] / name = "many" / action = "allow" /
+    codes = [3] / clients = [@addresses] / groups = [@numbers] / points = [@numbers] / values = [@numbers] | set: | points: |
+    values: => Err(Cells(0))
+poll: [[asset.rule]] / name = "many" / action = "allow" / codes = [3] / clients = [@addresses] / groups = [@numbers] / points
+    = [@numbers] ; name: name = "pomp" => Ok(Missing(0))
+poll: [[asset.rule]] / name = "some" / action = "allow" / codes = [3] / clients = [@addresses] / points = [@numbers] ; poll:
+    [[asset.rule]] / name = "some" / action = "allow" / codes = [3] / clients = [@addresses] / points = [@numbers] =>
+    Ok(Included)"#;
+
+/// A row: the same, and the number of cells of the first assets.
+pub(super) const CELLS: &str =
+    r#"poll: | set: | points: | values: ; poll: | set: | points: | values: => 512
+- ; poll: | set: | points: | values: => 532
+poll: | set: | points: | values: ; - => 532
+- ; - => 532
+poll: [[asset.rule]] / name = "a" / action = "allow" / clients = ["10.0.0.5"] / codes = [3] | set: | points: | values: ; poll:
+    | set: | points: | values: => 516
+poll: [[asset.rule]] / name = "a" / action = "refuse" / codes = [3] / points = ["4294967290..4294967295"] | set: | points: |
+    values: ; poll: | set: | points: | values: => 514
+poll: [[asset.rule]] / name = "a" / action = "allow" / codes = [3] / values = ["-2147483648..-1"] | set: | points: | values: ;
+    poll: | set: | points: | values: => 513
+poll: [[asset.rule]] / name = "a" / action = "allow" / codes = [3] / points = ["40..49"] | set: | points: | values: ; poll:
+    [[asset.rule]] / name = "a" / action = "allow" / codes = [3] / points = ["50..59"] | set: | points: | values: => 518
+poll: [[asset.rule]] / name = "a" / action = "allow" / codes = [3] / groups = ["0", "7..8"] / points = ["0"] | set: | points:
+    | values: ; poll: | set: | points: | values: => 526
+poll: [[asset.rule]] / name = "many" / action = "allow" / codes = [3] / clients = [@addresses] / groups = [@numbers] / points
+    = [@numbers] / values = [@numbers] | set: | points: | values: ; - => 1000001"#;
+
+/// What the comparison of two policies says.
+pub(super) fn compared(alloc: Global, given: &str) -> Result<String, Fail> {
+    let (ours, other) = given.split_once(" ; ").unwrap_or((given, given));
+    let ours = policy(alloc, ours)?;
+    let other = policy(alloc, other)?;
+    let found = compare(alloc, &ours, &other);
+    Ok(format!(in alloc; "{found:?}")?)
+}
+
+/// The number of cells of the first assets of two policies.
+pub(super) fn counted(alloc: Global, given: &str) -> Result<String, Fail> {
+    let (ours, other) = given.split_once(" ; ").unwrap_or((given, given));
+    let ours = policy(alloc, ours)?;
+    let other = policy(alloc, other)?;
+    let (Some(ours), Some(other)) = (
+        ours.assets.as_slice().first(),
+        other.assets.as_slice().first(),
+    ) else {
+        return Err("no asset".into());
+    };
+    match cells(alloc, ours, other) {
+        Ok(count) => Ok(format!(in alloc; "{count}")?),
+        Err(_) => Err("no memory".into()),
+    }
+}
+
+/// The policy that has these changes.
+fn policy(alloc: Global, changes: &str) -> Result<Policy, Fail>
+    ensures { IfOk result (λ p. IsWithin p) }
+{
+    let changes = changes.replace(alloc, "@addresses", &entries(alloc, "0.0.0.")?)?;
+    let changes = changes.replace(alloc, "@numbers", &entries(alloc, "")?)?;
+    let octets = policy_octets(alloc, LINES, &changes)?;
+    Ok(read_policy(alloc, octets.as_slice())?)
+}
+
+/// Entries of a list, each behind this front, that do not touch.
+fn entries(alloc: Global, front: &str) -> Result<String, Fail> {
+    let mut text = String::new(alloc);
+    for place in 0..64u32 {
+        let number = 3 * place + 1;
+        write!(&mut text, "\"{front}{number}\", ")?;
+    }
+    Ok(text)
+}
