@@ -134,16 +134,11 @@ pub fn packet(rt: &impl Abort, alloc: Global, origins: &Origins, spelled: &str) 
         return octets(alloc, spelled).expect(rt, spelled);
     }
     let segment = read_segment(rt, alloc, origins, spelled);
-    assert!(rt;
-        segment.text.len() <= 1460 && segment.flags < 64,
-        "{spelled}"
-    );
-    assert!(rt;
-        segment.mss.is_none() || segment.text.is_empty(),
-        "{spelled}"
-    );
+    let packet = segment.packet();
+    assert!(rt; packet.text.len() <= 1460 && packet.flags < 64, "{spelled}");
+    assert!(rt; packet.mss.is_none() || packet.text.is_empty(), "{spelled}");
     let mut octets = ArrayVec::new();
-    write_packet(&segment.packet(), &mut octets);
+    write_packet(&packet, &mut octets);
     octets.as_slice().to_vec(alloc).expect(rt, "memory")
 }
 
