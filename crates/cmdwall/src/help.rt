@@ -71,8 +71,9 @@ filters a stored stream of one client
 
 All names of files differ. Standard output has the numbers of admitted and refused commands.
 
-example:
+examples, the second with a rule that says how often:
   cmdwall sift examples/pump.toml pump 10.0.0.5 examples/requests.bin out.bin replies.bin log.txt
+  cmdwall sift examples/paced.toml tank 10.0.0.5 examples/openings.bin out.bin replies.bin log.txt
 ";
 
 const CHECK: &str = "\
@@ -98,7 +99,7 @@ cmdwall packets CAPTURE
 prints a line for each record of a capture: its number and moment, and the fields of its TCP
 segment over IPv4, or why it has none
 
-  CAPTURE  a classic pcap file, of Ethernet or raw IP
+  CAPTURE  a pcap or pcapng file, of Ethernet or raw IP
 
 'editcap -F pcap IN OUT' writes other captures as pcap. Where many records are dropped for
 'badsum' or 'badtcpsum', the capture was made on the machine that sent them, and its card
@@ -114,7 +115,7 @@ cmdwall run POLICY CAPTURE OUT LOG
 runs a policy over a capture of what reached the two ports of the box
 
   POLICY   a text in the policy language (docs/POLICY.md)
-  CAPTURE  a classic pcap file, of Ethernet or raw IP
+  CAPTURE  a pcap or pcapng file, of Ethernet or raw IP
   OUT      is created, and gets the packets that the box sends, as a capture
   LOG      is created, and gets a line for each session that begins, closes or is cut, and for
            each refused command (docs/LOG.md)
