@@ -40,8 +40,15 @@ cut n rest h = finds_mark [] (decimal n) rest refl (plain n h)
 
 four_read : (a b c d : ℕ) → a < 256 → b < 256 → c < 256 → d < 256 → address (four a b c d) ≡ Some (joined a b c d)
 four_read a b c d ha hb hc hd =
-    rw (cut a (decimal b ++ (46 ∷ (decimal c ++ (46 ∷ decimal d)))) ha, cut b (decimal c ++ (46 ∷ decimal d)) hb, cut c (decimal d) hc,
-    octet_read a ha, octet_read b hb, octet_read c hc, octet_read d hd) refl
+    rw (
+      cut a (decimal b ++ (46 ∷ (decimal c ++ (46 ∷ decimal d)))) ha,
+      cut b (decimal c ++ (46 ∷ decimal d)) hb,
+      cut c (decimal d) hc,
+      octet_read a ha,
+      octet_read b hb,
+      octet_read c hc,
+      octet_read d hd,
+    ) refl
 
 joined_whole : (n : ℕ) → joined (n / 16777216) (n / 65536 % 256) (n / 256 % 256) (n % 256) ≡ n
 joined_whole n = omega arith
@@ -156,6 +163,6 @@ addresses_read k p s w =
           ∙ same_span s (pos (nat_abs s.low)) (pos (nat_abs s.high)) first last
     ]
     refl
-    where
-      same_span : (s : Span) (y z : ℤ) → s.low ≡ y → s.high ≡ z → ◌≡◌ {A = Tested Span} (Ok (record { low = y; high = z })) (Ok s)
-      same_span s y z a b = rw (← a, ← b) refl
+  where
+    same_span : (s : Span) (y z : ℤ) → s.low ≡ y → s.high ≡ z → ◌≡◌ {A = Tested Span} (Ok (record { low = y; high = z })) (Ok s)
+    same_span s y z a b = rw (← a, ← b) refl

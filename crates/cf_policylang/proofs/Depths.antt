@@ -53,11 +53,28 @@ master_shallow Iec104 n = tt
 rule_shallow : (ls : List (List Span)) (r : Rule) → members_depth (rule_table ls r) ≤ 1
 rule_shallow ls r =
     subst (λ ms. members_depth ms ≤ 1) (sym (rule_built ls r))
-    (built_shallow 1 (rule_given ls r)
-    (seconds_shallow r.rate, (most_shallow r.rate, (list_shallow 1 (texts number_text r.values) (texts_shallow number_text r.values),
-    (list_shallow 1 (point_items ls r.points) (points_shallow r.points (set_place ls r.points)), (list_shallow 1 (texts number_text r.groups) (texts_shallow number_text r.groups),
-    (list_shallow 1 (numbers r.codes) (codes_shallow r.codes), (list_shallow 1 (texts address_text r.clients) (texts_shallow address_text r.clients),
-    (omega arith, (omega arith, tt))))))))))
+    (built_shallow 1 (rule_given ls r) (
+      seconds_shallow r.rate,
+      (
+        most_shallow r.rate,
+        (
+          list_shallow 1 (texts number_text r.values) (texts_shallow number_text r.values),
+          (
+            list_shallow 1 (point_items ls r.points) (points_shallow r.points (set_place ls r.points)),
+            (
+              list_shallow 1 (texts number_text r.groups) (texts_shallow number_text r.groups),
+              (
+                list_shallow 1 (numbers r.codes) (codes_shallow r.codes),
+                (
+                  list_shallow 1 (texts address_text r.clients) (texts_shallow address_text r.clients),
+                  (omega arith, (omega arith, tt)),
+                ),
+              ),
+            ),
+          ),
+        ),
+      ),
+    ))
 
 rules_shallow : (ls : List (List Span)) (rs : List Rule) → items_depth (rule_tables ls rs) < 3
 rules_shallow ls rs =
@@ -67,9 +84,13 @@ rules_shallow ls rs =
 asset_shallow : (ls : List (List Span)) (a : Asset) → members_depth (asset_table ls a) ≤ 3
 asset_shallow ls a =
     subst (λ ms. members_depth ms ≤ 3) (sym (asset_built ls a))
-    (built_shallow 3 (asset_given ls a)
-    (list_shallow 3 (rule_tables ls a.rules) (rules_shallow ls a.rules), (master_shallow a.protocol a.master,
-    (omega arith, (omega arith, (omega arith, (omega arith, (omega arith, tt))))))))
+    (built_shallow 3 (asset_given ls a) (
+      list_shallow 3 (rule_tables ls a.rules) (rules_shallow ls a.rules),
+      (
+        master_shallow a.protocol a.master,
+        (omega arith, (omega arith, (omega arith, (omega arith, (omega arith, tt))))),
+      ),
+    ))
 
 assets_shallow : (ls : List (List Span)) (own : List Asset) → items_depth (asset_tables ls own) ≤ 4
 assets_shallow ls own = items_shallow 4 (λ (a : Asset). table (asset_table ls a)) (λ a. let each = asset_shallow ls a in omega arith) own

@@ -62,7 +62,6 @@ abbrev pub naming : List (List Span) → Named
 naming ls = record { edition = edition.Second; sets = sets_of 0 ls }
 
 module _ (ls : List (List Span)) (few : length ls ≤ 64) (p : Place) where
-
   entry_read : (s : Span) → IsPoint s → point_entry (naming ls) p (string (number_text s)) ≡ Ok (s ∷ [])
   entry_read s w = rw (number_unmarked s w, point_read s w) refl
 
@@ -126,9 +125,9 @@ module _ (ls : List (List Span)) (few : length ls ≤ 64) (p : Place) where
       let low : s.low ≡ t.low = (Decides-int_eq s.low t.low).0 parts.0 in
       let high : s.high ≡ t.high = (Decides-int_eq s.high t.high).0 parts.1 in
       record_same s t low high
-      where
-        record_same : (s t : Span) → s.low ≡ t.low → s.high ≡ t.high → s ≡ t
-        record_same s t low high = ap (λ z. record { low = z; high = s.high }) low ∙ ap (λ z. record { low = t.low; high = z }) high
+    where
+      record_same : (s t : Span) → s.low ≡ t.low → s.high ≡ t.high → s ≡ t
+      record_same s t low high = ap (λ z. record { low = z; high = s.high }) low ∙ ap (λ z. record { low = t.low; high = z }) high
 
   same_list : (a b : List Span) → are_same a b ≡ true → a ≡ b
   same_list [] [] e = refl

@@ -31,7 +31,7 @@ get_own : (k : List ℕ) (d : Data) (ms : Members) → get_member k (with_member
 get_own k d no_members = rw (same_key k) refl
 get_own k d (member l e ms) =
     elim (slice_cmp nat_cmp k l) as (λ o. slice_cmp nat_cmp k l ≡ o
-        → get_member k (match_ordering o (member k d (member l e ms)) (member l d ms) (member l e (with_member k d ms))) ≡ Some d) [
+    → get_member k (match_ordering o (member k d (member l e ms)) (member l d ms) (member l e (with_member k d ms))) ≡ Some d) [
       | Less ↦ λ h. rw (same_key k) refl
       | Equal ↦ λ h. rw h refl
       | Greater ↦ λ h. rw h (get_own k d ms)
@@ -43,7 +43,7 @@ get_other : (k l : List ℕ) (d : Data) (ms : Members) → slice_cmp nat_cmp k l
 get_other k l d no_members ne = skip (slice_cmp nat_cmp k l) None (Some d) ne
 get_other k l d (member m e ms) ne =
     elim (slice_cmp nat_cmp l m) as (λ o. slice_cmp nat_cmp l m ≡ o
-        → get_member k (match_ordering o (member l d (member m e ms)) (member m d ms) (member m e (with_member l d ms))) ≡ get_member k (member m e ms)) [
+    → get_member k (match_ordering o (member l d (member m e ms)) (member m d ms) (member m e (with_member l d ms))) ≡ get_member k (member m e ms)) [
       | Less ↦ λ h. skip (slice_cmp nat_cmp k l) (get_member k (member m e ms)) (Some d) ne
       | Equal ↦ λ h.
           let apart : slice_cmp nat_cmp k m ≢ Equal = subst (λ x. slice_cmp nat_cmp k x ≢ Equal) (exact_bytes l m h) ne in
@@ -125,10 +125,10 @@ put_here : (k l : Key) (o : Option Data) (gs : List Given) → is_same_key k l �
 put_here k l o gs same apart =
     let text : key_text k ≡ key_text l = exact_bytes (key_text k) (key_text l) (is_equal (slice_cmp nat_cmp (key_text k) (key_text l)) same) in
     ap (λ t. get_member t (put l o (built gs))) text ∙ here o
-    where
-      here : (own : Option Data) → stated l (put l own (built gs)) ≡ own
-      here None = missing l gs apart
-      here (Some d) = get_own (key_text l) d (built gs)
+  where
+    here : (own : Option Data) → stated l (put l own (built gs)) ≡ own
+    here None = missing l gs apart
+    here (Some d) = get_own (key_text l) d (built gs)
 
 -- at each key stands what was given to it
 pub stated_at : (k : Key) (gs : List Given) → are_apart gs ≡ true → stated k (built gs) ≡ given_at k gs
