@@ -1,6 +1,5 @@
 -- What was written of an address or of a range of addresses is read as that.
-use Rattle.std.proofs.Common.{◌≡◌, ◌≢◌, ◌∙◌, ℕ, suc, ◌+◌, ◌*◌, ◌/◌, ◌%◌, ◌<◌, ◌≤◌, ◌^◌, ℤ, pos, negsuc, nat_abs, ◌≤ℤ◌, int_le, int_eq, ◌⊎◌, inl, inr, true, false, Bool, if◌then◌else◌, List, [], ◌∷◌, ◌++◌, length, Option, Some, None, Ok, unwrap_or, option_map, ap, sym, refl, arith, w64, FitsSigned, nat_eq, codes, append_assoc, append-nil, subst}
-use mathlib.Core.Logic.{⊎_elim}
+use Rattle.std.proofs.Common.{◌≡◌, ◌≢◌, ◌∙◌, ℕ, suc, ◌/◌, ◌%◌, ◌<◌, ◌≤◌, ◌^◌, ℤ, pos, negsuc, nat_abs, ◌≤ℤ◌, int_le, int_eq, ◌⊎◌, inl, inr, true, false, if◌then◌else◌, List, [], ◌∷◌, ◌++◌, length, Some, None, Ok, unwrap_or, option_map, ap, sym, refl, arith, w64, FitsSigned, nat_eq, codes, append_assoc, append-nil, subst}
 use Rattle.std.specs.Fmt.{decimal}
 use Rattle.std.specs.List.{starts_with}
 use Rattle.std.proofs.lemmas.Bool.{and_right}
@@ -13,9 +12,9 @@ use Rattle.cf_policy.specs.Within.{IsSpanWithin, highest_address}
 use Rattle.cf_policylang.specs.declared.refusal.Key.{Key}
 use Rattle.cf_policylang.specs.declared.refusal.Place.{Place}
 use Rattle.cf_policylang.specs.Lists.{address_span}
-use Rattle.cf_policylang.specs.Numbers.{address, ends, joined, octet, octets, span, split_at_mark}
+use Rattle.cf_policylang.specs.Numbers.{address, ends, joined, octet, split_at_mark}
 use Rattle.cf_policylang.specs.Spelling.{address_text}
-use Rattle.cf_policylang.specs.Tested.{Tested, and_then}
+use Rattle.cf_policylang.specs.Tested.{Tested}
 use Rattle.cf_policylang.proofs.ReadBack.{IsPlain, finds_mark, in_range_read, not_here, plain_digits}
 
 -- ---- one address

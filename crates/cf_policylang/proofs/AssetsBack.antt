@@ -1,10 +1,10 @@
 -- Assets that were written are read as they were.
-use Rattle.std.proofs.Common.{◌≡◌, ◌≢◌, ◌∙◌, ℕ, ◌+◌, ◌^◌, ◌<◌, ◌≤◌, ◌==◌, ◌&&◌, nat_lt, nat_le, pos, true, false, Bool, if◌then◌else◌, List, [], ◌∷◌, ◌++◌, length, get_or, Option, Some, None, is_some, Ok, ap, subst, sym, refl, arith, bytes_eq, codes, AllPairs}
+use Rattle.std.proofs.Common.{◌≡◌, ◌≢◌, ◌∙◌, ℕ, ◌^◌, ◌<◌, ◌≤◌, ◌==◌, nat_le, pos, true, false, List, [], ◌∷◌, ◌++◌, length, get_or, Option, Some, None, Ok, ap, subst, refl, arith, bytes_eq, AllPairs}
 use Rattle.std.specs.List.{All, list_any}
 use Rattle.std.proofs.lemmas.Bool.{and_parts, eqb-true, false_from_ne_true}
 use Rattle.std.proofs.lemmas.Bool.Decides.{nat_tests}
 use Rattle.std.proofs.lemmas.List.Folds.{list_any_none}
-use Rattle.toml.specs.Data.{Data, string, integer, array, table, Members, no_members}
+use Rattle.toml.specs.Data.{Data, string, integer, Members, no_members}
 use Rattle.cf_view.specs.declared.base.Endpoint.{Endpoint}
 use Rattle.cf_view.specs.Text.{dotted}
 use Rattle.cf_policy.specs.declared.policy.Asset.{Asset}
@@ -19,10 +19,9 @@ use Rattle.cf_policylang.specs.declared.refusal.Key.{Key}
 use Rattle.cf_policylang.specs.declared.refusal.Key.TheVariants as key
 use Rattle.cf_policylang.specs.declared.refusal.Place.{Place}
 use Rattle.cf_policylang.specs.Fields.{has_other, name, stated}
-use Rattle.cf_policylang.specs.Numbers.{address}
 use Rattle.cf_policylang.specs.Rules.{rules}
 use Rattle.cf_policylang.specs.Spelling.{asset_table, asset_tables, protocol_text, rule_tables, with_key, with_master}
-use Rattle.cf_policylang.specs.Tested.{Tested, and_then, at_asset, at_document, or_refused}
+use Rattle.cf_policylang.specs.Tested.{at_asset, at_document, or_refused}
 use Rattle.cf_policylang.proofs.AddressesBack.{address_read}
 use Rattle.cf_policylang.proofs.ListsBack.{and_then_ok, list_step, some_list, tables_read}
 use Rattle.cf_policylang.proofs.Middles.{middle, none_before, pairs_before}

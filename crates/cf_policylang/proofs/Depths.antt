@@ -1,7 +1,7 @@
 -- A policy's table nests no deeper than TOML is read.
-use Rattle.std.proofs.Common.{◌≡◌, ℕ, suc, ◌≤◌, ◌<◌, max, pos, Bool, List, [], ◌∷◌, map, Option, Some, None, IfSome, option_map, subst, sym, refl, arith}
+use Rattle.std.proofs.Common.{ℕ, ◌≤◌, ◌<◌, List, [], ◌∷◌, map, Option, Some, None, IfSome, subst, sym, arith}
 use Rattle.std.specs.List.{enumerate_from}
-use Rattle.toml.specs.Data.{Data, depth, items_depth, members_depth, string, integer, array, table, Items, no_items, item}
+use Rattle.toml.specs.Data.{Data, depth, items_depth, members_depth, string, integer, table, Items, no_items, item}
 use Rattle.toml.specs.View.{items_of}
 use Rattle.cf_policy.specs.declared.policy.Asset.{Asset}
 use Rattle.cf_policy.specs.declared.policy.Policy.{Policy}
@@ -16,8 +16,8 @@ use Rattle.cf_policylang.proofs.AssetsBack.{asset_built, asset_given, master_giv
 use Rattle.cf_policylang.proofs.DocumentsBack.{document_built, document_given}
 use Rattle.cf_policylang.proofs.ListsBack.{some_list}
 use Rattle.cf_policylang.proofs.RulesBack.{most_given, rule_built, rule_given, seconds_given}
-use Rattle.cf_policylang.proofs.SetsBack.{set_given, set_members, sets_of, set_built, tables_of}
-use Rattle.cf_policylang.proofs.Stated.{AreShallow, built, built_shallow}
+use Rattle.cf_policylang.proofs.SetsBack.{set_given, set_built}
+use Rattle.cf_policylang.proofs.Stated.{built, built_shallow}
 
 items_shallow : {A : Type 0} (n : ℕ) (spell : A → Data) → ((x : A) → depth (spell x) ≤ n) → (xs : List A) → items_depth (items_of (map spell xs)) ≤ n
 items_shallow n spell each [] = omega arith

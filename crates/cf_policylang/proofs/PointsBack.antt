@@ -1,35 +1,29 @@
 -- The points of a rule that were written, by their set's name too, are read as they were.
-use Rattle.std.proofs.Common.{◌≡◌, ◌≢◌, ◌∙◌, ℕ, zero, suc, ◌+◌, ◌<◌, ◌≤◌, nat_lt, nat_eq, ℤ, pos, negsuc, int_eq, true, false, Bool, not, ◌&&◌, if◌then◌else◌, List, [], ◌∷◌, ◌++◌, length, get_or, drop, map, find, Option, Some, None, option_map, Ok, ap, subst, sym, refl, arith, append_assoc, append-nil, length-append, w64, FitsSigned, bytes_eq, codes}
+use Rattle.std.proofs.Common.{◌≡◌, ◌∙◌, ℕ, zero, suc, ◌+◌, ◌<◌, ◌≤◌, nat_lt, nat_eq, ℤ, pos, negsuc, int_eq, true, false, not, if◌then◌else◌, List, [], ◌∷◌, ◌++◌, length, get_or, Some, None, Ok, ap, subst, sym, refl, arith, append_assoc, append-nil, length-append, w64, FitsSigned, bytes_eq, codes}
 use Rattle.std.specs.Fmt.{decimal, signed_decimal}
-use Rattle.std.specs.List.{All, flat_map, starts_with}
+use Rattle.std.specs.List.{All, starts_with}
 use Rattle.std.specs.Str.Parse.{AllDigits}
 use Rattle.std.proofs.lemmas.Bool.{and_parts, false_from_ne_true, true≢false}
 use Rattle.std.proofs.lemmas.Bool.Decides.{nat_tests, Decides-int_eq}
-use Rattle.std.proofs.lemmas.Fmt.{decimal_is_IsNumeral, decimal_nonempty}
+use Rattle.std.proofs.lemmas.Fmt.{decimal_is_IsNumeral}
 use Rattle.std.proofs.lemmas.Int.{ints}
-use Rattle.std.proofs.lemmas.List.Elements.{All-append, All-head, All-map, All-nil, All-push, All-tail}
+use Rattle.std.proofs.lemmas.List.Elements.{All-head, All-push, All-tail}
 use Rattle.std.proofs.lemmas.List.Quantifiers.{position-Some}
 use Rattle.std.proofs.lemmas.Slice.Eq.{bytes_eq-Decides}
 use Rattle.std.proofs.lemmas.Str.Parse.{digit_from_value}
-use Rattle.toml.specs.Data.{Data, string, array, Items, no_items, item}
-use Rattle.toml.specs.View.{items_of}
+use Rattle.toml.specs.Data.{string, array, Items, no_items}
 use Rattle.cf_policy.specs.declared.policy.Span.{Span}
-use Rattle.cf_policy.specs.Names.{is_name}
 use Rattle.cf_policy.specs.Verdict.{is_empty}
-use Rattle.cf_policy.specs.Within.{IsSpanWithin, highest_point}
+use Rattle.cf_policy.specs.Within.{highest_point}
 use Rattle.cf_policylang.specs.declared.fields.Kind.TheVariants as kind
-use Rattle.cf_policylang.specs.declared.refusal.Cause.TheVariants as cause
 use Rattle.cf_policylang.specs.declared.refusal.Key.TheVariants as key
 use Rattle.cf_policylang.specs.declared.refusal.Place.{Place}
 use Rattle.cf_policylang.specs.declared.sets.Edition.TheVariants as edition
 use Rattle.cf_policylang.specs.declared.sets.Named.{Named}
-use Rattle.cf_policylang.specs.declared.sets.PointSet.{PointSet}
 use Rattle.cf_policylang.specs.Lists.{listed}
-use Rattle.cf_policylang.specs.Migrating.{gets_set, has_list, sets_behind, with_set}
-use Rattle.cf_policylang.specs.Numbers.{number_span}
-use Rattle.cf_policylang.specs.Sets.{own_span, point_entry, points_from, points_if_any, points_named, set_spans, stated_points}
+use Rattle.cf_policylang.specs.Migrating.{gets_set, sets_behind, with_set}
+use Rattle.cf_policylang.specs.Sets.{point_entry, points_from, points_if_any, points_named, stated_points}
 use Rattle.cf_policylang.specs.Spelling.{are_same, is_same_span, number_text, point_items, points_at, set_place, set_text, texts}
-use Rattle.cf_policylang.specs.Tested.{Tested, and_then, or_refused}
 use Rattle.cf_policylang.proofs.ListsBack.{and_then_ok, listed_read, some_list}
 use Rattle.cf_policylang.proofs.Printed.{fits}
 use Rattle.cf_policylang.proofs.SetsBack.{IsPoint, IsSetList, point_read, set_text_is_name, set_text_same, sets_of}

@@ -1,5 +1,5 @@
 -- What was written of a number or of a range of numbers is read as that.
-use Rattle.std.proofs.Common.{◌≡◌, ◌≢◌, ◌∙◌, ℕ, suc, ◌<◌, ◌==◌, ◌&&◌, ℤ, pos, negsuc, neg_ℤ, ◌≤ℤ◌, int_le, true, false, Bool, if◌then◌else◌, List, [], ◌∷◌, ◌++◌, length, All, Some, None, unwrap_or, ap, refl, arith, w64, FitsSigned, bytes_eq, nat_eq, codes, int_eq}
+use Rattle.std.proofs.Common.{◌≡◌, ◌≢◌, ◌∙◌, ℕ, suc, ◌<◌, ◌==◌, ◌&&◌, ℤ, pos, negsuc, neg_ℤ, ◌≤ℤ◌, int_le, true, false, if◌then◌else◌, List, [], ◌∷◌, ◌++◌, length, All, Some, None, unwrap_or, ap, refl, arith, w64, FitsSigned, nat_eq, codes, int_eq}
 use Rattle.std.proofs.lemmas.Str.Parse.{digit_from_value}
 use Rattle.std.specs.Fmt.{decimal, signed_decimal}
 use Rattle.std.specs.List.{starts_with}
@@ -11,7 +11,7 @@ use Rattle.std.proofs.lemmas.List.Elements.{All-nil, All-cons}
 use Rattle.std.proofs.lemmas.Slice.Eq.{bytes_eq-Decides}
 use Rattle.cf_policy.specs.declared.policy.Span.{Span}
 use Rattle.cf_policy.specs.Within.{IsSpanWithin}
-use Rattle.cf_policylang.specs.Numbers.{ends, number_span, printed_number, printed_number_in, span, split_at_mark, within}
+use Rattle.cf_policylang.specs.Numbers.{ends, number_span, printed_number, printed_number_in, split_at_mark, within}
 use Rattle.cf_policylang.specs.Spelling.{number_text}
 use Rattle.cf_policylang.proofs.Printed.{fits}
 

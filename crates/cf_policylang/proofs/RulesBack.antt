@@ -1,34 +1,30 @@
 -- Rules that were written are read as they were.
-use Rattle.std.proofs.Common.{◌≡◌, ◌≢◌, ◌∙◌, ℕ, zero, suc, ◌+◌, ◌<◌, ◌≤◌, nat_lt, nat_le, ℤ, pos, ◌≤ℤ◌, int_le, true, false, Bool, cond, ◌&&◌, ◌||◌, if◌then◌else◌, List, [], ◌∷◌, ◌++◌, length, map, Option, Some, None, is_some, option_map, option_and_then, Ok, ap, subst, sym, refl, arith, w64, FitsSigned, bytes_eq, codes, AllPairs}
+use Rattle.std.proofs.Common.{◌≡◌, ◌≢◌, ◌∙◌, ℕ, ◌+◌, ◌≤◌, nat_le, ℤ, pos, ◌≤ℤ◌, int_le, true, false, cond, List, [], ◌∷◌, ◌++◌, length, Option, Some, None, is_some, option_map, Ok, ap, subst, refl, arith, w64, FitsSigned, bytes_eq, AllPairs}
 use Rattle.std.specs.List.{All, list_any}
-use Rattle.std.proofs.lemmas.Bool.{or_from}
 use Rattle.std.proofs.lemmas.Bool.Decides.{nat_tests}
 use Rattle.std.proofs.lemmas.Int.{ints}
 use Rattle.std.proofs.lemmas.List.Sums.{sum_by-append, sum_by-cons}
-use Rattle.toml.specs.Data.{Data, string, integer, array, table, Items, no_items, item, Members, no_members}
-use Rattle.toml.specs.View.{items_of}
+use Rattle.toml.specs.Data.{Data, string, integer, table, Members, no_members}
 use Rattle.cf_policy.specs.declared.policy.Action.{Action}
 use Rattle.cf_policy.specs.declared.policy.Action.TheVariants.{Allow, Refuse}
 use Rattle.cf_policy.specs.declared.policy.Rate.{Rate}
 use Rattle.cf_policy.specs.declared.policy.Rule.{Rule}
 use Rattle.cf_policy.specs.declared.policy.Span.{Span}
 use Rattle.cf_policy.specs.Names.{is_name, is_reserved}
-use Rattle.cf_policy.specs.Within.{AreRulesWithin, AreSpansWithin, HasRateWithin, IsRuleWithin, IsSpanWithin, highest_address, highest_code, highest_group, highest_most, highest_point, highest_value, longest_rate, lowest_value, most_rated, rated_count}
+use Rattle.cf_policy.specs.Within.{AreRulesWithin, AreSpansWithin, HasRateWithin, IsRuleWithin, IsSpanWithin, highest_address, highest_code, highest_group, highest_most, highest_value, longest_rate, lowest_value, most_rated, rated_count}
 use Rattle.cf_policylang.specs.declared.fields.Kind.TheVariants as kind
 use Rattle.cf_policylang.specs.declared.lists.Entries.TheVariants as entries
 use Rattle.cf_policylang.specs.declared.refusal.Cause.TheVariants as cause
 use Rattle.cf_policylang.specs.declared.refusal.Key.{Key}
 use Rattle.cf_policylang.specs.declared.refusal.Key.TheVariants as key
 use Rattle.cf_policylang.specs.declared.refusal.Place.{Place}
-use Rattle.cf_policylang.specs.declared.sets.Named.{Named}
 use Rattle.cf_policylang.specs.Fields.{has_other, name, stated}
-use Rattle.cf_policylang.specs.Lists.{code_span, entry, spans, spans_if_any}
-use Rattle.cf_policylang.specs.Numbers.{span, within}
+use Rattle.cf_policylang.specs.Lists.{code_span, entry, spans_if_any}
 use Rattle.cf_policylang.specs.Rates.{rate, rate_number}
-use Rattle.cf_policylang.specs.Rules.{action, client_spans, code_spans, group_spans, is_rule_taken, rule, rule_items, rule_keys, rule_name, rules, rules_from, value_spans}
+use Rattle.cf_policylang.specs.Rules.{action, client_spans, code_spans, group_spans, rule, rule_items, rule_keys, rule_name, rules, value_spans}
 use Rattle.cf_policylang.specs.Sets.{points_if_any, rule_points}
 use Rattle.cf_policylang.specs.Spelling.{action_text, address_text, number_text, numbers, point_items, rule_table, rule_tables, texts, with_key, with_rate}
-use Rattle.cf_policylang.specs.Tested.{Tested, and_then, at_asset, at_rule, or_refused}
+use Rattle.cf_policylang.specs.Tested.{at_asset, at_rule, or_refused}
 use Rattle.cf_policylang.proofs.AddressesBack.{addresses_read}
 use Rattle.cf_policylang.proofs.ListsBack.{and_then_ok, few_read, list_step, some_list, spans_if_any_read, spans_read, tables_read}
 use Rattle.cf_policylang.proofs.Middles.{middle, none_before}

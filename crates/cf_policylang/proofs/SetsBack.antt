@@ -1,42 +1,29 @@
 -- Sets and points that were written are read as they were.
-use Rattle.std.proofs.Common.{◌≡◌, ◌≢◌, ◌∙◌, ℕ, zero, suc, ◌+◌, ◌<◌, ◌≤◌, ◌^◌, nat_lt, nat_le, nat_eq, ℤ, pos, negsuc, true, false, Bool, not, ◌&&◌, ◌||◌, if◌then◌else◌, List, [], ◌∷◌, ◌++◌, length, get_or, drop, map, find, Option, Some, None, option_map, Ok, Err, ap, subst, sym, refl, arith, append_assoc, append-nil, length-append, w64, FitsSigned, bytes_eq, codes, AllPairs}
-use Rattle.std.specs.Fmt.{decimal, signed_decimal}
-use Rattle.std.specs.List.{All, enumerate_from, flat_map, list_all, list_any, position, starts_with}
+use Rattle.std.proofs.Common.{◌≡◌, ◌≢◌, ◌∙◌, ℕ, suc, ◌+◌, ◌<◌, ◌≤◌, nat_le, pos, true, false, List, [], ◌∷◌, length, drop, map, Some, Ok, ap, subst, refl, arith, AllPairs}
+use Rattle.std.specs.Fmt.{decimal}
+use Rattle.std.specs.List.{All, enumerate_from, list_all}
 use Rattle.std.specs.Str.Parse.{AllDigits}
-use Rattle.std.proofs.lemmas.Bool.{and_parts, false_from_ne_true, true≢false}
-use Rattle.std.proofs.lemmas.Bool.Decides.{nat_tests, Decides-int_eq}
-use Rattle.std.proofs.lemmas.Fmt.{decimal_injective, decimal_is_IsNumeral, decimal_nonempty, length-decimal-le}
-use Rattle.std.proofs.lemmas.Int.{ints}
-use Rattle.std.proofs.lemmas.List.Elements.{All-append, All-cons, All-head, All-nil, All-push, All-tail}
-use Rattle.std.proofs.lemmas.List.Quantifiers.{position-Some}
-use Rattle.std.proofs.lemmas.Slice.Eq.{bytes_eq-Decides}
+use Rattle.std.proofs.lemmas.Bool.Decides.{nat_tests}
+use Rattle.std.proofs.lemmas.Fmt.{decimal_injective, decimal_is_IsNumeral, length-decimal-le}
+use Rattle.std.proofs.lemmas.List.Elements.{All-cons, All-head, All-nil, All-tail}
 use Rattle.std.proofs.lemmas.Str.Parse.{digit_from_value}
-use Rattle.toml.specs.Data.{Data, string, array, table, Items, no_items, item, Members, no_members}
+use Rattle.toml.specs.Data.{string, table, item, Members, no_members}
 use Rattle.toml.specs.View.{items_of}
-use Rattle.cf_policy.specs.declared.policy.Asset.{Asset}
-use Rattle.cf_policy.specs.declared.policy.Policy.{Policy}
-use Rattle.cf_policy.specs.declared.policy.Rule.{Rule}
 use Rattle.cf_policy.specs.declared.policy.Span.{Span}
 use Rattle.cf_policy.specs.Names.{is_name, is_name_byte}
-use Rattle.cf_policy.specs.Verdict.{is_empty}
 use Rattle.cf_policy.specs.Within.{IsSpanWithin, highest_point}
 use Rattle.cf_policylang.specs.declared.fields.Kind.TheVariants as kind
 use Rattle.cf_policylang.specs.declared.lists.Entries.TheVariants as entries
 use Rattle.cf_policylang.specs.declared.refusal.Cause.TheVariants as cause
-use Rattle.cf_policylang.specs.declared.refusal.Key.{Key}
 use Rattle.cf_policylang.specs.declared.refusal.Key.TheVariants as key
 use Rattle.cf_policylang.specs.declared.refusal.Place.{Place}
-use Rattle.cf_policylang.specs.declared.sets.Edition.TheVariants as edition
-use Rattle.cf_policylang.specs.declared.sets.Named.{Named}
 use Rattle.cf_policylang.specs.declared.sets.PointSet.{PointSet}
-use Rattle.cf_policylang.specs.Fields.{as_array_of, count, has_other, name, stated}
-use Rattle.cf_policylang.specs.Lists.{entry, listed}
-use Rattle.cf_policylang.specs.Migrating.{gets_set, has_list, sets_behind, with_set}
+use Rattle.cf_policylang.specs.Fields.{has_other, name, stated}
 use Rattle.cf_policylang.specs.Numbers.{number_span}
-use Rattle.cf_policylang.specs.Sets.{entry_spans, is_set_taken, named_in, own_span, point_entry, points_from, points_if_any, points_named, set, set_items, set_keys, set_name, set_points, set_spans, sets, sets_from, stated_points}
-use Rattle.cf_policylang.specs.Spelling.{are_same, is_same_span, number_text, point_items, points_at, set_place, set_table, set_tables, set_text, texts, with_key, with_list}
-use Rattle.cf_policylang.specs.Tested.{Tested, and_then, at_document, at_set, or_refused}
-use Rattle.cf_policylang.proofs.ListsBack.{and_then_ok, few_read, list_put, listed_read, some_list, spans_read, tables_read}
+use Rattle.cf_policylang.specs.Sets.{is_set_taken, set, set_items, set_keys, set_name, set_points, sets}
+use Rattle.cf_policylang.specs.Spelling.{number_text, set_table, set_tables, set_text, texts, with_key, with_list}
+use Rattle.cf_policylang.specs.Tested.{at_document, at_set, or_refused}
+use Rattle.cf_policylang.proofs.ListsBack.{and_then_ok, few_read, list_put, some_list, spans_read, tables_read}
 use Rattle.cf_policylang.proofs.Middles.{middle, none_before, pairs_cons}
 use Rattle.cf_policylang.proofs.ReadBack.{span_read}
 use Rattle.cf_policylang.proofs.Stated.{Given, built, has_no_other, stated_at}
