@@ -5,7 +5,7 @@ use Rattle.cf_modbus.specs.Request.{request_value}
 use Rattle.cf_lane.specs.Acts.{first_refusal, is_by}
 use Rattle.cf_lane.specs.Rates.{rated}
 use Rattle.cf_lane.specs.Rings.{IsRulesOf, says_by}
-use Rattle.cf_lane.proofs.run.judge_runs.Given as goal
+use Rattle.cf_lane.proofs.run.judge_rated_runs.Given as goal
 
 -- no act so far was refused, and the rated rules that allowed one are marked
 abbrev pub invariant-loop-i : goal.invariant-loop-i
