@@ -1,4 +1,5 @@
 pub mod CaptureStops
+pub mod Comparing
 pub mod Complete
 pub mod Exact
 pub mod FileNames

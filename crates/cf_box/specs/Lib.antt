@@ -1,6 +1,8 @@
 pub mod Captures
 pub mod Check
 pub mod Command
+pub mod Compare
+pub mod Denial
 pub mod Ending
 pub mod Ends
 pub mod Names

@@ -16,12 +16,14 @@ use Rattle.cf_policy.specs.declared.Policy.{Policy}
 use Rattle.cf_policylang.specs.Documents.{policy_meaning}
 use Rattle.cf_policylang.specs.declared.PolicyRefusal.{PolicyRefusal}
 use Rattle.cf_run.specs.RunCapture.{RunNamesValue}
-use Rattle.cf_box.specs.Command.{Command, Check, Packets, Run, Relay, World, Sift, AsksPair, asset_name, capture_file, output_files, policy_file}
-use Rattle.cf_box.specs.Ends.{CutsCapture, CutsStream, EndsIdle, LacksAsset, LinkFails, RefusesCapture, RefusesPolicy}
+use Rattle.cf_box.specs.Command.{Command, Check, Compare, Packets, Run, Relay, World, Sift, AsksPair, asset_name, capture_file, other_file, output_files, policy_file}
+use Rattle.cf_box.specs.Compare.{IncludesAll, IsIncluded, OfPolicies, TellsNotIncluded}
+use Rattle.cf_box.specs.Ends.{CutsCapture, CutsStream, Denies, EndsIdle, ExceedsCells, LacksAsset, LinkFails, RefusesCapture, RefusesPolicy}
 use Rattle.cf_box.specs.Outside.{Outside, ReadFailed, WriteFailed}
 use Rattle.cf_box.specs.PolicyFile.{FindsAsset, asset_named}
 use Rattle.cf_box.specs.Relay.{TellsCutRelay, TellsIdleRelay}
 use Rattle.cf_box.specs.Sift.{TellsCutStream}
+use Rattle.cf_box.specs.declared.denial.Denial.{Denial}
 use Rattle.cf_box.specs.declared.ending.CaptureRefusal.{CaptureRefusal}
 use Rattle.cf_sift.specs.Names.{SiftNamesValue}
 use Rattle.cf_sift.specs.Stored.{stored_history}
@@ -49,8 +51,18 @@ CutsItsStream words before after = OfCommand words (λ c. (reason : CutReason) �
 abbrev pub EndsItsIdles : Option Command → (before after : Outside) → Type 0
 EndsItsIdles words before after = OfCommand words (λ c. EndsIdle c before after.pair)
 
+abbrev pub DeniesWhatItAsks : Option Command → Outside → Type 0
+DeniesWhatItAsks words before = OfCommand words (λ c. (why : Denial) × Denies c before why)
+
+abbrev pub ExceedsItsCells : Option Command → Outside → Type 0
+ExceedsItsCells words before = OfCommand words (λ c. (name : List ℕ) × ExceedsCells c before name)
+
 abbrev pub AsksItsPair : Option Command → Type 0
 AsksItsPair words = OfCommand words AsksPair
+
+-- the first policy of a comparison allows only what the second allows
+abbrev pub Includes : (policy other : List ℕ) → Outside → Type 0
+Includes policy other before = OfPolicies policy other before IsIncluded
 
 -- of the commands in the stream exactly those went to the output that the bytes of the policy allow, in their spelling
 -- and at their place; and no rule let more of them through than its rate
@@ -90,9 +102,14 @@ abbrev pub TellsMade : Command → Outside → Type 0
 TellsMade (World seed sessions policy names) before = (before.files.content policy ≢ untold) × (before.files.content names.capture ≢ untold)
 TellsMade _ before = Unit {0}
 
+-- what is asked of a command's files is so: a line a command that asks
+abbrev pub HoldsWhatItAsks : Command → Outside → Type 0
+HoldsWhatItAsks (Compare policy other) before = IncludesAll policy other before
+HoldsWhatItAsks _ before = Unit {0}
+
 -- what a command needs is told, and in form: its policy has a meaning and the asset of the name, its capture is one whose
--- records end with the file, its streams are not cut, the pair is not idle for too long, and what it makes for itself is
--- told
+-- records end with the file, its streams are not cut, the pair is not idle for too long, what it makes for itself is
+-- told, its second policy has a meaning, and what it asks is so
 pub record HasInput (c : Command) (before after : Outside) : Type 0 where
   pub policy :
       (file : List ℕ) → policy_file c ≡ Some file →
@@ -102,6 +119,10 @@ pub record HasInput (c : Command) (before after : Outside) : Type 0 where
   pub stream : (reason : CutReason) → CutsStream c before after.pair reason → ⊥
   pub idle : EndsIdle c before after.pair → ⊥
   pub made : TellsMade c before
+  pub other :
+      (file : List ℕ) → other_file c ≡ Some file →
+      (bytes : List ℕ) × (before.files.content file ≡ holds bytes) × ((p : Policy) × (policy_meaning bytes ≡ Ok p))
+  pub holds : HoldsWhatItAsks c before
 
 -- no read failed, no creation, append or put, and no call on the pair of a command that asks it
 pub record NothingFails (c : Command) (before after : Outside) : Type 0 where
@@ -118,10 +139,10 @@ IsComplete words before after status =
 abbrev pub Yields : (before after : Outside) → (status : ℕ) → Type 0
 Yields before after status = ((status ≡ 3) × ReadFailed before after) ⊎ (status ≡ 13)
 
--- the policy is told, and its bytes mean none
+-- a policy is told, the first or the second, and its bytes mean none
 pub record TellsNoPolicy (c : Command) (before : Outside) : Type 0 where
   pub file : List ℕ
-  pub needs : policy_file c ≡ Some file
+  pub needs : (policy_file c ≡ Some file) ⊎ (other_file c ≡ Some file)
   pub bytes : List ℕ
   pub told : before.files.content file ≡ holds bytes
   pub refusal : PolicyRefusal
@@ -142,6 +163,7 @@ pub record TellsNoAsset (c : Command) (before : Outside) : Type 0 where
 -- the stream of a command is told, or the answers of its pair are, and is cut: a line a command
 abbrev pub TellsCut : Command → (before : Outside) → (pair : PairValue) → Type 0
 TellsCut (Check file) before pair = ⊥
+TellsCut (Compare file other) before pair = ⊥
 TellsCut (Packets file) before pair = ⊥
 TellsCut (Run file names) before pair = ⊥
 TellsCut (Relay file asset port idles log) before pair = TellsCutRelay file asset before pair
@@ -152,6 +174,11 @@ TellsCut (Sift file asset client names) before pair = TellsCutStream file asset 
 abbrev pub TellsIdle : Command → (before : Outside) → (pair : PairValue) → Type 0
 TellsIdle (Relay file asset port idles log) before pair = TellsIdleRelay file asset before pair idles
 TellsIdle _ before pair = ⊥
+
+-- what a command asks of its files is told, and is not so: a line a command that asks
+abbrev pub TellsDenial : Command → Outside → Type 0
+TellsDenial (Compare policy other) before = TellsNotIncluded policy other before
+TellsDenial _ before = ⊥
 
 -- what a cut and the idle answers yield to: these, and a write that failed
 abbrev pub YieldsWritten : (before after : Outside) → (status : ℕ) → Type 0
@@ -164,6 +191,7 @@ pub record IsExact (c : Command) (before after : Outside) (status : ℕ) : Type 
   pub unknown : TellsNoAsset c before → (status ≡ 10) ⊎ Yields before after status
   pub cut : TellsCut c before after.pair → (status ≡ 12) ⊎ YieldsWritten before after status
   pub idle : TellsIdle c before after.pair → (status ≡ 9) ⊎ YieldsWritten before after status
+  pub denied : TellsDenial c before → ((status ≡ 15) ⊎ (status ≡ 17)) ⊎ Yields before after status
 
 abbrev pub IsExactly : Option Command → (before after : Outside) → (status : ℕ) → Type 0
 IsExactly words before after status = (c : Command) → words ≡ Some c → IsExact c before after status
@@ -190,4 +218,5 @@ TellsItsOwn words before = (c : Command) → words ≡ Some c → TellsMade c be
 -- the statuses that there are
 abbrev pub IsStatus : ℕ → Type 0
 IsStatus s =
-    (s ≡ 0) ⊎ (s ≡ 2) ⊎ (s ≡ 3) ⊎ (s ≡ 4) ⊎ (s ≡ 5) ⊎ (s ≡ 6) ⊎ (s ≡ 7) ⊎ (s ≡ 8) ⊎ (s ≡ 9) ⊎ (s ≡ 10) ⊎ (s ≡ 12) ⊎ (s ≡ 13)
+    (s ≡ 0) ⊎ (s ≡ 2) ⊎ (s ≡ 3) ⊎ (s ≡ 4) ⊎ (s ≡ 5) ⊎ (s ≡ 6) ⊎ (s ≡ 7) ⊎ (s ≡ 8) ⊎ (s ≡ 9) ⊎ (s ≡ 10) ⊎ (s ≡ 12) ⊎ (s ≡ 13) ⊎ (s ≡ 15)
+    ⊎ (s ≡ 17)

@@ -3,6 +3,8 @@
 
 mod check;
 mod command;
+mod compare;
+mod denial;
 mod ending;
 mod names;
 mod packet_line;
@@ -17,5 +19,6 @@ mod world;
 
 pub use cf_sift::{SiftDone, SiftFault, SiftNames, sift_stream};
 pub use command::{Command, read_words};
+pub use denial::{AssetName, Denial};
 pub use ending::{CaptureRefusal, Done, Stop};
 pub use top::box_main;

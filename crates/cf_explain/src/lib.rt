@@ -1,14 +1,16 @@
-//! What the program says to people: why a policy, a capture or the words were refused, which rules no command meets, and
-//! what stands in the outputs after a fault. Each call makes one text, whatever it is given, or ends for want of memory.
+//! What the program says to people: why a policy, a capture or the words were refused, which rules no command meets, why one
+//! policy is not included in another, and what stands in the outputs after a fault. Each call makes one text, whatever it is given, or ends for want of memory.
 #![tactic(auto)]
 
 mod acts;
 mod allowed;
 mod block;
 mod capture;
+mod code_names;
 mod covered;
 mod entries;
 mod found;
+mod inclusion;
 mod kinds;
 mod laws;
 mod link;
@@ -28,6 +30,7 @@ pub use acts::{Groups, Kind};
 pub use capture::capture_message;
 pub use covered::covering;
 pub use found::{What, findings};
+pub use inclusion::{PolicyFile, inclusion_message};
 pub use laws::tables_have_acts_of_commands;
 pub use outputs::{asset_message, outputs_message};
 pub use policy::policy_message;

@@ -40,6 +40,8 @@ enum Subject {
     Comparison,
     /// How many cells the first assets of two policies have.
     Cells,
+    /// Why one policy is not included in another.
+    Reason,
 }
 
 /// What is found of what a row gives.
@@ -57,6 +59,7 @@ fn found(alloc: Global, subject: Subject, given: &str) -> Result<String, Fail> {
         Subject::Line => lines::line(alloc, given),
         Subject::Comparison => compare::compared(alloc, given),
         Subject::Cells => compare::counted(alloc, given),
+        Subject::Reason => compare::reason(alloc, given),
     }
 }
 
@@ -124,7 +127,8 @@ fn policies_are_compared(rt: HostRuntime) -> Result<(), Fail> {
     let rows = compare::COMPARISONS.replace(alloc, "\n    ", " ")?;
     play_lines(&rt, alloc, Subject::Comparison, &rows)?;
     let rows = compare::CELLS.replace(alloc, "\n    ", " ")?;
-    play_lines(&rt, alloc, Subject::Cells, &rows)
+    play_lines(&rt, alloc, Subject::Cells, &rows)?;
+    play_blocks(&rt, alloc, Subject::Reason, compare::REASONS)
 }
 
 #[test]

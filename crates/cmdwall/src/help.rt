@@ -24,6 +24,9 @@ usage:
       other
   cmdwall check POLICY
       reads a policy, and prints its numbers of assets and of all rules
+  cmdwall compare POLICY OTHER
+      says whether POLICY allows only what OTHER allows, and else prints the first act that
+      it allows beyond
   cmdwall packets CAPTURE
       prints a line for each record of a capture: the fields of its TCP segment over IPv4,
       or why it has none
@@ -32,7 +35,7 @@ usage:
   cmdwall --help
   cmdwall --version
 
-CLIENT is an IPv4 address, as 10.0.0.5. POLICY is a text in the policy language
+CLIENT is an IPv4 address, as 10.0.0.5. POLICY and OTHER are texts in the policy language
 (docs/POLICY.md). CAPTURE is a pcap or pcapng file, of Ethernet or raw IP. OUT, REPLIES and
 LOG are created, by world POLICY and CAPTURE too; all names of files differ.
 
@@ -52,6 +55,8 @@ status:
   10  the policy has no asset of that name
   12  a stream is cut, for the printed reason
   13  memory ran out
+  15  POLICY allows what OTHER does not: the asset that OTHER lacks or the act is printed
+  17  the rules of the printed asset are too many to compare
 ";
 
 const SIFT: &str = "\
@@ -91,6 +96,26 @@ one covers.
 
 example:
   cmdwall check examples/pump.toml
+";
+
+const COMPARE: &str = "\
+cmdwall compare POLICY OTHER
+
+says whether POLICY allows only what OTHER allows, for every client and every act, also one
+that no command has
+
+  POLICY   a text in the policy language (docs/POLICY.md)
+  OTHER    another
+
+Standard output has 'included', with status 0; or, with status 15, 'no' and the first asset of
+POLICY that OTHER does not have with the same address, port, protocol, station and master, or
+the first client and act that POLICY allows there and OTHER refuses; or, with status 17, 'too
+many cells' and the asset. Standard error has the rule that allows the act, and what refuses
+it. How often a rule lets commands through plays no part.
+
+examples, of which the first prints an act and the second 'included':
+  cmdwall compare examples/pump.toml examples/pump-narrow.toml
+  cmdwall compare examples/pump-narrow.toml examples/pump.toml
 ";
 
 const PACKETS: &str = "\
@@ -186,6 +211,7 @@ pub enum Asked {
 pub enum Topic {
     Sift,
     Check,
+    Compare,
     Packets,
     Run,
     Relay,
@@ -231,6 +257,7 @@ fn topic_of(word: &str) -> Option<Topic> {
     match word {
         "sift" => Some(Topic::Sift),
         "check" => Some(Topic::Check),
+        "compare" => Some(Topic::Compare),
         "packets" => Some(Topic::Packets),
         "run" => Some(Topic::Run),
         "relay" => Some(Topic::Relay),
@@ -249,6 +276,7 @@ pub fn print_topic(rt: &impl Print, topic: Topic) -> io::Result<()> {
     let text = match topic {
         Topic::Sift => SIFT,
         Topic::Check => CHECK,
+        Topic::Compare => COMPARE,
         Topic::Packets => PACKETS,
         Topic::Run => RUN,
         Topic::Relay => RELAY,
