@@ -3,6 +3,7 @@ pub mod Check
 pub mod Command
 pub mod Ending
 pub mod Ends
+pub mod Limits
 pub mod Names
 pub mod Outside
 pub mod PacketLine

@@ -4,6 +4,7 @@
 mod check;
 mod command;
 mod ending;
+mod limits;
 mod names;
 mod packet_line;
 mod packets;
