@@ -29,6 +29,7 @@ use Rattle.cf_box.specs.Status.{IsExact, TellsCut, TellsDenial, TellsIdle, Tells
 use Rattle.cf_box.specs.declared.ending.Done.{Done}
 use Rattle.cf_box.specs.declared.ending.Stop.{Stop}
 use Rattle.cf_box.specs.declared.ending.Stop.TheVariants as stop
+use Rattle.cf_box.proofs.CaptureExact.{capture_from, capture_cut_from}
 use Rattle.cf_box.proofs.Complete.{not_lacking, not_refused, same_bytes, same_policy}
 use Rattle.cf_box.proofs.Passing.{found_passes, one_policy}
 use Rattle.cf_box.proofs.Relaying.{GoesOn, IsUncutEnd, few_by, idle_is_late, link_is_late, uncut_by}
@@ -384,6 +385,10 @@ exact_told one law {c = c} {before = before} {after = after} {status = status} e
       (refused_from (Unprinted e) status before e.middle c t e.r e.meets (explained e));
   unknown = λ t. later (status ≡ 10) status before e.middle after (read_failed e)
       (unknown_from (Unprinted e) status before e.middle c t e.r e.meets (explained e));
+  capture = λ t. plain status 6 before after (later_written status 6 before e.middle after (Unprinted e) (read_failed e) (write_failed e)
+      (capture_from (Unprinted e) status before e.middle c t e.r e.meets (explained e)));
+  capture_cut = λ t. plain status 7 before after (later_written status 7 before e.middle after (Unprinted e) (read_failed e) (write_failed e)
+      (capture_cut_from (Unprinted e) status before e.middle c t e.r e.meets (explained e)));
   cut = λ t. plain status 12 before after (later_written status 12 before e.middle after (Unprinted e) (read_failed e) (write_failed e)
       (stream_from (Unprinted e) status before e.middle one law c (subst (λ p. TellsCut c before p) e.reports.pair t) e.r e.meets (explained e)));
   idle = λ t. plain status 9 before after (later_written status 9 before e.middle after (Unprinted e) (read_failed e) (write_failed e)

@@ -1,3 +1,4 @@
+mod CaptureExact
 pub mod CaptureStops
 pub mod Comparing
 pub mod Complete

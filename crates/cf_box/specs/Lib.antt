@@ -5,6 +5,7 @@ pub mod Compare
 pub mod Denial
 pub mod Ending
 pub mod Ends
+pub mod Limits
 pub mod Names
 pub mod Outside
 pub mod PacketLine

@@ -38,6 +38,13 @@ pub record FindsAsset (file : Content) (name : List ℕ) (asset : Asset) : Type 
   pub has : HasPolicy file policy
   pub named : asset_named name policy ≡ Some asset
 
+-- the file is told, and its bytes mean a policy
+pub record TellsPolicy (file : Content) : Type 0 where
+  pub bytes : List ℕ
+  pub policy : Policy
+  pub told : file ≡ holds bytes
+  pub means : policy_meaning bytes ≡ Ok policy
+
 -- the file is told, and its bytes mean a policy that has an asset of the name
 pub record TellsAsset (file : Content) (name : List ℕ) : Type 0 where
   pub bytes : List ℕ

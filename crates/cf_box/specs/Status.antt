@@ -5,7 +5,7 @@ use Rattle.cf_lane.specs.Follows.{AreJudged}
 use Rattle.cf_lane.specs.Judged.{Judged}
 use Rattle.cf_lane.specs.Passes.{Passes}
 use Rattle.cf_lane.specs.Rates.{KeepsRates}
-use Rattle.cf_outside.specs.Files.{holds, untold, IsWhole, content_after_write}
+use Rattle.cf_outside.specs.Files.{Content, holds, untold, IsWhole, content_after_write}
 use Rattle.cf_outside.specs.PairValue.{PairValue}
 use Rattle.cf_run.specs.Capture.{AreRecords, FileEnd, Record}
 use Rattle.cf_run.specs.Form.{first_place, form_of}
@@ -20,8 +20,10 @@ use Rattle.cf_box.specs.Command.{Command, Check, Compare, Packets, Run, Relay, W
 use Rattle.cf_box.specs.Compare.{IncludesAll, IsIncluded, OfPolicies, TellsNotIncluded}
 use Rattle.cf_box.specs.Ends.{CutsCapture, CutsStream, Denies, EndsIdle, ExceedsCells, LacksAsset, LinkFails, RefusesCapture, RefusesPolicy}
 use Rattle.cf_box.specs.Outside.{Outside, ReadFailed, WriteFailed}
-use Rattle.cf_box.specs.PolicyFile.{FindsAsset, asset_named}
+use Rattle.cf_box.specs.Packets.{ListingCuts, ListingRefuses}
+use Rattle.cf_box.specs.PolicyFile.{FindsAsset, TellsPolicy, asset_named}
 use Rattle.cf_box.specs.Relay.{TellsCutRelay, TellsIdleRelay}
+use Rattle.cf_box.specs.Run.{RunCuts, RunRefuses}
 use Rattle.cf_box.specs.Sift.{TellsCutStream}
 use Rattle.cf_box.specs.declared.denial.Denial.{Denial}
 use Rattle.cf_box.specs.declared.ending.CaptureRefusal.{CaptureRefusal}
@@ -180,15 +182,44 @@ abbrev pub TellsDenial : Command → Outside → Type 0
 TellsDenial (Compare policy other) before = TellsNotIncluded policy other before
 TellsDenial _ before = ⊥
 
--- what a cut and the idle answers yield to: these, and a write that failed
+-- a file is told, and is refused as a capture so
+pub record TellsRefusal (Refused : Content → CaptureRefusal → Type 0) (file : Content) : Type 0 where
+  pub bytes : List ℕ
+  pub told : file ≡ holds bytes
+  pub refusal : CaptureRefusal
+  pub refuses : Refused (holds bytes) refusal
+
+-- a file is told, and ends as a capture inside what begins at a place
+pub record TellsCutAt (Cuts : Content → ℕ → Type 0) (file : Content) : Type 0 where
+  pub bytes : List ℕ
+  pub told : file ≡ holds bytes
+  pub place : ℕ
+  pub cuts : Cuts (holds bytes) place
+
+-- the capture of a command is told and refused, and a policy that it reads is told and means one: a line a command that reads a
+-- capture
+abbrev pub TellsRefusedCapture : Command → Outside → Type 0
+TellsRefusedCapture (Packets capture) before = TellsRefusal ListingRefuses (before.files.content capture)
+TellsRefusedCapture (Run policy names) before = TellsPolicy (before.files.content policy) × TellsRefusal RunRefuses (before.files.content names.capture)
+TellsRefusedCapture _ before = ⊥
+
+-- the same of one that is cut
+abbrev pub TellsCutCapture : Command → Outside → Type 0
+TellsCutCapture (Packets capture) before = TellsCutAt ListingCuts (before.files.content capture)
+TellsCutCapture (Run policy names) before = TellsPolicy (before.files.content policy) × TellsCutAt RunCuts (before.files.content names.capture)
+TellsCutCapture _ before = ⊥
+
+-- what a capture, a cut stream and the idle answers yield to: these, and a write that failed
 abbrev pub YieldsWritten : (before after : Outside) → (status : ℕ) → Type 0
 YieldsWritten before after status = ((status ≡ 4) × WriteFailed before after) ⊎ Yields before after status
 
--- each of these gives its status, and nothing but a failed read or want of memory comes before it, and before a cut or an idle
--- end a failed write
+-- each of these gives its status, and nothing but a failed read or want of memory comes before it, and before a capture that is
+-- refused or cut, a stream that is cut or an idle end a failed write
 pub record IsExact (c : Command) (before after : Outside) (status : ℕ) : Type 0 where
   pub refused : TellsNoPolicy c before → (status ≡ 5) ⊎ Yields before after status
   pub unknown : TellsNoAsset c before → (status ≡ 10) ⊎ Yields before after status
+  pub capture : TellsRefusedCapture c before → (status ≡ 6) ⊎ YieldsWritten before after status
+  pub capture_cut : TellsCutCapture c before → (status ≡ 7) ⊎ YieldsWritten before after status
   pub cut : TellsCut c before after.pair → (status ≡ 12) ⊎ YieldsWritten before after status
   pub idle : TellsIdle c before after.pair → (status ≡ 9) ⊎ YieldsWritten before after status
   pub denied : TellsDenial c before → ((status ≡ 15) ⊎ (status ≡ 17)) ⊎ Yields before after status

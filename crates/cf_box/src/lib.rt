@@ -6,6 +6,7 @@ mod command;
 mod compare;
 mod denial;
 mod ending;
+mod limits;
 mod names;
 mod packet_line;
 mod packets;

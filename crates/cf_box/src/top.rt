@@ -2,6 +2,7 @@
 ghost use Rattle.std.specs.Prelude.{◌≡◌, ◌≤◌, ◌⊎◌, ◌↔◌, IsNone, List, Some, map, string_bytes, ℕ};
 ghost use Rattle.cf_box.specs.Command.{AsksPair, Compare, Packets, Run, Sift, World};
 ghost use Rattle.cf_box.specs.Ends.{Ends, Meets};
+ghost use Rattle.cf_box.specs.Limits.{HasLimits};
 ghost use Rattle.cf_box.specs.Outside.{FilesNeverFall, files_value, outside_value};
 ghost use Rattle.cf_box.specs.Packets.{Lists};
 ghost use Rattle.cf_box.specs.RunHolds.{RunHolds};
@@ -17,6 +18,7 @@ use crate::check::check;
 use crate::command::{Command, read_words};
 use crate::compare::compare_files;
 use crate::ending::{Done, Stop, put_text, report};
+use crate::limits::limits_are;
 use crate::packets::packets;
 use crate::relay::relay;
 use crate::run::run;
@@ -157,7 +159,11 @@ pub fn box_main<F: Files, O: Sink, P: Pair>(
         TellsItsOwn (command_of (map string_bytes words.now)) (outside_value F.Files O.Sink P.Pair files.old out.old pair.old) →
         F.content files.new ≡ F.content files.old }
     ensures pair { AsksItsPair (command_of (map string_bytes words.now)) ⊎ (pair.new ≡ pair.old) }
+
+    // The numbers of the limits that the definitions of these clauses cite by name.
+    ensures limits { HasLimits }
 {
+    limits_are();
     lane_passes_allowed();
     rates_hold();
     has_one_cut();
