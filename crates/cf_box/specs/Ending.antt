@@ -96,10 +96,10 @@ abbrev pub end_text : Result Done Stop → Option (List ℕ)
 end_text (Ok d) = done_text d
 end_text (Err s) = stop_text s
 
--- a text was put, and the status is the first; or the put failed, a prefix was put, and the status is the second
+-- a text was put, no put failed, and the status is the first; or the put failed, a prefix was put, and the status is the second
 abbrev pub Puts : List ℕ → (put failed : ℕ) → (before after : SinkValue) → (status : ℕ) → Type 0
 Puts text put failed before after status =
-    ((status ≡ put) × (after.text ≡ printed_with before.text text))
+    ((status ≡ put) × (after.text ≡ printed_with before.text text) × (after.faults ≡ before.faults))
     ⊎ ((status ≡ failed) × Rose before.faults after.faults × ((k : ℕ) × (after.text ≡ printed_with before.text (take k text))))
 
 -- the same of a text that there may be; without one nothing is put
