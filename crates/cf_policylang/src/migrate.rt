@@ -2,12 +2,11 @@
 ghost use Rattle.std.specs.Prelude.{◌≡◌, ◌≤◌, ◌<◌, ◌++◌, [], false, IfOk, IsTrue, Ok, OnOk, length, map, string_bytes, vec_len};
 ghost use Rattle.std.specs.List.{All};
 ghost use Rattle.toml.specs.Text.{IsDocumentText};
-ghost use Rattle.toml.specs.View.{array_view};
-ghost use Rattle.toml.specs.Data.{members_depth};
-ghost use Rattle.toml_parser.specs.Strings.{recursion_limit};
+ghost use Rattle.toml.specs.View.{array_view, table_view};
+ghost use Rattle.cf_policy.specs.declared.policy.Policy.{Policy};
 ghost use Rattle.cf_policy.specs.Within.{IsWithin, IsAssetWithin};
 ghost use Rattle.cf_policylang.specs.declared.sets.TheConstants.{MOST_SETS};
-ghost use Rattle.cf_policylang.specs.Documents.{document, text_meaning};
+ghost use Rattle.cf_policylang.specs.Documents.{text_meaning};
 ghost use Rattle.cf_policylang.specs.Migrating.{all_points, gets_set, has_list, migrated, second_document, sets_behind, with_set};
 ghost use Rattle.cf_policylang.specs.Spelling.{asset_tables, set_tables};
 
@@ -49,16 +48,23 @@ pub fn migrated_text(alloc: Global, policy: &Policy) -> Result<String, NoMemory>
     }
 }
 
-/// The text of the document that has these sets and assets.
+/// The text of the document that has these sets and assets. It means a policy whose document that is.
 fn printed(alloc: Global, sets: Array, assets: Array) -> Result<String, AllocError>
     ensures text { IfOk result (λ t. IsDocumentText false (second_document (array_view sets) (array_view assets)) (string_bytes t)) }
-    ensures meaning { IfOk result (λ t. members_depth (second_document (array_view sets) (array_view assets)) ≤ recursion_limit → text_meaning (string_bytes t) ≡ document (second_document (array_view sets) (array_view assets))) }
+    ensures meaning { IfOk result (λ t. (p : Policy) → IsWithin p → second_document (array_view sets) (array_view assets) ≡ migrated p → text_meaning (string_bytes t) ≡ Ok p) }
+{
+    document_text(alloc, &second_document(alloc, sets, assets)?)
+}
+
+/// The document of version 2 that has these sets and assets.
+fn second_document(alloc: Global, sets: Array, assets: Array) -> Result<Table, AllocError>
+    ensures { IfOk result (λ t. table_view t ≡ second_document (array_view sets) (array_view assets)) }
 {
     let mut table = Table::new(alloc);
     insert(alloc, &mut table, Key::Version, Value::Integer(2))?;
     insert_list(alloc, &mut table, Key::Set, sets)?;
     insert(alloc, &mut table, Key::Asset, Value::Array(assets))?;
-    document_text(alloc, &table)
+    Ok(table)
 }
 
 /// The lists of points of these assets' rules that get a set, in the order of the sets.
