@@ -115,7 +115,8 @@ module _ (failed : Type 0) (status : ℕ) (before after : Outside) where
   module _ (capture bytes : List ℕ) (told : before.files.content capture ≡ holds bytes) where
     unread_policy : (r : PolicyRefusal) → RefusesPolicy (Packets capture) before r → ⊥
     unread_policy r (inl cause) = let none = cause.1 in cc
-    unread_policy r (inr made) = made
+    unread_policy r (inr (inl cause)) = let none = cause.2 in cc
+    unread_policy r (inr (inr made)) = made
 
     listing_by : (r : Result Done Stop) → Meets (Packets capture) before after r → EndsBy HasListedRecords bytes r
     listing_by (Ok d) meets =
@@ -138,6 +139,8 @@ module _ (failed : Type 0) (status : ℕ) (before after : Outside) where
     listing_by (Err stop.LinkFault) meets = absurd meets.0.0
     listing_by (Err stop.IdleEnd) meets = absurd meets.0.0
     listing_by (Err (stop.Cut reason)) meets = absurd meets.0.0
+    listing_by (Err (stop.Denied why)) meets = absurd meets.0.0
+    listing_by (Err (stop.TooManyCells name)) meets = absurd meets.0.0
 
   -- ---- a run
 
@@ -147,7 +150,8 @@ module _ (failed : Type 0) (status : ℕ) (before after : Outside) where
         let e = cause.1 in
         let here : cause.0 ≡ policy = cc in
         not_refused (before.files.content policy) known.bytes known.policy r known.told known.means (subst (λ f. IsRefusedBy (before.files.content f) r) here cause.2)
-    unrefused r (inr made) = made
+    unrefused r (inr (inl cause)) = let none = cause.2 in cc
+    unrefused r (inr (inr made)) = made
 
     run_by : (r : Result Done Stop) → Meets (Run policy names) before after r → EndsBy HasRunRecords bytes r
     run_by (Ok d) meets =
@@ -166,6 +170,8 @@ module _ (failed : Type 0) (status : ℕ) (before after : Outside) where
     run_by (Err stop.LinkFault) meets = absurd meets.0.0
     run_by (Err stop.IdleEnd) meets = absurd meets.0.0
     run_by (Err (stop.Cut reason)) meets = absurd meets.0.0
+    run_by (Err (stop.Denied why)) meets = absurd meets.0.0
+    run_by (Err (stop.TooManyCells name)) meets = absurd meets.0.0
 
   -- ---- a line a command that reads a capture
 
