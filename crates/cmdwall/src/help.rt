@@ -128,7 +128,7 @@ segment over IPv4, or why it has none
 
 'editcap -F pcap IN OUT' writes other captures as pcap. Where many records are dropped for
 'badsum' or 'badtcpsum', the capture was made on the machine that sent them, and its card
-filled the checksums in later: 'tcprewrite --fixcsum -i IN -o OUT' sets them right.
+filled the checksums in later: record with 'ethtool -K INTERFACE tx off', or on another machine.
 
 example:
   cmdwall packets examples/four.pcap
@@ -148,6 +148,10 @@ runs a policy over a capture of what reached the two ports of the box
 All names of files differ. Standard output has what was counted: records, those dropped, those
 of no session, those for which the table was full, sessions, commands admitted and refused,
 sessions cut.
+
+CAPTURE has what reached the box: the packets of clients and controllers as they came to its two
+ports. In a recording from between two hosts, or of one of them, they acknowledge what the box
+would not have sent, so that little of it counts (docs/RUN.md).
 
 example:
   cmdwall run examples/waterworks.toml examples/waterworks.pcap out.pcap log.txt
