@@ -1,10 +1,11 @@
-//! What policies mean, what they say about acts, how two compare, what the log says, and what is said of typical mistakes: rows of
-//! text.
+//! What policies mean, what they say about acts, how two compare, how one is written anew, what the log says, and what is said of typical
+//! mistakes: rows of text.
 mod changes;
 mod compare;
 mod lines;
 mod policies;
 mod refused;
+mod rewritten;
 mod told;
 mod verdicts;
 mod warned;
@@ -42,6 +43,8 @@ enum Subject {
     Cells,
     /// Why one policy is not included in another.
     Reason,
+    /// What a policy is written as.
+    Rewritten,
 }
 
 /// What is found of what a row gives.
@@ -60,6 +63,7 @@ fn found(alloc: Global, subject: Subject, given: &str) -> Result<String, Fail> {
         Subject::Comparison => compare::compared(alloc, given),
         Subject::Cells => compare::counted(alloc, given),
         Subject::Reason => compare::reason(alloc, given),
+        Subject::Rewritten => rewritten::rewritten(alloc, given),
     }
 }
 
@@ -129,6 +133,13 @@ fn policies_are_compared(rt: HostRuntime) -> Result<(), Fail> {
     let rows = compare::CELLS.replace(alloc, "\n    ", " ")?;
     play_lines(&rt, alloc, Subject::Cells, &rows)?;
     play_blocks(&rt, alloc, Subject::Reason, compare::REASONS)
+}
+
+#[test]
+fn policies_are_written_anew(rt: HostRuntime) -> Result<(), Fail> {
+    let alloc = rt.alloc();
+    let rows = rewritten::ROWS.replace(alloc, "\n    ", " ")?;
+    play_lines(&rt, alloc, Subject::Rewritten, &rows)
 }
 
 #[test]

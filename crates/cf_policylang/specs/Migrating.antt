@@ -1,7 +1,7 @@
 -- A policy as a document of version 2: migrated.
 use Rattle.std.specs.Prelude.{pos, Bool, not, ◌&&◌, nat_lt, if◌then◌else◌, List, [], ◌∷◌, ◌++◌, length, map, flat_map}
 use Rattle.std.specs.List.{list_any}
-use Rattle.toml.specs.Data.{integer, array, Members, no_members}
+use Rattle.toml.specs.Data.{integer, array, Items, Members, no_members}
 use Rattle.cf_policy.specs.declared.policy.Asset.{Asset}
 use Rattle.cf_policy.specs.declared.policy.Policy.{Policy}
 use Rattle.cf_policy.specs.declared.policy.Span.{Span}
@@ -34,8 +34,13 @@ sets_behind seen (points ∷ later) = sets_behind (with_set seen points later) l
 abbrev pub set_lists : Policy → List (List Span)
 set_lists policy = sets_behind [] (all_points policy.assets)
 
+-- a document of version 2 that has these sets and assets
+abbrev pub second_document : Items → Items → Members
+second_document sets assets =
+    with_key key.Asset (array assets) (with_list key.Set sets (with_key key.Version (integer (pos 2)) no_members))
+
+-- the policy, with the sets first found and a rule's points by the name of their set
 abbrev pub migrated : Policy → Members
 migrated policy =
     let lists = set_lists policy in
-    with_key key.Asset (array (asset_tables lists policy.assets)) (with_list key.Set (set_tables lists)
-    (with_key key.Version (integer (pos 2)) no_members))
+    second_document (set_tables lists) (asset_tables lists policy.assets)

@@ -3,10 +3,11 @@ ghost use Rattle.std.specs.Prelude.{◌≡◌, ◌≤◌, ◌<◌, ◌++◌, [],
 ghost use Rattle.std.specs.List.{All};
 ghost use Rattle.toml.specs.Text.{IsDocumentText};
 ghost use Rattle.toml.specs.View.{array_view, table_view};
+ghost use Rattle.cf_policy.specs.declared.policy.Policy.{Policy};
 ghost use Rattle.cf_policy.specs.Within.{IsWithin, IsAssetWithin};
 ghost use Rattle.cf_policylang.specs.declared.sets.TheConstants.{MOST_SETS};
 ghost use Rattle.cf_policylang.specs.Documents.{text_meaning};
-ghost use Rattle.cf_policylang.specs.Migrating.{all_points, gets_set, has_list, migrated, sets_behind, with_set};
+ghost use Rattle.cf_policylang.specs.Migrating.{all_points, gets_set, has_list, migrated, second_document, sets_behind, with_set};
 ghost use Rattle.cf_policylang.specs.Spelling.{asset_tables, set_tables};
 
 use crate::printing::document_text;
@@ -31,33 +32,48 @@ pub fn migrated_text(alloc: Global, policy: &Policy) -> Result<String, NoMemory>
     ensures text { IfOk result (λ t. IsDocumentText false (migrated policy.now) (string_bytes t)) }
     ensures meaning { IfOk result (λ t. text_meaning (string_bytes t) ≡ Ok policy.now) }
 {
-    match migrated_document(alloc, policy) {
+    let assets = policy.assets.as_slice();
+    let Ok(lists) = set_lists(alloc, assets) else {
+        return Err(NoMemory);
+    };
+    let Ok(sets) = set_tables(alloc, lists.as_slice()) else {
+        return Err(NoMemory);
+    };
+    let Ok(assets) = asset_tables(alloc, lists.as_slice(), assets) else {
+        return Err(NoMemory);
+    };
+    match printed(alloc, sets, assets) {
         Ok(text) => Ok(text),
         Err(_) => Err(NoMemory),
     }
 }
 
-fn migrated_document(alloc: Global, policy: &Policy) -> Result<String, AllocError>
-    requires { IsWithin policy.now }
-    ensures text { IfOk result (λ t. IsDocumentText false (migrated policy.now) (string_bytes t)) }
-    ensures meaning { IfOk result (λ t. text_meaning (string_bytes t) ≡ Ok policy.now) }
+/// The text of the document that has these sets and assets. It means a policy whose document that is.
+fn printed(alloc: Global, sets: Array, assets: Array) -> Result<String, AllocError>
+    ensures text { IfOk result (λ t. IsDocumentText false (second_document (array_view sets) (array_view assets)) (string_bytes t)) }
+    ensures meaning { IfOk result (λ t. (p : Policy) → IsWithin p → second_document (array_view sets) (array_view assets) ≡ migrated p → text_meaning (string_bytes t) ≡ Ok p) }
 {
-    document_text(alloc, &migrated_table(alloc, policy)?)
+    document_text(alloc, &second_document(alloc, sets, assets)?)
 }
 
-fn migrated_table(alloc: Global, policy: &Policy) -> Result<Table, AllocError>
-    requires { IsWithin policy.now }
-    ensures { IfOk result (λ t. table_view t ≡ migrated policy.now) }
+/// The document of version 2 that has these sets and assets.
+fn second_document(alloc: Global, sets: Array, assets: Array) -> Result<Table, AllocError>
+    ensures { IfOk result (λ t. table_view t ≡ second_document (array_view sets) (array_view assets)) }
 {
-    let points = all_points(alloc, policy.assets.as_slice())?;
-    let lists = set_lists(alloc, points.as_slice())?;
     let mut table = Table::new(alloc);
     insert(alloc, &mut table, Key::Version, Value::Integer(2))?;
-    let sets = set_tables(alloc, lists.as_slice())?;
     insert_list(alloc, &mut table, Key::Set, sets)?;
-    let assets = asset_tables(alloc, lists.as_slice(), policy.assets.as_slice())?;
     insert(alloc, &mut table, Key::Asset, Value::Array(assets))?;
     Ok(table)
+}
+
+/// The lists of points of these assets' rules that get a set, in the order of the sets.
+fn set_lists(alloc: Global, assets: &[Asset]) -> Result<Vec<Items<Span>>, AllocError>
+    ensures sets { IfOk result (λ lists. lists.items ≡ sets_behind [] (all_points assets.now)) }
+    ensures few { IfOk result (λ lists. vec_len lists ≤ MOST_SETS) }
+{
+    let points = all_points(alloc, assets)?;
+    shared_lists(alloc, points.as_slice())
 }
 
 /// Copies of the lists of points of all rules in their order.
@@ -90,16 +106,16 @@ fn copied(alloc: Global, spans: &[Span]) -> Result<Items<Span>, AllocError>
     Ok(Items::new(copy))
 }
 
-/// The different lists that two rules state at least, in the order of the first of them.
-fn set_lists(alloc: Global, points: &[Items<Span>]) -> Result<Items<Items<Span>>, AllocError>
-    ensures sets { IfOk result (λ lists. lists ≡ sets_behind [] points.now) }
-    ensures few { IfOk result (λ lists. length lists ≤ MOST_SETS) }
+/// The different lists that stand here twice at least, in the order of the first of them, as many as there may be sets.
+fn shared_lists(alloc: Global, points: &[Items<Span>]) -> Result<Vec<Items<Span>>, AllocError>
+    ensures sets { IfOk result (λ lists. lists.items ≡ sets_behind [] points.now) }
+    ensures few { IfOk result (λ lists. vec_len lists ≤ MOST_SETS) }
 {
     let mut seen = Vec::new(alloc);
     for (index, list) in points.iter().enumerate() {
         push_set(alloc, &mut seen, list.as_slice(), &points[index + 1..])?;
     }
-    Ok(Items::new(seen))
+    Ok(seen)
 }
 
 /// Appends a list that gets a set.
