@@ -17,7 +17,7 @@ use Rattle.cf_policylang.specs.Documents.{policy_meaning}
 use Rattle.cf_policylang.specs.declared.PolicyRefusal.{PolicyRefusal}
 use Rattle.cf_run.specs.RunCapture.{HasRecords as HasRunRecords}
 use Rattle.cf_box.specs.Captures.{EndsAt, Refuses}
-use Rattle.cf_box.specs.Command.{Command, Check, Compare, Packets, Run, Relay, World, Sift, asset_name, capture_file, other_file, policy_file}
+use Rattle.cf_box.specs.Command.{Command, Check, Compare, Migrate, Packets, Run, Relay, World, Sift, asset_name, capture_file, other_file, policy_file}
 use Rattle.cf_box.specs.Compare.{ExceedsAt, IsNotIncluded}
 use Rattle.cf_box.specs.Ends.{CutsCapture, CutsRun, CutsStream, Denies, EndsIdle, ExceedsCells, LacksAsset, LinkFails, Meets, RefusesCapture, RefusesMadePolicy, RefusesPolicy}
 use Rattle.cf_box.specs.Outside.{Outside, ReadFailed, WriteFailed}
@@ -138,6 +138,7 @@ ends_in_form (Run policy names) before good tells =
     record { refused = λ r h. not_refused_run bytes has r (subst (λ f. RunRefuses f r) told h); cut = uncut; run_cut = uncut }
 ends_in_form (Check policy) before good tells = record { refused = λ r h. h; cut = λ place h. h; run_cut = λ place h. h }
 ends_in_form (Compare policy other) before good tells = record { refused = λ r h. h; cut = λ place h. h; run_cut = λ place h. h }
+ends_in_form (Migrate policy out) before good tells = record { refused = λ r h. h; cut = λ place h. h; run_cut = λ place h. h }
 ends_in_form (Relay policy asset port idles log) before good tells = record { refused = λ r h. h; cut = λ place h. h; run_cut = λ place h. h }
 ends_in_form (World seed sessions policy names) before good tells = record { refused = λ r h. tells.1 h; cut = λ place h. tells.1 h; run_cut = λ place h. tells.1 h }
 ends_in_form (Sift policy asset client names) before good tells = record { refused = λ r h. h; cut = λ place h. h; run_cut = λ place h. h }
@@ -147,6 +148,7 @@ made_none : (c : Command) (before : Outside) → TellsMade c before → RefusesM
 made_none (World seed sessions policy names) before tells made = tells.0 made
 made_none (Check policy) before tells made = made
 made_none (Compare policy other) before tells made = made
+made_none (Migrate policy out) before tells made = made
 made_none (Packets capture) before tells made = made
 made_none (Run policy names) before tells made = made
 made_none (Relay policy asset port idles log) before tells made = made

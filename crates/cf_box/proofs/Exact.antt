@@ -15,7 +15,7 @@ use Rattle.cf_policy.specs.declared.Asset.{Asset}
 use Rattle.cf_policy.specs.declared.Policy.{Policy}
 use Rattle.cf_policylang.specs.Documents.{policy_meaning}
 use Rattle.cf_policylang.specs.declared.PolicyRefusal.{PolicyRefusal}
-use Rattle.cf_box.specs.Command.{Command, Check, Compare, Packets, Run, Relay, World, Sift, asset_name, other_file, policy_file}
+use Rattle.cf_box.specs.Command.{Command, Check, Compare, Migrate, Packets, Run, Relay, World, Sift, asset_name, other_file, policy_file}
 use Rattle.cf_box.specs.Compare.{IsIncluded, OfPolicies, TellsNotIncluded}
 use Rattle.cf_box.specs.Ends.{Does, LacksAsset, Meets, PassesPolicy, RefusesMadePolicy, RefusesPolicy}
 use Rattle.cf_box.specs.Outside.{Outside, ReadFailed, WriteFailed}
@@ -50,6 +50,13 @@ does_pass before after (Compare policy second) d m =
       other = λ file e. let same : second ≡ file = cc in (theirs, subst (λ f. HasPolicy (before.files.content f) theirs) same m.includes.2.has_theirs);
       asset = λ file name e f. cc f;
     }
+does_pass before after (Migrate policy out) d m =
+    let meaning : Policy = m.keeps.meaning in
+    record {
+      policy = λ file e. let same : policy ≡ file = cc in (meaning, subst (λ f. HasPolicy (before.files.content f) meaning) same m.keeps.has);
+      other = λ file e. cc e;
+      asset = λ file name e f. cc f;
+    }
 does_pass before after (Packets capture) d m = record { policy = λ file e. cc e; other = λ file e. cc e; asset = λ file name e f. cc e }
 does_pass before after (Run policy names) d m = record {
   policy = λ file e. let same : policy ≡ file = cc in (m.1.policy, subst (λ f. HasPolicy (before.files.content f) m.1.policy) same m.1.has);
@@ -66,6 +73,7 @@ made_unread : (c : Command) (before : Outside) (file : List ℕ) → policy_file
 made_unread (World seed sessions policy names) before file e made = cc e
 made_unread (Check policy) before file e made = made
 made_unread (Compare policy second) before file e made = made
+made_unread (Migrate policy out) before file e made = made
 made_unread (Packets capture) before file e made = made
 made_unread (Run policy names) before file e made = made
 made_unread (Relay policy asset port idles log) before file e made = made
@@ -297,6 +305,7 @@ module _ (failed : Type 0) (status : ℕ) (before after : Outside) where
   idle_from : HasOneJudgement → (c : Command) → TellsIdle c before after.pair → (r : Result Done Stop) → Meets c before after r → IsOf r failed status → DueIdle
   idle_from law (Check policy) t r meets h = absurd t
   idle_from law (Compare policy second) t r meets h = absurd t
+  idle_from law (Migrate policy out) t r meets h = absurd t
   idle_from law (Packets capture) t r meets h = absurd t
   idle_from law (Run policy names) t r meets h = absurd t
   idle_from law (Relay policy asset port idles log) t r meets h = relay_idle_from law policy asset port idles log t.0 t.1 t.2 r meets h
@@ -307,6 +316,7 @@ module _ (failed : Type 0) (status : ℕ) (before after : Outside) where
   stream_from : HasOneCut → HasOneJudgement → (c : Command) → TellsCut c before after.pair → (r : Result Done Stop) → Meets c before after r → IsOf r failed status → DueWritten
   stream_from one judgement (Check policy) t r meets h = absurd t
   stream_from one judgement (Compare policy second) t r meets h = absurd t
+  stream_from one judgement (Migrate policy out) t r meets h = absurd t
   stream_from one judgement (Packets capture) t r meets h = absurd t
   stream_from one judgement (Run policy names) t r meets h = absurd t
   stream_from one judgement (Relay policy asset port idles log) t r meets h = relay_cut_from judgement policy asset port idles log t.0 t.1.0 t.1.1 r meets h

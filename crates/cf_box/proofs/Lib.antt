@@ -6,6 +6,7 @@ pub mod Exact
 pub mod FileNames
 pub mod Kept
 pub mod Listing
+pub mod Migrating
 pub mod Numerals
 mod Passing
 pub mod Relaying

@@ -11,9 +11,10 @@ use Rattle.cf_sift.specs.Stored.{stored_history}
 use Rattle.cf_outside.specs.Faults.{Rose}
 use Rattle.cf_outside.specs.PairValue.{PairValue}
 use Rattle.cf_policylang.specs.declared.PolicyRefusal.{PolicyRefusal}
-use Rattle.cf_box.specs.Command.{Command, Check, Compare, Packets, Run, Relay, World, Sift}
+use Rattle.cf_box.specs.Command.{Command, Check, Compare, Migrate, Packets, Run, Relay, World, Sift}
 use Rattle.cf_box.specs.Ending.{Prints, Reports, end_text, status_of, stop_status, unprinted_status}
 use Rattle.cf_box.specs.Ends.{CutsCapture, CutsRun, CutsStream, Denies, EndsIdle, ExceedsCells, LacksAsset, LinkFails, Meets, RefusesCapture, RefusesPolicy}
+use Rattle.cf_box.specs.Migrate.{KeepsMeaning}
 use Rattle.cf_box.specs.Outside.{Outside, ReadFailed, SinkValue, WriteFailed}
 use Rattle.cf_box.specs.Packets.{Lists, ListsFile}
 use Rattle.cf_box.specs.Status.{Includes, IsStatus, SiftPassesAllowed}
@@ -105,6 +106,7 @@ module _ (failed : Type 0) (status : ℕ) where
     run_cut (Run policy names) place cut = cut
     run_cut (Check policy) place cut = absurd cut
     run_cut (Compare policy other) place cut = absurd cut
+    run_cut (Migrate policy out) place cut = absurd cut
     run_cut (Packets capture) place cut = absurd cut
     run_cut (Relay policy asset port idles log) place cut = absurd cut
     run_cut (World seed sessions policy names) place cut = cut
@@ -124,6 +126,7 @@ module _ (failed : Type 0) (status : ℕ) where
     link_of (Relay policy asset port idles log) pair fails = fails
     link_of (Check policy) pair fails = absurd fails
     link_of (Compare policy other) pair fails = absurd fails
+    link_of (Migrate policy out) pair fails = absurd fails
     link_of (Packets capture) pair fails = absurd fails
     link_of (Run policy names) pair fails = absurd fails
     link_of (World seed sessions policy names) pair fails = absurd fails
@@ -154,6 +157,15 @@ module _ (failed : Type 0) (status : ℕ) where
       status ≡ 0 → Includes policy second before
   includes_from before middle policy second (Ok d) m h is = m.includes
   includes_from before middle policy second (Err s) m h is = absurd (not_done s h is)
+
+  -- a policy that was written anew means what it meant
+  migrates_from : (before middle after : Outside) (policy out : List ℕ) → after.files ≡ middle.files → (r : Result Done Stop) →
+      Meets (Migrate policy out) before middle r → IsOf r failed status → status ≡ 0 → KeepsMeaning policy out before after
+  migrates_from before middle after policy out same (Ok d) m h is =
+      let k = m.keeps in
+      let t = k.holds_text in
+      record { meaning = k.meaning; has = k.has; holds_text = record { text = t.text; means = t.means; in_file = ap (λ f. f.content out) same ∙ t.in_file } }
+  migrates_from before middle after policy out same (Err s) m h is = absurd (not_done s h is)
 
   -- what was filtered is what the policy allows
   passes_from : LanePassesAllowed → RatesHold → (before middle after : Outside) (policy name : List ℕ) (client : ℕ) (names : SiftNamesValue) → after.files ≡ middle.files →
@@ -255,6 +267,10 @@ module _ {c : Command} {before after : Outside} {status : ℕ} (e : Explains c b
   pub includes_told : (policy second : List ℕ) → c ≡ Compare policy second → status ≡ 0 → Includes policy second before
   includes_told policy second is =
       includes_from Unprinted status before e.middle policy second e.r (subst (λ k. Meets k before e.middle e.r) is e.meets) explained
+
+  pub migrates_told : (policy out : List ℕ) → c ≡ Migrate policy out → status ≡ 0 → KeepsMeaning policy out before after
+  migrates_told policy out is =
+      migrates_from Unprinted status before e.middle after policy out e.reports.files e.r (subst (λ k. Meets k before e.middle e.r) is e.meets) explained
 
   pub passes_told : LanePassesAllowed → RatesHold → (policy name : List ℕ) (client : ℕ) (names : SiftNamesValue) → c ≡ Sift policy name client names → status ≡ 0 →
       SiftPassesAllowed policy name client names before after

@@ -8,9 +8,10 @@ use Rattle.cf_policy.specs.declared.Asset.{Asset}
 use Rattle.cf_policy.specs.declared.Policy.{Policy}
 use Rattle.cf_policylang.specs.declared.PolicyRefusal.{PolicyRefusal}
 use Rattle.cf_box.specs.Check.{CheckLeaves, Checks}
-use Rattle.cf_box.specs.Command.{Command, Check, Compare, Packets, Run, Relay, World, Sift, asset_name, other_file, policy_file}
+use Rattle.cf_box.specs.Command.{Command, Check, Compare, Migrate, Packets, Run, Relay, World, Sift, asset_name, other_file, policy_file}
 use Rattle.cf_box.specs.Compare.{CompareLeaves, Compares, DeniesInclusion, FilesExceed}
 use Rattle.cf_box.specs.Ending.{Puts, Reports}
+use Rattle.cf_box.specs.Migrate.{MigrateLeaves, Migrates}
 use Rattle.cf_box.specs.Outside.{Outside, ReadFailed, WriteFailed}
 use Rattle.cf_box.specs.Packets.{ListingCuts, ListingRefuses, Lists, PacketsLeaves}
 use Rattle.cf_box.specs.PolicyFile.{HasPolicy, IsRefusedBy, asset_named}
@@ -79,6 +80,7 @@ CutsRun _ before place = ⊥
 abbrev pub CutsStream : Command → (before : Outside) → (pair : PairValue) → CutReason → Type 0
 CutsStream (Check policy) before pair reason = ⊥
 CutsStream (Compare policy other) before pair reason = ⊥
+CutsStream (Migrate policy out) before pair reason = ⊥
 CutsStream (Packets capture) before pair reason = ⊥
 CutsStream (Run policy names) before pair reason = ⊥
 CutsStream (Relay policy asset port idles log) before pair reason = CutsRelay policy asset before pair reason
@@ -126,6 +128,7 @@ StopsFor c before after (stop.TooManyCells name) = ExceedsCells c before name.by
 abbrev pub Does : Command → (before after : Outside) → Done → Type 0
 Does (Check policy) before after d = Checks policy before after d
 Does (Compare policy other) before after d = Compares policy other before after d
+Does (Migrate policy out) before after d = Migrates policy out before after d
 Does (Packets capture) before after d = Lists capture before after d
 Does (Run policy names) before after d = Runs policy names before after d
 Does (Relay policy asset port idles log) before after d = Relays policy asset port idles log before after d
@@ -136,6 +139,7 @@ Does (Sift policy asset client names) before after d = Sifts policy asset client
 abbrev pub Leaves : Command → (before after : Outside) → Stop → Type 0
 Leaves (Check policy) before after s = CheckLeaves before after s
 Leaves (Compare policy other) before after s = CompareLeaves before after s
+Leaves (Migrate policy out) before after s = MigrateLeaves policy out before after s
 Leaves (Packets capture) before after s = PacketsLeaves capture before after s
 Leaves (Run policy names) before after s = RunLeaves policy names before after s
 Leaves (Relay policy asset port idles log) before after s = RelayLeaves policy asset port idles log before after s

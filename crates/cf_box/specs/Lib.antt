@@ -6,6 +6,7 @@ pub mod Denial
 pub mod Ending
 pub mod Ends
 pub mod Limits
+pub mod Migrate
 pub mod Names
 pub mod Outside
 pub mod PacketLine

@@ -16,7 +16,7 @@ use Rattle.cf_policy.specs.declared.Policy.{Policy}
 use Rattle.cf_policylang.specs.Documents.{policy_meaning}
 use Rattle.cf_policylang.specs.declared.PolicyRefusal.{PolicyRefusal}
 use Rattle.cf_run.specs.RunCapture.{RunNamesValue}
-use Rattle.cf_box.specs.Command.{Command, Check, Compare, Packets, Run, Relay, World, Sift, AsksPair, asset_name, capture_file, other_file, output_files, policy_file}
+use Rattle.cf_box.specs.Command.{Command, Check, Compare, Migrate, Packets, Run, Relay, World, Sift, AsksPair, asset_name, capture_file, other_file, output_files, policy_file}
 use Rattle.cf_box.specs.Compare.{IncludesAll, IsIncluded, OfPolicies, TellsNotIncluded}
 use Rattle.cf_box.specs.Ends.{CutsCapture, CutsStream, Denies, EndsIdle, ExceedsCells, LacksAsset, LinkFails, RefusesCapture, RefusesPolicy}
 use Rattle.cf_box.specs.Outside.{Outside, ReadFailed, WriteFailed}
@@ -166,6 +166,7 @@ pub record TellsNoAsset (c : Command) (before : Outside) : Type 0 where
 abbrev pub TellsCut : Command → (before : Outside) → (pair : PairValue) → Type 0
 TellsCut (Check file) before pair = ⊥
 TellsCut (Compare file other) before pair = ⊥
+TellsCut (Migrate file out) before pair = ⊥
 TellsCut (Packets file) before pair = ⊥
 TellsCut (Run file names) before pair = ⊥
 TellsCut (Relay file asset port idles log) before pair = TellsCutRelay file asset before pair

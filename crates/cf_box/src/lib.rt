@@ -7,6 +7,7 @@ mod compare;
 mod denial;
 mod ending;
 mod limits;
+mod migrate;
 mod names;
 mod packet_line;
 mod packets;

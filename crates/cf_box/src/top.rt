@@ -1,8 +1,9 @@
 //! The top call.
 ghost use Rattle.std.specs.Prelude.{◌≡◌, ◌≤◌, ◌⊎◌, ◌↔◌, IsNone, List, Some, map, string_bytes, ℕ};
-ghost use Rattle.cf_box.specs.Command.{AsksPair, Compare, Packets, Run, Sift, World};
+ghost use Rattle.cf_box.specs.Command.{AsksPair, Compare, Migrate, Packets, Run, Sift, World};
 ghost use Rattle.cf_box.specs.Ends.{Ends, Meets};
 ghost use Rattle.cf_box.specs.Limits.{HasLimits};
+ghost use Rattle.cf_box.specs.Migrate.{KeepsMeaning};
 ghost use Rattle.cf_box.specs.Outside.{FilesNeverFall, files_value, outside_value};
 ghost use Rattle.cf_box.specs.Packets.{Lists};
 ghost use Rattle.cf_box.specs.RunHolds.{RunHolds};
@@ -19,6 +20,7 @@ use crate::command::{Command, read_words};
 use crate::compare::compare_files;
 use crate::ending::{Done, Stop, put_text, report};
 use crate::limits::limits_are;
+use crate::migrate::migrate;
 use crate::packets::packets;
 use crate::relay::relay;
 use crate::run::run;
@@ -48,6 +50,7 @@ fn perform<F: Files, O: Sink, P: Pair>(
     match command {
         Command::Check { policy } => check(alloc, policy, files),
         Command::Compare { policy, other } => compare_files(alloc, policy, other, files),
+        Command::Migrate { policy, out } => migrate(alloc, policy, out, files),
         Command::Packets { capture } => packets(alloc, capture, files, out),
         Command::Sift {
             policy,
@@ -127,6 +130,11 @@ pub fn box_main<F: Files, O: Sink, P: Pair>(
     // What the first policy allows, to any client and at any asset, the second allows too.
     ensures includes { (policy other : List ℕ) → command_of (map string_bytes words.now) ≡ Some (Compare policy other) → result ≡ 0 →
         Includes policy other (outside_value F.Files O.Sink P.Pair files.old out.old pair.old) }
+
+    // A policy that was written anew means exactly what it meant.
+    ensures migrates { (policy file : List ℕ) → command_of (map string_bytes words.now) ≡ Some (Migrate policy file) → result ≡ 0 →
+        KeepsMeaning policy file (outside_value F.Files O.Sink P.Pair files.old out.old pair.old)
+        (outside_value F.Files O.Sink P.Pair files.new out.new pair.new) }
 
     // Each record of a capture has its line.
     ensures lists { (capture : List ℕ) → command_of (map string_bytes words.now) ≡ Some (Packets capture) → result ≡ 0 →

@@ -1,5 +1,6 @@
 //! What the program says to people: why a policy, a capture or the words were refused, which rules no command meets, why one
-//! policy is not included in another, and what stands in the outputs after a fault. Each call makes one text, whatever it is given, or ends for want of memory.
+//! policy is not included in another, and what stands in the outputs after a fault. Each call makes one text, whatever it is
+//! given, or ends for want of memory.
 #![tactic(auto)]
 
 mod acts;
@@ -8,9 +9,9 @@ mod block;
 mod capture;
 mod code_names;
 mod covered;
+mod difference;
 mod entries;
 mod found;
-mod inclusion;
 mod kinds;
 mod laws;
 mod link;
@@ -20,6 +21,7 @@ mod page;
 mod place;
 mod policy;
 mod quote;
+mod sets;
 mod unknown;
 mod unmet;
 mod warnings;
@@ -29,8 +31,8 @@ mod wrong;
 pub use acts::{Groups, Kind};
 pub use capture::capture_message;
 pub use covered::covering;
+pub use difference::{PolicyFile, inclusion_message};
 pub use found::{What, findings};
-pub use inclusion::{PolicyFile, inclusion_message};
 pub use laws::tables_have_acts_of_commands;
 pub use outputs::{asset_message, outputs_message};
 pub use policy::policy_message;

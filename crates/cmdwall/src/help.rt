@@ -27,6 +27,9 @@ usage:
   cmdwall compare POLICY OTHER
       says whether POLICY allows only what OTHER allows, and else prints the first act that
       it allows beyond
+  cmdwall migrate POLICY OUT
+      writes a policy as a document of version 2, in which lists of points that several rules
+      have stand once, as sets: OUT means exactly what POLICY means
   cmdwall packets CAPTURE
       prints a line for each record of a capture: the fields of its TCP segment over IPv4,
       or why it has none
@@ -90,9 +93,9 @@ reads a policy, and prints 'ok' with its numbers of assets and of all rules
 
 A policy that is refused has status 5, 'policy refused N KEY asset A rule R' on standard
 output, and on standard error the file with line and column, what is wrong, and what is
-allowed. A policy that is read has status 0, and on standard error a warning for each rule
-that no command meets, each code of a rule that none brings, and each rule that an earlier
-one covers.
+allowed. A policy that is read has status 0, and on standard error a warning for each set
+that no rule names or that has the points of another, each rule that no command meets, each
+code of a rule that none brings, and each rule that an earlier one covers.
 
 example:
   cmdwall check examples/pump.toml
@@ -116,6 +119,23 @@ it. How often a rule lets commands through plays no part.
 examples, of which the first prints an act and the second 'included':
   cmdwall compare examples/pump.toml examples/pump-narrow.toml
   cmdwall compare examples/pump-narrow.toml examples/pump.toml
+";
+
+const MIGRATE: &str = "\
+cmdwall migrate POLICY OUT
+
+writes a policy as a document of version 2 that means exactly the same
+
+  POLICY   a text in the policy language (docs/POLICY.md), of either version
+  OUT      is created behind all else, and gets the document: each list of points that two
+           rules have at least is a set, the first 64 of them, named set1, set2 and so on
+
+The two names differ. Comments and layout of POLICY are not kept. Standard output has 'ok'
+with the numbers of assets and of all rules, as check has it.
+
+examples, of which the second prints 'included':
+  cmdwall migrate examples/waterworks.toml new.toml
+  cmdwall compare examples/waterworks.toml new.toml
 ";
 
 const PACKETS: &str = "\
@@ -216,6 +236,7 @@ pub enum Topic {
     Sift,
     Check,
     Compare,
+    Migrate,
     Packets,
     Run,
     Relay,
@@ -262,6 +283,7 @@ fn topic_of(word: &str) -> Option<Topic> {
         "sift" => Some(Topic::Sift),
         "check" => Some(Topic::Check),
         "compare" => Some(Topic::Compare),
+        "migrate" => Some(Topic::Migrate),
         "packets" => Some(Topic::Packets),
         "run" => Some(Topic::Run),
         "relay" => Some(Topic::Relay),
@@ -281,6 +303,7 @@ pub fn print_topic(rt: &impl Print, topic: Topic) -> io::Result<()> {
         Topic::Sift => SIFT,
         Topic::Check => CHECK,
         Topic::Compare => COMPARE,
+        Topic::Migrate => MIGRATE,
         Topic::Packets => PACKETS,
         Topic::Run => RUN,
         Topic::Relay => RELAY,

@@ -36,6 +36,10 @@ pub fn expect_files<R: FileSystem>(
             files.expect(policy)?;
             files.expect(other)
         }
+        Command::Migrate { policy, out } => {
+            files.expect(policy)?;
+            files.expect(out)
+        }
         Command::Packets { capture } => files.expect(capture),
         Command::Run { policy, names } | Command::World { policy, names, .. } => {
             expect_four(files, [policy, names.capture, names.out, names.log])
@@ -166,6 +170,7 @@ fn explain_outputs<R: Eprint + AllocGlobal>(rt: &R, command: &Command<'_>) -> io
         Command::Check { .. } | Command::Compare { .. } | Command::Packets { .. } => {
             outputs_message(rt.alloc(), &[])?
         }
+        Command::Migrate { out, .. } => outputs_message(rt.alloc(), &[out])?,
         Command::Run { names, .. } => outputs_message(rt.alloc(), &[names.out, names.log])?,
         Command::World { policy, names, .. } => outputs_message(
             rt.alloc(),
@@ -185,6 +190,7 @@ fn policy_of<'a>(command: &Command<'a>) -> Option<&'a str> {
         Command::Packets { .. } => None,
         Command::Check { policy }
         | Command::Compare { policy, .. }
+        | Command::Migrate { policy, .. }
         | Command::Run { policy, .. }
         | Command::World { policy, .. }
         | Command::Relay { policy, .. }

@@ -9,7 +9,7 @@ use Rattle.cf_box.proofs.Complete.{complete_told}
 use Rattle.cf_box.proofs.Exact.{exact_told}
 use Rattle.cf_box.proofs.Kept.{kept_told, unwritten_told}
 use Rattle.cf_box.proofs.RunHolds.{run_told}
-use Rattle.cf_box.proofs.Statuses.{Explains, capture_told, cells_told, cut_told, denied_told, idle_told, includes_told, lack_told, link_told, lists_told, passes_told, read_told, refusal_told, stream_told, write_told}
+use Rattle.cf_box.proofs.Statuses.{Explains, capture_told, cells_told, cut_told, denied_told, idle_told, includes_told, lack_told, link_told, lists_told, migrates_told, passes_told, read_told, refusal_told, stream_told, write_told}
 use Rattle.cf_box.proofs.WorldHolds.{own_told, world_told}
 use Rattle.cf_box.proofs.top.box_main.Given.{Over}
 use Rattle.cf_box.proofs.top.box_main.Goals as goal
@@ -81,6 +81,9 @@ pub returns-in-Some-clause-complete : goal.returns-in-Some-clause-complete
 returns-in-Some-clause-complete g c = λ form is input fails.
     let same : command g c ≡ form = let known = c.in-Some.ensures.command in cc in
     complete_told (subst (λ k. Explains k (before g c) (after g c) c.report.result) same (explains g c)) input fails
+
+pub returns-in-Some-clause-migrates : goal.returns-in-Some-clause-migrates
+returns-in-Some-clause-migrates g c = λ policy out is. migrates_told (explains g c) policy out (let known = c.in-Some.ensures.command in cc)
 
 pub returns-in-Some-clause-lists : goal.returns-in-Some-clause-lists
 returns-in-Some-clause-lists g c = λ capture is. lists_told (explains g c) capture (let known = c.in-Some.ensures.command in cc)
