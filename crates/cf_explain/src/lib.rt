@@ -2,7 +2,6 @@
 //! what stands in the outputs after a fault. Each call makes one text, whatever it is given, or ends for want of memory.
 #![tactic(auto)]
 
-mod acts;
 mod allowed;
 mod block;
 mod capture;
@@ -10,7 +9,6 @@ mod covered;
 mod entries;
 mod found;
 mod kinds;
-mod laws;
 mod link;
 mod nearest;
 mod outputs;
@@ -24,11 +22,9 @@ mod warnings;
 mod words;
 mod wrong;
 
-pub use acts::{Groups, Kind};
 pub use capture::capture_message;
 pub use covered::covering;
 pub use found::{What, findings};
-pub use laws::tables_have_acts_of_commands;
 pub use outputs::{asset_message, outputs_message};
 pub use policy::policy_message;
 pub use unmet::{Unmet, why_unmet};

@@ -1,5 +1,5 @@
 //! What `check` warns of: rules that decide nothing, or less than they seem to.
-use crate::acts::{Groups, Kind, kinds};
+use cf_acts::{Groups, Kind, kinds};
 use crate::found::{What, findings};
 use crate::page::Page;
 use crate::policy::push_rule_place;

@@ -5,8 +5,8 @@ use Rattle.std.proofs.lemmas.Int.{ints}
 use Rattle.std.proofs.lemmas.Bool.{and_from, or_left, or_right, cases_Bool, eqb-true}
 use Rattle.cf_view.specs.declared.base.Act.{Act}
 use Rattle.cf_policy.specs.Verdict.{covers}
-use Rattle.cf_explain.specs.declared.acts.Kind.{Kind}
-use Rattle.cf_explain.specs.Acts.{between, up_to, has_group, has_value, is_of_kind}
+use Rattle.cf_acts.specs.declared.acts.Kind.{Kind}
+use Rattle.cf_acts.specs.Acts.{between, up_to, has_group, has_value, is_of_kind}
 
 pub of_kind : (k : Kind) (act : Act) → has_group k.groups (pos act.group) ≡ true → covers k.points (pos act.point) ≡ true
     → has_value k.values act.value ≡ true → is_of_kind act k ≡ true

@@ -1,6 +1,6 @@
 //! The acts that commands can have: those of each code. `docs/POLICY.md` has them in words.
 ghost use Rattle.std.specs.Prelude.{◌≡◌};
-ghost use Rattle.cf_explain.specs.Acts.{kinds, modbus_kinds, dnp3_kinds, iec104_kinds};
+ghost use Rattle.cf_acts.specs.Acts.{kinds, modbus_kinds, dnp3_kinds, iec104_kinds};
 
 use cf_policy::{Protocol, Span};
 
@@ -209,7 +209,7 @@ const WRITTEN: [Kind; 3] = [TIME, LAST_TIME, INDICATIONS];
 const BOTH_PARTS: [Kind; 2] = [WRITE_PART, READ];
 
 /// The kinds of acts that commands with a code have; none where the protocol does not serve it.
-pub(crate) fn kinds(protocol: Protocol, code: u16) -> &'static [Kind]
+pub fn kinds(protocol: Protocol, code: u16) -> &'static [Kind]
     ensures { result.now ≡ kinds protocol code }
 {
     match protocol {

@@ -11,11 +11,11 @@ use Rattle.cf_policy.specs.declared.policy.Protocol.TheVariants.{Modbus}
 use Rattle.cf_modbus.specs.Request.{RequestValue, form_of, HasForm}
 use Rattle.cf_modbus.specs.Acts.{acts, coil_of, bit_of, value_of, group_of}
 use Rattle.cf_modbus.proofs.ActLists.{count_of_acts, first_act, second_act}
-use Rattle.cf_explain.specs.declared.acts.Groups.TheVariants as groups
-use Rattle.cf_explain.specs.declared.acts.Kind.{Kind}
-use Rattle.cf_explain.specs.Acts.{between, up_to, kind, modbus_kind, modbus_kinds, is_of_kind, can_have}
-use Rattle.cf_explain.specs.Commands.{IsOfRequest}
-use Rattle.cf_explain.proofs.Tables.{at_first, at_second, in_up_to, some_is, split}
+use Rattle.cf_acts.specs.declared.acts.Groups.TheVariants as groups
+use Rattle.cf_acts.specs.declared.acts.Kind.{Kind}
+use Rattle.cf_acts.specs.Acts.{between, up_to, kind, modbus_kind, modbus_kinds, is_of_kind, can_have}
+use Rattle.cf_acts.specs.Commands.{IsOfRequest}
+use Rattle.cf_acts.proofs.Tables.{at_first, at_second, in_up_to, some_is, split}
 
 coil_low : (octets : List ℕ) → coil_of octets ≤ 1
 coil_low octets = grind (arith, nat_tests)

@@ -19,12 +19,12 @@ use Rattle.cf_dnpobj.specs.Headers.{number_at, count_of, IsHeader, headers_in}
 use Rattle.cf_dnpobj.specs.Fragment.{FragmentValue, SpellsRequest, takes_headers}
 use Rattle.cf_dnpobj.specs.Acts.{acts_in, header_acts, object_act, object_place, plain_act, group_of, signed, value_at}
 use Rattle.cf_dnpobj.proofs.Grammar.{are_headers}
-use Rattle.cf_explain.specs.declared.acts.Groups.TheVariants as groups
-use Rattle.cf_explain.specs.declared.acts.Kind.{Kind}
-use Rattle.cf_explain.specs.Acts as tables
-use Rattle.cf_explain.specs.Acts.{between, up_to, kind, control_kind, written_kind, dnp3_kinds, has_value, is_of_kind, can_have}
-use Rattle.cf_explain.specs.Commands.{IsOfFragment}
-use Rattle.cf_explain.proofs.Tables.{at_first, at_second, in_between, in_up_to, some_is}
+use Rattle.cf_acts.specs.declared.acts.Groups.TheVariants as groups
+use Rattle.cf_acts.specs.declared.acts.Kind.{Kind}
+use Rattle.cf_acts.specs.Acts as tables
+use Rattle.cf_acts.specs.Acts.{between, up_to, kind, control_kind, written_kind, dnp3_kinds, has_value, is_of_kind, can_have}
+use Rattle.cf_acts.specs.Commands.{IsOfFragment}
+use Rattle.cf_acts.proofs.Tables.{at_first, at_second, in_between, in_up_to, some_is}
 
 -- the kinds by the code
 

@@ -17,11 +17,11 @@ use Rattle.cf_asdu.specs.declared.asdu.AsduRefusal.TheVariants as refusals
 use Rattle.cf_asdu.specs.Asdu.{AsduValue, has_objects, is_command_cause}
 use Rattle.cf_asdu.specs.Acts.{acts, acts_by}
 use Rattle.cf_asdu.specs.Types.{element_of, signed}
-use Rattle.cf_explain.specs.declared.acts.Groups.TheVariants as groups
-use Rattle.cf_explain.specs.Acts as tables
-use Rattle.cf_explain.specs.Acts.{between, up_to, object_kind, iec104_kinds, has_group, has_value, is_of_kind, can_have}
-use Rattle.cf_explain.specs.Commands.{IsOfAsdu}
-use Rattle.cf_explain.proofs.Tables.{at_first, in_between, in_up_to, some_is, split}
+use Rattle.cf_acts.specs.declared.acts.Groups.TheVariants as groups
+use Rattle.cf_acts.specs.Acts as tables
+use Rattle.cf_acts.specs.Acts.{between, up_to, object_kind, iec104_kinds, has_group, has_value, is_of_kind, can_have}
+use Rattle.cf_acts.specs.Commands.{IsOfAsdu}
+use Rattle.cf_acts.proofs.Tables.{at_first, in_between, in_up_to, some_is, split}
 
 causes : (n : ℕ) → ((n == 5) || ((n == 6) || (n == 8))) ≡ true → has_group groups.Causes (pos n) ≡ true
 causes n h = ⊎_elim

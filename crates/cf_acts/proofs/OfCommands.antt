@@ -3,11 +3,11 @@ use Rattle.std.proofs.Common.{◌≡◌, true}
 use Rattle.cf_view.specs.declared.base.Act.{Act}
 use Rattle.cf_policy.specs.declared.policy.Protocol.{Protocol}
 use Rattle.cf_policy.specs.declared.policy.Protocol.TheVariants.{Modbus, Dnp3, Iec104}
-use Rattle.cf_explain.specs.Acts.{can_have}
-use Rattle.cf_explain.specs.Commands.{IsOfCommand}
-use Rattle.cf_explain.proofs.OfRequests.{request_acts_in}
-use Rattle.cf_explain.proofs.OfFragments.{fragment_acts_in}
-use Rattle.cf_explain.proofs.OfAsdus.{asdu_acts_in}
+use Rattle.cf_acts.specs.Acts.{can_have}
+use Rattle.cf_acts.specs.Commands.{IsOfCommand}
+use Rattle.cf_acts.proofs.OfRequests.{request_acts_in}
+use Rattle.cf_acts.proofs.OfFragments.{fragment_acts_in}
+use Rattle.cf_acts.proofs.OfAsdus.{asdu_acts_in}
 
 pub command_acts_in : (p : Protocol) (act : Act) → IsOfCommand p act → can_have p act ≡ true
 command_acts_in Modbus act of = request_acts_in act of

@@ -8,9 +8,9 @@ use Rattle.cf_policy.specs.declared.policy.Protocol.{Protocol}
 use Rattle.cf_policy.specs.declared.policy.Protocol.TheVariants.{Modbus, Dnp3, Iec104}
 use Rattle.cf_policy.specs.declared.policy.Span.{Span}
 use Rattle.cf_policy.specs.Verdict.{covers}
-use Rattle.cf_explain.specs.declared.acts.Groups.{Groups}
-use Rattle.cf_explain.specs.declared.acts.Groups.TheVariants as groups
-use Rattle.cf_explain.specs.declared.acts.Kind.{Kind}
+use Rattle.cf_acts.specs.declared.acts.Groups.{Groups}
+use Rattle.cf_acts.specs.declared.acts.Groups.TheVariants as groups
+use Rattle.cf_acts.specs.declared.acts.Kind.{Kind}
 
 -- the numbers from 0 to one
 abbrev pub up_to : ℕ → Span
