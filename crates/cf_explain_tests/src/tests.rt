@@ -1,7 +1,8 @@
-//! What policies mean, what they say about acts, how two compare, what the log says, and what is said of typical mistakes: rows of
+//! What policies mean, what they say about acts, how two compare, what is learned of flows, what the log says, and what is said of typical mistakes: rows of
 //! text.
 mod changes;
 mod compare;
+mod learned;
 mod lines;
 mod policies;
 mod refused;
@@ -40,6 +41,8 @@ enum Subject {
     Comparison,
     /// How many cells the first assets of two policies have.
     Cells,
+    /// What is learned of flows.
+    Learned,
 }
 
 /// What is found of what a row gives.
@@ -57,6 +60,7 @@ fn found(alloc: Global, subject: Subject, given: &str) -> Result<String, Fail> {
         Subject::Line => lines::line(alloc, given),
         Subject::Comparison => compare::compared(alloc, given),
         Subject::Cells => compare::counted(alloc, given),
+        Subject::Learned => learned::learned(alloc, given),
     }
 }
 
@@ -125,6 +129,13 @@ fn policies_are_compared(rt: HostRuntime) -> Result<(), Fail> {
     play_lines(&rt, alloc, Subject::Comparison, &rows)?;
     let rows = compare::CELLS.replace(alloc, "\n    ", " ")?;
     play_lines(&rt, alloc, Subject::Cells, &rows)
+}
+
+#[test]
+fn policies_are_learned(rt: HostRuntime) -> Result<(), Fail> {
+    let alloc = rt.alloc();
+    let rows = learned::ROWS.replace(alloc, "\n    ", " ")?;
+    play_lines(&rt, alloc, Subject::Learned, &rows)
 }
 
 #[test]

@@ -25,7 +25,7 @@ use Rattle.cf_policy.specs.declared.Protocol.TheVariants.{Modbus, Dnp3, Iec104}
 use Rattle.cf_view.specs.Octets.{IsOctets}
 use Rattle.cf_view.specs.declared.Act.{Act}
 use Rattle.cf_learn.specs.Reading.{Adds}
-use Rattle.cf_learn.specs.Seen.{seen_of}
+use Rattle.cf_learn.specs.Seen.{act_of, seen_of}
 use Rattle.cf_learn.specs.Shown.{Asdu, Fragment, HasAct, HaveAct, Message, Request}
 use Rattle.cf_learn.specs.declared.seen.Seen.{Seen}
 use Rattle.cf_learn.proofs.Elements.{first, nothing, only, place}
@@ -83,6 +83,10 @@ have_none p asset client old new ms is same =
 pub on_ok : {T E : Type 0} {P Q : Type 0} (r : Result T E) → (P → Q) → OnOk r P → OnOk r Q
 on_ok (Ok t) step h = step h
 on_ok (Err e) step h = h
+
+-- what was seen is a client and an act
+pub seen_is : (s : Seen) (client : ℕ) (act : Act) → s.kind.client ≡ client → act_of s ≡ act → s ≡ seen_of client act
+seen_is s client act a b = λ i. seen_of (a i) (b i)
 
 -- one act more, and all of them
 pub pushed_more : (client : ℕ) (acts : List Act) (i : ℕ) (act : Act) (old now new : List Seen) → slice_get acts i ≡ Some act → now ≡ old ++ map (seen_of client) (take i acts)

@@ -35,15 +35,16 @@ message_in (Apdu (Info send receive octets)) = Asdu octets ∷ []
 message_in (Apdu (Ack receive)) = []
 message_in (Apdu (Control code)) = []
 
--- a client's frame that is served, with data
-abbrev pub is_segment : Asset → FrameValue → Bool
-is_segment asset f = is_none (stray_of asset side.Client f) && is_data f
-
+-- a frame and an APDU as units
 abbrev pub frame_unit : FrameValue → UnitValue
 frame_unit f = Frame f
 
 abbrev pub apdu_unit : ApduValue → UnitValue
 apdu_unit a = Apdu a
+
+-- a client's frame that is served, with data
+abbrev pub is_segment : Asset → FrameValue → Bool
+is_segment asset f = is_none (stray_of asset side.Client f) && is_data f
 
 -- the user octets of such a frame
 abbrev pub segment_of : Asset → UnitValue → List (List ℕ)
