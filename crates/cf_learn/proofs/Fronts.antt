@@ -1,7 +1,6 @@
 -- The acts of a client's bytes, unit by unit.
 use Rattle.std.proofs.Common.{◌≡◌, ℕ, zero, suc, ◌+◌, ◌-◌, ◌<◌, ◌≤◌, ◌⊎◌, ◌↔◌, inl, inr, Bool, true, false, List, [], ◌∷◌, ◌++◌, length, drop, take, map, reverse, Option, Some, None, refl, sym, ap, subst, ◌∙◌, arith, append_assoc, if◌then◌else◌}
 use mathlib.Core.Logic.{⊎_elim}
-use Rattle.std.specs.Prelude.{Contains}
 use Rattle.std.specs.List.{flat_map}
 use Rattle.std.proofs.lemmas.Grind.{flat_map-append}
 use Rattle.std.proofs.lemmas.List.{append-nil, drop-drop, length-drop, map-append, reverse-append, take_all}
@@ -23,7 +22,7 @@ use Rattle.cf_view.specs.declared.Break.{Break}
 use Rattle.cf_view.specs.Units.{BeginsWithUnits}
 use Rattle.cf_view.specs.declared.Act.{Act}
 use Rattle.cf_learn.specs.Reading.{Adds, TakesFront, TakesNone, TakesUnit, made_whole, new_messages}
-use Rattle.cf_learn.specs.Shown.{Fragment, HasAct, HaveAct, IsShown, Message, frame_unit, is_segment, message_in, messages, segment_of}
+use Rattle.cf_learn.specs.Shown.{Fragment, HasAct, HaveAct, IsShown, frame_unit, is_segment, message_in, messages, segment_of}
 use Rattle.cf_learn.specs.declared.seen.Seen.{Seen}
 use Rattle.cf_learn.proofs.Adding.{adds_both, adds_none, adds_same, have_one}
 use Rattle.cf_learn.proofs.Elements.{apart, nothing, together_first, together_second}
@@ -209,11 +208,15 @@ module _ {U : Type 0} {Spells : U → List ℕ → Type 0} {p : Protocol} {unit 
   pub takes_break : (asset : Asset) (told bytes : List ℕ) (old : List Seen) (place : ℕ) → asset.protocol ≡ p → told ≡ bytes → BreaksAt Spells told place → TakesNone asset bytes old old
   takes_break asset told bytes old place of lent b = record {
     tail = Wrong (unit_break asset.protocol place);
-    are = (place, record {
-      rest = bytes;
-      starts = refl;
-      breaks = subst (λ q. BreaksAt (SpellsUnit q) bytes place) (sym of) (subst (λ xs. BreaksAt (SpellsUnit p) xs place) lent (breaks_by g told place b));
-    }, refl);
+    are = (
+      place,
+      record {
+        rest = bytes;
+        starts = refl;
+        breaks = subst (λ q. BreaksAt (SpellsUnit q) bytes place) (sym of) (subst (λ xs. BreaksAt (SpellsUnit p) xs place) lent (breaks_by g told place b));
+      },
+      refl,
+    );
     same = refl;
   }
 

@@ -1,6 +1,6 @@
 -- Assets with learned rules, one by one.
-use Rattle.std.proofs.Common.{◌≡◌, ◌≢◌, ℕ, zero, suc, ◌+◌, ◌^◌, ◌<◌, ◌≤◌, ◌↔◌, pos, List, [], ◌∷◌, ◌++◌, length, take, drop, get_or, is_some, refl, sym, ap, subst, ◌∙◌, arith, append_assoc}
-use Rattle.std.specs.Prelude.{All, AllPairs, Contains}
+use Rattle.std.proofs.Common.{◌≡◌, ℕ, zero, suc, ◌+◌, ◌<◌, ◌≤◌, List, [], ◌∷◌, ◌++◌, length, take, drop, get_or, refl, sym, ap, subst, ◌∙◌, arith, append_assoc}
+use Rattle.std.specs.Prelude.{All, Contains}
 use Rattle.std.proofs.lemmas.Int.{ints}
 use Rattle.std.proofs.lemmas.List.{length-take-le, take_all, take_more, take-append-drop}
 use Rattle.std.proofs.lemmas.List.Elements.{All-contains_itself, All-from_recursion, All-weaker}
@@ -17,7 +17,7 @@ use Rattle.cf_learn.specs.declared.seen.Seen.{Seen}
 use Rattle.cf_learn.specs.Assets.{AreLearned, AreSeen, IsFirstTooMany, IsLearnedAsset, LearnsTooMany, with_rules}
 use Rattle.cf_learn.specs.Greatest.{IsGrouped}
 use Rattle.cf_learn.specs.Rules.{AreLearnedFrom}
-use Rattle.cf_learn.specs.Seen.{AllowsSeen, IsSeenWithin, SettlesValue, act_of, seen_of}
+use Rattle.cf_learn.specs.Seen.{AllowsSeen, IsSeenWithin, SettlesValue, act_of}
 
 module _ (asset : Asset) (place : ℕ) (flows : List FlowValue) (seen : List Seen) (are : AreSeen asset place flows seen) where
   settled : (act : Act) → IsOfCommand asset.protocol act → SettlesValue seen act

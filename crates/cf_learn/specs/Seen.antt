@@ -1,5 +1,5 @@
 -- What was seen, and when rules allow exactly that: AllowsSeen.
-use Rattle.std.specs.Prelude.{◌≡◌, ℕ, ◌==◌, ℤ, Bool, true, false, ◌&&◌, ◌⊎◌, ◌↔◌, List, All, Contains, Option, Some, None, pos, ◌≤ℤ◌, IfSome}
+use Rattle.std.specs.Prelude.{◌≡◌, ℕ, ◌==◌, ℤ, Bool, true, false, ◌&&◌, ◌⊎◌, ◌↔◌, List, Contains, Option, Some, None, pos, ◌≤ℤ◌, IfSome}
 use Rattle.std.specs.Ordering.{int_eq}
 use Rattle.std.specs.Option.{is_some}
 use Rattle.cf_view.specs.declared.Act.{Act}

@@ -48,7 +48,13 @@ pub(crate) fn seen_in(
     let mut seen = Vec::new(alloc);
     for flow in flows {
         if flow.asset == place {
-            push_bytes(alloc, &mut seen, asset, flow.client.address, flow.bytes.as_slice())?;
+            push_bytes(
+                alloc,
+                &mut seen,
+                asset,
+                flow.client.address,
+                flow.bytes.as_slice(),
+            )?;
         }
     }
     Ok(seen)
@@ -218,7 +224,12 @@ fn push_fragment(
             if fragment.code == 0 {
                 return Ok(());
             }
-            push_acts(seen, client, fragment_acts(&fragment), |i| fragment_act(&fragment, i))
+            push_acts(
+                seen,
+                client,
+                fragment_acts(&fragment),
+                |i| fragment_act(&fragment, i),
+            )
         }
         Err(_) => Ok(()),
     }

@@ -1,5 +1,4 @@
-use Rattle.std.proofs.Common.{rules, ◌≡◌, ◌++◌, ◌∷◌, [], map, subst, sym, ap, ◌∙◌, length, take, arith}
-use Rattle.std.proofs.lemmas.List.{take_all}
+use Rattle.std.proofs.Common.{rules, ◌≡◌, ◌++◌, ◌∷◌, [], map, subst, sym}
 use Rattle.cf_watch.specs.FlowValue.{flow_value}
 use Rattle.cf_policy.specs.Within.{AreAssetsWithin}
 use Rattle.cf_learn.specs.Assets.{AreLearned}

@@ -1,6 +1,6 @@
 use Rattle.std.proofs.Common.{map, subst, sym}
 use Rattle.cf_watch.specs.FlowValue.{flow_value}
-use Rattle.cf_learn.specs.Assets.{IsLearnedAsset, with_rules}
+use Rattle.cf_learn.specs.Assets.{IsLearnedAsset}
 use Rattle.cf_learn.proofs.Learned.{learned_with}
 use Rattle.cf_learn.proofs.assets.learned_asset.Goals as goal
 

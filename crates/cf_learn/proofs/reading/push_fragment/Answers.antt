@@ -1,4 +1,4 @@
-use Rattle.std.proofs.Common.{◌≡◌, List, ℕ, refl, rules, subst, sym}
+use Rattle.std.proofs.Common.{List, ℕ, refl, rules, subst, sym}
 use Rattle.std.specs.Prelude.{OnOk}
 use Rattle.cf_dnpobj.specs.Acts.{acts}
 use Rattle.cf_dnpobj.specs.Fragment.{fragment_value}

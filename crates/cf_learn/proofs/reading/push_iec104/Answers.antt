@@ -1,11 +1,10 @@
-use Rattle.std.proofs.Common.{[], ◌∷◌, ◌++◌, refl, subst, sym}
+use Rattle.std.proofs.Common.{[], ◌++◌, refl, subst, sym}
 use Rattle.std.proofs.lemmas.List.{append-nil}
 use Rattle.cf_apci.specs.Apdu.{apdu_value}
 use Rattle.cf_lane.proofs.Units.{apdus}
-use Rattle.cf_policy.specs.declared.Protocol.TheVariants.{Modbus, Dnp3, Iec104}
+use Rattle.cf_policy.specs.declared.Protocol.TheVariants.{Iec104}
 use Rattle.cf_learn.specs.Reading.{Adds}
-use Rattle.cf_learn.specs.Shown.{HaveAct, Request, apdu_unit, message_in}
-use Rattle.cf_learn.proofs.Adding.{have_one}
+use Rattle.cf_learn.specs.Shown.{HaveAct, apdu_unit, message_in}
 use Rattle.cf_learn.proofs.Fronts.{takes_break, takes_part, takes_unit}
 use Rattle.cf_learn.proofs.reading.push_iec104.Goals as goal
 
