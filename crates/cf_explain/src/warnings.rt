@@ -1,10 +1,10 @@
 //! What `check` warns of: rules that decide nothing, or less than they seem to.
-use cf_acts::{Groups, Kind, kinds};
 use crate::found::{What, findings};
 use crate::page::Page;
 use crate::policy::push_rule_place;
 use crate::quote::push_quoted;
 use crate::unmet::{Unmet, reaches_place};
+use cf_acts::{Groups, Kind, kinds};
 use cf_policy::{Action, Asset, Policy, Protocol, Rule, Span};
 use std::alloc::{AllocError, Global};
 

@@ -43,7 +43,8 @@ station = 5
 /// learned, each the place of its asset, its name, client, code, group, points and value. `reads N` are reads of the registers 0, 2 and
 /// so on, `writes N` writes of the values from 0 on. Of a rule of more than four spans their number is told, of an asset of more than
 /// four rules theirs, and `none` where there is no rule. A line that begins with four spaces goes on with the one before it.
-pub(super) const ROWS: &str = r#"5 0 0001 0000 0006 01 03 0000 0002 0002 0000 0006 01 06 0028 0064 => 0.r1 5 3 0 0..1 - / 0.r2 5 6 0 40..40 100..100 /
+pub(super) const ROWS: &str =
+    r#"5 0 0001 0000 0006 01 03 0000 0002 0002 0000 0006 01 06 0028 0064 => 0.r1 5 3 0 0..1 - / 0.r2 5 6 0 40..40 100..100 /
 5 0 0001 0000 0006 01 06 0028 0064 0002 0000 0006 01 03 0001 0001 0003 0000 0006 01 03 0000 0001 0004 0000 0006 01 06 0028
     0064 => 0.r1 5 3 0 0..1 - / 0.r2 5 6 0 40..40 100..100 /
 5 0 => none
