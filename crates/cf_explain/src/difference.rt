@@ -1,11 +1,11 @@
 //! Why one policy is not included in another: which rule of the first allows an act, and why the second refuses it.
 ghost use Rattle.cf_policy.specs.Within.{IsWithin};
 
-use crate::acts::{Groups, Kind, kinds};
 use crate::code_names::code_name;
 use crate::page::Page;
 use crate::policy::push_rule_place;
 use crate::quote::push_quoted;
+use cf_acts::{Groups, Kind, kinds};
 use cf_compare::{CompareFault, Compared, MOST_CELLS, compare};
 use cf_policy::{Asset, Decider, Policy, Protocol, Span, Verdict, verdict};
 use cf_view::{Act, Reason};

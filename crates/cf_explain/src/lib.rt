@@ -3,7 +3,6 @@
 //! given, or ends for want of memory.
 #![tactic(auto)]
 
-mod acts;
 mod allowed;
 mod block;
 mod capture;
@@ -13,7 +12,6 @@ mod difference;
 mod entries;
 mod found;
 mod kinds;
-mod laws;
 mod link;
 mod nearest;
 mod outputs;
@@ -28,12 +26,10 @@ mod warnings;
 mod words;
 mod wrong;
 
-pub use acts::{Groups, Kind};
 pub use capture::capture_message;
 pub use covered::covering;
 pub use difference::{PolicyFile, inclusion_message};
 pub use found::{What, findings};
-pub use laws::tables_have_acts_of_commands;
 pub use outputs::{asset_message, outputs_message};
 pub use policy::policy_message;
 pub use unmet::{Unmet, why_unmet};

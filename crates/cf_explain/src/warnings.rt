@@ -1,11 +1,11 @@
 //! What `check` warns of: sets that no rule names, and rules that decide nothing, or less than they seem to.
-use crate::acts::{Groups, Kind, kinds};
 use crate::found::{What, findings};
 use crate::page::Page;
 use crate::policy::push_rule_place;
 use crate::quote::push_quoted;
 use crate::sets::{is_named, name_of, sets_of, twin_of};
 use crate::unmet::{Unmet, reaches_place};
+use cf_acts::{Groups, Kind, kinds};
 use cf_policy::{Action, Asset, Policy, Protocol, Rule, Span};
 use std::alloc::{AllocError, Global};
 use toml::{Table, Value};

@@ -1,7 +1,8 @@
-//! What policies mean, what they say about acts, how two compare, how one is written anew, what the log says, and what is said of typical
-//! mistakes: rows of text.
+//! What policies mean, what they say about acts, how two compare, how one is written anew, what is learned of flows, what the log says, and
+//! what is said of typical mistakes: rows of text.
 mod changes;
 mod compare;
+mod learned;
 mod lines;
 mod policies;
 mod refused;
@@ -45,6 +46,8 @@ enum Subject {
     Reason,
     /// What a policy is written as.
     Rewritten,
+    /// What is learned of flows.
+    Learned,
 }
 
 /// What is found of what a row gives.
@@ -64,6 +67,7 @@ fn found(alloc: Global, subject: Subject, given: &str) -> Result<String, Fail> {
         Subject::Cells => compare::counted(alloc, given),
         Subject::Reason => compare::reason(alloc, given),
         Subject::Rewritten => rewritten::rewritten(alloc, given),
+        Subject::Learned => learned::learned(alloc, given),
     }
 }
 
@@ -140,6 +144,13 @@ fn policies_are_written_anew(rt: HostRuntime) -> Result<(), Fail> {
     let alloc = rt.alloc();
     let rows = rewritten::ROWS.replace(alloc, "\n    ", " ")?;
     play_lines(&rt, alloc, Subject::Rewritten, &rows)
+}
+
+#[test]
+fn policies_are_learned(rt: HostRuntime) -> Result<(), Fail> {
+    let alloc = rt.alloc();
+    let rows = learned::ROWS.replace(alloc, "\n    ", " ")?;
+    play_lines(&rt, alloc, Subject::Learned, &rows)
 }
 
 #[test]

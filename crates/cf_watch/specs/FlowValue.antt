@@ -1,0 +1,17 @@
+-- What a contract sees of a `Flow`: FlowValue. This project's own.
+use Rattle.std.specs.Prelude.{ℕ, List, Option}
+use Rattle.cf_view.specs.declared.Endpoint.{Endpoint}
+use Rattle.cf_watch.specs.declared.flow.Conflict.{Conflict}
+use Rattle.cf_watch.specs.declared.flow.Flow.{Flow}
+
+-- its client, the place of its asset in the policy, its bytes, for each of them the number of the record with which they reached it, and
+-- its first conflict
+pub record FlowValue : Type 0 where
+  pub client : Endpoint
+  pub asset : ℕ
+  pub bytes : List ℕ
+  pub born : List ℕ
+  pub conflict : Option Conflict
+
+abbrev pub flow_value : Flow → FlowValue
+flow_value f = record { client = f.client; asset = f.asset; bytes = f.bytes.items; born = f.born.items; conflict = f.conflict }
