@@ -223,7 +223,7 @@ fn run_record<F: Files>(
         (record { moment = moment; packet = read_record reader.now.link reader.now.body })
         (files_desk names.now.out.now names.now.log.now (F.content files.old)) (files_desk names.now.out.now names.now.log.now (F.content files.new)) }
     ensures stops { IsErrOf result StepFault.NoMemory → (events : List Event) → IsEngineOf policy.now.assets engine.old events
-        → StepStops (table_after events) (record { moment = moment; packet = read_record reader.now.link reader.now.body })
+        → StepStops policy.now.assets (table_after events) (record { moment = moment; packet = read_record reader.now.link reader.now.body })
         (files_told names.now.out.now names.now.log.now (F.content files.old)) (files_told names.now.out.now names.now.log.now (F.content files.new)) }
     ensures stops_whole { IsErrOf result StepFault.NoMemory → are_whole names.now.out.now names.now.log.now (F.content files.new) ≡ true }
     ensures sound { OnOk result (IsSoundEngine policy.now.assets engine.new) }
