@@ -1,4 +1,5 @@
 //! Laws of a run: each is the contract of a function that does nothing.
+ghost use Rattle.cf_run.specs.Fixed.{RecordsFixEvents, RecordsFixRuns};
 ghost use Rattle.cf_run.specs.Headline.{RunsHaveHeadline};
 ghost use Rattle.cf_run.specs.Isolation.{RunsIsolateSessions};
 ghost use Rattle.cf_run.specs.Records.{BeginAtTwo, GoOnByTwo, HaveOneList, HaveOneTimedList, HaveRecords, HaveTimedRecords, NoneAfterTheLastMoment, StayBelowTheLimit};
@@ -32,6 +33,15 @@ pub fn moments_rise()
 pub fn selects_by_moment()
     ensures { SelectsByMoment }
 {}
+
+/// The records fix a run: two lists of right events over the same records are the same, and so are what two runs over them write
+/// and count.
+pub fn records_fix_runs()
+    ensures events { RecordsFixEvents }
+    ensures runs { RecordsFixRuns }
+{
+    events_are_fixed();
+}
 
 /// In a run every session, those that left the table too, has right events: each reads the session's own earlier ones, its flow
 /// and the moments alone.
