@@ -7,7 +7,7 @@ ghost use Rattle.cf_stream.specs.Stream.{Stream, Letter, Extends, letter_at, let
 ghost use Rattle.cf_leg.specs.Emits.{AllRight, IsRight, Pieces, differs, empties, letters_of_all, to_tell};
 ghost use Rattle.cf_leg.specs.Asked.{AllAsked};
 ghost use Rattle.cf_leg.specs.Calls.{AreQuietBeforeDue};
-ghost use Rattle.cf_leg.specs.OneStream.{Grows, IsOneStream, first_carried, first_in};
+ghost use Rattle.cf_leg.specs.OneStream.{Grows, IsOneStream, IsRightRun, first_carried, first_in};
 ghost use Rattle.cf_leg.specs.LegValue.{Marks, IsLegOf, LegValue, marks};
 ghost use Rattle.cf_rebuild.specs.ReceiveWindow.{base_of};
 ghost use Rattle.cf_stream.specs.FirstCopy.{IsTaken, first_copy};
@@ -59,7 +59,8 @@ pub fn sends_are_fixed()
     ensures speech { (ends : Ends) (es : List LegEvent) (e : LegEvent) (whole : Stream) (roomy : Bool) (xs ys : List PacketValue) → IsRight ends es (spoke e whole roomy xs) → IsRight ends es (spoke e whole roomy ys) → xs ≡ ys }
 {}
 
-/// After a speech of an open leg the letters sent are those of its queue's list below the greatest edge shown.
+/// Between two events of an open leg every letter that the peer lets in was sent: the letters sent are those of its queue's list
+/// below the greatest edge shown.
 pub fn speeches_reach()
-    ensures { (leg : LegValue) (q : Queue) (e : LegEvent) (es : List LegEvent) (whole : Stream) (roomy : Bool) (outs : List PacketValue) → IsLegOf leg (marks q) (spoke e whole roomy outs ∷ es) → IsQueueOf q whole → opened leg.ends.role (spoke e whole roomy outs ∷ es) ≡ true → letters_sent leg.ends.role (spoke e whole roomy outs ∷ es) ≡ min (shown leg.ends.role (spoke e whole roomy outs ∷ es)) (letter_count whole) }
+    ensures { (ends : Ends) (es : List LegEvent) (whole : Stream) → IsRightRun ends es whole → is_settled es ≡ true → opened ends.role es ≡ true → letters_sent ends.role es ≡ min (shown ends.role es) (letter_count (stream_after es)) }
 {}
