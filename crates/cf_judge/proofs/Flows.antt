@@ -1,5 +1,5 @@
 -- Flows that were judged so far.
-use Rattle.std.proofs.Common.{◌≡◌, All, arith, get_or, length, ◌+◌, ◌-◌, ◌^◌, ◌∙◌, min, ℕ, List, [], ◌∷◌, ◌++◌, map, slice_get, Option, Some, None, refl, sym, ap, subst}
+use Rattle.std.proofs.Common.{◌≡◌, ◌<◌, All, Bool, IfSome, arith, false, get_or, if◌then◌else◌, length, nat_lt, option_map, true, ◌+◌, ◌-◌, ◌^◌, ◌∙◌, min, ℕ, List, [], ◌∷◌, ◌++◌, map, slice_get, Option, Some, None, refl, sym, ap, subst}
 use Rattle.std.proofs.lemmas.List.{get_or-map, length-map, map-append}
 use Rattle.std.proofs.lemmas.Option.{get_or_from_slice_get, slice_get_within}
 use Rattle.cf_watch.specs.FlowValue.{FlowValue, IsForAsset, flow_value}
@@ -7,9 +7,10 @@ use Rattle.cf_watch.specs.declared.Flow.{Flow}
 use Rattle.cf_policy.specs.Within.{IsAssetWithin}
 use Rattle.cf_policy.specs.declared.Asset.{Asset}
 use Rattle.cf_judge.specs.Found.{IsFoundIn}
-use Rattle.cf_judge.specs.Objections.{AreReadBy, IsReadBy, Reading, admitted_in, commands_in, earlier, objection_by, objection_of, objection_to}
+use Rattle.cf_judge.specs.Objections.{AreReadBy, IsReadBy, Reading, admitted_in, commands_in, earlier, first_wrong, objected, objection_by, objection_of, objection_to, sooner, wrong_by}
 use Rattle.cf_judge.specs.declared.judging.Found.{Found}
 use Rattle.cf_judge.specs.declared.judging.Objection.{Objection}
+use Rattle.cf_judge.specs.declared.judging.Wrong.{Wrong}
 
 pub record JudgedSoFar (assets : List Asset) (flows : List FlowValue) (commands : ℕ) (objection : Option Objection) : Type 0 where
   pub readings : List Reading
@@ -57,3 +58,35 @@ for_asset assets flows all i f e =
 -- and each asset of a policy is one that a policy may have
 pub asset_within : (assets : List Asset) → All IsAssetWithin assets → (i : ℕ) (asset : Asset) → slice_get assets i ≡ Some asset → IsAssetWithin asset
 asset_within assets each i asset e = subst IsAssetWithin (get_or_from_slice_get assets i asset asset e) (each i asset (slice_get_within assets i asset e))
+
+-- an objection is to an asset of the policy
+module _ (assets : List Asset) where
+  abbrev pub Placed : Option Objection → Type 0
+  Placed objection = IfSome objection (λ o. o.asset < length assets)
+
+  placed_if : (b : Bool) (one other : Objection) → Placed (Some one) → Placed (Some other) → Placed (if b then Some one else Some other)
+  placed_if true one other p q = p
+  placed_if false one other p q = q
+
+  placed_earlier : (first later : Option Objection) → Placed first → Placed later → Placed (earlier first later)
+  placed_earlier None later p q = q
+  placed_earlier (Some a) None p q = p
+  placed_earlier (Some a) (Some b) p q = placed_if (nat_lt b.at_record a.at_record) b a q p
+
+  read_inside : (r : Reading) (o : Option Asset) → slice_get assets r.flow.asset ≡ o → IsReadBy o r → r.flow.asset < length assets
+  read_inside r None e is = absurd is
+  read_inside r (Some asset) e is = slice_get_within assets r.flow.asset asset e
+
+  placed_one : (f : FlowValue) (first : Option Wrong) → f.asset < length assets → Placed (option_map (objected f) first)
+  placed_one f None below = tt
+  placed_one f (Some w) below = below
+
+  placed_from : (first : Option Objection) → Placed first → (rs : List Reading) → AreReadBy assets rs → Placed (objection_to first rs)
+  placed_from first p [] are = p
+  placed_from first p (r ∷ rs) are =
+      placed_from (earlier first (objection_of r.flow r.judged r.ending))
+      (placed_earlier first (objection_of r.flow r.judged r.ending) p
+      (placed_one r.flow (sooner (option_map wrong_by r.flow.conflict) (first_wrong r.judged r.ending)) (read_inside r (slice_get assets r.flow.asset) refl are.0))) rs are.1
+
+  pub all_placed : (objection : Option Objection) (rs : List Reading) → objection ≡ objection_to None rs → AreReadBy assets rs → Placed objection
+  all_placed objection rs is are = subst Placed (sym is) (placed_from None tt rs are)

@@ -1,5 +1,5 @@
 //! The judgement of watched flows.
-ghost use Rattle.std.specs.Prelude.{◌≡◌, ◌+◌, ◌^◌, ◌<◌, ◌≤◌, All, IfOk, drop, length, map};
+ghost use Rattle.std.specs.Prelude.{◌≡◌, ◌+◌, ◌^◌, ◌<◌, ◌≤◌, All, IfOk, IfSome, drop, length, map};
 ghost use Rattle.cf_policy.specs.Within.{AreAssetsWithin, IsAssetWithin};
 ghost use Rattle.cf_watch.specs.FlowValue.{IsForAsset, flow_value};
 ghost use Rattle.cf_judge.specs.Found.{IsFoundIn, with_finding, with_wrong};
@@ -51,6 +51,7 @@ pub fn judge(alloc: Global, policy: &Policy, flows: &[Flow]) -> Result<Judged, N
     requires within { AreAssetsWithin policy.now.assets }
     requires flows { All (IsForAsset policy.now.assets) (map flow_value flows.now) }
     ensures judged { IfOk result (λ j. IsJudgementOf policy.now.assets (map flow_value flows.now) j) }
+    ensures place { IfOk result (λ j. IfSome j.objection (λ o. o.asset < length policy.now.assets)) }
 {
     let assets = policy.assets.as_slice();
     let mut commands: u64 = 0;

@@ -4,7 +4,7 @@ use Rattle.std.proofs.lemmas.List.{map-append}
 use Rattle.std.proofs.lemmas.Option.{slice_get_read}
 use Rattle.cf_watch.specs.FlowValue.{flow_value}
 use Rattle.cf_judge.specs.Objections.{earlier, objection_by}
-use Rattle.cf_judge.proofs.Flows.{JudgedSoFar, asset_within, for_asset, judged_first, judged_on}
+use Rattle.cf_judge.proofs.Flows.{JudgedSoFar, all_placed, asset_within, for_asset, judged_first, judged_on}
 use Rattle.cf_judge.proofs.judging.judge.Goals as goal
 
 pub loop-flow-init : goal.loop-flow-init
@@ -55,3 +55,6 @@ loop-flow-preserved c =
     subst (λ fs. JudgedSoFar assets fs c.saturating_add-commands.result c.earlier-objection.result) values
     (subst (λ n. JudgedSoFar assets (map flow_value (take i flows) ++ flow_value f ∷ []) n c.earlier-objection.result) counted
     (subst (λ o. JudgedSoFar assets (map flow_value (take i flows) ++ flow_value f ∷ []) (min (c.loop-flow.commands + c.in_ok-found.found.commands) (2 ^ 64 - 1)) o) objected next))
+
+pub returns-clause-place : goal.returns-clause-place
+returns-clause-place c = let so = c.loop-flow.invariant in all_placed c.args.policy.now.assets c.loop-flow.objection so.readings so.objection_is so.are_read
