@@ -1,0 +1,9 @@
+mod ForAssets
+mod Leading
+mod Lengths
+mod Letters
+mod OneStream
+mod SoFar
+mod Standing
+mod Tables
+mod Taking

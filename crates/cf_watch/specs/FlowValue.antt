@@ -1,5 +1,6 @@
 -- What a contract sees of a `Flow`: FlowValue. This project's own.
-use Rattle.std.specs.Prelude.{ℕ, List, Option}
+use Rattle.std.specs.Prelude.{◌≡◌, ◌<◌, ℕ, List, length, Option}
+use Rattle.cf_policy.specs.declared.Asset.{Asset}
 use Rattle.cf_view.specs.declared.Endpoint.{Endpoint}
 use Rattle.cf_watch.specs.declared.flow.Conflict.{Conflict}
 use Rattle.cf_watch.specs.declared.flow.Flow.{Flow}
@@ -15,3 +16,8 @@ pub record FlowValue : Type 0 where
 
 abbrev pub flow_value : Flow → FlowValue
 flow_value f = record { client = f.client; asset = f.asset; bytes = f.bytes.items; born = f.born.items; conflict = f.conflict }
+
+-- its asset is a place of the policy, and each byte came with a record
+pub record IsForAsset (assets : List Asset) (f : FlowValue) : Type 0 where
+  pub asset : f.asset < length assets
+  pub born : length f.born ≡ length f.bytes

@@ -1,6 +1,16 @@
 //! The flows of a capture, as a watcher between the clients and the assets sees them.
 #![tactic(auto)]
 
+mod carry;
+mod fault;
 mod flow;
+mod laws;
+mod letter;
+mod place;
+mod reading;
+mod watching;
 
+pub use fault::{CAPTURE_LIMIT, WatchFault, WatchRefusal};
 pub use flow::{Conflict, Flow};
+pub use laws::{flows_are_for_assets, one_stream_is_seen};
+pub use reading::watch;

@@ -1,0 +1,4 @@
+mod Asdus
+mod Flows
+mod Fronts
+mod Reading

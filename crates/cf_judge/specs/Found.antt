@@ -1,0 +1,29 @@
+-- What is found in the bytes of one flow: IsFoundIn. This project's own.
+use Rattle.std.specs.Prelude.{◌≡◌, ◌+◌, ℕ, List, [], Some}
+use Rattle.std.specs.Option.{option_or}
+use Rattle.cf_lane.specs.Judged.{Judged}
+use Rattle.cf_policy.specs.declared.Asset.{Asset}
+use Rattle.cf_watch.specs.FlowValue.{FlowValue}
+use Rattle.cf_judge.specs.Objections.{admitted_in, first_wrong, wrong}
+use Rattle.cf_judge.specs.Plain.{AreRead, Ending}
+use Rattle.cf_judge.specs.declared.finding.Finding.{Finding}
+use Rattle.cf_judge.specs.declared.finding.Finding.TheVariants as finding
+use Rattle.cf_judge.specs.declared.judging.Found.{Found}
+use Rattle.cf_judge.specs.declared.judging.Wrong.{Wrong}
+
+abbrev pub with_wrong : Found → Wrong → Found
+with_wrong found w = record { commands = found.commands; first = option_or found.first (Some w) }
+
+-- what was found, with a unit that a record completed
+abbrev pub with_finding : Found → (record_number : ℕ) → Finding → Found
+with_finding found number finding.Nothing = found
+with_finding found number finding.Allowed = record { commands = found.commands + 1; first = found.first }
+with_finding found number (finding.Wrong what) = with_wrong found (wrong number what)
+
+-- the bytes are these units and this ending, of which so much was found
+pub record IsFoundIn (asset : Asset) (f : FlowValue) (found : Found) : Type 0 where
+  pub judged : List Judged
+  pub ending : Ending
+  pub are_read : AreRead asset f.client.address [] f.bytes f.born judged ending
+  pub commands : found.commands ≡ admitted_in judged
+  pub first : found.first ≡ first_wrong judged ending

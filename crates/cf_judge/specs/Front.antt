@@ -1,0 +1,39 @@
+-- What a reader of a client's bytes keeps, and what it answers about the unit at their front. This project's own.
+use Rattle.std.specs.Prelude.{◌≡◌, ◌<◌, ℕ, List, [], ◌∷◌, ◌++◌}
+use Rattle.cf_dnptrans.specs.AssemblyValue.{IsAssemblyOf}
+use Rattle.cf_lane.specs.Dnp3.{segments_of}
+use Rattle.cf_lane.specs.Judged.{Judged}
+use Rattle.cf_lane.specs.Unit.{SpellsUnit, UnitValue, unit_break}
+use Rattle.cf_lane.specs.declared.fate.Fate.{Fate}
+use Rattle.cf_policy.specs.Index.{IsIndexOf}
+use Rattle.cf_policy.specs.declared.Asset.{Asset}
+use Rattle.cf_view.specs.Framing.{Begins, BreaksAt, IsPartial}
+use Rattle.cf_view.specs.declared.Side.TheVariants as side
+use Rattle.cf_judge.specs.Finding.{finding_of}
+use Rattle.cf_judge.specs.Plain.{HasPlainFate, completed_in}
+use Rattle.cf_judge.specs.declared.finding.Finding.{Finding}
+use Rattle.cf_judge.specs.declared.front.Front.{Front}
+use Rattle.cf_judge.specs.declared.front.Front.TheVariants as front
+use Rattle.cf_judge.specs.declared.front.Reader.{Reader}
+
+-- the index is that of the client, and the fragment is that of the earlier units
+pub record IsReaderOf (asset : Asset) (client : ℕ) (earlier : List Judged) (r : Reader) : Type 0 where
+  pub index : IsIndexOf asset client r.index
+  pub assembly : IsAssemblyOf r.assembly (segments_of asset side.Client earlier)
+
+-- a unit that counts for this, behind which the reader goes on
+pub record TakesUnit
+    (asset : Asset) (client : ℕ) (earlier : List Judged) (bytes : List ℕ) (found : Finding) (used : ℕ) (new : Reader) : Type 0 where
+  pub unit : UnitValue
+  pub begins : Begins (SpellsUnit asset.protocol) bytes unit used
+  pub some : 0 < used
+  pub fate : Fate
+  pub has_fate : HasPlainFate asset client earlier unit fate
+  pub counts : found ≡ finding_of fate
+  pub goes_on : (number : ℕ) → IsReaderOf asset client (earlier ++ completed_in number unit fate ∷ []) new
+
+abbrev pub IsFrontOf : Asset → ℕ → (earlier : List Judged) → (bytes : List ℕ) → (new : Reader) → Front → Type 0
+IsFrontOf asset client earlier bytes new (front.Took found used) = TakesUnit asset client earlier bytes found used new
+IsFrontOf asset client earlier bytes new front.Rest = IsPartial (SpellsUnit asset.protocol) bytes
+IsFrontOf asset client earlier bytes new (front.Broken reason place) =
+    BreaksAt (SpellsUnit asset.protocol) bytes place × (reason ≡ unit_break asset.protocol place)

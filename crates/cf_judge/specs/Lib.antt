@@ -1,0 +1,5 @@
+pub mod Finding
+pub mod Found
+pub mod Front
+pub mod Objections
+pub mod Plain

@@ -1,0 +1,186 @@
+//! The judgement of watched flows.
+ghost use Rattle.std.specs.Prelude.{◌≡◌, ◌+◌, ◌^◌, ◌<◌, ◌≤◌, All, IfOk, IfSome, drop, length, map};
+ghost use Rattle.cf_policy.specs.Within.{AreAssetsWithin, IsAssetWithin};
+ghost use Rattle.cf_watch.specs.FlowValue.{IsForAsset, flow_value};
+ghost use Rattle.cf_judge.specs.Found.{IsFoundIn, with_finding, with_wrong};
+ghost use Rattle.cf_judge.specs.Objections.{IsJudgementOf, earlier, objection_by, sooner};
+
+use crate::finding::{Complaint, Finding};
+use crate::front::{Front, Reader};
+use cf_policy::{Asset, Policy};
+use cf_view::{Endpoint, NoMemory, View};
+use cf_watch::Flow;
+use std::alloc::Global;
+
+/// The first thing that is wrong in a capture.
+#[derive(Clone, Copy)]
+pub struct Objection {
+    /// The number, counted from 1, of the record with which it comes.
+    pub at_record: u64,
+    pub client: Endpoint,
+    /// The place of the asset in the policy, counted from 0.
+    pub asset: u32,
+    pub what: Complaint,
+}
+
+/// What was found of all flows.
+#[derive(Clone, Copy)]
+pub struct Judged {
+    pub flows: u64,
+    /// How many commands the policy allows, up to where each flow breaks or ends.
+    pub commands: u64,
+    pub objection: Option<Objection>,
+}
+
+/// Something that is wrong, with the number of the record with which it came.
+#[derive(Clone, Copy)]
+struct Wrong {
+    number: u64,
+    what: Complaint,
+}
+
+/// What was found in the bytes of one flow: the allowed commands, and the first that is wrong.
+#[derive(Clone, Copy)]
+struct Found {
+    commands: u64,
+    first: Option<Wrong>,
+}
+
+/// Judges flows, each of which is to an asset of the policy. The flows are those of a whole capture.
+pub fn judge(alloc: Global, policy: &Policy, flows: &[Flow]) -> Result<Judged, NoMemory>
+    requires within { AreAssetsWithin policy.now.assets }
+    requires flows { All (IsForAsset policy.now.assets) (map flow_value flows.now) }
+    ensures judged { IfOk result (λ j. IsJudgementOf policy.now.assets (map flow_value flows.now) j) }
+    ensures place { IfOk result (λ j. IfSome j.objection (λ o. o.asset < length policy.now.assets)) }
+{
+    let assets = policy.assets.as_slice();
+    let mut commands: u64 = 0;
+    let mut objection = None;
+    for flow in flows {
+        let found = judge_flow(alloc, &assets[flow.asset as usize], flow)?;
+        commands = commands.saturating_add(found.commands);
+        objection = earlier(objection, objection_of(flow, found.first));
+    }
+    Ok(Judged {
+        flows: flows.len() as u64,
+        commands,
+        objection,
+    })
+}
+
+/// The earlier of two objections, the first where they have one record.
+fn earlier(first: Option<Objection>, later: Option<Objection>) -> Option<Objection>
+    ensures { result ≡ earlier first later }
+{
+    match (first, later) {
+        (Some(a), Some(b)) => {
+            if b.at_record < a.at_record {
+                Some(b)
+            } else {
+                Some(a)
+            }
+        }
+        (Some(a), None) => Some(a),
+        (None, b) => b,
+    }
+}
+
+/// The objection to a flow: its conflict, unless something about its bytes came with an earlier record.
+fn objection_of(flow: &Flow, first: Option<Wrong>) -> Option<Objection>
+    ensures { result ≡ objection_by (flow_value flow.now) first }
+{
+    let conflict = flow.conflict.map(|c| Wrong {
+        number: c.at_record,
+        what: Complaint::Conflict(c.position),
+    });
+    sooner(conflict, first).map(|wrong| Objection {
+        at_record: wrong.number,
+        client: flow.client,
+        asset: flow.asset,
+        what: wrong.what,
+    })
+}
+
+/// What came with the earlier record, and of two with one record the first.
+fn sooner(first: Option<Wrong>, later: Option<Wrong>) -> Option<Wrong>
+    ensures { result ≡ sooner first later }
+{
+    match (first, later) {
+        (Some(a), Some(b)) => {
+            if b.number < a.number {
+                Some(b)
+            } else {
+                Some(a)
+            }
+        }
+        (Some(a), None) => Some(a),
+        (None, b) => b,
+    }
+}
+
+/// Judges the bytes of a flow to an asset.
+fn judge_flow(alloc: Global, asset: &Asset, flow: &Flow) -> Result<Found, NoMemory>
+    requires within { IsAssetWithin asset.now }
+    requires born { length flow.now.born.items ≡ length flow.now.bytes.items }
+    ensures { IfOk result (λ found. IsFoundIn asset.now (flow_value flow.now) found) }
+{
+    let mut found = Found {
+        commands: 0,
+        first: None,
+    };
+    if flow.bytes.is_empty() {
+        return Ok(found);
+    }
+    let mut reader = Reader::new(alloc, asset, flow.client.address)?;
+    let mut at = 0;
+    'units: while at < flow.bytes.len() {
+        match reader.next(asset, &rest_of(flow.bytes.as_slice(), at)) {
+            Front::Rest => return Ok(found),
+            Front::Broken { reason, place } => {
+                let broken = Wrong {
+                    number: flow.born[at + place],
+                    what: Complaint::Broken(reason),
+                };
+                return Ok(with_wrong(found, broken));
+            }
+            Front::Took { finding, used } => {
+                at += used;
+                found = with_finding(found, flow.born[at - 1], finding);
+            }
+        }
+    }
+    Ok(found)
+}
+
+/// The bytes from a place on.
+fn rest_of(bytes: &[u8], at: usize) -> View<'_>
+    requires { at ≤ length bytes.now }
+    ensures { result.bytes ≡ drop at bytes.now }
+{
+    View::one(&bytes[at..])
+}
+
+/// What was found, with a unit that a record completed.
+fn with_finding(found: Found, number: u64, finding: Finding) -> Found
+    requires { found.commands + 1 < 2 ^ 64 }
+    ensures { result ≡ with_finding found number finding }
+{
+    match finding {
+        Finding::Nothing => found,
+        Finding::Allowed => Found {
+            commands: found.commands + 1,
+            first: found.first,
+        },
+        Finding::Wrong(what) => with_wrong(found, Wrong { number, what }),
+    }
+}
+
+/// What was found, with something that is wrong behind it.
+fn with_wrong(found: Found, wrong: Wrong) -> Found
+    ensures { result ≡ with_wrong found wrong }
+{
+    Found {
+        commands: found.commands,
+        first: found.first.or(Some(wrong)),
+    }
+}

@@ -1,0 +1,13 @@
+//! The judge of what clients sent to the assets of a policy: whether each flow carries one letter at each position, and nothing but
+//! what the policy allows.
+#![tactic(auto)]
+
+mod dnp3;
+mod finding;
+mod front;
+mod iec104;
+mod judging;
+mod modbus;
+
+pub use finding::Complaint;
+pub use judging::{Judged, Objection, judge};

@@ -1,0 +1,38 @@
+//! What an ADU of Modbus counts for.
+ghost use Rattle.std.specs.Prelude.{◌≡◌, ◌≤◌, ℕ, length};
+ghost use Rattle.cf_lane.specs.Acts.{fate_of_acts};
+ghost use Rattle.cf_modbus.specs.Acts.{acts};
+ghost use Rattle.cf_modbus.specs.Adu.{adu_value};
+ghost use Rattle.cf_modbus.specs.Request.{IsRead, request_value};
+ghost use Rattle.cf_policy.specs.Index.{IsIndexOf};
+ghost use Rattle.cf_policy.specs.Verdict.{verdict_of};
+ghost use Rattle.cf_judge.specs.Finding.{HasAduFinding, finding_of};
+
+use crate::finding::{Finding, judge_acts, refused};
+use cf_modbus::{Adu, Request, act_at, act_count, read_request};
+use cf_policy::{Asset, CodeIndex, Decider};
+use cf_view::Reason;
+
+/// The station is compared first, then the form is read, then the acts are judged.
+pub(crate) fn judge_adu(asset: &Asset, index: &CodeIndex, adu: &Adu<'_>) -> Finding
+    requires at_least { 1 ≤ length adu.now.pdu.bytes }
+    requires at_most { length adu.now.pdu.bytes ≤ 253 }
+    ensures finding { (client : ℕ) → IsIndexOf asset.now client index.now
+        → HasAduFinding asset.now client (adu_value adu.now) result }
+{
+    if u16::from(adu.unit) != asset.station {
+        return refused(Decider::Station, Reason::Station);
+    }
+    match read_request(adu) {
+        Err(refusal) => refused(Decider::Form, refusal.reason()),
+        Ok(request) => judge_request(asset, index, &request),
+    }
+}
+
+fn judge_request(asset: &Asset, index: &CodeIndex, request: &Request<'_>) -> Finding
+    requires read { IsRead (request_value request.now) }
+    ensures finding { (client : ℕ) → IsIndexOf asset.now client index.now
+        → result ≡ finding_of (fate_of_acts asset.now (verdict_of asset.now client) (acts (request_value request.now))) }
+{
+    judge_acts(asset, index, act_count(request), |i| act_at(request, i))
+}

@@ -1,0 +1,219 @@
+-- What letters of a packet do to a flow, taken in two parts.
+use Rattle.std.proofs.Common.{◌≡◌, ◌≢◌, ◌==◌, if◌then◌else◌, ◌+◌, ◌≤◌, ◌+ℤ◌, ◌⊎◌, ℕ, ℤ, pos, Bool, true, false, List, [], ◌∷◌, ◌++◌, length, replicate, Option, Some, None, refl, sym, ap, ◌∙◌, vec_items, is_some, nat_lt, get_or, option_map, inl, inr, arith, subst, length-append, append_assoc}
+use Rattle.std.proofs.lemmas.Bool.{cases_eq, cases_lt, eq-eqb, true≢false}
+use Rattle.std.proofs.lemmas.Bool.Decides.{nat_tests}
+use Rattle.std.proofs.lemmas.Int.{ints}
+use Rattle.std.proofs.lemmas.Option.{none-some}
+use Rattle.std.proofs.lemmas.List.{append-nil, get_or_append_left, get_or_push, length_push, replicate-append-replicate}
+use Rattle.std.specs.BTreeMap.{BTreeMap, get}
+use Rattle.std.specs.Ordering.{nat_cmp}
+use Rattle.std.specs.Option.{option_or}
+use Rattle.cf_stream.specs.Stream.{Letter, letter_from}
+use Rattle.cf_watch.specs.Carried.{Carried, Differs, IsConflictAfter, IsConflictOf, letter_of}
+use Rattle.cf_watch.specs.Kept.{Grows, Takes, TakesOut, known, letter_value, stream_of}
+use Rattle.cf_watch.specs.declared.flow.Conflict.{Conflict}
+use Rattle.cf_watch.specs.declared.flow.Flow.{Flow}
+use Rattle.cf_watch.specs.declared.letter.Letter.{Letter as Heard}
+use Rattle.cf_watch.specs.declared.letter.Letter.TheVariants as heard
+use Rattle.cf_watch.proofs.Letters.{from_append, from_none, from_one, is_behind, is_within, none_of_bytes}
+
+pub or_none : (x : Option Letter) → option_or x None ≡ x
+or_none None = refl
+or_none (Some l) = refl
+
+or_assoc : (x y z : Option Letter) → option_or (option_or x y) z ≡ option_or x (option_or y z)
+or_assoc None y z = refl
+or_assoc (Some l) y z = refl
+
+pub grows_nothing : (number : ℕ) (flow : Flow) → Grows number flow flow
+grows_nothing number flow = record { more = []; bytes = sym (append-nil flow.bytes.items); born = sym (append-nil flow.born.items); client = refl; asset = refl }
+
+pub grows_both : (number : ℕ) (old mid new : Flow) → Grows number old mid → Grows number mid new → Grows number old new
+grows_both number old mid new g h =
+    let b : (old.bytes.items ++ g.more) ++ h.more ≡ old.bytes.items ++ (g.more ++ h.more) = rw append_assoc refl in
+    let r : replicate (length g.more) number ++ replicate (length h.more) number ≡ replicate (length (g.more ++ h.more)) number =
+    replicate-append-replicate (length g.more) (length h.more) number ∙ ap (λ (n : ℕ). replicate n number) (sym (length-append g.more h.more)) in
+    let c : (old.born.items ++ replicate (length g.more) number) ++ replicate (length h.more) number ≡ old.born.items ++ replicate (length (g.more ++ h.more)) number =
+    rw (append_assoc, r) refl in
+    record {
+      more = g.more ++ h.more;
+      bytes = h.bytes ∙ ap (λ (xs : List ℕ). xs ++ h.more) g.bytes ∙ b;
+      born = h.born ∙ ap (λ (xs : List ℕ). xs ++ replicate (length h.more) number) g.born ∙ c;
+      client = h.client ∙ g.client;
+      asset = h.asset ∙ g.asset;
+    }
+
+-- ---- conflicts
+
+-- letters in front and those behind, and both
+record AreParts (f g : ℕ → Option Letter) (c d e : Carried) : Type 0 where
+  front_number : c.number ≡ e.number
+  back_number : d.number ≡ e.number
+  front : (p : ℕ) → Differs f c p → Differs f e p
+  back : (p : ℕ) → Differs g d p → Differs f e p
+  either : (p : ℕ) → Differs f e p → Differs f c p ⊎ Differs g d p
+  order : (p q : ℕ) → Differs f c p → Differs g d q → p ≤ q
+
+module _ (f g : ℕ → Option Letter) (c d e : Carried) (parts : AreParts f g c d e) where
+  conflict_back : (now : Option Conflict) → ((p : ℕ) → Differs f c p → ⊥) → IsConflictOf g d now → IsConflictOf f e now
+  conflict_back None none h = λ p x. elim (parts.either p x) [ inl y ↦ none p y | inr y ↦ h p y ]
+  conflict_back (Some k) none h = record {
+    place = h.place;
+    number = h.number ∙ parts.back_number;
+    position = h.position;
+    here = parts.back h.place h.here;
+    lowest = λ p x. elim (parts.either p x) [ inl y ↦ absurd (none p y) | inr y ↦ h.lowest p y ];
+  }
+
+  conflict_front : (k : Conflict) → IsConflictOf f c (Some k) → IsConflictOf f e (Some k)
+  conflict_front k h = record {
+    place = h.place;
+    number = h.number ∙ parts.front_number;
+    position = h.position;
+    here = parts.front h.place h.here;
+    lowest = λ p x. elim (parts.either p x) [ inl y ↦ h.lowest p y | inr y ↦ parts.order h.place p h.here y ];
+  }
+
+  conflict_both : (old mid new : Option Conflict) → IsConflictAfter f c old mid → IsConflictAfter g d mid new → IsConflictAfter f e old new
+  conflict_both (Some k) mid new h i = subst (λ (m : Option Conflict). IsConflictAfter g d m new) h i
+  conflict_both None None new h i = conflict_back new h i
+  conflict_both None (Some k) new h i = subst (λ (m : Option Conflict). IsConflictOf f e m) (sym i) (conflict_front k h)
+
+-- ---- bytes, and what follows them
+
+abbrev pub bytes_from : ℕ → ℤ → List ℕ → Carried
+bytes_from number at xs = record { number = number; at = at; text = record { bytes = xs; ended = false } }
+
+abbrev pub letters_from : ℕ → ℤ → List ℕ → Bool → Carried
+letters_from number at xs ended = record { number = number; at = at; text = record { bytes = xs; ended = ended } }
+
+module _ (number : ℕ) (at : ℤ) (xs ys : List ℕ) (ended : Bool) (f : ℕ → Option Letter) where
+  either_of : (g : ℕ → Option Letter) → ((p : ℕ) → g p ≡ option_or (f p) (letter_of (bytes_from number at xs) p)) → (p : ℕ) →
+      Differs f (letters_from number at (xs ++ ys) ended) p → (l : Option Letter) → letter_of (bytes_from number at xs) p ≡ l →
+      Differs f (bytes_from number at xs) p ⊎ Differs g (letters_from number (at +ℤ pos (length xs)) ys ended) p
+  either_of g h p x (Some l) e =
+      let is : Some l ≡ Some x.other = sym (rw e at (from_append at xs ys ended p)) ∙ x.is in
+      inl (record { first = x.first; other = x.other; was = x.was; is = e ∙ is; differ = x.differ })
+  either_of g h p x None e =
+      let is : letter_of (letters_from number (at +ℤ pos (length xs)) ys ended) p ≡ Some x.other = sym (rw e at (from_append at xs ys ended p)) ∙ x.is in
+      inr (record { first = x.first; other = x.other; was = h p ∙ ap (option_or (f p)) e ∙ or_none (f p) ∙ x.was; is = is; differ = x.differ })
+
+  parts_of : (g : ℕ → Option Letter) → ((p : ℕ) → g p ≡ option_or (f p) (letter_of (bytes_from number at xs) p)) →
+      AreParts f g (bytes_from number at xs) (letters_from number (at +ℤ pos (length xs)) ys ended) (letters_from number at (xs ++ ys) ended)
+  parts_of g h = record {
+    front_number = refl;
+    back_number = refl;
+    front = λ p x. record { first = x.first; other = x.other; was = x.was; is = from_append at xs ys ended p ∙ rw x.is refl; differ = x.differ };
+    back = λ p x.
+        let e : letter_of (bytes_from number at xs) p ≡ None = none_of_bytes at xs (record { bytes = ys; ended = ended }) p x.other x.is in
+        record { first = x.first; other = x.other; was = sym (or_none (f p)) ∙ ap (option_or (f p)) (sym e) ∙ sym (h p) ∙ x.was; is = from_append at xs ys ended p ∙ rw e x.is; differ = x.differ };
+    either = λ p x. either_of g h p x (letter_of (bytes_from number at xs) p) refl;
+    order = λ p q x y. omega (arith, ints, is_within at xs p x.other x.is, is_behind (at +ℤ pos (length xs)) (record { bytes = ys; ended = ended }) q y.other y.is);
+  }
+
+pub takes_both : (number : ℕ) (at : ℤ) (xs ys : List ℕ) (ended : Bool) (old mid new : Flow) (a b c : BTreeMap ℕ Heard) →
+    Takes (bytes_from number at xs) old a mid b → Takes (letters_from number (at +ℤ pos (length xs)) ys ended) mid b new c →
+    Takes (letters_from number at (xs ++ ys) ended) old a new c
+takes_both number at xs ys ended old mid new a b c h i = record {
+  knows = λ p. i.knows p ∙ ap (λ (o : Option Letter). option_or o (letter_of (letters_from number (at +ℤ pos (length xs)) ys ended) p)) (h.knows p)
+      ∙ or_assoc (known old.bytes.items a p) (letter_of (bytes_from number at xs) p) _ ∙ ap (option_or (known old.bytes.items a p)) (sym (from_append at xs ys ended p));
+  conflicts =
+      conflict_both (known old.bytes.items a) (known mid.bytes.items b) _ _ _ (parts_of number at xs ys ended (known old.bytes.items a) (known mid.bytes.items b) h.knows)
+      old.conflict mid.conflict new.conflict h.conflicts i.conflicts;
+  grows = grows_both number old mid new h.grows i.grows;
+}
+
+ne-eqb : (a b : ℕ) → a ≢ b → (a == b) ≡ false
+ne-eqb a b d = grind (arith, nat_tests, d)
+
+new_letter : (place : ℕ) (l : Heard) (f : ℕ → Option Letter) → f place ≡ None → (p : ℕ) →
+    (if p == place then Some (letter_value l) else f p) ≡ option_or (f p) (letter_from (pos place) (stream_of l) p)
+new_letter place l f blank p = elim (cases_eq p place) [
+  | inl e ↦ rw (eq-eqb p place e, from_one (pos place) l p (ap pos e), ap f e ∙ blank) refl
+  | inr d ↦ rw (ne-eqb p place d, from_none (pos place) l p (λ e. d (omega (arith, ints, e)))) (sym (or_none (f p)))
+]
+
+old_letter : (place : ℕ) (l : Heard) (first : Letter) (f : ℕ → Option Letter) → f place ≡ Some first → (p : ℕ) →
+    f p ≡ option_or (f p) (letter_from (pos place) (stream_of l) p)
+old_letter place l first f is p = elim (cases_eq p place) [
+  | inl e ↦ rw (ap f e ∙ is) refl
+  | inr d ↦ rw (from_none (pos place) l p (λ e. d (omega (arith, ints, e)))) (sym (or_none (f p)))
+]
+
+no_conflict : (f : ℕ → Option Letter) (c : Carried) (old new : Option Conflict) → new ≡ old → ((p : ℕ) → Differs f c p → ⊥) → IsConflictAfter f c old new
+no_conflict f c (Some k) new same none = same
+no_conflict f c None new same none = subst (λ (k : Option Conflict). IsConflictOf f c k) (sym same) none
+
+-- a letter where none was known
+pub takes_new : (number place : ℕ) (l : Heard) (old new : Flow) (a b : BTreeMap ℕ Heard) → known old.bytes.items a place ≡ None →
+    ((p : ℕ) → known new.bytes.items b p ≡ (if p == place then Some (letter_value l) else known old.bytes.items a p)) → Grows number old new → new.conflict ≡ old.conflict →
+    Takes (record { number = number; at = pos place; text = stream_of l }) old a new b
+takes_new number place l old new a b blank knows grows same = record {
+  knows = λ p. knows p ∙ new_letter place l (known old.bytes.items a) blank p;
+  conflicts = no_conflict (known old.bytes.items a) _ old.conflict new.conflict same (λ p x.
+      elim (cases_eq p place) [
+        | inl e ↦ none-some x.first (sym blank ∙ ap (known old.bytes.items a) (sym e) ∙ x.was)
+        | inr d ↦ none-some x.other (sym (from_none (pos place) l p (λ e. d (omega (arith, ints, e)))) ∙ x.is)
+      ]);
+  grows = grows;
+}
+
+-- a letter where one was known
+pub takes_known : (number place : ℕ) (l first : Heard) (old new : Flow) (a : BTreeMap ℕ Heard) → known old.bytes.items a place ≡ Some (letter_value first) →
+    new.bytes ≡ old.bytes → Grows number old new → IsConflictAfter (known old.bytes.items a) (record { number = number; at = pos place; text = stream_of l }) old.conflict new.conflict →
+    Takes (record { number = number; at = pos place; text = stream_of l }) old a new a
+takes_known number place l first old new a is same grows conflicts = record {
+  knows = λ p. ap (λ bs. known (vec_items bs) a p) same ∙ old_letter place l (letter_value first) (known old.bytes.items a) is p;
+  conflicts = conflicts;
+  grows = grows;
+}
+
+conflict_here : (number place : ℕ) (l first : Heard) (f : ℕ → Option Letter) → f place ≡ Some (letter_value first) → letter_value l ≢ letter_value first →
+    IsConflictOf f (record { number = number; at = pos place; text = stream_of l }) (Some (record { at_record = number; position = pos place }))
+conflict_here number place l first f is d = record {
+  place = place;
+  number = refl;
+  position = refl;
+  here = record { first = letter_value first; other = letter_value l; was = is; is = from_one (pos place) l place refl; differ = d };
+  lowest = λ p x. elim (cases_eq p place) [
+    | inl e ↦ omega (arith, e)
+    | inr n ↦ absurd (none-some x.other (sym (from_none (pos place) l p (λ e. n (omega (arith, ints, e)))) ∙ x.is))
+  ];
+}
+
+conflict_first : (f : ℕ → Option Letter) (c : Carried) (old now new : Option Conflict) → old ≡ None → now ≡ new → IsConflictOf f c new → IsConflictAfter f c old now
+conflict_first f c (Some k) now new e i h = absurd (none-some k (sym e))
+conflict_first f c None now new e i h = subst (λ (k : Option Conflict). IsConflictOf f c k) (sym i) h
+
+-- a letter that differs from the one that was known
+pub takes_conflict : (number place : ℕ) (l first : Heard) (old new : Flow) (a : BTreeMap ℕ Heard) → known old.bytes.items a place ≡ Some (letter_value first) → letter_value l ≢ letter_value first →
+    new.bytes ≡ old.bytes → Grows number old new → old.conflict ≡ None → new.conflict ≡ Some (record { at_record = number; position = pos place }) →
+    Takes (record { number = number; at = pos place; text = stream_of l }) old a new a
+takes_conflict number place l first old new a is d same grows fresh now =
+    takes_known number place l first old new a is same grows
+    (conflict_first (known old.bytes.items a) _ old.conflict new.conflict (Some (record { at_record = number; position = pos place })) fresh now (conflict_here number place l first (known old.bytes.items a) is d))
+
+pub none_of : (k : Option Conflict) → is_some k ≡ false → k ≡ None
+none_of None h = refl
+none_of (Some k) h = absurd (true≢false h)
+
+-- the byte that came ahead goes behind the others
+pub knows_on : (old bytes : List ℕ) (b : ℕ) (a c : BTreeMap ℕ Heard) → bytes ≡ old ++ b ∷ [] → TakesOut (length old) b a c → (p : ℕ) → known bytes c p ≡ known old a p
+knows_on old bytes b a c e t p =
+    let n : length bytes ≡ length old + 1 = ap length e ∙ length_push old b in
+    elim (cases_lt p (length old)) [
+      | inl v ↦ (let g : get_or bytes p 0 ≡ get_or old p 0 = ap (λ (xs : List ℕ). get_or xs p 0) e ∙ get_or_append_left old (b ∷ []) 0 p v in
+          let l : nat_lt p (length bytes) ≡ true = rw n (grind (arith, nat_tests, v)) in
+          let m : nat_lt p (length old) ≡ true = grind (arith, nat_tests, v) in
+          rw (l, m, g) refl)
+      | inr v ↦
+          let m : nat_lt p (length old) ≡ false = grind (arith, nat_tests, v) in
+          elim (cases_eq p (length old)) [
+            | inl i ↦ (let g : get_or bytes p 0 ≡ b = ap (λ (xs : List ℕ). get_or xs p 0) e ∙ get_or_push old b 0 p (sym i) in
+                let l : nat_lt p (length bytes) ≡ true = rw n (grind (arith, nat_tests, i)) in
+                let w : get nat_cmp a p ≡ Some (heard.Byte b) = ap (get nat_cmp a) i ∙ t.was in
+                rw (l, m, g, w) refl)
+            | inr d ↦ (let l : nat_lt p (length bytes) ≡ false = rw n (grind (arith, nat_tests, v, d)) in
+                rw (l, m) (ap (option_map letter_value) (t.others p d)))
+          ]
+    ]

@@ -1,0 +1,100 @@
+use Rattle.std.proofs.Common.{◌≡◌, ◌+◌, ◌-◌, ◌∙◌, ℕ, List, Result, length, refl, sym, subst, ap, arith}
+use Rattle.cf_outside.specs.Files.{Content}
+use Rattle.cf_packet.specs.Packet.{PacketValue, read_record}
+use Rattle.cf_packet.specs.declared.packet.PacketRefusal.{PacketRefusal}
+use Rattle.cf_run.proofs.Behind.{StandsBehind, stands_cut, stands_end, stands_large, stands_long, stands_refused}
+use Rattle.cf_run.specs.Capture.{Cut, FileEnd, Large, Refused, TooLong}
+use Rattle.cf_run.specs.Reader.{FindsRecord, ReaderValue}
+use Rattle.cf_run.specs.declared.NextRecord.TheVariants as next
+use Rattle.cf_watch.specs.Trail.{IsWatchOf}
+use Rattle.cf_watch.specs.Watch.{EndsAt}
+use Rattle.cf_watch.specs.Watched.{watched, with_record}
+use Rattle.cf_watch.proofs.Lengths.{large_is_long, read_inside}
+use Rattle.cf_watch.proofs.SoFar.{ends_at, first_low, for_assets, has_flows, so_far_first, so_far_on}
+use Rattle.cf_watch.proofs.reading.watch_records.Goals as goal
+
+pub records-init : goal.records-init
+records-init g c = record {
+  so = so_far_first c.args.assets.now (g.F.Files.content c.args.files.now c.args.name.now) c.args.reader.now _ c.requires.form c.requires.place c.new-watch.ensures;
+  near = first_low c.args.reader.now.form c.args.reader.now.place c.requires.place;
+  few = omega arith;
+  same = refl;
+  reads = omega arith;
+  writes = refl;
+}
+
+pub records-preserved : goal.records-preserved
+records-preserved g c =
+    let before = c.records.invariant in
+    let so = before.so in
+    let read = c.in-Whole.ensures in
+    let stamp = c.in-Whole.field-0 in
+    let assets = c.args.assets.now in
+    let reader : ReaderValue = c.next.new.self in
+    let number = c.records.number in
+    let ws = watched assets so.newest in
+    let found : FindsRecord (g.F.Files.content c.args.files.now c.args.name.now) c.records.reader reader (next.Whole stamp) =
+    subst (λ (content : List ℕ → Content). FindsRecord (content c.args.name.now) c.records.reader reader (next.Whole stamp)) before.same read.found in
+    let before_number : number ≡ number + 1 - 1 = omega arith in
+    let packet : read_record c.link.result c.body.result.now ≡ read_record reader.link reader.body =
+    ap (λ l. read_record l c.body.result.now) c.link.ensures ∙ ap (λ b. read_record reader.link b) c.body.ensures in
+    let count : number + 1 ≡ length so.newest + 1 = ap (λ n. n + 1) (sym so.count) in
+    let heard = c.in-Ok.ensures.heard ws (subst (λ (n : ℕ). IsWatchOf n c.records.watch ws) before_number so.heard) in
+    record {
+      so = so_far_on so reader stamp c.take.new.self found
+          (subst (λ (n : ℕ). IsWatchOf (number + 1) c.take.new.self (with_record assets n (read_record reader.link reader.body) ws)) count
+          (subst (λ (p : Result PacketValue PacketRefusal). IsWatchOf (number + 1) c.take.new.self (with_record assets (number + 1) p ws)) packet heard));
+      near = omega (arith, c.if-place-gt-CAPTURE_LIMIT.false, c.place.ensures);
+      few = omega (arith, before.few, read.on);
+      same = read.same ∙ before.same;
+      reads = omega (arith, before.reads, read.cause.later);
+      writes = read.writes ∙ before.writes;
+    }
+
+pub returns-then-place-gt-CAPTURE_LIMIT-clause-fault : goal.returns-then-place-gt-CAPTURE_LIMIT-clause-fault
+returns-then-place-gt-CAPTURE_LIMIT-clause-fault g c =
+    let before = c.records.invariant in
+    let stamp = c.in-Whole.field-0 in
+    let found : FindsRecord (g.F.Files.content c.args.files.now c.args.name.now) c.records.reader c.next.new.self (next.Whole stamp) =
+    subst (λ (content : List ℕ → Content). FindsRecord (content c.args.name.now) c.records.reader c.next.new.self (next.Whole stamp)) before.same c.in-Whole.ensures.found in
+    read_inside (g.F.Files.content c.args.files.now c.args.name.now) c.records.reader c.next.new.self stamp 67108864 found
+    (omega (arith, c.if-place-gt-CAPTURE_LIMIT.true, c.place.ensures))
+
+pub returns-in-End-clause-watched : goal.returns-in-End-clause-watched
+returns-in-End-clause-watched g c =
+    let before = c.records.invariant in
+    let stands = subst (λ (content : List ℕ → Content). StandsBehind (content c.args.name.now) c.records.reader c.next.new.self.place FileEnd) before.same
+    (stands_end (g.F.Files.content c.records.files c.args.name.now) c.records.reader c.next.new.self c.in-End.ensures.found) in
+    has_flows before.so c.next.new.self.place c.requires.short stands
+
+pub returns-in-End-clause-for_assets : goal.returns-in-End-clause-for_assets
+returns-in-End-clause-for_assets g c = for_assets c.records.invariant.so
+
+pub returns-in-Cut-clause-fault : goal.returns-in-Cut-clause-fault
+returns-in-Cut-clause-fault g c =
+    let before = c.records.invariant in
+    let stands = subst (λ (content : List ℕ → Content). StandsBehind (content c.args.name.now) c.records.reader c.next.new.self.place Cut) before.same
+    (stands_cut (g.F.Files.content c.records.files c.args.name.now) c.records.reader c.next.new.self c.in-Cut.ensures.found) in
+    subst (EndsAt (g.F.Files.content c.args.files.now c.args.name.now) Cut) (sym c.place-in-Cut.ensures) (ends_at before.so c.next.new.self.place Cut c.requires.short stands tt)
+
+pub returns-in-Refused-clause-fault : goal.returns-in-Refused-clause-fault
+returns-in-Refused-clause-fault g c =
+    let before = c.records.invariant in
+    let of = c.in-Refused.refusal in
+    let stands = subst (λ (content : List ℕ → Content). StandsBehind (content c.args.name.now) c.records.reader c.next.new.self.place (Refused of)) before.same
+    (stands_refused (g.F.Files.content c.records.files c.args.name.now) c.records.reader c.next.new.self of c.in-Refused.ensures.found) in
+    (c.next.new.self.place, ends_at before.so c.next.new.self.place (Refused of) c.requires.short stands tt)
+
+pub returns-in-TooLong-clause-fault : goal.returns-in-TooLong-clause-fault
+returns-in-TooLong-clause-fault g c =
+    let before = c.records.invariant in
+    let stands = subst (λ (content : List ℕ → Content). StandsBehind (content c.args.name.now) c.records.reader c.next.new.self.place TooLong) before.same
+    (stands_long (g.F.Files.content c.records.files c.args.name.now) c.records.reader c.next.new.self c.in-TooLong.ensures.found) in
+    (c.next.new.self.place, ends_at before.so c.next.new.self.place TooLong c.requires.short stands tt)
+
+pub returns-in-Large-clause-fault : goal.returns-in-Large-clause-fault
+returns-in-Large-clause-fault g c =
+    let before = c.records.invariant in
+    let stands = subst (λ (content : List ℕ → Content). StandsBehind (content c.args.name.now) c.records.reader c.next.new.self.place Large) before.same
+    (stands_large (g.F.Files.content c.records.files c.args.name.now) c.records.reader c.next.new.self c.in-Large.ensures.found) in
+    large_is_long (g.F.Files.content c.args.files.now c.args.name.now) c.records.reader c.next.new.self.place 67108864 stands c.in-Large.ensures.near (omega arith)

@@ -1,0 +1,18 @@
+use Rattle.std.proofs.Common.{◌≡◌, ◌-◌, ◌^◌, ◌≤◌}
+use Rattle.cf_watch.proofs.SoFar.{SoFar}
+use Rattle.cf_watch.proofs.reading.watch_records.Given as goal
+
+abbrev pub invariant-records : goal.invariant-records
+invariant-records g l =
+    let content = g.F.Files.content in
+    record {
+      so : SoFar l.assets (content l.fn.files l.name) l.fn.reader.form l.reader l.number l.watch;
+      near : l.reader.place ≤ 67108864;
+      few : l.number ≤ l.reader.place;
+      same : content l.files ≡ content l.fn.files;
+      reads : g.F.Files.read_faults l.fn.files ≤ g.F.Files.read_faults l.files;
+      writes : g.F.Files.write_faults l.files ≡ g.F.Files.write_faults l.fn.files;
+    }
+
+abbrev pub decreases-records : goal.decreases-records
+decreases-records g l = 2 ^ 40 - l.reader.place

@@ -1,0 +1,48 @@
+-- What a watcher answers about a capture file: WatchesAs. This project's own.
+use Rattle.std.specs.Prelude.{◌≡◌, ℕ, List, reverse, drop, Result, Ok, Err}
+use Rattle.cf_outside.specs.Files.{Content, IsAtEnd, IsLongerThan, absent, holds, untold}
+use Rattle.cf_policy.specs.declared.Asset.{Asset}
+use Rattle.cf_run.specs.Capture.{AreRecords, AtPlace, Cut, FileEnd, LastPlace, Record, Refused, TooLong}
+use Rattle.cf_run.specs.Form.{first_place}
+use Rattle.cf_run.specs.Reader.{HasForm}
+use Rattle.cf_run.specs.declared.Form.{Form}
+use Rattle.cf_watch.specs.Flow.{AreFlowsOf}
+use Rattle.cf_watch.specs.FlowValue.{FlowValue}
+use Rattle.cf_watch.specs.Watched.{watched}
+use Rattle.cf_watch.specs.declared.fault.TheConstants.{CAPTURE_LIMIT}
+use Rattle.cf_watch.specs.declared.fault.WatchFault.{WatchFault}
+use Rattle.cf_watch.specs.declared.fault.WatchFault.TheVariants as fault
+use Rattle.cf_watch.specs.declared.fault.WatchRefusal.TheVariants as refusal
+
+-- a file of this form has these records, the oldest first, up to its last place, as far as it is told; no moment is tested
+abbrev pub HasRecords : Content → Form → List Record → LastPlace → Type 0
+HasRecords untold form records last = Unit {0}
+HasRecords absent form records last = ⊥
+HasRecords (holds all) form records last = AreRecords form (first_place form) (drop (first_place form) all) records last
+
+-- a file that is not longer than the limit has a form, and records up to this place, at which this stands
+pub record EndsAt (file : Content) (found : AtPlace) (place : ℕ) : Type 0 where
+  pub short : IsAtEnd file CAPTURE_LIMIT
+  pub form : Form
+  pub has_form : HasForm file (Ok form)
+  pub records : List Record
+  pub are_records : HasRecords file form records (record { place = place; found = found })
+
+-- the flows of all records of a file
+pub record HasFlows (assets : List Asset) (file : Content) (flows : List FlowValue) : Type 0 where
+  pub newest : List Record
+  pub place : ℕ
+  pub ends : EndsAt file FileEnd place
+  pub are_newest : ends.records ≡ reverse newest
+  pub are_flows : AreFlowsOf (watched assets newest) flows
+
+-- an answer about a file, as far as it is told
+abbrev pub WatchesAs : List Asset → Content → Result (List FlowValue) WatchFault → Type 0
+WatchesAs assets file (Ok flows) = HasFlows assets file flows
+WatchesAs assets file (Err (fault.Cut at)) = EndsAt file Cut at
+WatchesAs assets file (Err (fault.Refused refusal.TooLong)) = (place : ℕ) × EndsAt file TooLong place
+WatchesAs assets file (Err (fault.Refused (refusal.Block of))) = (place : ℕ) × EndsAt file (Refused of) place
+WatchesAs assets file (Err (fault.Refused (refusal.Header of))) = IsAtEnd file CAPTURE_LIMIT × HasForm file (Err of)
+WatchesAs assets file (Err (fault.Refused refusal.Long)) = IsLongerThan file CAPTURE_LIMIT
+WatchesAs assets file (Err fault.Read) = Unit {0}
+WatchesAs assets file (Err fault.NoMemory) = Unit {0}

@@ -1,0 +1,110 @@
+//! The flows of a capture file.
+ghost use Rattle.std.specs.Prelude.{◌≡◌, ◌+◌, ◌-◌, ◌*◌, ◌^◌, ◌<◌, ◌≤◌, Ok, Err, Some, None, true, false, List, All, IsErrOf, length, map, IfOk, IfErr};
+ghost use Rattle.cf_outside.specs.Faults.{HasCause};
+ghost use Rattle.cf_outside.specs.Files.{IsAtEnd, IsLongerThan};
+ghost use Rattle.cf_run.specs.Form.{first_place};
+ghost use Rattle.cf_run.specs.Reader.{HasForm};
+ghost use Rattle.cf_watch.specs.FlowValue.{IsForAsset, flow_value};
+ghost use Rattle.cf_watch.specs.Watch.{WatchesAs};
+
+use crate::fault::{CAPTURE_LIMIT, WatchFault, WatchRefusal};
+use crate::flow::Flow;
+use crate::watching::Watch;
+use cf_outside::{Files, ReadAnswer};
+use cf_policy::{Asset, Policy};
+use cf_run::{NextRecord, RecordReader};
+use std::alloc::Global;
+
+/// The flows of a capture to the assets of a policy, in the order of their beginning: of a pcap or a pcapng file of at most
+/// `CAPTURE_LIMIT` octets. Packets that are no TCP segments of IPv4 are passed over. Changes no file. This project's own.
+///
+/// It keeps one record of the file at a time, and of each flow its bytes, their records, and the letters that came ahead of their
+/// turn.
+pub fn watch<F: Files>(
+    alloc: Global,
+    policy: &Policy,
+    capture: &str,
+    files: &mut F,
+) -> Result<Vec<Flow>, WatchFault>
+    requires assets { length policy.now.assets < 2 ^ 32 }
+    ensures watched { IfOk result (λ flows. WatchesAs policy.now.assets (F.content files.old capture.now) (Ok (map flow_value flows.items))) }
+    ensures for_assets { IfOk result (λ flows. All (IsForAsset policy.now.assets) (map flow_value flows.items)) }
+    ensures fault { IfErr result (λ fault. WatchesAs policy.now.assets (F.content files.old capture.now) (Err fault)) }
+    ensures same { F.content files.new ≡ F.content files.old }
+    ensures read { HasCause (F.read_faults files.old) (F.read_faults files.new) (IsErrOf result WatchFault.Read) }
+    ensures writes { F.write_faults files.new ≡ F.write_faults files.old }
+{
+    match is_long(capture, files) {
+        Some(false) => {}
+        Some(true) => return Err(WatchFault::Refused(WatchRefusal::Long)),
+        None => return Err(WatchFault::Read),
+    }
+    match RecordReader::open(alloc, files, capture) {
+        Ok(mut reader) => {
+            watch_records(alloc, policy.assets.as_slice(), capture, &mut reader, files)
+        }
+        Err(fault) => Err(WatchFault::from(fault)),
+    }
+}
+
+/// Whether a file has more octets than `CAPTURE_LIMIT`, or `None` where a read failed.
+fn is_long<F: Files>(name: &str, files: &mut F) -> Option<bool>
+    ensures long { result ≡ Some true → IsLongerThan (F.content files.old name.now) CAPTURE_LIMIT }
+    ensures short { result ≡ Some false → IsAtEnd (F.content files.old name.now) CAPTURE_LIMIT }
+    ensures same { F.content files.new ≡ F.content files.old }
+    ensures cause { HasCause (F.read_faults files.old) (F.read_faults files.new) (result ≡ None) }
+    ensures writes { F.write_faults files.new ≡ F.write_faults files.old }
+{
+    let mut octet = [0u8; 1];
+    match files.read_at(name, CAPTURE_LIMIT, &mut octet) {
+        ReadAnswer::Got(_) => Some(true),
+        ReadAnswer::End => Some(false),
+        ReadAnswer::Failed => None,
+    }
+}
+
+/// The flows of the records from the reader's place on.
+fn watch_records<F: Files>(
+    alloc: Global,
+    assets: &[Asset],
+    name: &str,
+    reader: &mut RecordReader,
+    files: &mut F,
+) -> Result<Vec<Flow>, WatchFault>
+    requires assets { length assets.now < 2 ^ 32 }
+    requires short { IsAtEnd (F.content files.old name.now) CAPTURE_LIMIT }
+    requires form { HasForm (F.content files.old name.now) (Ok reader.old.form) }
+    requires place { reader.old.place ≡ first_place reader.old.form }
+    ensures watched { IfOk result (λ flows. WatchesAs assets.now (F.content files.old name.now) (Ok (map flow_value flows.items))) }
+    ensures for_assets { IfOk result (λ flows. All (IsForAsset assets.now) (map flow_value flows.items)) }
+    ensures fault { IfErr result (λ fault. WatchesAs assets.now (F.content files.old name.now) (Err fault)) }
+    ensures same { F.content files.new ≡ F.content files.old }
+    ensures read { HasCause (F.read_faults files.old) (F.read_faults files.new) (IsErrOf result WatchFault.Read) }
+    ensures writes { F.write_faults files.new ≡ F.write_faults files.old }
+{
+    let mut watch = Watch::new(alloc);
+    let mut number: u64 = 0;
+    'records: loop {
+        match reader.next(files, name) {
+            NextRecord::Whole(_) => {
+                if reader.place() > CAPTURE_LIMIT {
+                    // The file has grown since it was opened.
+                    return Err(WatchFault::Refused(WatchRefusal::Long));
+                }
+                number += 1;
+                match watch.take(alloc, assets, &reader.link(), number, reader.body()) {
+                    Ok(()) => {}
+                    Err(_) => return Err(WatchFault::NoMemory),
+                }
+            }
+            NextRecord::End => return Ok(watch.flows),
+            NextRecord::Cut => return Err(WatchFault::Cut(reader.place())),
+            NextRecord::Refused(refusal) => {
+                return Err(WatchFault::Refused(WatchRefusal::Block(refusal)));
+            }
+            NextRecord::TooLong => return Err(WatchFault::Refused(WatchRefusal::TooLong)),
+            NextRecord::Large => return Err(WatchFault::Refused(WatchRefusal::Long)),
+            NextRecord::Failed => return Err(WatchFault::Read),
+        }
+    }
+}

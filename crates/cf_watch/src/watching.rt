@@ -1,0 +1,287 @@
+//! The flows of records, taken one after the other.
+ghost use Rattle.std.specs.Prelude.{◌≡◌, ◌==◌, ◌+◌, ◌-◌, ◌*◌, cond, ◌^◌, ◌<◌, ◌≤◌, ◌++◌, ◌∷◌, ◌||◌, ℕ, List, [], IfOk, OnOk, OnSome, IfSome, Some, None, length, slice_get, true, false};
+ghost use Rattle.cf_packet.specs.Packet.{packet_value, read_record};
+ghost use Rattle.cf_policy.specs.declared.Asset.{Asset};
+ghost use Rattle.cf_stream.specs.Stream.{letter_count};
+ghost use Rattle.std.specs.BTreeMap.{get};
+ghost use Rattle.std.specs.Ordering.{is_eq};
+ghost use Rattle.cf_watch.specs.Trail.{HasHeard, IsHeard, IsWatchOf, key_cmp, key_of};
+ghost use Rattle.cf_leg.specs.Segment.{has_ack};
+ghost use Rattle.cf_run.specs.Entries.{asset_place};
+ghost use Rattle.cf_run.specs.Table.{same_endpoint};
+ghost use Rattle.cf_watch.specs.Watched.{Watched, begins_anew, begun_by, goes, goes_at, with_packet, with_record};
+
+use crate::carry::{Ahead, advance, carry};
+use crate::flow::Flow;
+use crate::place::{has, has_fin, is_opening, text_place, top_after};
+use cf_packet::{ACK, Packet, read_packet};
+use cf_policy::Asset;
+use cf_view::{Endpoint, LinkKind, NoMemory};
+use std::alloc::Global;
+use std::collections::BTreeMap;
+
+/// What is kept of a flow besides what is told of it.
+#[derive(Drop)]
+pub(crate) struct Trail {
+    /// The sequence number of its SYN.
+    pub(crate) origin: u32,
+    /// Whether a packet with ACK has followed.
+    pub(crate) answered: bool,
+    /// One more than the greatest place that was carried.
+    pub(crate) top: u64,
+    pub(crate) ahead: Ahead,
+}
+
+/// A client and the place of an asset.
+#[derive(Clone, Copy, PartialEq, Eq, PartialOrd, Ord, Debug, Drop)]
+pub(crate) struct FlowKey {
+    pub(crate) address: u32,
+    pub(crate) port: u16,
+    pub(crate) asset: u32,
+}
+
+/// The flows of the records so far.
+#[derive(Drop)]
+pub(crate) struct Watch {
+    pub(crate) flows: Vec<Flow>,
+    pub(crate) trails: Vec<Trail>,
+    /// The place of the last flow of each client and asset.
+    pub(crate) last: BTreeMap<FlowKey, usize>,
+}
+
+/// Takes a packet of a flow.
+fn hear(
+    flow: &mut Flow,
+    trail: &mut Trail,
+    number: u64,
+    packet: &Packet<'_>,
+) -> Result<(), NoMemory>
+    requires low { trail.old.top ≤ 2 ^ 60 }
+    requires short { length packet.now.text.now ≤ 65535 }
+    ensures heard { OnOk result ((w : Watched) → IsHeard flow.old trail.old w → IsHeard flow.new trail.new (with_packet number (packet_value packet.now) w)) }
+    ensures low { OnOk result (trail.new.top ≤ trail.old.top + 2 ^ 32) }
+{
+    let at = text_place(packet, trail.origin, trail.top);
+    let ended = has_fin(packet);
+    carry(flow, &mut trail.ahead, number, at, packet.text, ended)?;
+    advance(flow, &mut trail.ahead, number)?;
+    trail.top = top_after(trail.top, at, letters_in(packet.text, ended));
+    trail.answered = is_answered(trail.answered, packet);
+    Ok(())
+}
+
+/// How many letters a text has, with End behind it or not.
+fn letters_in(text: &[u8], ended: bool) -> u64
+    requires { length text.now ≤ 65535 }
+    ensures count { result ≡ letter_count (record { bytes = text.now; ended = ended }) }
+    ensures few { result ≤ 65536 }
+{
+    if ended {
+        text.len() as u64 + 1
+    } else {
+        text.len() as u64
+    }
+}
+
+/// Whether a packet with ACK has followed, this one included.
+fn is_answered(answered: bool, packet: &Packet<'_>) -> bool
+    ensures { result ≡ (answered || has_ack (packet_value packet.now)) }
+{
+    answered || has(packet, ACK)
+}
+
+/// Whether two endpoints are the same.
+fn is_same(a: &Endpoint, b: &Endpoint) -> bool
+    ensures { result ≡ same_endpoint a.now b.now }
+{
+    a.address == b.address && a.port == b.port
+}
+
+/// The place of the asset at an endpoint.
+fn asset_at(assets: &[Asset], endpoint: &Endpoint) -> Option<usize>
+    ensures place { result ≡ asset_place assets.now endpoint.now }
+    ensures inside { IfSome result (λ place. place < length assets.now) }
+{
+    assets
+        .iter()
+        .position(|asset| is_same(&asset.endpoint, endpoint))
+}
+
+/// Whether a packet begins its flow anew.
+fn begins_anew(trail: &Trail, packet: &Packet<'_>) -> bool
+    ensures { (w : Watched) → trail.now.origin ≡ w.origin → trail.now.answered ≡ w.answered → result ≡ begins_anew (packet_value packet.now) w }
+{
+    is_opening(packet) && !(packet.seq == trail.origin && !trail.answered)
+}
+
+impl Watch {
+    /// No flows.
+    pub(crate) fn new(alloc: Global) -> Watch
+        ensures { IsWatchOf 0 result [] }
+    {
+        Watch {
+            flows: Vec::new(alloc),
+            trails: Vec::new(alloc),
+            last: BTreeMap::new(alloc),
+        }
+    }
+
+    /// Takes the record of this number.
+    pub(crate) fn take(
+        &mut self,
+        alloc: Global,
+        assets: &[Asset],
+        link: &LinkKind,
+        number: u64,
+        body: &[u8],
+    ) -> Result<(), NoMemory>
+        requires assets { length assets.now < 2 ^ 32 }
+        requires number { (1 ≤ number) × (number ≤ 2 ^ 27) }
+        requires heard { HasHeard (number - 1) self.old }
+        ensures heard { OnOk result ((ws : List Watched) → IsWatchOf (number - 1) self.old ws → IsWatchOf number self.new (with_record assets.now number (read_record link.now body.now) ws)) }
+    {
+        let Ok(packet) = read_packet(link, body) else {
+            return Ok(());
+        };
+        match asset_at(assets, &packet.dest) {
+            Some(asset) => {
+                self.take_packet(alloc, number, asset as u32, &packet)?;
+                Ok(())
+            }
+            None => Ok(()),
+        }
+    }
+
+    /// Takes a packet to an asset.
+    fn take_packet(
+        &mut self,
+        alloc: Global,
+        number: u64,
+        asset: u32,
+        packet: &Packet<'_>,
+    ) -> Result<(), NoMemory>
+        requires number { (1 ≤ number) × (number ≤ 2 ^ 27) }
+        requires short { length packet.now.text.now ≤ 65535 }
+        requires heard { HasHeard (number - 1) self.old }
+        ensures heard { OnOk result ((ws : List Watched) → IsWatchOf (number - 1) self.old ws → IsWatchOf number self.new (goes number (packet_value packet.now) (Some asset) ws)) }
+    {
+        let key = FlowKey {
+            address: packet.source.address,
+            port: packet.source.port,
+            asset,
+        };
+        match self.last.get(&key).copied() {
+            Some(place) => {
+                self.go_on(alloc, number, asset, place, packet)?;
+                Ok(())
+            }
+            None => {
+                self.begin_if_opening(alloc, number, asset, packet)?;
+                Ok(())
+            }
+        }
+    }
+
+    /// Takes a packet of no flow that was watched.
+    fn begin_if_opening(
+        &mut self,
+        alloc: Global,
+        number: u64,
+        asset: u32,
+        packet: &Packet<'_>,
+    ) -> Result<(), NoMemory>
+        requires number { (1 ≤ number) × (number ≤ 2 ^ 27) }
+        requires short { length packet.now.text.now ≤ 65535 }
+        ensures heard { OnOk result ((ws : List Watched) → IsWatchOf (number - 1) self.old ws → IsWatchOf number self.new (goes_at number asset (packet_value packet.now) None ws)) }
+    {
+        if !is_opening(packet) {
+            return Ok(());
+        }
+        self.begin(alloc, number, asset, packet)?;
+        Ok(())
+    }
+
+    /// Takes a packet of the flow at a place, which may begin it anew.
+    fn go_on(
+        &mut self,
+        alloc: Global,
+        number: u64,
+        asset: u32,
+        place: usize,
+        packet: &Packet<'_>,
+    ) -> Result<(), NoMemory>
+        requires number { (1 ≤ number) × (number ≤ 2 ^ 27) }
+        requires short { length packet.now.text.now ≤ 65535 }
+        requires flow { place < length self.old.flows.items }
+        requires trail { place < length self.old.trails.items }
+        requires low { (t : Trail) → slice_get self.old.trails.items place ≡ Some t → t.top ≤ (number - 1) * 2 ^ 32 }
+        ensures heard { OnOk result ((ws : List Watched) → IsWatchOf (number - 1) self.old ws → IsWatchOf number self.new (goes_at number asset (packet_value packet.now) (Some place) ws)) }
+    {
+        if begins_anew(&self.trails[place], packet) {
+            self.begin(alloc, number, asset, packet)?;
+            return Ok(());
+        }
+        hear(
+            &mut self.flows[place],
+            &mut self.trails[place],
+            number,
+            packet,
+        )?;
+        Ok(())
+    }
+
+    /// Begins a flow.
+    fn begin(
+        &mut self,
+        alloc: Global,
+        number: u64,
+        asset: u32,
+        packet: &Packet<'_>,
+    ) -> Result<(), NoMemory>
+        requires number { (1 ≤ number) × (number ≤ 2 ^ 27) }
+        requires short { length packet.now.text.now ≤ 65535 }
+        ensures heard { OnOk result ((ws : List Watched) → IsWatchOf (number - 1) self.old ws → IsWatchOf number self.new (ws ++ begun_by number asset (packet_value packet.now) ∷ [])) }
+    {
+        let mut flow = Flow {
+            client: packet.source,
+            asset,
+            bytes: Vec::new(alloc),
+            born: Vec::new(alloc),
+            conflict: None,
+        };
+        let mut trail = Trail {
+            origin: packet.seq,
+            answered: false,
+            top: 0,
+            ahead: BTreeMap::new(alloc),
+        };
+        hear(&mut flow, &mut trail, number, packet)?;
+        self.add(flow, trail)?;
+        Ok(())
+    }
+
+    /// Adds a flow behind the others.
+    fn add(&mut self, flow: Flow, trail: Trail) -> Result<(), NoMemory>
+        ensures flows { OnOk result (self.new.flows.items ≡ self.old.flows.items ++ flow ∷ []) }
+        ensures trails { OnOk result (self.new.trails.items ≡ self.old.trails.items ++ trail ∷ []) }
+        ensures last { OnOk result ((q : FlowKey) → get key_cmp self.new.last q
+            ≡ cond (is_eq (key_cmp (key_of flow.client flow.asset) q)) (Some (length self.old.flows.items)) (get key_cmp self.old.last q)) }
+    {
+        let key = FlowKey {
+            address: flow.client.address,
+            port: flow.client.port,
+            asset: flow.asset,
+        };
+        let place = self.flows.len();
+        if self.flows.push(flow).is_err() {
+            return Err(NoMemory);
+        }
+        if self.trails.push(trail).is_err() {
+            return Err(NoMemory);
+        }
+        match self.last.insert(key, place) {
+            Ok(_) => Ok(()),
+            Err(_) => Err(NoMemory),
+        }
+    }
+}
