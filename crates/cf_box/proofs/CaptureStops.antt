@@ -48,7 +48,7 @@ module _ (file : List ℕ) (before after : Outside) (content : after.files.conte
 
   -- a listing reads no policy
   passes_none : PassesPolicy (Packets file) before
-  passes_none = record { policy = λ other e. cc e; asset = λ other name e f. cc e }
+  passes_none = record { policy = λ file e. cc e; other = λ file e. cc e; asset = λ other name e f. cc e }
 
   -- where the records end so
   ended : (found : AtPlace) (l : (of : Form) × (records : List Record) × (last : LastPlace) × HasForm capture (Ok of) × HasListedRecords capture of records last × (last.found ≡ found)) →

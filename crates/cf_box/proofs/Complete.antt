@@ -1,5 +1,6 @@
 -- Where all is in form and nothing fails, the work is done.
-use Rattle.std.proofs.Common.{◌≡◌, ◌⊎◌, ℕ, List, Some, Result, Ok, Err, drop, refl, sym, subst, ◌∙◌, ap, inl, inr}
+use Rattle.std.proofs.lemmas.Option.{get_or_from_slice_get, slice_get_within}
+use Rattle.std.proofs.Common.{◌≡◌, ◌⊎◌, ℕ, List, All, Some, Result, Ok, Err, drop, refl, sym, subst, ◌∙◌, ap, inl, inr}
 use Rattle.cf_outside.specs.Files.{Content, holds, IsWhole}
 use Rattle.cf_run.proofs.RecordLists.{one_list, one_timed_list}
 use Rattle.cf_run.specs.Capture.{AreRecords, AtPlace, Clock, Cut, FileEnd, Large, LastPlace, Record, Refused, TooLong}
@@ -9,18 +10,23 @@ use Rattle.cf_run.specs.declared.BlockRefusal.TheVariants as block
 use Rattle.cf_run.specs.declared.Form.{Form}
 use Rattle.cf_run.specs.declared.FormRefusal.{FormRefusal}
 use Rattle.cf_run.specs.declared.FormRefusal.TheVariants as form
+use Rattle.cf_compare.specs.Outcome.{HasNothing, StopsAt}
+use Rattle.cf_policy.specs.declared.Asset.{Asset}
 use Rattle.cf_policy.specs.declared.Policy.{Policy}
 use Rattle.cf_policylang.specs.Documents.{policy_meaning}
 use Rattle.cf_policylang.specs.declared.PolicyRefusal.{PolicyRefusal}
 use Rattle.cf_run.specs.RunCapture.{HasRecords as HasRunRecords}
 use Rattle.cf_box.specs.Captures.{EndsAt, Refuses}
-use Rattle.cf_box.specs.Command.{Command, Check, Packets, Run, Relay, World, Sift, asset_name, capture_file, policy_file}
-use Rattle.cf_box.specs.Ends.{CutsCapture, CutsRun, CutsStream, EndsIdle, LacksAsset, LinkFails, Meets, RefusesCapture, RefusesMadePolicy, RefusesPolicy}
+use Rattle.cf_box.specs.Command.{Command, Check, Compare, Migrate, Packets, Run, Relay, World, Sift, asset_name, capture_file, other_file, policy_file}
+use Rattle.cf_box.specs.Compare.{ExceedsAt, IsNotIncluded}
+use Rattle.cf_box.specs.Ends.{CutsCapture, CutsRun, CutsStream, Denies, EndsIdle, ExceedsCells, LacksAsset, LinkFails, Meets, RefusesCapture, RefusesMadePolicy, RefusesPolicy}
 use Rattle.cf_box.specs.Outside.{Outside, ReadFailed, WriteFailed}
 use Rattle.cf_box.specs.Packets.{HasListedRecords}
 use Rattle.cf_box.specs.PolicyFile.{HasPolicy, IsRefusedBy, TellsAsset}
 use Rattle.cf_box.specs.Run.{RunCuts, RunRefuses}
-use Rattle.cf_box.specs.Status.{EndsWell, HasInput, HasRecords, HasTimedRecords, NothingFails, TellsMade}
+use Rattle.cf_box.specs.Status.{EndsWell, HasInput, HasRecords, HasTimedRecords, HoldsWhatItAsks, NothingFails, TellsMade}
+use Rattle.cf_box.specs.declared.denial.Denial.{Denial}
+use Rattle.cf_box.specs.declared.denial.Denial.TheVariants as denial
 use Rattle.cf_box.specs.declared.ending.CaptureRefusal.{CaptureRefusal}
 use Rattle.cf_box.specs.declared.ending.CaptureRefusal.TheVariants as refusal
 use Rattle.cf_box.specs.declared.ending.Done.{Done}
@@ -131,6 +137,8 @@ ends_in_form (Run policy names) before good tells =
     let uncut : (place : ℕ) → RunCuts (before.files.content names.capture) place → ⊥ = λ place h. not_cut_run bytes has place (subst (λ f. RunCuts f place) told h) in
     record { refused = λ r h. not_refused_run bytes has r (subst (λ f. RunRefuses f r) told h); cut = uncut; run_cut = uncut }
 ends_in_form (Check policy) before good tells = record { refused = λ r h. h; cut = λ place h. h; run_cut = λ place h. h }
+ends_in_form (Compare policy other) before good tells = record { refused = λ r h. h; cut = λ place h. h; run_cut = λ place h. h }
+ends_in_form (Migrate policy out) before good tells = record { refused = λ r h. h; cut = λ place h. h; run_cut = λ place h. h }
 ends_in_form (Relay policy asset port idles log) before good tells = record { refused = λ r h. h; cut = λ place h. h; run_cut = λ place h. h }
 ends_in_form (World seed sessions policy names) before good tells = record { refused = λ r h. tells.1 h; cut = λ place h. tells.1 h; run_cut = λ place h. tells.1 h }
 ends_in_form (Sift policy asset client names) before good tells = record { refused = λ r h. h; cut = λ place h. h; run_cut = λ place h. h }
@@ -139,6 +147,8 @@ ends_in_form (Sift policy asset client names) before good tells = record { refus
 made_none : (c : Command) (before : Outside) → TellsMade c before → RefusesMadePolicy c before → ⊥
 made_none (World seed sessions policy names) before tells made = tells.0 made
 made_none (Check policy) before tells made = made
+made_none (Compare policy other) before tells made = made
+made_none (Migrate policy out) before tells made = made
 made_none (Packets capture) before tells made = made
 made_none (Run policy names) before tells made = made
 made_none (Relay policy asset port idles log) before tells made = made
@@ -148,7 +158,33 @@ refusal_none : (c : Command) (before middle : Outside) (r : PolicyRefusal) → H
 refusal_none c before middle r input (inl cause) =
     let here = input.policy cause.0 cause.1 in
     not_refused (before.files.content cause.0) here.0 here.2.0 r here.1 here.2.1 cause.2
-refusal_none c before middle r input (inr made) = made_none c before input.made made
+refusal_none c before middle r input (inr (inl cause)) =
+    let here = input.other cause.0 cause.2 in
+    not_refused (before.files.content cause.0) here.0 here.2.0 r here.1 here.2.1 cause.4.2
+refusal_none c before middle r input (inr (inr made)) = made_none c before input.made made
+
+-- an asset of which nothing stands against inclusion stops no comparison
+stops_nowhere : (ours theirs : Policy) (place : ℕ) (reason : Asset → Type 0) → All (HasNothing theirs) ours.assets → StopsAt ours theirs place reason →
+    ((asset : Asset) → HasNothing theirs asset → reason asset → ⊥) → ⊥
+stops_nowhere ours theirs place reason all s lacks =
+    lacks s.asset (subst (HasNothing theirs) (get_or_from_slice_get ours.assets place s.asset s.asset s.here)
+    (all place s.asset (slice_get_within ours.assets place s.asset s.here))) s.stops
+
+not_denied : (ours theirs : Policy) → All (HasNothing theirs) ours.assets → (why : Denial) → IsNotIncluded ours theirs why → ⊥
+not_denied ours theirs all (denial.NoPartner name) d = stops_nowhere ours theirs d.0 _ all d.1 (λ asset none s. none.partner s.1)
+not_denied ours theirs all (denial.Allows name client act) d = stops_nowhere ours theirs d.0 _ all d.1 (λ asset none s. none.difference client act s.1)
+
+not_exceeding : (ours theirs : Policy) (name : List ℕ) → All (HasNothing theirs) ours.assets → ExceedsAt ours theirs name → ⊥
+not_exceeding ours theirs name all d = stops_nowhere ours theirs d.0 _ all d.1 (λ asset none s. none.cells s.1)
+
+-- what is asked and is so is not denied, and is not too much: a line a command that asks
+asked_holds : (c : Command) (before : Outside) (why : Denial) → HoldsWhatItAsks c before → Denies c before why → ⊥
+asked_holds (Compare policy other) before why asked d = not_denied d.0 d.1 (asked d.0 d.1 d.2) why d.3
+asked_holds c before why asked d = absurd d
+
+asked_is_small : (c : Command) (before : Outside) (name : List ℕ) → HoldsWhatItAsks c before → ExceedsCells c before name → ⊥
+asked_is_small (Compare policy other) before name asked d = not_exceeding d.0 d.1 name (asked d.0 d.1 d.2) d.3
+asked_is_small c before name asked d = absurd d
 
 module _ (c : Command) (before middle : Outside) (failed : Type 0) (status : ℕ) (input : HasInput c before middle)
     (reads : ReadFailed before middle → ⊥) (writes : WriteFailed before middle → ⊥) (links : LinkFails c before middle.pair → ⊥) (puts : failed → ⊥) where
@@ -175,6 +211,8 @@ module _ (c : Command) (before middle : Outside) (failed : Type 0) (status : ℕ
   is_complete (Err stop.LinkFault) meets h = absurd (links meets.0.0)
   is_complete (Err stop.IdleEnd) meets h = absurd (input.idle meets.0.0)
   is_complete (Err (stop.Cut reason)) meets h = absurd (input.stream reason meets.0.0)
+  is_complete (Err (stop.Denied why)) meets h = absurd (asked_holds c before why input.holds meets.0.0)
+  is_complete (Err (stop.TooManyCells name)) meets h = absurd (asked_is_small c before name.bytes input.holds meets.0.0)
 
 -- what the pair gives is the same at the answer and at the end
 at_answer : (c : Command) (before middle after : Outside) → after.pair ≡ middle.pair → HasInput c before after → HasInput c before middle
@@ -184,6 +222,8 @@ at_answer c before middle after same input = record {
   stream = λ reason cut. input.stream reason (subst (λ p. CutsStream c before p reason) (sym same) cut);
   idle = λ ends. input.idle (subst (λ p. EndsIdle c before p) (sym same) ends);
   made = input.made;
+  other = input.other;
+  holds = input.holds;
 }
 
 pub complete_told : {c : Command} {before after : Outside} {status : ℕ} (e : Explains c before after status) → HasInput c before after → NothingFails c

@@ -1,5 +1,5 @@
 -- Causes that stand in the input, where it is told: no other status comes but those to which they yield.
-use Rattle.std.proofs.Common.{◌≡◌, ◌⊎◌, ◌++◌, ◌*◌, ℕ, List, None, Some, Result, Ok, Err, refl, sym, subst, ◌∙◌, ap, inl, inr, arith}
+use Rattle.std.proofs.Common.{◌≡◌, ◌⊎◌, ◌++◌, ◌*◌, ℕ, List, All, None, Some, Result, Ok, Err, refl, sym, subst, ◌∙◌, ap, inl, inr, arith}
 use Rattle.std.proofs.lemmas.List.{append_cancel_left}
 use Rattle.cf_audit.specs.declared.line.CutReason.{CutReason}
 use Rattle.cf_lane.specs.Judged.{Judged}
@@ -10,11 +10,13 @@ use Rattle.cf_relay.specs.Answers.{client_of, history_of, idle_run, with_answers
 use Rattle.cf_relay.specs.Turn.{AreItemsOf, cut_at}
 use Rattle.cf_relay.specs.declared.done.RelayDone.{RelayDone}
 use Rattle.cf_relay.specs.declared.done.RelayFault.{RelayFault}
+use Rattle.cf_compare.specs.Outcome.{HasNothing}
 use Rattle.cf_policy.specs.declared.Asset.{Asset}
 use Rattle.cf_policy.specs.declared.Policy.{Policy}
 use Rattle.cf_policylang.specs.Documents.{policy_meaning}
 use Rattle.cf_policylang.specs.declared.PolicyRefusal.{PolicyRefusal}
-use Rattle.cf_box.specs.Command.{Command, Check, Packets, Run, Relay, World, Sift, policy_file}
+use Rattle.cf_box.specs.Command.{Command, Check, Compare, Migrate, Packets, Run, Relay, World, Sift, asset_name, other_file, policy_file}
+use Rattle.cf_box.specs.Compare.{IsIncluded, OfPolicies, TellsNotIncluded}
 use Rattle.cf_box.specs.Ends.{Does, LacksAsset, Meets, PassesPolicy, RefusesMadePolicy, RefusesPolicy}
 use Rattle.cf_box.specs.Outside.{Outside, ReadFailed, WriteFailed}
 use Rattle.cf_box.specs.PolicyFile.{FindsAsset, HasPolicy, IsRefusedBy, StopsPolicy, TellsAsset}
@@ -23,12 +25,13 @@ use Rattle.cf_sift.specs.Names.{SiftNamesValue}
 use Rattle.cf_sift.specs.Stored.{GoesUpTo, stored_history}
 use Rattle.cf_box.specs.Relay.{HasRelayed, RelayLeaves, TellsRelay, relay_answer}
 use Rattle.cf_box.specs.Sift.{TakesStream, TellsCutStream}
-use Rattle.cf_box.specs.Status.{IsExact, TellsCut, TellsIdle, TellsNoAsset, TellsNoPolicy}
+use Rattle.cf_box.specs.Status.{IsExact, TellsCut, TellsDenial, TellsIdle, TellsNoAsset, TellsNoPolicy}
 use Rattle.cf_box.specs.declared.ending.Done.{Done}
 use Rattle.cf_box.specs.declared.ending.Stop.{Stop}
 use Rattle.cf_box.specs.declared.ending.Stop.TheVariants as stop
+use Rattle.cf_box.proofs.CaptureExact.{capture_from, capture_cut_from}
 use Rattle.cf_box.proofs.Complete.{not_lacking, not_refused, same_bytes, same_policy}
-use Rattle.cf_box.proofs.Passing.{found_passes}
+use Rattle.cf_box.proofs.Passing.{found_passes, one_policy}
 use Rattle.cf_box.proofs.Relaying.{GoesOn, IsUncutEnd, few_by, idle_is_late, link_is_late, uncut_by}
 use Rattle.cf_box.proofs.Statuses.{Explains, IsOf, Unprinted, explained, read_failed, stop_is, write_failed}
 
@@ -36,35 +39,55 @@ use Rattle.cf_box.proofs.Statuses.{Explains, IsOf, Unprinted, explained, read_fa
 does_pass : (before after : Outside) (c : Command) (d : Done) → Does c before after d → PassesPolicy c before
 does_pass before after (Check policy) d m = record {
   policy = λ file e. let same : policy ≡ file = cc in (m.policy, subst (λ f. HasPolicy (before.files.content f) m.policy) same m.has);
+  other = λ file e. cc e;
   asset = λ file name e f. cc f;
 }
-does_pass before after (Packets capture) d m = record { policy = λ file e. cc e; asset = λ file name e f. cc e }
+does_pass before after (Compare policy second) d m =
+    let ours : Policy = m.includes.0 in
+    let theirs : Policy = m.includes.1 in
+    record {
+      policy = λ file e. let same : policy ≡ file = cc in (ours, subst (λ f. HasPolicy (before.files.content f) ours) same m.includes.2.has_ours);
+      other = λ file e. let same : second ≡ file = cc in (theirs, subst (λ f. HasPolicy (before.files.content f) theirs) same m.includes.2.has_theirs);
+      asset = λ file name e f. cc f;
+    }
+does_pass before after (Migrate policy out) d m =
+    let meaning : Policy = m.keeps.meaning in
+    record {
+      policy = λ file e. let same : policy ≡ file = cc in (meaning, subst (λ f. HasPolicy (before.files.content f) meaning) same m.keeps.has);
+      other = λ file e. cc e;
+      asset = λ file name e f. cc f;
+    }
+does_pass before after (Packets capture) d m = record { policy = λ file e. cc e; other = λ file e. cc e; asset = λ file name e f. cc e }
 does_pass before after (Run policy names) d m = record {
   policy = λ file e. let same : policy ≡ file = cc in (m.1.policy, subst (λ f. HasPolicy (before.files.content f) m.1.policy) same m.1.has);
+  other = λ file e. cc e;
   asset = λ file name e f. cc f;
 }
 does_pass before after (Relay policy asset port idles log) d m =
     found_passes (Relay policy asset port idles log) before policy asset m.1.asset refl refl m.1.finds
-does_pass before after (World seed sessions policy names) d m = record { policy = λ file e. cc e; asset = λ file name e f. cc e }
+does_pass before after (World seed sessions policy names) d m = record { policy = λ file e. cc e; other = λ file e. cc e; asset = λ file name e f. cc e }
 does_pass before after (Sift policy name client names) d m = found_passes (Sift policy name client names) before policy name m.takes.asset refl refl m.takes.finds
 
 -- a command that reads a policy file makes none for itself
 made_unread : (c : Command) (before : Outside) (file : List ℕ) → policy_file c ≡ Some file → RefusesMadePolicy c before → ⊥
 made_unread (World seed sessions policy names) before file e made = cc e
 made_unread (Check policy) before file e made = made
+made_unread (Compare policy second) before file e made = made
+made_unread (Migrate policy out) before file e made = made
 made_unread (Packets capture) before file e made = made
 made_unread (Run policy names) before file e made = made
 made_unread (Relay policy asset port idles log) before file e made = made
 made_unread (Sift policy asset client names) before file e made = made
 
--- a policy that is told and has a meaning is not refused
+-- a policy that is told and has a meaning is not refused, where it is the command's one policy
 known_unrefused : (c : Command) (before : Outside) (file bytes : List ℕ) (p : Policy) (r : PolicyRefusal) → policy_file c ≡ Some file → before.files.content file ≡ holds bytes →
-    policy_meaning bytes ≡ Ok p → RefusesPolicy c before r → ⊥
-known_unrefused c before file bytes p r needs told means (inl cause) =
+    policy_meaning bytes ≡ Ok p → ((second : List ℕ) → other_file c ≡ Some second → ⊥) → RefusesPolicy c before r → ⊥
+known_unrefused c before file bytes p r needs told means one (inl cause) =
     let e = cause.1 in
     let here : cause.0 ≡ file = cc in
     not_refused (before.files.content file) bytes p r told means (subst (λ f. IsRefusedBy (before.files.content f) r) here cause.2)
-known_unrefused c before file bytes p r needs told means (inr made) = made_unread c before file needs made
+known_unrefused c before file bytes p r needs told means one (inr (inl cause)) = one cause.0 cause.2
+known_unrefused c before file bytes p r needs told means one (inr (inr made)) = made_unread c before file needs made
 
 -- the asset that is found is that of the policy that is told
 found_asset : (file : Content) (name : List ℕ) (t : TellsAsset file name) (a : Asset) → FindsAsset file name a → a ≡ t.asset
@@ -80,25 +103,32 @@ module _ (failed : Type 0) (status : ℕ) (before after : Outside) where
   Due n = (status ≡ n) ⊎ (((status ≡ 3) × ReadFailed before after) ⊎ (status ≡ 13))
 
   module _ (c : Command) (t : TellsNoPolicy c before) where
-    no_policy : (file : List ℕ) → policy_file c ≡ Some file → (p : Policy) → HasPolicy (before.files.content file) p → ⊥
-    no_policy file e p has =
-        let needs = t.needs in
-        let here : file ≡ t.file = cc in
-        let there : HasPolicy (before.files.content t.file) p = subst (λ f. HasPolicy (before.files.content f) p) here has in
-        let same : there.bytes ≡ t.bytes = same_bytes (before.files.content t.file) t.bytes there.bytes t.told there.whole in
-        let means : policy_meaning t.bytes ≡ Ok p = ap policy_meaning (sym same) ∙ there.means in
+    no_policy : (p : Policy) → HasPolicy (before.files.content t.file) p → ⊥
+    no_policy p has =
+        let same : has.bytes ≡ t.bytes = same_bytes (before.files.content t.file) t.bytes has.bytes t.told has.whole in
+        let means : policy_meaning t.bytes ≡ Ok p = ap policy_meaning (sym same) ∙ has.means in
         let refuses = t.means in
         cc
 
     not_passed : PassesPolicy c before → ⊥
-    not_passed passed = let p = passed.policy t.file t.needs in no_policy t.file t.needs p.0 p.1
+    not_passed passed = elim t.needs [ inl e ↦ (let p = passed.policy t.file e in no_policy p.0 p.1) | inr e ↦ (let p = passed.other t.file e in no_policy p.0 p.1) ]
+
+    lacking_in : (cause : LacksAsset c before) → policy_file c ≡ Some t.file → ⊥
+    lacking_in cause e =
+        let named = cause.2 in
+        let same : cause.0 ≡ t.file = cc in
+        no_policy cause.4.0 (subst (λ f. HasPolicy (before.files.content f) cause.4.0) same cause.4.1)
+
+    -- a command that lacks an asset has a policy
+    not_lacked : LacksAsset c before → ⊥
+    not_lacked cause = elim t.needs [ inl e ↦ lacking_in cause e | inr e ↦ one_policy c t.file cause.1 e cause.3 ]
 
     refused_from : (r : Result Done Stop) → Meets c before after r → IsOf r failed status → Due 5
     refused_from (Ok d) meets h = absurd (not_passed (does_pass before after c d meets))
     refused_from (Err stop.ReadFault) meets h = inr (inl (stop_is failed status stop.ReadFault h, meets.0))
     refused_from (Err stop.NoMemory) meets h = inr (inr (stop_is failed status stop.NoMemory h))
     refused_from (Err (stop.PolicyRefused r)) meets h = inl (stop_is failed status (stop.PolicyRefused r) h)
-    refused_from (Err stop.UnknownAsset) meets h = let cause : LacksAsset c before = meets.0 in absurd (no_policy cause.0 cause.2 cause.4.0 cause.4.1)
+    refused_from (Err stop.UnknownAsset) meets h = absurd (not_lacked meets.0)
     refused_from (Err stop.WriteFault) meets h = absurd (not_passed meets.0.1)
     refused_from (Err (stop.CaptureRefused r)) meets h = absurd (not_passed meets.0.1)
     refused_from (Err (stop.CaptureCut place)) meets h = absurd (not_passed meets.0.1)
@@ -106,6 +136,8 @@ module _ (failed : Type 0) (status : ℕ) (before after : Outside) where
     refused_from (Err stop.LinkFault) meets h = absurd (not_passed meets.0.1)
     refused_from (Err stop.IdleEnd) meets h = absurd (not_passed meets.0.1)
     refused_from (Err (stop.Cut reason)) meets h = absurd (not_passed meets.0.1)
+    refused_from (Err (stop.Denied why)) meets h = absurd (not_passed meets.0.1)
+    refused_from (Err (stop.TooManyCells name)) meets h = absurd (not_passed meets.0.1)
 
   module _ (c : Command) (t : TellsNoAsset c before) where
     not_found : PassesPolicy c before → ⊥
@@ -117,7 +149,7 @@ module _ (failed : Type 0) (status : ℕ) (before after : Outside) where
         cc
 
     known_policy : (r : PolicyRefusal) → RefusesPolicy c before r → ⊥
-    known_policy r cause = known_unrefused c before t.file t.bytes t.meaning r t.needs t.told t.means cause
+    known_policy r cause = known_unrefused c before t.file t.bytes t.meaning r t.needs t.told t.means (λ second e. one_policy c second t.name e t.asks) cause
 
     unknown_from : (r : Result Done Stop) → Meets c before after r → IsOf r failed status → Due 10
     unknown_from (Ok d) meets h = absurd (not_found (does_pass before after c d meets))
@@ -132,6 +164,8 @@ module _ (failed : Type 0) (status : ℕ) (before after : Outside) where
     unknown_from (Err stop.LinkFault) meets h = absurd (not_found meets.0.1)
     unknown_from (Err stop.IdleEnd) meets h = absurd (not_found meets.0.1)
     unknown_from (Err (stop.Cut reason)) meets h = absurd (not_found meets.0.1)
+    unknown_from (Err (stop.Denied why)) meets h = absurd (not_found meets.0.1)
+    unknown_from (Err (stop.TooManyCells name)) meets h = absurd (not_found meets.0.1)
 
   -- what is due where a write may have failed before
   abbrev DueBehind : ℕ → Type 0
@@ -166,7 +200,7 @@ module _ (failed : Type 0) (status : ℕ) (before after : Outside) where
     cut_from (Err stop.ReadFault) meets h = inr (inr (inl (stop_is failed status stop.ReadFault h, meets.0)))
     cut_from (Err stop.NoMemory) meets h = inr (inr (inr (stop_is failed status stop.NoMemory h)))
     cut_from (Err (stop.PolicyRefused r)) meets h =
-        absurd (known_unrefused (Sift file name client names) before file t.known.bytes t.known.policy r refl t.known.told t.known.means meets.0)
+        absurd (known_unrefused (Sift file name client names) before file t.known.bytes t.known.policy r refl t.known.told t.known.means (λ second e. cc e) meets.0)
     cut_from (Err stop.UnknownAsset) meets h =
         absurd (not_lacking (Sift file name client names) before file name t.known refl refl meets.0)
     cut_from (Err stop.WriteFault) meets h = inr (inl (stop_is failed status stop.WriteFault h, inl meets.0.0))
@@ -176,13 +210,15 @@ module _ (failed : Type 0) (status : ℕ) (before after : Outside) where
     cut_from (Err stop.LinkFault) meets h = absurd meets.0.0
     cut_from (Err stop.IdleEnd) meets h = absurd meets.0.0
     cut_from (Err (stop.Cut reason)) meets h = inl (stop_is failed status (stop.Cut reason) h)
+    cut_from (Err (stop.Denied why)) meets h = absurd meets.0.0
+    cut_from (Err (stop.TooManyCells name)) meets h = absurd meets.0.0
 
   module _ (law : HasOneJudgement) (file name : List ℕ) (port idles : ℕ) (log : List ℕ) (t : TellsRelay file name before after.pair) where
     relayed_asset : (a : Asset) → FindsAsset (before.files.content file) name a → a ≡ t.known.asset
     relayed_asset a finds = found_asset (before.files.content file) name t.known a finds
 
     known_means : (r : PolicyRefusal) → RefusesPolicy (Relay file name port idles log) before r → ⊥
-    known_means r cause = known_unrefused (Relay file name port idles log) before file t.known.bytes t.known.policy r refl t.known.told t.known.means cause
+    known_means r cause = known_unrefused (Relay file name port idles log) before file t.known.bytes t.known.policy r refl t.known.told t.known.means (λ second e. cc e) cause
 
     known_asset : LacksAsset (Relay file name port idles log) before → ⊥
     known_asset cause = not_lacking (Relay file name port idles log) before file name t.known refl refl cause
@@ -232,6 +268,8 @@ module _ (failed : Type 0) (status : ℕ) (before after : Outside) where
     relay_cut_from reason cut (Err stop.LinkFault) meets h = absurd (not_cut_stop reason cut stop.LinkFault tt link_is_late meets.1)
     relay_cut_from reason cut (Err stop.IdleEnd) meets h = absurd (not_cut_stop reason cut stop.IdleEnd tt idle_is_late meets.1)
     relay_cut_from reason cut (Err (stop.Cut other)) meets h = inl (stop_is failed status (stop.Cut other) h)
+    relay_cut_from reason cut (Err (stop.Denied why)) meets h = absurd meets.0.0
+    relay_cut_from reason cut (Err (stop.TooManyCells name)) meets h = absurd meets.0.0
 
     -- nor did one go on that answered so
     not_idle : idle_run t.answers ≡ 2 * idles → (r : Result Done Stop) → GoesOn r → (answer : Result RelayDone RelayFault) →
@@ -260,10 +298,14 @@ module _ (failed : Type 0) (status : ℕ) (before after : Outside) where
         let same = relayed_cut c.asset c.answers c.judged c.finds c.told c.are_items in
         let cuts = c.cuts in
         absurd (cc)
+    relay_idle_from uncut idle (Err (stop.Denied why)) meets h = absurd meets.0.0
+    relay_idle_from uncut idle (Err (stop.TooManyCells name)) meets h = absurd meets.0.0
 
   -- answers that end in too many Idle: a line a command
   idle_from : HasOneJudgement → (c : Command) → TellsIdle c before after.pair → (r : Result Done Stop) → Meets c before after r → IsOf r failed status → DueIdle
   idle_from law (Check policy) t r meets h = absurd t
+  idle_from law (Compare policy second) t r meets h = absurd t
+  idle_from law (Migrate policy out) t r meets h = absurd t
   idle_from law (Packets capture) t r meets h = absurd t
   idle_from law (Run policy names) t r meets h = absurd t
   idle_from law (Relay policy asset port idles log) t r meets h = relay_idle_from law policy asset port idles log t.0 t.1 t.2 r meets h
@@ -273,18 +315,65 @@ module _ (failed : Type 0) (status : ℕ) (before after : Outside) where
   -- a stream that is cut: a line a command
   stream_from : HasOneCut → HasOneJudgement → (c : Command) → TellsCut c before after.pair → (r : Result Done Stop) → Meets c before after r → IsOf r failed status → DueWritten
   stream_from one judgement (Check policy) t r meets h = absurd t
+  stream_from one judgement (Compare policy second) t r meets h = absurd t
+  stream_from one judgement (Migrate policy out) t r meets h = absurd t
   stream_from one judgement (Packets capture) t r meets h = absurd t
   stream_from one judgement (Run policy names) t r meets h = absurd t
   stream_from one judgement (Relay policy asset port idles log) t r meets h = relay_cut_from judgement policy asset port idles log t.0 t.1.0 t.1.1 r meets h
   stream_from one judgement (World seed sessions policy names) t r meets h = absurd t
   stream_from one judgement (Sift policy asset client names) t r meets h = cut_from one policy asset client names t r meets h
 
+  -- what is due where the first of two policies is not included in the second
+  abbrev DueDenied : Type 0
+  DueDenied = ((status ≡ 15) ⊎ (status ≡ 17)) ⊎ (((status ≡ 3) × ReadFailed before after) ⊎ (status ≡ 13))
+
+  module _ (policy second : List ℕ) (t : TellsNotIncluded policy second before) where
+    not_included : OfPolicies policy second before IsIncluded → ⊥
+    not_included includes =
+        let ours : includes.0 ≡ t.ours = same_policy (before.files.content policy) t.bytes t.ours includes.0 t.told t.means includes.2.has_ours in
+        let theirs : includes.1 ≡ t.theirs =
+        same_policy (before.files.content second) t.other_bytes t.theirs includes.1 t.other_told t.other_means includes.2.has_theirs in
+        t.not_all (subst (λ p. All (HasNothing p) t.ours.assets) theirs (subst (λ p. All (HasNothing includes.1) p.assets) ours includes.3.nothing))
+
+    both_mean : (r : PolicyRefusal) → RefusesPolicy (Compare policy second) before r → ⊥
+    both_mean r (inl cause) =
+        let e = cause.1 in
+        let here : cause.0 ≡ policy = cc in
+        not_refused (before.files.content policy) t.bytes t.ours r t.told t.means (subst (λ f. IsRefusedBy (before.files.content f) r) here cause.2)
+    both_mean r (inr (inl cause)) =
+        let e = cause.2 in
+        let here : cause.0 ≡ second = cc in
+        not_refused (before.files.content second) t.other_bytes t.theirs r t.other_told t.other_means
+        (subst (λ f. IsRefusedBy (before.files.content f) r) here cause.4.2)
+    both_mean r (inr (inr made)) = made
+
+    denied_from : (r : Result Done Stop) → Meets (Compare policy second) before after r → IsOf r failed status → DueDenied
+    denied_from (Ok d) meets h = absurd (not_included meets.includes)
+    denied_from (Err stop.ReadFault) meets h = inr (inl (stop_is failed status stop.ReadFault h, meets.0))
+    denied_from (Err stop.NoMemory) meets h = inr (inr (stop_is failed status stop.NoMemory h))
+    denied_from (Err (stop.PolicyRefused r)) meets h = absurd (both_mean r meets.0)
+    denied_from (Err stop.UnknownAsset) meets h = let cause : LacksAsset (Compare policy second) before = meets.0 in absurd (cc (cause.3))
+    denied_from (Err stop.WriteFault) meets h = absurd (meets.1.unwritten refl)
+    denied_from (Err (stop.CaptureRefused r)) meets h = absurd meets.0.0
+    denied_from (Err (stop.CaptureCut place)) meets h = absurd meets.0.0
+    denied_from (Err (stop.RunCut place summary)) meets h = absurd meets.0.0
+    denied_from (Err stop.LinkFault) meets h = absurd meets.0.0
+    denied_from (Err stop.IdleEnd) meets h = absurd meets.0.0
+    denied_from (Err (stop.Cut reason)) meets h = absurd meets.0.0
+    denied_from (Err (stop.Denied why)) meets h = inl (inl (stop_is failed status (stop.Denied why) h))
+    denied_from (Err (stop.TooManyCells name)) meets h = inl (inr (stop_is failed status (stop.TooManyCells name) h))
+
+  -- what is asked and is not so: a line a command that asks
+  asked_from : (c : Command) → TellsDenial c before → (r : Result Done Stop) → Meets c before after r → IsOf r failed status → DueDenied
+  asked_from (Compare policy second) t r meets h = denied_from policy second t r meets h
+  asked_from c t r meets h = absurd t
+
 -- what is due at the answer is due at the end
-later : (status n : ℕ) (before middle after : Outside) → (ReadFailed before middle → ReadFailed before after) → Due ⊥ status before middle n →
-    Due ⊥ status before after n
-later status n before middle after rise (inl h) = inl h
-later status n before middle after rise (inr (inl h)) = inr (inl (h.0, rise h.1))
-later status n before middle after rise (inr (inr h)) = inr (inr h)
+later : (due : Type 0) (status : ℕ) (before middle after : Outside) → (ReadFailed before middle → ReadFailed before after) →
+    due ⊎ (((status ≡ 3) × ReadFailed before middle) ⊎ (status ≡ 13)) → due ⊎ (((status ≡ 3) × ReadFailed before after) ⊎ (status ≡ 13))
+later due status before middle after rise (inl h) = inl h
+later due status before middle after rise (inr (inl h)) = inr (inl (h.0, rise h.1))
+later due status before middle after rise (inr (inr h)) = inr (inr h)
 
 later_written : (status n : ℕ) (before middle after : Outside) (failed : Type 0) → (ReadFailed before middle → ReadFailed before after) →
     (WriteFailed before middle ⊎ failed → WriteFailed before after) → DueBehind failed status before middle n → DueBehind ⊥ status before after n
@@ -302,12 +391,18 @@ plain status n before after (inr (inr h)) = inr (inr h)
 
 pub exact_told : HasOneCut → HasOneJudgement → {c : Command} {before after : Outside} {status : ℕ} (e : Explains c before after status) → IsExact c before after status
 exact_told one law {c = c} {before = before} {after = after} {status = status} e = record {
-  refused = λ t. later status 5 before e.middle after (read_failed e)
+  refused = λ t. later (status ≡ 5) status before e.middle after (read_failed e)
       (refused_from (Unprinted e) status before e.middle c t e.r e.meets (explained e));
-  unknown = λ t. later status 10 before e.middle after (read_failed e)
+  unknown = λ t. later (status ≡ 10) status before e.middle after (read_failed e)
       (unknown_from (Unprinted e) status before e.middle c t e.r e.meets (explained e));
+  capture = λ t. plain status 6 before after (later_written status 6 before e.middle after (Unprinted e) (read_failed e) (write_failed e)
+      (capture_from (Unprinted e) status before e.middle c t e.r e.meets (explained e)));
+  capture_cut = λ t. plain status 7 before after (later_written status 7 before e.middle after (Unprinted e) (read_failed e) (write_failed e)
+      (capture_cut_from (Unprinted e) status before e.middle c t e.r e.meets (explained e)));
   cut = λ t. plain status 12 before after (later_written status 12 before e.middle after (Unprinted e) (read_failed e) (write_failed e)
       (stream_from (Unprinted e) status before e.middle one law c (subst (λ p. TellsCut c before p) e.reports.pair t) e.r e.meets (explained e)));
   idle = λ t. plain status 9 before after (later_written status 9 before e.middle after (Unprinted e) (read_failed e) (write_failed e)
       (idle_from (Unprinted e) status before e.middle law c (subst (λ p. TellsIdle c before p) e.reports.pair t) e.r e.meets (explained e)));
+  denied = λ t. later ((status ≡ 15) ⊎ (status ≡ 17)) status before e.middle after (read_failed e)
+      (asked_from (Unprinted e) status before e.middle c t e.r e.meets (explained e));
 }

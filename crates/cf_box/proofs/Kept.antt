@@ -9,10 +9,11 @@ use Rattle.cf_run.specs.RunCapture.{RunNamesValue}
 use Rattle.cf_run.specs.declared.run.RunFault.{RunFault}
 use Rattle.cf_run.specs.declared.run.RunFault.TheVariants as fault
 use Rattle.cf_run.specs.declared.run.RunRefusal.TheVariants as by
-use Rattle.cf_box.specs.Command.{Command, Check, Packets, Run, Relay, World, Sift, output_files}
+use Rattle.cf_box.specs.Command.{Command, Check, Compare, Migrate, Packets, Run, Relay, World, Sift, output_files}
 use Rattle.cf_box.specs.Ending.{status_of, stop_status}
 use Rattle.cf_box.specs.Ends.{Does, Leaves, Meets, StopsFor}
 use Rattle.cf_sift.specs.Outputs.{IsSameBeside, KeepsAllBut}
+use Rattle.cf_box.specs.Migrate.{MigrateLeaves}
 use Rattle.cf_box.specs.Outside.{Outside}
 use Rattle.cf_box.specs.Relay.{HasRelayed, end_answer, relay_answer}
 use Rattle.cf_box.specs.Run.{RunLeaves, run_stop}
@@ -73,6 +74,8 @@ module _ (before after : Outside) where
   -- what was done keeps every file but the outputs: a line a command
   done_keeps : (k : Command) (d : Done) → Does k before after d → Keeps k
   done_keeps (Check policy) d m = nothing_written (Check policy) m.same.content
+  done_keeps (Compare policy other) d m = nothing_written (Compare policy other) m.same.content
+  done_keeps (Migrate policy out) d m = m.others
   done_keeps (Packets file) d m = nothing_written (Packets file) m.content
   done_keeps (Run policy names) d m = m.1.others
   done_keeps (Relay policy asset port idles log) d m = relay_keeps policy asset port idles log m.0 m.1
@@ -86,6 +89,10 @@ module _ (before after : Outside) where
   sift_keeps policy asset client names (stop.Cut reason) l = l.sifted.others
   sift_keeps policy asset client names s l = nothing_written (Sift policy asset client names) l.content
 
+  migrate_keeps : (policy out : List ℕ) (s : Stop) → MigrateLeaves policy out before after s → Keeps (Migrate policy out)
+  migrate_keeps policy out stop.WriteFault l = l.others
+  migrate_keeps policy out s l = nothing_written (Migrate policy out) l.content
+
   -- a run that stopped, from another moment on
   run_stop_keeps : (between : Outside) (policy : List ℕ) (names : RunNamesValue) (s : Stop) → RunLeaves policy names between after s →
       KeepsAllBut between.files.content after.files.content (names.out ∷ names.log ∷ [])
@@ -95,6 +102,8 @@ module _ (before after : Outside) where
   -- and so does what stopped: a line a command
   stop_keeps : (k : Command) (s : Stop) → Leaves k before after s → Keeps k
   stop_keeps (Check policy) s l = nothing_written (Check policy) l.same.content
+  stop_keeps (Compare policy other) s l = nothing_written (Compare policy other) l.same.content
+  stop_keeps (Migrate policy out) s l = migrate_keeps policy out s l
   stop_keeps (Packets file) s l = nothing_written (Packets file) l.content
   stop_keeps (Run policy names) s (inl l) = nothing_written (Run policy names) l.1.content
   stop_keeps (Run policy names) s (inr l) = l.1.others
@@ -114,13 +123,18 @@ module _ (before after : Outside) where
   sift_unwritten policy asset client names (stop.Cut reason) w l = absurd (none_of 12 w (omega arith) (omega arith) (omega arith))
   sift_unwritten policy asset client names s w l = l.content
 
+  migrate_unwritten : (policy out : List ℕ) (s : Stop) → WritesNothing (stop_status s) → MigrateLeaves policy out before after s → after.files.content ≡ before.files.content
+  migrate_unwritten policy out stop.WriteFault w l = absurd (none_of 4 w (omega arith) (omega arith) (omega arith))
+  migrate_unwritten policy out s w l = l.content
+
   -- no stop of a world whose files tell what they hold has one
   not_of_world : (seed sessions : ℕ) (policy : List ℕ) (names : RunNamesValue) (s : Stop) → WritesNothing (stop_status s) → TellsMade (World seed sessions policy names) before →
       StopsFor (World seed sessions policy names) before after s → ⊥
   not_of_world seed sessions policy names stop.ReadFault w t f = none_of 3 w (omega arith) (omega arith) (omega arith)
   not_of_world seed sessions policy names stop.WriteFault w t f = none_of 4 w (omega arith) (omega arith) (omega arith)
   not_of_world seed sessions policy names (stop.PolicyRefused r) w t (inl f) = cc (f.1)
-  not_of_world seed sessions policy names (stop.PolicyRefused r) w t (inr f) = t.0 f
+  not_of_world seed sessions policy names (stop.PolicyRefused r) w t (inr (inl f)) = cc (f.2)
+  not_of_world seed sessions policy names (stop.PolicyRefused r) w t (inr (inr f)) = t.0 f
   not_of_world seed sessions policy names (stop.CaptureRefused r) w t f = t.1 f.0
   not_of_world seed sessions policy names (stop.CaptureCut place) w t f = t.1 f.0
   not_of_world seed sessions policy names (stop.RunCut place summary) w t f = t.1 f.0
@@ -128,11 +142,15 @@ module _ (before after : Outside) where
   not_of_world seed sessions policy names stop.IdleEnd w t f = f.0
   not_of_world seed sessions policy names stop.UnknownAsset w t f = cc (f.3)
   not_of_world seed sessions policy names (stop.Cut reason) w t f = f.0
+  not_of_world seed sessions policy names (stop.Denied why) w t f = f.0
+  not_of_world seed sessions policy names (stop.TooManyCells name) w t f = f.0
   not_of_world seed sessions policy names stop.NoMemory w t f = none_of 13 w (omega arith) (omega arith) (omega arith)
 
   -- such a status leaves the files as they were: a line a command
   unwritten_by : (k : Command) (s : Stop) → WritesNothing (stop_status s) → TellsMade k before → StopsFor k before after s → Leaves k before after s → after.files.content ≡ before.files.content
   unwritten_by (Check policy) s w t f l = l.same.content
+  unwritten_by (Compare policy other) s w t f l = l.same.content
+  unwritten_by (Migrate policy out) s w t f l = migrate_unwritten policy out s w l
   unwritten_by (Packets file) s w t f l = l.content
   unwritten_by (Run policy names) s w t f (inl l) = l.1.content
   unwritten_by (Run policy names) s w t f (inr l) = absurd (not_of_run l.0 (subst (λ t. WritesNothing (stop_status t)) l.2 w))

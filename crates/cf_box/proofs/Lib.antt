@@ -1,9 +1,12 @@
+mod CaptureExact
 pub mod CaptureStops
+pub mod Comparing
 pub mod Complete
 pub mod Exact
 pub mod FileNames
 pub mod Kept
 pub mod Listing
+pub mod Migrating
 pub mod Numerals
 mod Passing
 pub mod Relaying

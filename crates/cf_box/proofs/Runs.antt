@@ -38,6 +38,7 @@ module _ (policy_name : List ℕ) (names : RunNamesValue) (before after : Outsid
   passes : PassesPolicy (Run policy_name names) before
   passes = record {
     policy = λ file e. let same : policy_name ≡ file = cc in (policy, subst (λ f. HasPolicy (before.files.content f) policy) same has);
+    other = λ file e. cc e;
     asset = λ file name e f. cc f;
   }
 

@@ -11,12 +11,14 @@ use Rattle.cf_sift.specs.Stored.{stored_history}
 use Rattle.cf_outside.specs.Faults.{Rose}
 use Rattle.cf_outside.specs.PairValue.{PairValue}
 use Rattle.cf_policylang.specs.declared.PolicyRefusal.{PolicyRefusal}
-use Rattle.cf_box.specs.Command.{Command, Check, Packets, Run, Relay, World, Sift}
+use Rattle.cf_box.specs.Command.{Command, Check, Compare, Migrate, Packets, Run, Relay, World, Sift}
 use Rattle.cf_box.specs.Ending.{Prints, Reports, end_text, status_of, stop_status, unprinted_status}
-use Rattle.cf_box.specs.Ends.{CutsCapture, CutsRun, CutsStream, EndsIdle, LacksAsset, LinkFails, Meets, RefusesCapture, RefusesPolicy}
+use Rattle.cf_box.specs.Ends.{CutsCapture, CutsRun, CutsStream, Denies, EndsIdle, ExceedsCells, LacksAsset, LinkFails, Meets, RefusesCapture, RefusesPolicy}
+use Rattle.cf_box.specs.Migrate.{KeepsMeaning}
 use Rattle.cf_box.specs.Outside.{Outside, ReadFailed, SinkValue, WriteFailed}
 use Rattle.cf_box.specs.Packets.{Lists, ListsFile}
-use Rattle.cf_box.specs.Status.{IsStatus, SiftPassesAllowed}
+use Rattle.cf_box.specs.Status.{Includes, IsStatus, SiftPassesAllowed}
+use Rattle.cf_box.specs.declared.denial.Denial.{Denial}
 use Rattle.cf_box.specs.declared.ending.CaptureRefusal.{CaptureRefusal}
 use Rattle.cf_box.specs.declared.ending.Done.{Done}
 use Rattle.cf_box.specs.declared.ending.Done.TheVariants as done
@@ -60,7 +62,9 @@ module _ (failed : Type 0) (status : ℕ) where
   is_one (Err stop.IdleEnd) h = inr (inr (inr (inr (inr (inr (inr (inr (inl (stop_is stop.IdleEnd h)))))))))
   is_one (Err stop.UnknownAsset) h = inr (inr (inr (inr (inr (inr (inr (inr (inr (inl (stop_is stop.UnknownAsset h))))))))))
   is_one (Err (stop.Cut reason)) h = inr (inr (inr (inr (inr (inr (inr (inr (inr (inr (inl (stop_is (stop.Cut reason) h)))))))))))
-  is_one (Err stop.NoMemory) h = inr (inr (inr (inr (inr (inr (inr (inr (inr (inr (inr (stop_is stop.NoMemory h)))))))))))
+  is_one (Err stop.NoMemory) h = inr (inr (inr (inr (inr (inr (inr (inr (inr (inr (inr (inl (stop_is stop.NoMemory h))))))))))))
+  is_one (Err (stop.Denied why)) h = inr (inr (inr (inr (inr (inr (inr (inr (inr (inr (inr (inr (inl (stop_is (stop.Denied why) h)))))))))))))
+  is_one (Err (stop.TooManyCells name)) h = inr (inr (inr (inr (inr (inr (inr (inr (inr (inr (inr (inr (inr (stop_is (stop.TooManyCells name) h)))))))))))))
 
   -- another ending's status is another
   other : (r : Result Done Stop) (n : ℕ) → IsOf r failed status → status ≡ n → status_of r ≢ n → unprinted_status r ≢ n → ⊥
@@ -101,6 +105,8 @@ module _ (failed : Type 0) (status : ℕ) where
     run_cut : (k : Command) (place : ℕ) → CutsRun k before place → CutsCapture k before place
     run_cut (Run policy names) place cut = cut
     run_cut (Check policy) place cut = absurd cut
+    run_cut (Compare policy other) place cut = absurd cut
+    run_cut (Migrate policy out) place cut = absurd cut
     run_cut (Packets capture) place cut = absurd cut
     run_cut (Relay policy asset port idles log) place cut = absurd cut
     run_cut (World seed sessions policy names) place cut = cut
@@ -119,6 +125,8 @@ module _ (failed : Type 0) (status : ℕ) where
     link_of : (k : Command) (pair : PairValue) → LinkFails k before pair → Rose before.pair.faults pair.faults
     link_of (Relay policy asset port idles log) pair fails = fails
     link_of (Check policy) pair fails = absurd fails
+    link_of (Compare policy other) pair fails = absurd fails
+    link_of (Migrate policy out) pair fails = absurd fails
     link_of (Packets capture) pair fails = absurd fails
     link_of (Run policy names) pair fails = absurd fails
     link_of (World seed sessions policy names) pair fails = absurd fails
@@ -135,6 +143,29 @@ module _ (failed : Type 0) (status : ℕ) where
     stream_from : (r : Result Done Stop) → Meets c before middle r → IsOf r failed status → status ≡ 12 → (reason : CutReason) × CutsStream c before middle.pair reason
     stream_from (Err (stop.Cut reason)) meets h is = (reason, meets.0.0)
     stream_from r meets h is = absurd (other r 12 h is (omega arith) (omega arith))
+
+    denied_from : (r : Result Done Stop) → Meets c before middle r → IsOf r failed status → status ≡ 15 → (why : Denial) × Denies c before why
+    denied_from (Err (stop.Denied why)) meets h is = (why, meets.0.0)
+    denied_from r meets h is = absurd (other r 15 h is (omega arith) (omega arith))
+
+    cells_from : (r : Result Done Stop) → Meets c before middle r → IsOf r failed status → status ≡ 17 → (name : List ℕ) × ExceedsCells c before name
+    cells_from (Err (stop.TooManyCells name)) meets h is = (name.bytes, meets.0.0)
+    cells_from r meets h is = absurd (other r 17 h is (omega arith) (omega arith))
+
+  -- a policy that was compared is included in the other
+  includes_from : (before middle : Outside) (policy second : List ℕ) (r : Result Done Stop) → Meets (Compare policy second) before middle r → IsOf r failed status →
+      status ≡ 0 → Includes policy second before
+  includes_from before middle policy second (Ok d) m h is = m.includes
+  includes_from before middle policy second (Err s) m h is = absurd (not_done s h is)
+
+  -- a policy that was written anew means what it meant
+  migrates_from : (before middle after : Outside) (policy out : List ℕ) → after.files ≡ middle.files → (r : Result Done Stop) →
+      Meets (Migrate policy out) before middle r → IsOf r failed status → status ≡ 0 → KeepsMeaning policy out before after
+  migrates_from before middle after policy out same (Ok d) m h is =
+      let k = m.keeps in
+      let t = k.holds_text in
+      record { meaning = k.meaning; has = k.has; holds_text = record { text = t.text; means = t.means; in_file = ap (λ f. f.content out) same ∙ t.in_file } }
+  migrates_from before middle after policy out same (Err s) m h is = absurd (not_done s h is)
 
   -- what was filtered is what the policy allows
   passes_from : LanePassesAllowed → RatesHold → (before middle after : Outside) (policy name : List ℕ) (client : ℕ) (names : SiftNamesValue) → after.files ≡ middle.files →
@@ -171,6 +202,7 @@ module _ (failed : Type 0) (status : ℕ) where
   lists_from before middle after file (Ok (done.Sifted admitted refused)) m reports h is = cc (m.lists.answers.0)
   lists_from before middle after file (Ok (done.Relayed admitted refused)) m reports h is = cc (m.lists.answers.0)
   lists_from before middle after file (Ok (done.Checked assets rules)) m reports h is = cc (m.lists.answers.0)
+  lists_from before middle after file (Ok done.Included) m reports h is = cc (m.lists.answers.0)
   lists_from before middle after file (Ok (done.Ran summary)) m reports h is = cc (m.lists.answers.0)
   lists_from before middle after file (Err s) m reports h is = absurd (not_done s h is)
 
@@ -225,6 +257,20 @@ module _ {c : Command} {before after : Outside} {status : ℕ} (e : Explains c b
   stream_told is =
       subst (λ p. (reason : CutReason) × CutsStream c before p reason) (sym e.reports.pair)
       (stream_from Unprinted status c before e.middle e.r e.meets explained is)
+
+  pub denied_told : status ≡ 15 → (why : Denial) × Denies c before why
+  denied_told = denied_from Unprinted status c before e.middle e.r e.meets explained
+
+  pub cells_told : status ≡ 17 → (name : List ℕ) × ExceedsCells c before name
+  cells_told = cells_from Unprinted status c before e.middle e.r e.meets explained
+
+  pub includes_told : (policy second : List ℕ) → c ≡ Compare policy second → status ≡ 0 → Includes policy second before
+  includes_told policy second is =
+      includes_from Unprinted status before e.middle policy second e.r (subst (λ k. Meets k before e.middle e.r) is e.meets) explained
+
+  pub migrates_told : (policy out : List ℕ) → c ≡ Migrate policy out → status ≡ 0 → KeepsMeaning policy out before after
+  migrates_told policy out is =
+      migrates_from Unprinted status before e.middle after policy out e.reports.files e.r (subst (λ k. Meets k before e.middle e.r) is e.meets) explained
 
   pub passes_told : LanePassesAllowed → RatesHold → (policy name : List ℕ) (client : ℕ) (names : SiftNamesValue) → c ≡ Sift policy name client names → status ≡ 0 →
       SiftPassesAllowed policy name client names before after

@@ -45,7 +45,8 @@ module _ {c : Command} {before after : Outside} {status : ℕ} (e : Explains c b
 own_not_refused : (seed sessions : ℕ) (policy : List ℕ) (names : RunNamesValue) (before : Outside) (r : PolicyRefusal) → TellsMade (World seed sessions policy names) before →
     RefusesPolicy (World seed sessions policy names) before r → ⊥
 own_not_refused seed sessions policy names before r tells (inl cause) = cc (cause.1)
-own_not_refused seed sessions policy names before r tells (inr made) = tells.0 made
+own_not_refused seed sessions policy names before r tells (inr (inl cause)) = cc (cause.2)
+own_not_refused seed sessions policy names before r tells (inr (inr made)) = tells.0 made
 
 -- what it made is taken
 pub own_told : (seed sessions : ℕ) (policy : List ℕ) (names : RunNamesValue) {before after : Outside} {status : ℕ} → Explains (World seed sessions policy names) before after status →

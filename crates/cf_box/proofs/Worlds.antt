@@ -79,7 +79,7 @@ module _ (seed sessions : ℕ) (policy : List ℕ) (names : RunNamesValue) where
 
   -- it reads no policy and no asset but its own
   pub passes_own : (before : Outside) → PassesPolicy Own before
-  passes_own before = record { policy = λ file e. cc e; asset = λ file name e f. cc e }
+  passes_own before = record { policy = λ file e. cc e; other = λ file e. cc e; asset = λ file name e f. cc e }
 
   -- a world that was not made
   pub not_made : (before after : Outside) (why : WorldFault) → MakesWorld sessions (made_names policy names) before.files.content after.files.content (Err why) →
@@ -117,9 +117,10 @@ module _ (seed sessions : ℕ) (policy : List ℕ) (names : RunNamesValue) where
     own_refused r (inl cause) =
         let e = cause.1 in
         let same : cause.0 ≡ policy = cc in
-        inr (untold_policy (before.files.content policy) (between.files.content policy) r made.policy
-        (subst (λ f. IsRefusedBy (between.files.content f) r) same cause.2))
-    own_refused r (inr cause) = absurd cause
+        inr (inr (untold_policy (before.files.content policy) (between.files.content policy) r made.policy
+        (subst (λ f. IsRefusedBy (between.files.content f) r) same cause.2)))
+    own_refused r (inr (inl cause)) = cc (cause.2)
+    own_refused r (inr (inr made)) = absurd made
 
     -- why the run stopped is why the world did
     stops : (s : Stop) → StopsFor (Run policy names) between after s → StopsFor Own before after s
@@ -137,6 +138,8 @@ module _ (seed sessions : ℕ) (policy : List ℕ) (names : RunNamesValue) where
     stops stop.IdleEnd h = absurd h.0
     stops stop.UnknownAsset h = let cause : LacksAsset (Run policy names) between = h in cc (cause.3)
     stops (stop.Cut reason) h = absurd h.0
+    stops (stop.Denied why) h = absurd h.0
+    stops (stop.TooManyCells name) h = absurd h.0
     stops stop.NoMemory h = tt
 
     pub world_meets : (r : Result Done Stop) → Meets (Run policy names) between after r → Meets Own before after r

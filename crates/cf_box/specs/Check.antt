@@ -1,12 +1,11 @@
 -- `check POLICY`: a policy is read, and its assets and rules are counted.
-use Rattle.std.specs.Prelude.{◌≡◌, ◌≢◌, ℕ, List, [], ◌∷◌, Option, None, Some, length, if◌then◌else◌}
+use Rattle.std.specs.Prelude.{◌≡◌, ◌≢◌, ℕ, List, [], ◌∷◌, Option, None, Some, if◌then◌else◌}
 use Rattle.cf_policy.specs.declared.Policy.{Policy}
 use Rattle.cf_box.specs.Command.{Command, Check}
 use Rattle.cf_box.specs.Names.{are_names}
 use Rattle.cf_box.specs.Outside.{Outside}
-use Rattle.cf_box.specs.PolicyFile.{HasPolicy, rule_count}
+use Rattle.cf_box.specs.PolicyFile.{HasPolicy, counted}
 use Rattle.cf_box.specs.declared.ending.Done.{Done}
-use Rattle.cf_box.specs.declared.ending.Done.TheVariants as done
 use Rattle.cf_box.specs.declared.ending.Stop.{Stop}
 use Rattle.cf_box.specs.declared.ending.Stop.TheVariants as stop
 
@@ -24,7 +23,7 @@ pub record ChangesNothing (before after : Outside) : Type 0 where
 pub record Checks (file : List ℕ) (before after : Outside) (d : Done) : Type 0 where
   pub policy : Policy
   pub has : HasPolicy (before.files.content file) policy
-  pub counts : d ≡ done.Checked (length policy.assets) (rule_count policy.assets)
+  pub counts : d ≡ counted policy
   pub same : ChangesNothing before after
 
 -- whatever stops it

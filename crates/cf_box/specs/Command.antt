@@ -5,6 +5,8 @@ use Rattle.cf_sift.specs.Names.{SiftNamesValue}
 
 pub data Command : Type 0 where
   Check : (policy : List ℕ) → Command
+  Compare : (policy other : List ℕ) → Command
+  Migrate : (policy out : List ℕ) → Command
   Packets : (capture : List ℕ) → Command
   Run : (policy : List ℕ) (names : RunNamesValue) → Command
   Relay : (policy asset : List ℕ) (port idles : ℕ) (log : List ℕ) → Command
@@ -14,15 +16,24 @@ pub data Command : Type 0 where
 -- the file from which a command reads its policy; a world has one that it makes itself
 abbrev pub policy_file : Command → Option (List ℕ)
 policy_file (Check policy) = Some policy
+policy_file (Compare policy other) = Some policy
+policy_file (Migrate policy out) = Some policy
 policy_file (Packets capture) = None
 policy_file (Run policy names) = Some policy
 policy_file (Relay policy asset port idles log) = Some policy
 policy_file (World seed sessions policy names) = None
 policy_file (Sift policy asset client names) = Some policy
 
--- the asset that it needs of that policy
+-- the file from which it reads a second policy, behind the first
+abbrev pub other_file : Command → Option (List ℕ)
+other_file (Compare policy other) = Some other
+other_file _ = None
+
+-- the asset that it needs of its policy
 abbrev pub asset_name : Command → Option (List ℕ)
 asset_name (Check policy) = None
+asset_name (Compare policy other) = None
+asset_name (Migrate policy out) = None
 asset_name (Packets capture) = None
 asset_name (Run policy names) = None
 asset_name (Relay policy asset port idles log) = Some asset
@@ -32,6 +43,8 @@ asset_name (Sift policy asset client names) = Some asset
 -- the file from which it reads a capture; a world has one that it makes itself
 abbrev pub capture_file : Command → Option (List ℕ)
 capture_file (Check policy) = None
+capture_file (Compare policy other) = None
+capture_file (Migrate policy out) = None
 capture_file (Packets capture) = Some capture
 capture_file (Run policy names) = Some names.capture
 capture_file (Relay policy asset port idles log) = None
@@ -41,6 +54,8 @@ capture_file (Sift policy asset client names) = None
 -- the files that it may write
 abbrev pub output_files : Command → List (List ℕ)
 output_files (Check policy) = []
+output_files (Compare policy other) = []
+output_files (Migrate policy out) = out ∷ []
 output_files (Packets capture) = []
 output_files (Run policy names) = names.out ∷ names.log ∷ []
 output_files (Relay policy asset port idles log) = log ∷ []

@@ -5,6 +5,7 @@ use Rattle.cf_outside.specs.Faults.{Rose}
 use Rattle.cf_outside.specs.Sink.{printed_with}
 use Rattle.cf_policylang.specs.Keys.{refusal_text}
 use Rattle.cf_run.specs.declared.summary.Summary.{Summary}
+use Rattle.cf_box.specs.Denial.{denial_text}
 use Rattle.cf_box.specs.Outside.{Outside, SinkValue}
 use Rattle.cf_box.specs.declared.ending.CaptureRefusal.{CaptureRefusal}
 use Rattle.cf_box.specs.declared.ending.CaptureRefusal.TheVariants as refusal
@@ -26,6 +27,8 @@ stop_status stop.IdleEnd = 9
 stop_status stop.UnknownAsset = 10
 stop_status (stop.Cut reason) = 12
 stop_status stop.NoMemory = 13
+stop_status (stop.Denied why) = 15
+stop_status (stop.TooManyCells name) = 17
 
 abbrev pub status_of : Result Done Stop → ℕ
 status_of (Ok d) = 0
@@ -69,6 +72,7 @@ abbrev pub done_text : Done → Option (List ℕ)
 done_text (done.Sifted admitted refused) = Some (commands_text admitted refused)
 done_text (done.Relayed admitted refused) = Some (commands_text admitted refused)
 done_text (done.Checked assets rules) = Some (codes "ok " ++ decimal assets ++ codes " " ++ decimal rules ++ codes "\n")
+done_text done.Included = Some (codes "included\n")
 done_text done.Listed = None
 done_text (done.Ran summary) = Some (summary_text summary)
 
@@ -85,15 +89,17 @@ stop_text stop.IdleEnd = Some (codes "idle end\n")
 stop_text stop.UnknownAsset = Some (codes "unknown asset\n")
 stop_text (stop.Cut reason) = Some (codes "cut " ++ cut_text reason ++ codes "\n")
 stop_text stop.NoMemory = None
+stop_text (stop.Denied why) = Some (denial_text why)
+stop_text (stop.TooManyCells name) = Some (codes "too many cells " ++ name.bytes ++ codes "\n")
 
 abbrev pub end_text : Result Done Stop → Option (List ℕ)
 end_text (Ok d) = done_text d
 end_text (Err s) = stop_text s
 
--- a text was put, and the status is the first; or the put failed, a prefix was put, and the status is the second
+-- a text was put, no put failed, and the status is the first; or the put failed, a prefix was put, and the status is the second
 abbrev pub Puts : List ℕ → (put failed : ℕ) → (before after : SinkValue) → (status : ℕ) → Type 0
 Puts text put failed before after status =
-    ((status ≡ put) × (after.text ≡ printed_with before.text text))
+    ((status ≡ put) × (after.text ≡ printed_with before.text text) × (after.faults ≡ before.faults))
     ⊎ ((status ≡ failed) × Rose before.faults after.faults × ((k : ℕ) × (after.text ≡ printed_with before.text (take k text))))
 
 -- the same of a text that there may be; without one nothing is put

@@ -8,8 +8,10 @@ use Rattle.cf_policy.specs.declared.Asset.{Asset}
 use Rattle.cf_policy.specs.declared.Policy.{Policy}
 use Rattle.cf_policylang.specs.declared.PolicyRefusal.{PolicyRefusal}
 use Rattle.cf_box.specs.Check.{CheckLeaves, Checks}
-use Rattle.cf_box.specs.Command.{Command, Check, Packets, Run, Relay, World, Sift, asset_name, policy_file}
+use Rattle.cf_box.specs.Command.{Command, Check, Compare, Migrate, Packets, Run, Relay, World, Sift, asset_name, other_file, policy_file}
+use Rattle.cf_box.specs.Compare.{CompareLeaves, Compares, DeniesInclusion, FilesExceed}
 use Rattle.cf_box.specs.Ending.{Puts, Reports}
+use Rattle.cf_box.specs.Migrate.{MigrateLeaves, Migrates}
 use Rattle.cf_box.specs.Outside.{Outside, ReadFailed, WriteFailed}
 use Rattle.cf_box.specs.Packets.{ListingCuts, ListingRefuses, Lists, PacketsLeaves}
 use Rattle.cf_box.specs.PolicyFile.{HasPolicy, IsRefusedBy, asset_named}
@@ -17,6 +19,7 @@ use Rattle.cf_box.specs.Relay.{CutsRelay, EndsRelayIdle, RelayLeaves, Relays}
 use Rattle.cf_box.specs.Run.{RunCuts, RunLeaves, RunRefuses, Runs}
 use Rattle.cf_box.specs.Sift.{CutsSift, SiftLeaves, Sifts}
 use Rattle.cf_box.specs.World.{MakesAndRuns, WorldLeaves}
+use Rattle.cf_box.specs.declared.denial.Denial.{Denial}
 use Rattle.cf_box.specs.declared.ending.CaptureRefusal.{CaptureRefusal}
 use Rattle.cf_box.specs.declared.ending.Done.{Done}
 use Rattle.cf_box.specs.declared.ending.Stop.{Stop}
@@ -27,10 +30,17 @@ abbrev pub RefusesMadePolicy : Command → Outside → Type 0
 RefusesMadePolicy (World seed sessions policy names) before = before.files.content policy ≡ untold
 RefusesMadePolicy _ before = ⊥
 
--- the file from which a command reads its policy means none
+-- the file of a second policy means none, where that of the first means one
+abbrev pub RefusesOther : Command → Outside → PolicyRefusal → Type 0
+RefusesOther c before r =
+    (file first : List ℕ) × (other_file c ≡ Some file) × (policy_file c ≡ Some first)
+    × ((p : Policy) × HasPolicy (before.files.content first) p × IsRefusedBy (before.files.content file) r)
+
+-- the file from which a command reads its policy means none, or that of its second policy
 abbrev pub RefusesPolicy : Command → Outside → PolicyRefusal → Type 0
 RefusesPolicy c before r =
-    ((file : List ℕ) × (policy_file c ≡ Some file) × IsRefusedBy (before.files.content file) r) ⊎ RefusesMadePolicy c before
+    ((file : List ℕ) × (policy_file c ≡ Some file) × IsRefusedBy (before.files.content file) r)
+    ⊎ (RefusesOther c before r ⊎ RefusesMadePolicy c before)
 
 -- the policy of a command means one that has no asset of the name that the command needs
 abbrev pub LacksAsset : Command → Outside → Type 0
@@ -41,6 +51,7 @@ LacksAsset c before =
 -- neither of these is so
 pub record PassesPolicy (c : Command) (before : Outside) : Type 0 where
   pub policy : (file : List ℕ) → policy_file c ≡ Some file → (p : Policy) × HasPolicy (before.files.content file) p
+  pub other : (file : List ℕ) → other_file c ≡ Some file → (p : Policy) × HasPolicy (before.files.content file) p
   pub asset :
       (file name : List ℕ) → policy_file c ≡ Some file → asset_name c ≡ Some name →
       (p : Policy) × HasPolicy (before.files.content file) p × ((a : Asset) × (asset_named name p ≡ Some a))
@@ -68,6 +79,8 @@ CutsRun _ before place = ⊥
 -- a stream that a command takes is cut so, where the pair then stands so: a line a command
 abbrev pub CutsStream : Command → (before : Outside) → (pair : PairValue) → CutReason → Type 0
 CutsStream (Check policy) before pair reason = ⊥
+CutsStream (Compare policy other) before pair reason = ⊥
+CutsStream (Migrate policy out) before pair reason = ⊥
 CutsStream (Packets capture) before pair reason = ⊥
 CutsStream (Run policy names) before pair reason = ⊥
 CutsStream (Relay policy asset port idles log) before pair reason = CutsRelay policy asset before pair reason
@@ -84,6 +97,16 @@ abbrev pub LinkFails : Command → (before : Outside) → (pair : PairValue) →
 LinkFails (Relay policy asset port idles log) before pair = Rose before.pair.faults pair.faults
 LinkFails _ before pair = ⊥
 
+-- what is asked of a command's files is not so: a line a command that asks
+abbrev pub Denies : Command → Outside → Denial → Type 0
+Denies (Compare policy other) before why = DeniesInclusion policy other before why
+Denies _ before why = ⊥
+
+-- the rules of the asset of this name make too many cells: a line a command that compares
+abbrev pub ExceedsCells : Command → Outside → (name : List ℕ) → Type 0
+ExceedsCells (Compare policy other) before name = FilesExceed policy other before name
+ExceedsCells _ before name = ⊥
+
 -- why work stops: a line a cause, the same for every command. What stands later in the order of the work is no cause
 -- where the policy or the asset is one
 abbrev pub StopsFor : Command → (before after : Outside) → Stop → Type 0
@@ -98,10 +121,14 @@ StopsFor c before after stop.IdleEnd = EndsIdle c before after.pair × PassesPol
 StopsFor c before after stop.UnknownAsset = LacksAsset c before
 StopsFor c before after (stop.Cut reason) = CutsStream c before after.pair reason × PassesPolicy c before
 StopsFor c before after stop.NoMemory = Unit {0}
+StopsFor c before after (stop.Denied why) = Denies c before why × PassesPolicy c before
+StopsFor c before after (stop.TooManyCells name) = ExceedsCells c before name.bytes × PassesPolicy c before
 
 -- what work that was done means: a line a command
 abbrev pub Does : Command → (before after : Outside) → Done → Type 0
 Does (Check policy) before after d = Checks policy before after d
+Does (Compare policy other) before after d = Compares policy other before after d
+Does (Migrate policy out) before after d = Migrates policy out before after d
 Does (Packets capture) before after d = Lists capture before after d
 Does (Run policy names) before after d = Runs policy names before after d
 Does (Relay policy asset port idles log) before after d = Relays policy asset port idles log before after d
@@ -111,6 +138,8 @@ Does (Sift policy asset client names) before after d = Sifts policy asset client
 -- what stands after a stop: a line a command
 abbrev pub Leaves : Command → (before after : Outside) → Stop → Type 0
 Leaves (Check policy) before after s = CheckLeaves before after s
+Leaves (Compare policy other) before after s = CompareLeaves before after s
+Leaves (Migrate policy out) before after s = MigrateLeaves policy out before after s
 Leaves (Packets capture) before after s = PacketsLeaves capture before after s
 Leaves (Run policy names) before after s = RunLeaves policy names before after s
 Leaves (Relay policy asset port idles log) before after s = RelayLeaves policy asset port idles log before after s

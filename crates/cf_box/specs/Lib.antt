@@ -1,8 +1,12 @@
 pub mod Captures
 pub mod Check
 pub mod Command
+pub mod Compare
+pub mod Denial
 pub mod Ending
 pub mod Ends
+pub mod Limits
+pub mod Migrate
 pub mod Names
 pub mod Outside
 pub mod PacketLine

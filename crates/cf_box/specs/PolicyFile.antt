@@ -1,11 +1,13 @@
 -- The policy that a file holds, and the asset of a name.
-use Rattle.std.specs.Prelude.{◌≡◌, ℕ, List, Option, Some, Ok, Err, length, bytes_eq, find}
+use Rattle.std.specs.Prelude.{◌≡◌, ℕ, List, Option, Some, Result, Ok, Err, length, bytes_eq, find}
 use Rattle.std.specs.List.{sum_by}
-use Rattle.cf_outside.specs.Files.{Content, untold, absent, holds, IsWhole}
+use Rattle.cf_outside.specs.Files.{Content, untold, absent, holds, IsPartly, IsWhole, content_after_write}
 use Rattle.cf_policy.specs.declared.Asset.{Asset}
 use Rattle.cf_policy.specs.declared.Policy.{Policy}
-use Rattle.cf_policylang.specs.Documents.{policy_meaning}
+use Rattle.cf_policylang.specs.Documents.{policy_meaning, text_meaning}
 use Rattle.cf_policylang.specs.declared.PolicyRefusal.{PolicyRefusal}
+use Rattle.cf_box.specs.declared.ending.Done.{Done}
+use Rattle.cf_box.specs.declared.ending.Done.TheVariants as done
 use Rattle.cf_box.specs.declared.ending.Stop.{Stop}
 use Rattle.cf_box.specs.declared.ending.Stop.TheVariants as stop
 
@@ -38,6 +40,13 @@ pub record FindsAsset (file : Content) (name : List ℕ) (asset : Asset) : Type 
   pub has : HasPolicy file policy
   pub named : asset_named name policy ≡ Some asset
 
+-- the file is told, and its bytes mean a policy
+pub record TellsPolicy (file : Content) : Type 0 where
+  pub bytes : List ℕ
+  pub policy : Policy
+  pub told : file ≡ holds bytes
+  pub means : policy_meaning bytes ≡ Ok policy
+
 -- the file is told, and its bytes mean a policy that has an asset of the name
 pub record TellsAsset (file : Content) (name : List ℕ) : Type 0 where
   pub bytes : List ℕ
@@ -50,3 +59,26 @@ pub record TellsAsset (file : Content) (name : List ℕ) : Type 0 where
 -- how many rules all assets have
 abbrev pub rule_count : List Asset → ℕ
 rule_count assets = sum_by (λ a. length a.rules) assets
+
+-- the numbers of a policy's assets and rules, as they are printed
+abbrev pub counted : Policy → Done
+counted p = done.Checked (length p.assets) (rule_count p.assets)
+
+-- the file was created and holds a text that means exactly this policy, its size left aside
+pub record HoldsPolicyText (p : Policy) (before after : Content) : Type 0 where
+  pub text : List ℕ
+  pub means : text_meaning text ≡ Ok p
+  pub in_file : after ≡ content_after_write before text
+
+-- it is as it was, or was created and holds a beginning of such a text
+pub record HoldsPolicyPart (p : Policy) (before after : Content) : Type 0 where
+  pub text : List ℕ
+  pub means : text_meaning text ≡ Ok p
+  pub in_file : IsPartly text before after
+
+-- what the writing of a policy to a file answers
+abbrev pub WritesPolicy : Policy → (before after : Content) → Result Done Stop → Type 0
+WritesPolicy p before after (Ok d) = (d ≡ counted p) × HoldsPolicyText p before after
+WritesPolicy p before after (Err stop.WriteFault) = HoldsPolicyPart p before after
+WritesPolicy p before after (Err stop.NoMemory) = Unit {0}
+WritesPolicy p before after (Err _) = ⊥

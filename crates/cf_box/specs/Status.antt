@@ -5,7 +5,7 @@ use Rattle.cf_lane.specs.Follows.{AreJudged}
 use Rattle.cf_lane.specs.Judged.{Judged}
 use Rattle.cf_lane.specs.Passes.{Passes}
 use Rattle.cf_lane.specs.Rates.{KeepsRates}
-use Rattle.cf_outside.specs.Files.{holds, untold, IsWhole, content_after_write}
+use Rattle.cf_outside.specs.Files.{Content, holds, untold, IsWhole, content_after_write}
 use Rattle.cf_outside.specs.PairValue.{PairValue}
 use Rattle.cf_run.specs.Capture.{AreRecords, FileEnd, Record}
 use Rattle.cf_run.specs.Form.{first_place, form_of}
@@ -16,12 +16,16 @@ use Rattle.cf_policy.specs.declared.Policy.{Policy}
 use Rattle.cf_policylang.specs.Documents.{policy_meaning}
 use Rattle.cf_policylang.specs.declared.PolicyRefusal.{PolicyRefusal}
 use Rattle.cf_run.specs.RunCapture.{RunNamesValue}
-use Rattle.cf_box.specs.Command.{Command, Check, Packets, Run, Relay, World, Sift, AsksPair, asset_name, capture_file, output_files, policy_file}
-use Rattle.cf_box.specs.Ends.{CutsCapture, CutsStream, EndsIdle, LacksAsset, LinkFails, RefusesCapture, RefusesPolicy}
+use Rattle.cf_box.specs.Command.{Command, Check, Compare, Migrate, Packets, Run, Relay, World, Sift, AsksPair, asset_name, capture_file, other_file, output_files, policy_file}
+use Rattle.cf_box.specs.Compare.{IncludesAll, IsIncluded, OfPolicies, TellsNotIncluded}
+use Rattle.cf_box.specs.Ends.{CutsCapture, CutsStream, Denies, EndsIdle, ExceedsCells, LacksAsset, LinkFails, RefusesCapture, RefusesPolicy}
 use Rattle.cf_box.specs.Outside.{Outside, ReadFailed, WriteFailed}
-use Rattle.cf_box.specs.PolicyFile.{FindsAsset, asset_named}
+use Rattle.cf_box.specs.Packets.{ListingCuts, ListingRefuses}
+use Rattle.cf_box.specs.PolicyFile.{FindsAsset, TellsPolicy, asset_named}
 use Rattle.cf_box.specs.Relay.{TellsCutRelay, TellsIdleRelay}
+use Rattle.cf_box.specs.Run.{RunCuts, RunRefuses}
 use Rattle.cf_box.specs.Sift.{TellsCutStream}
+use Rattle.cf_box.specs.declared.denial.Denial.{Denial}
 use Rattle.cf_box.specs.declared.ending.CaptureRefusal.{CaptureRefusal}
 use Rattle.cf_sift.specs.Names.{SiftNamesValue}
 use Rattle.cf_sift.specs.Stored.{stored_history}
@@ -49,8 +53,18 @@ CutsItsStream words before after = OfCommand words (λ c. (reason : CutReason) �
 abbrev pub EndsItsIdles : Option Command → (before after : Outside) → Type 0
 EndsItsIdles words before after = OfCommand words (λ c. EndsIdle c before after.pair)
 
+abbrev pub DeniesWhatItAsks : Option Command → Outside → Type 0
+DeniesWhatItAsks words before = OfCommand words (λ c. (why : Denial) × Denies c before why)
+
+abbrev pub ExceedsItsCells : Option Command → Outside → Type 0
+ExceedsItsCells words before = OfCommand words (λ c. (name : List ℕ) × ExceedsCells c before name)
+
 abbrev pub AsksItsPair : Option Command → Type 0
 AsksItsPair words = OfCommand words AsksPair
+
+-- the first policy of a comparison allows only what the second allows
+abbrev pub Includes : (policy other : List ℕ) → Outside → Type 0
+Includes policy other before = OfPolicies policy other before IsIncluded
 
 -- of the commands in the stream exactly those went to the output that the bytes of the policy allow, in their spelling
 -- and at their place; and no rule let more of them through than its rate
@@ -90,9 +104,14 @@ abbrev pub TellsMade : Command → Outside → Type 0
 TellsMade (World seed sessions policy names) before = (before.files.content policy ≢ untold) × (before.files.content names.capture ≢ untold)
 TellsMade _ before = Unit {0}
 
+-- what is asked of a command's files is so: a line a command that asks
+abbrev pub HoldsWhatItAsks : Command → Outside → Type 0
+HoldsWhatItAsks (Compare policy other) before = IncludesAll policy other before
+HoldsWhatItAsks _ before = Unit {0}
+
 -- what a command needs is told, and in form: its policy has a meaning and the asset of the name, its capture is one whose
--- records end with the file, its streams are not cut, the pair is not idle for too long, and what it makes for itself is
--- told
+-- records end with the file, its streams are not cut, the pair is not idle for too long, what it makes for itself is
+-- told, its second policy has a meaning, and what it asks is so
 pub record HasInput (c : Command) (before after : Outside) : Type 0 where
   pub policy :
       (file : List ℕ) → policy_file c ≡ Some file →
@@ -102,6 +121,10 @@ pub record HasInput (c : Command) (before after : Outside) : Type 0 where
   pub stream : (reason : CutReason) → CutsStream c before after.pair reason → ⊥
   pub idle : EndsIdle c before after.pair → ⊥
   pub made : TellsMade c before
+  pub other :
+      (file : List ℕ) → other_file c ≡ Some file →
+      (bytes : List ℕ) × (before.files.content file ≡ holds bytes) × ((p : Policy) × (policy_meaning bytes ≡ Ok p))
+  pub holds : HoldsWhatItAsks c before
 
 -- no read failed, no creation, append or put, and no call on the pair of a command that asks it
 pub record NothingFails (c : Command) (before after : Outside) : Type 0 where
@@ -118,10 +141,10 @@ IsComplete words before after status =
 abbrev pub Yields : (before after : Outside) → (status : ℕ) → Type 0
 Yields before after status = ((status ≡ 3) × ReadFailed before after) ⊎ (status ≡ 13)
 
--- the policy is told, and its bytes mean none
+-- a policy is told, the first or the second, and its bytes mean none
 pub record TellsNoPolicy (c : Command) (before : Outside) : Type 0 where
   pub file : List ℕ
-  pub needs : policy_file c ≡ Some file
+  pub needs : (policy_file c ≡ Some file) ⊎ (other_file c ≡ Some file)
   pub bytes : List ℕ
   pub told : before.files.content file ≡ holds bytes
   pub refusal : PolicyRefusal
@@ -142,6 +165,8 @@ pub record TellsNoAsset (c : Command) (before : Outside) : Type 0 where
 -- the stream of a command is told, or the answers of its pair are, and is cut: a line a command
 abbrev pub TellsCut : Command → (before : Outside) → (pair : PairValue) → Type 0
 TellsCut (Check file) before pair = ⊥
+TellsCut (Compare file other) before pair = ⊥
+TellsCut (Migrate file out) before pair = ⊥
 TellsCut (Packets file) before pair = ⊥
 TellsCut (Run file names) before pair = ⊥
 TellsCut (Relay file asset port idles log) before pair = TellsCutRelay file asset before pair
@@ -153,17 +178,52 @@ abbrev pub TellsIdle : Command → (before : Outside) → (pair : PairValue) →
 TellsIdle (Relay file asset port idles log) before pair = TellsIdleRelay file asset before pair idles
 TellsIdle _ before pair = ⊥
 
--- what a cut and the idle answers yield to: these, and a write that failed
+-- what a command asks of its files is told, and is not so: a line a command that asks
+abbrev pub TellsDenial : Command → Outside → Type 0
+TellsDenial (Compare policy other) before = TellsNotIncluded policy other before
+TellsDenial _ before = ⊥
+
+-- a file is told, and is refused as a capture so
+pub record TellsRefusal (Refused : Content → CaptureRefusal → Type 0) (file : Content) : Type 0 where
+  pub bytes : List ℕ
+  pub told : file ≡ holds bytes
+  pub refusal : CaptureRefusal
+  pub refuses : Refused (holds bytes) refusal
+
+-- a file is told, and ends as a capture inside what begins at a place
+pub record TellsCutAt (Cuts : Content → ℕ → Type 0) (file : Content) : Type 0 where
+  pub bytes : List ℕ
+  pub told : file ≡ holds bytes
+  pub place : ℕ
+  pub cuts : Cuts (holds bytes) place
+
+-- the capture of a command is told and refused, and a policy that it reads is told and means one: a line a command that reads a
+-- capture
+abbrev pub TellsRefusedCapture : Command → Outside → Type 0
+TellsRefusedCapture (Packets capture) before = TellsRefusal ListingRefuses (before.files.content capture)
+TellsRefusedCapture (Run policy names) before = TellsPolicy (before.files.content policy) × TellsRefusal RunRefuses (before.files.content names.capture)
+TellsRefusedCapture _ before = ⊥
+
+-- the same of one that is cut
+abbrev pub TellsCutCapture : Command → Outside → Type 0
+TellsCutCapture (Packets capture) before = TellsCutAt ListingCuts (before.files.content capture)
+TellsCutCapture (Run policy names) before = TellsPolicy (before.files.content policy) × TellsCutAt RunCuts (before.files.content names.capture)
+TellsCutCapture _ before = ⊥
+
+-- what a capture, a cut stream and the idle answers yield to: these, and a write that failed
 abbrev pub YieldsWritten : (before after : Outside) → (status : ℕ) → Type 0
 YieldsWritten before after status = ((status ≡ 4) × WriteFailed before after) ⊎ Yields before after status
 
--- each of these gives its status, and nothing but a failed read or want of memory comes before it, and before a cut or an idle
--- end a failed write
+-- each of these gives its status, and nothing but a failed read or want of memory comes before it, and before a capture that is
+-- refused or cut, a stream that is cut or an idle end a failed write
 pub record IsExact (c : Command) (before after : Outside) (status : ℕ) : Type 0 where
   pub refused : TellsNoPolicy c before → (status ≡ 5) ⊎ Yields before after status
   pub unknown : TellsNoAsset c before → (status ≡ 10) ⊎ Yields before after status
+  pub capture : TellsRefusedCapture c before → (status ≡ 6) ⊎ YieldsWritten before after status
+  pub capture_cut : TellsCutCapture c before → (status ≡ 7) ⊎ YieldsWritten before after status
   pub cut : TellsCut c before after.pair → (status ≡ 12) ⊎ YieldsWritten before after status
   pub idle : TellsIdle c before after.pair → (status ≡ 9) ⊎ YieldsWritten before after status
+  pub denied : TellsDenial c before → ((status ≡ 15) ⊎ (status ≡ 17)) ⊎ Yields before after status
 
 abbrev pub IsExactly : Option Command → (before after : Outside) → (status : ℕ) → Type 0
 IsExactly words before after status = (c : Command) → words ≡ Some c → IsExact c before after status
@@ -190,4 +250,5 @@ TellsItsOwn words before = (c : Command) → words ≡ Some c → TellsMade c be
 -- the statuses that there are
 abbrev pub IsStatus : ℕ → Type 0
 IsStatus s =
-    (s ≡ 0) ⊎ (s ≡ 2) ⊎ (s ≡ 3) ⊎ (s ≡ 4) ⊎ (s ≡ 5) ⊎ (s ≡ 6) ⊎ (s ≡ 7) ⊎ (s ≡ 8) ⊎ (s ≡ 9) ⊎ (s ≡ 10) ⊎ (s ≡ 12) ⊎ (s ≡ 13)
+    (s ≡ 0) ⊎ (s ≡ 2) ⊎ (s ≡ 3) ⊎ (s ≡ 4) ⊎ (s ≡ 5) ⊎ (s ≡ 6) ⊎ (s ≡ 7) ⊎ (s ≡ 8) ⊎ (s ≡ 9) ⊎ (s ≡ 10) ⊎ (s ≡ 12) ⊎ (s ≡ 13) ⊎ (s ≡ 15)
+    ⊎ (s ≡ 17)

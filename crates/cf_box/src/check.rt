@@ -10,7 +10,7 @@ ghost use Rattle.cf_outside.specs.PairValue.{PairValue};
 use crate::command::Command;
 use crate::ending::{Done, Stop};
 use crate::names::are_names;
-use crate::policy_file::{count_rules, load_policy};
+use crate::policy_file::{counted, load_policy};
 use cf_outside::Files;
 use std::alloc::Global;
 
@@ -39,9 +39,5 @@ pub(crate) fn check<F: Files>(alloc: Global, policy_file: &str, files: &mut F) -
         Ok(policy) => policy,
         Err(stop) => return Err(stop),
     };
-    let assets = policy.assets.as_slice();
-    Ok(Done::Checked {
-        assets: assets.len() as u64,
-        rules: count_rules(assets),
-    })
+    Ok(counted(&policy))
 }

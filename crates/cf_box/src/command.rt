@@ -3,6 +3,8 @@ ghost use Rattle.std.specs.Prelude.{◌≡◌, IfSome, map, option_map, string_b
 ghost use Rattle.cf_box.specs.Words.{HasFitWords, command_of, command_value};
 
 use crate::check::read_check;
+use crate::compare::read_compare;
+use crate::migrate::read_migrate;
 use crate::packets::read_packets;
 use crate::relay::read_relay;
 use crate::run::read_run;
@@ -17,6 +19,16 @@ pub enum Command<'a> {
     /// Read a policy.
     Check {
         policy: &'a str,
+    },
+    /// Compare a policy with another.
+    Compare {
+        policy: &'a str,
+        other: &'a str,
+    },
+    /// Write a policy as a document of version 2.
+    Migrate {
+        policy: &'a str,
+        out: &'a str,
     },
     /// List the records of a capture.
     Packets {
@@ -61,6 +73,12 @@ pub fn read_words(words: &[String]) -> Option<Command<'_>>
     };
     if name.as_str() == "check" {
         return read_check(rest);
+    }
+    if name.as_str() == "compare" {
+        return read_compare(rest);
+    }
+    if name.as_str() == "migrate" {
+        return read_migrate(rest);
     }
     if name.as_str() == "packets" {
         return read_packets(rest);

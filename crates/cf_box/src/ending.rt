@@ -5,6 +5,7 @@ ghost use Rattle.cf_box.specs.Ending.{Prints, Puts, capture_number, commands_tex
 ghost use Rattle.cf_box.specs.Outside.{sink_value};
 ghost use Rattle.cf_policylang.specs.Keys.{refusal_text};
 
+use crate::denial::{AssetName, Denial, denial_line};
 use arrayvec::ArrayString;
 use cf_audit::{CutReason, push_cut};
 use cf_outside::{Sink, WriteAnswer};
@@ -13,7 +14,7 @@ use cf_run::{BlockRefusal, FormRefusal, Summary};
 use cf_view::push_number;
 
 /// Work that was done.
-#[derive(Clone, Copy, PartialEq, Eq, Debug)]
+#[derive(Clone, Copy)]
 pub enum Done {
     /// A stream was filtered, with its numbers of admitted and refused commands.
     Sifted { admitted: u64, refused: u64 },
@@ -21,6 +22,8 @@ pub enum Done {
     Relayed { admitted: u64, refused: u64 },
     /// A policy was read, with its numbers of assets and of all rules.
     Checked { assets: u64, rules: u64 },
+    /// A policy allows only what another allows.
+    Included,
     /// Each record of a capture has its line.
     Listed,
     /// A policy was run over a capture, with what was counted.
@@ -28,7 +31,7 @@ pub enum Done {
 }
 
 /// Why the work stopped: the same causes for every command.
-#[derive(Clone, Copy, PartialEq, Eq, Debug)]
+#[derive(Clone, Copy)]
 pub enum Stop {
     /// A read failed.
     ReadFault,
@@ -52,6 +55,10 @@ pub enum Stop {
     Cut(CutReason),
     /// Memory ran out.
     NoMemory,
+    /// What was asked is not so.
+    Denied(Denial),
+    /// The rules of this asset and of its partner make more than 1,000,000 cells.
+    TooManyCells(AssetName),
 }
 
 /// Why a capture is refused. The tests of a classic file stand in this order, those of records at each record; those of a block stand
@@ -132,6 +139,8 @@ fn stop_status(stop: &Stop) -> u8
         Stop::UnknownAsset => 10,
         Stop::Cut(_) => 12,
         Stop::NoMemory => 13,
+        Stop::Denied(_) => 15,
+        Stop::TooManyCells(_) => 17,
     }
 }
 
@@ -155,7 +164,7 @@ fn unprinted_status(ended: &Result<Done, Stop>) -> u8
 }
 
 /// The text that ends the work: at most nine lines.
-type EndText = ArrayString<384>;
+pub(crate) type EndText = ArrayString<384>;
 
 fn commands_text(admitted: u64, refused: u64) -> EndText
     ensures { result.bytes ≡ commands_text admitted refused }
@@ -275,6 +284,18 @@ fn cut_line(reason: &CutReason) -> EndText
     text
 }
 
+/// A line that ends in the name of an asset.
+fn named_line(words: &str, name: &AssetName) -> EndText
+    requires { length words.now ≤ 64 }
+    ensures { result.bytes ≡ words.now ++ name.now.bytes ++ codes "\n" }
+{
+    let mut text = EndText::new();
+    text.push_str(words);
+    text.push_str(name.as_str());
+    text.push_str("\n");
+    text
+}
+
 fn line(words: &str) -> EndText
     requires { length words.now ≤ 64 }
     ensures { result.bytes ≡ words.now }
@@ -293,6 +314,7 @@ fn done_text(done: &Done) -> Option<EndText>
             Some(commands_text(*admitted, *refused))
         }
         Done::Checked { assets, rules } => Some(checked_text(*assets, *rules)),
+        Done::Included => Some(line("included\n")),
         Done::Listed => None,
         Done::Ran(summary) => Some(counted_text(summary)),
     }
@@ -316,6 +338,8 @@ fn stop_text(stop: &Stop) -> Option<EndText>
         Stop::IdleEnd => Some(line("idle end\n")),
         Stop::UnknownAsset => Some(line("unknown asset\n")),
         Stop::Cut(reason) => Some(cut_line(reason)),
+        Stop::Denied(denial) => Some(denial_line(denial)),
+        Stop::TooManyCells(name) => Some(named_line("too many cells ", name)),
     }
 }
 

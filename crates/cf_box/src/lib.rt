@@ -3,7 +3,11 @@
 
 mod check;
 mod command;
+mod compare;
+mod denial;
 mod ending;
+mod limits;
+mod migrate;
 mod names;
 mod packet_line;
 mod packets;
@@ -17,5 +21,6 @@ mod world;
 
 pub use cf_sift::{SiftDone, SiftFault, SiftNames, sift_stream};
 pub use command::{Command, read_words};
+pub use denial::{AssetName, Denial};
 pub use ending::{CaptureRefusal, Done, Stop};
 pub use top::box_main;

@@ -1,16 +1,19 @@
 //! The policy that a file holds.
-ghost use Rattle.std.specs.Prelude.{◌≡◌, ◌≢◌, IfErr, IfOk, IfSome, Some, bytes_eq, find, option_map};
+ghost use Rattle.std.specs.Prelude.{◌≡◌, ◌≢◌, Err, IfErr, IfOk, IfSome, IsErr, OnErr, OnOk, Some, bytes_eq, find, option_map};
 ghost use Rattle.cf_box.specs.Command.{Command, policy_file};
 ghost use Rattle.cf_box.specs.Ends.{StopsFor};
 ghost use Rattle.cf_box.specs.Outside.{ReadsOnly, SinkValue, files_value, outside};
-ghost use Rattle.cf_box.specs.PolicyFile.{HasPolicy, StopsPolicy, asset_named, rule_count};
+ghost use Rattle.cf_box.specs.PolicyFile.{HasPolicy, StopsPolicy, WritesPolicy, asset_named, counted, rule_count};
+ghost use Rattle.cf_outside.specs.Faults.{HasCause};
+ghost use Rattle.cf_outside.specs.Files.{IsPartly, KeepsOthers, content_after_write};
 ghost use Rattle.cf_outside.specs.PairValue.{PairValue};
 ghost use Rattle.cf_policy.specs.Within.{AreAssetsWithin, IsAssetWithin, IsWithin};
 
-use crate::ending::Stop;
-use cf_outside::{Files, WholeFault, read_whole};
+use crate::ending::{Done, Stop};
+use cf_outside::{Files, WholeFault, WriteAnswer, append_all, read_whole};
 use cf_policy::{Asset, Policy};
-use cf_policylang::{Cause, Key, PolicyFault, PolicyRefusal, read_policy};
+use cf_policylang::{Cause, Key, PolicyFault, PolicyRefusal, migrated_text, read_policy};
+use cf_view::WriteFault;
 use std::alloc::Global;
 
 /// How many bytes a policy file has at most.
@@ -68,8 +71,57 @@ fn find_in<'a>(assets: &'a [Asset], name: &str) -> Option<&'a Asset>
     assets.iter().find(|asset| asset.name.as_str() == name)
 }
 
+/// Writes a policy to a file, which is created behind all else, as a document of version 2 that means exactly the policy.
+pub(crate) fn write_policy<F: Files>(
+    alloc: Global,
+    policy: &Policy,
+    out: &str,
+    files: &mut F,
+) -> Result<Done, Stop>
+    requires { IsWithin policy.now }
+    ensures writes { WritesPolicy policy.now (F.content files.old out.now) (F.content files.new out.now) result }
+    ensures others { KeepsOthers out.now (F.content files.old) (F.content files.new) }
+    ensures unwritten { result ≡ Err Stop.NoMemory → F.content files.new ≡ F.content files.old }
+    ensures cause { HasCause (F.write_faults files.old) (F.write_faults files.new) (result ≡ Err Stop.WriteFault) }
+    ensures reads { F.read_faults files.new ≡ F.read_faults files.old }
+{
+    match migrated_text(alloc, policy) {
+        Ok(text) => match write_file(files, out, text.as_bytes()) {
+            Ok(()) => Ok(counted(policy)),
+            Err(WriteFault) => Err(Stop::WriteFault),
+        },
+        Err(_) => Err(Stop::NoMemory),
+    }
+}
+
+/// Creates a file, and writes its octets.
+fn write_file<F: Files>(files: &mut F, name: &str, octets: &[u8]) -> Result<(), WriteFault>
+    ensures done { OnOk result (F.content files.new name.now ≡ content_after_write (F.content files.old name.now) octets.now) }
+    ensures partly { OnErr result (IsPartly octets.now (F.content files.old name.now) (F.content files.new name.now)) }
+    ensures others { KeepsOthers name.now (F.content files.old) (F.content files.new) }
+    ensures cause { HasCause (F.write_faults files.old) (F.write_faults files.new) (IsErr result) }
+    ensures reads { F.read_faults files.new ≡ F.read_faults files.old }
+{
+    match files.create(name) {
+        WriteAnswer::Done => append_all(files, name, octets),
+        WriteAnswer::Failed => Err(WriteFault),
+    }
+}
+
+/// The numbers of a policy's assets and of all its rules.
+pub(crate) fn counted(policy: &Policy) -> Done
+    requires { IsWithin policy.now }
+    ensures { result ≡ counted policy.now }
+{
+    let assets = policy.assets.as_slice();
+    Done::Checked {
+        assets: assets.len() as u64,
+        rules: count_rules(assets),
+    }
+}
+
 /// How many rules all assets have.
-pub(crate) fn count_rules(assets: &[Asset]) -> u64
+fn count_rules(assets: &[Asset]) -> u64
     requires { AreAssetsWithin assets.now }
     ensures { result ≡ rule_count assets.now }
 {

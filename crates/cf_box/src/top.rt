@@ -1,11 +1,13 @@
 //! The top call.
 ghost use Rattle.std.specs.Prelude.{◌≡◌, ◌≤◌, ◌⊎◌, ◌↔◌, IsNone, List, Some, map, string_bytes, ℕ};
-ghost use Rattle.cf_box.specs.Command.{AsksPair, Packets, Run, Sift, World};
+ghost use Rattle.cf_box.specs.Command.{AsksPair, Compare, Migrate, Packets, Run, Sift, World};
 ghost use Rattle.cf_box.specs.Ends.{Ends, Meets};
+ghost use Rattle.cf_box.specs.Limits.{HasLimits};
+ghost use Rattle.cf_box.specs.Migrate.{KeepsMeaning};
 ghost use Rattle.cf_box.specs.Outside.{FilesNeverFall, files_value, outside_value};
 ghost use Rattle.cf_box.specs.Packets.{Lists};
 ghost use Rattle.cf_box.specs.RunHolds.{RunHolds};
-ghost use Rattle.cf_box.specs.Status.{AsksItsPair, CutsItsCapture, CutsItsStream, EndsItsIdles, IsComplete, IsExactly, IsStatus, LacksItsAsset, RefusesItsCapture, RefusesItsPolicy, SiftPassesAllowed, TakesItsOwn, TellsItsOwn, WritesNothing, outputs_of};
+ghost use Rattle.cf_box.specs.Status.{AsksItsPair, CutsItsCapture, CutsItsStream, DeniesWhatItAsks, EndsItsIdles, ExceedsItsCells, Includes, IsComplete, IsExactly, IsStatus, LacksItsAsset, RefusesItsCapture, RefusesItsPolicy, SiftPassesAllowed, TakesItsOwn, TellsItsOwn, WritesNothing, outputs_of};
 ghost use Rattle.cf_box.specs.Words.{HasFitWords, command_of, command_value};
 ghost use Rattle.cf_box.specs.World.{WorldHolds};
 ghost use Rattle.cf_outside.specs.Faults.{Rose};
@@ -15,7 +17,10 @@ ghost use Rattle.cf_sift.specs.Outputs.{KeepsAllBut};
 
 use crate::check::check;
 use crate::command::{Command, read_words};
+use crate::compare::compare_files;
 use crate::ending::{Done, Stop, put_text, report};
+use crate::limits::limits_are;
+use crate::migrate::migrate;
 use crate::packets::packets;
 use crate::relay::relay;
 use crate::run::run;
@@ -44,6 +49,8 @@ fn perform<F: Files, O: Sink, P: Pair>(
 {
     match command {
         Command::Check { policy } => check(alloc, policy, files),
+        Command::Compare { policy, other } => compare_files(alloc, policy, other, files),
+        Command::Migrate { policy, out } => migrate(alloc, policy, out, files),
         Command::Packets { capture } => packets(alloc, capture, files, out),
         Command::Sift {
             policy,
@@ -73,7 +80,7 @@ fn perform<F: Files, O: Sink, P: Pair>(
 /// Statuses: 0 done; 2 the words have no form; 3 a read failed; 4 a write failed, or work that was done could not be
 /// printed; 5 the policy's text means none; 6 the capture is refused; 7 it ends inside a record; 8 a call on the pair of
 /// streams failed; 9 it answered `Idle` too often; 10 the policy has no asset of the name; 12 a stream is cut; 13 memory ran
-/// out.
+/// out; 15 what was asked is not so; 17 there is too much to compare.
 pub fn box_main<F: Files, O: Sink, P: Pair>(
     alloc: Global,
     words: &[String],
@@ -107,6 +114,11 @@ pub fn box_main<F: Files, O: Sink, P: Pair>(
         (outside_value F.Files O.Sink P.Pair files.old out.old pair.old)
         (outside_value F.Files O.Sink P.Pair files.new out.new pair.new) }
 
+    ensures denied { result ≡ 15 → DeniesWhatItAsks (command_of (map string_bytes words.now))
+        (outside_value F.Files O.Sink P.Pair files.old out.old pair.old) }
+    ensures cells { result ≡ 17 → ExceedsItsCells (command_of (map string_bytes words.now))
+        (outside_value F.Files O.Sink P.Pair files.old out.old pair.old) }
+
     // Where the input is told, a cause in it gives its status, whatever stands behind it in the order of the work.
     ensures exact { IsExactly (command_of (map string_bytes words.now)) (outside_value F.Files O.Sink P.Pair files.old out.old pair.old)
         (outside_value F.Files O.Sink P.Pair files.new out.new pair.new) result }
@@ -114,6 +126,15 @@ pub fn box_main<F: Files, O: Sink, P: Pair>(
     // Work whose input is in form is done where nothing fails and memory lasts.
     ensures complete { IsComplete (command_of (map string_bytes words.now)) (outside_value F.Files O.Sink P.Pair files.old out.old pair.old)
         (outside_value F.Files O.Sink P.Pair files.new out.new pair.new) result }
+
+    // What the first policy allows, to any client and at any asset, the second allows too.
+    ensures includes { (policy other : List ℕ) → command_of (map string_bytes words.now) ≡ Some (Compare policy other) → result ≡ 0 →
+        Includes policy other (outside_value F.Files O.Sink P.Pair files.old out.old pair.old) }
+
+    // A policy that was written anew means exactly what it meant.
+    ensures migrates { (policy file : List ℕ) → command_of (map string_bytes words.now) ≡ Some (Migrate policy file) → result ≡ 0 →
+        KeepsMeaning policy file (outside_value F.Files O.Sink P.Pair files.old out.old pair.old)
+        (outside_value F.Files O.Sink P.Pair files.new out.new pair.new) }
 
     // Each record of a capture has its line.
     ensures lists { (capture : List ℕ) → command_of (map string_bytes words.now) ≡ Some (Packets capture) → result ≡ 0 →
@@ -146,7 +167,11 @@ pub fn box_main<F: Files, O: Sink, P: Pair>(
         TellsItsOwn (command_of (map string_bytes words.now)) (outside_value F.Files O.Sink P.Pair files.old out.old pair.old) →
         F.content files.new ≡ F.content files.old }
     ensures pair { AsksItsPair (command_of (map string_bytes words.now)) ⊎ (pair.new ≡ pair.old) }
+
+    // The numbers of the limits that the definitions of these clauses cite by name.
+    ensures limits { HasLimits }
 {
+    limits_are();
     lane_passes_allowed();
     rates_hold();
     has_one_cut();

@@ -3,33 +3,17 @@ use Rattle.std.proofs.Common.{◌≡◌, ℕ, ◌+◌, ◌<◌, ◌≤◌, pos, 
 use mathlib.Core.Logic.{⊎_elim}
 use Rattle.std.specs.List.{list_any}
 use Rattle.std.proofs.lemmas.Bool.{true≢false, and_parts, cases_lt, false_from_ne_true}
-use Rattle.std.proofs.lemmas.Bool.Decides.{nat_tests}
 use Rattle.std.proofs.lemmas.List.Elements.{All-push}
 use Rattle.std.proofs.lemmas.Option.{get_or_from_slice_get}
 use Rattle.cf_view.specs.declared.base.Act.{Act}
 use Rattle.cf_policy.specs.declared.policy.Protocol.{Protocol}
-use Rattle.cf_policy.specs.declared.policy.Protocol.TheVariants.{Modbus, Dnp3, Iec104}
 use Rattle.cf_policy.specs.declared.policy.Rule.{Rule}
 use Rattle.cf_policy.specs.Verdict.{takes, takes_value, has_act}
 use Rattle.cf_explain.specs.declared.found.What.{What}
-use Rattle.cf_explain.specs.Acts.{is_of_kind, kinds, modbus_kinds, dnp3_kinds, iec104_kinds}
+use Rattle.cf_acts.specs.Acts.{is_of_kind}
 use Rattle.cf_explain.specs.Rules.{NeverHas, NeverMeets, listed}
-use Rattle.cf_explain.proofs.OfCommands.{command_acts_in}
-
--- no code of two octets is served
-modbus_end : (code : ℕ) → 256 ≤ code → modbus_kinds code ≡ []
-modbus_end code high = grind (arith, nat_tests)
-
-dnp3_end : (code : ℕ) → 256 ≤ code → dnp3_kinds code ≡ []
-dnp3_end code high = grind (arith, nat_tests)
-
-iec104_end : (code : ℕ) → 256 ≤ code → iec104_kinds code ≡ []
-iec104_end code high = grind (arith, nat_tests)
-
-kinds_end : (p : Protocol) (code : ℕ) → 256 ≤ code → kinds p code ≡ []
-kinds_end Modbus code high = modbus_end code high
-kinds_end Dnp3 code high = dnp3_end code high
-kinds_end Iec104 code high = iec104_end code high
+use Rattle.cf_acts.proofs.OfCommands.{command_acts_in}
+use Rattle.cf_acts.proofs.Served.{kinds_end}
 
 code_had : (r : Rule) (client : ℕ) (act : Act) → has_act r client act ≡ true → takes r.codes (pos act.code) ≡ true
 code_had r client act has =

@@ -1,8 +1,3 @@
 mod Codes
 mod Inclusion
-mod OfAsdus
-mod OfCommands
-mod OfFragments
-mod OfRequests
 mod Reach
-mod Tables

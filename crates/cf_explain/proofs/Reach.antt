@@ -10,13 +10,13 @@ use Rattle.cf_policy.specs.declared.policy.Protocol.{Protocol}
 use Rattle.cf_policy.specs.declared.policy.Rule.{Rule}
 use Rattle.cf_policy.specs.declared.policy.Span.{Span}
 use Rattle.cf_policy.specs.Verdict.{covers, takes, takes_value, has_act}
-use Rattle.cf_explain.specs.declared.acts.Groups.{Groups}
-use Rattle.cf_explain.specs.declared.acts.Groups.TheVariants as groups
-use Rattle.cf_explain.specs.declared.acts.Kind.{Kind}
-use Rattle.cf_explain.specs.Acts.{between, has_group, has_value, is_of_kind, kinds}
+use Rattle.cf_acts.specs.declared.Groups.{Groups}
+use Rattle.cf_acts.specs.declared.Groups.TheVariants as groups
+use Rattle.cf_acts.specs.declared.Kind.{Kind}
+use Rattle.cf_acts.specs.Acts.{between, has_group, has_value, is_of_kind, kinds}
 use Rattle.cf_explain.specs.Meets.{overlaps, reaches, reaches_groups, reaches_values, meets}
 use Rattle.cf_explain.specs.Rules.{NeverHas}
-use Rattle.cf_explain.proofs.OfCommands.{command_acts_in}
+use Rattle.cf_acts.proofs.OfCommands.{command_acts_in}
 
 -- a number in both
 overlap : (s t : Span) (n : ℤ) → covers s n ≡ true → covers t n ≡ true → overlaps s t ≡ true

@@ -1,4 +1,2 @@
-pub mod Acts
-pub mod Commands
 pub mod Meets
 pub mod Rules

@@ -4,10 +4,10 @@ use Rattle.std.specs.List.{list_any, list_all}
 use Rattle.cf_policy.specs.declared.policy.Span.{Span}
 use Rattle.cf_policy.specs.declared.policy.Rule.{Rule}
 use Rattle.cf_policy.specs.Verdict.{is_empty}
-use Rattle.cf_explain.specs.declared.acts.Groups.{Groups}
-use Rattle.cf_explain.specs.declared.acts.Groups.TheVariants as groups
-use Rattle.cf_explain.specs.declared.acts.Kind.{Kind}
-use Rattle.cf_explain.specs.Acts.{between}
+use Rattle.cf_acts.specs.declared.Groups.{Groups}
+use Rattle.cf_acts.specs.declared.Groups.TheVariants as groups
+use Rattle.cf_acts.specs.declared.Kind.{Kind}
+use Rattle.cf_acts.specs.Acts.{between}
 
 -- the spans have a number in common
 abbrev pub overlaps : Span → Span → Bool

@@ -8,8 +8,8 @@ use Rattle.cf_policy.specs.declared.policy.Asset.{Asset}
 use Rattle.cf_policy.specs.Verdict.{takes, has_act, first_number}
 use Rattle.cf_explain.specs.declared.found.What.{What}
 use Rattle.cf_explain.specs.declared.found.What.TheVariants as what
-use Rattle.cf_explain.specs.Acts.{kinds}
-use Rattle.cf_explain.specs.Commands.{IsOfCommand}
+use Rattle.cf_acts.specs.Acts.{kinds}
+use Rattle.cf_acts.specs.Commands.{IsOfCommand}
 use Rattle.cf_explain.specs.Meets.{meets, includes_rule}
 
 -- no act with this code that a command of the protocol has is the rule's

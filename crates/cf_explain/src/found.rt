@@ -5,7 +5,7 @@ ghost use Rattle.std.specs.List.{list_any};
 ghost use Rattle.cf_policy.specs.declared.policy.Asset.{Asset};
 ghost use Rattle.cf_policy.specs.declared.policy.Rule.{Rule};
 ghost use Rattle.cf_policy.specs.Verdict.{takes};
-ghost use Rattle.cf_explain.specs.Acts.{kinds};
+ghost use Rattle.cf_acts.specs.Acts.{kinds};
 ghost use Rattle.cf_explain.specs.Meets.{meets};
 ghost use Rattle.cf_explain.specs.Rules.{Holds, IsMet, IsSound, NeverHas, NeverMeets, WantsValue, first_including, listed};
 

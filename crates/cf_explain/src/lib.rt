@@ -1,16 +1,17 @@
-//! What the program says to people: why a policy, a capture or the words were refused, which rules no command meets, and
-//! what stands in the outputs after a fault. Each call makes one text, whatever it is given, or ends for want of memory.
+//! What the program says to people: why a policy, a capture or the words were refused, which rules no command meets, why one
+//! policy is not included in another, and what stands in the outputs after a fault. Each call makes one text, whatever it is
+//! given, or ends for want of memory.
 #![tactic(auto)]
 
-mod acts;
 mod allowed;
 mod block;
 mod capture;
+mod code_names;
 mod covered;
+mod difference;
 mod entries;
 mod found;
 mod kinds;
-mod laws;
 mod link;
 mod nearest;
 mod outputs;
@@ -18,17 +19,17 @@ mod page;
 mod place;
 mod policy;
 mod quote;
+mod sets;
 mod unknown;
 mod unmet;
 mod warnings;
 mod words;
 mod wrong;
 
-pub use acts::{Groups, Kind};
 pub use capture::capture_message;
 pub use covered::covering;
+pub use difference::{PolicyFile, inclusion_message};
 pub use found::{What, findings};
-pub use laws::tables_have_acts_of_commands;
 pub use outputs::{asset_message, outputs_message};
 pub use policy::policy_message;
 pub use unmet::{Unmet, why_unmet};

@@ -1,11 +1,11 @@
 //! Codes of a rule that no command brings.
 ghost use Rattle.std.specs.Prelude.{◌≡◌, IfSome, is_none};
 ghost use Rattle.std.specs.List.{list_any};
-ghost use Rattle.cf_explain.specs.Acts.{kinds};
+ghost use Rattle.cf_acts.specs.Acts.{kinds};
 ghost use Rattle.cf_explain.specs.Meets.{overlaps, reaches, reaches_groups, reaches_values, meets};
 ghost use Rattle.cf_explain.specs.Rules.{NeverHas};
 
-use crate::acts::{Groups, Kind, kinds};
+use cf_acts::{Groups, Kind, kinds};
 use cf_policy::{Items, Protocol, Rule, Span};
 
 /// Why no act with a code meets a rule.

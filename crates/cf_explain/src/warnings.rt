@@ -1,12 +1,14 @@
-//! What `check` warns of: rules that decide nothing, or less than they seem to.
-use crate::acts::{Groups, Kind, kinds};
+//! What `check` warns of: sets that no rule names, and rules that decide nothing, or less than they seem to.
 use crate::found::{What, findings};
 use crate::page::Page;
 use crate::policy::push_rule_place;
 use crate::quote::push_quoted;
+use crate::sets::{is_named, name_of, sets_of, twin_of};
 use crate::unmet::{Unmet, reaches_place};
+use cf_acts::{Groups, Kind, kinds};
 use cf_policy::{Action, Asset, Policy, Protocol, Rule, Span};
 use std::alloc::{AllocError, Global};
+use toml::{Table, Value};
 
 /// How many warnings are written out.
 const MOST: u32 = 20;
@@ -34,8 +36,8 @@ struct Report {
     count: u32,
 }
 
-/// A line for each warning about a policy that was read from a text: a rule that no command meets, a code that none brings,
-/// values where reads have none, and a rule that an earlier one covers. Twenty are written out, and behind them how many
+/// A line for each warning about a policy that was read from a text: a set that no rule names, or that has the points of an earlier
+/// one; a rule that no command meets, a code that none brings, values where reads have none, and a rule that an earlier one covers. Twenty are written out, and behind them how many
 /// more there are. The text is empty where there is none.
 pub fn policy_warnings(
     alloc: Global,
@@ -48,6 +50,10 @@ pub fn policy_warnings(
         lines: Page::new(alloc),
         count: 0,
     };
+    match toml::table_from_slice(alloc, text) {
+        Ok(document) => push_sets(&mut report, &source, &document),
+        Err(_) => report.lines.run_out(),
+    }
     let mut number = 0u32;
     for asset in policy.assets.as_slice() {
         number = number.saturating_add(1);
@@ -64,6 +70,61 @@ fn push_more(report: &mut Report, file: &str) {
         report.lines.push_number(u64::from(report.count - MOST));
         report.lines.push(" more\n");
     }
+}
+
+/// The warnings about a document's sets.
+fn push_sets(report: &mut Report, source: &Source<'_>, document: &Table) {
+    let sets = sets_of(document);
+    let mut number = 0usize;
+    for set in sets {
+        number = number.saturating_add(1);
+        if !is_named(document, name_of(set)) {
+            push_set(report, source, number, set, None);
+        }
+        if let Some(twin) = twin_of(sets, number) {
+            push_set(report, source, number, set, Some((twin, sets)));
+        }
+    }
+}
+
+/// The warning about a set, by its number from 1: that it has the points of an earlier one, or that no rule names it.
+fn push_set(
+    report: &mut Report,
+    source: &Source<'_>,
+    number: usize,
+    set: &Value,
+    twin: Option<(usize, &[Value])>,
+) {
+    if report.count < MOST {
+        let out = &mut report.lines;
+        out.push(source.file);
+        push_rule_place(
+            out,
+            source.text,
+            0,
+            u32::try_from(number).unwrap_or(u32::MAX),
+        );
+        out.push(": warning: ");
+        push_set_name(out, number, set);
+        match twin {
+            Some((earlier, sets)) => {
+                out.push(": it has the points of ");
+                if let Some(other) = sets.get(earlier.saturating_sub(1)) {
+                    push_set_name(out, earlier, other);
+                }
+            }
+            None => out.push(": no rule names it"),
+        }
+        out.push("\n");
+    }
+    report.count = report.count.saturating_add(1);
+}
+
+fn push_set_name(out: &mut Page, number: usize, set: &Value) {
+    out.push("set ");
+    out.push_number(number as u64);
+    out.push(" ");
+    push_quoted(out, name_of(set));
 }
 
 /// The warnings about an asset's rules.

@@ -55,6 +55,11 @@ const REPLIES: Slot = Slot {
     role: Role::File,
 };
 
+const OTHER: Slot = Slot {
+    name: "OTHER",
+    role: Role::File,
+};
+
 const ASSET: Slot = Slot {
     name: "ASSET",
     role: Role::Asset,
@@ -87,6 +92,10 @@ const SESSIONS: Slot = Slot {
 
 static CHECK_SLOTS: [Slot; 1] = [POLICY];
 
+static COMPARE_SLOTS: [Slot; 2] = [POLICY, OTHER];
+
+static MIGRATE_SLOTS: [Slot; 2] = [POLICY, OUT];
+
 static PACKETS_SLOTS: [Slot; 1] = [CAPTURE];
 
 static SIFT_SLOTS: [Slot; 7] = [POLICY, ASSET, CLIENT, STREAM, OUT, REPLIES, LOG];
@@ -97,13 +106,17 @@ static RELAY_SLOTS: [Slot; 5] = [POLICY, ASSET, PORT, IDLES, LOG];
 
 static WORLD_SLOTS: [Slot; 6] = [SEED, SESSIONS, POLICY, CAPTURE, OUT, LOG];
 
-static COMMANDS: [&str; 6] = ["sift", "check", "packets", "run", "relay", "world"];
+static COMMANDS: [&str; 8] = [
+    "sift", "check", "compare", "migrate", "packets", "run", "relay", "world",
+];
 
 /// The words behind a command, if it is one.
 fn slots_of(command: &str) -> Option<&'static [Slot]> {
     match command {
         "sift" => Some(&SIFT_SLOTS),
         "check" => Some(&CHECK_SLOTS),
+        "compare" => Some(&COMPARE_SLOTS),
+        "migrate" => Some(&MIGRATE_SLOTS),
         "packets" => Some(&PACKETS_SLOTS),
         "run" => Some(&RUN_SLOTS),
         "relay" => Some(&RELAY_SLOTS),

@@ -1,10 +1,12 @@
-//! What policies mean, what they say about acts, how two compare, what the log says, and what is said of typical mistakes: rows of
-//! text.
+//! What policies mean, what they say about acts, how two compare, how one is written anew, what is learned of flows, what the log says, and
+//! what is said of typical mistakes: rows of text.
 mod changes;
 mod compare;
+mod learned;
 mod lines;
 mod policies;
 mod refused;
+mod rewritten;
 mod told;
 mod verdicts;
 mod warned;
@@ -40,6 +42,12 @@ enum Subject {
     Comparison,
     /// How many cells the first assets of two policies have.
     Cells,
+    /// Why one policy is not included in another.
+    Reason,
+    /// What a policy is written as.
+    Rewritten,
+    /// What is learned of flows.
+    Learned,
 }
 
 /// What is found of what a row gives.
@@ -57,6 +65,9 @@ fn found(alloc: Global, subject: Subject, given: &str) -> Result<String, Fail> {
         Subject::Line => lines::line(alloc, given),
         Subject::Comparison => compare::compared(alloc, given),
         Subject::Cells => compare::counted(alloc, given),
+        Subject::Reason => compare::reason(alloc, given),
+        Subject::Rewritten => rewritten::rewritten(alloc, given),
+        Subject::Learned => learned::learned(alloc, given),
     }
 }
 
@@ -124,7 +135,22 @@ fn policies_are_compared(rt: HostRuntime) -> Result<(), Fail> {
     let rows = compare::COMPARISONS.replace(alloc, "\n    ", " ")?;
     play_lines(&rt, alloc, Subject::Comparison, &rows)?;
     let rows = compare::CELLS.replace(alloc, "\n    ", " ")?;
-    play_lines(&rt, alloc, Subject::Cells, &rows)
+    play_lines(&rt, alloc, Subject::Cells, &rows)?;
+    play_blocks(&rt, alloc, Subject::Reason, compare::REASONS)
+}
+
+#[test]
+fn policies_are_written_anew(rt: HostRuntime) -> Result<(), Fail> {
+    let alloc = rt.alloc();
+    let rows = rewritten::ROWS.replace(alloc, "\n    ", " ")?;
+    play_lines(&rt, alloc, Subject::Rewritten, &rows)
+}
+
+#[test]
+fn policies_are_learned(rt: HostRuntime) -> Result<(), Fail> {
+    let alloc = rt.alloc();
+    let rows = learned::ROWS.replace(alloc, "\n    ", " ")?;
+    play_lines(&rt, alloc, Subject::Learned, &rows)
 }
 
 #[test]

@@ -19,7 +19,9 @@ use Rattle.cf_lane.specs.Acts.{first_refusal, is_by}
 use Rattle.cf_lane.specs.Rates.{Says, is_place, rated_place, said}
 use Rattle.cf_policy.specs.declared.Rate.{Rate}
 use Rattle.std.specs.List.{list_any}
+use Rattle.cf_lane.specs.Rings.{is_spent_by, says_by}
 use Rattle.cf_lane.specs.Run.{AreRun, HaveVerdict}
+use Rattle.cf_lane.specs.declared.rules.Rules.{Rules}
 
 abbrev first_of : RequestValue → ℕ → Act
 first_of r i = record { code = r.code; group = group_of (form_of r.code); point = r.start + i; value = value_of (form_of r.code) r.values i }
@@ -90,10 +92,10 @@ run_has asset client list first last reached act open_value v run free one above
     (cases_Bool open_value) in
     subst (λ a. verdict_of asset client a ≡ v) (same_Some _ _ same) (valued ∙ there)
 
--- what the policy says of each act of a run by a verdict that they have
-pub said_of_all : (asset : Asset) (client : ℕ) (spent : ℕ → Bool) (list : List Act) (from to : ℕ) (v : Verdict) → HaveVerdict (verdict_of asset client) list from to v
-    → HaveVerdict (λ act. said spent (verdict_of asset client act)) list from to (said spent v)
-said_of_all asset client spent list from to v have = λ j act above below at. ap (said spent) (have j act above below at)
+-- what the policy says of each act of a run, by the verdict that they have
+pub said_run : (asset : Asset) (client : ℕ) (rules : Rules) (moment : ℕ) (list : List Act) (from to : ℕ) (v now : Verdict) → now ≡ said (is_spent_by rules.rings.items moment) v →
+    HaveVerdict (verdict_of asset client) list from to v → HaveVerdict (says_by asset client rules moment) list from to now
+said_run asset client rules moment list from to v now e have = λ j act above below at. ap (said (is_spent_by rules.rings.items moment)) (have j act above below at) ∙ sym e
 
 pub one_has : (says : Says) (list : List Act) (i : ℕ) (act : Act) (v : Verdict) → slice_get list i ≡ Some act → v ≡ says act → HaveVerdict says list i (i + 1) v
 one_has says list i act v here e = λ j other from to is.

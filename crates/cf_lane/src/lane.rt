@@ -46,7 +46,7 @@ impl Model for Lane {
 }
 
 /// What a lane made of bytes.
-#[derive(Clone, Copy, PartialEq, Eq, Debug)]
+#[derive(Clone, Copy)]
 pub struct Fed {
     /// How many bytes were whole units. The rest is handed in again, before the bytes that follow.
     pub used: usize,

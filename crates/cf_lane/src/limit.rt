@@ -9,7 +9,7 @@ use cf_view::Side;
 pub const LETTER_LIMIT: u64 = 1 << 30;
 
 /// How many letters each of a session's streams has so far, End counted.
-#[derive(Clone, Copy, PartialEq, Eq, Debug)]
+#[derive(Clone, Copy)]
 pub struct Lengths {
     /// Those taken of the client.
     pub client: u64,

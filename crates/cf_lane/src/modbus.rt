@@ -14,7 +14,7 @@ use crate::lane::{Lane, Step, after};
 use crate::log::log_refusal;
 use arrayvec::ArrayVec;
 use cf_audit::CutReason;
-use cf_modbus::{Adu, exception, next_adu, write_adu};
+use cf_modbus::{Adu, exception, next_adu};
 use cf_outq::Outq;
 use cf_outside::Desk;
 use cf_policy::{Asset, Protocol};
@@ -71,7 +71,7 @@ impl Lane {
                     Ok(Step::Took(used))
                 }
                 Side::Controller => {
-                    push_adu(&unit, to_client);
+                    push_octets(&bytes.sub(0, used), to_client);
                     Ok(Step::Took(used))
                 }
             },
@@ -114,7 +114,7 @@ impl Lane {
         let fate = judge(asset, &self.rules, moment, adu);
         match &fate {
             Fate::Admitted(_) => {
-                push_adu(adu, to_controller);
+                push_octets(&octets, to_controller);
                 self.admitted += 1;
                 self.rules.note(&fate, moment);
                 Ok(())
@@ -130,17 +130,17 @@ impl Lane {
     }
 }
 
-/// Puts the spelling of an ADU into a queue.
-fn push_adu(adu: &Adu<'_>, queue: &mut Outq)
-    requires at_least { 1 ≤ length adu.now.pdu.bytes }
-    requires at_most { length adu.now.pdu.bytes ≤ 253 }
+/// Puts octets into a queue as they came.
+fn push_octets(octets: &View<'_>, queue: &mut Outq)
     requires open { queue.old.ended ≡ false }
-    requires room { HasRoom (length (spelling (adu_value adu.now))) queue.old }
-    ensures queue { queue.new ≡ after_push queue.old (spelling (adu_value adu.now)) }
+    requires room { HasRoom (length octets.now.bytes) queue.old }
+    ensures queue { queue.new ≡ after_push queue.old octets.now.bytes }
 {
-    let mut octets = ArrayVec::<u8, 260>::new();
-    write_adu(adu, &mut octets);
-    queue.push(octets.as_slice());
+    let (first, second) = octets.pieces();
+    queue.push(first);
+    if !second.is_empty() {
+        queue.push(second);
+    }
 }
 
 /// Answers a refused command by its exception response, where the stream to the client goes on.

@@ -1,12 +1,12 @@
 //! The fate of a Modbus request: acts on points that follow each other are judged together.
-ghost use Rattle.std.specs.Prelude.{◌≡◌, ◌+◌, ◌-◌, ◌<◌, ◌≤◌, ℕ, Some, length, slice_get, true};
+ghost use Rattle.std.specs.Prelude.{◌≡◌, ◌+◌, ◌-◌, ◌<◌, ◌≤◌, ℕ, Bool, Some, length, replicate, slice_get, true};
 ghost use Rattle.cf_modbus.specs.Acts.{acts};
 ghost use Rattle.cf_modbus.specs.Request.{IsRead, request_value};
 ghost use Rattle.cf_policy.specs.Index.{IsIndexOf};
 ghost use Rattle.cf_policy.specs.Run.{TakesAnyValue};
-ghost use Rattle.cf_policy.specs.Verdict.{IsInside};
+ghost use Rattle.cf_policy.specs.Verdict.{IsInside, verdict_of};
 ghost use Rattle.cf_policy.specs.Within.{most_rated};
-ghost use Rattle.cf_lane.specs.Acts.{fate_of_acts};
+ghost use Rattle.cf_lane.specs.Acts.{by_refusal, fate_of_acts, first_refusal};
 ghost use Rattle.cf_lane.specs.Fate.{HasOwnDecider, IsOfCommand};
 ghost use Rattle.cf_lane.specs.Rings.{IsRulesOf, says_by};
 ghost use Rattle.cf_lane.specs.Run.{AreRun, HaveVerdict};
@@ -18,8 +18,62 @@ use cf_policy::{Asset, CodeIndex, MOST_RATED, Verdict};
 use cf_view::Act;
 
 /// The fate of a request of the client of the rules, at a moment in microseconds: its acts are judged in their order, those of a
-/// run together, and the first that is not allowed decides.
+/// run together, and the first that is not allowed decides. Whether there are rules with a rate is asked once.
 pub(crate) fn judge_runs(
+    asset: &Asset,
+    rules: &Rules,
+    moment: u64,
+    request: &Request<'_>,
+    any_value: bool,
+) -> Fate
+    requires read { IsRead (request_value request.now) }
+    requires few { length rules.now.rings.items ≤ most_rated }
+    requires any_value { (client : ℕ) → IsIndexOf asset.now client rules.now.index → any_value ≡ true → TakesAnyValue asset.now client request.now.code }
+    ensures fate { (client : ℕ) → IsRulesOf asset.now client rules.now → result ≡ fate_of_acts asset.now (says_by asset.now client rules.now moment) (acts (request_value request.now)) }
+    ensures decider { HasOwnDecider asset.now.rules result }
+    ensures command { IsOfCommand result }
+{
+    if rules.rings.is_empty() {
+        judge_unrated_runs(asset, &rules.index, request, any_value)
+    } else {
+        judge_rated_runs(asset, rules, moment, request, any_value)
+    }
+}
+
+/// The same where no rule has a rate.
+fn judge_unrated_runs(
+    asset: &Asset,
+    index: &CodeIndex,
+    request: &Request<'_>,
+    any_value: bool,
+) -> Fate
+    requires read { IsRead (request_value request.now) }
+    requires any_value { (client : ℕ) → IsIndexOf asset.now client index.now → any_value ≡ true → TakesAnyValue asset.now client request.now.code }
+    ensures fate { (client : ℕ) → IsIndexOf asset.now client index.now → result ≡ by_refusal (replicate most_rated Bool.false) (first_refusal (verdict_of asset.now client) (acts (request_value request.now))) }
+    ensures decider { HasOwnDecider asset.now.rules result }
+    ensures command { IsOfCommand result }
+{
+    let count = act_count(request);
+    let mut i = 0;
+    while i < count {
+        let act = act_at(request, i);
+        let (verdict, next) = judge_run(asset, index, request, &act, i, any_value);
+        match verdict {
+            Verdict::Allow(_) => i = next,
+            Verdict::Refuse(decider, reason) => {
+                return Fate::Refused(Refusal {
+                    decider,
+                    reason,
+                    act,
+                });
+            }
+        }
+    }
+    Fate::Admitted([false; MOST_RATED])
+}
+
+/// The same where a rule that allows an act may be spent, or is marked.
+fn judge_rated_runs(
     asset: &Asset,
     rules: &Rules,
     moment: u64,
@@ -38,8 +92,8 @@ pub(crate) fn judge_runs(
     let mut i = 0;
     while i < count {
         let act = act_at(request, i);
-        let (verdict, next) = judge_run(asset, rules, moment, request, &act, i, any_value);
-        match verdict {
+        let (verdict, next) = judge_run(asset, &rules.index, request, &act, i, any_value);
+        match rules.said(moment, verdict) {
             Verdict::Allow(number) => {
                 rules.mark(number, &mut used);
                 i = next;
@@ -66,11 +120,10 @@ pub(crate) fn takes_any_value(asset: &Asset, index: &CodeIndex, request: &Reques
     index.takes_any_value(asset, u16::from(request.code))
 }
 
-/// What the rules say about the act of place `i`, and the place behind acts of which they say the same.
+/// The verdict about the act of place `i`, and the place behind acts that have the same.
 fn judge_run(
     asset: &Asset,
-    rules: &Rules,
-    moment: u64,
+    index: &CodeIndex,
     request: &Request<'_>,
     act: &Act,
     i: u32,
@@ -79,18 +132,18 @@ fn judge_run(
     requires read { IsRead (request_value request.now) }
     requires inside { i < length (acts (request_value request.now)) }
     requires act { slice_get (acts (request_value request.now)) i ≡ Some act.now }
-    requires any_value { (client : ℕ) → IsIndexOf asset.now client rules.now.index → any_value ≡ true → TakesAnyValue asset.now client request.now.code }
-    ensures run { (client : ℕ) → IsRulesOf asset.now client rules.now → HaveVerdict (says_by asset.now client rules.now moment) (acts (request_value request.now)) i result.1 result.0 }
+    requires any_value { (client : ℕ) → IsIndexOf asset.now client index.now → any_value ≡ true → TakesAnyValue asset.now client request.now.code }
+    ensures run { (client : ℕ) → IsIndexOf asset.now client index.now → HaveVerdict (verdict_of asset.now client) (acts (request_value request.now)) i result.1 result.0 }
     ensures inside { IsInside asset.now.rules result.0 }
     ensures more { i < result.1 }
     ensures within { result.1 ≤ length (acts (request_value request.now)) }
 {
     let last = last_of_run(request, act, i, any_value);
     if last == i {
-        return (rules.verdict(asset, moment, act), i + 1);
+        return (index.verdict(asset, act), i + 1);
     }
-    let (verdict, reached) = rules.index.verdict_run(asset, act, act.point + (last - i));
-    (rules.said(moment, verdict), i + (reached - act.point) + 1)
+    let (verdict, reached) = index.verdict_run(asset, act, act.point + (last - i));
+    (verdict, i + (reached - act.point) + 1)
 }
 
 /// The last place of a run that begins at place `i`.

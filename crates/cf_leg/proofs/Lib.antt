@@ -17,6 +17,7 @@ mod Owed
 mod Phases
 mod Pieces
 mod Reach
+mod Reached
 pub mod Saying
 mod Sent
 mod Speech

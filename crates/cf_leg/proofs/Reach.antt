@@ -1,20 +1,14 @@
--- After a speech every letter that the peer lets in was sent.
+-- What the segments of a speech carry.
 use Rattle.std.proofs.Common.{◌≡◌, ℕ, ◌+◌, min, max, Bool, true, false, cond, List, [], ◌∷◌, ◌++◌, refl, ◌∙◌, ap, subst, arith}
 use Rattle.std.specs.Prelude.{MatchBool, nat_lt}
 use Rattle.std.proofs.lemmas.Bool.{ltb-false}
-use Rattle.cf_outq.specs.SendQueue.{Queue}
-use Rattle.cf_outq.specs.SendQueue.{IsQueueOf}
 use Rattle.cf_packet.specs.Packet.{PacketValue}
 use Rattle.cf_stream.specs.Position.{sequence_number}
 use Rattle.cf_stream.specs.Stream.{Stream, letter_count, no_letters}
-use Rattle.cf_leg.proofs.Events.{no_greeting, open_is_greeted}
 use Rattle.cf_leg.proofs.Speech.{carried_segment, piece_short}
-use Rattle.cf_leg.specs.Emits.{Pieces, SaysIf, SpeaksOpen, piece}
-use Rattle.cf_leg.specs.Event.{Spoke, LegEvent}
-use Rattle.cf_leg.specs.Heard.{opened, end_state, shown}
+use Rattle.cf_leg.specs.Emits.{Pieces, SaysIf, piece}
 use Rattle.cf_leg.specs.Segment.{segment}
-use Rattle.cf_leg.specs.LegValue.{LegValue, IsLegOf, marks}
-use Rattle.cf_leg.specs.Told.{letters_sent, letters_sent_at, letters_sent_by, letters_sent_by_all, own_number}
+use Rattle.cf_leg.specs.Told.{letters_sent_by, letters_sent_by_all}
 use Rattle.cf_leg.specs.declared.ends.Told.{Told}
 use Rattle.cf_leg.specs.declared.ends.Way.{Way}
 
@@ -36,13 +30,3 @@ carried_after way t due whole mss edge from outs h = by (nat_lt from (min edge (
     by : (x : Bool) → nat_lt from (min edge (letter_count whole)) ≡ x → MatchBool x (Pieces way t whole mss edge from outs) (outs ≡ cond due (segment way t (sequence_number way.own from) no_letters ∷ []) []) → letters_sent_by_all way.own from outs ≡ max from (min edge (letter_count whole))
     by true k p = carried_all way t whole mss edge from outs p
     by false k p = ap (λ (ps : List PacketValue). letters_sent_by_all way.own from ps) p ∙ after due ∙ omega (arith, ltb-false from (min edge (letter_count whole)) k)
-
-pub reach : (leg : LegValue) (q : Queue) (e : LegEvent) (es : List LegEvent) (whole : Stream) (roomy : Bool) (outs : List PacketValue)
-    → IsLegOf leg (marks q) (record e { ending = Spoke whole roomy outs } ∷ es) → IsQueueOf q whole → opened leg.ends.role (record e { ending = Spoke whole roomy outs } ∷ es) ≡ true
-    → letters_sent leg.ends.role (record e { ending = Spoke whole roomy outs } ∷ es) ≡ min (shown leg.ends.role (record e { ending = Spoke whole roomy outs } ∷ es)) (letter_count whole)
-reach leg q e es whole roomy outs h s o =
-    let speaks = subst (λ (b : Bool). MatchBool b (SpeaksOpen leg.ends es (record e { ending = Spoke whole roomy outs }) whole roomy outs) (outs ≡ [])) o h.of_right.0.ending in
-    let quiet = no_greeting leg.ends es (opened leg.ends.role es) (end_state leg.ends.role es e) e.came (open_is_greeted leg.ends.role es) h.of_right.0.came o in
-    let went = ap (λ (ps : List PacketValue). letters_sent_by_all (own_number leg.ends.role (record e { ending = Spoke whole roomy outs } ∷ es)) (letters_sent_at leg.ends.role es e) (ps ++ outs)) quiet
-    ∙ carried_after _ _ _ whole _ (shown leg.ends.role (record e { ending = Spoke whole roomy outs } ∷ es)) (letters_sent_at leg.ends.role es e) outs speaks.says in
-    omega (arith, went, h.of_sent, h.of_shown, s.sent, s.shown)

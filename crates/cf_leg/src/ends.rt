@@ -4,7 +4,7 @@ use cf_view::Endpoint;
 
 /// How a connection begins at an end. RFC 9293, section 3.3: the end of an active open sends the SYN, and that of a
 /// passive open got it.
-#[derive(Clone, Copy, PartialEq, Eq, Debug)]
+#[derive(Clone, Copy)]
 pub enum Role {
     /// The sequence number of the SYN that it sends.
     Active(u32),
@@ -13,7 +13,7 @@ pub enum Role {
 }
 
 /// The two ends of the connection, seen from the one that sends.
-#[derive(Clone, Copy, PartialEq, Eq, Debug)]
+#[derive(Clone, Copy)]
 pub struct Ends {
     pub own: Endpoint,
     pub peer: Endpoint,
@@ -21,7 +21,7 @@ pub struct Ends {
 }
 
 /// How far a connection is at an end.
-#[derive(Clone, Copy, PartialEq, Eq, Debug)]
+#[derive(Clone, Copy)]
 pub enum Phase {
     /// Neither SYN nor SYN ACK went out.
     Made,
@@ -31,7 +31,7 @@ pub enum Phase {
 }
 
 /// What became of a packet.
-#[derive(Clone, Copy, PartialEq, Eq, Debug)]
+#[derive(Clone, Copy)]
 pub enum LegAnswer {
     /// It counts: it acknowledges letters, shows an edge, and offers its letters.
     Counted,
@@ -45,7 +45,7 @@ pub enum LegAnswer {
 }
 
 /// What a clock call did.
-#[derive(Clone, Copy, PartialEq, Eq, Debug)]
+#[derive(Clone, Copy)]
 pub enum ClockAnswer {
     Quiet,
     /// A segment went out again.
@@ -58,14 +58,14 @@ pub enum ClockAnswer {
 
 /// What a peer was told: the place of the first letter that it has not sent or that did not come, and the place below
 /// which its letters are let in. RFC 9293, section 3.3.1: RCV.NXT, and RCV.NXT + RCV.WND.
-#[derive(Clone, Copy, PartialEq, Eq, Debug)]
+#[derive(Clone, Copy)]
 pub struct Told {
     pub base: u64,
     pub edge: u64,
 }
 
 /// Between whom segments go, and the sequence numbers of the two SYNs.
-#[derive(Clone, Copy, PartialEq, Eq, Debug)]
+#[derive(Clone, Copy)]
 pub struct Way {
     pub source: Endpoint,
     pub dest: Endpoint,
@@ -74,7 +74,7 @@ pub struct Way {
 }
 
 /// An end as a packet finds it.
-#[derive(Clone, Copy, PartialEq, Eq, Debug)]
+#[derive(Clone, Copy)]
 pub struct EndState {
     pub role: Role,
     pub is_greeted: bool,

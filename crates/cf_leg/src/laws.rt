@@ -1,22 +1,19 @@
 //! Laws of the definitions.
-ghost use Rattle.std.specs.Prelude.{◌≡◌, ℕ, ◌+◌, ◌^◌, ◌<◌, ◌≤◌, ◌==◌, min, max, ◌&&◌, ◌||◌, if◌then◌else◌, true, Bool, List, ◌∷◌, Some};
-ghost use Rattle.cf_outq.specs.SendQueue.{Queue};
-ghost use Rattle.cf_outq.specs.SendQueue.{IsQueueOf};
+ghost use Rattle.std.specs.Prelude.{◌≡◌, ℕ, ◌+◌, ◌^◌, ◌<◌, ◌≤◌, ◌==◌, min, max, ◌&&◌, ◌||◌, if◌then◌else◌, true, Bool, List, ◌∷◌};
 ghost use Rattle.cf_packet.specs.Packet.{PacketValue};
-ghost use Rattle.cf_stream.specs.Stream.{Stream, Letter, Extends, letter_at, letter_count};
-ghost use Rattle.cf_leg.specs.Emits.{AllRight, IsRight, Pieces, differs, empties, letters_of_all, to_tell};
-ghost use Rattle.cf_leg.specs.Asked.{AllAsked};
+ghost use Rattle.cf_stream.specs.Stream.{Stream, letter_count};
+ghost use Rattle.cf_leg.specs.Emits.{IsRight, Pieces};
 ghost use Rattle.cf_leg.specs.Calls.{AreQuietBeforeDue};
-ghost use Rattle.cf_leg.specs.OneStream.{Grows, IsOneStream, first_carried, first_in};
-ghost use Rattle.cf_leg.specs.LegValue.{Marks, IsLegOf, LegValue, marks};
+ghost use Rattle.cf_leg.specs.OneStream.{IsRightRun};
+ghost use Rattle.cf_leg.specs.LegValue.{Marks, IsLegOf, LegValue};
 ghost use Rattle.cf_rebuild.specs.ReceiveWindow.{base_of};
 ghost use Rattle.cf_stream.specs.FirstCopy.{IsTaken, first_copy};
 ghost use Rattle.cf_leg.specs.Event.{Ending, LegEvent, spoke, begun, is_settled, stream_after};
-ghost use Rattle.cf_leg.specs.Heard.{opened, offers, owed, shown};
+ghost use Rattle.cf_leg.specs.Heard.{opened, offers, shown};
 ghost use Rattle.cf_leg.specs.declared.ends.Role.{Role};
 ghost use Rattle.cf_leg.specs.declared.ends.Role.TheVariants as role;
 ghost use Rattle.std.specs.Option.{is_some};
-ghost use Rattle.cf_leg.specs.Told.{letters_sent, is_greeted, syn_ack, told_by_all, letters_sent_by_all, own_number, told, told_at};
+ghost use Rattle.cf_leg.specs.Told.{letters_sent, is_greeted, syn_ack, told_by_all, letters_sent_by_all, told};
 ghost use Rattle.cf_leg.specs.declared.ends.Ends.{Ends};
 ghost use Rattle.cf_leg.specs.declared.ends.Told.{Told};
 ghost use Rattle.cf_leg.specs.declared.ends.Way.{Way};
@@ -59,7 +56,8 @@ pub fn sends_are_fixed()
     ensures speech { (ends : Ends) (es : List LegEvent) (e : LegEvent) (whole : Stream) (roomy : Bool) (xs ys : List PacketValue) → IsRight ends es (spoke e whole roomy xs) → IsRight ends es (spoke e whole roomy ys) → xs ≡ ys }
 {}
 
-/// After a speech of an open leg the letters sent are those of its queue's list below the greatest edge shown.
+/// Between two events of an open leg every letter that the peer lets in was sent: the letters sent are those of its queue's list
+/// below the greatest edge shown.
 pub fn speeches_reach()
-    ensures { (leg : LegValue) (q : Queue) (e : LegEvent) (es : List LegEvent) (whole : Stream) (roomy : Bool) (outs : List PacketValue) → IsLegOf leg (marks q) (spoke e whole roomy outs ∷ es) → IsQueueOf q whole → opened leg.ends.role (spoke e whole roomy outs ∷ es) ≡ true → letters_sent leg.ends.role (spoke e whole roomy outs ∷ es) ≡ min (shown leg.ends.role (spoke e whole roomy outs ∷ es)) (letter_count whole) }
+    ensures { (ends : Ends) (es : List LegEvent) (whole : Stream) → IsRightRun ends es whole → is_settled es ≡ true → opened ends.role es ≡ true → letters_sent ends.role es ≡ min (shown ends.role es) (letter_count (stream_after es)) }
 {}

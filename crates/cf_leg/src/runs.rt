@@ -1,24 +1,17 @@
 //! What holds over every list of right events of an end.
-ghost use Rattle.std.specs.Prelude.{◌≡◌, ℕ, ◌+◌, ◌^◌, ◌<◌, ◌≤◌, ◌==◌, min, max, ◌&&◌, ◌||◌, if◌then◌else◌, true, Bool, List, ◌∷◌, Some};
-ghost use Rattle.cf_outq.specs.SendQueue.{Queue};
-ghost use Rattle.cf_outq.specs.SendQueue.{IsQueueOf};
+ghost use Rattle.std.specs.Prelude.{◌≡◌, ℕ, ◌+◌, ◌^◌, ◌<◌, ◌≤◌, ◌==◌, ◌&&◌, ◌||◌, if◌then◌else◌, true, Bool, List, ◌∷◌, Some};
 ghost use Rattle.cf_packet.specs.Packet.{PacketValue};
-ghost use Rattle.cf_stream.specs.Stream.{Stream, Letter, Extends, letter_at, letter_count};
-ghost use Rattle.cf_leg.specs.Emits.{AllRight, IsRight, Pieces, differs, empties, letters_of_all, to_tell};
+ghost use Rattle.cf_stream.specs.Stream.{Stream, Letter, letter_at, letter_count};
+ghost use Rattle.cf_leg.specs.Emits.{AllRight, IsRight, differs, empties, letters_of_all, to_tell};
 ghost use Rattle.cf_leg.specs.Asked.{AllAsked};
 ghost use Rattle.cf_leg.specs.OneStream.{IsOneStream, IsRightRun, first_carried, first_in};
-ghost use Rattle.cf_leg.specs.LegValue.{Marks, IsLegOf, LegValue, marks};
-ghost use Rattle.cf_rebuild.specs.ReceiveWindow.{base_of};
 ghost use Rattle.cf_stream.specs.FirstCopy.{IsTaken, first_copy};
-ghost use Rattle.cf_leg.specs.Event.{Ending, LegEvent, spoke, begun, is_settled, stream_after};
+ghost use Rattle.cf_leg.specs.Event.{LegEvent, spoke};
 ghost use Rattle.cf_leg.specs.Heard.{opened, offers, owed, shown};
 ghost use Rattle.cf_leg.specs.declared.ends.Role.{Role};
 ghost use Rattle.cf_leg.specs.declared.ends.Role.TheVariants as role;
-ghost use Rattle.std.specs.Option.{is_some};
-ghost use Rattle.cf_leg.specs.Told.{letters_sent, is_greeted, syn_ack, told_by_all, letters_sent_by_all, own_number, told, told_at};
+ghost use Rattle.cf_leg.specs.Told.{letters_sent, own_number, told, told_at};
 ghost use Rattle.cf_leg.specs.declared.ends.Ends.{Ends};
-ghost use Rattle.cf_leg.specs.declared.ends.Told.{Told};
-ghost use Rattle.cf_leg.specs.declared.ends.Way.{Way};
 
 /// Over every list of right events in which the queue's list only grows, all segments carry one stream, the one that this
 /// list goes on to: each has at each of its places the letter that stands there, End included. Every letter that counts as

@@ -1,14 +1,14 @@
 //! Segments that go out.
-ghost use Rattle.std.specs.Prelude.{◌≡◌, ℕ, ◌+◌, ◌-◌, ◌*◌, ◌%◌, ◌^◌, ◌<◌, ◌≤◌, ◌==◌, ◌↔◌, min, max, not, nat_lt, ◌&&◌, ◌||◌, if◌then◌else◌, true, false, List, [], ◌∷◌, length, None, Some, Ok, Err, IsErr, IfOk, OnErr, OnOk, IsTrue, pos, ◌≤ℤ◌};
+ghost use Rattle.std.specs.Prelude.{◌≡◌, ◌+◌, ◌-◌, ◌*◌, ◌%◌, ◌^◌, ◌<◌, ◌≤◌, ◌==◌, ◌↔◌, min, max, not, nat_lt, ◌&&◌, ◌||◌, if◌then◌else◌, true, false, [], ◌∷◌, length, None, Some, Ok, Err, IsErr, IfOk, OnErr, OnOk, pos, ◌≤ℤ◌};
 ghost use Rattle.cf_outside.specs.Desk.{DeskValue, KeepsDesk};
 ghost use Rattle.cf_outside.specs.Faults.{HasCause};
 ghost use Rattle.cf_outq.specs.SendQueue.{IsQueue, IsUnacked, carried, queue_length};
 ghost use Rattle.cf_outq.specs.SendQueue.{IsQueueOf};
-ghost use Rattle.cf_packet.specs.Packet.{PacketValue, packet_value};
+ghost use Rattle.cf_packet.specs.Packet.{packet_value};
 ghost use Rattle.cf_packet.specs.Written.{IsWritable};
 ghost use Rattle.cf_stream.specs.Position.{place_or_zero, sequence_number};
-ghost use Rattle.cf_stream.specs.Stream.{Stream, letter_count, no_letters};
-ghost use Rattle.cf_leg.specs.Emits.{Pieces, piece};
+ghost use Rattle.cf_stream.specs.Stream.{Stream, no_letters};
+ghost use Rattle.cf_leg.specs.Emits.{piece};
 ghost use Rattle.cf_leg.specs.Emitted.{BreaksOff, spelled, with_segment, with_segments};
 ghost use Rattle.cf_leg.specs.Segment.{flags_with, segment};
 ghost use Rattle.cf_leg.specs.Calls.{NewBreaks, PieceBreaks, SayingBreaks, SaysTo, SendsNew, SendsPiece};

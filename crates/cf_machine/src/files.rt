@@ -6,7 +6,7 @@ mod reader;
 mod same;
 mod writer;
 
-use crate::files::reader::{Reader, forget, read_from};
+use crate::files::reader::{Reader, forget, opened, read_from};
 use crate::files::same::{Place, place_of, twin_of};
 use crate::files::writer::{Writer, append_to, create_file, flush_all, flush_one};
 use cf_outside::{Files, ReadAnswer, WriteAnswer};
@@ -20,7 +20,7 @@ use std::rt::Files as FileSystem;
 pub enum Gather {
     /// Each with its call, as for a log that people follow.
     Nothing,
-    /// In pieces of 64 KiB, before a read of the file, and at the end.
+    /// In pieces of 64 KiB, before a read of the file, before a read that may wait (of a pipe, say), and at the end.
     Pieces,
 }
 
@@ -107,7 +107,7 @@ impl<'a, R: FileSystem> RealFiles<'a, R> {
         }
     }
 
-    /// Reads at a place, once what was gathered for the file is written.
+    /// Reads at a place, once what was gathered for the file is written; and all that was gathered, where the read may have to wait.
     fn read(&mut self, name: &str, at: u64, buf: &mut [u8]) -> io::Result<usize>
         ensures inside { IfOk result (λ n. n ≤ length buf.new) }
         ensures reads { self.new.read_faults ≡ self.old.read_faults }
@@ -115,7 +115,32 @@ impl<'a, R: FileSystem> RealFiles<'a, R> {
         ensures short { self.old.is_short ≡ true → self.new.is_short ≡ true }
     {
         self.write_before_read(name)?;
-        read_from(self.rt, self.alloc, &mut self.reader, name, at, buf)
+        let (mut reader, may_wait) = opened(self.rt, self.alloc, &mut self.reader, name)?;
+        if may_wait {
+            self.write_before_wait()?;
+        }
+        let count = read_from(&mut reader, at, buf)?;
+        self.reader = Some(reader);
+        Ok(count)
+    }
+
+    /// Writes all that was gathered, before a read that may wait, and notes where that failed.
+    fn write_before_wait(&mut self) -> io::Result<()>
+        ensures reads { self.new.read_faults ≡ self.old.read_faults }
+        ensures writes { self.new.write_faults ≡ self.old.write_faults }
+        ensures fails { IfErr result (λ _. self.new.is_short ≡ true) }
+        ensures kept { IfOk result (λ _. self.new.is_short ≡ self.old.is_short) }
+    {
+        match flush_all(&mut self.writers, self.alloc) {
+            Ok(()) => Ok(()),
+            Err(fault) => {
+                self.is_short = true;
+                match fault {
+                    Some(fault) => Err(fault.error),
+                    None => Err(io::Error::from(io::ErrorKind::OutOfMemory)),
+                }
+            }
+        }
     }
 
     /// Writes what was gathered for a file that is to be read, and notes where that failed.

@@ -137,7 +137,7 @@ abbrev pair_at : ℕ → ℕ → CodePair
 pair_at code n = record { code = code; rule = n }
 
 -- the pairs of a code stand for the rules that have it and the client
-are_named : (asset : Asset) (client code : ℕ) (pairs part : List CodePair) → IsIndexOf asset client pairs → IsPartOfCode code pairs part
+pub are_named : (asset : Asset) (client code : ℕ) (pairs part : List CodePair) → IsIndexOf asset client pairs → IsPartOfCode code pairs part
     → AreNamed asset.rules (is_named client code) part
 are_named asset client code pairs part index of_code = record {
   ascending = of_code.ascending;

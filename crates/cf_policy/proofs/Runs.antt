@@ -1,7 +1,8 @@
 -- Acts that differ in the point alone: where the points of each rule have all points or none, the verdict is one.
-use Rattle.std.proofs.Common.{◌≡◌, ℕ, ◌+◌, ◌<◌, ◌≤◌, take, ◌||◌, ◌&&◌, pos, ℤ, Bool, true, false, not, if◌then◌else◌, List, [], ◌∷◌, Option, Some, None, length, get_or, refl, sym, subst, ◌∙◌, arith}
+use Rattle.std.proofs.Common.{◌≡◌, ℕ, ◌+◌, ◌<◌, ◌≤◌, take, ◌||◌, ◌&&◌, pos, ℤ, Bool, true, false, not, if◌then◌else◌, List, [], ◌∷◌, Option, Some, None, length, get_or, refl, sym, ap, subst, ◌∙◌, arith}
 use Rattle.std.specs.Prelude.{All, slice_get, position, option_and_then}
 use Rattle.std.specs.List.{list_any, list_all}
+use Rattle.std.specs.Cmp.{first_so}
 use Rattle.std.specs.Option.{option_map_or}
 use Rattle.std.proofs.lemmas.List.Sums.{AllPass-from_list_all}
 use Rattle.std.proofs.lemmas.List.{get_or-take, length-take-le}
@@ -14,9 +15,9 @@ use Rattle.cf_policy.specs.declared.policy.Span.{Span}
 use Rattle.cf_policy.specs.declared.policy.Asset.{Asset}
 use Rattle.cf_policy.specs.declared.index.CodePair.{CodePair}
 use Rattle.cf_policy.specs.Index.{tried, rule_at, has_group, has_group_and_point, has_group_to_value, reason_of_pairs, verdict_by, IsIndexOf, IsPartOfCode}
-use Rattle.cf_policy.specs.Run.{at_point, with_value, HasOneVerdict, IsSteady, TakesAnyValue}
+use Rattle.cf_policy.specs.Run.{at_point, with_value, HasOneVerdict, IsSteady, TakesAnyValue, some_states_values}
 use Rattle.cf_policy.specs.Verdict.{takes, takes_value, is_empty, covers, is_allow, decided, numbered}
-use Rattle.cf_policy.proofs.ByCode.{verdict_is}
+use Rattle.cf_policy.proofs.ByCode.{are_named, is_named, some_same, verdict_is}
 use Rattle.cf_policy.proofs.FirstPlace.{first_at, position_is, within_of}
 
 module _ {X : Type 0} (p q : X → Bool) where
@@ -169,3 +170,33 @@ any_value_taken asset client code pairs part index of_code all = λ act value sa
     sym (verdict_is asset client (with_value act value) pairs part index own)
     ∙ value_same act value asset.rules part (AllPass-from_list_all (λ p. option_map_or (λ r. is_empty r.values) (slice_get asset.rules p.rule) true) part all)
     ∙ verdict_is asset client act pairs part index own
+
+-- ---- whether values are stated
+
+twice : (b : Bool) → b ≡ not (not b)
+twice true = refl
+twice false = refl
+
+neither : (a b : Bool) → (not a && not b) ≡ not (a || b)
+neither true b = refl
+neither false b = refl
+
+unstated : (o : Option Rule) → option_map_or (λ r. is_empty r.values) o true ≡ not (option_map_or (λ r. not (is_empty r.values)) o false)
+unstated None = refl
+unstated (Some r) = twice (is_empty r.values)
+
+all_unstated : (rules : List Rule) (part : List CodePair) →
+    list_all (λ p. option_map_or (λ r. is_empty r.values) (slice_get rules p.rule) true) part ≡ not (list_any (λ p. rule_at rules p.rule (λ r. not (is_empty r.values))) part)
+all_unstated rules [] = refl
+all_unstated rules (p ∷ ps) =
+    (λ i. unstated (slice_get rules p.rule) i && all_unstated rules ps i)
+    ∙ neither (rule_at rules p.rule (λ r. not (is_empty r.values))) (list_any (λ q. rule_at rules q.rule (λ r. not (is_empty r.values))) ps)
+
+pub values_unstated : (asset : Asset) (client code : ℕ) (pairs part : List CodePair) → IsIndexOf asset client pairs → IsPartOfCode code pairs part →
+    list_all (λ p. option_map_or (λ r. is_empty r.values) (slice_get asset.rules p.rule) true) part ≡ not (some_states_values asset client code)
+values_unstated asset client code pairs part index of_code =
+    all_unstated asset.rules part
+    ∙ ap not (some_same asset.rules (is_named client code) part (are_named asset client code pairs part index of_code)
+    (λ r. is_named client code r && not (is_empty r.values)) (λ r. not (is_empty r.values))
+    (λ r h. first_so (is_named client code r) (not (is_empty r.values)) h)
+    (λ r named. sym (λ i. named i && not (is_empty r.values))))

@@ -1,9 +1,10 @@
 -- Acts that differ in the point alone: HasOneVerdict; and in the value: TakesAnyValue.
-use Rattle.std.specs.Prelude.{◌≡◌, ℕ, ◌≤◌, ℤ, Bool, Option}
+use Rattle.std.specs.Prelude.{◌≡◌, ◌&&◌, ℕ, ◌≤◌, ℤ, Bool, Option, not, pos}
+use Rattle.std.specs.List.{list_any}
 use Rattle.cf_view.specs.declared.base.Act.{Act}
 use Rattle.cf_policy.specs.declared.policy.Asset.{Asset}
 use Rattle.cf_policy.specs.declared.policy.Verdict.{Verdict}
-use Rattle.cf_policy.specs.Verdict.{verdict_of}
+use Rattle.cf_policy.specs.Verdict.{is_empty, takes, verdict_of}
 
 -- the act at another point
 abbrev pub at_point : Act → ℕ → Act
@@ -22,6 +23,10 @@ with_value act value = record act { value = value }
 abbrev pub TakesAnyValue : Asset → ℕ → ℕ → Type 0
 TakesAnyValue asset client code =
     (act : Act) (value : Option ℤ) → act.code ≡ code → verdict_of asset client (with_value act value) ≡ verdict_of asset client act
+
+-- a rule of the client and the code states values
+abbrev pub some_states_values : Asset → (client code : ℕ) → Bool
+some_states_values asset client code = list_any (λ r. (takes r.clients (pos client) && takes r.codes (pos code)) && not (is_empty r.values)) asset.rules
 
 -- the test says the same of each point from the first to the last
 abbrev pub IsSteady : (ℕ → Bool) → (first last : ℕ) → Type 0

@@ -1,9 +1,9 @@
 //! Acts that differ in the point alone, judged together; and whether values play a part.
-ghost use Rattle.std.specs.Prelude.{◌≡◌, ℕ, ◌≤◌, ◌≤ℤ◌, ◌⊎◌, ◌<◌, pos, true, All, IfSome, length, slice_get};
+ghost use Rattle.std.specs.Prelude.{◌≡◌, ℕ, ◌≤◌, ◌≤ℤ◌, ◌⊎◌, ◌<◌, not, pos, true, All, IfSome, length, slice_get};
 ghost use Rattle.std.specs.List.{list_all};
 ghost use Rattle.std.specs.Option.{option_map_or};
 ghost use Rattle.cf_policy.specs.Index.{IsIndexOf, rule_at, tried};
-ghost use Rattle.cf_policy.specs.Run.{HasOneVerdict, IsSteady, TakesAnyValue};
+ghost use Rattle.cf_policy.specs.Run.{HasOneVerdict, IsSteady, TakesAnyValue, some_states_values};
 ghost use Rattle.cf_policy.specs.Verdict.{IsInside, takes, covers, is_empty};
 
 use crate::index::{CodeIndex, CodePair, first_place, pairs_of, verdict_at};
@@ -33,7 +33,8 @@ impl CodeIndex {
     /// Whether no rule of the client and the code states values: then what `verdict` says about an act of the code does
     /// not depend on its value. The index is that of the asset.
     pub fn takes_any_value(&self, asset: &Asset, code: u16) -> bool
-        ensures { (client : ℕ) → IsIndexOf asset.now client self.now → result ≡ true → TakesAnyValue asset.now client code }
+        ensures exact { (client : ℕ) → IsIndexOf asset.now client self.now → result ≡ not (some_states_values asset.now client code) }
+        ensures free { (client : ℕ) → IsIndexOf asset.now client self.now → result ≡ true → TakesAnyValue asset.now client code }
     {
         let pairs = pairs_of(self.pairs(), code);
         all_without_values(pairs, asset.rules.as_slice())

@@ -1,5 +1,5 @@
 -- What the points of a rule and of a set keep: each number in its range.
-use Rattle.std.proofs.Common.{◌≡◌, ℕ, suc, ◌+◌, ◌≤◌, nat_lt, pos, Bool, true, false, if◌then◌else◌, List, [], ◌∷◌, ◌++◌, length, Option, Some, None, IfSome, option_map, find, IfOk, Ok, Err, bytes_eq, refl, arith}
+use Rattle.std.proofs.Common.{ℕ, suc, ◌+◌, nat_lt, pos, true, false, if◌then◌else◌, List, [], ◌∷◌, ◌++◌, length, Option, Some, None, IfSome, option_map, find, IfOk, bytes_eq, arith}
 use Rattle.std.specs.List.{All}
 use Rattle.std.proofs.lemmas.Bool.Decides.{nat_tests}
 use Rattle.std.proofs.lemmas.List.Elements.{All-nil, All-push, All-append, All-cons}
@@ -13,14 +13,13 @@ use Rattle.cf_policylang.specs.declared.lists.Entries.TheVariants as entries
 use Rattle.cf_policylang.specs.declared.refusal.Key.TheVariants as key
 use Rattle.cf_policylang.specs.declared.refusal.Cause.TheVariants as cause
 use Rattle.cf_policylang.specs.declared.refusal.Place.{Place}
-use Rattle.cf_policylang.specs.declared.refusal.PolicyRefusal.{PolicyRefusal}
 use Rattle.cf_policylang.specs.declared.sets.Named.{Named}
 use Rattle.cf_policylang.specs.declared.sets.PointSet.{PointSet}
-use Rattle.cf_policylang.specs.Fields.{as_table, as_text, has_other, required, stated, tables_from}
+use Rattle.cf_policylang.specs.Fields.{as_table, as_text, has_other, required, stated}
 use Rattle.cf_policylang.specs.Lists.{listed}
 use Rattle.cf_policylang.specs.Numbers.{number_span}
-use Rattle.cf_policylang.specs.Sets.{entry_spans, named_in, own_span, point_entry, points_from, points_if_any, points_named, rule_points, set, set_items, set_keys, set_name, set_points, set_spans, sets, sets_from, stated_points}
-use Rattle.cf_policylang.specs.Tested.{Tested, and_then, or_refused, at_document, at_set}
+use Rattle.cf_policylang.specs.Sets.{entry_spans, named_in, own_span, point_entry, points_from, points_if_any, points_named, rule_points, set, set_items, set_keys, set_name, set_points, set_spans, sets, sets_from}
+use Rattle.cf_policylang.specs.Tested.{or_refused, at_document, at_set}
 use Rattle.cf_policylang.proofs.Ranges.{and_then_if, and_then_any, unless_if, when_if, or_refused_if, number_span_if, number_entry_if, spans_if, AreRead}
 
 abbrev IsPoint : Span → Type 0

@@ -3,8 +3,10 @@ pub mod Documents
 pub mod Fields
 pub mod Keys
 pub mod Lists
+pub mod Migrating
 pub mod Numbers
 pub mod Rates
 pub mod Rules
 pub mod Sets
+pub mod Spelling
 pub mod Tested

@@ -6,7 +6,6 @@ use Rattle.cf_policy.specs.declared.policy.Span.{Span}
 use Rattle.cf_policy.specs.Names.{is_name}
 use Rattle.cf_policy.specs.Within.{highest_point, most_spans}
 use Rattle.cf_policylang.specs.declared.fields.Kind.TheVariants as kind
-use Rattle.cf_policylang.specs.declared.lists.Entries.{Entries}
 use Rattle.cf_policylang.specs.declared.lists.Entries.TheVariants as entries
 use Rattle.cf_policylang.specs.declared.refusal.Key.{Key}
 use Rattle.cf_policylang.specs.declared.refusal.Key.TheVariants as key

@@ -5,14 +5,17 @@ mod assets;
 mod documents;
 mod fields;
 mod lists;
+mod migrate;
 mod numbers;
 mod printing;
 mod rates;
 mod refusal;
 mod rules;
 mod sets;
+mod spelling;
 
 pub use documents::{LONGEST_TEXT, read_policy};
+pub use migrate::migrated_text;
 pub use numbers::address;
 pub use printing::document_text;
 pub use refusal::{Cause, Key, PolicyFault, PolicyRefusal, push_refusal};

@@ -1,6 +1,6 @@
 //! A queue's bytes, given to its side of a pair.
-ghost use Rattle.std.specs.Prelude.{◌≡◌, ℕ, ◌+◌, ◌-◌, ◌^◌, ◌<◌, ◌≤◌, Err, min, take, drop, length, pos, true, false};
-ghost use Rattle.cf_outq.specs.SendQueue.{Queue, IsQueue, IsQueueOf, queue_length, after_sent, after_shown, after_acked};
+ghost use Rattle.std.specs.Prelude.{◌≡◌, ℕ, ◌+◌, ◌-◌, ◌^◌, ◌<◌, ◌≤◌, Err, min, take, drop, length, true, false};
+ghost use Rattle.cf_outq.specs.SendQueue.{IsQueueOf};
 ghost use Rattle.cf_outside.specs.Pair.{FaultsBy};
 ghost use Rattle.cf_stream.specs.Stream.{Stream};
 ghost use Rattle.cf_relay.specs.Gave.{GaveBy, FinishesBy};

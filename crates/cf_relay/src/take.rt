@@ -1,6 +1,6 @@
 //! What comes from a side of a pair, handed to the lane.
-ghost use Rattle.std.specs.Prelude.{◌≡◌, ◌+◌, ◌*◌, ◌-◌, ◌^◌, ◌<◌, ◌≤◌, ◌++◌, [], ◌∷◌, Err, IfOk, IsTrue, ◌↔◌, OnOk, OnErr, IsErr, ℕ, List, None, Option, Some, length, drop, true, false};
-ghost use Rattle.cf_outq.specs.SendQueue.{IsQueue, queue_length};
+ghost use Rattle.std.specs.Prelude.{◌≡◌, ◌+◌, ◌*◌, ◌-◌, ◌^◌, ◌<◌, ◌≤◌, ◌++◌, [], ◌∷◌, Err, IfOk, IsTrue, ◌↔◌, OnOk, OnErr, IsErr, ℕ, None, Option, Some, length, drop, true};
+ghost use Rattle.cf_outq.specs.SendQueue.{queue_length};
 ghost use Rattle.cf_outside.specs.Desk.{DeskValue};
 ghost use Rattle.cf_outside.specs.Faults.{HasCause};
 ghost use Rattle.cf_outside.specs.Pair.{Ended, FaultsBy, Got};

@@ -1,9 +1,9 @@
 //! The relay: a pair of streams through the lane, in turns.
 ghost use Rattle.std.specs.Prelude.{◌≡◌, ℕ, ◌*◌, ◌<◌, ◌≤◌, ◌∷◌, [], Err, List, Option, true};
 ghost use Rattle.cf_audit.specs.Line.{Begun};
-ghost use Rattle.cf_lane.specs.Handled.{IsLaneOf, LaneValue, WritesLog, debt};
+ghost use Rattle.cf_lane.specs.Handled.{WritesLog};
 ghost use Rattle.cf_lane.specs.Log.{line_about, with_lines};
-ghost use Rattle.cf_outq.specs.SendQueue.{IsQueueOf, Queue, empty};
+ghost use Rattle.cf_outq.specs.SendQueue.{IsQueueOf, empty};
 ghost use Rattle.cf_outside.specs.Desk.{DeskValue};
 ghost use Rattle.cf_outside.specs.Faults.{HasCause};
 ghost use Rattle.cf_outside.specs.Files.{Content, KeepsOthers, content_after_create};

@@ -47,19 +47,21 @@ impl Row {
     }
 }
 
-/// Plays words, separated by spaces, over the policies, the stream `s` and the capture `c`.
+/// Plays words, separated by spaces, over the policies, the stream `s` and the capture `c`, and over what the words before them left.
 pub fn play(book: &Book, row: &Row, words: &str, script: &Script) -> Result<Left, Fault> {
     let mut files = files_of(book, row)?;
+    for words in row.all("before:").iter() {
+        let mut out = MemorySink::new(book.alloc);
+        let mut pair = MemoryPair::new(book.alloc);
+        let spelled = spelled(book, words)?;
+        box_main(book.alloc, &spelled, &mut files, &mut out, &mut pair);
+    }
     files.fails.extend(script.file)?;
     let mut out = MemorySink::new(book.alloc);
     out.fails.extend(script.put)?;
     let mut pair = pair_of(book, row)?;
     pair.fails.extend(script.pair)?;
-    let mut spelled = Vec::new(book.alloc);
-    for word in words.split(' ') {
-        let word = if word == "''" { "" } else { word };
-        spelled.push(String::from_str(book.alloc, word)?)?;
-    }
+    let spelled = spelled(book, words)?;
     let status = box_main(book.alloc, &spelled, &mut files, &mut out, &mut pair);
     Ok(Left {
         status,
@@ -67,6 +69,16 @@ pub fn play(book: &Book, row: &Row, words: &str, script: &Script) -> Result<Left
         files,
         pair,
     })
+}
+
+/// The words, of which `''` is an empty one.
+fn spelled(book: &Book, words: &str) -> Result<Vec<String>, Fault> {
+    let mut spelled = Vec::new(book.alloc);
+    for word in words.split(' ') {
+        let word = if word == "''" { "" } else { word };
+        spelled.push(String::from_str(book.alloc, word)?)?;
+    }
+    Ok(spelled)
 }
 
 /// The files that are there before.

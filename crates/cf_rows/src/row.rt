@@ -9,7 +9,7 @@ use std::alloc::Global;
 use std::collections::BTreeMap;
 
 /// How the lines of a row begin.
-const KEYS: [&str; 33] = [
+const KEYS: [&str; 34] = [
     ">",
     "<",
     "log",
@@ -17,6 +17,7 @@ const KEYS: [&str; 33] = [
     "REPLIES:",
     "row:",
     "after:",
+    "before:",
     "words:",
     "origins:",
     "controller:",

@@ -1,18 +1,19 @@
 -- The headline of a run.
-use Rattle.std.proofs.Common.{◌≡◌, ℕ, ◌^◌, ◌≤◌, true, false, List, [], ◌∷◌, ◌++◌, map, refl, sym, ap, ◌∙◌}
+use Rattle.std.proofs.Common.{◌≡◌, ℕ, ◌^◌, ◌≤◌, true, false, Option, None, Some, List, [], ◌∷◌, ◌++◌, map, refl, sym, ap, ◌∙◌}
 use Rattle.cf_decode.specs.Laws.{FragmentsDecode}
 use Rattle.cf_lane.specs.Laws.{RatesHold}
 use Rattle.cf_lane.specs.Output.{outputs}
+use Rattle.cf_audit.specs.declared.CutReason.{CutReason}
 use Rattle.cf_policy.specs.declared.Asset.{Asset}
 use Rattle.cf_session.specs.Event.{AreEvents as AreSessionEvents}
-use Rattle.cf_session.specs.Laws.{HasOneStream as SessionHasOneStream, IsFront, WorkIsOfTheTaken}
+use Rattle.cf_session.specs.Laws.{HasOneStream as SessionHasOneStream, IsFront, SendsWhatIsLetIn, WorkIsOfTheTaken}
 use Rattle.cf_session.specs.Session.{Flow, SessionEvent, client_of, history, work_of}
 use Rattle.cf_session.specs.Work.{Work, Works}
 use Rattle.cf_stream.specs.Stream.{Byte, End, Letter, Stream, letters}
 use Rattle.cf_view.specs.declared.Side.TheVariants as side
-use Rattle.cf_run.specs.Headline.{HasHeadline, IsFaithful, RunsHaveHeadline, bytes_among}
+use Rattle.cf_run.specs.Headline.{HasHeadline, IsFaithful, RunsHaveHeadline, SendsUpToTheEdge, bytes_among}
 use Rattle.cf_run.specs.Sessions.{HasEvents, IsRight, sessions_of}
-use Rattle.cf_run.specs.Trace.{AreEvents, Event}
+use Rattle.cf_run.specs.Trace.{AreEvents, Event, ends_cut, is_cut}
 use Rattle.cf_run.proofs.Isolation.{right_events, uncut_before}
 use Rattle.cf_run.proofs.Sessions.{each-map, sessions_right}
 
@@ -40,7 +41,15 @@ front_bytes whole taken h = sym (bytes-letters whole.bytes whole.ended) ∙ ap b
 
 -- ---- one session
 
-module _ (one : SessionHasOneStream) (works : WorkIsOfTheTaken) (fragments : FragmentsDecode) (keep : RatesHold) (limit : ℕ) (small : limit ≤ 2 ^ 30) where
+no_cut : (c : Option CutReason) → is_cut c ≡ false → c ≡ None
+no_cut None e = refl
+no_cut (Some r) e = cc
+
+module _ (one : SessionHasOneStream) (works : WorkIsOfTheTaken) (fragments : FragmentsDecode) (keep : RatesHold) (reaches : SendsWhatIsLetIn) (limit : ℕ) (small : limit ≤ 2 ^ 30) where
+  far : (f : Flow) (es : List SessionEvent) → HasEvents limit f es → ends_cut es ≡ false → SendsUpToTheEdge (record { flow = f; events = es })
+  far f [] h uncut = absurd h
+  far f (e ∷ es) h uncut = let (to_controller, to_client) = reaches f limit es e small h.0 (no_cut e.cut uncut) in record { to_controller = to_controller; to_client = to_client }
+
   faithful : (f : Flow) (es : List SessionEvent) → HasEvents limit f es → IsFaithful (record { flow = f; events = es })
   faithful f es h =
       let are : AreSessionEvents f limit es = right_events limit f es h in
@@ -48,6 +57,7 @@ module _ (one : SessionHasOneStream) (works : WorkIsOfTheTaken) (fragments : Fra
       record {
         judged = w.judged;
         is_judged = record { are_judged = w.are_judged; is_work = w.is_work };
+        far = far f es h;
         rates = keep f.asset (client_of f).address (history es) w.judged w.are_judged;
         decodes = λ taken re.
             (let front : IsFront (work_of es).to_controller taken = (one f limit es taken small are (uncut_before limit f es h)).0 re in
@@ -61,5 +71,5 @@ module _ (one : SessionHasOneStream) (works : WorkIsOfTheTaken) (fragments : Fra
   headline assets (e ∷ es) h =
       (each-map (IsRight limit) IsFaithful (λ s right. faithful s.flow s.events right) (sessions_of (e ∷ es)) (sessions_right assets limit (e ∷ es) h), headline assets es h.1)
 
-pub has_headline : SessionHasOneStream → WorkIsOfTheTaken → FragmentsDecode → RatesHold → RunsHaveHeadline
-has_headline one works fragments keep assets limit es small h = headline one works fragments keep limit small assets es h
+pub has_headline : SessionHasOneStream → WorkIsOfTheTaken → FragmentsDecode → RatesHold → SendsWhatIsLetIn → RunsHaveHeadline
+has_headline one works fragments keep reaches assets limit es small h = headline one works fragments keep reaches limit small assets es h

@@ -9,6 +9,7 @@ mod Faults
 mod FileDesks
 mod FilePieces
 mod Finding
+mod Fixed
 mod Forms
 mod HalfFiles
 mod Headline

@@ -3,6 +3,7 @@ use Rattle.std.proofs.Common.{◌≡◌, ℕ, ◌-◌, List, [], Option, refl, s
 use Rattle.std.specs.Prelude.{slice_get}
 use Rattle.cf_packet.specs.Packet.{PacketValue}
 use Rattle.cf_policy.specs.declared.Asset.{Asset}
+use Rattle.cf_session.specs.Session.{Flow}
 use Rattle.cf_session.specs.Told.{Told, with_both}
 use Rattle.cf_view.specs.declared.Side.{Side}
 use Rattle.cf_run.specs.Engine.{AreAll}
@@ -91,3 +92,17 @@ module _ (assets : List Asset) (limit now : ℕ) (packet : PacketValue) (before 
 
     pub outside : entry_match assets before packet ≡ match.Outside → Answers outcome.Outside
     outside e = outside_by (match_of assets table packet) refl (matched match.Outside e)
+
+-- a packet that begins a session among those in memory does so at the table that they stand for
+begins_by : (assets : List Asset) (packet : PacketValue) (table : List Session) (place : ℕ) (closed : Option ℕ) (m : Match) → match_of assets table packet ≡ m →
+    IsMatch assets table packet (match.Begins place closed) m → (flow : Flow) × (match_of assets table packet ≡ Begins flow)
+begins_by assets packet table place closed (Begins flow) e is = (flow, e)
+begins_by assets packet table place closed Full e is = absurd is
+begins_by assets packet table place closed (Goes at side) e is = absurd is
+begins_by assets packet table place closed Outside e is = absurd is
+
+pub begins_there : (assets : List Asset) (now : ℕ) (packet : PacketValue) (entries : List Entry) (place : ℕ) (closed : Option ℕ) → entry_match assets entries packet ≡ match.Begins place closed →
+    (table : List Session) → AreAll assets now entries table → (flow : Flow) × (match_of assets table packet ≡ Begins flow)
+begins_there assets now packet entries place closed e table all =
+    begins_by assets packet table place closed (match_of assets table packet) refl
+    (subst (λ x. IsMatch assets table packet x (match_of assets table packet)) e (is_match assets now entries table packet all))

@@ -257,7 +257,7 @@ module _ {assets : List Asset} {limit : ℕ} {names : RunNamesValue} {before now
         }
 
     -- memory ran out between its halves
-    pub stops_between : are_whole names.out names.log after ≡ true → StepStops (table_after a.events) input (files_told names.out names.log files) (files_told names.out names.log after) →
+    pub stops_between : are_whole names.out names.log after ≡ true → StepStops assets (table_after a.events) input (files_told names.out names.log files) (files_told names.out names.log after) →
         StopsBetween assets limit names before after
     stops_between whole (half, is_half, h) =
         let (record_end, line_end) = both _ _ whole in

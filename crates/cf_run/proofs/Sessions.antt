@@ -125,7 +125,7 @@ each-ticked limit tick (s ∷ ss) (t ∷ ts) h are =
       | inr cut ↦ subst (λ b. Each (IsTicked limit) (cond b (new ∷ F) F)) (sym cut) rest
     ]
 
-tick_right : (limit : ℕ) (f : Flow) (es : List SessionEvent) (tick : ℕ) (t : SessionEvent) → HasGone limit f es → IsTick f es tick t → HasEvents limit f (t ∷ es)
+pub tick_right : (limit : ℕ) (f : Flow) (es : List SessionEvent) (tick : ℕ) (t : SessionEvent) → HasGone limit f es → IsTick f es tick t → HasEvents limit f (t ∷ es)
 tick_right limit f [] tick t h is = absurd h
 tick_right limit f (e ∷ es) tick t h is = ((inl (subst (λ n. IsTick f (e ∷ es) n t) (sym is.client_tick) is), h.0), h.1)
 
@@ -136,7 +136,7 @@ each-next limit tick (s ∷ ss) (t ∷ ts) h are = (tick_right limit s.flow s.ev
 
 -- ---- the second half
 
-goes_on : (limit : ℕ) (s : Side) (p : PacketValue) (e : SessionEvent) (f : Flow) (es : List SessionEvent) → HasTick limit f es → GoesOnWith limit s p e f es → HasEvents limit f (replaced e es)
+pub goes_on : (limit : ℕ) (s : Side) (p : PacketValue) (e : SessionEvent) (f : Flow) (es : List SessionEvent) → HasTick limit f es → GoesOnWith limit s p e f es → HasEvents limit f (replaced e es)
 goes_on limit s p e f [] h g = absurd h
 goes_on limit s p e f (t ∷ []) h g = absurd h.2
 goes_on limit s p e f (t ∷ (d ∷ es)) h g = ((inr (t, s, p, h.0, h.1, g), h.2.0), h.2.1)
@@ -146,7 +146,7 @@ each-went limit s p e i [] h g = tt
 each-went limit s p e zero (x ∷ ss) h g = (goes_on limit s p e x.flow x.events h.0 g, each-right limit ss (each-going limit ss h.1))
 each-went limit s p e (suc i) (x ∷ ss) h g = (right_by limit x.flow x.events (going_by limit x.flow x.events h.0), each-went limit s p e i ss h.1 g)
 
-begun_one : (f : Flow) (tick : ℕ) (e : SessionEvent) → IsBeginning f tick e → IsBeginning f e.client.tick e
+pub begun_one : (f : Flow) (tick : ℕ) (e : SessionEvent) → IsBeginning f tick e → IsBeginning f e.client.tick e
 begun_one f tick e h = subst (λ n. IsBeginning f n e) (sym (ap (λ x. x.tick) h.client)) h
 
 -- both those that stay and those that leave

@@ -11,7 +11,7 @@ use Rattle.cf_session.specs.Sent.{sent_first}
 use Rattle.cf_session.specs.Told.{Told, told, with_both}
 use Rattle.cf_run.specs.Engine.{AreAll, TickAll}
 use Rattle.cf_run.specs.FileDesk.{files_desk}
-use Rattle.cf_run.specs.Half.{BreaksHalf, IsHalfOf, ReceiveRecordBreaks, StepBreaks, StepStops, TicksBreak, first_half, second_half}
+use Rattle.cf_run.specs.Half.{BreaksHalf, IsHalfOf, ReceiveRecordBreaks, StepBreaks, StepStops, StopsBeginning, TicksBreak, first_half, second_half}
 use Rattle.cf_run.specs.Receiving.{AreTicked}
 use Rattle.cf_run.specs.Step.{EngineValue, IsEngineOf}
 use Rattle.cf_run.specs.Table.{Session}
@@ -45,10 +45,14 @@ module _ (assets : List Asset) (limit now : ℕ) (packet : Result PacketValue Pa
         },
       )
 
-  pub stops_between : (middle : List Entry) (old mid new : Told) (cuts : ℕ) → new ≡ mid → ((known : List Session) → AreAll assets (now - 1) entries known → TickAll assets (now - 1) known middle old mid cuts) →
-      StepStops before input old new
-  stops_between middle old mid new cuts same ticks =
-      let t = ticks before ready in (first_half (now - 1) before t.ticks, (t.ticks, t.are, refl), same ∙ t.told)
+  pub stops_between : 1 ≤ now → (middle : List Entry) (old mid new : Told) (cuts : ℕ) → new ≡ mid → StopsBeginning assets now packet middle →
+      ((known : List Session) → AreAll assets (now - 1) entries known → TickAll assets (now - 1) known middle old mid cuts) → StepStops assets before input old new
+  stops_between some middle old mid new cuts same begins ticks =
+      let t = ticks before ready in
+      let table : List Session = ticked t.ticks (now - 1) before in
+      let again : now - 1 + 1 ≡ now = omega (arith, some) in
+      let begun = begins table (subst (λ m. AreAll assets m middle table) again t.all) in
+      (first_half (now - 1) before t.ticks, record { ticks = t.ticks; are = t.are; is = refl; begins = begun }, same ∙ t.told)
 
   pub second_breaks : 1 ≤ now → (middle : List Entry) (d0 d1 d2 : DeskValue) (cuts : ℕ) → ((known : List Session) → AreAll assets (now - 1) entries known → TickAll assets (now - 1) known middle (told d0) (told d1) cuts) →
       KeepsParts d0 d1 → d1.octets ≡ d0.octets → ReceiveRecordBreaks assets limit now packet middle d1 d2 → StepBreaks assets limit before input d0 d2
@@ -83,8 +87,8 @@ module _ (assets : List Asset) (now : ℕ) (packet : Result PacketValue PacketRe
       (events : List Event) → IsEngineOf assets before events → StepBreaks assets before.limit (table_after events) (record { moment = now; packet = packet }) d0 d1
   engine_breaks d0 d1 steps events h = steps (table_after events) before.last (omega (arith, later)) h.all
 
-  pub engine_stops : (old new : Told) → ((table : List Session) (last : ℕ) → last + 1 ≤ now → AreAll assets last before.table table → StepStops table (record { moment = now; packet = packet }) old new) →
-      (events : List Event) → IsEngineOf assets before events → StepStops (table_after events) (record { moment = now; packet = packet }) old new
+  pub engine_stops : (old new : Told) → ((table : List Session) (last : ℕ) → last + 1 ≤ now → AreAll assets last before.table table → StepStops assets table (record { moment = now; packet = packet }) old new) →
+      (events : List Event) → IsEngineOf assets before events → StepStops assets (table_after events) (record { moment = now; packet = packet }) old new
   engine_stops old new steps events h = steps (table_after events) before.last (omega (arith, later)) h.all
 
 -- ---- a desk over two files

@@ -52,7 +52,7 @@ module _ (law : EachSessionHasATick) (assets : List Asset) (last tick : ℕ) whe
       let s : Session = record { flow = flow; events = e ∷ es } in
       elim (cases_Bool (is_expired flow (e ∷ es) tick)) [
         | inl gone ↦ (r.0, subst (λ b. AreTicks tick (cond (not b) (s ∷ kept tick rest) (kept tick rest)) r.0) (sym gone) r.1)
-        | inr still ↦ (let t = law flow es e x.session tick one.stands still in (t.0 ∷ r.0, subst (λ table. AreTicks tick table (t.0 ∷ r.0)) (sym (kept-more tick s rest still)) (t.1, r.1)))
+        | inr still ↦ (let t = law flow x.session.limit es e tick one.stands.events one.stands.going still in (t.0 ∷ r.0, subst (λ table. AreTicks tick table (t.0 ∷ r.0)) (sym (kept-more tick s rest still)) (t.1, r.1)))
       ]
 
   have_ticks : (entries : List Entry) (table : List Session) → AreAll assets last entries table → HasTicks table

@@ -1,5 +1,5 @@
 -- A half of an event, and what the desk has that failed amid it: IsHalfOf and BreaksHalf. This project's own.
-use Rattle.std.specs.Prelude.{◌≡◌, ◌⊎◌, ◌-◌, ℕ, List, [], ◌++◌, slice_get, Result}
+use Rattle.std.specs.Prelude.{◌≡◌, ◌⊎◌, ◌-◌, ℕ, List, [], ◌++◌, slice_get, Result, Ok, Err}
 use Rattle.std.specs.List.{concat, flat_map}
 use Rattle.cf_outside.specs.Desk.{DeskValue}
 use Rattle.cf_packet.specs.Packet.{PacketValue}
@@ -8,12 +8,12 @@ use Rattle.cf_policy.specs.declared.Asset.{Asset}
 use Rattle.cf_view.specs.declared.Side.{Side}
 use Rattle.cf_session.specs.Broken.{BreaksAmid, IsPartOf, octets_of}
 use Rattle.cf_session.specs.Sent.{Sent, sent_first, sent_second}
-use Rattle.cf_session.specs.Session.{SessionEvent}
+use Rattle.cf_session.specs.Session.{Flow, SessionEvent}
 use Rattle.cf_session.specs.Told.{Told, told, with_both}
 use Rattle.cf_run.specs.Engine.{AreAll}
 use Rattle.cf_run.specs.Receiving.{AreTicked}
-use Rattle.cf_run.specs.Table.{Session, match_of}
-use Rattle.cf_run.specs.Trace.{AreTicks, Event, GoesOnAt, Input, IsEvent, Received, Receives, ReceivesRecord, kept, logged_at, logged_in_first, logged_in_second, logged_received, logged_ticks, sent_in_first, sent_in_second, sent_received, tick_of}
+use Rattle.cf_run.specs.Table.{Begins, Session, match_of}
+use Rattle.cf_run.specs.Trace.{AreTicks, Event, GoesOnAt, Input, IsEvent, Received, Receives, ReceivesRecord, kept, logged_at, logged_in_first, logged_in_second, logged_received, logged_ticks, sent_in_first, sent_in_second, sent_received, tick_of, ticked}
 use Rattle.cf_run.specs.declared.entry.Entry.{Entry}
 
 -- what an event sent and logged before one of its halves, and what it sends and logs in it
@@ -40,6 +40,18 @@ second_half before event = record {
 abbrev pub IsFirstHalf : List Session → Input → Half → Type 0
 IsFirstHalf before input half = (ticks : List SessionEvent) × AreTicks (tick_of input) (kept (tick_of input) before) ticks × (half ≡ first_half (tick_of input) before ticks)
 
+-- a record is a packet that begins a session at this table: neither one of a live session nor one that finds the table full
+abbrev pub BeginsSession : List Asset → List Session → Result PacketValue PacketRefusal → Type 0
+BeginsSession assets table (Err refusal) = ⊥
+BeginsSession assets table (Ok packet) = (flow : Flow) × (match_of assets table packet ≡ Begins flow)
+
+-- that first half, where the packet behind it begins a session
+pub record IsHalfBeforeBeginning (assets : List Asset) (before : List Session) (input : Input) (half : Half) : Type 0 where
+  pub ticks : List SessionEvent
+  pub are : AreTicks (tick_of input) (kept (tick_of input) before) ticks
+  pub is : half ≡ first_half (tick_of input) before ticks
+  pub begins : BeginsSession assets (ticked ticks (tick_of input) before) input.packet
+
 -- there is an event with the record that is right after this table
 abbrev pub IsSecondHalf : List Asset → (limit : ℕ) → List Session → Input → Half → Type 0
 IsSecondHalf assets limit before input half = (event : Event) × (event.input ≡ input) × IsEvent assets limit before event × (half ≡ second_half before event)
@@ -64,9 +76,10 @@ pub record BreaksHalf (half : Half) (old new : DeskValue) : Type 0 where
 abbrev pub StepBreaks : List Asset → (limit : ℕ) → List Session → Input → (old new : DeskValue) → Type 0
 StepBreaks assets limit before input old new = (half : Half) × IsHalfOf assets limit before input half × BreaksHalf half old new
 
--- an event stopped between its halves: the desk got all of the first, and nothing of the second
-abbrev pub StepStops : List Session → Input → (old new : Told) → Type 0
-StepStops before input old new = (half : Half) × IsFirstHalf before input half × (new ≡ with_both old half.sent half.logged)
+-- an event stopped between its halves, as its packet was to begin a session: the desk got all of the first, and nothing of the
+-- second
+abbrev pub StepStops : List Asset → List Session → Input → (old new : Told) → Type 0
+StepStops assets before input old new = (half : Half) × IsHalfBeforeBeginning assets before input half × (new ≡ with_both old half.sent half.logged)
 
 -- ---- the parts of a step
 
@@ -105,3 +118,7 @@ pub record ReceivingRecordBreaks (assets : List Asset) (limit now : ℕ) (packet
 abbrev pub ReceiveRecordBreaks : List Asset → (limit now : ℕ) → Result PacketValue PacketRefusal → List Entry → (old new : DeskValue) → Type 0
 ReceiveRecordBreaks assets limit now packet entries old new =
     (table : List Session) → AreTicked (now - 1) table → AreAll assets now entries table → ReceivingRecordBreaks assets limit now packet table old new
+
+-- a half with this record stopped: there its packet begins a session
+abbrev pub StopsBeginning : List Asset → (now : ℕ) → Result PacketValue PacketRefusal → List Entry → Type 0
+StopsBeginning assets now packet entries = (table : List Session) → AreAll assets now entries table → BeginsSession assets table packet

@@ -4,21 +4,23 @@
 -- takes, it puts together a beginning of one stream; and that decodes to the first of what was let through to it, in order, and
 -- then to a proper prefix of the next. What was let through is the list `passed` of the items that the policy's meaning judged;
 -- these are the items of all letters that were taken of the client by first copies (`cf_session`, `AreTaken`), and of what the
--- controller sent. This project's own.
-use Rattle.std.specs.Prelude.{◌≡◌, ℕ, ◌^◌, ◌≤◌, List, [], ◌∷◌}
+-- controller sent. And it is said how far: where its last event did not cut a session, each open end has sent as many letters as its
+-- stream has below the greatest edge that its peer showed. Amid an event an end has sent fewer of the same segments, in their order,
+-- and what is put together of fewer segments is put together of all (`cf_session`, `FewerPartsAreEnough`). This project's own.
+use Rattle.std.specs.Prelude.{◌≡◌, ℕ, ◌^◌, ◌≤◌, false, List, [], ◌∷◌}
 use Rattle.cf_decode.specs.Laws.{MakesFirstOf}
 use Rattle.cf_decode.specs.Passed.{passed}
 use Rattle.cf_lane.specs.Follows.{AreJudged}
 use Rattle.cf_lane.specs.Judged.{Judged}
 use Rattle.cf_lane.specs.Rates.{KeepsRates}
 use Rattle.cf_policy.specs.declared.Asset.{Asset}
-use Rattle.cf_session.specs.Laws.{IsFront, IsReassembly, parts_of}
-use Rattle.cf_session.specs.Session.{client_of, controller_ends, controllers, history, work_of}
+use Rattle.cf_session.specs.Laws.{IsFront, IsReassembly, IsSentUpTo, parts_of}
+use Rattle.cf_session.specs.Session.{client_ends, client_of, clients, controller_ends, controllers, history, work_of}
 use Rattle.cf_session.specs.Work.{work_by}
 use Rattle.cf_stream.specs.Stream.{Byte, End, Letter}
 use Rattle.cf_run.specs.Sessions.{Each, sessions_of}
 use Rattle.cf_run.specs.Table.{Session}
-use Rattle.cf_run.specs.Trace.{AreEvents, Event}
+use Rattle.cf_run.specs.Trace.{AreEvents, Event, ends_cut}
 
 -- the bytes among letters
 abbrev pub bytes_among : List Letter → List ℕ
@@ -36,11 +38,17 @@ pub record Decodes (session : Session) (judged : List Judged) (taken : List Lett
   pub front : IsFront (work_of session.events).to_controller taken
   pub makes : MakesFirstOf session.flow.asset (passed session.flow.asset judged) (bytes_among taken)
 
+-- each open end has sent as many letters as its stream has below the greatest edge that its peer showed
+pub record SendsUpToTheEdge (session : Session) : Type 0 where
+  pub to_controller : IsSentUpTo (controller_ends session.flow).role (controllers session.events) (work_of session.events).to_controller
+  pub to_client : IsSentUpTo (client_ends session.flow).role (clients session.events) (work_of session.events).to_client
+
 -- so it is whatever copies of letters it takes of all segments that went to it; and no rule let more through than its rate
 pub record IsFaithful (session : Session) : Type 0 where
   pub judged : List Judged
   pub is_judged : IsJudged session judged
   pub rates : KeepsRates session.flow.asset judged
+  pub far : ends_cut session.events ≡ false → SendsUpToTheEdge session
   pub decodes :
       (taken : List Letter) → IsReassembly (parts_of (controller_ends session.flow).role (controllers session.events)) taken →
       Decodes session judged taken

@@ -11,7 +11,7 @@ use Rattle.cf_run.specs.Capture.{AtPlace, Clock, Cut, FileEnd, Large, LastPlace,
 use Rattle.cf_run.specs.Form.{first_place}
 use Rattle.cf_run.specs.Moments.{AreTimed, first_moment}
 use Rattle.cf_run.specs.declared.form.Form.{Form}
-use Rattle.cf_run.specs.Half.{Half, IsFirstHalf, IsHalfOf}
+use Rattle.cf_run.specs.Half.{Half, IsHalfBeforeBeginning, IsHalfOf}
 use Rattle.cf_run.specs.OutputFile.{record_octets}
 use Rattle.cf_run.specs.Reader.{HasForm}
 use Rattle.cf_run.specs.Run.{IsRun, capture_of, inputs, inputs_of}
@@ -129,13 +129,13 @@ module _ (assets : List Asset) (limit : ℕ) (names : RunNamesValue) (before aft
     pub octets_log : ℕ
     pub in_log : HoldsOctets (before names.log) (after names.log) (concat (logged events ++ half.logged_before) ++ take octets_log (concat half.logged))
 
-  -- memory ran out behind the first half of that event, whose packet would have begun a session
+  -- memory ran out behind the first half of that event, where its packet begins a session
   pub record StopsBetween : Type 0 where
     pub events : List Event
     pub input : Input
     pub stops : StopsIn events input
     pub half : Half
-    pub is_half : IsFirstHalf (table_after events) input half
+    pub is_half : IsHalfBeforeBeginning assets (table_after events) input half
     pub in_out : HoldsOctets (before names.out) (after names.out) (capture_of (sent events ++ half.sent))
     pub in_log : HoldsOctets (before names.log) (after names.log) (concat (logged events ++ half.logged))
 

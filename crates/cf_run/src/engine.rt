@@ -8,7 +8,7 @@ ghost use Rattle.cf_policy.specs.Within.{AreAssetsWithin};
 ghost use Rattle.cf_session.specs.Broken.{KeepsParts};
 ghost use Rattle.cf_session.specs.Told.{told};
 ghost use Rattle.cf_run.specs.Engine.{AreAll, AreDueFrom, AreSound};
-ghost use Rattle.cf_run.specs.Half.{ReceiveRecordBreaks, StepBreaks, StepStops};
+ghost use Rattle.cf_run.specs.Half.{ReceiveRecordBreaks, StepBreaks, StepStops, StopsBeginning};
 ghost use Rattle.cf_run.specs.Receiving.{IsSized, MayBegin};
 ghost use Rattle.cf_run.specs.Step.{EngineValue, IsEngineOf, IsSoundEngine, ReceivesRecordOne, Steps, StepsOn};
 ghost use Rattle.cf_run.specs.Table.{Session as Known};
@@ -104,7 +104,7 @@ impl Engine {
             → StepBreaks policy.now.assets self.old.limit (table_after events) (record { moment = moment; packet = read_record link.now bytes.now })
             (D.value desk.old) (D.value desk.new) }
         ensures stops { IsErrOf result StepFault.NoMemory → (events : List Event) → IsEngineOf policy.now.assets self.old events
-            → StepStops (table_after events) (record { moment = moment; packet = read_record link.now bytes.now })
+            → StepStops policy.now.assets (table_after events) (record { moment = moment; packet = read_record link.now bytes.now })
             (told (D.value desk.old)) (told (D.value desk.new)) }
         ensures stops_whole { IsErrOf result StepFault.NoMemory → DeskValue.whole (D.value desk.new) ≡ true }
         ensures parts { OnOk result (KeepsParts (D.value desk.old) (D.value desk.new)) }
@@ -166,7 +166,7 @@ fn step_table<D: Desk>(
     ensures broken { IsErrOf result StepFault.Write → (before : List Known) (last : ℕ) → last + 1 ≤ now → AreAll assets.now last table.old.sessions.items before
         → StepBreaks assets.now limit before (record { moment = now; packet = read_record link.now bytes.now }) (D.value desk.old) (D.value desk.new) }
     ensures stops { IsErrOf result StepFault.NoMemory → (before : List Known) (last : ℕ) → last + 1 ≤ now → AreAll assets.now last table.old.sessions.items before
-        → StepStops before (record { moment = now; packet = read_record link.now bytes.now }) (told (D.value desk.old)) (told (D.value desk.new)) }
+        → StepStops assets.now before (record { moment = now; packet = read_record link.now bytes.now }) (told (D.value desk.old)) (told (D.value desk.new)) }
     ensures stops_whole { IsErrOf result StepFault.NoMemory → DeskValue.whole (D.value desk.new) ≡ true }
     ensures parts { OnOk result (KeepsParts (D.value desk.old) (D.value desk.new)) }
     ensures sound { OnOk result (AreSound assets.now limit table.new.sessions.items) }
@@ -210,6 +210,7 @@ fn receive_record<D: Desk>(
     ensures broken { IsErrOf result StepFault.Write
         → ReceiveRecordBreaks assets.now limit now (read_record link.now bytes.now) table.old.sessions.items (D.value desk.old) (D.value desk.new) }
     ensures nothing { IsErrOf result StepFault.NoMemory → desk.new ≡ desk.old }
+    ensures beginning { IsErrOf result StepFault.NoMemory → StopsBeginning assets.now now (read_record link.now bytes.now) table.old.sessions.items }
     ensures parts { OnOk result (KeepsParts (D.value desk.old) (D.value desk.new)) }
     ensures sound { OnOk result (AreSound assets.now limit table.new.sessions.items) }
     ensures due { OnOk result (AreDueFrom table.new.due table.new.sessions.items) }

@@ -1,8 +1,6 @@
 //! A desk over two lent files: packets go to a capture file, lines to a log.
-ghost use Rattle.std.specs.Prelude.{◌≡◌, ◌<◌, ◌≤◌, ◌*◌, ◌^◌, ◌↔◌, IsTrue, length};
+ghost use Rattle.std.specs.Prelude.{◌≡◌, ◌<◌, ◌≤◌, ◌*◌, ◌^◌, ◌↔◌, length};
 ghost use Rattle.cf_outside.specs.Files.{Appends};
-ghost use Rattle.cf_outside.specs.Desk.{DeskValue, Emits, PutsLine};
-ghost use Rattle.cf_outside.specs.Lines.{is_line};
 ghost use Rattle.cf_run.specs.OutputFile.{IsRecord, record_octets};
 ghost use Rattle.cf_run.specs.FileDesk.{file_desk};
 

@@ -1,4 +1,5 @@
 //! Laws of a run: each is the contract of a function that does nothing.
+ghost use Rattle.cf_run.specs.Fixed.{RecordsFixEvents, RecordsFixRuns};
 ghost use Rattle.cf_run.specs.Headline.{RunsHaveHeadline};
 ghost use Rattle.cf_run.specs.Isolation.{RunsIsolateSessions};
 ghost use Rattle.cf_run.specs.Records.{BeginAtTwo, GoOnByTwo, HaveOneList, HaveOneTimedList, HaveRecords, HaveTimedRecords, NoneAfterTheLastMoment, StayBelowTheLimit};
@@ -7,7 +8,9 @@ ghost use Rattle.cf_run.specs.Sessions.{SessionsAreIsolated, SessionsAreRight, S
 
 use cf_decode::fragments_decode;
 use cf_lane::rates_hold;
-use cf_session::{events_are_fixed, has_one_stream, work_is_of_what_was_taken};
+use cf_session::{
+    events_are_fixed, has_one_stream, sessions_send_what_is_let_in, work_is_of_what_was_taken,
+};
 
 /// The octets at a place of a file have one list of records and one last place, also where each record is tested with
 /// its moment.
@@ -32,6 +35,15 @@ pub fn moments_rise()
 pub fn selects_by_moment()
     ensures { SelectsByMoment }
 {}
+
+/// The records fix a run: two lists of right events over the same records are the same, and so are what two runs over them write
+/// and count.
+pub fn records_fix_runs()
+    ensures events { RecordsFixEvents }
+    ensures runs { RecordsFixRuns }
+{
+    events_are_fixed();
+}
 
 /// In a run every session, those that left the table too, has right events: each reads the session's own earlier ones, its flow
 /// and the moments alone.
@@ -69,8 +81,9 @@ pub fn runs_isolate_sessions()
 
 /// The headline: after each event of a run, whatever copies of letters a controller takes in a session of all segments that were
 /// sent to it, it puts together a beginning of one stream, and that decodes to the first of the items that the policy let through
-/// of the client's stream of first copies, in order, and then to a proper prefix of the next; and no rule let more commands of a
-/// session through than its rate.
+/// of the client's stream of first copies, in order, and then to a proper prefix of the next; each open end of a session that was
+/// not cut has sent as many letters as its stream has below the greatest edge shown; and no rule let more commands of a session
+/// through than its rate.
 #[tactic(auto, using(crate::proofs::Headline::has_headline))]
 pub fn runs_have_headline()
     ensures { RunsHaveHeadline }
@@ -79,4 +92,5 @@ pub fn runs_have_headline()
     work_is_of_what_was_taken();
     fragments_decode();
     rates_hold();
+    sessions_send_what_is_let_in();
 }

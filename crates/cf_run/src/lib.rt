@@ -23,8 +23,9 @@ pub use file_desk::FileDesk;
 pub use first_half::tick_all;
 pub use form::{Form, FormRefusal};
 pub use laws::{
-    moments_rise, octets_have_one_list_of_records, runs_have_headline, runs_isolate_sessions,
-    selects_by_moment, sessions_are_isolated, sessions_are_right, sessions_have_one_stream,
+    moments_rise, octets_have_one_list_of_records, records_fix_runs, runs_have_headline,
+    runs_isolate_sessions, selects_by_moment, sessions_are_isolated, sessions_are_right,
+    sessions_have_one_stream,
 };
 pub use matching::{Match, TABLE_SIZE, match_packet};
 pub use record_reader::{NextRecord, OpenFault, RecordReader};

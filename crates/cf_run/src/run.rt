@@ -1,5 +1,5 @@
 //! A run over a capture file.
-ghost use Rattle.std.specs.Prelude.{◌≡◌, ◌≢◌, ◌+◌, ◌*◌, ◌^◌, ◌<◌, ◌≤◌, ◌∷◌, [], ℕ, List, IsErrOf, Ok, OnOk, true};
+ghost use Rattle.std.specs.Prelude.{◌≡◌, ◌≢◌, ◌+◌, ◌*◌, ◌^◌, ◌<◌, ◌≤◌, ◌∷◌, [], List, IsErrOf, Ok, OnOk, true};
 ghost use Rattle.cf_lane.specs.declared.limit.TheConstants.{LETTER_LIMIT};
 ghost use Rattle.cf_outside.specs.Faults.{HasCause};
 ghost use Rattle.cf_outside.specs.Files.{IsWhole, content_after_create, content_after_write};
@@ -9,9 +9,9 @@ ghost use Rattle.cf_policy.specs.Within.{AreAssetsWithin};
 ghost use Rattle.cf_run.specs.FileDesk.{are_whole, files_desk, files_told};
 ghost use Rattle.cf_run.specs.Half.{StepBreaks, StepStops};
 ghost use Rattle.cf_run.specs.Form.{first_place};
-ghost use Rattle.cf_run.specs.Reader.{HasForm, ReaderValue};
+ghost use Rattle.cf_run.specs.Reader.{HasForm};
 ghost use Rattle.cf_run.specs.RunCapture.{AreApart, IsCreatedInPart, KeepsOtherFiles, RunsAs, RunsRecords, open_fault, run_names_value, step_fault};
-ghost use Rattle.cf_run.specs.Step.{EngineValue, IsEngineOf, IsSoundEngine, StepsOn};
+ghost use Rattle.cf_run.specs.Step.{IsEngineOf, IsSoundEngine, StepsOn};
 ghost use Rattle.cf_run.specs.Trace.{Event, table_after};
 
 use crate::blocks::BlockRefusal;
@@ -223,7 +223,7 @@ fn run_record<F: Files>(
         (record { moment = moment; packet = read_record reader.now.link reader.now.body })
         (files_desk names.now.out.now names.now.log.now (F.content files.old)) (files_desk names.now.out.now names.now.log.now (F.content files.new)) }
     ensures stops { IsErrOf result StepFault.NoMemory → (events : List Event) → IsEngineOf policy.now.assets engine.old events
-        → StepStops (table_after events) (record { moment = moment; packet = read_record reader.now.link reader.now.body })
+        → StepStops policy.now.assets (table_after events) (record { moment = moment; packet = read_record reader.now.link reader.now.body })
         (files_told names.now.out.now names.now.log.now (F.content files.old)) (files_told names.now.out.now names.now.log.now (F.content files.new)) }
     ensures stops_whole { IsErrOf result StepFault.NoMemory → are_whole names.now.out.now names.now.log.now (F.content files.new) ≡ true }
     ensures sound { OnOk result (IsSoundEngine policy.now.assets engine.new) }

@@ -1,5 +1,5 @@
 //! The second half of an event: the packet.
-ghost use Rattle.std.specs.Prelude.{◌≡◌, ◌+◌, ◌-◌, ◌*◌, ◌^◌, ◌<◌, ◌≤◌, true, IfOk, IfSome, IsErrOf, OnErr, OnOk, Some, length, pos, slice_get, vec_capacity, vec_len};
+ghost use Rattle.std.specs.Prelude.{◌≡◌, ◌+◌, ◌-◌, ◌*◌, ◌^◌, ◌<◌, ◌≤◌, true, IfOk, IfSome, IsErrOf, Ok, OnErr, OnOk, Some, length, pos, slice_get, vec_capacity, vec_len};
 ghost use Rattle.cf_outside.specs.Desk.{DeskValue, KeepsDesk};
 ghost use Rattle.cf_outside.specs.Faults.{HasCause};
 ghost use Rattle.cf_packet.specs.Packet.{packet_value};
@@ -9,7 +9,7 @@ ghost use Rattle.cf_session.specs.Session.{Flow};
 ghost use Rattle.cf_session.specs.Told.{told};
 ghost use Rattle.cf_run.specs.Engine.{AreDueFrom, AreSound};
 ghost use Rattle.cf_run.specs.Entries.{others, without_at};
-ghost use Rattle.cf_run.specs.Half.{GoBreaks, ReceiveBreaks};
+ghost use Rattle.cf_run.specs.Half.{GoBreaks, ReceiveBreaks, StopsBeginning};
 ghost use Rattle.cf_run.specs.Receiving.{BeginsOne, GoesOne, IsSized, ReceivesOne, may_begin_one};
 
 use crate::engine::StepFault;
@@ -71,6 +71,7 @@ pub fn receive<D: Desk>(
     ensures due { OnOk result (AreDueFrom table.new.due table.new.sessions.items) }
     ensures size { IfOk result (λ outcome. IsSized outcome (length table.old.sessions.items) (length table.new.sessions.items)) }
     ensures memory { IsErrOf result StepFault.NoMemory → may_begin_one assets.now (packet_value packet.now) ≡ true }
+    ensures beginning { IsErrOf result StepFault.NoMemory → StopsBeginning assets.now now (Ok (packet_value packet.now)) table.old.sessions.items }
     ensures keeps { KeepsDesk (D.value desk.old) (D.value desk.new) }
     ensures whole { OnOk result (DeskValue.whole (D.value desk.new) ≡ true) }
     ensures cause { HasCause (DeskValue.faults (D.value desk.old)) (DeskValue.faults (D.value desk.new)) (IsErrOf result StepFault.Write) }

@@ -76,7 +76,7 @@ window_of (role.Passive n m) w = refl
 pub still_pending : (r : Role) (w v x : Window) → v ≡ window_by r w → Widens true v x → x.pending ≡ w.pending
 still_pending r w v x e h = ap (λ (y : Window). y.pending) h.same ∙ ap (λ (y : Window). y.pending) e ∙ window_of r w
 
-none_taken : IsTaken (first_copy []) no_letters
+pub none_taken : IsTaken (first_copy []) no_letters
 none_taken = record { bytes = λ p l. absurd (omega (arith, l)); ended = λ e. absurd (false≢true e); unfinished = λ e. refl }
 
 zero_length : (xs : List ℕ) → length xs ≡ 0 → xs ≡ []

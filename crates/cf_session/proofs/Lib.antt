@@ -28,3 +28,5 @@ mod LanesAmid
 mod Fixed
 mod OneStream
 mod Short
+mod Over
+mod Fewer

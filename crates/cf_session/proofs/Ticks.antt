@@ -106,6 +106,16 @@ module _ (f : Flow) (es : List SessionEvent) (e : SessionEvent) (now : ℕ) wher
       ap (λ b. option_or (closed_at f (e ∷ es)) (cond b (Some (now + 1)) None)) (same_closed fc fd)
       ∙ later_same (closed_at f es) (is_closed f (e ∷ es)) (moment e.client) (now + 1)
 
+  -- neither peer was silent for too long
+  pub open_tick : gives_up (controller_ends f).role (controllers (e ∷ es)) (clocked now []) ≡ false → gives_up (client_ends f).role (clients (e ∷ es)) (clocked now []) ≡ false →
+      (fc fd : List PacketValue) → IsRight (controller_ends f) (controllers (e ∷ es)) (clocked now fc) → IsRight (client_ends f) (clients (e ∷ es)) (clocked now fd) →
+      IsTick f (e ∷ es) now (ticking_at fc fd)
+  open_tick quiet silent fc fd right_c right_d =
+      is_tick fc fd true Unspoken Unspoken None (record { controller = right_c; client = right_d }) (sym (ap not quiet))
+      (sym (ap (λ a. cond a (Some (reason.NoAnswer side.Controller)) (cond (gives_up (client_ends f).role (clients (e ∷ es)) (clocked now [])) (Some (reason.NoAnswer side.Client)) None)) quiet
+      ∙ ap (λ a. cond a (Some (reason.NoAnswer side.Client)) None) silent))
+      refl refl
+
   module _ (s : SessionValue) (stands : IsSessionOf f es e s) (early : is_expired f (e ∷ es) now ≡ false)
       (quiet : gives_up (controller_ends f).role (controllers (e ∷ es)) (clocked now []) ≡ false) (silent : gives_up (client_ends f).role (clients (e ∷ es)) (clocked now []) ≡ false)
       (right_c : IsRight (controller_ends f) (controllers (e ∷ es)) (clocked now (fired_at (controller_ends f) (controllers (e ∷ es)) (clocked now []))))
@@ -117,10 +127,7 @@ module _ (f : Flow) (es : List SessionEvent) (e : SessionEvent) (now : ℕ) wher
     fd_at = fired_at (client_ends f) (clients (e ∷ es)) (clocked now [])
 
     pub live_tick : IsTick f (e ∷ es) now (ticking_at fc_at fd_at)
-    live_tick = is_tick fc_at fd_at true Unspoken Unspoken None (record { controller = right_c; client = right_d }) (sym (ap not quiet))
-        (sym (ap (λ a. cond a (Some (reason.NoAnswer side.Controller)) (cond (gives_up (client_ends f).role (clients (e ∷ es)) (clocked now [])) (Some (reason.NoAnswer side.Client)) None)) quiet
-        ∙ ap (λ a. cond a (Some (reason.NoAnswer side.Client)) None) silent))
-        refl refl
+    live_tick = open_tick quiet silent fc_at fd_at right_c right_d
 
     pub live_told : (t0 t1 t2 : Told) → t1 ≡ with_both t0 (at now fc_at) [] → t2 ≡ with_both t1 (at now fd_at) [] → Ticks f (e ∷ es) now t0 t2 (ticking_at fc_at fd_at)
     live_told t0 t1 t2 a b = record {

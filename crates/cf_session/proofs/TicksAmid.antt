@@ -17,14 +17,14 @@ use Rattle.cf_view.specs.declared.Side.TheVariants as side
 use Rattle.cf_session.proofs.Able.{can_cut, can_fire}
 use Rattle.cf_session.proofs.Amid.{amid_after, amid_as, amid_before, amid_sent}
 use Rattle.cf_session.proofs.Telling.{at-append}
-use Rattle.cf_session.proofs.Ticks.{client_silent, client_silent_ticks, controller_silent, live_tick, silent_fires, silent_tick, ticking_at}
+use Rattle.cf_session.proofs.Ticks.{client_silent, client_silent_ticks, controller_silent, live_tick, open_tick, silent_fires, silent_tick, ticking_at}
 use Rattle.cf_session.specs.Broken.{BreaksTick, KeepsParts}
 use Rattle.cf_session.specs.Cuts.{gives_up}
-use Rattle.cf_session.specs.Event.{IsTick}
+use Rattle.cf_session.specs.Event.{AreTaken, IsTick}
 use Rattle.cf_session.specs.Parts.{SessionValue}
 use Rattle.cf_session.specs.Sent.{at, early, is_first_half, logged_first, sent_first}
 use Rattle.cf_session.specs.Session.{Flow, SessionEvent, client_ends, clients, controller_ends, controllers, history, is_expired}
-use Rattle.cf_session.specs.Stands.{IsSessionOf}
+use Rattle.cf_session.specs.Stands.{AreOver, IsSessionOf}
 use Rattle.cf_session.specs.Told.{Told, told, with_both}
 use Rattle.cf_session.specs.Turn.{CutsAmid, CutsBoth}
 
@@ -47,6 +47,60 @@ fires_on false b ps rest p e = refl
 sends_on : (ends : Ends) (es : List LegEvent) (now : ℕ) (p : PacketValue) → p ∷ [] ≡ fired_at ends es (clocked now []) → gives_up ends.role es (clocked now []) ≡ false
 sends_on ends es now p e = fires_on (fires ends.role es (clocked now [])) (nat_lt (tries ends.role es) 6) (repeats ends es) [] p e
 
+-- ---- there is a first half, whatever the moment
+
+module _ (f : Flow) (es : List SessionEvent) (e : SessionEvent) (over : AreOver es e) (done : AreTaken f (e ∷ es)) (now : ℕ) where
+  abbrev fired_c : List PacketValue
+  fired_c = fired_at (controller_ends f) (controllers (e ∷ es)) (clocked now [])
+
+  abbrev fired_d : List PacketValue
+  fired_d = fired_at (client_ends f) (clients (e ∷ es)) (clocked now [])
+
+  fires_c : IsRight (controller_ends f) (controllers (e ∷ es)) (clocked now fired_c)
+  fires_c = can_fire (controller_ends f) (controllers (e ∷ es)) now over.controller
+
+  fires_d : IsRight (client_ends f) (clients (e ∷ es)) (clocked now fired_d)
+  fires_d = can_fire (client_ends f) (clients (e ∷ es)) now over.client
+
+  begins_d : IsRight (client_ends f) (clients (e ∷ es)) (begun now)
+  begins_d = record { over = over.client; fired = refl; came = tt; ending = tt }
+
+  rst_c : (rst : PacketValue) × IsRight (controller_ends f) (controllers (e ∷ es)) (record (clocked now fired_c) { ending = Cut rst })
+  rst_c = can_cut (controller_ends f).own (controller_ends f).peer (controller_ends f).role (controllers (e ∷ es)) (clocked now fired_c) (taken side.Controller (history (e ∷ es))) fires_c done.controller
+
+  rst_d : (rst : PacketValue) × IsRight (client_ends f) (clients (e ∷ es)) (record (clocked now fired_d) { ending = Cut rst })
+  rst_d = can_cut (client_ends f).own (client_ends f).peer (client_ends f).role (clients (e ∷ es)) (clocked now fired_d) (taken side.Client (history (e ∷ es))) fires_d done.client
+
+  rst_begun : (rst : PacketValue) × IsRight (client_ends f) (clients (e ∷ es)) (record (begun now) { ending = Cut rst })
+  rst_begun = can_cut (client_ends f).own (client_ends f).peer (client_ends f).role (clients (e ∷ es)) (begun now) (taken side.Client (history (e ∷ es))) begins_d done.client
+
+  module _ (unexpired : is_expired f (e ∷ es) now ≡ false) where
+    -- the controller is silent for too long
+    tick_silent : gives_up (controller_ends f).role (controllers (e ∷ es)) (clocked now []) ≡ true → (t : SessionEvent) × IsTick f (e ∷ es) now t
+    tick_silent silent =
+        let cuts : CutsBoth f (controllers (e ∷ es)) (clients (e ∷ es)) (clocked now fired_c) (begun now) now (reason.NoAnswer side.Controller) (with_both nothing_told (at now fired_c) []) _ =
+        record { to_controller = rst_c.0; controller_right = rst_c.1; to_client = rst_begun.0; client_right = rst_begun.1; told = refl } in
+        (controller_silent f es e now unexpired fired_c refl silent nothing_told _ _ refl cuts, silent_tick f es e now unexpired fired_c refl silent nothing_told _ _ refl cuts)
+
+    tick_by : (b : Bool) → gives_up (controller_ends f).role (controllers (e ∷ es)) (clocked now []) ≡ false → gives_up (client_ends f).role (clients (e ∷ es)) (clocked now []) ≡ b →
+        (t : SessionEvent) × IsTick f (e ∷ es) now t
+    tick_by true quiet silent =
+        let cuts : CutsBoth f (controllers (e ∷ es)) (clients (e ∷ es)) (clocked now fired_c) (clocked now fired_d) now (reason.NoAnswer side.Client) (with_both (with_both nothing_told (at now fired_c) []) (at now fired_d) []) _ =
+        record { to_controller = rst_c.0; controller_right = rst_c.1; to_client = rst_d.0; client_right = rst_d.1; told = refl } in (
+          client_silent f es e now unexpired fired_c fired_d refl refl quiet silent nothing_told _ _ _ refl refl cuts,
+          (client_silent_ticks f es e now unexpired fired_c fired_d refl refl quiet silent nothing_told _ _ _ refl refl cuts).is_tick,
+        )
+    tick_by false quiet silent = (ticking_at f es e now fired_c fired_d, open_tick f es e now quiet silent fired_c fired_d fires_c fires_d)
+
+    pub has_tick : (t : SessionEvent) × IsTick f (e ∷ es) now t
+    has_tick =
+        elim (cases_Bool (gives_up (controller_ends f).role (controllers (e ∷ es)) (clocked now []))) [
+          | inl silent ↦ tick_silent silent
+          | inr quiet ↦ tick_by (gives_up (client_ends f).role (clients (e ∷ es)) (clocked now [])) quiet refl
+        ]
+
+-- ---- a session in memory whose desk failed amid it
+
 module _ (f : Flow) (es : List SessionEvent) (e : SessionEvent) (s : SessionValue) (stands : IsSessionOf f es e s) (now : ℕ) where
   abbrev cs : List LegEvent
   cs = controllers (e ∷ es)
@@ -66,42 +120,9 @@ module _ (f : Flow) (es : List SessionEvent) (e : SessionEvent) (s : SessionValu
   right_d : IsRight (client_ends f) ds (clocked now fd)
   right_d = can_fire (client_ends f) ds now stands.over.client
 
-  right_begun : IsRight (client_ends f) ds (begun now)
-  right_begun = record { over = stands.over.client; fired = refl; came = tt; ending = tt }
-
-  rst_c : (rst : PacketValue) × IsRight (controller_ends f) cs (record (clocked now fc) { ending = Cut rst })
-  rst_c = can_cut (controller_ends f).own (controller_ends f).peer (controller_ends f).role cs (clocked now fc) (taken side.Controller (history (e ∷ es))) right_c stands.parts.taken.controller
-
-  rst_d : (rst : PacketValue) × IsRight (client_ends f) ds (record (clocked now fd) { ending = Cut rst })
-  rst_d = can_cut (client_ends f).own (client_ends f).peer (client_ends f).role ds (clocked now fd) (taken side.Client (history (e ∷ es))) right_d stands.parts.taken.client
-
-  rst_begun : (rst : PacketValue) × IsRight (client_ends f) ds (record (begun now) { ending = Cut rst })
-  rst_begun = can_cut (client_ends f).own (client_ends f).peer (client_ends f).role ds (begun now) (taken side.Client (history (e ∷ es))) right_begun stands.parts.taken.client
-
   module _ (unexpired : is_expired f (e ∷ es) now ≡ false) where
-    -- the controller is silent for too long
-    tick_silent : gives_up (controller_ends f).role cs (clocked now []) ≡ true → (t : SessionEvent) × IsTick f (e ∷ es) now t
-    tick_silent silent =
-        let cuts : CutsBoth f cs ds (clocked now fc) (begun now) now (reason.NoAnswer side.Controller) (with_both nothing_told (at now fc) []) _ =
-        record { to_controller = rst_c.0; controller_right = rst_c.1; to_client = rst_begun.0; client_right = rst_begun.1; told = refl } in
-        (controller_silent f es e now unexpired fc refl silent nothing_told _ _ refl cuts, silent_tick f es e now unexpired fc refl silent nothing_told _ _ refl cuts)
-
-    tick_by : (b : Bool) → gives_up (controller_ends f).role cs (clocked now []) ≡ false → gives_up (client_ends f).role ds (clocked now []) ≡ b → (t : SessionEvent) × IsTick f (e ∷ es) now t
-    tick_by true quiet silent =
-        let cuts : CutsBoth f cs ds (clocked now fc) (clocked now fd) now (reason.NoAnswer side.Client) (with_both (with_both nothing_told (at now fc) []) (at now fd) []) _ =
-        record { to_controller = rst_c.0; controller_right = rst_c.1; to_client = rst_d.0; client_right = rst_d.1; told = refl } in (
-          client_silent f es e now unexpired fc fd refl refl quiet silent nothing_told _ _ _ refl refl cuts,
-          (client_silent_ticks f es e now unexpired fc fd refl refl quiet silent nothing_told _ _ _ refl refl cuts).is_tick,
-        )
-    tick_by false quiet silent = (ticking_at f es e now fc fd, live_tick f es e now s stands unexpired quiet silent right_c right_d)
-
-    -- there is a first half, whatever the moment
-    pub has_tick : (t : SessionEvent) × IsTick f (e ∷ es) now t
-    has_tick =
-        elim (cases_Bool (gives_up (controller_ends f).role cs (clocked now []))) [
-          | inl silent ↦ tick_silent silent
-          | inr quiet ↦ tick_by (gives_up (client_ends f).role ds (clocked now [])) quiet refl
-        ]
+    first_half : (t : SessionEvent) × IsTick f (e ∷ es) now t
+    first_half = has_tick f es e stands.over stands.parts.taken now unexpired
 
     -- what it sends begins with what the controller's clock call sends
     sends_first : (t : SessionEvent) → IsTick f (e ∷ es) now t → sent_first t ≡ at now fc ++ at now (cond (is_first_half t) (said_by t.controller.ending) [] ++ early (is_first_half t) t.client)
@@ -116,7 +137,7 @@ module _ (f : Flow) (es : List SessionEvent) (e : SessionEvent) (s : SessionValu
       -- the clock call of the controller's leg failed
       pub controller_failed : ClockBreaks now s.controller s.to_controller old new → new.lines ≡ old.lines → new.line_part ≡ old.line_part → BreaksTick f (e ∷ es) now old new
       controller_failed h lines part =
-          let t = has_tick in
+          let t = first_half in
           let queue = subst (IsQueueOf s.to_controller) (sym stands.over.to_controller) stands.parts.to_controller in
           let right = subst (λ n. IsRight n cs (clocked now (h.out ∷ []))) stands.parts.controller.is (h.right cs stands.over.controller stands.parts.controller.stands queue) in
           let rest = at now (cond (is_first_half t.0) (said_by t.0.controller.ending) [] ++ early (is_first_half t.0) t.0.client) in

@@ -1,17 +1,16 @@
 -- What holds over every list of right events of a session. The main definitions are `EventsAreFixed`,
 -- `WorkIsOfTheTaken` and `HasOneStream`. This project's own.
-use Rattle.std.specs.Prelude.{◌≡◌, ℕ, ◌+◌, ◌^◌, ◌≤◌, false, List, [], ◌∷◌, ◌++◌, length, map, slice_get, Option, None, Some, ℤ}
+use Rattle.std.specs.Prelude.{◌≡◌, ℕ, ◌+◌, ◌^◌, ◌≤◌, min, true, false, List, [], ◌∷◌, ◌++◌, length, map, slice_get, Option, None, Some, ℤ}
 use Rattle.cf_leg.specs.Event.{Came, Greeting, LegEvent, Nothing, Packet, sent_in}
+use Rattle.cf_leg.specs.Heard.{opened, shown}
 use Rattle.cf_leg.specs.Segment.{letters_in}
 use Rattle.cf_leg.specs.Told.{letters_sent, letters_sent_at, letters_sent_by, own_number}
 use Rattle.cf_leg.specs.declared.Role.{Role}
 use Rattle.cf_packet.specs.Packet.{PacketValue}
 use Rattle.cf_stream.specs.Position.{position}
-use Rattle.cf_stream.specs.Stream.{End, Letter, Stream, letter_from, letters}
+use Rattle.cf_stream.specs.Stream.{End, Letter, Stream, letter_count, letter_from, letters}
 use Rattle.cf_session.specs.Event.{AreEvents, IsTick}
-use Rattle.cf_session.specs.Parts.{SessionValue}
 use Rattle.cf_session.specs.Session.{Flow, SessionEvent, client_ends, client_of, clients, controller_ends, controllers, history, is_expired, work_of}
-use Rattle.cf_session.specs.Stands.{IsSessionOf}
 use Rattle.cf_session.specs.Work.{Works}
 
 -- ---- isolation: a session's packets and their moments fix all that it sends and logs
@@ -35,13 +34,6 @@ given event = record { tick = event.client.tick; from_client = packet_in event.c
 abbrev pub EventsAreFixed : Type 0
 EventsAreFixed =
     (flow : Flow) (limit : ℕ) (xs ys : List SessionEvent) → AreEvents flow limit xs → AreEvents flow limit ys → map given xs ≡ map given ys → xs ≡ ys
-
--- ---- each session has a first half of its next event
-
-abbrev pub EachSessionHasATick : Type 0
-EachSessionHasATick =
-    (flow : Flow) (earlier : List SessionEvent) (event : SessionEvent) (s : SessionValue) (tick : ℕ) → IsSessionOf flow earlier event s →
-    is_expired flow (event ∷ earlier) tick ≡ false → (next : SessionEvent) × IsTick flow (event ∷ earlier) tick next
 
 -- ---- what a lane made of a session is of all that was taken of both sides, by first copies
 
@@ -79,6 +71,11 @@ pub record IsReassembly (parts : List Part) (taken : List Letter) : Type 0 where
   pub each : (place : ℕ) (letter : Letter) → slice_get taken place ≡ Some letter → HasLetter parts place letter
   pub end : (place : ℕ) → slice_get taken place ≡ Some End → length taken ≡ place + 1
 
+-- what is put together of some segments is put together of these and more: so what is sent amid an event gives no more than all
+-- that the event sends
+abbrev pub FewerPartsAreEnough : Type 0
+FewerPartsAreEnough = (parts more : List Part) (taken : List Letter) → IsReassembly parts taken → IsReassembly (parts ++ more) taken
+
 -- the letters of the stream begin with these
 pub record IsFront (whole : Stream) (taken : List Letter) : Type 0 where
   pub more : List Letter
@@ -100,3 +97,22 @@ HasOneStream =
     (flow : Flow) (limit : ℕ) (events : List SessionEvent) (taken : List Letter) → limit ≤ 2 ^ 30 → AreEvents flow limit events → AreUncutBefore events →
     (IsReassembly (parts_of (controller_ends flow).role (controllers events)) taken → IsFront (work_of events).to_controller taken)
     × (IsReassembly (parts_of (client_ends flow).role (clients events)) taken → IsFront (work_of events).to_client taken)
+
+-- ---- each session whose last event did not cut it has a first half of its next event
+
+abbrev pub EachSessionHasATick : Type 0
+EachSessionHasATick =
+    (flow : Flow) (limit : ℕ) (earlier : List SessionEvent) (event : SessionEvent) (tick : ℕ) → AreEvents flow limit (event ∷ earlier) → event.cut ≡ None →
+    is_expired flow (event ∷ earlier) tick ≡ false → (next : SessionEvent) × IsTick flow (event ∷ earlier) tick next
+
+-- ---- how far: between two events each open end of such a session has sent all of its stream that its peer lets in
+
+-- an open end sent as many letters as its stream has below the greatest edge shown
+abbrev pub IsSentUpTo : Role → List LegEvent → Stream → Type 0
+IsSentUpTo r es stream = opened r es ≡ true → letters_sent r es ≡ min (shown r es) (letter_count stream)
+
+abbrev pub SendsWhatIsLetIn : Type 0
+SendsWhatIsLetIn =
+    (flow : Flow) (limit : ℕ) (earlier : List SessionEvent) (event : SessionEvent) → limit ≤ 2 ^ 30 → AreEvents flow limit (event ∷ earlier) → event.cut ≡ None →
+    IsSentUpTo (controller_ends flow).role (controllers (event ∷ earlier)) event.work.to_controller
+    × IsSentUpTo (client_ends flow).role (clients (event ∷ earlier)) event.work.to_client

@@ -1,5 +1,5 @@
 //! The first half of an event: the clock calls.
-ghost use Rattle.std.specs.Prelude.{◌≡◌, ℕ, ◌+◌, ◌-◌, ◌*◌, ◌^◌, ◌<◌, ◌≤◌, true, List, [], ◌∷◌, length, IfOk, IsErr, OnErr, OnOk};
+ghost use Rattle.std.specs.Prelude.{◌≡◌, ◌+◌, ◌-◌, ◌*◌, ◌^◌, ◌<◌, ◌≤◌, true, List, [], ◌∷◌, IfOk, IsErr, OnErr, OnOk};
 ghost use Rattle.cf_outside.specs.Desk.{DeskValue, KeepsDesk};
 ghost use Rattle.cf_outside.specs.Faults.{HasCause};
 ghost use Rattle.cf_session.specs.Broken.{BreaksTick, KeepsParts};

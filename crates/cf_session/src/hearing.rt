@@ -1,5 +1,5 @@
 //! A packet of a side is heard: its leg takes it in, and what it brings is handed over.
-ghost use Rattle.std.specs.Prelude.{◌≡◌, ℕ, ◌+◌, ◌*◌, ◌^◌, ◌<◌, ◌≤◌, true, List, ◌∷◌, length, IfOk, IsErr, OnErr, OnOk, None};
+ghost use Rattle.std.specs.Prelude.{◌≡◌, ◌+◌, ◌*◌, ◌^◌, ◌<◌, ◌≤◌, true, List, ◌∷◌, length, IfOk, IsErr, OnErr, OnOk, None};
 ghost use Rattle.cf_lane.specs.Follows.{Rests, rest_of};
 ghost use Rattle.cf_lane.specs.Handled.{IsLaneOf};
 ghost use Rattle.cf_lane.specs.History.{Element, taken};

@@ -1,9 +1,11 @@
 //! Laws over every list of right events of a session: each is the contract of a function that does nothing.
-ghost use Rattle.cf_session.specs.Laws.{EachSessionHasATick, EventsAreFixed, HasOneStream, WorkIsOfTheTaken};
+ghost use Rattle.cf_session.specs.Laws.{EachSessionHasATick, EventsAreFixed, FewerPartsAreEnough, HasOneStream, SendsWhatIsLetIn, WorkIsOfTheTaken};
 ghost use Rattle.cf_session.specs.Stands.{AreQuietBeforeDue};
 
 use cf_lane::{has_one_judgement, streams_go_on};
-use cf_leg::{clocks_are_quiet_before_due, events_fix_what_is_sent, segments_carry_one_stream};
+use cf_leg::{
+    clocks_are_quiet_before_due, events_fix_what_is_sent, segments_carry_one_stream, speeches_reach,
+};
 
 /// Isolation: what is given to a session, its packets and their moments, fixes all its events, so all that it sends and logs,
 /// whatever else the box does.
@@ -14,7 +16,7 @@ pub fn events_are_fixed()
     has_one_judgement();
 }
 
-/// A session that has not expired has a first half of its next event, at whatever moment its timers are looked at.
+/// A session that was not cut and has not expired has a first half of its next event, at whatever moment its timers are looked at.
 pub fn each_session_has_a_tick()
     ensures { EachSessionHasATick }
 {}
@@ -42,3 +44,20 @@ pub fn has_one_stream()
     segments_carry_one_stream();
     streams_go_on();
 }
+
+/// How far: between two events of a session that was not cut, each open end has sent as many letters as its stream has below the
+/// greatest edge that its peer showed.
+pub fn sessions_send_what_is_let_in()
+    ensures { SendsWhatIsLetIn }
+{
+    has_one_judgement();
+    speeches_reach();
+    streams_go_on();
+}
+
+/// What a receiver puts together of some segments it also puts together of these and more. So amid an event, where fewer segments
+/// were sent, it gets a beginning of the same stream.
+#[tactic(auto, using(crate::proofs::Fewer::fewer_parts))]
+pub fn fewer_segments_are_enough()
+    ensures { FewerPartsAreEnough }
+{}

@@ -1,5 +1,5 @@
 //! The second half of an event: a packet.
-ghost use Rattle.std.specs.Prelude.{◌≡◌, ℕ, ◌+◌, ◌-◌, ◌*◌, ◌^◌, ◌<◌, ◌≤◌, true, List, [], ◌∷◌, length, IfOk, IsErr, OnErr, OnOk};
+ghost use Rattle.std.specs.Prelude.{◌≡◌, ◌+◌, ◌-◌, ◌*◌, ◌^◌, ◌<◌, ◌≤◌, true, List, [], ◌∷◌, length, IfOk, IsErr, OnErr, OnOk};
 ghost use Rattle.cf_outside.specs.Desk.{DeskValue, KeepsDesk};
 ghost use Rattle.cf_outside.specs.Faults.{HasCause};
 ghost use Rattle.cf_lane.specs.Handled.{CountsBy, IsLaneOf};

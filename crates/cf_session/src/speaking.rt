@@ -1,10 +1,9 @@
 //! Both ends speak, that of the controller first, and the client is greeted where the controller's end has opened.
-ghost use Rattle.std.specs.Prelude.{◌≡◌, ℕ, ◌+◌, ◌-◌, ◌*◌, ◌^◌, ◌<◌, ◌≤◌, true, nat_le, ◌&&◌, List, ◌∷◌, [], length, IsErr, OnErr, OnOk, None};
+ghost use Rattle.std.specs.Prelude.{◌≡◌, ◌+◌, ◌-◌, ◌*◌, ◌^◌, ◌<◌, ◌≤◌, true, nat_le, ◌&&◌, List, ◌∷◌, [], length, IsErr, OnErr, OnOk, None};
 ghost use Rattle.cf_leg.specs.Event.{LegEvent, Unspoken, moment};
 ghost use Rattle.cf_outq.specs.SendQueue.{IsQueueOf, queue_length};
 ghost use Rattle.cf_outside.specs.Desk.{DeskValue, KeepsDesk};
 ghost use Rattle.cf_outside.specs.Faults.{HasCause};
-ghost use Rattle.cf_rebuild.specs.ReceiveWindow.{base_of};
 ghost use Rattle.cf_stream.specs.Stream.{Stream};
 ghost use Rattle.cf_session.specs.Broken.{BreaksAmid, KeepsParts};
 ghost use Rattle.cf_session.specs.Parts.{IsLegBetween, SessionValue};

@@ -1,5 +1,5 @@
 //! A queue moved into a file.
-ghost use Rattle.std.specs.Prelude.{◌≡◌, ◌+◌, ◌≤◌, ℕ, true, OnOk, OnErr, IsErr, length, take, pos};
+ghost use Rattle.std.specs.Prelude.{◌≡◌, ◌+◌, ◌≤◌, true, OnOk, OnErr, IsErr, length, pos};
 ghost use Rattle.cf_outq.specs.SendQueue.{IsQueueOf, IsUnacked, piece_letters};
 ghost use Rattle.cf_outside.specs.Faults.{HasCause};
 ghost use Rattle.cf_outside.specs.Files.{KeepsOthers};

@@ -1,8 +1,8 @@
 //! A lane with its queues, fed with the bytes of a client alone.
 ghost use Rattle.std.specs.Prelude.{◌≡◌, ◌+◌, ◌*◌, ◌^◌, ◌<◌, ◌≤◌, ◌++◌, ◌∷◌, ℕ, Bool, List, [], Option, None, true, false, IfOk, OnOk, OnErr, IsErr, length, drop};
-ghost use Rattle.cf_lane.specs.Follows.{Began, BeganWithin, FailsWithin, Follows, IsEndBehindCut, Rests, rest_of, with_rest};
+ghost use Rattle.cf_lane.specs.Follows.{FailsWithin, Follows, IsEndBehindCut, Rests, rest_of, with_rest};
 ghost use Rattle.cf_lane.specs.Handled.{CountsBy, Grows, HasRoom, IsLaneOf, LaneValue, debt, state};
-ghost use Rattle.cf_lane.specs.History.{Element, bytes_at, end_at, letters_at};
+ghost use Rattle.cf_lane.specs.History.{Element, end_at, letters_at};
 ghost use Rattle.cf_lane.specs.Limit.{limit_by};
 ghost use Rattle.cf_outq.specs.SendQueue.{IsQueueOf, after_end, queue_length};
 ghost use Rattle.cf_outside.specs.Faults.{HasCause};
@@ -10,7 +10,7 @@ ghost use Rattle.cf_outside.specs.Files.{KeepsOthers};
 ghost use Rattle.cf_outside.specs.Lines.{ends_with_line, file_lines, file_part};
 ghost use Rattle.cf_policy.specs.Within.{IsAssetWithin};
 ghost use Rattle.cf_stream.specs.Stream.{Stream};
-ghost use Rattle.cf_sift.specs.Sifting.{EndFails, EndsSifting, FeedsPiece, SiftingEndFails, HasGrown, IsReady, MovesFail, PieceFails, rests_of, state_of};
+ghost use Rattle.cf_sift.specs.Sifting.{EndFails, EndsSifting, FeedsPiece, SiftingEndFails, HasGrown, IsReady, MovesFail, PieceFails, rests_of};
 ghost use Rattle.cf_sift.specs.Drained.{Drains};
 ghost use Rattle.cf_sift.specs.Names.{AreApart, sift_names_value, sift_output_names};
 ghost use Rattle.cf_sift.specs.Outputs.{KeepsAllBut};

@@ -1,15 +1,13 @@
 //! A stored stream, taken element by element.
-ghost use Rattle.std.specs.Prelude.{◌≡◌, ◌+◌, ◌^◌, ◌<◌, ◌≤◌, ◌++◌, ◌∷◌, ℕ, List, [], None, true, IfOk, OnOk, OnErr, IsErr, IsErrOf, length};
-ghost use Rattle.cf_lane.specs.History.{Element, bytes_at, end_at};
+ghost use Rattle.std.specs.Prelude.{◌≡◌, ◌+◌, ◌^◌, ◌<◌, ◌≤◌, ◌++◌, ◌∷◌, [], None, true, IfOk, OnOk, OnErr, IsErr, IsErrOf, length};
+ghost use Rattle.cf_lane.specs.History.{bytes_at, end_at};
 ghost use Rattle.cf_outside.specs.Faults.{HasCause};
-ghost use Rattle.cf_outside.specs.Files.{Content};
 ghost use Rattle.cf_outside.specs.Lines.{ends_with_line};
 ghost use Rattle.cf_policy.specs.Within.{IsAssetWithin};
 ghost use Rattle.cf_view.specs.declared.Endpoint.{Endpoint as EndpointOf};
 ghost use Rattle.cf_sift.specs.Sifting.{FailsElement, IsReady, TakesElement};
 ghost use Rattle.cf_sift.specs.Names.{AreApart, sift_names_value, sift_output_names};
 ghost use Rattle.cf_sift.specs.Outputs.{KeepsAllBut};
-ghost use Rattle.cf_sift.specs.Sifted.{ElementFails};
 ghost use Rattle.cf_sift.specs.Taken.{IsTakenWhole, OfEachSifting, ReadStops, WriteStops};
 
 use crate::names::SiftNames;

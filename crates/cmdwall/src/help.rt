@@ -24,6 +24,12 @@ usage:
       other
   cmdwall check POLICY
       reads a policy, and prints its numbers of assets and of all rules
+  cmdwall compare POLICY OTHER
+      says whether POLICY allows only what OTHER allows, and else prints the first act that
+      it allows beyond
+  cmdwall migrate POLICY OUT
+      writes a policy as a document of version 2, in which lists of points that several rules
+      have stand once, as sets: OUT means exactly what POLICY means
   cmdwall packets CAPTURE
       prints a line for each record of a capture: the fields of its TCP segment over IPv4,
       or why it has none
@@ -32,7 +38,7 @@ usage:
   cmdwall --help
   cmdwall --version
 
-CLIENT is an IPv4 address, as 10.0.0.5. POLICY is a text in the policy language
+CLIENT is an IPv4 address, as 10.0.0.5. POLICY and OTHER are texts in the policy language
 (docs/POLICY.md). CAPTURE is a pcap or pcapng file, of Ethernet or raw IP. OUT, REPLIES and
 LOG are created, by world POLICY and CAPTURE too; all names of files differ.
 
@@ -52,6 +58,8 @@ status:
   10  the policy has no asset of that name
   12  a stream is cut, for the printed reason
   13  memory ran out
+  15  POLICY allows what OTHER does not: the asset that OTHER lacks or the act is printed
+  17  the rules of the printed asset are too many to compare
 ";
 
 const SIFT: &str = "\
@@ -85,12 +93,49 @@ reads a policy, and prints 'ok' with its numbers of assets and of all rules
 
 A policy that is refused has status 5, 'policy refused N KEY asset A rule R' on standard
 output, and on standard error the file with line and column, what is wrong, and what is
-allowed. A policy that is read has status 0, and on standard error a warning for each rule
-that no command meets, each code of a rule that none brings, and each rule that an earlier
-one covers.
+allowed. A policy that is read has status 0, and on standard error a warning for each set
+that no rule names or that has the points of another, each rule that no command meets, each
+code of a rule that none brings, and each rule that an earlier one covers.
 
 example:
   cmdwall check examples/pump.toml
+";
+
+const COMPARE: &str = "\
+cmdwall compare POLICY OTHER
+
+says whether POLICY allows only what OTHER allows, for every client and every act, also one
+that no command has
+
+  POLICY   a text in the policy language (docs/POLICY.md)
+  OTHER    another
+
+Standard output has 'included', with status 0; or, with status 15, 'no' and the first asset of
+POLICY that OTHER does not have with the same address, port, protocol, station and master, or
+the first client and act that POLICY allows there and OTHER refuses; or, with status 17, 'too
+many cells' and the asset. Standard error has the rule that allows the act, and what refuses
+it. How often a rule lets commands through plays no part.
+
+examples, of which the first prints an act and the second 'included':
+  cmdwall compare examples/pump.toml examples/pump-narrow.toml
+  cmdwall compare examples/pump-narrow.toml examples/pump.toml
+";
+
+const MIGRATE: &str = "\
+cmdwall migrate POLICY OUT
+
+writes a policy as a document of version 2 that means exactly the same
+
+  POLICY   a text in the policy language (docs/POLICY.md), of either version
+  OUT      is created behind all else, and gets the document: each list of points that two
+           rules have at least is a set, the first 64 of them, named set1, set2 and so on
+
+The two names differ. Comments and layout of POLICY are not kept. Standard output has 'ok'
+with the numbers of assets and of all rules, as check has it.
+
+examples, of which the second prints 'included':
+  cmdwall migrate examples/waterworks.toml new.toml
+  cmdwall compare examples/waterworks.toml new.toml
 ";
 
 const PACKETS: &str = "\
@@ -103,7 +148,7 @@ segment over IPv4, or why it has none
 
 'editcap -F pcap IN OUT' writes other captures as pcap. Where many records are dropped for
 'badsum' or 'badtcpsum', the capture was made on the machine that sent them, and its card
-filled the checksums in later: 'tcprewrite --fixcsum -i IN -o OUT' sets them right.
+filled the checksums in later: record with 'ethtool -K INTERFACE tx off', or on another machine.
 
 example:
   cmdwall packets examples/four.pcap
@@ -123,6 +168,10 @@ runs a policy over a capture of what reached the two ports of the box
 All names of files differ. Standard output has what was counted: records, those dropped, those
 of no session, those for which the table was full, sessions, commands admitted and refused,
 sessions cut.
+
+CAPTURE has what reached the box: the packets of clients and controllers as they came to its two
+ports. In a recording from between two hosts, or of one of them, they acknowledge what the box
+would not have sent, so that little of it counts (docs/RUN.md).
 
 example:
   cmdwall run examples/waterworks.toml examples/waterworks.pcap out.pcap log.txt
@@ -186,6 +235,8 @@ pub enum Asked {
 pub enum Topic {
     Sift,
     Check,
+    Compare,
+    Migrate,
     Packets,
     Run,
     Relay,
@@ -231,6 +282,8 @@ fn topic_of(word: &str) -> Option<Topic> {
     match word {
         "sift" => Some(Topic::Sift),
         "check" => Some(Topic::Check),
+        "compare" => Some(Topic::Compare),
+        "migrate" => Some(Topic::Migrate),
         "packets" => Some(Topic::Packets),
         "run" => Some(Topic::Run),
         "relay" => Some(Topic::Relay),
@@ -249,6 +302,8 @@ pub fn print_topic(rt: &impl Print, topic: Topic) -> io::Result<()> {
     let text = match topic {
         Topic::Sift => SIFT,
         Topic::Check => CHECK,
+        Topic::Compare => COMPARE,
+        Topic::Migrate => MIGRATE,
         Topic::Packets => PACKETS,
         Topic::Run => RUN,
         Topic::Relay => RELAY,

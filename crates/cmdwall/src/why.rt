@@ -1,8 +1,11 @@
 //! What standard error says beside what standard output has. A line that cannot be said changes nothing.
+ghost use Rattle.std.specs.Prelude.{IfSome};
+ghost use Rattle.cf_policy.specs.Within.{IsWithin};
 
 use cf_box::{Command, read_words};
 use cf_explain::{
-    asset_message, capture_message, outputs_message, policy_message, policy_warnings, words_message,
+    PolicyFile, asset_message, capture_message, inclusion_message, outputs_message, policy_message,
+    policy_warnings, words_message,
 };
 use cf_machine::{LinkFault, Part, RealFiles};
 use cf_outside::{WholeFault, read_whole};
@@ -29,6 +32,14 @@ pub fn expect_files<R: FileSystem>(
 ) -> io::Result<()> {
     match command {
         Command::Check { policy } => files.expect(policy),
+        Command::Compare { policy, other } => {
+            files.expect(policy)?;
+            files.expect(other)
+        }
+        Command::Migrate { policy, out } => {
+            files.expect(policy)?;
+            files.expect(out)
+        }
         Command::Packets { capture } => files.expect(capture),
         Command::Run { policy, names } | Command::World { policy, names, .. } => {
             expect_four(files, [policy, names.capture, names.out, names.log])
@@ -85,8 +96,14 @@ fn explain_command<R: FileSystem + Eprint + AllocGlobal>(
             explain_fault(rt, files)?;
             explain_outputs(rt, command)
         }
+        (5, Command::Compare { policy, other }) => {
+            if !explain_policy(rt, policy, files)? {
+                explain_policy(rt, other, files)?;
+            }
+            Ok(())
+        }
         (5, _) => match policy_of(command) {
-            Some(policy) => explain_policy(rt, policy, files),
+            Some(policy) => explain_policy(rt, policy, files).map(|_| ()),
             None => Ok(()),
         },
         (6 | 7, Command::Packets { capture }) => explain_capture(rt, capture, false, files),
@@ -103,6 +120,9 @@ fn explain_command<R: FileSystem + Eprint + AllocGlobal>(
         }
         (12, _) => {
             eprintln!(rt; "cmdwall: the stream is cut; the outputs have what came before the cut")
+        }
+        (15 | 17, Command::Compare { policy, other }) => {
+            explain_inclusion(rt, policy, other, files)
         }
         (13, _) => {
             eprintln!(rt; "cmdwall: memory ran out")?;
@@ -147,7 +167,10 @@ fn explain_link<R: Eprint>(rt: &R, link: Option<&LinkFault>) -> io::Result<()> {
 /// What stands in the files that a command writes.
 fn explain_outputs<R: Eprint + AllocGlobal>(rt: &R, command: &Command<'_>) -> io::Result<()> {
     let message = match command {
-        Command::Check { .. } | Command::Packets { .. } => outputs_message(rt.alloc(), &[])?,
+        Command::Check { .. } | Command::Compare { .. } | Command::Packets { .. } => {
+            outputs_message(rt.alloc(), &[])?
+        }
+        Command::Migrate { out, .. } => outputs_message(rt.alloc(), &[out])?,
         Command::Run { names, .. } => outputs_message(rt.alloc(), &[names.out, names.log])?,
         Command::World { policy, names, .. } => outputs_message(
             rt.alloc(),
@@ -166,6 +189,8 @@ fn policy_of<'a>(command: &Command<'a>) -> Option<&'a str> {
     match command {
         Command::Packets { .. } => None,
         Command::Check { policy }
+        | Command::Compare { policy, .. }
+        | Command::Migrate { policy, .. }
         | Command::Run { policy, .. }
         | Command::World { policy, .. }
         | Command::Relay { policy, .. }
@@ -173,24 +198,28 @@ fn policy_of<'a>(command: &Command<'a>) -> Option<&'a str> {
     }
 }
 
-/// Why a policy is refused. A pipe cannot be read a second time, so no more is said of it.
+/// Why a policy is refused, and whether it is. A pipe cannot be read a second time, so no more is said of it.
 fn explain_policy<R: FileSystem + Eprint + AllocGlobal>(
     rt: &R,
     name: &str,
     files: &mut RealFiles<'_, R>,
-) -> io::Result<()> {
+) -> io::Result<bool> {
     let alloc = rt.alloc();
     let message = match read_whole(alloc, files, name, LONGEST_TEXT as u64) {
         Ok(text) => match read_policy(alloc, &text) {
             Err(PolicyFault::Refused(refusal)) => policy_message(alloc, name, &text, &refusal)?,
-            _ => return Ok(()),
+            _ => return Ok(false),
         },
         Err(WholeFault::TooLong) => policy_message(alloc, name, &[], &TOO_LONG)?,
-        Err(_) => return eprintln!(rt;
-            "cmdwall: {name}: its text cannot be read a second time, so no more is said"
-        ),
+        Err(_) => {
+            eprintln!(rt;
+                "cmdwall: {name}: its text cannot be read a second time, so no more is said"
+            )?;
+            return Ok(false);
+        }
     };
-    eprintln!(rt; "cmdwall: {message}")
+    eprintln!(rt; "cmdwall: {message}")?;
+    Ok(true)
 }
 
 /// The policy of a file and its text, if it can be read a second time.
@@ -198,7 +227,9 @@ fn policy_again<R: FileSystem + AllocGlobal>(
     rt: &R,
     name: &str,
     files: &mut RealFiles<'_, R>,
-) -> Option<(Policy, Vec<u8>)> {
+) -> Option<(Policy, Vec<u8>)>
+    ensures { IfSome result (λ p. IsWithin p.0) }
+{
     let alloc = rt.alloc();
     let text = read_whole(alloc, files, name, LONGEST_TEXT as u64).ok()?;
     let policy = read_policy(alloc, &text).ok()?;
@@ -219,6 +250,33 @@ fn warn<R: FileSystem + Eprint + AllocGlobal>(
         eprintln!(rt; "cmdwall: {line}")?;
     }
     Ok(())
+}
+
+/// Why one policy is not included in another.
+fn explain_inclusion<R: FileSystem + Eprint + AllocGlobal>(
+    rt: &R,
+    name: &str,
+    other_name: &str,
+    files: &mut RealFiles<'_, R>,
+) -> io::Result<()> {
+    let Some((policy, text)) = policy_again(rt, name, files) else {
+        return Ok(());
+    };
+    let Some((other, other_text)) = policy_again(rt, other_name, files) else {
+        return Ok(());
+    };
+    let ours = PolicyFile {
+        name,
+        text: &text,
+        policy: &policy,
+    };
+    let other = PolicyFile {
+        name: other_name,
+        text: &other_text,
+        policy: &other,
+    };
+    let message = inclusion_message(rt.alloc(), &ours, &other)?;
+    eprintln!(rt; "cmdwall: {message}")
 }
 
 /// Which assets a policy has that has none of a name.

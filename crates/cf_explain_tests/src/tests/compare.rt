@@ -1,9 +1,11 @@
-//! Comparisons of two policies, and how many cells the first assets of two have: by hand from what each is said to mean.
+//! Comparisons of two policies, what is said of them, and how many cells the first assets of two have: by hand from what each is said
+//! to mean.
 ghost use Rattle.std.specs.Prelude.{IfOk};
 ghost use Rattle.cf_policy.specs.Within.{IsWithin};
 
 use crate::tests::changes::policy_octets;
 use cf_compare::{cells, compare};
+use cf_explain::{PolicyFile, inclusion_message};
 use cf_policy::Policy;
 use cf_policylang::read_policy;
 use std::alloc::Global;
@@ -106,6 +108,73 @@ poll: [[asset.rule]] / name = "a" / action = "allow" / codes = [3] / groups = ["
 poll: [[asset.rule]] / name = "many" / action = "allow" / codes = [3] / clients = [@addresses] / groups = [@numbers] / points
     = [@numbers] / values = [@numbers] | set: | points: | values: ; - => 1000001"#;
 
+/// A row: the changes of the policies in the files p and q, and why the first is not included in the second.
+pub(super) const REASONS: &str = r#"- ; -
+p allows only what q allows
+
+- ; values: values = ["0..400"]
+p:14:1: asset 1 "pump", rule 2 "set" allows code 6 (write single register), group 0, point 40, value 401 from 0.0.0.0
+  q: asset 1 "pump": no allow rule with its client, code, group and point has the value, so default refuses it
+
+- ; points: points = ["41..49"]
+p:14:1: asset 1 "pump", rule 2 "set" allows code 6 (write single register), group 0, point 40, value 0 from 0.0.0.0
+  q: asset 1 "pump": no allow rule with its client, code and group has the point, so default refuses it
+
+poll: [[asset.rule]] / name = "poll" / action = "allow" / clients = ["10.20.30.40"] / codes = [3] ; poll:
+p:10:1: asset 1 "pump", rule 1 "poll" allows code 3 (read holding registers), group 0, point 0, without a value from 10.20.30.40
+  q: asset 1 "pump": no allow rule has its client, code and group, so default refuses it
+
+- ; poll: [[asset.rule]] / name = "no" / action = "refuse" / codes = [3] / points = ["7"] / [[asset.rule]] / name = "poll" / action = "allow" / codes = [3]
+p:10:1: asset 1 "pump", rule 1 "poll" allows code 3 (read holding registers), group 0, point 7, without a value from 0.0.0.0
+  q:10:1: asset 1 "pump", rule 1 "no" refuses it
+
+values: ; -
+p:14:1: asset 1 "pump", rule 2 "set" allows code 6 (write single register), group 0, point 40, without a value from 0.0.0.0
+  q: asset 1 "pump": no allow rule with its client, code, group and point has the value, so default refuses it
+  no command has this act: a comparison goes over all numbers that rules can name
+
+protocol: protocol = "iec104" | poll: [[asset.rule]] / name = "sp" / action = "allow" / codes = [49] / groups = ["6"] / points = ["7"] / values = ["-5"] ; protocol: protocol = "iec104" | poll:
+p:10:1: asset 1 "pump", rule 1 "sp" allows code 49 (set-point command, scaled value), group 6, point 7, value -5 from 0.0.0.0
+  q: asset 1 "pump": no allow rule has its client, code and group, so default refuses it
+
+protocol: protocol = "dnp3" | master: master = 1 | poll: [[asset.rule]] / name = "read" / action = "allow" / codes = [1] ; protocol: protocol = "dnp3" | master: master = 1 | poll:
+p:10:1: asset 1 "pump", rule 1 "read" allows code 1 (read), group 0, point 0, without a value from 0.0.0.0
+  q: asset 1 "pump": no allow rule has its client, code and group, so default refuses it
+
+- ; name: name = "pomp"
+p: asset 1 "pump" has no partner
+  q: it has no asset of this name
+
+- ; more: [[asset]] / name = "a" / address = "10.0.0.7" / port = 502 / protocol = "modbus" / station = 1 | station: station = 2
+p: asset 1 "pump" has no partner
+  q: asset 2 "pump" has another station
+
+- ; port: port = 503
+p: asset 1 "pump" has no partner
+  q: asset 1 "pump" has another port
+
+poll: [[asset.rule]] / name = "many" / action = "allow" / codes = [3] / clients = [@addresses] / groups = [@numbers] / points = [@numbers] ; -
+p: asset 1 "pump": the ends of the ranges in its rules and in those of q make more than 1000000 cells
+  fewer entries in the rules of one code make fewer"#;
+
+/// Why the first of two policies is not included in the second.
+pub(super) fn reason(alloc: Global, given: &str) -> Result<String, Fail> {
+    let (ours, other) = given.split_once(" ; ").unwrap_or((given, given));
+    let (text, other_text) = (octets(alloc, ours)?, octets(alloc, other)?);
+    let (ours, other) = (policy(alloc, ours)?, policy(alloc, other)?);
+    let ours = PolicyFile {
+        name: "p",
+        text: text.as_slice(),
+        policy: &ours,
+    };
+    let other = PolicyFile {
+        name: "q",
+        text: other_text.as_slice(),
+        policy: &other,
+    };
+    Ok(inclusion_message(alloc, &ours, &other)?)
+}
+
 /// What the comparison of two policies says.
 pub(super) fn compared(alloc: Global, given: &str) -> Result<String, Fail> {
     let (ours, other) = given.split_once(" ; ").unwrap_or((given, given));
@@ -136,10 +205,15 @@ pub(super) fn counted(alloc: Global, given: &str) -> Result<String, Fail> {
 fn policy(alloc: Global, changes: &str) -> Result<Policy, Fail>
     ensures { IfOk result (λ p. IsWithin p) }
 {
+    let text = octets(alloc, changes)?;
+    Ok(read_policy(alloc, text.as_slice())?)
+}
+
+/// Its octets.
+fn octets(alloc: Global, changes: &str) -> Result<Vec<u8>, Fail> {
     let changes = changes.replace(alloc, "@addresses", &entries(alloc, "0.0.0.")?)?;
     let changes = changes.replace(alloc, "@numbers", &entries(alloc, "")?)?;
-    let octets = policy_octets(alloc, LINES, &changes)?;
-    Ok(read_policy(alloc, octets.as_slice())?)
+    policy_octets(alloc, LINES, &changes)
 }
 
 /// Entries of a list, each behind this front, that do not touch.

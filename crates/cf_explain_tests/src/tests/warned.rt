@@ -6,7 +6,7 @@ use std::alloc::Global;
 use std::test::Fail;
 
 /// A policy of one asset, with a word before each line that the rows replace.
-const LINES: &str = r#": version = 1
+const LINES: &str = r#"version: version = 1
 : [[asset]]
 : name = "x"
 : address = "10.0.0.9"
@@ -111,6 +111,28 @@ p:8:1: warning: asset 1 "x", rule 1 "a": no command meets it: code 50 has no val
 protocol: protocol = "iec104" | lists: codes = [1, 100] / groups = ["6"]
 p:8:1: warning: asset 1 "x", rule 1 "a": no command with code 1 meets it: code 1 is not served; codes of IEC 60870-5-104 are 45 to 51,
     58 to 64, 100 to 103, 105, 107 and 110 to 113
+.
+
+version: version = 2 / [[set]] / name = "low" / points = ["1"] | lists: codes = [6] / points = ["@low"]
+.
+
+version: version = 2 / [[set]] / name = "low" / points = ["1"] | lists: codes = [6]
+p:2:1: warning: set 1 "low": no rule names it
+.
+
+version: version = 2 / [[set]] / name = "a" / points = ["1", "4..5"] / [[set]] / name = "b" / points = ["1..1", "4..5"] | lists: codes = [6] / points = ["@b", "@a"]
+p:5:1: warning: set 2 "b": it has the points of set 1 "a"
+.
+
+version: version = 2 / [[set]] / name = "a" / points = ["1", "4"] / [[set]] / name = "b" / points = ["4", "1"] | lists: codes = [6] / points = ["@b", "@a"]
+.
+
+version: version = 2 / [[set]] / name = "a" / points = ["7"] / [[set]] / name = "b" / points = ["7"] / [[set]] / name = "c" / points = ["7"] | lists: codes = [99] / points = ["@c"]
+p:2:1: warning: set 1 "a": no rule names it
+p:5:1: warning: set 2 "b": no rule names it
+p:5:1: warning: set 2 "b": it has the points of set 1 "a"
+p:8:1: warning: set 3 "c": it has the points of set 1 "a"
+p:17:1: warning: asset 1 "x", rule 1 "a": no command meets it: code 99 is not served; codes of Modbus are 1 to 6, 15, 16, 22 and 23
 .
 
 protocol: protocol = "iec104" | lists: codes = [103] / points = ["16777216"]

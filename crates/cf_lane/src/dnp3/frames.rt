@@ -1,5 +1,5 @@
 //! What becomes of a frame.
-ghost use Rattle.std.specs.Prelude.{◌≡◌, ◌+◌, ◌*◌, ◌<◌, [], None, true, false, if◌then◌else◌, IfOk, OnOk, OnErr, IsErr, length};
+ghost use Rattle.std.specs.Prelude.{◌≡◌, ◌+◌, ◌*◌, ◌<◌, [], true, false, if◌then◌else◌, IfOk, OnOk, OnErr, IsErr, length};
 ghost use Rattle.cf_dnplink.specs.LinkFrame.{IsFrame, frame_value};
 ghost use Rattle.cf_outq.specs.SendQueue.{after_push};
 ghost use Rattle.cf_outside.specs.Faults.{HasCause};

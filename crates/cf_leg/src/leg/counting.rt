@@ -1,23 +1,17 @@
 //! How an end takes in a packet of its peer.
-ghost use Rattle.std.specs.Prelude.{◌≡◌, ℕ, ◌+◌, ◌-◌, ◌*◌, ◌%◌, ◌^◌, ◌<◌, ◌≤◌, ◌==◌, min, max, not, nat_lt, nat_le, ◌&&◌, ◌||◌, if◌then◌else◌, true, false, List, [], ◌∷◌, length, None, Some, Ok, Err, IsErr, IfOk, OnOk, pos, negsuc, ◌≤ℤ◌, ◌+ℤ◌};
-ghost use Rattle.cf_outside.specs.Faults.{HasCause};
-ghost use Rattle.cf_outq.specs.SendQueue.{IsQueue, Queue, queue_length};
+ghost use Rattle.std.specs.Prelude.{◌≡◌, ◌+◌, ◌-◌, ◌*◌, ◌%◌, ◌^◌, ◌<◌, ◌≤◌, ◌==◌, max, not, ◌&&◌, ◌||◌, if◌then◌else◌, true, List, [], ◌∷◌, length, pos, negsuc, ◌≤ℤ◌, ◌+ℤ◌};
+ghost use Rattle.cf_outq.specs.SendQueue.{IsQueue};
 ghost use Rattle.cf_outq.specs.SendQueue.{IsQueueOf};
-ghost use Rattle.cf_packet.specs.Packet.{PacketValue, packet_value};
-ghost use Rattle.cf_rebuild.specs.ReceiveWindow.{Consumes, IsWindow, base_of};
+ghost use Rattle.cf_packet.specs.Packet.{packet_value};
+ghost use Rattle.cf_rebuild.specs.ReceiveWindow.{IsWindow, base_of};
 ghost use Rattle.cf_rebuild.specs.ReceiveWindow.{IsWindowOf};
 ghost use Rattle.cf_stream.specs.FirstCopy.{Offer};
 ghost use Rattle.cf_leg.specs.Segment.{letters_in};
-ghost use Rattle.cf_stream.specs.Stream.{Stream, letter_count};
-ghost use Rattle.cf_leg.specs.Calls.{KeepsList, Widens, window_by, Continues, Newly, IsTold, CutOff, origin_as, rst_of, Greeted, IsMade, IsOwn, greeted_as, no_marks, Addressed, Clocked, Counts, Heard, SendsAgain, SendsOldest, Spoken, greeting_of, is_due, is_greeted_phase, leg_opened, end_state_of, queue_counted, queue_opened, rearmed, rises_by};
-ghost use Rattle.cf_leg.specs.Emits.{differs, rst, send_mss, to_tell};
+ghost use Rattle.cf_stream.specs.Stream.{Stream};
+ghost use Rattle.cf_leg.specs.Calls.{KeepsList, Continues, Newly, Counts, Heard, end_state_of, queue_counted, rises_by};
 ghost use Rattle.cf_leg.specs.Heard.{ack_place, text_place};
 ghost use Rattle.cf_stream.specs.Position.{place_or_zero};
-ghost use Rattle.cf_leg.specs.Emitted.{with_segment};
-ghost use Rattle.cf_leg.specs.Event.{LegEvent};
-ghost use Rattle.cf_leg.specs.Timer.{backoff};
-ghost use Rattle.cf_leg.specs.LegValue.{IsLeg, IsLegOf, Marks, LegValue, arms, is_open, marks, told_of, way_at};
-ghost use Rattle.cf_outside.specs.Desk.{DeskValue, KeepsDesk};
+ghost use Rattle.cf_leg.specs.LegValue.{IsLeg, is_open};
 
 use super::{Leg, SECOND};
 use crate::ends::{EndState, LegAnswer};

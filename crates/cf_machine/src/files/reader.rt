@@ -2,7 +2,7 @@
 ghost use Rattle.std.specs.Prelude.{◌≤◌, IfOk, length};
 
 use std::alloc::Global;
-use std::fs::OpenOptions;
+use std::fs::{OpenFile, OpenOptions};
 use std::io;
 use std::io::{BufReader, Read, Seek, SeekFrom};
 use std::rt::Files as FileSystem;
@@ -16,37 +16,59 @@ pub(crate) struct Reader<F: Drop> {
     name: String,
     at: u64,
     file: BufReader<F>,
+    /// It is a pipe, a terminal or another thing whose octets may be waited for.
+    is_live: bool,
 }
 
-/// Reads at a place, by the file that is open if it is this one and stands there.
-pub(crate) fn read_from<R: FileSystem>(
+impl<F: Read + Drop> Reader<F> {
+    /// Whether the next read may wait for octets that are not there yet.
+    fn may_wait(&self) -> bool {
+        self.is_live && self.file.buffer().is_empty()
+    }
+}
+
+/// The file of this name, by the one that is open if it is this one. A read of it may have to wait where the second is true.
+pub(crate) fn opened<R: FileSystem>(
     rt: &R,
     alloc: Global,
-    reader: &mut Option<Reader<R::File>>,
+    kept: &mut Option<Reader<R::File>>,
     name: &str,
+) -> io::Result<(Reader<R::File>, bool)> {
+    let reader = match kept.take() {
+        Some(reader) if reader.name.as_str() == name => reader,
+        _ => open(rt, alloc, name)?,
+    };
+    let may_wait = reader.may_wait();
+    Ok((reader, may_wait))
+}
+
+fn open<R: FileSystem>(rt: &R, alloc: Global, name: &str) -> io::Result<Reader<R::File>> {
+    let file = OpenOptions::new().read(true).open(rt, name)?;
+    let is_live = !file.metadata()?.is_file();
+    Ok(Reader {
+        name: String::from_str(alloc, name)?,
+        at: 0,
+        file: BufReader::with_capacity(alloc, PIECE, file)?,
+        is_live,
+    })
+}
+
+/// Reads at a place. A step back into what was read ahead asks nothing of the file, so that a pipe is read too.
+pub(crate) fn read_from<F: Read + Seek + Drop>(
+    reader: &mut Reader<F>,
     at: u64,
     buf: &mut [u8],
 ) -> io::Result<usize>
     ensures { IfOk result (λ n. n ≤ length buf.new) }
 {
-    let mut opened = match reader.take() {
-        Some(opened) if opened.name.as_str() == name => opened,
-        _ => Reader {
-            name: String::from_str(alloc, name)?,
-            at: 0,
-            file: BufReader::with_capacity(
-                alloc,
-                PIECE,
-                OpenOptions::new().read(true).open(rt, name)?,
-            )?,
-        },
-    };
-    if opened.at != at {
-        opened.at = opened.file.seek(SeekFrom::Start(at))?;
+    if at < reader.at && reader.at - at <= PIECE as u64 {
+        reader.file.seek_relative(-((reader.at - at) as i64))?;
+    } else if at != reader.at {
+        reader.file.seek(SeekFrom::Start(at))?;
     }
-    let count = opened.file.read(buf)?;
-    opened.at = opened.at.saturating_add(count as u64);
-    *reader = Some(opened);
+    reader.at = at;
+    let count = reader.file.read(buf)?;
+    reader.at = at.saturating_add(count as u64);
     Ok(count)
 }
 

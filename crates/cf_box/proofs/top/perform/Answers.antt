@@ -5,6 +5,12 @@ use Rattle.cf_box.proofs.top.perform.Goals as goal
 pub returns-in-Check-clause-meets : goal.returns-in-Check-clause-meets
 returns-in-Check-clause-meets g c = rw c.in-Check.is (c.check.ensures.meets (sink_value g.O.Sink c.args.out.now) (pair_value g.P.Pair c.args.pair.now))
 
+pub returns-in-Compare-clause-meets : goal.returns-in-Compare-clause-meets
+returns-in-Compare-clause-meets g c = rw c.in-Compare.is (c.compare_files.ensures.meets (sink_value g.O.Sink c.args.out.now) (pair_value g.P.Pair c.args.pair.now))
+
+pub returns-in-Migrate-clause-meets : goal.returns-in-Migrate-clause-meets
+returns-in-Migrate-clause-meets g c = rw c.in-Migrate.is (c.migrate.ensures.meets (sink_value g.O.Sink c.args.out.now) (pair_value g.P.Pair c.args.pair.now))
+
 pub returns-in-Packets-clause-meets : goal.returns-in-Packets-clause-meets
 returns-in-Packets-clause-meets g c = rw c.in-Packets.is (c.packets.ensures.meets (pair_value g.P.Pair c.args.pair.now))
 

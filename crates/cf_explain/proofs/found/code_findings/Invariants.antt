@@ -1,7 +1,7 @@
 use Rattle.std.proofs.Common.{◌≡◌, ℕ, ◌<◌, pos, true, [], All}
 use Rattle.std.specs.List.{list_any}
 use Rattle.cf_policy.specs.Verdict.{takes}
-use Rattle.cf_explain.specs.Acts.{kinds}
+use Rattle.cf_acts.specs.Acts.{kinds}
 use Rattle.cf_explain.specs.Meets.{meets}
 use Rattle.cf_explain.specs.Rules.{Holds}
 use Rattle.cf_explain.proofs.found.code_findings.Given as goal

@@ -3,9 +3,8 @@ use Rattle.cf_modbus.proofs.ActLists.{count_of_acts, count_limits}
 use Rattle.cf_modbus.specs.Acts.{acts}
 use Rattle.cf_modbus.specs.Request.{request_value}
 use Rattle.cf_policy.specs.Run.{TakesAnyValue}
-use Rattle.cf_lane.proofs.Runs.{one_has, run_has, said_of_all}
-use Rattle.cf_lane.specs.Rings.{is_spent_by, says_by}
-use Rattle.cf_lane.specs.Run.{HaveVerdict}
+use Rattle.cf_policy.specs.Verdict.{verdict_of}
+use Rattle.cf_lane.proofs.Runs.{one_has, run_has}
 use Rattle.cf_lane.proofs.run.judge_run.Goals as goal
 
 pub overflow_add-result : goal.overflow_add-result
@@ -20,16 +19,11 @@ overflow_add-result-3 c =
 
 pub returns-then-last-i-clause-run : goal.returns-then-last-i-clause-run
 returns-then-last-i-clause-run c = λ client is.
-    one_has (says_by c.args.asset.now client c.args.rules.now c.args.moment) (acts (request_value c.args.request.now)) c.args.i c.args.act.now c.verdict.result c.requires.act (c.verdict.ensures.says client is)
+    one_has (verdict_of c.args.asset.now client) (acts (request_value c.args.request.now)) c.args.i c.args.act.now c.verdict.result c.requires.act (c.verdict.ensures.decides client is)
 
 pub returns-clause-run : goal.returns-clause-run
 returns-clause-run c = λ client is.
-    (let list = acts (request_value c.args.request.now) in
-    let spent = is_spent_by c.args.rules.now.rings.items c.args.moment in
-    let reached = c.verdict_run-verdict.result.1 in
-    let v = c.verdict_run-verdict.result.0 in
-    let have = run_has c.args.asset.now client list c.args.i c.last_of_run-last.result reached c.args.act.now c.args.any_value v c.last_of_run-last.ensures.run
-    (λ yes. subst (TakesAnyValue c.args.asset.now client) (sym c.last_of_run-last.ensures.code) (c.requires.any_value client is.index yes))
-    (c.verdict_run-verdict.ensures.run client is.index) c.verdict_run-verdict.ensures.reaches c.verdict_run-verdict.ensures.stays c.last_of_run-last.ensures.from in
-    subst (HaveVerdict (says_by c.args.asset.now client c.args.rules.now c.args.moment) list c.args.i (c.args.i + (reached - c.args.act.now.point) + 1)) (sym c.said.ensures.said)
-    (said_of_all c.args.asset.now client spent list c.args.i (c.args.i + (reached - c.args.act.now.point) + 1) v have))
+    run_has c.args.asset.now client (acts (request_value c.args.request.now)) c.args.i c.last_of_run-last.result c.verdict_run-verdict.result.1 c.args.act.now c.args.any_value c.verdict_run-verdict.result.0
+    c.last_of_run-last.ensures.run
+    (λ yes. subst (TakesAnyValue c.args.asset.now client) (sym c.last_of_run-last.ensures.code) (c.requires.any_value client is yes))
+    (c.verdict_run-verdict.ensures.run client is) c.verdict_run-verdict.ensures.reaches c.verdict_run-verdict.ensures.stays c.last_of_run-last.ensures.from

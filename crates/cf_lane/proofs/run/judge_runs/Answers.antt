@@ -1,51 +1,12 @@
-use Rattle.std.proofs.Common.{◌∙◌, ◌≤◌, ap, arith, length, refl, sym}
-use Rattle.std.specs.Prelude.{map}
+use Rattle.std.proofs.Common.{arith, eqb-true, length, sym, ◌∙◌, ◌≡◌}
+use Rattle.std.specs.Vec.{vec_len}
 use Rattle.cf_modbus.specs.Acts.{acts}
 use Rattle.cf_modbus.specs.Request.{request_value}
-use Rattle.cf_lane.specs.Acts.{by_refusal, first_refusal, used_by}
-use Rattle.cf_lane.specs.Rates.{rated}
-use Rattle.cf_lane.specs.Ring.{ring_rate}
-use Rattle.cf_lane.specs.Rings.{says_by}
-use Rattle.cf_lane.proofs.Commands.{admitted_at_end, all_used, none_used, refused_at}
-use Rattle.cf_lane.proofs.Runs.{allowed_to, used_to}
+use Rattle.cf_lane.proofs.Unrated.{fate_without_rates}
 use Rattle.cf_lane.proofs.run.judge_runs.Goals as goal
 
-pub loop-i-init : goal.loop-i-init
-loop-i-init c = record {
-  size = refl;
-  inside = omega arith;
-  so_far = λ client is. (refl, none_used (rated c.args.asset.now.rules) (says_by c.args.asset.now client c.args.rules.now c.args.moment) (acts (request_value c.args.request.now)) _ refl);
-}
-
-pub loop-i-preserved : goal.loop-i-preserved
-loop-i-preserved c = record {
-  size = c.mark.ensures.length ∙ c.loop-i.invariant.size;
-  inside = omega (arith, c.judge_run-verdict.ensures.within, c.act_count-count.ensures.count);
-  so_far = λ client is.
-      (let says = says_by c.args.asset.now client c.args.rules.now c.args.moment in
-      let list = acts (request_value c.args.request.now) in
-      let have = c.judge_run-verdict.ensures.run client is in
-      let before = c.loop-i.invariant.so_far client is in (
-        allowed_to says list c.loop-i.i c.judge_run-verdict.result.1 c.in-Allow.number c.judge_run-verdict.result.0 have c.in-Allow.is (omega (arith, c.judge_run-verdict.ensures.more))
-            c.judge_run-verdict.ensures.within before.0,
-        used_to (rated c.args.asset.now.rules) (map ring_rate c.args.rules.now.rings.items) says list c.loop-i.i c.judge_run-verdict.result.1 c.in-Allow.number c.judge_run-verdict.result.0
-            c.loop-i.used c.mark.new.used is.rings have c.in-Allow.is c.judge_run-verdict.ensures.more c.judge_run-verdict.ensures.within c.mark.ensures.marks before.1,
-      ));
-}
-
-pub returns-in-Refuse-clause-fate : goal.returns-in-Refuse-clause-fate
-returns-in-Refuse-clause-fate c = λ client is.
-    (let says = says_by c.args.asset.now client c.args.rules.now c.args.moment in
-    let list = acts (request_value c.args.request.now) in
-    refused_at says list c.loop-i.i c.act_at-act.result c.act_at-act.ensures (c.loop-i.invariant.so_far client is).0 (used_by (rated c.args.asset.now.rules) says list)
-    c.in-Refuse.decider c.in-Refuse.reason
-    (sym c.in-Refuse.is ∙ sym (c.judge_run-verdict.ensures.run client is c.loop-i.i c.act_at-act.result (omega arith) c.judge_run-verdict.ensures.more c.act_at-act.ensures)))
-
-pub returns-clause-fate : goal.returns-clause-fate
-returns-clause-fate c = λ client is.
-    (let says = says_by c.args.asset.now client c.args.rules.now c.args.moment in
-    let list = acts (request_value c.args.request.now) in
-    let so_far = c.loop-i.invariant.so_far client is in
-    let past : length list ≤ c.loop-i.i = omega (arith, c.loop-i-test.false, c.act_count-count.ensures.count) in
-    admitted_at_end says list c.loop-i.i c.loop-i.used past so_far.0
-    ∙ ap (λ used. by_refusal used (first_refusal says list)) (all_used (rated c.args.asset.now.rules) says list c.loop-i.i c.loop-i.used past c.loop-i.invariant.size so_far.1))
+pub returns-then-is_empty-clause-fate : goal.returns-then-is_empty-clause-fate
+returns-then-is_empty-clause-fate c = λ client is.
+    (let rings = c.args.rules.now.rings in
+    let no_ring : length rings.items ≡ 0 = omega (arith, rings.ok.0, eqb-true (vec_len rings) 0 (sym c.if-is_empty.ensures)) in
+    c.judge_unrated_runs.ensures.fate client is.index ∙ fate_without_rates c.args.asset.now client c.args.rules.now c.args.moment (acts (request_value c.args.request.now)) is no_ring)

@@ -27,8 +27,9 @@ returns-in-Err-receive_record-clause-broken g c = λ e before last le all.
 
 pub returns-in-Err-receive_record-clause-stops : goal.returns-in-Err-receive_record-clause-stops
 returns-in-Err-receive_record-clause-stops g c = λ e before last le all.
-    stops_between c.args.assets.now c.args.limit c.args.now (read_record c.args.link.now c.args.bytes.now) c.args.table.now.sessions.items before last le all c.tick_all.new.table.sessions.items
-    (told (g.D.Desk.value c.args.desk.now)) (told (g.D.Desk.value c.tick_all.new.desk)) (told (g.D.Desk.value c.receive_record.new.desk)) c.in-Ok.cuts (ap (λ d. told (g.D.Desk.value d)) (c.in-Err-receive_record.ensures.nothing (ap Err (same_fault c.in-Err-receive_record.fault stepped.NoMemory e)))) c.in-Ok.ensures.ticks
+    stops_between c.args.assets.now c.args.limit c.args.now (read_record c.args.link.now c.args.bytes.now) c.args.table.now.sessions.items before last le all (omega (arith, c.requires.moment.0)) c.tick_all.new.table.sessions.items
+    (told (g.D.Desk.value c.args.desk.now)) (told (g.D.Desk.value c.tick_all.new.desk)) (told (g.D.Desk.value c.receive_record.new.desk)) c.in-Ok.cuts (ap (λ d. told (g.D.Desk.value d)) (c.in-Err-receive_record.ensures.nothing (ap Err (same_fault c.in-Err-receive_record.fault stepped.NoMemory e))))
+    (c.in-Err-receive_record.ensures.beginning (ap Err (same_fault c.in-Err-receive_record.fault stepped.NoMemory e))) c.in-Ok.ensures.ticks
 
 pub returns-in-Err-receive_record-clause-stops_whole : goal.returns-in-Err-receive_record-clause-stops_whole
 returns-in-Err-receive_record-clause-stops_whole g c = λ e. ap (λ d. DeskValue.whole (g.D.Desk.value d)) (c.in-Err-receive_record.ensures.nothing (ap Err (same_fault c.in-Err-receive_record.fault stepped.NoMemory e))) ∙ c.in-Ok.ensures.whole

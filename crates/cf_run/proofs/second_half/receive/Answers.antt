@@ -3,7 +3,7 @@ use Rattle.cf_packet.specs.Packet.{packet_value}
 use Rattle.cf_session.specs.Told.{told}
 use Rattle.cf_run.specs.Entries.{entry_match}
 use Rattle.cf_run.proofs.Matched.{begins_means}
-use Rattle.cf_run.proofs.Packets.{begun, full, outside, went}
+use Rattle.cf_run.proofs.Packets.{begins_there, begun, full, outside, went}
 use Rattle.cf_run.proofs.Faults.{same_fault}
 use Rattle.cf_run.proofs.ReceivedAmid.{begun_breaks, went_breaks}
 use Rattle.cf_run.specs.declared.engine.StepFault.TheVariants as stepped
@@ -43,3 +43,8 @@ pub returns-in-Err-go_on-clause-broken : goal.returns-in-Err-go_on-clause-broken
 returns-in-Err-go_on-clause-broken g c = λ e table ticked all.
     went_breaks c.args.assets.now c.args.limit c.args.now (packet_value c.args.packet.now) c.args.table.now.sessions.items (g.D.Desk.value c.args.desk.now) (g.D.Desk.value c.go_on.new.desk) table ticked all
     c.in-Goes.place c.in-Goes.side (ap (λ xs. entry_match c.args.assets.now xs (packet_value c.args.packet.now)) (sym c.deref.ensures.value) ∙ sym c.match_packet.ensures ∙ c.in-Goes.is) (c.in-Err-go_on.ensures.broken e)
+
+pub returns-in-Err-clause-beginning : goal.returns-in-Err-clause-beginning
+returns-in-Err-clause-beginning g c = λ _.
+    begins_there c.args.assets.now c.args.now (packet_value c.args.packet.now) c.args.table.now.sessions.items c.in-Begins.asset c.in-Begins.closed
+    (ap (λ xs. entry_match c.args.assets.now xs (packet_value c.args.packet.now)) (sym c.deref.ensures.value) ∙ sym c.match_packet.ensures ∙ c.in-Begins.is)

@@ -1,5 +1,6 @@
 use Rattle.std.proofs.Common.{◌≡◌, ◌∷◌, [], ◌+◌, refl, sym, ap, ◌∙◌, subst}
 use Rattle.cf_modbus.specs.Adu.{adu_value, spelling}
+use Rattle.cf_outq.specs.SendQueue.{after_push}
 use Rattle.cf_outside.specs.Desk.{DeskValue}
 use Rattle.cf_lane.specs.Log.{line_about, refusal_line, is_some_bytes, with_lines}
 use Rattle.cf_lane.specs.Modbus.{adu_reply, HasCommandFate}
@@ -28,7 +29,7 @@ returns-in-Admitted-clause-takes g c =
     used c.requires.«open» (subst P c.self.view_is has)
     (subst (λ (x : Fate). RulesGoOn x c.args.moment c.args.self.now.rules c.note.new.self) c.in-Admitted.is
     (subst (λ (l : LaneValue). RulesGoOn f c.args.moment l.rules c.note.new.self) c.self.view_is c.note.ensures))
-    (ap (λ (l : LaneValue). l.admitted + 1) c.self.view_is) (ap (λ (l : LaneValue). l.refused) c.self.view_is) refl c.push_adu.ensures.queue refl
+    (ap (λ (l : LaneValue). l.admitted + 1) c.self.view_is) (ap (λ (l : LaneValue). l.refused) c.self.view_is) refl (c.push_octets.ensures.queue ∙ ap (after_push c.args.to_controller.now) c.requires.octets) refl
 
 pub returns-in_ok-log_refusal-in-Refused-clause-takes : goal.returns-in_ok-log_refusal-in-Refused-clause-takes
 returns-in_ok-log_refusal-in-Refused-clause-takes g c =

@@ -52,7 +52,7 @@ returns-in-Err-clause-stops g c = λ e.
     let input : Input = record { moment = now; packet = read_record c.args.link.now c.args.bytes.now } in
     let old = told (g.D.Desk.value c.args.desk.now) in
     let new = told (g.D.Desk.value c.step_table.new.desk) in
-    let P : List Asset → Type 0 = λ xs. (table : List Session) (last : ℕ) → last + 1 ≤ now → AreAll xs last before.table table → StepStops table input old new in
+    let P : List Asset → Type 0 = λ xs. (table : List Session) (last : ℕ) → last + 1 ≤ now → AreAll xs last before.table table → StepStops xs table input old new in
     let view : c.args.self.now ≡ before = sym c.self.view_is in
     λ events h.
     engine_stops assets now (read_record c.args.link.now c.args.bytes.now) before (subst (λ (x : EngineValue). x.last + 2 ≤ now) view c.requires.later) old new

@@ -1,0 +1,188 @@
+-- A capture that is told and refused, or cut: with what else the work over it can end.
+use Rattle.std.proofs.Common.{◌≡◌, ◌⊎◌, ℕ, List, None, Some, Result, Ok, Err, drop, ap, subst, inl, inr}
+use Rattle.cf_outside.specs.Files.{Content, holds}
+use Rattle.cf_policylang.specs.declared.PolicyRefusal.{PolicyRefusal}
+use Rattle.cf_run.proofs.RecordLists.{one_list, one_timed_list}
+use Rattle.cf_run.specs.Capture.{AreRecords, AtPlace, Clock, Cut, FileEnd, Large, LastPlace, Record, Refused, TooLong}
+use Rattle.cf_run.specs.Form.{first_place, form_of}
+use Rattle.cf_run.specs.Moments.{AreTimed, first_moment}
+use Rattle.cf_run.specs.RunCapture.{HasRecords as HasRunRecords, RunNamesValue}
+use Rattle.cf_run.specs.declared.BlockRefusal.TheVariants as block
+use Rattle.cf_run.specs.declared.Form.{Form}
+use Rattle.cf_run.specs.declared.FormRefusal.{FormRefusal}
+use Rattle.cf_run.specs.declared.FormRefusal.TheVariants as form
+use Rattle.cf_box.specs.Captures.{EndsAt, Refuses}
+use Rattle.cf_box.specs.Command.{Command, Packets, Run}
+use Rattle.cf_box.specs.Ends.{Meets, RefusesPolicy}
+use Rattle.cf_box.specs.Outside.{Outside, ReadFailed, WriteFailed}
+use Rattle.cf_box.specs.Packets.{HasListedRecords, ListingCuts, ListingRefuses}
+use Rattle.cf_box.specs.PolicyFile.{IsRefusedBy, TellsPolicy}
+use Rattle.cf_box.specs.Run.{RunCuts, RunRefuses}
+use Rattle.cf_box.specs.Status.{TellsCutAt, TellsCutCapture, TellsRefusal, TellsRefusedCapture}
+use Rattle.cf_box.specs.declared.ending.CaptureRefusal.{CaptureRefusal}
+use Rattle.cf_box.specs.declared.ending.CaptureRefusal.TheVariants as refusal
+use Rattle.cf_box.specs.declared.ending.Done.{Done}
+use Rattle.cf_box.specs.declared.ending.Stop.{Stop}
+use Rattle.cf_box.specs.declared.ending.Stop.TheVariants as stop
+use Rattle.cf_box.proofs.Complete.{not_refused}
+use Rattle.cf_box.proofs.Statuses.{IsOf, stop_is}
+
+-- the octets of a file have one list of records, so one end
+listing_once : (bytes : List ℕ) (found other : AtPlace) (place there : ℕ) → EndsAt HasListedRecords (holds bytes) found place → EndsAt HasListedRecords (holds bytes) other there → found ≡ other
+listing_once bytes found other place there e g =
+    let here = e.has_form in
+    let also = g.has_form in
+    let same : e.form ≡ g.form = cc in
+    let start = first_place g.form in
+    ap (λ l. l.found) (one_list g.form start (drop start bytes) e.records g.records (record { place = place; found = found }) (record { place = there; found = other })
+    (subst (λ x. AreRecords x (first_place x) (drop (first_place x) bytes) e.records (record { place = place; found = found })) same e.are_records) g.are_records).1
+
+run_once : (bytes : List ℕ) (found other : AtPlace) (place there : ℕ) → EndsAt HasRunRecords (holds bytes) found place → EndsAt HasRunRecords (holds bytes) other there → found ≡ other
+run_once bytes found other place there e g =
+    let here = e.has_form in
+    let also = g.has_form in
+    let same : e.form ≡ g.form = cc in
+    let start = first_place g.form in
+    ap (λ l. l.found) (one_timed_list g.form first_moment start (drop start bytes) e.records g.records (record { place = place; found = found }) (record { place = there; found = other })
+    (subst (λ x. AreTimed x first_moment (first_place x) (drop (first_place x) bytes) e.records (record { place = place; found = found })) same e.are_records) g.are_records).1
+
+-- what refuses a capture
+abbrev Refusing : AtPlace → Type 0
+Refusing TooLong = Unit {0}
+Refusing Clock = Unit {0}
+Refusing Large = Unit {0}
+Refusing (Refused of) = Unit {0}
+Refusing _ = ⊥
+
+module _ (failed : Type 0) (status : ℕ) (before after : Outside) where
+  -- what is due where a write may have failed before
+  abbrev DueBehind : ℕ → Type 0
+  DueBehind n = (status ≡ n) ⊎ (((status ≡ 4) × (WriteFailed before after ⊎ failed)) ⊎ (((status ≡ 3) × ReadFailed before after) ⊎ (status ≡ 13)))
+
+  module _ (Has : Content → Form → List Record → LastPlace → Type 0) (bytes : List ℕ)
+      (once : (found other : AtPlace) (place there : ℕ) → EndsAt Has (holds bytes) found place → EndsAt Has (holds bytes) other there → found ≡ other) where
+    no_form : (of : FormRefusal) (found : AtPlace) (place : ℕ) → form_of bytes ≡ Err of → EndsAt Has (holds bytes) found place → ⊥
+    no_form of found place refused e = let here = e.has_form in cc
+
+    -- a capture that is refused ends in no other way
+    ends_refused : (r : CaptureRefusal) → Refuses Has (holds bytes) r → (found : AtPlace) (place : ℕ) → EndsAt Has (holds bytes) found place → Refusing found
+    ends_refused refusal.Short h found place e = absurd (no_form form.Short found place h e)
+    ends_refused refusal.Magic h found place e = absurd (no_form form.Magic found place h e)
+    ends_refused refusal.Version h found place e = absurd (no_form form.Version found place h e)
+    ends_refused refusal.LinkType h found place e = absurd (no_form form.LinkType found place h e)
+    ends_refused refusal.TooLong h found place e = subst Refusing (once TooLong found h.0 place h.1 e) tt
+    ends_refused refusal.Clock h found place e = subst Refusing (once Clock found h.0 place h.1 e) tt
+    ends_refused refusal.Large h found place e = subst Refusing (once Large found h.0 place h.1 e) tt
+    ends_refused refusal.Block h found place e = subst Refusing (once (Refused block.Block) found h.0 place h.1 e) tt
+    ends_refused refusal.Section (inl h) found place e = absurd (no_form form.Section found place h e)
+    ends_refused refusal.Section (inr h) found place e = subst Refusing (once (Refused block.Section) found h.0 place h.1 e) tt
+    ends_refused refusal.Interface h found place e = subst Refusing (once (Refused block.Interface) found h.0 place h.1 e) tt
+    ends_refused refusal.Resolution h found place e = subst Refusing (once (Refused block.Resolution) found h.0 place h.1 e) tt
+
+    -- what an answer of the work over the capture means of it
+    abbrev EndsBy : Result Done Stop → Type 0
+    EndsBy (Ok d) = (place : ℕ) × EndsAt Has (holds bytes) FileEnd place
+    EndsBy (Err (stop.CaptureRefused r)) = Refuses Has (holds bytes) r
+    EndsBy (Err (stop.CaptureCut place)) = EndsAt Has (holds bytes) Cut place
+    EndsBy (Err (stop.RunCut place summary)) = EndsAt Has (holds bytes) Cut place
+    EndsBy (Err stop.ReadFault) = ReadFailed before after
+    EndsBy (Err stop.WriteFault) = WriteFailed before after
+    EndsBy (Err stop.NoMemory) = Unit {0}
+    EndsBy (Err _) = ⊥
+
+    refused_due : (refused : CaptureRefusal) → Refuses Has (holds bytes) refused → (r : Result Done Stop) → EndsBy r → IsOf r failed status → DueBehind 6
+    refused_due refused is (Ok d) h of = absurd (ends_refused refused is FileEnd h.0 h.1)
+    refused_due refused is (Err (stop.CaptureRefused r)) h of = inl (stop_is failed status (stop.CaptureRefused r) of)
+    refused_due refused is (Err (stop.CaptureCut place)) h of = absurd (ends_refused refused is Cut place h)
+    refused_due refused is (Err (stop.RunCut place summary)) h of = absurd (ends_refused refused is Cut place h)
+    refused_due refused is (Err stop.ReadFault) h of = inr (inr (inl (stop_is failed status stop.ReadFault of, h)))
+    refused_due refused is (Err stop.WriteFault) h of = inr (inl (stop_is failed status stop.WriteFault of, inl h))
+    refused_due refused is (Err stop.NoMemory) h of = inr (inr (inr (stop_is failed status stop.NoMemory of)))
+    refused_due refused is (Err s) h of = absurd h
+
+    cut_due : (cut : ℕ) → EndsAt Has (holds bytes) Cut cut → (r : Result Done Stop) → EndsBy r → IsOf r failed status → DueBehind 7
+    cut_due cut is (Ok d) h of = cc (once FileEnd Cut h.0 cut h.1 is)
+    cut_due cut is (Err (stop.CaptureRefused r)) h of = absurd (ends_refused r h Cut cut is)
+    cut_due cut is (Err (stop.CaptureCut place)) h of = inl (stop_is failed status (stop.CaptureCut place) of)
+    cut_due cut is (Err (stop.RunCut place summary)) h of = inl (stop_is failed status (stop.RunCut place summary) of)
+    cut_due cut is (Err stop.ReadFault) h of = inr (inr (inl (stop_is failed status stop.ReadFault of, h)))
+    cut_due cut is (Err stop.WriteFault) h of = inr (inl (stop_is failed status stop.WriteFault of, inl h))
+    cut_due cut is (Err stop.NoMemory) h of = inr (inr (inr (stop_is failed status stop.NoMemory of)))
+    cut_due cut is (Err s) h of = absurd h
+
+  -- ---- a listing
+
+  module _ (capture bytes : List ℕ) (told : before.files.content capture ≡ holds bytes) where
+    unread_policy : (r : PolicyRefusal) → RefusesPolicy (Packets capture) before r → ⊥
+    unread_policy r (inl cause) = let none = cause.1 in cc
+    unread_policy r (inr (inl cause)) = let none = cause.2 in cc
+    unread_policy r (inr (inr made)) = made
+
+    listing_by : (r : Result Done Stop) → Meets (Packets capture) before after r → EndsBy HasListedRecords bytes r
+    listing_by (Ok d) meets =
+        let l = meets.lists in
+        let at : EndsAt HasListedRecords (before.files.content capture) FileEnd l.last.place = record {
+          form = l.form;
+          has_form = l.has_form;
+          records = l.records;
+          are_records = subst (λ f. HasListedRecords (before.files.content capture) l.form l.records (record { place = l.last.place; found = f })) l.answers.1 l.are_records;
+        } in
+        (l.last.place, subst (λ f. EndsAt HasListedRecords f FileEnd l.last.place) told at)
+    listing_by (Err (stop.CaptureRefused r)) meets = subst (λ f. Refuses HasListedRecords f r) told meets.0.0.0
+    listing_by (Err (stop.CaptureCut place)) meets = subst (λ f. EndsAt HasListedRecords f Cut place) told meets.0.0
+    listing_by (Err (stop.RunCut place summary)) meets = absurd meets.0.0
+    listing_by (Err stop.ReadFault) meets = meets.0
+    listing_by (Err stop.WriteFault) meets = meets.0.0
+    listing_by (Err stop.NoMemory) meets = tt
+    listing_by (Err (stop.PolicyRefused r)) meets = absurd (unread_policy r meets.0)
+    listing_by (Err stop.UnknownAsset) meets = let none = meets.0.2 in cc
+    listing_by (Err stop.LinkFault) meets = absurd meets.0.0
+    listing_by (Err stop.IdleEnd) meets = absurd meets.0.0
+    listing_by (Err (stop.Cut reason)) meets = absurd meets.0.0
+    listing_by (Err (stop.Denied why)) meets = absurd meets.0.0
+    listing_by (Err (stop.TooManyCells name)) meets = absurd meets.0.0
+
+  -- ---- a run
+
+  module _ (policy : List ℕ) (names : RunNamesValue) (known : TellsPolicy (before.files.content policy)) (bytes : List ℕ) (told : before.files.content names.capture ≡ holds bytes) where
+    unrefused : (r : PolicyRefusal) → RefusesPolicy (Run policy names) before r → ⊥
+    unrefused r (inl cause) =
+        let e = cause.1 in
+        let here : cause.0 ≡ policy = cc in
+        not_refused (before.files.content policy) known.bytes known.policy r known.told known.means (subst (λ f. IsRefusedBy (before.files.content f) r) here cause.2)
+    unrefused r (inr (inl cause)) = let none = cause.2 in cc
+    unrefused r (inr (inr made)) = made
+
+    run_by : (r : Result Done Stop) → Meets (Run policy names) before after r → EndsBy HasRunRecords bytes r
+    run_by (Ok d) meets =
+        let r = meets.1.runs.1 in
+        let at : EndsAt HasRunRecords (before.files.content names.capture) FileEnd meets.1.runs.0 =
+        record { form = r.form; has_form = r.has_form; records = r.records; are_records = r.are_records } in
+        (meets.1.runs.0, subst (λ f. EndsAt HasRunRecords f FileEnd meets.1.runs.0) told at)
+    run_by (Err (stop.CaptureRefused r)) meets = subst (λ f. Refuses HasRunRecords f r) told meets.0.0
+    run_by (Err (stop.CaptureCut place)) meets = subst (λ f. EndsAt HasRunRecords f Cut place) told meets.0.0
+    run_by (Err (stop.RunCut place summary)) meets = subst (λ f. EndsAt HasRunRecords f Cut place) told meets.0.0
+    run_by (Err stop.ReadFault) meets = meets.0
+    run_by (Err stop.WriteFault) meets = meets.0.0
+    run_by (Err stop.NoMemory) meets = tt
+    run_by (Err (stop.PolicyRefused r)) meets = absurd (unrefused r meets.0)
+    run_by (Err stop.UnknownAsset) meets = let none = meets.0.3 in cc
+    run_by (Err stop.LinkFault) meets = absurd meets.0.0
+    run_by (Err stop.IdleEnd) meets = absurd meets.0.0
+    run_by (Err (stop.Cut reason)) meets = absurd meets.0.0
+    run_by (Err (stop.Denied why)) meets = absurd meets.0.0
+    run_by (Err (stop.TooManyCells name)) meets = absurd meets.0.0
+
+  -- ---- a line a command that reads a capture
+
+  pub capture_from : (c : Command) → TellsRefusedCapture c before → (r : Result Done Stop) → Meets c before after r → IsOf r failed status → DueBehind 6
+  capture_from (Packets capture) t r meets h =
+      refused_due HasListedRecords t.bytes (listing_once t.bytes) t.refusal t.refuses.0 r (listing_by capture t.bytes t.told r meets) h
+  capture_from (Run policy names) (known, t) r meets h =
+      refused_due HasRunRecords t.bytes (run_once t.bytes) t.refusal t.refuses r (run_by policy names known t.bytes t.told r meets) h
+  capture_from c t r meets h = absurd t
+
+  pub capture_cut_from : (c : Command) → TellsCutCapture c before → (r : Result Done Stop) → Meets c before after r → IsOf r failed status → DueBehind 7
+  capture_cut_from (Packets capture) t r meets h = cut_due HasListedRecords t.bytes (listing_once t.bytes) t.place t.cuts r (listing_by capture t.bytes t.told r meets) h
+  capture_cut_from (Run policy names) (known, t) r meets h = cut_due HasRunRecords t.bytes (run_once t.bytes) t.place t.cuts r (run_by policy names known t.bytes t.told r meets) h
+  capture_cut_from c t r meets h = absurd t

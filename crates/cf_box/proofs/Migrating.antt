@@ -1,0 +1,73 @@
+-- The answer of the writing of a policy, as the answer of the command.
+use Rattle.std.proofs.Common.{◌≡◌, ℕ, List, [], ◌∷◌, Some, Result, Ok, Err, refl, ap, subst, ◌∙◌, inl}
+use Rattle.cf_outside.specs.Faults.{Rose}
+use Rattle.cf_outside.specs.Files.{IsPartly, KeepsOthers, content_after_write}
+use Rattle.cf_policy.specs.declared.Policy.{Policy}
+use Rattle.cf_sift.specs.Outputs.{KeepsAllBut}
+use Rattle.cf_box.specs.Check.{ChangesNothing}
+use Rattle.cf_box.specs.Command.{Migrate}
+use Rattle.cf_box.specs.Ends.{Meets, PassesPolicy}
+use Rattle.cf_box.specs.Migrate.{MigrateLeaves}
+use Rattle.cf_box.specs.Outside.{Outside, ReadsOnly}
+use Rattle.cf_box.specs.PolicyFile.{HasPolicy, StopsPolicy, WritesPolicy}
+use Rattle.cf_box.specs.declared.ending.Done.{Done}
+use Rattle.cf_box.specs.declared.ending.Stop.{Stop}
+use Rattle.cf_box.specs.declared.ending.Stop.TheVariants as stop
+
+-- the policy was not read
+pub unread_leaves : (policy out : List ℕ) (before after : Outside) (s : Stop) → StopsPolicy s → ChangesNothing before after →
+    MigrateLeaves policy out before after s
+unread_leaves policy out before after stop.ReadFault early same = same
+unread_leaves policy out before after (stop.PolicyRefused r) early same = same
+unread_leaves policy out before after stop.NoMemory early same = same
+unread_leaves policy out before after s early same = absurd early
+
+module _ (policy out : List ℕ) (before middle after : Outside) where
+  module _ (p : Policy) (has : HasPolicy (before.files.content policy) p) (only : ReadsOnly before.files middle.files)
+      (others : KeepsOthers out middle.files.content after.files.content) (sink : after.sink ≡ before.sink) (pair : after.pair ≡ before.pair) where
+    kept : KeepsAllBut before.files.content after.files.content (out ∷ [])
+    kept = λ other differs. others other differs ∙ ap (λ f. f other) only.content
+
+    passes : PassesPolicy (Migrate policy out) before
+    passes = record {
+      policy = λ file e. let here : policy ≡ file = cc in (p, subst (λ f. HasPolicy (before.files.content f) p) here has);
+      other = λ file e. cc e;
+      asset = λ file name e f. cc f;
+    }
+
+    -- it was read, and then written with this answer
+    pub written_meets : (r : Result Done Stop) → WritesPolicy p (middle.files.content out) (after.files.content out) r →
+        (r ≡ Err stop.WriteFault → Rose middle.files.write_faults after.files.write_faults) →
+        (r ≡ Err stop.NoMemory → after.files.content ≡ middle.files.content) → Meets (Migrate policy out) before after r
+    written_meets (Ok d) w rose same = record {
+      keeps = record {
+        meaning = p;
+        has = has;
+        holds_text = record {
+          text = w.1.text;
+          means = w.1.means;
+          in_file = w.1.in_file ∙ ap (λ f. content_after_write (f out) w.1.text) only.content;
+        };
+      };
+      counts = w.0;
+      others = kept;
+      sink = sink;
+      pair = pair;
+    }
+    written_meets (Err stop.WriteFault) w rose same = (
+      (inl (subst (λ n. Rose n after.files.write_faults) only.writes (rose refl)), passes),
+      record {
+        meaning = p;
+        has = has;
+        part = record {
+          text = w.text;
+          means = w.means;
+          in_file = subst (λ f. IsPartly w.text (f out) (after.files.content out)) only.content w.in_file;
+        };
+        others = kept;
+        sink = sink;
+        pair = pair;
+      },
+    )
+    written_meets (Err stop.NoMemory) w rose same = (tt, record { content = same refl ∙ only.content; sink = sink; pair = pair })
+    written_meets (Err s) w rose same = absurd w

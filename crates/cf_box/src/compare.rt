@@ -1,0 +1,86 @@
+//! `compare POLICY OTHER`: whether the first policy allows only what the second allows.
+ghost use Rattle.std.specs.Prelude.{◌≡◌, IfSome, Some, map, option_map, slice_get, string_bytes};
+ghost use Rattle.cf_box.specs.Command.{Compare};
+ghost use Rattle.cf_box.specs.Compare.{Says, compare_of};
+ghost use Rattle.cf_box.specs.Ends.{Meets};
+ghost use Rattle.cf_box.specs.Outside.{FilesNeverFall, SinkValue, files_value, outside};
+ghost use Rattle.cf_box.specs.Words.{HasFitWords, command_value};
+ghost use Rattle.cf_outside.specs.PairValue.{PairValue};
+ghost use Rattle.cf_policy.specs.Within.{IsWithin};
+ghost use Rattle.cf_policy.specs.declared.Asset.{Asset};
+
+use crate::command::Command;
+use crate::denial::{AssetName, Denial};
+use crate::ending::{Done, Stop};
+use crate::names::are_names;
+use crate::policy_file::load_policy;
+use cf_compare::{CompareFault, Compared, compare};
+use cf_outside::Files;
+use cf_policy::Policy;
+use std::alloc::Global;
+
+/// The words behind `compare`.
+pub(crate) fn read_compare(words: &[String]) -> Option<Command<'_>>
+    ensures command { option_map command_value result ≡ compare_of (map string_bytes words.now) }
+    ensures fit { IfSome result HasFitWords }
+{
+    let [policy, other] = words else {
+        return None;
+    };
+    let (policy, other) = (policy.as_str(), other.as_str());
+    if !are_names(&[policy, other]) {
+        return None;
+    }
+    Some(Command::Compare { policy, other })
+}
+
+/// Reads both policies, and compares the first with the second. Changes no file.
+pub(crate) fn compare_files<F: Files>(
+    alloc: Global,
+    policy: &str,
+    other: &str,
+    files: &mut F,
+) -> Result<Done, Stop>
+    ensures meets { (sink : SinkValue) (pair : PairValue) → Meets (Compare policy.now other.now)
+        (outside (files_value F.Files files.old) sink pair) (outside (files_value F.Files files.new) sink pair) result }
+    ensures later { FilesNeverFall (files_value F.Files files.old) (files_value F.Files files.new) }
+{
+    let ours = match load_policy(alloc, policy, files) {
+        Ok(ours) => ours,
+        Err(stop) => return Err(stop),
+    };
+    let theirs = match load_policy(alloc, other, files) {
+        Ok(theirs) => theirs,
+        Err(stop) => return Err(stop),
+    };
+    compared(alloc, &ours, &theirs)
+}
+
+/// What is said of two policies.
+fn compared(alloc: Global, ours: &Policy, theirs: &Policy) -> Result<Done, Stop>
+    requires ours { IsWithin ours.now }
+    requires theirs { IsWithin theirs.now }
+    ensures { Says ours.now theirs.now result }
+{
+    match compare(alloc, ours, theirs) {
+        Ok(Compared::Included) => Ok(Done::Included),
+        Ok(Compared::Missing(place)) => Err(Stop::Denied(Denial::NoPartner(name_at(ours, place)))),
+        Ok(Compared::Shown { asset, client, act }) => {
+            let name = name_at(ours, asset);
+            Err(Stop::Denied(Denial::Allows { name, client, act }))
+        }
+        Err(CompareFault::Cells(place)) => Err(Stop::TooManyCells(name_at(ours, place))),
+        Err(CompareFault::NoMemory) => Err(Stop::NoMemory),
+    }
+}
+
+/// The name of the asset at a place of a policy, from 0.
+fn name_at(policy: &Policy, place: u32) -> AssetName
+    ensures { (asset : Asset) → slice_get policy.now.assets place ≡ Some asset → result.bytes ≡ asset.name }
+{
+    let mut text = AssetName::new();
+    if let Some(asset) = policy.assets.as_slice().get(place as usize) {
+        text.push_str(asset.name.as_str());
+    }
+    text
+}

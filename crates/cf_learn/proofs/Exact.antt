@@ -1,0 +1,300 @@
+-- The rules have exactly the acts for which something speaks that was seen.
+use Rattle.std.proofs.Common.{◌≡◌, ℕ, ◌+◌, ◌<◌, ◌≤◌, ◌⊎◌, ◌↔◌, inl, inr, zero, suc, ℤ, pos, int_le, Bool, true, false, ◌&&◌, ◌||◌, ◌==◌, List, [], ◌∷◌, ◌++◌, length, Option, Some, None, refl, sym, ap, subst, ◌∙◌, arith}
+use mathlib.Core.Logic.{⊎_elim}
+use Rattle.std.specs.Prelude.{Contains}
+use Rattle.std.specs.List.{list_any}
+use Rattle.std.specs.Option.{is_some}
+use Rattle.std.specs.Ordering.{int_eq}
+use Rattle.std.specs.Cmp.{both_ways, first_so, second_so}
+use Rattle.std.proofs.lemmas.Int.{ints}
+use Rattle.std.proofs.lemmas.Bool.{false≢true, cases_Bool, cases_lt, or_cases, eqb-true, eq-eqb}
+use Rattle.std.proofs.lemmas.Bool.Decides.{Decides-int_eq}
+use Rattle.std.proofs.lemmas.List.Folds.{Any-from_list_any, list_any-from_Any, list_any-append}
+use Rattle.std.proofs.lemmas.List.Sorted.{list_any-IsPermutation}
+use Rattle.std.proofs.lemmas.Option.{slice_get_within, get_or_from_slice_get}
+use Rattle.cf_view.specs.declared.Act.{Act}
+use Rattle.cf_policy.specs.declared.Span.{Span}
+use Rattle.cf_policy.specs.declared.Rule.{Rule}
+use Rattle.cf_policy.specs.Verdict.{covers, takes, takes_value, has_act}
+use Rattle.cf_policy.specs.Laws.{IsAllowedByRule, HasNoneBefore}
+use Rattle.cf_learn.specs.declared.seen.Kind.{Kind}
+use Rattle.cf_learn.specs.declared.seen.Seen.{Seen}
+use Rattle.cf_learn.specs.declared.runs.Run.{Run}
+use Rattle.cf_learn.specs.Seen.{seen_of, is_same_kind, is_same_value, SpeaksFor, IsSpokenFor, AllowsSeen}
+use Rattle.cf_learn.specs.Rules.{runs_of, run_of, is_next, longer_run, span_of, Part, goes_in, longer_part, part_of, parts_of, whole_span, value_spans, rule_of, numbered_rules, learned_rules, AreLearnedFrom}
+use Rattle.cf_learn.proofs.Gathered.{any_all_gathered}
+
+abbrev value_takes : Option ℤ → Option ℤ → Bool
+value_takes None w = true
+value_takes (Some m) None = false
+value_takes (Some m) (Some n) = int_eq m n
+
+-- kinds that are tested as the same are the same
+value_same : (v w : Option ℤ) → is_same_value v w ≡ true → v ≡ w
+value_same None None h = refl
+value_same None (Some n) h = absurd (false≢true h)
+value_same (Some m) None h = absurd (false≢true h)
+value_same (Some m) (Some n) h = ap Some ((Decides-int_eq m n).0 h)
+
+pub kind_same : (a b : Kind) → is_same_kind a b ≡ true → a ≡ b
+kind_same a b h =
+    let rest = second_so (a.client == b.client) ((a.code == b.code) && ((a.group == b.group) && is_same_value a.value b.value)) h in
+    let more = second_so (a.code == b.code) ((a.group == b.group) && is_same_value a.value b.value) rest in
+    λ i. record {
+      client = eqb-true a.client b.client (first_so (a.client == b.client) ((a.code == b.code) && ((a.group == b.group) && is_same_value a.value b.value)) h) i;
+      code = eqb-true a.code b.code (first_so (a.code == b.code) ((a.group == b.group) && is_same_value a.value b.value) rest) i;
+      group = eqb-true a.group b.group (first_so (a.group == b.group) (is_same_value a.value b.value) more) i;
+      value = value_same a.value b.value (second_so (a.group == b.group) (is_same_value a.value b.value) more) i;
+    }
+
+-- spans and numbers
+covers_from : (low high n : ℕ) → low ≤ n → n ≤ high → covers (record { low = pos low; high = pos high }) (pos n) ≡ true
+covers_from low high n h k = grind (arith, ints)
+
+covers_low : (low high n : ℕ) → covers (record { low = pos low; high = pos high }) (pos n) ≡ true → low ≤ n
+covers_low low high n h = let l = first_so (int_le (pos low) (pos n)) (int_le (pos n) (pos high)) h in omega (arith, ints, l)
+
+covers_high : (low high n : ℕ) → covers (record { low = pos low; high = pos high }) (pos n) ≡ true → n ≤ high
+covers_high low high n h = let l = second_so (int_le (pos low) (pos n)) (int_le (pos n) (pos high)) h in omega (arith, ints, l)
+
+covers_one : (m n : ℕ) → covers (record { low = pos m; high = pos m }) (pos n) ≡ (m == n)
+covers_one m n = both_ways (covers (record { low = pos m; high = pos m }) (pos n)) (m == n)
+    (λ h. let l = covers_low m m n h in let k = covers_high m m n h in eq-eqb m n (omega (arith, l, k)))
+    (λ h. let e = eqb-true m n h in covers_from m m n (omega (arith, e)) (omega (arith, e)))
+
+or_left : (a b : Bool) → a ≡ true → (a || b) ≡ true
+or_left a b h = ap (λ c. c || b) h
+
+or_right : (a b : Bool) → b ≡ true → (a || b) ≡ true
+or_right true b h = refl
+or_right false b h = h
+
+-- one more point at the end of a span
+covers_more : (low high next n : ℕ) → low ≤ high → (next ≡ high) ⊎ (next ≡ high + 1)
+    → covers (record { low = pos low; high = pos next }) (pos n) ≡ (covers (record { low = pos low; high = pos high }) (pos n) || (next == n))
+covers_more low high next n le is =
+    let old = covers (record { low = pos low; high = pos high }) (pos n) in
+    let near : (high ≤ next) × (next ≤ high + 1) = ⊎_elim (λ e. (omega (arith, e), omega (arith, e))) (λ e. (omega (arith, e), omega (arith, e))) is in
+    both_ways (covers (record { low = pos low; high = pos next }) (pos n)) (old || (next == n))
+    (λ h. let l = covers_low low next n h in let k = covers_high low next n h in
+    ⊎_elim
+    (λ yes. or_right old (next == n) yes)
+    (λ lacks. ⊎_elim
+    (λ below. or_left old (next == n) (covers_from low high n l below))
+    (λ above. or_right old (next == n) (eq-eqb next n (omega (arith, near.0, near.1, above, k))))
+    (up_to n high))
+    (cases_Bool (next == n)))
+    (λ h. ⊎_elim
+    (λ yes. let l = covers_low low high n yes in let k = covers_high low high n yes in covers_from low next n l (omega (arith, k, near.0)))
+    (λ yes. let e = eqb-true next n yes in covers_from low next n (omega (arith, e, near.0, le)) (omega (arith, e)))
+    (or_cases old (next == n) h))
+  where
+    up_to : (n high : ℕ) → (n ≤ high) ⊎ (high < n)
+    up_to n high = ⊎_elim (λ lt. inr lt) (λ le. inl le) (cases_lt high n)
+
+both_or : (k a b : Bool) → (k && (a || b)) ≡ ((k && a) || (k && b))
+both_or true a b = refl
+both_or false a b = refl
+
+reorder : (a b c p v : Bool) → (((a && (b && c)) && p) && v) ≡ ((a && (b && (c && v))) && p)
+reorder false b c p v = refl
+reorder true false c p v = refl
+reorder true true false p v = refl
+reorder true true true true true = refl
+reorder true true true true false = refl
+reorder true true true false true = refl
+reorder true true true false false = refl
+
+or_false : (a : Bool) → (a || false) ≡ a
+or_false true = refl
+or_false false = refl
+
+takes_one : (m n : ℕ) → takes (whole_span (pos m) ∷ []) (pos n) ≡ (m == n)
+takes_one m n = or_false (covers (whole_span (pos m)) (pos n)) ∙ covers_one m n
+
+module _ (client : ℕ) (act : Act) where
+  abbrev kind_takes : Kind → Bool
+  kind_takes k = (k.client == client) && ((k.code == act.code) && ((k.group == act.group) && value_takes k.value act.value))
+
+  abbrev seen_has : Seen → Bool
+  seen_has s = kind_takes s.kind && (s.point == act.point)
+
+  abbrev run_has : Run → Bool
+  run_has run = kind_takes run.kind && covers (span_of run) (pos act.point)
+
+  abbrev part_has : Part → Bool
+  part_has part = kind_takes part.kind && takes part.points (pos act.point)
+
+  run_begins : (s : Seen) → ((run_of s).low ≤ (run_of s).high) × (run_has (run_of s) ≡ seen_has s)
+  run_begins s = (omega arith, ap (λ b. kind_takes s.kind && b) (covers_one s.point act.point))
+
+  run_grows : (run : Run) (s : Seen) → run.low ≤ run.high → is_next run s ≡ true → ((longer_run run s).low ≤ (longer_run run s).high) × (run_has (longer_run run s) ≡ (run_has run || seen_has s))
+  run_grows run s le h =
+      let same : run.kind ≡ s.kind = kind_same run.kind s.kind (first_so (is_same_kind run.kind s.kind) ((s.point == run.high) || (s.point == run.high + 1)) h) in
+      let is : (s.point ≡ run.high) ⊎ (s.point ≡ run.high + 1) = ⊎_elim (λ e. inl (eqb-true s.point run.high e)) (λ e. inr (eqb-true s.point (run.high + 1) e))
+      (or_cases (s.point == run.high) (s.point == run.high + 1) (second_so (is_same_kind run.kind s.kind) ((s.point == run.high) || (s.point == run.high + 1)) h)) in (
+        ⊎_elim (λ e. omega (arith, le, e)) (λ e. omega (arith, le, e)) is,
+        ap (λ b. kind_takes run.kind && b) (covers_more run.low run.high s.point act.point le is)
+            ∙ (both_or (kind_takes run.kind) (covers (span_of run) (pos act.point)) (s.point == act.point)
+            ∙ ap (λ k. run_has run || (kind_takes k && (s.point == act.point))) same),
+      )
+
+  part_begins : (run : Run) → (1 ≤ length (part_of run).points) × (part_has (part_of run) ≡ run_has run)
+  part_begins run = (omega arith, ap (λ b. kind_takes run.kind && b) (or_false (covers (span_of run) (pos act.point))))
+
+  takes_more : (points : List Span) (s : Span) (n : ℤ) → 1 ≤ length points → takes (points ++ s ∷ []) n ≡ (takes points n || covers s n)
+  takes_more [] s n some = absurd (omega (arith, some))
+  takes_more (p ∷ points) s n some = list_any-append (λ t. covers t n) (p ∷ points) (s ∷ []) ∙ ap (λ b. takes (p ∷ points) n || b) (or_false (covers s n))
+
+  longer : (points : List Span) (s : Span) → 1 ≤ length (points ++ s ∷ [])
+  longer [] s = omega arith
+  longer (p ∷ points) s = omega arith
+
+  part_grows : (part : Part) (run : Run) → 1 ≤ length part.points → goes_in part run ≡ true → (1 ≤ length (longer_part part run).points) × (part_has (longer_part part run) ≡ (part_has part || run_has run))
+  part_grows part run some h =
+      let same : part.kind ≡ run.kind = kind_same part.kind run.kind (and_first (is_same_kind part.kind run.kind) _ h) in (
+        longer part.points (span_of run),
+        ap (λ b. kind_takes part.kind && b) (takes_more part.points (span_of run) (pos act.point) some)
+            ∙ (both_or (kind_takes part.kind) (takes part.points (pos act.point)) (covers (span_of run) (pos act.point))
+            ∙ ap (λ k. part_has part || (kind_takes k && covers (span_of run) (pos act.point))) same),
+      )
+    where
+      and_first : (a b : Bool) → (a && b) ≡ true → a ≡ true
+      and_first a b h = first_so a b h
+
+  value_is : (v w : Option ℤ) → takes_value (value_spans v) w ≡ value_takes v w
+  value_is None None = refl
+  value_is None (Some n) = refl
+  value_is (Some m) None = refl
+  value_is (Some m) (Some n) =
+      let one = covers (whole_span m) n in
+      or_false one ∙ both_ways one (int_eq m n)
+      (λ h. let l = first_so (int_le m n) (int_le n m) h in let k = second_so (int_le m n) (int_le n m) h in (Decides-int_eq m n).1 (omega (arith, ints, l, k)))
+      (λ h. let e : m ≡ n = (Decides-int_eq m n).0 h in grind (arith, ints))
+
+  rule_has : (number : ℕ) (part : Part) → has_act (rule_of number part) client act ≡ part_has part
+  rule_has number part =
+      let k = part.kind in
+      (λ i. ((takes_one k.client client i && (takes_one k.code act.code i && takes_one k.group act.group i)) && takes part.points (pos act.point)) && value_is k.value act.value i)
+      ∙ reorder (k.client == client) (k.code == act.code) (k.group == act.group) (takes part.points (pos act.point)) (value_takes k.value act.value)
+
+  abbrev has : Rule → Bool
+  has r = has_act r client act
+
+  any_numbered : (number : ℕ) (parts : List Part) → list_any has (numbered_rules number parts) ≡ list_any part_has parts
+  unfolding numbered_rules
+  any_numbered number [] = refl
+  any_numbered number (part ∷ parts) = λ i. rule_has (number + 1) part i || any_numbered (number + 1) parts i
+
+  any_learned : (seen : List Seen) → list_any has (learned_rules seen) ≡ list_any seen_has seen
+  any_learned seen =
+      any_numbered 0 (parts_of (runs_of seen))
+      ∙ (any_all_gathered goes_in longer_part part_of part_has run_has (λ part. 1 ≤ length part.points) part_begins part_grows (runs_of seen)
+      ∙ any_all_gathered is_next longer_run run_of run_has seen_has (λ run. run.low ≤ run.high) run_begins run_grows seen)
+
+  -- a rule in front that does not have the act
+  later : (r : Rule) (rules : List Rule) → has r ≡ false → IsAllowedByRule rules client act → IsAllowedByRule (r ∷ rules) client act
+  later r rules lacks by = record {
+    number = suc by.number;
+    rule = by.rule;
+    here = by.here;
+    allows = by.allows;
+    has = by.has;
+    first = earlier;
+  }
+    where
+      earlier : HasNoneBefore (suc by.number) (r ∷ rules) client act
+      earlier zero q lt at = subst (λ x. has x ≡ false) (let e : r ≡ q = cc in e) lacks
+      earlier (suc k) q lt at = by.first k q (omega arith) at
+
+  -- learned rules all allow
+  by_numbered : (number : ℕ) (parts : List Part) → list_any has (numbered_rules number parts) ≡ true → IsAllowedByRule (numbered_rules number parts) client act
+  unfolding numbered_rules
+  by_numbered number [] h = absurd (false≢true h)
+  by_numbered number (part ∷ parts) h =
+      ⊎_elim
+      (λ yes. record {
+        number = 0;
+        rule = rule_of (number + 1) part;
+        here = refl;
+        allows = refl;
+        has = yes;
+        first = λ j q lt at. absurd (omega (arith, lt));
+      })
+      (λ lacks. later (rule_of (number + 1) part) (numbered_rules (number + 1) parts) lacks
+      (by_numbered (number + 1) parts (sym (ap (λ b. b || list_any has (numbered_rules (number + 1) parts)) lacks) ∙ h)))
+      (cases_Bool (has (rule_of (number + 1) part)))
+
+  any_from : (rules : List Rule) → IsAllowedByRule rules client act → list_any has rules ≡ true
+  any_from rules by = list_any-from_Any has rules (by.number, by.rule, slice_get_within rules by.number by.rule by.here, get_or_from_slice_get rules by.number by.rule by.rule by.here, by.has)
+
+  value_from : (v w : Option ℤ) → value_takes v w ≡ true → (v ≡ None) ⊎ (v ≡ w)
+  value_from None w h = inl refl
+  value_from (Some m) None h = absurd (false≢true h)
+  value_from (Some m) (Some n) h = inr (ap Some ((Decides-int_eq m n).0 h))
+
+  value_to : (v w : Option ℤ) → (v ≡ None) ⊎ (v ≡ w) → value_takes v w ≡ true
+  value_to v w h = ⊎_elim (λ e. ap (λ x. value_takes x w) e) (λ e. ap (λ x. value_takes x w) e ∙ itself w) h
+    where
+      itself : (w : Option ℤ) → value_takes w w ≡ true
+      itself None = refl
+      itself (Some n) = (Decides-int_eq n n).1 refl
+
+  speaks_from : (s : Seen) → seen_has s ≡ true → SpeaksFor s client act
+  speaks_from s h =
+      let k = s.kind in
+      let kind = first_so (kind_takes k) (s.point == act.point) h in
+      let rest = second_so (k.client == client) ((k.code == act.code) && ((k.group == act.group) && value_takes k.value act.value)) kind in
+      let more = second_so (k.code == act.code) ((k.group == act.group) && value_takes k.value act.value) rest in
+      record {
+        client_is = eqb-true k.client client (first_so (k.client == client) ((k.code == act.code) && ((k.group == act.group) && value_takes k.value act.value)) kind);
+        code = eqb-true k.code act.code (first_so (k.code == act.code) ((k.group == act.group) && value_takes k.value act.value) rest);
+        group = eqb-true k.group act.group (first_so (k.group == act.group) (value_takes k.value act.value) more);
+        point = eqb-true s.point act.point (second_so (kind_takes k) (s.point == act.point) h);
+        value = value_from k.value act.value (second_so (k.group == act.group) (value_takes k.value act.value) more);
+      }
+
+  speaks_to : (s : Seen) → SpeaksFor s client act → seen_has s ≡ true
+  speaks_to s h i =
+      (eq-eqb s.kind.client client h.client_is i && (eq-eqb s.kind.code act.code h.code i && (eq-eqb s.kind.group act.group h.group i && value_to s.kind.value act.value h.value i)))
+      && eq-eqb s.point act.point h.point i
+
+  spoken_from : (seen : List Seen) → list_any seen_has seen ≡ true → IsSpokenFor seen client act
+  spoken_from seen h =
+      let a = Any-from_list_any seen_has seen h in
+      record { one = a.1; here = (a.0, a.2, a.3); speaks = speaks_from a.1 a.4 }
+
+  spoken_to : (seen : List Seen) → IsSpokenFor seen client act → list_any seen_has seen ≡ true
+  spoken_to seen h = list_any-from_Any seen_has seen (h.here.0, h.one, h.here.1, h.here.2, speaks_to h.one h.speaks)
+
+  -- where code and group settle whether there is a value, what speaks for an act is the act
+  is_itself : (s : Seen) → (s.kind.code ≡ act.code → s.kind.group ≡ act.group → is_some s.kind.value ≡ is_some act.value) → SpeaksFor s client act → s ≡ seen_of client act
+  is_itself s settled h =
+      let both : is_some s.kind.value ≡ is_some act.value = settled h.code h.group in
+      let value : s.kind.value ≡ act.value = ⊎_elim (λ e. e ∙ sym (is_none act.value (sym both ∙ ap is_some e))) (λ e. e) h.value in
+      λ i. record { kind = record { client = h.client_is i; code = h.code i; group = h.group i; value = value i }; point = h.point i }
+    where
+      is_none : (v : Option ℤ) → is_some v ≡ false → v ≡ None
+      is_none None e = refl
+      is_none (Some n) e = absurd (false≢true (sym e))
+
+pub allows_seen : (seen : List Seen) (rules : List Rule) → AreLearnedFrom seen rules → AllowsSeen seen rules
+allows_seen seen rules are =
+    let spoken : (client : ℕ) (act : Act) → IsAllowedByRule rules client act ↔ IsSpokenFor seen client act = λ client act.
+    let same : list_any (seen_has client act) seen ≡ list_any (seen_has client act) are.sorted = list_any-IsPermutation (seen_has client act) seen are.sorted are.same in
+    let learned : list_any (has client act) rules ≡ list_any (seen_has client act) are.sorted = ap (list_any (has client act)) are.are ∙ any_learned client act are.sorted in (
+      λ h. spoken_from client act seen (same ∙ (sym learned ∙ any_from client act rules h)),
+      λ h. subst (λ l. IsAllowedByRule l client act) (sym are.are) (by_numbered client act 0 (parts_of (runs_of are.sorted))
+          (any_learned client act are.sorted ∙ (sym same ∙ spoken_to client act seen h))),
+    ) in
+    record {
+      spoken = spoken;
+      exact = λ client act settled. (
+        λ h. let s = (spoken client act).0 h in subst (Contains seen) (is_itself client act s.one (settled s.one s.here) s.speaks) s.here,
+        λ h. (spoken client act).1 (record {
+          one = seen_of client act;
+          here = h;
+          speaks = record { client_is = refl; code = refl; group = refl; point = refl; value = inr refl };
+        }),
+      );
+    }

@@ -1,0 +1,10 @@
+mod Adding
+mod Elements
+mod Exact
+mod Flows
+mod Fronts
+mod Gathered
+mod Greatest
+mod Learned
+mod Numbered
+mod Within

@@ -1,0 +1,6 @@
+pub mod Assets
+pub mod Greatest
+pub mod Reading
+pub mod Rules
+pub mod Seen
+pub mod Shown

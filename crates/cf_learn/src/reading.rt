@@ -1,0 +1,317 @@
+//! What flows show of an asset: the acts of the commands with its station and a right form, unit by unit of a client's bytes. Numbers
+//! of IEC 60870-5-104 and whether its transfer was started are not asked.
+ghost use Rattle.std.specs.Prelude.{◌≡◌, ◌≢◌, ◌+◌, ◌^◌, ◌<◌, ◌≤◌, ◌++◌, ◌∷◌, [], ℕ, List, IfOk, IfSome, OnOk, Ok, true, length, map};
+ghost use Rattle.cf_apci.specs.Apdu.{apdu_value};
+ghost use Rattle.cf_asdu.specs.Asdu.{asdu_value};
+ghost use Rattle.cf_dnplink.specs.LinkFrame.{IsFrame, frame_value};
+ghost use Rattle.cf_dnplink.specs.UserOctets.{user_of};
+ghost use Rattle.cf_dnpobj.specs.Fragment.{fragment_value};
+ghost use Rattle.cf_dnptrans.specs.AssemblyValue.{AssemblyValue, IsAssemblyOf};
+ghost use Rattle.cf_dnptrans.specs.Transport.{answer_to};
+ghost use Rattle.cf_lane.specs.Acts.{GivesActs};
+ghost use Rattle.cf_modbus.specs.Adu.{adu_value};
+ghost use Rattle.cf_view.specs.Octets.{IsOctets};
+ghost use Rattle.cf_watch.specs.FlowValue.{flow_value};
+ghost use Rattle.cf_learn.specs.Assets.{AreSeen};
+ghost use Rattle.cf_learn.specs.Reading.{Adds, TakesFront, new_messages};
+ghost use Rattle.cf_learn.specs.Seen.{seen_of};
+ghost use Rattle.cf_learn.specs.Shown.{Asdu, Fragment, HasAct, HaveAct, IsShown, Request, apdu_unit, frame_unit, is_segment, message_in, segment_of};
+
+use crate::seen::Seen;
+use cf_apci::{Apdu, next_apdu};
+use cf_asdu::{act_at as asdu_act, act_count as asdu_acts, read_asdu};
+use cf_dnplink::{Frame, copy_user, next_frame, user_len};
+use cf_dnpobj::{act_at as fragment_act, act_count as fragment_acts, read_fragment};
+use cf_dnptrans::{Assembly, SegmentAnswer};
+use cf_modbus::{Adu, act_at, act_count, next_adu, read_request};
+use cf_policy::{Asset, Protocol};
+use cf_view::{Act, Framed, View};
+use cf_watch::Flow;
+use std::alloc::{AllocError, Global};
+
+/// DIR of a link control octet: towards the asset. IEEE 1815-2012, section 9.2.4.1.
+const DIRECTION: u8 = 0x80;
+/// PRM of a link control octet.
+const PRIMARY: u8 = 0x40;
+/// The link function code of unconfirmed user data, where PRM is set.
+const DATA: u8 = 4;
+
+/// What the flows show of the asset at this place.
+pub(crate) fn seen_in(
+    alloc: Global,
+    asset: &Asset,
+    place: u32,
+    flows: &[Flow],
+) -> Result<Vec<Seen>, AllocError>
+    ensures { IfOk result (λ seen. AreSeen asset.now place (map flow_value flows.now) seen.items) }
+{
+    let mut seen = Vec::new(alloc);
+    for flow in flows {
+        if flow.asset == place {
+            push_bytes(
+                alloc,
+                &mut seen,
+                asset,
+                flow.client.address,
+                flow.bytes.as_slice(),
+            )?;
+        }
+    }
+    Ok(seen)
+}
+
+/// Adds what the bytes of a client to the asset show.
+fn push_bytes(
+    alloc: Global,
+    seen: &mut Vec<Seen>,
+    asset: &Asset,
+    client: u32,
+    bytes: &[u8],
+) -> Result<(), AllocError>
+    ensures adds { OnOk result (Adds asset.now.protocol client (IsShown asset.now bytes.now) seen.old.items seen.new.items) }
+    ensures client { client < 2 ^ 32 }
+{
+    let Ok(mut assembly) = Assembly::new(alloc) else {
+        return Err(AllocError);
+    };
+    let mut at = 0;
+    let mut front = push_front(seen, &mut assembly, asset, client, &View::one(bytes))?;
+    while let Some(used) = front {
+        at += used;
+        front = push_front(seen, &mut assembly, asset, client, &View::one(&bytes[at..]))?;
+    }
+    Ok(())
+}
+
+/// Adds the acts of the unit at the front of bytes, if one is whole, and tells how many octets it takes.
+fn push_front(
+    seen: &mut Vec<Seen>,
+    assembly: &mut Assembly,
+    asset: &Asset,
+    client: u32,
+    bytes: &View<'_>,
+) -> Result<Option<usize>, AllocError>
+    ensures front { (earlier : List (List ℕ)) → IsAssemblyOf assembly.old earlier →
+        IfOk result (TakesFront asset.now client earlier bytes.now.bytes seen.old.items seen.new.items assembly.new) }
+{
+    match asset.protocol {
+        Protocol::Modbus => push_modbus(seen, asset, client, bytes),
+        Protocol::Dnp3 => push_dnp3(seen, assembly, asset, client, bytes),
+        Protocol::Iec104 => push_iec104(seen, asset, client, bytes),
+    }
+}
+
+fn push_modbus(
+    seen: &mut Vec<Seen>,
+    asset: &Asset,
+    client: u32,
+    bytes: &View<'_>,
+) -> Result<Option<usize>, AllocError>
+    requires modbus { asset.now.protocol ≡ Protocol.Modbus }
+    ensures front { (earlier : List (List ℕ)) (assembly : AssemblyValue) → IsAssemblyOf assembly earlier →
+        IfOk result (TakesFront asset.now client earlier bytes.now.bytes seen.old.items seen.new.items assembly) }
+{
+    match next_adu(all(bytes)) {
+        Framed::Unit { unit, used } => {
+            push_adu(seen, asset, client, &unit)?;
+            Ok(Some(used))
+        }
+        Framed::More => Ok(None),
+        Framed::Broken(_) => Ok(None),
+    }
+}
+
+fn push_iec104(
+    seen: &mut Vec<Seen>,
+    asset: &Asset,
+    client: u32,
+    bytes: &View<'_>,
+) -> Result<Option<usize>, AllocError>
+    requires iec104 { asset.now.protocol ≡ Protocol.Iec104 }
+    ensures front { (earlier : List (List ℕ)) (assembly : AssemblyValue) → IsAssemblyOf assembly earlier →
+        IfOk result (TakesFront asset.now client earlier bytes.now.bytes seen.old.items seen.new.items assembly) }
+{
+    match next_apdu(all(bytes)) {
+        Framed::Unit { unit, used } => {
+            push_apdu(seen, asset, client, &unit)?;
+            Ok(Some(used))
+        }
+        Framed::More => Ok(None),
+        Framed::Broken(_) => Ok(None),
+    }
+}
+
+fn push_dnp3(
+    seen: &mut Vec<Seen>,
+    assembly: &mut Assembly,
+    asset: &Asset,
+    client: u32,
+    bytes: &View<'_>,
+) -> Result<Option<usize>, AllocError>
+    requires dnp3 { asset.now.protocol ≡ Protocol.Dnp3 }
+    ensures front { (earlier : List (List ℕ)) → IsAssemblyOf assembly.old earlier →
+        IfOk result (TakesFront asset.now client earlier bytes.now.bytes seen.old.items seen.new.items assembly.new) }
+{
+    match next_frame(all(bytes)) {
+        Framed::Unit { unit, used } => {
+            push_frame(seen, assembly, asset, client, &unit)?;
+            Ok(Some(used))
+        }
+        Framed::More => Ok(None),
+        Framed::Broken(_) => Ok(None),
+    }
+}
+
+/// Adds the acts of the fragment that a frame makes whole, if it makes one.
+fn push_frame(
+    seen: &mut Vec<Seen>,
+    assembly: &mut Assembly,
+    asset: &Asset,
+    client: u32,
+    frame: &Frame<'_>,
+) -> Result<(), AllocError>
+    requires frame { IsFrame (frame_value frame.now) }
+    ensures adds { (earlier : List (List ℕ)) → IsAssemblyOf assembly.old earlier →
+        OnOk result (Adds Protocol.Dnp3 client (HaveAct asset.now (new_messages asset.now earlier (frame_unit (frame_value frame.now)))) seen.old.items seen.new.items) }
+    ensures assembly { (earlier : List (List ℕ)) → IsAssemblyOf assembly.old earlier →
+        OnOk result (IsAssemblyOf assembly.new (segment_of asset.now (frame_unit (frame_value frame.now)) ++ earlier)) }
+{
+    if !is_segment(asset, frame) {
+        return Ok(());
+    }
+    match take_segment(assembly, frame) {
+        SegmentAnswer::Whole => push_fragment(seen, asset, client, &assembly.fragment()),
+        SegmentAnswer::More | SegmentAnswer::Dropped(_) => Ok(()),
+    }
+}
+
+/// Whether a frame of a client carries data for the asset. IEEE 1815-2012, section 9.2.
+fn is_segment(asset: &Asset, frame: &Frame<'_>) -> bool
+    ensures { result ≡ is_segment asset.now (frame_value frame.now) }
+{
+    frame.dest == asset.station
+        && frame.source == asset.master
+        && frame.control / DIRECTION % 2 == 1
+        && frame.control / PRIMARY % 2 == 1
+        && frame.control % 16 == DATA
+}
+
+/// Puts the user octets of a frame to the fragment.
+fn take_segment(assembly: &mut Assembly, frame: &Frame<'_>) -> SegmentAnswer
+    requires { IsFrame (frame_value frame.now) }
+    ensures answer { (earlier : List (List ℕ)) → IsAssemblyOf assembly.old earlier → result ≡ answer_to earlier (user_of frame.now.blocks.bytes) }
+    ensures stands { (earlier : List (List ℕ)) → IsAssemblyOf assembly.old earlier → IsAssemblyOf assembly.new (user_of frame.now.blocks.bytes ∷ earlier) }
+    ensures whole { result ≡ SegmentAnswer.Whole → assembly.new.whole ≡ true }
+{
+    let mut user = [0u8; 250];
+    let len = user_len(frame);
+    copy_user(frame, &mut user[..len]);
+    assembly.segment(View::one(&user[..len]))
+}
+
+/// Adds the acts of a fragment, if it is a command. A confirmation is none.
+fn push_fragment(
+    seen: &mut Vec<Seen>,
+    asset: &Asset,
+    client: u32,
+    octets: &View<'_>,
+) -> Result<(), AllocError>
+    requires { length octets.now.bytes ≤ 2048 }
+    ensures { OnOk result (Adds Protocol.Dnp3 client (HasAct asset.now (Fragment octets.now.bytes)) seen.old.items seen.new.items) }
+{
+    match read_fragment(all(octets)) {
+        Ok(fragment) => {
+            if fragment.code == 0 {
+                return Ok(());
+            }
+            push_acts(
+                seen,
+                client,
+                fragment_acts(&fragment),
+                |i| fragment_act(&fragment, i),
+            )
+        }
+        Err(_) => Ok(()),
+    }
+}
+
+/// Adds the acts of an ADU, if it is a request to the asset's station.
+fn push_adu(
+    seen: &mut Vec<Seen>,
+    asset: &Asset,
+    client: u32,
+    adu: &Adu<'_>,
+) -> Result<(), AllocError>
+    requires { 1 ≤ length adu.now.pdu.bytes }
+    ensures { OnOk result (Adds Protocol.Modbus client (HasAct asset.now (Request (adu_value adu.now))) seen.old.items seen.new.items) }
+{
+    if u16::from(adu.unit) != asset.station {
+        return Ok(());
+    }
+    match read_request(adu) {
+        Ok(request) => push_acts(seen, client, act_count(&request), |i| act_at(&request, i)),
+        Err(_) => Ok(()),
+    }
+}
+
+/// Adds the acts of the ASDU of an APDU, if it has one that is a command to the asset's station.
+fn push_apdu(
+    seen: &mut Vec<Seen>,
+    asset: &Asset,
+    client: u32,
+    apdu: &Apdu<'_>,
+) -> Result<(), AllocError>
+    ensures { OnOk result (Adds Protocol.Iec104 client (HaveAct asset.now (message_in (apdu_unit (apdu_value apdu.now)))) seen.old.items seen.new.items) }
+{
+    match apdu {
+        Apdu::Info { asdu, .. } => push_asdu(seen, asset, client, asdu),
+        Apdu::Ack { .. } => Ok(()),
+        Apdu::Control(_) => Ok(()),
+    }
+}
+
+/// Adds the acts of an ASDU, if it is a command to the asset's station.
+fn push_asdu(
+    seen: &mut Vec<Seen>,
+    asset: &Asset,
+    client: u32,
+    octets: &View<'_>,
+) -> Result<(), AllocError>
+    ensures { OnOk result (Adds Protocol.Iec104 client (HasAct asset.now (Asdu octets.now.bytes)) seen.old.items seen.new.items) }
+{
+    match read_asdu(all(octets)) {
+        Ok(asdu) => {
+            if asdu.station != asset.station {
+                return Ok(());
+            }
+            push_acts(seen, client, asdu_acts(&asdu), |i| asdu_act(&asdu, i))
+        }
+        Err(_) => Ok(()),
+    }
+}
+
+/// The same bytes.
+fn all<'a>(bytes: &View<'a>) -> View<'a>
+    ensures bytes { result.bytes ≡ bytes.now.bytes }
+    ensures octets { IsOctets bytes.now.bytes }
+{
+    bytes.sub(0, bytes.len())
+}
+
+/// Adds so many acts of a client, of which the call gives each by its place.
+fn push_acts<F: Fn(u32) -> Act>(
+    seen: &mut Vec<Seen>,
+    client: u32,
+    count: u32,
+    act_at: F,
+) -> Result<(), AllocError>
+    requires acts { (i : ℕ) → i < count → F.pre act_at i }
+    ensures { (acts : List Act) → length acts ≡ count → GivesActs (F.post act_at) acts →
+        OnOk result (seen.new.items ≡ seen.old.items ++ map (seen_of client) acts) }
+{
+    for i in 0..count {
+        let act = act_at(i);
+        seen.push(Seen::new(client, &act))?;
+    }
+    Ok(())
+}

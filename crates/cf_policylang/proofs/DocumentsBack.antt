@@ -1,0 +1,74 @@
+-- A policy that was written anew is read as it was.
+use Rattle.std.proofs.Common.{◌≡◌, ◌∙◌, ◌≤◌, pos, false, List, [], ◌∷◌, length, map, Some, Ok, ap, refl, arith}
+use Rattle.std.specs.List.{All}
+use Rattle.std.proofs.lemmas.List.Elements.{All-append, All-head, All-map, All-nil, All-tail, All-weaker}
+use Rattle.toml.specs.Data.{integer, array, table, Members, no_members}
+use Rattle.cf_policy.specs.declared.policy.Asset.{Asset}
+use Rattle.cf_policy.specs.declared.policy.Policy.{Policy}
+use Rattle.cf_policy.specs.declared.policy.Rule.{Rule}
+use Rattle.cf_policy.specs.declared.policy.Span.{Span}
+use Rattle.cf_policy.specs.Within.{IsAssetWithin, IsRuleWithin, IsWithin}
+use Rattle.cf_policylang.specs.Assets.{assets_from}
+use Rattle.cf_policylang.specs.declared.fields.Kind.TheVariants as kind
+use Rattle.cf_policylang.specs.declared.refusal.Key.TheVariants as key
+use Rattle.cf_policylang.specs.declared.sets.Edition.TheVariants as edition
+use Rattle.cf_policylang.specs.Documents.{asset_items, document, document_keys, version}
+use Rattle.cf_policylang.specs.Fields.{has_other, stated}
+use Rattle.cf_policylang.specs.Migrating.{all_points, migrated, set_lists}
+use Rattle.cf_policylang.specs.Sets.{sets}
+use Rattle.cf_policylang.specs.Spelling.{asset_table, asset_tables, set_tables, with_key}
+use Rattle.cf_policylang.specs.Tested.{at_document}
+use Rattle.cf_policylang.proofs.AssetsBack.{assets_read}
+use Rattle.cf_policylang.proofs.ListsBack.{and_then_ok, few_read, list_step, some_list}
+use Rattle.cf_policylang.proofs.PointsBack.{IsPointList, lists_kept, naming}
+use Rattle.cf_policylang.proofs.SetsBack.{IsSetList, sets_of, sets_read}
+use Rattle.cf_policylang.proofs.Stated.{Given, built, has_no_other, stated_at}
+
+-- ---- the lists of points of a policy
+
+points_of_rules : (rs : List Rule) → All IsRuleWithin rs → All IsPointList (map (λ r. r.points) rs)
+points_of_rules rs h =
+    All-map IsPointList (λ (r : Rule). r.points) rs
+    (All-weaker IsRuleWithin (λ r. IsPointList r.points) (λ r w. (w.points.count, w.points.each)) rs h)
+
+points_of_assets : (own : List Asset) → All IsAssetWithin own → All IsPointList (all_points own)
+points_of_assets [] h = All-nil IsPointList
+points_of_assets (a ∷ own) h =
+    All-append IsPointList (map (λ r. r.points) a.rules) (all_points own) (points_of_rules a.rules (All-head IsAssetWithin a own h).rules.each)
+    (points_of_assets own (All-tail IsAssetWithin a own h))
+
+lists_of : (p : Policy) → IsWithin p → (length (set_lists p) ≤ 64) × All IsSetList (set_lists p)
+lists_of p h = lists_kept [] (all_points p.assets) (omega arith, All-nil IsSetList) (points_of_assets p.assets h.each)
+
+-- ---- the document
+
+abbrev pub document_given : List (List Span) → List Asset → List Given
+document_given ls own = (key.Asset, Some (array (asset_tables ls own))) ∷ (key.Set, some_list (set_tables ls)) ∷ (key.Version, Some (integer (pos 2))) ∷ []
+
+pub document_built : (p : Policy) → migrated p ≡ built (document_given (set_lists p) p.assets)
+document_built p =
+    let front : Members = with_key key.Version (integer (pos 2)) no_members in
+    ap (with_key key.Asset (array (asset_tables (set_lists p) p.assets))) (list_step key.Set (set_tables (set_lists p)) (let same : front ≡ front = refl in same))
+
+version_read : (ms : Members) → stated key.Version ms ≡ Some (integer (pos 2)) → version ms ≡ Ok edition.Second
+version_read ms e = rw e refl
+
+asset_items_read : (ms : Members) (ls : List (List Span)) (own : List Asset) → length own ≤ 256 → stated key.Asset ms ≡ Some (array (asset_tables ls own))
+    → asset_items ms ≡ Ok (asset_tables ls own)
+asset_items_read ms ls own few e = rw e (few_read (λ (a : Asset). table (asset_table ls a)) kind.Table key.Asset at_document 256 (λ a. refl) own few)
+
+read_with : (ls : List (List Span)) (p : Policy) → IsWithin p → length ls ≤ 64 → All IsSetList ls → document (built (document_given ls p.assets)) ≡ Ok p
+read_with ls p h few all =
+    let gs : List Given = document_given ls p.assets in
+    let ms : Members = built gs in
+    let known : has_other (document_keys edition.Second) (built (document_given ls p.assets)) ≡ false =
+    has_no_other (document_keys edition.Second) (document_given ls p.assets) refl in
+    and_then_ok (version ms) _ edition.Second (Ok p) (version_read ms (stated_at key.Version gs refl))
+    (rw known
+    (and_then_ok (sets ms) _ (sets_of 0 ls) (Ok p) (sets_read ms ls few all (stated_at key.Set gs refl))
+    (and_then_ok (asset_items ms) _ (asset_tables ls p.assets) (Ok p) (asset_items_read ms ls p.assets h.count (stated_at key.Asset gs refl))
+    (and_then_ok (assets_from (naming ls) 0 (asset_tables ls p.assets) []) _ p.assets (Ok p) (assets_read ls few p.assets h) refl))))
+
+-- the table of a policy means that policy
+pub document_read : (p : Policy) → IsWithin p → document (migrated p) ≡ Ok p
+document_read p h = let lists = lists_of p h in ap document (document_built p) ∙ read_with (set_lists p) p h lists.0 lists.1

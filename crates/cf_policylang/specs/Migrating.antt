@@ -1,0 +1,46 @@
+-- A policy as a document of version 2: migrated.
+use Rattle.std.specs.Prelude.{pos, Bool, not, ◌&&◌, nat_lt, if◌then◌else◌, List, [], ◌∷◌, ◌++◌, length, map, flat_map}
+use Rattle.std.specs.List.{list_any}
+use Rattle.toml.specs.Data.{integer, array, Items, Members, no_members}
+use Rattle.cf_policy.specs.declared.policy.Asset.{Asset}
+use Rattle.cf_policy.specs.declared.policy.Policy.{Policy}
+use Rattle.cf_policy.specs.declared.policy.Span.{Span}
+use Rattle.cf_policy.specs.Verdict.{is_empty}
+use Rattle.cf_policylang.specs.declared.refusal.Key.TheVariants as key
+use Rattle.cf_policylang.specs.declared.sets.TheConstants.{MOST_SETS}
+use Rattle.cf_policylang.specs.Spelling.{are_same, asset_tables, set_tables, with_key, with_list}
+
+-- the lists of points of all rules of these assets in their order
+abbrev pub all_points : List Asset → List (List Span)
+all_points assets = flat_map (λ a. map (λ r. r.points) a.rules) assets
+
+abbrev pub has_list : List (List Span) → List Span → Bool
+has_list lists points = list_any (λ l. are_same l points) lists
+
+-- a list gets a set if it is stated and has none, while there is room, and a rule behind has it too
+abbrev pub gets_set : List (List Span) → List Span → List (List Span) → Bool
+gets_set seen points later =
+    nat_lt (length seen) MOST_SETS && (not (is_empty points) && (not (has_list seen points) && has_list later points))
+
+-- the lists that have a set, with this one if it gets one
+abbrev pub with_set : List (List Span) → List Span → List (List Span) → List (List Span)
+with_set seen points later = if gets_set seen points later then seen ++ points ∷ [] else seen
+
+abbrev pub sets_behind : List (List Span) → List (List Span) → List (List Span)
+sets_behind seen [] = seen
+sets_behind seen (points ∷ later) = sets_behind (with_set seen points later) later
+
+-- the different lists that two rules state at least, in the order of the first of them
+abbrev pub set_lists : Policy → List (List Span)
+set_lists policy = sets_behind [] (all_points policy.assets)
+
+-- a document of version 2 that has these sets and assets
+abbrev pub second_document : Items → Items → Members
+second_document sets assets =
+    with_key key.Asset (array assets) (with_list key.Set sets (with_key key.Version (integer (pos 2)) no_members))
+
+-- the policy, with the sets first found and a rule's points by the name of their set
+abbrev pub migrated : Policy → Members
+migrated policy =
+    let lists = set_lists policy in
+    second_document (set_tables lists) (asset_tables lists policy.assets)
