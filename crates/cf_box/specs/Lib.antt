@@ -5,6 +5,7 @@ pub mod Compare
 pub mod Denial
 pub mod Ending
 pub mod Ends
+pub mod Learn
 pub mod Limits
 pub mod Migrate
 pub mod Names
@@ -17,5 +18,6 @@ pub mod Run
 pub mod RunHolds
 pub mod Sift
 pub mod Status
+pub mod Watching
 pub mod Words
 pub mod World
