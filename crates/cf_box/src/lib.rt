@@ -6,6 +6,7 @@ mod command;
 mod compare;
 mod denial;
 mod ending;
+mod laws;
 mod learn;
 mod limits;
 mod migrate;
