@@ -87,6 +87,7 @@ pub(crate) fn learn_capture<F: Files>(
 }
 
 /// The policy that flows make of a policy, or why none is learned.
+#[tactic(auto, using(crate::proofs::Learning::first_named))]
 fn learned(alloc: Global, policy: &Policy, flows: &[Flow]) -> Result<Policy, Stop>
     requires within { IsWithin policy.now }
     ensures { LearnsAs policy.now (map flow_value flows.now) result }
