@@ -1,5 +1,5 @@
 -- A capture that is told and refused, or cut: with what else the work over it can end.
-use Rattle.std.proofs.Common.{◌≡◌, ◌⊎◌, ℕ, List, None, Some, Result, Ok, Err, drop, ap, subst, inl, inr}
+use Rattle.std.proofs.Common.{◌≡◌, ◌⊎◌, ℕ, List, None, Some, Result, Ok, Err, drop, ap, subst, inl, inr, arith}
 use Rattle.cf_outside.specs.Files.{Content, holds}
 use Rattle.cf_policylang.specs.declared.PolicyRefusal.{PolicyRefusal}
 use Rattle.cf_run.proofs.RecordLists.{one_list, one_timed_list}
@@ -12,18 +12,23 @@ use Rattle.cf_run.specs.declared.Form.{Form}
 use Rattle.cf_run.specs.declared.FormRefusal.{FormRefusal}
 use Rattle.cf_run.specs.declared.FormRefusal.TheVariants as form
 use Rattle.cf_box.specs.Captures.{EndsAt, Refuses}
-use Rattle.cf_box.specs.Command.{Command, Packets, Run}
+use Rattle.cf_box.specs.Command.{Command, Learn, Packets, Run}
 use Rattle.cf_box.specs.Ends.{Meets, RefusesPolicy}
 use Rattle.cf_box.specs.Outside.{Outside, ReadFailed, WriteFailed}
 use Rattle.cf_box.specs.Packets.{HasListedRecords, ListingCuts, ListingRefuses}
 use Rattle.cf_box.specs.PolicyFile.{IsRefusedBy, TellsPolicy}
 use Rattle.cf_box.specs.Run.{RunCuts, RunRefuses}
 use Rattle.cf_box.specs.Status.{TellsCutAt, TellsCutCapture, TellsRefusal, TellsRefusedCapture}
+use Rattle.cf_box.specs.Watching.{HasWatched, WatchCuts, WatchRefuses}
 use Rattle.cf_box.specs.declared.ending.CaptureRefusal.{CaptureRefusal}
 use Rattle.cf_box.specs.declared.ending.CaptureRefusal.TheVariants as refusal
 use Rattle.cf_box.specs.declared.ending.Done.{Done}
 use Rattle.cf_box.specs.declared.ending.Stop.{Stop}
 use Rattle.cf_box.specs.declared.ending.Stop.TheVariants as stop
+use Rattle.cf_policy.specs.declared.Policy.{Policy}
+use Rattle.cf_watch.specs.FlowValue.{FlowValue}
+use Rattle.cf_watch.specs.Watch.{EndsAt as IsWatchedUpTo}
+use Rattle.cf_box.proofs.CaptureStops.{listed}
 use Rattle.cf_box.proofs.Complete.{not_refused}
 use Rattle.cf_box.proofs.Statuses.{IsOf, stop_is}
 
@@ -73,6 +78,7 @@ module _ (failed : Type 0) (status : ℕ) (before after : Outside) where
     ends_refused refusal.TooLong h found place e = subst Refusing (once TooLong found h.0 place h.1 e) tt
     ends_refused refusal.Clock h found place e = subst Refusing (once Clock found h.0 place h.1 e) tt
     ends_refused refusal.Large h found place e = subst Refusing (once Large found h.0 place h.1 e) tt
+    ends_refused refusal.Long h found place e = absurd h
     ends_refused refusal.Block h found place e = subst Refusing (once (Refused block.Block) found h.0 place h.1 e) tt
     ends_refused refusal.Section (inl h) found place e = absurd (no_form form.Section found place h e)
     ends_refused refusal.Section (inr h) found place e = subst Refusing (once (Refused block.Section) found h.0 place h.1 e) tt
@@ -140,6 +146,7 @@ module _ (failed : Type 0) (status : ℕ) (before after : Outside) where
     listing_by (Err stop.IdleEnd) meets = absurd meets.0.0
     listing_by (Err (stop.Cut reason)) meets = absurd meets.0.0
     listing_by (Err (stop.Denied why)) meets = absurd meets.0.0
+    listing_by (Err (stop.TooManyRules name)) meets = absurd meets.0.0
     listing_by (Err (stop.TooManyCells name)) meets = absurd meets.0.0
 
   -- ---- a run
@@ -171,7 +178,77 @@ module _ (failed : Type 0) (status : ℕ) (before after : Outside) where
     run_by (Err stop.IdleEnd) meets = absurd meets.0.0
     run_by (Err (stop.Cut reason)) meets = absurd meets.0.0
     run_by (Err (stop.Denied why)) meets = absurd meets.0.0
+    run_by (Err (stop.TooManyRules name)) meets = absurd meets.0.0
     run_by (Err (stop.TooManyCells name)) meets = absurd meets.0.0
+
+  -- ---- what is learned of a capture
+
+  module _ (policy capture out : List ℕ) (known : TellsPolicy (before.files.content policy)) (bytes : List ℕ) (told : before.files.content capture ≡ holds bytes) where
+    means_one : (r : PolicyRefusal) → RefusesPolicy (Learn policy capture out) before r → ⊥
+    means_one r (inl cause) =
+        let e = cause.1 in
+        let here : cause.0 ≡ policy = cc in
+        not_refused (before.files.content policy) known.bytes known.policy r known.told known.means (subst (λ f. IsRefusedBy (before.files.content f) r) here cause.2)
+    means_one r (inr (inl cause)) = let none = cause.2 in cc
+    means_one r (inr (inr made)) = made
+
+    -- a capture that is refused is watched to no other end
+    ends_otherwise : (r : CaptureRefusal) → WatchRefuses (holds bytes) r → (found : AtPlace) (place : ℕ) → IsWatchedUpTo (holds bytes) found place → Refusing found
+    ends_otherwise r (inl (is, long)) found place e = absurd (omega (arith, e.short, long))
+    ends_otherwise r (inr s) found place e = ends_refused HasListedRecords bytes (listing_once bytes) r s.refuses found place (listed (holds bytes) found place e)
+
+    watched_up_to : (p : Policy) (flows : List FlowValue) → HasWatched policy capture before p flows → (place : ℕ) × IsWatchedUpTo (holds bytes) FileEnd place
+    watched_up_to p flows w = (w.has_flows.place, subst (λ f. IsWatchedUpTo f FileEnd w.has_flows.place) told w.has_flows.ends)
+
+    learn_refused : (refused : CaptureRefusal) → WatchRefuses (holds bytes) refused → (r : Result Done Stop) → Meets (Learn policy capture out) before after r →
+        IsOf r failed status → DueBehind 6
+    learn_refused refused is (Ok d) meets h =
+        let l = meets.holds.learns in
+        let w = watched_up_to l.known l.flows l.watched in
+        absurd (ends_otherwise refused is FileEnd w.0 w.1)
+    learn_refused refused is (Err (stop.CaptureRefused r)) meets h = inl (stop_is failed status (stop.CaptureRefused r) h)
+    learn_refused refused is (Err (stop.CaptureCut place)) meets h = absurd (ends_otherwise refused is Cut place (subst (λ f. WatchCuts f place) told meets.0.0))
+    learn_refused refused is (Err stop.ReadFault) meets h = inr (inr (inl (stop_is failed status stop.ReadFault h, meets.0)))
+    learn_refused refused is (Err stop.WriteFault) meets h = inr (inl (stop_is failed status stop.WriteFault h, inl meets.0.0))
+    learn_refused refused is (Err stop.NoMemory) meets h = inr (inr (inr (stop_is failed status stop.NoMemory h)))
+    learn_refused refused is (Err (stop.PolicyRefused r)) meets h = absurd (means_one r meets.0)
+    learn_refused refused is (Err stop.UnknownAsset) meets h = let none = meets.0.3 in cc
+    learn_refused refused is (Err (stop.TooManyRules name)) meets h =
+        let cause = meets.0.0 in
+        let w = watched_up_to cause.0 cause.1 cause.2 in
+        absurd (ends_otherwise refused is FileEnd w.0 w.1)
+    learn_refused refused is (Err (stop.RunCut place summary)) meets h = absurd meets.0.0
+    learn_refused refused is (Err stop.LinkFault) meets h = absurd meets.0.0
+    learn_refused refused is (Err stop.IdleEnd) meets h = absurd meets.0.0
+    learn_refused refused is (Err (stop.Cut reason)) meets h = absurd meets.0.0
+    learn_refused refused is (Err (stop.Denied why)) meets h = absurd meets.0.0
+    learn_refused refused is (Err (stop.TooManyCells name)) meets h = absurd meets.0.0
+
+    not_to_the_end : (cut place : ℕ) → WatchCuts (holds bytes) cut → IsWatchedUpTo (holds bytes) FileEnd place → ⊥
+    not_to_the_end cut place is e = cc (listing_once bytes FileEnd Cut place cut (listed (holds bytes) FileEnd place e) (listed (holds bytes) Cut cut is))
+
+    learn_cut : (cut : ℕ) → WatchCuts (holds bytes) cut → (r : Result Done Stop) → Meets (Learn policy capture out) before after r → IsOf r failed status → DueBehind 7
+    learn_cut cut is (Ok d) meets h =
+        let l = meets.holds.learns in
+        let w = watched_up_to l.known l.flows l.watched in
+        absurd (not_to_the_end cut w.0 is w.1)
+    learn_cut cut is (Err (stop.CaptureRefused r)) meets h = absurd (ends_otherwise r (subst (λ f. WatchRefuses f r) told meets.0.0) Cut cut is)
+    learn_cut cut is (Err (stop.CaptureCut place)) meets h = inl (stop_is failed status (stop.CaptureCut place) h)
+    learn_cut cut is (Err stop.ReadFault) meets h = inr (inr (inl (stop_is failed status stop.ReadFault h, meets.0)))
+    learn_cut cut is (Err stop.WriteFault) meets h = inr (inl (stop_is failed status stop.WriteFault h, inl meets.0.0))
+    learn_cut cut is (Err stop.NoMemory) meets h = inr (inr (inr (stop_is failed status stop.NoMemory h)))
+    learn_cut cut is (Err (stop.PolicyRefused r)) meets h = absurd (means_one r meets.0)
+    learn_cut cut is (Err stop.UnknownAsset) meets h = let none = meets.0.3 in cc
+    learn_cut cut is (Err (stop.TooManyRules name)) meets h =
+        let cause = meets.0.0 in
+        let w = watched_up_to cause.0 cause.1 cause.2 in
+        absurd (not_to_the_end cut w.0 is w.1)
+    learn_cut cut is (Err (stop.RunCut place summary)) meets h = absurd meets.0.0
+    learn_cut cut is (Err stop.LinkFault) meets h = absurd meets.0.0
+    learn_cut cut is (Err stop.IdleEnd) meets h = absurd meets.0.0
+    learn_cut cut is (Err (stop.Cut reason)) meets h = absurd meets.0.0
+    learn_cut cut is (Err (stop.Denied why)) meets h = absurd meets.0.0
+    learn_cut cut is (Err (stop.TooManyCells name)) meets h = absurd meets.0.0
 
   -- ---- a line a command that reads a capture
 
@@ -180,9 +257,11 @@ module _ (failed : Type 0) (status : ℕ) (before after : Outside) where
       refused_due HasListedRecords t.bytes (listing_once t.bytes) t.refusal t.refuses.0 r (listing_by capture t.bytes t.told r meets) h
   capture_from (Run policy names) (known, t) r meets h =
       refused_due HasRunRecords t.bytes (run_once t.bytes) t.refusal t.refuses r (run_by policy names known t.bytes t.told r meets) h
+  capture_from (Learn policy capture out) (known, t) r meets h = learn_refused policy capture out known t.bytes t.told t.refusal t.refuses r meets h
   capture_from c t r meets h = absurd t
 
   pub capture_cut_from : (c : Command) → TellsCutCapture c before → (r : Result Done Stop) → Meets c before after r → IsOf r failed status → DueBehind 7
   capture_cut_from (Packets capture) t r meets h = cut_due HasListedRecords t.bytes (listing_once t.bytes) t.place t.cuts r (listing_by capture t.bytes t.told r meets) h
   capture_cut_from (Run policy names) (known, t) r meets h = cut_due HasRunRecords t.bytes (run_once t.bytes) t.place t.cuts r (run_by policy names known t.bytes t.told r meets) h
+  capture_cut_from (Learn policy capture out) (known, t) r meets h = learn_cut policy capture out known t.bytes t.told t.place t.cuts r meets h
   capture_cut_from c t r meets h = absurd t

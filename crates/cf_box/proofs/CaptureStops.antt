@@ -10,6 +10,7 @@ use Rattle.cf_run.specs.declared.FormRefusal.{FormRefusal}
 use Rattle.cf_run.specs.declared.FormRefusal.TheVariants as form
 use Rattle.cf_run.specs.declared.record_reader.OpenFault.{OpenFault}
 use Rattle.cf_run.specs.declared.record_reader.OpenFault.TheVariants as opened
+use Rattle.cf_watch.specs.Watch.{EndsAt as IsWatchedUpTo}
 use Rattle.cf_box.specs.Captures.{EndsAt, EndsSomewhere, Refuses, block_refusal, form_refusal}
 use Rattle.cf_box.specs.Command.{Packets}
 use Rattle.cf_box.specs.Ends.{Meets, PassesPolicy, StopsFor}
@@ -33,6 +34,10 @@ block_refuses Has file block.Block h = h
 block_refuses Has file block.Section h = inr h
 block_refuses Has file block.Interface h = h
 block_refuses Has file block.Resolution h = h
+
+-- where a watched capture ends, a listing ends too
+pub listed : (file : Content) (found : AtPlace) (place : ℕ) → IsWatchedUpTo file found place → EndsAt HasListedRecords file found place
+listed file found place e = record { form = e.form; has_form = e.has_form; records = e.records; are_records = e.are_records }
 
 -- by no moment
 no_clock : (of : FormRefusal) → form_refusal of ≢ refusal.Clock

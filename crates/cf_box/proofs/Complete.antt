@@ -1,6 +1,6 @@
 -- Where all is in form and nothing fails, the work is done.
 use Rattle.std.proofs.lemmas.Option.{get_or_from_slice_get, slice_get_within}
-use Rattle.std.proofs.Common.{◌≡◌, ◌⊎◌, ℕ, List, All, Some, Result, Ok, Err, drop, refl, sym, subst, ◌∙◌, ap, inl, inr}
+use Rattle.std.proofs.Common.{◌≡◌, ◌⊎◌, ◌≤◌, ℕ, List, All, Some, Result, Ok, Err, drop, length, refl, sym, subst, ◌∙◌, ap, inl, inr, arith}
 use Rattle.cf_outside.specs.Files.{Content, holds, IsWhole}
 use Rattle.cf_run.proofs.RecordLists.{one_list, one_timed_list}
 use Rattle.cf_run.specs.Capture.{AreRecords, AtPlace, Clock, Cut, FileEnd, Large, LastPlace, Record, Refused, TooLong}
@@ -17,14 +17,15 @@ use Rattle.cf_policylang.specs.Documents.{policy_meaning}
 use Rattle.cf_policylang.specs.declared.PolicyRefusal.{PolicyRefusal}
 use Rattle.cf_run.specs.RunCapture.{HasRecords as HasRunRecords}
 use Rattle.cf_box.specs.Captures.{EndsAt, Refuses}
-use Rattle.cf_box.specs.Command.{Command, Check, Compare, Migrate, Packets, Run, Relay, World, Sift, asset_name, capture_file, other_file, policy_file}
+use Rattle.cf_box.specs.Command.{Command, Check, Compare, Learn, Migrate, Packets, Run, Relay, World, Sift, asset_name, capture_file, other_file, policy_file}
 use Rattle.cf_box.specs.Compare.{ExceedsAt, IsNotIncluded}
-use Rattle.cf_box.specs.Ends.{CutsCapture, CutsRun, CutsStream, Denies, EndsIdle, ExceedsCells, LacksAsset, LinkFails, Meets, RefusesCapture, RefusesMadePolicy, RefusesPolicy}
+use Rattle.cf_box.specs.Ends.{CutsCapture, CutsRun, CutsStream, Denies, EndsIdle, ExceedsCells, ExceedsRules, LacksAsset, LinkFails, Meets, RefusesCapture, RefusesMadePolicy, RefusesPolicy}
 use Rattle.cf_box.specs.Outside.{Outside, ReadFailed, WriteFailed}
 use Rattle.cf_box.specs.Packets.{HasListedRecords}
 use Rattle.cf_box.specs.PolicyFile.{HasPolicy, IsRefusedBy, TellsAsset}
 use Rattle.cf_box.specs.Run.{RunCuts, RunRefuses}
 use Rattle.cf_box.specs.Status.{EndsWell, HasInput, HasRecords, HasTimedRecords, HoldsWhatItAsks, NothingFails, TellsMade}
+use Rattle.cf_box.specs.Watching.{WatchCuts, WatchRefuses}
 use Rattle.cf_box.specs.declared.denial.Denial.{Denial}
 use Rattle.cf_box.specs.declared.denial.Denial.TheVariants as denial
 use Rattle.cf_box.specs.declared.ending.CaptureRefusal.{CaptureRefusal}
@@ -32,6 +33,8 @@ use Rattle.cf_box.specs.declared.ending.CaptureRefusal.TheVariants as refusal
 use Rattle.cf_box.specs.declared.ending.Done.{Done}
 use Rattle.cf_box.specs.declared.ending.Stop.{Stop}
 use Rattle.cf_box.specs.declared.ending.Stop.TheVariants as stop
+use Rattle.cf_watch.specs.declared.fault.TheConstants.{CAPTURE_LIMIT}
+use Rattle.cf_box.proofs.CaptureStops.{listed}
 use Rattle.cf_box.proofs.Statuses.{Explains, IsOf, explained, read_failed, write_failed}
 
 -- bytes that are told have one meaning
@@ -79,6 +82,7 @@ module _ (Has : Content → Form → List Record → LastPlace → Type 0) (byte
   not_refused_by refusal.TooLong h = cc (ends TooLong h.0 h.1)
   not_refused_by refusal.Clock h = cc (ends Clock h.0 h.1)
   not_refused_by refusal.Large h = cc (ends Large h.0 h.1)
+  not_refused_by refusal.Long h = h
   not_refused_by refusal.Block h = cc (ends (Refused block.Block) h.0 h.1)
   not_refused_by refusal.Section (inl h) = no_refusal form.Section h
   not_refused_by refusal.Section (inr h) = cc (ends (Refused block.Section) h.0 h.1)
@@ -115,6 +119,14 @@ not_refused_run bytes has r h = not_refused_by HasRunRecords bytes has.0 has.1 (
 pub not_cut_run : (bytes : List ℕ) → HasTimedRecords bytes → (place : ℕ) → RunCuts (holds bytes) place → ⊥
 not_cut_run bytes has place h = not_cut_at HasRunRecords bytes has.0 has.1 (run_ends bytes has) place h
 
+-- a watched capture that is not too long
+not_refused_watch : (bytes : List ℕ) → HasRecords bytes → length bytes ≤ CAPTURE_LIMIT → (r : CaptureRefusal) → WatchRefuses (holds bytes) r → ⊥
+not_refused_watch bytes has short r (inl (is, long)) = omega (arith, short, long)
+not_refused_watch bytes has short r (inr s) = not_refused_by HasListedRecords bytes has.0 has.1 (listing_ends bytes has) r s.refuses
+
+not_cut_watch : (bytes : List ℕ) → HasRecords bytes → (place : ℕ) → WatchCuts (holds bytes) place → ⊥
+not_cut_watch bytes has place h = not_cut_at HasListedRecords bytes has.0 has.1 (listing_ends bytes has) place (listed (holds bytes) Cut place h)
+
 abbrev IsInForm : Command → Outside → Type 0
 IsInForm c before = (file : List ℕ) → capture_file c ≡ Some file → (bytes : List ℕ) × (before.files.content file ≡ holds bytes) × EndsWell c bytes
 
@@ -138,6 +150,13 @@ ends_in_form (Run policy names) before good tells =
     record { refused = λ r h. not_refused_run bytes has r (subst (λ f. RunRefuses f r) told h); cut = uncut; run_cut = uncut }
 ends_in_form (Check policy) before good tells = record { refused = λ r h. h; cut = λ place h. h; run_cut = λ place h. h }
 ends_in_form (Compare policy other) before good tells = record { refused = λ r h. h; cut = λ place h. h; run_cut = λ place h. h }
+ends_in_form (Learn policy capture out) before good tells =
+    let (bytes, told, has) = good capture refl in
+    record {
+      refused = λ r h. not_refused_watch bytes has.0 has.1 r (subst (λ f. WatchRefuses f r) told h);
+      cut = λ place h. not_cut_watch bytes has.0 place (subst (λ f. WatchCuts f place) told h);
+      run_cut = λ place h. h;
+    }
 ends_in_form (Migrate policy out) before good tells = record { refused = λ r h. h; cut = λ place h. h; run_cut = λ place h. h }
 ends_in_form (Relay policy asset port idles log) before good tells = record { refused = λ r h. h; cut = λ place h. h; run_cut = λ place h. h }
 ends_in_form (World seed sessions policy names) before good tells = record { refused = λ r h. tells.1 h; cut = λ place h. tells.1 h; run_cut = λ place h. tells.1 h }
@@ -148,6 +167,7 @@ made_none : (c : Command) (before : Outside) → TellsMade c before → RefusesM
 made_none (World seed sessions policy names) before tells made = tells.0 made
 made_none (Check policy) before tells made = made
 made_none (Compare policy other) before tells made = made
+made_none (Learn policy capture out) before tells made = made
 made_none (Migrate policy out) before tells made = made
 made_none (Packets capture) before tells made = made
 made_none (Run policy names) before tells made = made
@@ -186,6 +206,10 @@ asked_is_small : (c : Command) (before : Outside) (name : List ℕ) → HoldsWha
 asked_is_small (Compare policy other) before name asked d = not_exceeding d.0 d.1 name (asked d.0 d.1 d.2) d.3
 asked_is_small c before name asked d = absurd d
 
+asked_is_room : (c : Command) (before : Outside) (name : List ℕ) → HoldsWhatItAsks c before → ExceedsRules c before name → ⊥
+asked_is_room (Learn policy capture out) before name asked d = asked name d
+asked_is_room c before name asked d = absurd d
+
 module _ (c : Command) (before middle : Outside) (failed : Type 0) (status : ℕ) (input : HasInput c before middle)
     (reads : ReadFailed before middle → ⊥) (writes : WriteFailed before middle → ⊥) (links : LinkFails c before middle.pair → ⊥) (puts : failed → ⊥) where
   in_form : EndsInForm c before
@@ -212,6 +236,7 @@ module _ (c : Command) (before middle : Outside) (failed : Type 0) (status : ℕ
   is_complete (Err stop.IdleEnd) meets h = absurd (input.idle meets.0.0)
   is_complete (Err (stop.Cut reason)) meets h = absurd (input.stream reason meets.0.0)
   is_complete (Err (stop.Denied why)) meets h = absurd (asked_holds c before why input.holds meets.0.0)
+  is_complete (Err (stop.TooManyRules name)) meets h = absurd (asked_is_room c before name.bytes input.holds meets.0.0)
   is_complete (Err (stop.TooManyCells name)) meets h = absurd (asked_is_small c before name.bytes input.holds meets.0.0)
 
 -- what the pair gives is the same at the answer and at the end

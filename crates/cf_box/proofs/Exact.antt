@@ -15,9 +15,10 @@ use Rattle.cf_policy.specs.declared.Asset.{Asset}
 use Rattle.cf_policy.specs.declared.Policy.{Policy}
 use Rattle.cf_policylang.specs.Documents.{policy_meaning}
 use Rattle.cf_policylang.specs.declared.PolicyRefusal.{PolicyRefusal}
-use Rattle.cf_box.specs.Command.{Command, Check, Compare, Migrate, Packets, Run, Relay, World, Sift, asset_name, other_file, policy_file}
+use Rattle.cf_box.specs.Command.{Command, Check, Compare, Learn, Migrate, Packets, Run, Relay, World, Sift, asset_name, other_file, policy_file}
 use Rattle.cf_box.specs.Compare.{IsIncluded, OfPolicies, TellsNotIncluded}
 use Rattle.cf_box.specs.Ends.{Does, LacksAsset, Meets, PassesPolicy, RefusesMadePolicy, RefusesPolicy}
+use Rattle.cf_box.specs.Learn.{Learns}
 use Rattle.cf_box.specs.Outside.{Outside, ReadFailed, WriteFailed}
 use Rattle.cf_box.specs.PolicyFile.{FindsAsset, HasPolicy, IsRefusedBy, StopsPolicy, TellsAsset}
 use Rattle.cf_sift.specs.Laws.{HasOneCut}
@@ -57,6 +58,13 @@ does_pass before after (Migrate policy out) d m =
       other = λ file e. cc e;
       asset = λ file name e f. cc f;
     }
+does_pass before after (Learn policy capture out) d m =
+    let l : Learns policy capture before m.holds.learned = m.holds.learns in
+    record {
+      policy = λ file e. let same : policy ≡ file = cc in (l.known, subst (λ f. HasPolicy (before.files.content f) l.known) same l.watched.has_policy);
+      other = λ file e. cc e;
+      asset = λ file name e f. cc f;
+    }
 does_pass before after (Packets capture) d m = record { policy = λ file e. cc e; other = λ file e. cc e; asset = λ file name e f. cc e }
 does_pass before after (Run policy names) d m = record {
   policy = λ file e. let same : policy ≡ file = cc in (m.1.policy, subst (λ f. HasPolicy (before.files.content f) m.1.policy) same m.1.has);
@@ -73,6 +81,7 @@ made_unread : (c : Command) (before : Outside) (file : List ℕ) → policy_file
 made_unread (World seed sessions policy names) before file e made = cc e
 made_unread (Check policy) before file e made = made
 made_unread (Compare policy second) before file e made = made
+made_unread (Learn policy capture out) before file e made = made
 made_unread (Migrate policy out) before file e made = made
 made_unread (Packets capture) before file e made = made
 made_unread (Run policy names) before file e made = made
@@ -137,6 +146,7 @@ module _ (failed : Type 0) (status : ℕ) (before after : Outside) where
     refused_from (Err stop.IdleEnd) meets h = absurd (not_passed meets.0.1)
     refused_from (Err (stop.Cut reason)) meets h = absurd (not_passed meets.0.1)
     refused_from (Err (stop.Denied why)) meets h = absurd (not_passed meets.0.1)
+    refused_from (Err (stop.TooManyRules name)) meets h = absurd (not_passed meets.0.1)
     refused_from (Err (stop.TooManyCells name)) meets h = absurd (not_passed meets.0.1)
 
   module _ (c : Command) (t : TellsNoAsset c before) where
@@ -165,6 +175,7 @@ module _ (failed : Type 0) (status : ℕ) (before after : Outside) where
     unknown_from (Err stop.IdleEnd) meets h = absurd (not_found meets.0.1)
     unknown_from (Err (stop.Cut reason)) meets h = absurd (not_found meets.0.1)
     unknown_from (Err (stop.Denied why)) meets h = absurd (not_found meets.0.1)
+    unknown_from (Err (stop.TooManyRules name)) meets h = absurd (not_found meets.0.1)
     unknown_from (Err (stop.TooManyCells name)) meets h = absurd (not_found meets.0.1)
 
   -- what is due where a write may have failed before
@@ -211,6 +222,7 @@ module _ (failed : Type 0) (status : ℕ) (before after : Outside) where
     cut_from (Err stop.IdleEnd) meets h = absurd meets.0.0
     cut_from (Err (stop.Cut reason)) meets h = inl (stop_is failed status (stop.Cut reason) h)
     cut_from (Err (stop.Denied why)) meets h = absurd meets.0.0
+    cut_from (Err (stop.TooManyRules name)) meets h = absurd meets.0.0
     cut_from (Err (stop.TooManyCells name)) meets h = absurd meets.0.0
 
   module _ (law : HasOneJudgement) (file name : List ℕ) (port idles : ℕ) (log : List ℕ) (t : TellsRelay file name before after.pair) where
@@ -269,6 +281,7 @@ module _ (failed : Type 0) (status : ℕ) (before after : Outside) where
     relay_cut_from reason cut (Err stop.IdleEnd) meets h = absurd (not_cut_stop reason cut stop.IdleEnd tt idle_is_late meets.1)
     relay_cut_from reason cut (Err (stop.Cut other)) meets h = inl (stop_is failed status (stop.Cut other) h)
     relay_cut_from reason cut (Err (stop.Denied why)) meets h = absurd meets.0.0
+    relay_cut_from reason cut (Err (stop.TooManyRules name)) meets h = absurd meets.0.0
     relay_cut_from reason cut (Err (stop.TooManyCells name)) meets h = absurd meets.0.0
 
     -- nor did one go on that answered so
@@ -299,12 +312,14 @@ module _ (failed : Type 0) (status : ℕ) (before after : Outside) where
         let cuts = c.cuts in
         absurd (cc)
     relay_idle_from uncut idle (Err (stop.Denied why)) meets h = absurd meets.0.0
+    relay_idle_from uncut idle (Err (stop.TooManyRules name)) meets h = absurd meets.0.0
     relay_idle_from uncut idle (Err (stop.TooManyCells name)) meets h = absurd meets.0.0
 
   -- answers that end in too many Idle: a line a command
   idle_from : HasOneJudgement → (c : Command) → TellsIdle c before after.pair → (r : Result Done Stop) → Meets c before after r → IsOf r failed status → DueIdle
   idle_from law (Check policy) t r meets h = absurd t
   idle_from law (Compare policy second) t r meets h = absurd t
+  idle_from law (Learn policy capture out) t r meets h = absurd t
   idle_from law (Migrate policy out) t r meets h = absurd t
   idle_from law (Packets capture) t r meets h = absurd t
   idle_from law (Run policy names) t r meets h = absurd t
@@ -316,6 +331,7 @@ module _ (failed : Type 0) (status : ℕ) (before after : Outside) where
   stream_from : HasOneCut → HasOneJudgement → (c : Command) → TellsCut c before after.pair → (r : Result Done Stop) → Meets c before after r → IsOf r failed status → DueWritten
   stream_from one judgement (Check policy) t r meets h = absurd t
   stream_from one judgement (Compare policy second) t r meets h = absurd t
+  stream_from one judgement (Learn policy capture out) t r meets h = absurd t
   stream_from one judgement (Migrate policy out) t r meets h = absurd t
   stream_from one judgement (Packets capture) t r meets h = absurd t
   stream_from one judgement (Run policy names) t r meets h = absurd t
@@ -361,6 +377,7 @@ module _ (failed : Type 0) (status : ℕ) (before after : Outside) where
     denied_from (Err stop.IdleEnd) meets h = absurd meets.0.0
     denied_from (Err (stop.Cut reason)) meets h = absurd meets.0.0
     denied_from (Err (stop.Denied why)) meets h = inl (inl (stop_is failed status (stop.Denied why) h))
+    denied_from (Err (stop.TooManyRules name)) meets h = absurd meets.0.0
     denied_from (Err (stop.TooManyCells name)) meets h = inl (inr (stop_is failed status (stop.TooManyCells name) h))
 
   -- what is asked and is not so: a line a command that asks

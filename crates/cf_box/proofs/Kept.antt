@@ -9,10 +9,11 @@ use Rattle.cf_run.specs.RunCapture.{RunNamesValue}
 use Rattle.cf_run.specs.declared.run.RunFault.{RunFault}
 use Rattle.cf_run.specs.declared.run.RunFault.TheVariants as fault
 use Rattle.cf_run.specs.declared.run.RunRefusal.TheVariants as by
-use Rattle.cf_box.specs.Command.{Command, Check, Compare, Migrate, Packets, Run, Relay, World, Sift, output_files}
+use Rattle.cf_box.specs.Command.{Command, Check, Compare, Learn, Migrate, Packets, Run, Relay, World, Sift, output_files}
 use Rattle.cf_box.specs.Ending.{status_of, stop_status}
 use Rattle.cf_box.specs.Ends.{Does, Leaves, Meets, StopsFor}
 use Rattle.cf_sift.specs.Outputs.{IsSameBeside, KeepsAllBut}
+use Rattle.cf_box.specs.Learn.{LearnLeaves}
 use Rattle.cf_box.specs.Migrate.{MigrateLeaves}
 use Rattle.cf_box.specs.Outside.{Outside}
 use Rattle.cf_box.specs.Relay.{HasRelayed, end_answer, relay_answer}
@@ -75,6 +76,7 @@ module _ (before after : Outside) where
   done_keeps : (k : Command) (d : Done) → Does k before after d → Keeps k
   done_keeps (Check policy) d m = nothing_written (Check policy) m.same.content
   done_keeps (Compare policy other) d m = nothing_written (Compare policy other) m.same.content
+  done_keeps (Learn policy capture out) d m = m.others
   done_keeps (Migrate policy out) d m = m.others
   done_keeps (Packets file) d m = nothing_written (Packets file) m.content
   done_keeps (Run policy names) d m = m.1.others
@@ -93,6 +95,10 @@ module _ (before after : Outside) where
   migrate_keeps policy out stop.WriteFault l = l.others
   migrate_keeps policy out s l = nothing_written (Migrate policy out) l.content
 
+  learn_keeps : (policy capture out : List ℕ) (s : Stop) → LearnLeaves policy capture out before after s → Keeps (Learn policy capture out)
+  learn_keeps policy capture out stop.WriteFault l = l.others
+  learn_keeps policy capture out s l = nothing_written (Learn policy capture out) l.content
+
   -- a run that stopped, from another moment on
   run_stop_keeps : (between : Outside) (policy : List ℕ) (names : RunNamesValue) (s : Stop) → RunLeaves policy names between after s →
       KeepsAllBut between.files.content after.files.content (names.out ∷ names.log ∷ [])
@@ -103,6 +109,7 @@ module _ (before after : Outside) where
   stop_keeps : (k : Command) (s : Stop) → Leaves k before after s → Keeps k
   stop_keeps (Check policy) s l = nothing_written (Check policy) l.same.content
   stop_keeps (Compare policy other) s l = nothing_written (Compare policy other) l.same.content
+  stop_keeps (Learn policy capture out) s l = learn_keeps policy capture out s l
   stop_keeps (Migrate policy out) s l = migrate_keeps policy out s l
   stop_keeps (Packets file) s l = nothing_written (Packets file) l.content
   stop_keeps (Run policy names) s (inl l) = nothing_written (Run policy names) l.1.content
@@ -127,6 +134,10 @@ module _ (before after : Outside) where
   migrate_unwritten policy out stop.WriteFault w l = absurd (none_of 4 w (omega arith) (omega arith) (omega arith))
   migrate_unwritten policy out s w l = l.content
 
+  learn_unwritten : (policy capture out : List ℕ) (s : Stop) → WritesNothing (stop_status s) → LearnLeaves policy capture out before after s → after.files.content ≡ before.files.content
+  learn_unwritten policy capture out stop.WriteFault w l = absurd (none_of 4 w (omega arith) (omega arith) (omega arith))
+  learn_unwritten policy capture out s w l = l.content
+
   -- no stop of a world whose files tell what they hold has one
   not_of_world : (seed sessions : ℕ) (policy : List ℕ) (names : RunNamesValue) (s : Stop) → WritesNothing (stop_status s) → TellsMade (World seed sessions policy names) before →
       StopsFor (World seed sessions policy names) before after s → ⊥
@@ -143,6 +154,7 @@ module _ (before after : Outside) where
   not_of_world seed sessions policy names stop.UnknownAsset w t f = cc (f.3)
   not_of_world seed sessions policy names (stop.Cut reason) w t f = f.0
   not_of_world seed sessions policy names (stop.Denied why) w t f = f.0
+  not_of_world seed sessions policy names (stop.TooManyRules name) w t f = f.0
   not_of_world seed sessions policy names (stop.TooManyCells name) w t f = f.0
   not_of_world seed sessions policy names stop.NoMemory w t f = none_of 13 w (omega arith) (omega arith) (omega arith)
 
@@ -150,6 +162,7 @@ module _ (before after : Outside) where
   unwritten_by : (k : Command) (s : Stop) → WritesNothing (stop_status s) → TellsMade k before → StopsFor k before after s → Leaves k before after s → after.files.content ≡ before.files.content
   unwritten_by (Check policy) s w t f l = l.same.content
   unwritten_by (Compare policy other) s w t f l = l.same.content
+  unwritten_by (Learn policy capture out) s w t f l = learn_unwritten policy capture out s w l
   unwritten_by (Migrate policy out) s w t f l = migrate_unwritten policy out s w l
   unwritten_by (Packets file) s w t f l = l.content
   unwritten_by (Run policy names) s w t f (inl l) = l.1.content

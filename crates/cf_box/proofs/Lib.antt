@@ -5,6 +5,7 @@ pub mod Complete
 pub mod Exact
 pub mod FileNames
 pub mod Kept
+pub mod Learning
 pub mod Listing
 pub mod Migrating
 pub mod Numerals

@@ -11,9 +11,10 @@ use Rattle.cf_sift.specs.Stored.{stored_history}
 use Rattle.cf_outside.specs.Faults.{Rose}
 use Rattle.cf_outside.specs.PairValue.{PairValue}
 use Rattle.cf_policylang.specs.declared.PolicyRefusal.{PolicyRefusal}
-use Rattle.cf_box.specs.Command.{Command, Check, Compare, Migrate, Packets, Run, Relay, World, Sift}
+use Rattle.cf_box.specs.Command.{Command, Check, Compare, Learn, Migrate, Packets, Run, Relay, World, Sift}
 use Rattle.cf_box.specs.Ending.{Prints, Reports, end_text, status_of, stop_status, unprinted_status}
-use Rattle.cf_box.specs.Ends.{CutsCapture, CutsRun, CutsStream, Denies, EndsIdle, ExceedsCells, LacksAsset, LinkFails, Meets, RefusesCapture, RefusesPolicy}
+use Rattle.cf_box.specs.Ends.{CutsCapture, CutsRun, CutsStream, Denies, EndsIdle, ExceedsCells, ExceedsRules, LacksAsset, LinkFails, Meets, RefusesCapture, RefusesPolicy}
+use Rattle.cf_box.specs.Learn.{HoldsLearned}
 use Rattle.cf_box.specs.Migrate.{KeepsMeaning}
 use Rattle.cf_box.specs.Outside.{Outside, ReadFailed, SinkValue, WriteFailed}
 use Rattle.cf_box.specs.Packets.{Lists, ListsFile}
@@ -64,7 +65,8 @@ module _ (failed : Type 0) (status : ℕ) where
   is_one (Err (stop.Cut reason)) h = inr (inr (inr (inr (inr (inr (inr (inr (inr (inr (inl (stop_is (stop.Cut reason) h)))))))))))
   is_one (Err stop.NoMemory) h = inr (inr (inr (inr (inr (inr (inr (inr (inr (inr (inr (inl (stop_is stop.NoMemory h))))))))))))
   is_one (Err (stop.Denied why)) h = inr (inr (inr (inr (inr (inr (inr (inr (inr (inr (inr (inr (inl (stop_is (stop.Denied why) h)))))))))))))
-  is_one (Err (stop.TooManyCells name)) h = inr (inr (inr (inr (inr (inr (inr (inr (inr (inr (inr (inr (inr (stop_is (stop.TooManyCells name) h)))))))))))))
+  is_one (Err (stop.TooManyRules name)) h = inr (inr (inr (inr (inr (inr (inr (inr (inr (inr (inr (inr (inr (inl (stop_is (stop.TooManyRules name) h))))))))))))))
+  is_one (Err (stop.TooManyCells name)) h = inr (inr (inr (inr (inr (inr (inr (inr (inr (inr (inr (inr (inr (inr (stop_is (stop.TooManyCells name) h))))))))))))))
 
   -- another ending's status is another
   other : (r : Result Done Stop) (n : ℕ) → IsOf r failed status → status ≡ n → status_of r ≢ n → unprinted_status r ≢ n → ⊥
@@ -106,6 +108,7 @@ module _ (failed : Type 0) (status : ℕ) where
     run_cut (Run policy names) place cut = cut
     run_cut (Check policy) place cut = absurd cut
     run_cut (Compare policy other) place cut = absurd cut
+    run_cut (Learn policy capture out) place cut = absurd cut
     run_cut (Migrate policy out) place cut = absurd cut
     run_cut (Packets capture) place cut = absurd cut
     run_cut (Relay policy asset port idles log) place cut = absurd cut
@@ -126,6 +129,7 @@ module _ (failed : Type 0) (status : ℕ) where
     link_of (Relay policy asset port idles log) pair fails = fails
     link_of (Check policy) pair fails = absurd fails
     link_of (Compare policy other) pair fails = absurd fails
+    link_of (Learn policy capture out) pair fails = absurd fails
     link_of (Migrate policy out) pair fails = absurd fails
     link_of (Packets capture) pair fails = absurd fails
     link_of (Run policy names) pair fails = absurd fails
@@ -148,6 +152,10 @@ module _ (failed : Type 0) (status : ℕ) where
     denied_from (Err (stop.Denied why)) meets h is = (why, meets.0.0)
     denied_from r meets h is = absurd (other r 15 h is (omega arith) (omega arith))
 
+    rules_from : (r : Result Done Stop) → Meets c before middle r → IsOf r failed status → status ≡ 16 → (name : List ℕ) × ExceedsRules c before name
+    rules_from (Err (stop.TooManyRules name)) meets h is = (name.bytes, meets.0.0)
+    rules_from r meets h is = absurd (other r 16 h is (omega arith) (omega arith))
+
     cells_from : (r : Result Done Stop) → Meets c before middle r → IsOf r failed status → status ≡ 17 → (name : List ℕ) × ExceedsCells c before name
     cells_from (Err (stop.TooManyCells name)) meets h is = (name.bytes, meets.0.0)
     cells_from r meets h is = absurd (other r 17 h is (omega arith) (omega arith))
@@ -166,6 +174,15 @@ module _ (failed : Type 0) (status : ℕ) where
       let t = k.holds_text in
       record { meaning = k.meaning; has = k.has; holds_text = record { text = t.text; means = t.means; in_file = ap (λ f. f.content out) same ∙ t.in_file } }
   migrates_from before middle after policy out same (Err s) m h is = absurd (not_done s h is)
+
+  -- a policy that was learned is written
+  learns_from : (before middle after : Outside) (policy capture out : List ℕ) → after.files ≡ middle.files → (r : Result Done Stop) →
+      Meets (Learn policy capture out) before middle r → IsOf r failed status → status ≡ 0 → HoldsLearned policy capture out before after
+  learns_from before middle after policy capture out same (Ok d) m h is =
+      let k = m.holds in
+      let t = k.holds_text in
+      record { learned = k.learned; learns = k.learns; holds_text = record { text = t.text; means = t.means; in_file = ap (λ f. f.content out) same ∙ t.in_file } }
+  learns_from before middle after policy capture out same (Err s) m h is = absurd (not_done s h is)
 
   -- what was filtered is what the policy allows
   passes_from : LanePassesAllowed → RatesHold → (before middle after : Outside) (policy name : List ℕ) (client : ℕ) (names : SiftNamesValue) → after.files ≡ middle.files →
@@ -264,6 +281,9 @@ module _ {c : Command} {before after : Outside} {status : ℕ} (e : Explains c b
   pub cells_told : status ≡ 17 → (name : List ℕ) × ExceedsCells c before name
   cells_told = cells_from Unprinted status c before e.middle e.r e.meets explained
 
+  pub rules_told : status ≡ 16 → (name : List ℕ) × ExceedsRules c before name
+  rules_told = rules_from Unprinted status c before e.middle e.r e.meets explained
+
   pub includes_told : (policy second : List ℕ) → c ≡ Compare policy second → status ≡ 0 → Includes policy second before
   includes_told policy second is =
       includes_from Unprinted status before e.middle policy second e.r (subst (λ k. Meets k before e.middle e.r) is e.meets) explained
@@ -271,6 +291,10 @@ module _ {c : Command} {before after : Outside} {status : ℕ} (e : Explains c b
   pub migrates_told : (policy out : List ℕ) → c ≡ Migrate policy out → status ≡ 0 → KeepsMeaning policy out before after
   migrates_told policy out is =
       migrates_from Unprinted status before e.middle after policy out e.reports.files e.r (subst (λ k. Meets k before e.middle e.r) is e.meets) explained
+
+  pub learns_told : (policy capture out : List ℕ) → c ≡ Learn policy capture out → status ≡ 0 → HoldsLearned policy capture out before after
+  learns_told policy capture out is =
+      learns_from Unprinted status before e.middle after policy capture out e.reports.files e.r (subst (λ k. Meets k before e.middle e.r) is e.meets) explained
 
   pub passes_told : LanePassesAllowed → RatesHold → (policy name : List ℕ) (client : ℕ) (names : SiftNamesValue) → c ≡ Sift policy name client names → status ≡ 0 →
       SiftPassesAllowed policy name client names before after

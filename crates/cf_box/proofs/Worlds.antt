@@ -139,6 +139,7 @@ module _ (seed sessions : ℕ) (policy : List ℕ) (names : RunNamesValue) where
     stops stop.UnknownAsset h = let cause : LacksAsset (Run policy names) between = h in cc (cause.3)
     stops (stop.Cut reason) h = absurd h.0
     stops (stop.Denied why) h = absurd h.0
+    stops (stop.TooManyRules name) h = absurd h.0
     stops (stop.TooManyCells name) h = absurd h.0
     stops stop.NoMemory h = tt
 

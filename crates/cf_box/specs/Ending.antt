@@ -28,6 +28,7 @@ stop_status stop.UnknownAsset = 10
 stop_status (stop.Cut reason) = 12
 stop_status stop.NoMemory = 13
 stop_status (stop.Denied why) = 15
+stop_status (stop.TooManyRules name) = 16
 stop_status (stop.TooManyCells name) = 17
 
 abbrev pub status_of : Result Done Stop → ℕ
@@ -48,6 +49,7 @@ capture_number refusal.LinkType = 4
 capture_number refusal.TooLong = 5
 capture_number refusal.Clock = 6
 capture_number refusal.Large = 7
+capture_number refusal.Long = 8
 capture_number refusal.Block = 9
 capture_number refusal.Section = 10
 capture_number refusal.Interface = 11
@@ -90,6 +92,7 @@ stop_text stop.UnknownAsset = Some (codes "unknown asset\n")
 stop_text (stop.Cut reason) = Some (codes "cut " ++ cut_text reason ++ codes "\n")
 stop_text stop.NoMemory = None
 stop_text (stop.Denied why) = Some (denial_text why)
+stop_text (stop.TooManyRules name) = Some (codes "too many rules " ++ name.bytes ++ codes "\n")
 stop_text (stop.TooManyCells name) = Some (codes "too many cells " ++ name.bytes ++ codes "\n")
 
 abbrev pub end_text : Result Done Stop → Option (List ℕ)

@@ -8,9 +8,10 @@ use Rattle.cf_policy.specs.declared.Asset.{Asset}
 use Rattle.cf_policy.specs.declared.Policy.{Policy}
 use Rattle.cf_policylang.specs.declared.PolicyRefusal.{PolicyRefusal}
 use Rattle.cf_box.specs.Check.{CheckLeaves, Checks}
-use Rattle.cf_box.specs.Command.{Command, Check, Compare, Migrate, Packets, Run, Relay, World, Sift, asset_name, other_file, policy_file}
+use Rattle.cf_box.specs.Command.{Command, Check, Compare, Learn, Migrate, Packets, Run, Relay, World, Sift, asset_name, other_file, policy_file}
 use Rattle.cf_box.specs.Compare.{CompareLeaves, Compares, DeniesInclusion, FilesExceed}
 use Rattle.cf_box.specs.Ending.{Puts, Reports}
+use Rattle.cf_box.specs.Learn.{FilesShowTooMuch, LearnLeaves, WritesLearned}
 use Rattle.cf_box.specs.Migrate.{MigrateLeaves, Migrates}
 use Rattle.cf_box.specs.Outside.{Outside, ReadFailed, WriteFailed}
 use Rattle.cf_box.specs.Packets.{ListingCuts, ListingRefuses, Lists, PacketsLeaves}
@@ -18,6 +19,7 @@ use Rattle.cf_box.specs.PolicyFile.{HasPolicy, IsRefusedBy, asset_named}
 use Rattle.cf_box.specs.Relay.{CutsRelay, EndsRelayIdle, RelayLeaves, Relays}
 use Rattle.cf_box.specs.Run.{RunCuts, RunLeaves, RunRefuses, Runs}
 use Rattle.cf_box.specs.Sift.{CutsSift, SiftLeaves, Sifts}
+use Rattle.cf_box.specs.Watching.{WatchCuts, WatchRefuses}
 use Rattle.cf_box.specs.World.{MakesAndRuns, WorldLeaves}
 use Rattle.cf_box.specs.declared.denial.Denial.{Denial}
 use Rattle.cf_box.specs.declared.ending.CaptureRefusal.{CaptureRefusal}
@@ -60,12 +62,14 @@ pub record PassesPolicy (c : Command) (before : Outside) : Type 0 where
 -- makes for itself is in form: so it is only where the file does not tell what it holds
 abbrev pub RefusesCapture : Command → Outside → CaptureRefusal → Type 0
 RefusesCapture (Packets capture) before r = ListingRefuses (before.files.content capture) r
+RefusesCapture (Learn policy capture out) before r = WatchRefuses (before.files.content capture) r
 RefusesCapture (Run policy names) before r = RunRefuses (before.files.content names.capture) r
 RefusesCapture (World seed sessions policy names) before r = before.files.content names.capture ≡ untold
 RefusesCapture _ before r = ⊥
 
 abbrev pub CutsCapture : Command → Outside → ℕ → Type 0
 CutsCapture (Packets capture) before place = ListingCuts (before.files.content capture) place
+CutsCapture (Learn policy capture out) before place = WatchCuts (before.files.content capture) place
 CutsCapture (Run policy names) before place = RunCuts (before.files.content names.capture) place
 CutsCapture (World seed sessions policy names) before place = before.files.content names.capture ≡ untold
 CutsCapture _ before place = ⊥
@@ -80,6 +84,7 @@ CutsRun _ before place = ⊥
 abbrev pub CutsStream : Command → (before : Outside) → (pair : PairValue) → CutReason → Type 0
 CutsStream (Check policy) before pair reason = ⊥
 CutsStream (Compare policy other) before pair reason = ⊥
+CutsStream (Learn policy capture out) before pair reason = ⊥
 CutsStream (Migrate policy out) before pair reason = ⊥
 CutsStream (Packets capture) before pair reason = ⊥
 CutsStream (Run policy names) before pair reason = ⊥
@@ -107,6 +112,11 @@ abbrev pub ExceedsCells : Command → Outside → (name : List ℕ) → Type 0
 ExceedsCells (Compare policy other) before name = FilesExceed policy other before name
 ExceedsCells _ before name = ⊥
 
+-- the capture shows so much of the asset of this name that it would have too many rules: a line a command that learns
+abbrev pub ExceedsRules : Command → Outside → (name : List ℕ) → Type 0
+ExceedsRules (Learn policy capture out) before name = FilesShowTooMuch policy capture before name
+ExceedsRules _ before name = ⊥
+
 -- why work stops: a line a cause, the same for every command. What stands later in the order of the work is no cause
 -- where the policy or the asset is one
 abbrev pub StopsFor : Command → (before after : Outside) → Stop → Type 0
@@ -122,12 +132,14 @@ StopsFor c before after stop.UnknownAsset = LacksAsset c before
 StopsFor c before after (stop.Cut reason) = CutsStream c before after.pair reason × PassesPolicy c before
 StopsFor c before after stop.NoMemory = Unit {0}
 StopsFor c before after (stop.Denied why) = Denies c before why × PassesPolicy c before
+StopsFor c before after (stop.TooManyRules name) = ExceedsRules c before name.bytes × PassesPolicy c before
 StopsFor c before after (stop.TooManyCells name) = ExceedsCells c before name.bytes × PassesPolicy c before
 
 -- what work that was done means: a line a command
 abbrev pub Does : Command → (before after : Outside) → Done → Type 0
 Does (Check policy) before after d = Checks policy before after d
 Does (Compare policy other) before after d = Compares policy other before after d
+Does (Learn policy capture out) before after d = WritesLearned policy capture out before after d
 Does (Migrate policy out) before after d = Migrates policy out before after d
 Does (Packets capture) before after d = Lists capture before after d
 Does (Run policy names) before after d = Runs policy names before after d
@@ -139,6 +151,7 @@ Does (Sift policy asset client names) before after d = Sifts policy asset client
 abbrev pub Leaves : Command → (before after : Outside) → Stop → Type 0
 Leaves (Check policy) before after s = CheckLeaves before after s
 Leaves (Compare policy other) before after s = CompareLeaves before after s
+Leaves (Learn policy capture out) before after s = LearnLeaves policy capture out before after s
 Leaves (Migrate policy out) before after s = MigrateLeaves policy out before after s
 Leaves (Packets capture) before after s = PacketsLeaves capture before after s
 Leaves (Run policy names) before after s = RunLeaves policy names before after s

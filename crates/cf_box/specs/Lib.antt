@@ -6,6 +6,7 @@ pub mod Denial
 pub mod Ending
 pub mod Ends
 pub mod Laws
+pub mod Learn
 pub mod Limits
 pub mod Migrate
 pub mod Names
@@ -18,5 +19,6 @@ pub mod Run
 pub mod RunHolds
 pub mod Sift
 pub mod Status
+pub mod Watching
 pub mod Words
 pub mod World

@@ -7,6 +7,7 @@ use Rattle.cf_pcapng.specs.declared.block.TheConstants.{BLOCK_LIMIT, INTERFACE_L
 use Rattle.cf_policy.specs.declared.limits.TheConstants.{HIGHEST_ADDRESS, HIGHEST_CODE, HIGHEST_COMMON_ADDRESS, HIGHEST_GROUP, HIGHEST_LINK_ADDRESS, HIGHEST_MOST, HIGHEST_POINT, HIGHEST_UNIT, HIGHEST_VALUE, LONGEST_NAME, LONGEST_RATE, LOWEST_VALUE, MOST_ASSETS, MOST_RATED, MOST_RULES, MOST_SPANS}
 use Rattle.cf_policylang.specs.declared.documents.TheConstants.{LONGEST_TEXT}
 use Rattle.cf_policylang.specs.declared.sets.TheConstants.{MOST_SETS}
+use Rattle.cf_watch.specs.declared.fault.TheConstants.{CAPTURE_LIMIT}
 use Rattle.cf_world.specs.declared.world.TheConstants.{RECORD_LIMIT}
 
 -- of a policy's text, in octets, and of what it says
@@ -42,6 +43,8 @@ pub record HasLimits : Type 0 where
   pub records : RECORD_LIMIT ≡ 1000000
   -- octets of a record of a capture, and of a block of a pcapng file; interfaces of a section
   pub captured : CAPTURED_LIMIT ≡ 262144
+  -- octets of a capture that is watched
+  pub watched : CAPTURE_LIMIT ≡ 67108864
   pub block : BLOCK_LIMIT ≡ 16777216
   pub interfaces : INTERFACE_LIMIT ≡ 64
   pub policy : HasPolicyLimits

@@ -1,5 +1,5 @@
 -- What a status tells, each by itself.
-use Rattle.std.specs.Prelude.{◌≡◌, ◌≢◌, ◌⊎◌, ℕ, List, [], drop, Option, None, Some, Ok, Err}
+use Rattle.std.specs.Prelude.{◌≡◌, ◌≢◌, ◌⊎◌, ◌≤◌, ℕ, List, [], drop, length, Option, None, Some, Ok, Err}
 use Rattle.cf_audit.specs.declared.line.CutReason.{CutReason}
 use Rattle.cf_lane.specs.Follows.{AreJudged}
 use Rattle.cf_lane.specs.Judged.{Judged}
@@ -16,19 +16,22 @@ use Rattle.cf_policy.specs.declared.Policy.{Policy}
 use Rattle.cf_policylang.specs.Documents.{policy_meaning}
 use Rattle.cf_policylang.specs.declared.PolicyRefusal.{PolicyRefusal}
 use Rattle.cf_run.specs.RunCapture.{RunNamesValue}
-use Rattle.cf_box.specs.Command.{Command, Check, Compare, Migrate, Packets, Run, Relay, World, Sift, AsksPair, asset_name, capture_file, other_file, output_files, policy_file}
+use Rattle.cf_box.specs.Command.{Command, Check, Compare, Learn, Migrate, Packets, Run, Relay, World, Sift, AsksPair, asset_name, capture_file, other_file, output_files, policy_file}
 use Rattle.cf_box.specs.Compare.{IncludesAll, IsIncluded, OfPolicies, TellsNotIncluded}
-use Rattle.cf_box.specs.Ends.{CutsCapture, CutsStream, Denies, EndsIdle, ExceedsCells, LacksAsset, LinkFails, RefusesCapture, RefusesPolicy}
+use Rattle.cf_box.specs.Ends.{CutsCapture, CutsStream, Denies, EndsIdle, ExceedsCells, ExceedsRules, LacksAsset, LinkFails, RefusesCapture, RefusesPolicy}
+use Rattle.cf_box.specs.Learn.{NeverTooMuch}
 use Rattle.cf_box.specs.Outside.{Outside, ReadFailed, WriteFailed}
 use Rattle.cf_box.specs.Packets.{ListingCuts, ListingRefuses}
 use Rattle.cf_box.specs.PolicyFile.{FindsAsset, TellsPolicy, asset_named}
 use Rattle.cf_box.specs.Relay.{TellsCutRelay, TellsIdleRelay}
 use Rattle.cf_box.specs.Run.{RunCuts, RunRefuses}
 use Rattle.cf_box.specs.Sift.{TellsCutStream}
+use Rattle.cf_box.specs.Watching.{WatchCuts, WatchRefuses}
 use Rattle.cf_box.specs.declared.denial.Denial.{Denial}
 use Rattle.cf_box.specs.declared.ending.CaptureRefusal.{CaptureRefusal}
 use Rattle.cf_sift.specs.Names.{SiftNamesValue}
 use Rattle.cf_sift.specs.Stored.{stored_history}
+use Rattle.cf_watch.specs.declared.fault.TheConstants.{CAPTURE_LIMIT}
 
 -- the words are a command of which this is so
 abbrev pub OfCommand : Option Command → (Command → Type 0) → Type 0
@@ -58,6 +61,9 @@ DeniesWhatItAsks words before = OfCommand words (λ c. (why : Denial) × Denies 
 
 abbrev pub ExceedsItsCells : Option Command → Outside → Type 0
 ExceedsItsCells words before = OfCommand words (λ c. (name : List ℕ) × ExceedsCells c before name)
+
+abbrev pub ExceedsItsRules : Option Command → Outside → Type 0
+ExceedsItsRules words before = OfCommand words (λ c. (name : List ℕ) × ExceedsRules c before name)
 
 abbrev pub AsksItsPair : Option Command → Type 0
 AsksItsPair words = OfCommand words AsksPair
@@ -96,6 +102,7 @@ HasTimedRecords bytes =
 -- the capture of a command that reads one ends so
 abbrev pub EndsWell : Command → List ℕ → Type 0
 EndsWell (Packets capture) bytes = HasRecords bytes
+EndsWell (Learn policy capture out) bytes = HasRecords bytes × (length bytes ≤ CAPTURE_LIMIT)
 EndsWell (Run policy names) bytes = HasTimedRecords bytes
 EndsWell _ bytes = Unit {0}
 
@@ -107,6 +114,7 @@ TellsMade _ before = Unit {0}
 -- what is asked of a command's files is so: a line a command that asks
 abbrev pub HoldsWhatItAsks : Command → Outside → Type 0
 HoldsWhatItAsks (Compare policy other) before = IncludesAll policy other before
+HoldsWhatItAsks (Learn policy capture out) before = NeverTooMuch policy capture before
 HoldsWhatItAsks _ before = Unit {0}
 
 -- what a command needs is told, and in form: its policy has a meaning and the asset of the name, its capture is one whose
@@ -166,6 +174,7 @@ pub record TellsNoAsset (c : Command) (before : Outside) : Type 0 where
 abbrev pub TellsCut : Command → (before : Outside) → (pair : PairValue) → Type 0
 TellsCut (Check file) before pair = ⊥
 TellsCut (Compare file other) before pair = ⊥
+TellsCut (Learn file capture out) before pair = ⊥
 TellsCut (Migrate file out) before pair = ⊥
 TellsCut (Packets file) before pair = ⊥
 TellsCut (Run file names) before pair = ⊥
@@ -202,12 +211,14 @@ pub record TellsCutAt (Cuts : Content → ℕ → Type 0) (file : Content) : Typ
 abbrev pub TellsRefusedCapture : Command → Outside → Type 0
 TellsRefusedCapture (Packets capture) before = TellsRefusal ListingRefuses (before.files.content capture)
 TellsRefusedCapture (Run policy names) before = TellsPolicy (before.files.content policy) × TellsRefusal RunRefuses (before.files.content names.capture)
+TellsRefusedCapture (Learn policy capture out) before = TellsPolicy (before.files.content policy) × TellsRefusal WatchRefuses (before.files.content capture)
 TellsRefusedCapture _ before = ⊥
 
 -- the same of one that is cut
 abbrev pub TellsCutCapture : Command → Outside → Type 0
 TellsCutCapture (Packets capture) before = TellsCutAt ListingCuts (before.files.content capture)
 TellsCutCapture (Run policy names) before = TellsPolicy (before.files.content policy) × TellsCutAt RunCuts (before.files.content names.capture)
+TellsCutCapture (Learn policy capture out) before = TellsPolicy (before.files.content policy) × TellsCutAt WatchCuts (before.files.content capture)
 TellsCutCapture _ before = ⊥
 
 -- what a capture, a cut stream and the idle answers yield to: these, and a write that failed
@@ -251,4 +262,4 @@ TellsItsOwn words before = (c : Command) → words ≡ Some c → TellsMade c be
 abbrev pub IsStatus : ℕ → Type 0
 IsStatus s =
     (s ≡ 0) ⊎ (s ≡ 2) ⊎ (s ≡ 3) ⊎ (s ≡ 4) ⊎ (s ≡ 5) ⊎ (s ≡ 6) ⊎ (s ≡ 7) ⊎ (s ≡ 8) ⊎ (s ≡ 9) ⊎ (s ≡ 10) ⊎ (s ≡ 12) ⊎ (s ≡ 13) ⊎ (s ≡ 15)
-    ⊎ (s ≡ 17)
+    ⊎ (s ≡ 16) ⊎ (s ≡ 17)

@@ -4,6 +4,7 @@ ghost use Rattle.cf_box.specs.Words.{HasFitWords, command_of, command_value};
 
 use crate::check::read_check;
 use crate::compare::read_compare;
+use crate::learn::read_learn;
 use crate::migrate::read_migrate;
 use crate::packets::read_packets;
 use crate::relay::read_relay;
@@ -24,6 +25,12 @@ pub enum Command<'a> {
     Compare {
         policy: &'a str,
         other: &'a str,
+    },
+    /// Write a policy that allows exactly what a capture shows.
+    Learn {
+        policy: &'a str,
+        capture: &'a str,
+        out: &'a str,
     },
     /// Write a policy as a document of version 2.
     Migrate {
@@ -76,6 +83,9 @@ pub fn read_words(words: &[String]) -> Option<Command<'_>>
     }
     if name.as_str() == "compare" {
         return read_compare(rest);
+    }
+    if name.as_str() == "learn" {
+        return read_learn(rest);
     }
     if name.as_str() == "migrate" {
         return read_migrate(rest);

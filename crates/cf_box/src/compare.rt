@@ -1,5 +1,5 @@
 //! `compare POLICY OTHER`: whether the first policy allows only what the second allows.
-ghost use Rattle.std.specs.Prelude.{◌≡◌, IfSome, Some, map, option_map, slice_get, string_bytes};
+ghost use Rattle.std.specs.Prelude.{◌≡◌, IfSome, map, option_map, string_bytes};
 ghost use Rattle.cf_box.specs.Command.{Compare};
 ghost use Rattle.cf_box.specs.Compare.{Says, compare_of};
 ghost use Rattle.cf_box.specs.Ends.{Meets};
@@ -7,13 +7,12 @@ ghost use Rattle.cf_box.specs.Outside.{FilesNeverFall, SinkValue, files_value, o
 ghost use Rattle.cf_box.specs.Words.{HasFitWords, command_value};
 ghost use Rattle.cf_outside.specs.PairValue.{PairValue};
 ghost use Rattle.cf_policy.specs.Within.{IsWithin};
-ghost use Rattle.cf_policy.specs.declared.Asset.{Asset};
 
 use crate::command::Command;
-use crate::denial::{AssetName, Denial};
+use crate::denial::Denial;
 use crate::ending::{Done, Stop};
 use crate::names::are_names;
-use crate::policy_file::load_policy;
+use crate::policy_file::{load_policy, name_at};
 use cf_compare::{CompareFault, Compared, compare};
 use cf_outside::Files;
 use cf_policy::Policy;
@@ -72,15 +71,4 @@ fn compared(alloc: Global, ours: &Policy, theirs: &Policy) -> Result<Done, Stop>
         Err(CompareFault::Cells(place)) => Err(Stop::TooManyCells(name_at(ours, place))),
         Err(CompareFault::NoMemory) => Err(Stop::NoMemory),
     }
-}
-
-/// The name of the asset at a place of a policy, from 0.
-fn name_at(policy: &Policy, place: u32) -> AssetName
-    ensures { (asset : Asset) → slice_get policy.now.assets place ≡ Some asset → result.bytes ≡ asset.name }
-{
-    let mut text = AssetName::new();
-    if let Some(asset) = policy.assets.as_slice().get(place as usize) {
-        text.push_str(asset.name.as_str());
-    }
-    text
 }

@@ -57,6 +57,8 @@ pub enum Stop {
     NoMemory,
     /// What was asked is not so.
     Denied(Denial),
+    /// The capture shows so much of this asset that it would have more than 1,024 rules.
+    TooManyRules(AssetName),
     /// The rules of this asset and of its partner make more than 1,000,000 cells.
     TooManyCells(AssetName),
 }
@@ -79,6 +81,8 @@ pub enum CaptureRefusal {
     Clock,
     /// An octet of a record stands at place 2^40 or above.
     Large,
+    /// It has more octets than 67,108,864, where it is watched.
+    Long,
     /// The length of a block is not allowed, its second length differs, or the bytes of a packet do not fit it.
     Block,
     /// A section header has a wrong magic, or another major version than 1.
@@ -140,6 +144,7 @@ fn stop_status(stop: &Stop) -> u8
         Stop::Cut(_) => 12,
         Stop::NoMemory => 13,
         Stop::Denied(_) => 15,
+        Stop::TooManyRules(_) => 16,
         Stop::TooManyCells(_) => 17,
     }
 }
@@ -212,6 +217,7 @@ fn capture_number(refusal: CaptureRefusal) -> u64
         CaptureRefusal::TooLong => 5,
         CaptureRefusal::Clock => 6,
         CaptureRefusal::Large => 7,
+        CaptureRefusal::Long => 8,
         CaptureRefusal::Block => 9,
         CaptureRefusal::Section => 10,
         CaptureRefusal::Interface => 11,
@@ -339,6 +345,7 @@ fn stop_text(stop: &Stop) -> Option<EndText>
         Stop::UnknownAsset => Some(line("unknown asset\n")),
         Stop::Cut(reason) => Some(cut_line(reason)),
         Stop::Denied(denial) => Some(denial_line(denial)),
+        Stop::TooManyRules(name) => Some(named_line("too many rules ", name)),
         Stop::TooManyCells(name) => Some(named_line("too many cells ", name)),
     }
 }

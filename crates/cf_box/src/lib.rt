@@ -7,6 +7,7 @@ mod compare;
 mod denial;
 mod ending;
 mod laws;
+mod learn;
 mod limits;
 mod migrate;
 mod names;

@@ -1,5 +1,5 @@
 //! The policy that a file holds.
-ghost use Rattle.std.specs.Prelude.{◌≡◌, ◌≢◌, Err, IfErr, IfOk, IfSome, IsErr, OnErr, OnOk, Some, bytes_eq, find, option_map};
+ghost use Rattle.std.specs.Prelude.{◌≡◌, ◌≢◌, Err, IfErr, IfOk, IfSome, IsErr, OnErr, OnOk, Some, bytes_eq, find, option_map, slice_get};
 ghost use Rattle.cf_box.specs.Command.{Command, policy_file};
 ghost use Rattle.cf_box.specs.Ends.{StopsFor};
 ghost use Rattle.cf_box.specs.Outside.{ReadsOnly, SinkValue, files_value, outside};
@@ -8,7 +8,9 @@ ghost use Rattle.cf_outside.specs.Faults.{HasCause};
 ghost use Rattle.cf_outside.specs.Files.{IsPartly, KeepsOthers, content_after_write};
 ghost use Rattle.cf_outside.specs.PairValue.{PairValue};
 ghost use Rattle.cf_policy.specs.Within.{AreAssetsWithin, IsAssetWithin, IsWithin};
+ghost use Rattle.cf_policy.specs.declared.Asset.{Asset};
 
+use crate::denial::AssetName;
 use crate::ending::{Done, Stop};
 use cf_outside::{Files, WholeFault, WriteAnswer, append_all, read_whole};
 use cf_policy::{Asset, Policy};
@@ -69,6 +71,17 @@ fn find_in<'a>(assets: &'a [Asset], name: &str) -> Option<&'a Asset>
     ensures within { IfSome result (λ a. IsAssetWithin a.now) }
 {
     assets.iter().find(|asset| asset.name.as_str() == name)
+}
+
+/// The name of the asset at a place of a policy, from 0.
+pub(crate) fn name_at(policy: &Policy, place: u32) -> AssetName
+    ensures { (asset : Asset) → slice_get policy.now.assets place ≡ Some asset → result.bytes ≡ asset.name }
+{
+    let mut text = AssetName::new();
+    if let Some(asset) = policy.assets.as_slice().get(place as usize) {
+        text.push_str(asset.name.as_str());
+    }
+    text
 }
 
 /// Writes a policy to a file, which is created behind all else, as a document of version 2 that means exactly the policy.

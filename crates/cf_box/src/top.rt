@@ -1,14 +1,15 @@
 //! The top call.
 ghost use Rattle.std.specs.Prelude.{◌≡◌, ◌≤◌, ◌⊎◌, ◌↔◌, IsNone, List, Some, map, string_bytes, ℕ};
-ghost use Rattle.cf_box.specs.Command.{AsksPair, Compare, Migrate, Packets, Run, Sift, World};
+ghost use Rattle.cf_box.specs.Command.{AsksPair, Compare, Learn, Migrate, Packets, Run, Sift, World};
 ghost use Rattle.cf_box.specs.Ends.{Ends, Meets};
 ghost use Rattle.cf_box.specs.Laws.{HasLaws};
+ghost use Rattle.cf_box.specs.Learn.{HoldsLearned};
 ghost use Rattle.cf_box.specs.Limits.{HasLimits};
 ghost use Rattle.cf_box.specs.Migrate.{KeepsMeaning};
 ghost use Rattle.cf_box.specs.Outside.{FilesNeverFall, files_value, outside_value};
 ghost use Rattle.cf_box.specs.Packets.{Lists};
 ghost use Rattle.cf_box.specs.RunHolds.{RunHolds};
-ghost use Rattle.cf_box.specs.Status.{AsksItsPair, CutsItsCapture, CutsItsStream, DeniesWhatItAsks, EndsItsIdles, ExceedsItsCells, Includes, IsComplete, IsExactly, IsStatus, LacksItsAsset, RefusesItsCapture, RefusesItsPolicy, SiftPassesAllowed, TakesItsOwn, TellsItsOwn, WritesNothing, outputs_of};
+ghost use Rattle.cf_box.specs.Status.{AsksItsPair, CutsItsCapture, CutsItsStream, DeniesWhatItAsks, EndsItsIdles, ExceedsItsCells, ExceedsItsRules, Includes, IsComplete, IsExactly, IsStatus, LacksItsAsset, RefusesItsCapture, RefusesItsPolicy, SiftPassesAllowed, TakesItsOwn, TellsItsOwn, WritesNothing, outputs_of};
 ghost use Rattle.cf_box.specs.Words.{HasFitWords, command_of, command_value};
 ghost use Rattle.cf_box.specs.World.{WorldHolds};
 ghost use Rattle.cf_outside.specs.Faults.{Rose};
@@ -21,6 +22,7 @@ use crate::command::{Command, read_words};
 use crate::compare::compare_files;
 use crate::ending::{Done, Stop, put_text, report};
 use crate::laws::laws_hold;
+use crate::learn::learn_capture;
 use crate::limits::limits_are;
 use crate::migrate::migrate;
 use crate::packets::packets;
@@ -52,6 +54,11 @@ fn perform<F: Files, O: Sink, P: Pair>(
     match command {
         Command::Check { policy } => check(alloc, policy, files),
         Command::Compare { policy, other } => compare_files(alloc, policy, other, files),
+        Command::Learn {
+            policy,
+            capture,
+            out,
+        } => learn_capture(alloc, policy, capture, out, files),
         Command::Migrate { policy, out } => migrate(alloc, policy, out, files),
         Command::Packets { capture } => packets(alloc, capture, files, out),
         Command::Sift {
@@ -82,7 +89,7 @@ fn perform<F: Files, O: Sink, P: Pair>(
 /// Statuses: 0 done; 2 the words have no form; 3 a read failed; 4 a write failed, or work that was done could not be
 /// printed; 5 the policy's text means none; 6 the capture is refused; 7 it ends inside a record; 8 a call on the pair of
 /// streams failed; 9 it answered `Idle` too often; 10 the policy has no asset of the name; 12 a stream is cut; 13 memory ran
-/// out; 15 what was asked is not so; 17 there is too much to compare.
+/// out; 15 what was asked is not so; 16 an asset would have too many rules; 17 there is too much to compare.
 pub fn box_main<F: Files, O: Sink, P: Pair>(
     alloc: Global,
     words: &[String],
@@ -118,6 +125,8 @@ pub fn box_main<F: Files, O: Sink, P: Pair>(
 
     ensures denied { result ≡ 15 → DeniesWhatItAsks (command_of (map string_bytes words.now))
         (outside_value F.Files O.Sink P.Pair files.old out.old pair.old) }
+    ensures rules { result ≡ 16 → ExceedsItsRules (command_of (map string_bytes words.now))
+        (outside_value F.Files O.Sink P.Pair files.old out.old pair.old) }
     ensures cells { result ≡ 17 → ExceedsItsCells (command_of (map string_bytes words.now))
         (outside_value F.Files O.Sink P.Pair files.old out.old pair.old) }
 
@@ -136,6 +145,11 @@ pub fn box_main<F: Files, O: Sink, P: Pair>(
     // A policy that was written anew means exactly what it meant.
     ensures migrates { (policy file : List ℕ) → command_of (map string_bytes words.now) ≡ Some (Migrate policy file) → result ≡ 0 →
         KeepsMeaning policy file (outside_value F.Files O.Sink P.Pair files.old out.old pair.old)
+        (outside_value F.Files O.Sink P.Pair files.new out.new pair.new) }
+
+    // A policy that was learned allows, of the acts that commands can have, exactly those that the capture shows, to the same clients.
+    ensures learns { (policy capture file : List ℕ) → command_of (map string_bytes words.now) ≡ Some (Learn policy capture file) → result ≡ 0 →
+        HoldsLearned policy capture file (outside_value F.Files O.Sink P.Pair files.old out.old pair.old)
         (outside_value F.Files O.Sink P.Pair files.new out.new pair.new) }
 
     // Each record of a capture has its line.

@@ -27,6 +27,9 @@ usage:
   cmdwall compare POLICY OTHER
       says whether POLICY allows only what OTHER allows, and else prints the first act that
       it allows beyond
+  cmdwall learn POLICY CAPTURE OUT
+      writes a policy with the assets of POLICY that allows exactly what clients sent them in
+      a capture; read it before use
   cmdwall migrate POLICY OUT
       writes a policy as a document of version 2, in which lists of points that several rules
       have stand once, as sets: OUT means exactly what POLICY means
@@ -119,6 +122,29 @@ it. How often a rule lets commands through plays no part.
 examples, of which the first prints an act and the second 'included':
   cmdwall compare examples/pump.toml examples/pump-narrow.toml
   cmdwall compare examples/pump-narrow.toml examples/pump.toml
+";
+
+const LEARN: &str = "\
+cmdwall learn POLICY CAPTURE OUT
+
+writes a policy that allows exactly what a capture shows
+
+  POLICY    a text in the policy language (docs/POLICY.md) with the assets; its rules play no part
+  CAPTURE   a pcap or pcapng file of at most 67,108,864 bytes, of Ethernet or raw IP
+  OUT       is created behind all else, and gets the policy: for each asset the rules r1, r2 and
+            so on, each for one client, code and group, with the points and the value
+
+The three names differ. What counts are the commands with the right station and form in the
+streams that clients sent to an asset, each from its SYN on. Standard output has 'ok' with the
+numbers of assets and of all rules, as check has it, or with status 16 'too many rules' and the
+asset that would have more than 1,024.
+
+A learned policy also allows what an intruder did while the capture was taken: read it before
+use (docs/POLICY.md, 'From a recording to a policy').
+
+example:
+  cmdwall world 7 3 world.toml world.pcap out.pcap out.log
+  cmdwall learn world.toml world.pcap learned.toml
 ";
 
 const MIGRATE: &str = "\
@@ -236,6 +262,7 @@ pub enum Topic {
     Sift,
     Check,
     Compare,
+    Learn,
     Migrate,
     Packets,
     Run,
@@ -283,6 +310,7 @@ fn topic_of(word: &str) -> Option<Topic> {
         "sift" => Some(Topic::Sift),
         "check" => Some(Topic::Check),
         "compare" => Some(Topic::Compare),
+        "learn" => Some(Topic::Learn),
         "migrate" => Some(Topic::Migrate),
         "packets" => Some(Topic::Packets),
         "run" => Some(Topic::Run),
@@ -303,6 +331,7 @@ pub fn print_topic(rt: &impl Print, topic: Topic) -> io::Result<()> {
         Topic::Sift => SIFT,
         Topic::Check => CHECK,
         Topic::Compare => COMPARE,
+        Topic::Learn => LEARN,
         Topic::Migrate => MIGRATE,
         Topic::Packets => PACKETS,
         Topic::Run => RUN,

@@ -8,9 +8,10 @@ use cf_explain::{
     policy_warnings, words_message,
 };
 use cf_machine::{LinkFault, Part, RealFiles};
-use cf_outside::{WholeFault, read_whole};
+use cf_outside::{Files, ReadAnswer, WholeFault, read_whole};
 use cf_policy::Policy;
 use cf_policylang::{Cause, Key, LONGEST_TEXT, PolicyFault, PolicyRefusal, read_policy};
+use cf_watch::CAPTURE_LIMIT;
 use std::io;
 use std::rt::Files as FileSystem;
 
@@ -35,6 +36,15 @@ pub fn expect_files<R: FileSystem>(
         Command::Compare { policy, other } => {
             files.expect(policy)?;
             files.expect(other)
+        }
+        Command::Learn {
+            policy,
+            capture,
+            out,
+        } => {
+            files.expect(policy)?;
+            files.expect(capture)?;
+            files.expect(out)
         }
         Command::Migrate { policy, out } => {
             files.expect(policy)?;
@@ -91,6 +101,7 @@ fn explain_command<R: FileSystem + Eprint + AllocGlobal>(
 ) -> io::Result<()> {
     match (status, command) {
         (0, Command::Check { policy }) => warn(rt, policy, files),
+        (0, Command::Learn { out, .. }) => warn_of_learned(rt, out),
         (3, _) => explain_fault(rt, files),
         (4, _) => {
             explain_fault(rt, files)?;
@@ -106,7 +117,14 @@ fn explain_command<R: FileSystem + Eprint + AllocGlobal>(
             Some(policy) => explain_policy(rt, policy, files).map(|_| ()),
             None => Ok(()),
         },
-        (6 | 7, Command::Packets { capture }) => explain_capture(rt, capture, false, files),
+        (6, Command::Learn { capture, .. }) if is_long(capture, files) => {
+            eprintln!(rt;
+                "cmdwall: {capture}: it has more than 67,108,864 bytes, and no longer capture is watched"
+            )
+        }
+        (6 | 7, Command::Packets { capture }) | (6 | 7, Command::Learn { capture, .. }) => {
+            explain_capture(rt, capture, false, files)
+        }
         (6 | 7, Command::Run { names, .. }) | (6 | 7, Command::World { names, .. }) => {
             explain_capture(rt, names.capture, true, files)
         }
@@ -123,6 +141,11 @@ fn explain_command<R: FileSystem + Eprint + AllocGlobal>(
         }
         (15 | 17, Command::Compare { policy, other }) => {
             explain_inclusion(rt, policy, other, files)
+        }
+        (16, _) => {
+            eprintln!(rt;
+                "cmdwall: the asset would have more than 1,024 rules; a capture of fewer clients and acts has fewer"
+            )
         }
         (13, _) => {
             eprintln!(rt; "cmdwall: memory ran out")?;
@@ -170,7 +193,9 @@ fn explain_outputs<R: Eprint + AllocGlobal>(rt: &R, command: &Command<'_>) -> io
         Command::Check { .. } | Command::Compare { .. } | Command::Packets { .. } => {
             outputs_message(rt.alloc(), &[])?
         }
-        Command::Migrate { out, .. } => outputs_message(rt.alloc(), &[out])?,
+        Command::Learn { out, .. } | Command::Migrate { out, .. } => {
+            outputs_message(rt.alloc(), &[out])?
+        }
         Command::Run { names, .. } => outputs_message(rt.alloc(), &[names.out, names.log])?,
         Command::World { policy, names, .. } => outputs_message(
             rt.alloc(),
@@ -190,6 +215,7 @@ fn policy_of<'a>(command: &Command<'a>) -> Option<&'a str> {
         Command::Packets { .. } => None,
         Command::Check { policy }
         | Command::Compare { policy, .. }
+        | Command::Learn { policy, .. }
         | Command::Migrate { policy, .. }
         | Command::Run { policy, .. }
         | Command::World { policy, .. }
@@ -250,6 +276,22 @@ fn warn<R: FileSystem + Eprint + AllocGlobal>(
         eprintln!(rt; "cmdwall: {line}")?;
     }
     Ok(())
+}
+
+/// What a learned policy is not.
+fn warn_of_learned<R: Eprint>(rt: &R, out: &str) -> io::Result<()> {
+    eprintln!(rt;
+        "cmdwall: {out} also allows what an intruder did while the capture was taken: read it before use"
+    )
+}
+
+/// Whether a capture has more octets than are watched. Not where it cannot be read again, as a pipe.
+fn is_long<R: FileSystem>(name: &str, files: &mut RealFiles<'_, R>) -> bool {
+    let mut octet = [0u8; 1];
+    matches!(
+        files.read_at(name, CAPTURE_LIMIT, &mut octet),
+        ReadAnswer::Got(_)
+    )
 }
 
 /// Why one policy is not included in another.

@@ -6,6 +6,7 @@ returns c = record {
   letters = refl;
   records = refl;
   captured = refl;
+  watched = refl;
   block = refl;
   interfaces = refl;
   policy = record {

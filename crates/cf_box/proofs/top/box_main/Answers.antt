@@ -3,13 +3,13 @@ use Rattle.cf_box.specs.Command.{Command, World}
 use Rattle.cf_box.specs.Ends.{Ends}
 use Rattle.cf_sift.specs.Outputs.{KeepsAllBut}
 use Rattle.cf_box.specs.Outside.{Outside, outside_value}
-use Rattle.cf_box.specs.Status.{AsksItsPair, CutsItsCapture, CutsItsStream, DeniesWhatItAsks, EndsItsIdles, ExceedsItsCells, LacksItsAsset, RefusesItsCapture, RefusesItsPolicy, outputs_of}
+use Rattle.cf_box.specs.Status.{AsksItsPair, CutsItsCapture, CutsItsStream, DeniesWhatItAsks, EndsItsIdles, ExceedsItsCells, ExceedsItsRules, LacksItsAsset, RefusesItsCapture, RefusesItsPolicy, outputs_of}
 use Rattle.cf_box.specs.Words.{command_value}
 use Rattle.cf_box.proofs.Complete.{complete_told}
 use Rattle.cf_box.proofs.Exact.{exact_told}
 use Rattle.cf_box.proofs.Kept.{kept_told, unwritten_told}
 use Rattle.cf_box.proofs.RunHolds.{run_told}
-use Rattle.cf_box.proofs.Statuses.{Explains, capture_told, cells_told, cut_told, denied_told, idle_told, includes_told, lack_told, link_told, lists_told, migrates_told, passes_told, read_told, refusal_told, stream_told, write_told}
+use Rattle.cf_box.proofs.Statuses.{Explains, capture_told, cells_told, cut_told, denied_told, idle_told, includes_told, lack_told, learns_told, link_told, lists_told, migrates_told, passes_told, read_told, refusal_told, rules_told, stream_told, write_told}
 use Rattle.cf_box.proofs.WorldHolds.{own_told, world_told}
 use Rattle.cf_box.proofs.top.box_main.Given.{Over}
 use Rattle.cf_box.proofs.top.box_main.Goals as goal
@@ -66,6 +66,9 @@ returns-in-Some-clause-unknown g c = λ is. subst (λ words. LacksItsAsset words
 pub returns-in-Some-clause-denied : goal.returns-in-Some-clause-denied
 returns-in-Some-clause-denied g c = λ is. subst (λ words. DeniesWhatItAsks words (before g c)) c.in-Some.ensures.command (denied_told (explains g c) is)
 
+pub returns-in-Some-clause-rules : goal.returns-in-Some-clause-rules
+returns-in-Some-clause-rules g c = λ is. subst (λ words. ExceedsItsRules words (before g c)) c.in-Some.ensures.command (rules_told (explains g c) is)
+
 pub returns-in-Some-clause-cells : goal.returns-in-Some-clause-cells
 returns-in-Some-clause-cells g c = λ is. subst (λ words. ExceedsItsCells words (before g c)) c.in-Some.ensures.command (cells_told (explains g c) is)
 
@@ -84,6 +87,9 @@ returns-in-Some-clause-complete g c = λ form is input fails.
 
 pub returns-in-Some-clause-migrates : goal.returns-in-Some-clause-migrates
 returns-in-Some-clause-migrates g c = λ policy out is. migrates_told (explains g c) policy out (let known = c.in-Some.ensures.command in cc)
+
+pub returns-in-Some-clause-learns : goal.returns-in-Some-clause-learns
+returns-in-Some-clause-learns g c = λ policy capture file is. learns_told (explains g c) policy capture file (let known = c.in-Some.ensures.command in cc)
 
 pub returns-in-Some-clause-lists : goal.returns-in-Some-clause-lists
 returns-in-Some-clause-lists g c = λ capture is. lists_told (explains g c) capture (let known = c.in-Some.ensures.command in cc)

@@ -1,0 +1,51 @@
+use Rattle.std.proofs.Common.{Err, arith, map, refl, subst, sym, ◌∙◌}
+use Rattle.cf_watch.specs.FlowValue.{flow_value}
+use Rattle.cf_box.specs.Command.{Learn}
+use Rattle.cf_box.specs.Ends.{Meets}
+use Rattle.cf_box.specs.Learn.{IsLearned, LearnsAs}
+use Rattle.cf_box.specs.Outside.{files_value, outside}
+use Rattle.cf_box.proofs.Learning.{has_watched, unlearned_meets, unread_leaves, unwatched_meets, written_meets}
+use Rattle.cf_box.proofs.learn.learn_capture.Goals as goal
+
+pub returns-in-Err-clause-meets : goal.returns-in-Err-clause-meets
+returns-in-Err-clause-meets g c = λ sink pair. (
+  c.in-Err.ensures.stop (Learn c.args.policy_file.now c.args.capture.now c.args.out.now) sink pair refl,
+  unread_leaves c.args.policy_file.now c.args.capture.now c.args.out.now _ _ c.in-Err.stop c.in-Err.ensures.early
+      (record { content = c.load_policy.ensures.only.content; sink = refl; pair = refl }),
+)
+
+pub returns-in-Err-watch-clause-meets : goal.returns-in-Err-watch-clause-meets
+returns-in-Err-watch-clause-meets g c = λ sink pair.
+    let before = outside (files_value g.F.Files c.args.files.now) sink pair in
+    let middle = outside (files_value g.F.Files c.load_policy.new.files) sink pair in
+    let after = outside (files_value g.F.Files c.watch.new.files) sink pair in
+    subst (λ s. Meets (Learn c.args.policy_file.now c.args.capture.now c.args.out.now) before after (Err s)) (sym c.from.ensures)
+    (unwatched_meets c.args.policy_file.now c.args.capture.now c.args.out.now before c.in-Ok.policy c.in-Ok.ensures.has middle after
+    c.load_policy.ensures.only c.watch.ensures.same refl refl (Err c.in-Err-watch.fault) c.in-Err-watch.fault refl c.in-Err-watch.ensures.read.rose
+    c.in-Err-watch.ensures.fault)
+
+pub returns-clause-meets : goal.returns-clause-meets
+returns-clause-meets g c = λ sink pair.
+    let before = outside (files_value g.F.Files c.args.files.now) sink pair in
+    let middle = outside (files_value g.F.Files c.load_policy.new.files) sink pair in
+    let after = outside (files_value g.F.Files c.watch.new.files) sink pair in
+    let flows = map flow_value c.in-Ok-watch.flows.items in
+    unlearned_meets c.args.policy_file.now c.args.capture.now c.args.out.now before c.in-Ok.policy c.in-Ok.ensures.has flows
+    (has_watched c.args.policy_file.now c.args.capture.now c.args.out.now before c.in-Ok.policy c.in-Ok.ensures.has middle flows c.load_policy.ensures.only c.in-Ok-watch.ensures.watched)
+    after (record { content = c.watch.ensures.same ∙ c.load_policy.ensures.only.content; sink = refl; pair = refl }) c.in-Err-learned.stop
+    (subst (λ l. LearnsAs c.in-Ok.policy (map flow_value l) (Err c.in-Err-learned.stop)) c.as_slice.ensures c.in-Err-learned.ensures)
+
+pub returns-in-Ok-learned-clause-meets : goal.returns-in-Ok-learned-clause-meets
+returns-in-Ok-learned-clause-meets g c = λ sink pair.
+    let before = outside (files_value g.F.Files c.args.files.now) sink pair in
+    let middle = outside (files_value g.F.Files c.load_policy.new.files) sink pair in
+    let watched = outside (files_value g.F.Files c.watch.new.files) sink pair in
+    let after = outside (files_value g.F.Files c.write_policy.new.files) sink pair in
+    let flows = map flow_value c.in-Ok-watch.flows.items in
+    let reads = c.watch.ensures.read.later in
+    let earlier = c.load_policy.ensures.only.reads in
+    written_meets c.args.policy_file.now c.args.capture.now c.args.out.now before c.in-Ok.policy c.in-Ok.ensures.has flows
+    (has_watched c.args.policy_file.now c.args.capture.now c.args.out.now before c.in-Ok.policy c.in-Ok.ensures.has middle flows c.load_policy.ensures.only c.in-Ok-watch.ensures.watched)
+    watched after c.in-Ok-learned.policy (subst (λ l. IsLearned c.in-Ok.policy (map flow_value l) c.in-Ok-learned.policy) c.as_slice.ensures c.in-Ok-learned.ensures.0)
+    (record { content = c.watch.ensures.same ∙ c.load_policy.ensures.only.content; reads = omega (arith, reads, earlier); writes = c.watch.ensures.writes ∙ c.load_policy.ensures.only.writes })
+    c.write_policy.ensures.others refl refl c.write_policy.result c.write_policy.ensures.writes c.write_policy.ensures.cause.rose c.write_policy.ensures.unwritten

@@ -1,0 +1,100 @@
+//! `learn POLICY CAPTURE OUT`: a policy is written that allows exactly what a capture shows.
+ghost use Rattle.std.specs.Prelude.{◌≡◌, IfSome, map, option_map, string_bytes};
+ghost use Rattle.cf_box.specs.Command.{Learn};
+ghost use Rattle.cf_box.specs.Ends.{Meets};
+ghost use Rattle.cf_box.specs.Learn.{LearnsAs, learn_of};
+ghost use Rattle.cf_box.specs.Outside.{FilesNeverFall, SinkValue, files_value, outside};
+ghost use Rattle.cf_box.specs.Words.{HasFitWords, command_value};
+ghost use Rattle.cf_outside.specs.PairValue.{PairValue};
+ghost use Rattle.cf_policy.specs.Within.{IsWithin};
+ghost use Rattle.cf_watch.specs.FlowValue.{flow_value};
+
+use crate::command::Command;
+use crate::ending::{CaptureRefusal, Done, Stop};
+use crate::names::are_names;
+use crate::policy_file::{load_policy, name_at, write_policy};
+use cf_learn::{LearnFault, learn};
+use cf_outside::Files;
+use cf_policy::Policy;
+use cf_watch::{Flow, WatchFault, WatchRefusal, watch};
+use std::alloc::Global;
+
+impl From<WatchFault> for Stop {
+    ghost use Rattle.std.specs.Prelude.{◌≡◌};
+    ghost use Rattle.cf_box.specs.Watching.{fault_stop};
+
+    ghost from_gives = { λ fault stop. stop ≡ fault_stop fault };
+
+    fn from(fault: WatchFault) -> Self {
+        match fault {
+            WatchFault::NoMemory => Stop::NoMemory,
+            WatchFault::Read => Stop::ReadFault,
+            WatchFault::Cut(place) => Stop::CaptureCut(place),
+            WatchFault::Refused(WatchRefusal::Long) => Stop::CaptureRefused(CaptureRefusal::Long),
+            WatchFault::Refused(WatchRefusal::TooLong) => {
+                Stop::CaptureRefused(CaptureRefusal::TooLong)
+            }
+            WatchFault::Refused(WatchRefusal::Header(refusal)) => Stop::from(refusal),
+            WatchFault::Refused(WatchRefusal::Block(refusal)) => Stop::from(refusal),
+        }
+    }
+}
+
+/// The words behind `learn`.
+pub(crate) fn read_learn(words: &[String]) -> Option<Command<'_>>
+    ensures command { option_map command_value result ≡ learn_of (map string_bytes words.now) }
+    ensures fit { IfSome result HasFitWords }
+{
+    let [policy, capture, out] = words else {
+        return None;
+    };
+    let (policy, capture, out) = (policy.as_str(), capture.as_str(), out.as_str());
+    if !are_names(&[policy, capture, out]) {
+        return None;
+    }
+    Some(Command::Learn {
+        policy,
+        capture,
+        out,
+    })
+}
+
+/// Reads a policy and a capture, learns the policy that allows exactly what the capture shows, and writes it to a file that is created
+/// last.
+pub(crate) fn learn_capture<F: Files>(
+    alloc: Global,
+    policy_file: &str,
+    capture: &str,
+    out: &str,
+    files: &mut F,
+) -> Result<Done, Stop>
+    ensures meets { (sink : SinkValue) (pair : PairValue) → Meets (Learn policy_file.now capture.now out.now)
+        (outside (files_value F.Files files.old) sink pair) (outside (files_value F.Files files.new) sink pair) result }
+    ensures later { FilesNeverFall (files_value F.Files files.old) (files_value F.Files files.new) }
+{
+    let policy = match load_policy(alloc, policy_file, files) {
+        Ok(policy) => policy,
+        Err(stop) => return Err(stop),
+    };
+    let flows = match watch(alloc, &policy, capture, files) {
+        Ok(flows) => flows,
+        Err(fault) => return Err(Stop::from(fault)),
+    };
+    match learned(alloc, &policy, flows.as_slice()) {
+        Ok(policy) => write_policy(alloc, &policy, out, files),
+        Err(stop) => Err(stop),
+    }
+}
+
+/// The policy that flows make of a policy, or why none is learned.
+#[tactic(auto, using(crate::proofs::Learning::first_named))]
+fn learned(alloc: Global, policy: &Policy, flows: &[Flow]) -> Result<Policy, Stop>
+    requires within { IsWithin policy.now }
+    ensures { LearnsAs policy.now (map flow_value flows.now) result }
+{
+    match learn(alloc, policy, flows) {
+        Ok(policy) => Ok(policy),
+        Err(LearnFault::NoMemory) => Err(Stop::NoMemory),
+        Err(LearnFault::Many(place)) => Err(Stop::TooManyRules(name_at(policy, place))),
+    }
+}
