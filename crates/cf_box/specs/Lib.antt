@@ -5,6 +5,7 @@ pub mod Compare
 pub mod Denial
 pub mod Ending
 pub mod Ends
+pub mod Laws
 pub mod Limits
 pub mod Migrate
 pub mod Names

@@ -6,6 +6,7 @@ mod command;
 mod compare;
 mod denial;
 mod ending;
+mod laws;
 mod limits;
 mod migrate;
 mod names;

@@ -2,6 +2,7 @@
 ghost use Rattle.std.specs.Prelude.{◌≡◌, ◌≤◌, ◌⊎◌, ◌↔◌, IsNone, List, Some, map, string_bytes, ℕ};
 ghost use Rattle.cf_box.specs.Command.{AsksPair, Compare, Migrate, Packets, Run, Sift, World};
 ghost use Rattle.cf_box.specs.Ends.{Ends, Meets};
+ghost use Rattle.cf_box.specs.Laws.{HasLaws};
 ghost use Rattle.cf_box.specs.Limits.{HasLimits};
 ghost use Rattle.cf_box.specs.Migrate.{KeepsMeaning};
 ghost use Rattle.cf_box.specs.Outside.{FilesNeverFall, files_value, outside_value};
@@ -19,6 +20,7 @@ use crate::check::check;
 use crate::command::{Command, read_words};
 use crate::compare::compare_files;
 use crate::ending::{Done, Stop, put_text, report};
+use crate::laws::laws_hold;
 use crate::limits::limits_are;
 use crate::migrate::migrate;
 use crate::packets::packets;
@@ -170,8 +172,12 @@ pub fn box_main<F: Files, O: Sink, P: Pair>(
 
     // The numbers of the limits that the definitions of these clauses cite by name.
     ensures limits { HasLimits }
+
+    // What is so of every run and of every capture.
+    ensures laws { HasLaws }
 {
     limits_are();
+    laws_hold();
     lane_passes_allowed();
     rates_hold();
     has_one_cut();

@@ -1,0 +1,18 @@
+//! Laws over every run and every capture.
+ghost use Rattle.cf_box.specs.Laws.{HasLaws};
+
+use cf_pcapng::{calls_give_blocks, files_have_one_list_of_blocks};
+use cf_refusals::refused_commands_are_told;
+use cf_run::{octets_have_one_list_of_records, records_fix_runs, runs_isolate_sessions};
+
+/// The laws of the layers below that speak of whole runs and whole captures.
+pub(crate) fn laws_hold()
+    ensures { HasLaws }
+{
+    runs_isolate_sessions();
+    refused_commands_are_told();
+    records_fix_runs();
+    octets_have_one_list_of_records();
+    files_have_one_list_of_blocks();
+    calls_give_blocks();
+}

@@ -1,0 +1,66 @@
+-- What is told of a refused command, in the log and in the stream to the client: RefusedAreTold, read from the end. The replies are
+-- those of the standards as the codecs have them; which commands have none is this project's own.
+use Rattle.std.specs.Prelude.{◌≡◌, ℕ, nat_lt, not, Bool, ◌||◌, if◌then◌else◌, List, [], ◌∷◌, ◌++◌, length, slice_index}
+use Rattle.cf_apci.specs.Apdu.{ApduValue, Info}
+use Rattle.cf_asdu.specs.Mirror.{mirrored}
+use Rattle.cf_dnplink.specs.LinkFrame.{FrameValue}
+use Rattle.cf_dnpobj.specs.Fragment.{wants_reply}
+use Rattle.cf_dnpobj.specs.Reply.{reply}
+use Rattle.cf_lane.specs.Dnp3.{fragment_frames, whole_now}
+use Rattle.cf_lane.specs.Follows.{AreJudged}
+use Rattle.cf_lane.specs.History.{Element}
+use Rattle.cf_lane.specs.Iec104.{stamped}
+use Rattle.cf_lane.specs.Item.{Item, Took}
+use Rattle.cf_lane.specs.Judged.{Judged, has_ended}
+use Rattle.cf_lane.specs.Log.{is_some_bytes, line_about, lines, refusal_line}
+use Rattle.cf_lane.specs.Numbers.{events_of}
+use Rattle.cf_lane.specs.Output.{outputs}
+use Rattle.cf_lane.specs.Unit.{Adu, Apdu, Frame, apdu_spelling}
+use Rattle.cf_lane.specs.declared.fate.Fate.TheVariants as fate
+use Rattle.cf_lane.specs.declared.fate.Refusal.{Refusal}
+use Rattle.cf_modbus.specs.Adu.{spelling}
+use Rattle.cf_modbus.specs.Exception.{exception_of}
+use Rattle.cf_policy.specs.Verdict.{IsOneOf}
+use Rattle.cf_policy.specs.declared.Asset.{Asset}
+use Rattle.cf_renumber.specs.Counts.{mirror_stamp}
+use Rattle.cf_view.specs.declared.Endpoint.{Endpoint}
+use Rattle.cf_view.specs.declared.Side.TheVariants as side
+
+-- a reply stands in the stream to the client, but where there is none
+abbrev pub unless : (none : Bool) → List ℕ → List ℕ
+unless none octets = if none then [] else octets
+
+-- DNP3: the response to the fragment that the frame completes; some function codes ask for none
+pub record IsFragmentReply (asset : Asset) (ended : Bool) (earlier : List Judged) (frame : FrameValue) (refusal : Refusal) (replied : List ℕ) : Type 0 where
+  pub fragment : List ℕ
+  pub is_whole : whole_now asset side.Client earlier frame ≡ fragment ∷ []
+  pub is_reply : replied ≡ unless (ended || not (wants_reply (slice_index fragment 1))) (fragment_frames asset side.Client earlier (reply fragment refusal.reason))
+
+-- what replies to a refused item of the client, where its stream has ended or not: one case a protocol. No other item is refused
+abbrev pub IsReply : Asset → (ended : Bool) → (earlier : List Judged) → Item → Refusal → (replied : List ℕ) → Type 0
+IsReply asset ended earlier (Took side.Client (Adu adu)) refusal replied = replied ≡ unless ended (spelling (exception_of adu refusal.reason))
+IsReply asset ended earlier (Took side.Client (Frame frame)) refusal replied = IsFragmentReply asset ended earlier frame refusal replied
+IsReply asset ended earlier (Took side.Client (Apdu (Info send receive asdu))) refusal replied =
+    replied ≡ unless (ended || nat_lt (length asdu) 9) (apdu_spelling (stamped (mirror_stamp (events_of earlier)) (mirrored asdu)))
+IsReply asset ended earlier _ refusal replied = ⊥
+
+-- of a refused command between earlier and later items: what decided, its line, and its reply
+pub record IsTold (asset : Asset) (client : Endpoint) (earlier : List Judged) (j : Judged) (later : List Judged) (refusal : Refusal) : Type 0 where
+  -- a rule that decided is one of the asset's
+  pub decider : IsOneOf asset.rules refusal.decider
+  pub replied : List ℕ
+  pub is_reply : IsReply asset (has_ended side.Controller earlier) earlier j.item refusal replied
+  pub in_stream :
+      outputs asset side.Client [] (earlier ++ j ∷ later)
+      ≡ outputs asset side.Client [] earlier ++ (replied ++ outputs asset side.Client (earlier ++ j ∷ []) later)
+  -- the octets as they were received
+  pub octets : List ℕ
+  pub in_log :
+      lines asset client [] (earlier ++ j ∷ later)
+      ≡ lines asset client [] earlier
+      ++ (line_about asset client j.moment (refusal_line asset refusal (is_some_bytes replied) octets) ∷ lines asset client (earlier ++ j ∷ []) later)
+
+abbrev pub RefusedAreTold : Type 0
+RefusedAreTold =
+    (asset : Asset) (client : Endpoint) (history : List Element) (earlier later : List Judged) (j : Judged) (refusal : Refusal) →
+    AreJudged asset client.address history (earlier ++ j ∷ later) → j.fate ≡ fate.Refused refusal → IsTold asset client earlier j later refusal
