@@ -47,6 +47,7 @@ module _ (Has : Content → Form → List Record → LastPlace → Type 0) (file
   Refuses refusal.TooLong = EndsSomewhere TooLong
   Refuses refusal.Clock = EndsSomewhere Clock
   Refuses refusal.Large = EndsSomewhere Large
+  Refuses refusal.Long = ⊥
   Refuses refusal.Block = EndsSomewhere (Refused block.Block)
   Refuses refusal.Section = HasForm file (Err form.Section) ⊎ EndsSomewhere (Refused block.Section)
   Refuses refusal.Interface = EndsSomewhere (Refused block.Interface)

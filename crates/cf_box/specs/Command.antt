@@ -6,6 +6,7 @@ use Rattle.cf_sift.specs.Names.{SiftNamesValue}
 pub data Command : Type 0 where
   Check : (policy : List ℕ) → Command
   Compare : (policy other : List ℕ) → Command
+  Judge : (policy capture : List ℕ) → Command
   Migrate : (policy out : List ℕ) → Command
   Packets : (capture : List ℕ) → Command
   Run : (policy : List ℕ) (names : RunNamesValue) → Command
@@ -17,6 +18,7 @@ pub data Command : Type 0 where
 abbrev pub policy_file : Command → Option (List ℕ)
 policy_file (Check policy) = Some policy
 policy_file (Compare policy other) = Some policy
+policy_file (Judge policy capture) = Some policy
 policy_file (Migrate policy out) = Some policy
 policy_file (Packets capture) = None
 policy_file (Run policy names) = Some policy
@@ -33,6 +35,7 @@ other_file _ = None
 abbrev pub asset_name : Command → Option (List ℕ)
 asset_name (Check policy) = None
 asset_name (Compare policy other) = None
+asset_name (Judge policy capture) = None
 asset_name (Migrate policy out) = None
 asset_name (Packets capture) = None
 asset_name (Run policy names) = None
@@ -44,6 +47,7 @@ asset_name (Sift policy asset client names) = Some asset
 abbrev pub capture_file : Command → Option (List ℕ)
 capture_file (Check policy) = None
 capture_file (Compare policy other) = None
+capture_file (Judge policy capture) = Some capture
 capture_file (Migrate policy out) = None
 capture_file (Packets capture) = Some capture
 capture_file (Run policy names) = Some names.capture
@@ -55,6 +59,7 @@ capture_file (Sift policy asset client names) = None
 abbrev pub output_files : Command → List (List ℕ)
 output_files (Check policy) = []
 output_files (Compare policy other) = []
+output_files (Judge policy capture) = []
 output_files (Migrate policy out) = out ∷ []
 output_files (Packets capture) = []
 output_files (Run policy names) = names.out ∷ names.log ∷ []

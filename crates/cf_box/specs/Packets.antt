@@ -10,6 +10,7 @@ use Rattle.cf_run.specs.declared.BlockRefusal.TheVariants as block
 use Rattle.cf_run.specs.declared.Form.{Form}
 use Rattle.cf_run.specs.declared.record_reader.OpenFault.{OpenFault}
 use Rattle.cf_run.specs.declared.record_reader.OpenFault.TheVariants as opened
+use Rattle.cf_watch.specs.Watch.{HasRecords}
 use Rattle.cf_box.specs.declared.ending.CaptureRefusal.{CaptureRefusal}
 use Rattle.cf_box.specs.declared.ending.CaptureRefusal.TheVariants as refusal
 use Rattle.cf_box.specs.Captures.{EndsAt, Refuses, form_refusal}
@@ -30,9 +31,7 @@ packets_of _ = None
 
 -- a file of this form has these records up to its last place, as far as it is told; no moment is tested
 abbrev pub HasListedRecords : Content → Form → List Record → LastPlace → Type 0
-HasListedRecords untold form records last = Unit {0}
-HasListedRecords absent form records last = ⊥
-HasListedRecords (holds all) form records last = AreRecords form (first_place form) (drop (first_place form) all) records last
+HasListedRecords file form records last = HasRecords file form records last
 
 -- a listing tests no moments, so none refuses it
 abbrev pub ListingRefuses : Content → CaptureRefusal → Type 0

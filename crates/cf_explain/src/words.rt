@@ -94,6 +94,8 @@ static CHECK_SLOTS: [Slot; 1] = [POLICY];
 
 static COMPARE_SLOTS: [Slot; 2] = [POLICY, OTHER];
 
+static JUDGE_SLOTS: [Slot; 2] = [POLICY, CAPTURE];
+
 static MIGRATE_SLOTS: [Slot; 2] = [POLICY, OUT];
 
 static PACKETS_SLOTS: [Slot; 1] = [CAPTURE];
@@ -106,8 +108,8 @@ static RELAY_SLOTS: [Slot; 5] = [POLICY, ASSET, PORT, IDLES, LOG];
 
 static WORLD_SLOTS: [Slot; 6] = [SEED, SESSIONS, POLICY, CAPTURE, OUT, LOG];
 
-static COMMANDS: [&str; 8] = [
-    "sift", "check", "compare", "migrate", "packets", "run", "relay", "world",
+static COMMANDS: [&str; 9] = [
+    "sift", "check", "compare", "migrate", "packets", "judge", "run", "relay", "world",
 ];
 
 /// The words behind a command, if it is one.
@@ -117,6 +119,7 @@ fn slots_of(command: &str) -> Option<&'static [Slot]> {
         "check" => Some(&CHECK_SLOTS),
         "compare" => Some(&COMPARE_SLOTS),
         "migrate" => Some(&MIGRATE_SLOTS),
+        "judge" => Some(&JUDGE_SLOTS),
         "packets" => Some(&PACKETS_SLOTS),
         "run" => Some(&RUN_SLOTS),
         "relay" => Some(&RELAY_SLOTS),

@@ -40,6 +40,10 @@ pub fn expect_files<R: FileSystem>(
             files.expect(policy)?;
             files.expect(out)
         }
+        Command::Judge { policy, capture } => {
+            files.expect(policy)?;
+            files.expect(capture)
+        }
         Command::Packets { capture } => files.expect(capture),
         Command::Run { policy, names } | Command::World { policy, names, .. } => {
             expect_four(files, [policy, names.capture, names.out, names.log])
@@ -106,7 +110,9 @@ fn explain_command<R: FileSystem + Eprint + AllocGlobal>(
             Some(policy) => explain_policy(rt, policy, files).map(|_| ()),
             None => Ok(()),
         },
-        (6 | 7, Command::Packets { capture }) => explain_capture(rt, capture, false, files),
+        (6 | 7, Command::Packets { capture }) | (6 | 7, Command::Judge { capture, .. }) => {
+            explain_capture(rt, capture, false, files)
+        }
         (6 | 7, Command::Run { names, .. }) | (6 | 7, Command::World { names, .. }) => {
             explain_capture(rt, names.capture, true, files)
         }
@@ -167,9 +173,10 @@ fn explain_link<R: Eprint>(rt: &R, link: Option<&LinkFault>) -> io::Result<()> {
 /// What stands in the files that a command writes.
 fn explain_outputs<R: Eprint + AllocGlobal>(rt: &R, command: &Command<'_>) -> io::Result<()> {
     let message = match command {
-        Command::Check { .. } | Command::Compare { .. } | Command::Packets { .. } => {
-            outputs_message(rt.alloc(), &[])?
-        }
+        Command::Check { .. }
+        | Command::Compare { .. }
+        | Command::Judge { .. }
+        | Command::Packets { .. } => outputs_message(rt.alloc(), &[])?,
         Command::Migrate { out, .. } => outputs_message(rt.alloc(), &[out])?,
         Command::Run { names, .. } => outputs_message(rt.alloc(), &[names.out, names.log])?,
         Command::World { policy, names, .. } => outputs_message(
@@ -190,6 +197,7 @@ fn policy_of<'a>(command: &Command<'a>) -> Option<&'a str> {
         Command::Packets { .. } => None,
         Command::Check { policy }
         | Command::Compare { policy, .. }
+        | Command::Judge { policy, .. }
         | Command::Migrate { policy, .. }
         | Command::Run { policy, .. }
         | Command::World { policy, .. }
