@@ -1,5 +1,5 @@
 -- A capture that is told and refused, or cut: with what else the work over it can end.
-use Rattle.std.proofs.Common.{◌≡◌, ◌⊎◌, ℕ, List, None, Some, Result, Ok, Err, drop, ap, subst, inl, inr, arith}
+use Rattle.std.proofs.Common.{◌≡◌, ◌<◌, ◌≤◌, ◌⊎◌, ℕ, List, arith, length, None, Some, Result, Ok, Err, drop, ap, subst, inl, inr}
 use Rattle.cf_outside.specs.Files.{Content, holds}
 use Rattle.cf_policylang.specs.declared.PolicyRefusal.{PolicyRefusal}
 use Rattle.cf_run.proofs.RecordLists.{one_list, one_timed_list}
@@ -11,26 +11,36 @@ use Rattle.cf_run.specs.declared.BlockRefusal.TheVariants as block
 use Rattle.cf_run.specs.declared.Form.{Form}
 use Rattle.cf_run.specs.declared.FormRefusal.{FormRefusal}
 use Rattle.cf_run.specs.declared.FormRefusal.TheVariants as form
+use Rattle.cf_policy.specs.declared.Asset.{Asset}
+use Rattle.cf_watch.specs.FlowValue.{FlowValue}
+use Rattle.cf_watch.specs.Watch.{EndsAt as WatchEnd, HasFlows}
+use Rattle.cf_watch.specs.declared.fault.TheConstants.{CAPTURE_LIMIT}
 use Rattle.cf_box.specs.Captures.{EndsAt, Refuses}
-use Rattle.cf_box.specs.Command.{Command, Learn, Packets, Run}
+use Rattle.cf_box.specs.Command.{Command, Judge, Packets, Run, Learn}
 use Rattle.cf_box.specs.Ends.{Meets, RefusesPolicy}
+use Rattle.cf_box.specs.Judge.{Objects}
+use Rattle.cf_box.specs.Watching.{WatchCuts, WatchRefuses, HasWatched}
 use Rattle.cf_box.specs.Outside.{Outside, ReadFailed, WriteFailed}
 use Rattle.cf_box.specs.Packets.{HasListedRecords, ListingCuts, ListingRefuses}
 use Rattle.cf_box.specs.PolicyFile.{IsRefusedBy, TellsPolicy}
 use Rattle.cf_box.specs.Run.{RunCuts, RunRefuses}
 use Rattle.cf_box.specs.Status.{TellsCutAt, TellsCutCapture, TellsRefusal, TellsRefusedCapture}
-use Rattle.cf_box.specs.Watching.{HasWatched, WatchCuts, WatchRefuses}
+use Rattle.cf_box.specs.declared.denial.Denial.{Denial}
+use Rattle.cf_box.specs.declared.denial.Denial.TheVariants as denial
 use Rattle.cf_box.specs.declared.ending.CaptureRefusal.{CaptureRefusal}
 use Rattle.cf_box.specs.declared.ending.CaptureRefusal.TheVariants as refusal
 use Rattle.cf_box.specs.declared.ending.Done.{Done}
 use Rattle.cf_box.specs.declared.ending.Stop.{Stop}
 use Rattle.cf_box.specs.declared.ending.Stop.TheVariants as stop
 use Rattle.cf_policy.specs.declared.Policy.{Policy}
-use Rattle.cf_watch.specs.FlowValue.{FlowValue}
-use Rattle.cf_watch.specs.Watch.{EndsAt as IsWatchedUpTo}
 use Rattle.cf_box.proofs.CaptureStops.{listed}
 use Rattle.cf_box.proofs.Complete.{not_refused}
+use Rattle.cf_box.proofs.Judging.{plain_end}
 use Rattle.cf_box.proofs.Statuses.{IsOf, stop_is}
+
+-- a capture that was watched ends so, somewhere
+abbrev WatchEndsAt : Content → AtPlace → Type 0
+WatchEndsAt file found = (place : ℕ) × WatchEnd file found place
 
 -- the octets of a file have one list of records, so one end
 listing_once : (bytes : List ℕ) (found other : AtPlace) (place there : ℕ) → EndsAt HasListedRecords (holds bytes) found place → EndsAt HasListedRecords (holds bytes) other there → found ≡ other
@@ -77,8 +87,8 @@ module _ (failed : Type 0) (status : ℕ) (before after : Outside) where
     ends_refused refusal.LinkType h found place e = absurd (no_form form.LinkType found place h e)
     ends_refused refusal.TooLong h found place e = subst Refusing (once TooLong found h.0 place h.1 e) tt
     ends_refused refusal.Clock h found place e = subst Refusing (once Clock found h.0 place h.1 e) tt
-    ends_refused refusal.Large h found place e = subst Refusing (once Large found h.0 place h.1 e) tt
     ends_refused refusal.Long h found place e = absurd h
+    ends_refused refusal.Large h found place e = subst Refusing (once Large found h.0 place h.1 e) tt
     ends_refused refusal.Block h found place e = subst Refusing (once (Refused block.Block) found h.0 place h.1 e) tt
     ends_refused refusal.Section (inl h) found place e = absurd (no_form form.Section found place h e)
     ends_refused refusal.Section (inr h) found place e = subst Refusing (once (Refused block.Section) found h.0 place h.1 e) tt
@@ -91,6 +101,7 @@ module _ (failed : Type 0) (status : ℕ) (before after : Outside) where
     EndsBy (Err (stop.CaptureRefused r)) = Refuses Has (holds bytes) r
     EndsBy (Err (stop.CaptureCut place)) = EndsAt Has (holds bytes) Cut place
     EndsBy (Err (stop.RunCut place summary)) = EndsAt Has (holds bytes) Cut place
+    EndsBy (Err (stop.Denied why)) = (place : ℕ) × EndsAt Has (holds bytes) FileEnd place
     EndsBy (Err stop.ReadFault) = ReadFailed before after
     EndsBy (Err stop.WriteFault) = WriteFailed before after
     EndsBy (Err stop.NoMemory) = Unit {0}
@@ -101,6 +112,7 @@ module _ (failed : Type 0) (status : ℕ) (before after : Outside) where
     refused_due refused is (Err (stop.CaptureRefused r)) h of = inl (stop_is failed status (stop.CaptureRefused r) of)
     refused_due refused is (Err (stop.CaptureCut place)) h of = absurd (ends_refused refused is Cut place h)
     refused_due refused is (Err (stop.RunCut place summary)) h of = absurd (ends_refused refused is Cut place h)
+    refused_due refused is (Err (stop.Denied why)) h of = absurd (ends_refused refused is FileEnd h.0 h.1)
     refused_due refused is (Err stop.ReadFault) h of = inr (inr (inl (stop_is failed status stop.ReadFault of, h)))
     refused_due refused is (Err stop.WriteFault) h of = inr (inl (stop_is failed status stop.WriteFault of, inl h))
     refused_due refused is (Err stop.NoMemory) h of = inr (inr (inr (stop_is failed status stop.NoMemory of)))
@@ -111,6 +123,7 @@ module _ (failed : Type 0) (status : ℕ) (before after : Outside) where
     cut_due cut is (Err (stop.CaptureRefused r)) h of = absurd (ends_refused r h Cut cut is)
     cut_due cut is (Err (stop.CaptureCut place)) h of = inl (stop_is failed status (stop.CaptureCut place) of)
     cut_due cut is (Err (stop.RunCut place summary)) h of = inl (stop_is failed status (stop.RunCut place summary) of)
+    cut_due cut is (Err (stop.Denied why)) h of = cc (once FileEnd Cut h.0 cut h.1 is)
     cut_due cut is (Err stop.ReadFault) h of = inr (inr (inl (stop_is failed status stop.ReadFault of, h)))
     cut_due cut is (Err stop.WriteFault) h of = inr (inl (stop_is failed status stop.WriteFault of, inl h))
     cut_due cut is (Err stop.NoMemory) h of = inr (inr (inr (stop_is failed status stop.NoMemory of)))
@@ -124,7 +137,7 @@ module _ (failed : Type 0) (status : ℕ) (before after : Outside) where
     unread_policy r (inr (inl cause)) = let none = cause.2 in cc
     unread_policy r (inr (inr made)) = made
 
-    listing_by : (r : Result Done Stop) → Meets (Packets capture) before after r → EndsBy HasListedRecords bytes r
+    listing_by : (r : Result Done Stop) → Meets (Packets capture) before after r → EndsBy HasListedRecords bytes (listing_once bytes) r
     listing_by (Ok d) meets =
         let l = meets.lists in
         let at : EndsAt HasListedRecords (before.files.content capture) FileEnd l.last.place = record {
@@ -160,7 +173,7 @@ module _ (failed : Type 0) (status : ℕ) (before after : Outside) where
     unrefused r (inr (inl cause)) = let none = cause.2 in cc
     unrefused r (inr (inr made)) = made
 
-    run_by : (r : Result Done Stop) → Meets (Run policy names) before after r → EndsBy HasRunRecords bytes r
+    run_by : (r : Result Done Stop) → Meets (Run policy names) before after r → EndsBy HasRunRecords bytes (run_once bytes) r
     run_by (Ok d) meets =
         let r = meets.1.runs.1 in
         let at : EndsAt HasRunRecords (before.files.content names.capture) FileEnd meets.1.runs.0 =
@@ -181,10 +194,10 @@ module _ (failed : Type 0) (status : ℕ) (before after : Outside) where
     run_by (Err (stop.TooManyRules name)) meets = absurd meets.0.0
     run_by (Err (stop.TooManyCells name)) meets = absurd meets.0.0
 
-  -- ---- what is learned of a capture
+  -- ---- a judgement
 
-  module _ (policy capture out : List ℕ) (known : TellsPolicy (before.files.content policy)) (bytes : List ℕ) (told : before.files.content capture ≡ holds bytes) where
-    means_one : (r : PolicyRefusal) → RefusesPolicy (Learn policy capture out) before r → ⊥
+  module _ (policy capture : List ℕ) (known : TellsPolicy (before.files.content policy)) (bytes : List ℕ) (told : before.files.content capture ≡ holds bytes) where
+    means_one : (r : PolicyRefusal) → RefusesPolicy (Judge policy capture) before r → ⊥
     means_one r (inl cause) =
         let e = cause.1 in
         let here : cause.0 ≡ policy = cc in
@@ -192,13 +205,83 @@ module _ (failed : Type 0) (status : ℕ) (before after : Outside) where
     means_one r (inr (inl cause)) = let none = cause.2 in cc
     means_one r (inr (inr made)) = made
 
+    -- the whole capture was watched
+    flows_end : (assets : List Asset) (flows : List FlowValue) → HasFlows assets (before.files.content capture) flows → WatchEndsAt (holds bytes) FileEnd
+    flows_end assets flows has = subst (λ f. WatchEndsAt f FileEnd) told (has.place, has.ends)
+
+    plain_flows : (assets : List Asset) (flows : List FlowValue) → HasFlows assets (before.files.content capture) flows → (place : ℕ) × EndsAt HasListedRecords (holds bytes) FileEnd place
+    plain_flows assets flows has = let e = flows_end assets flows has in (e.0, plain_end (holds bytes) FileEnd e.0 e.1)
+
+    objects_flows : (why : Denial) → Objects policy capture before why → WatchEndsAt (holds bytes) FileEnd
+    objects_flows (denial.Objects tells) o = flows_end o.0.assets o.1 o.2.has_flows
+    objects_flows (denial.NoPartner name) o = absurd o
+    objects_flows (denial.Allows name client act) o = absurd o
+
+    -- where it is not longer than the limit
+    refused_short : (r : CaptureRefusal) → length bytes ≤ CAPTURE_LIMIT → WatchRefuses (holds bytes) r → Refuses HasListedRecords (holds bytes) r
+    refused_short r short (inl h) = let longer = h.1 in absurd (omega (arith, short, longer))
+    refused_short r short (inr h) = h.refuses
+
+    judge_by : length bytes ≤ CAPTURE_LIMIT → (r : Result Done Stop) → Meets (Judge policy capture) before after r → EndsBy HasListedRecords bytes (listing_once bytes) r
+    judge_by short (Ok d) meets = plain_flows meets.keeps.0.assets meets.keeps.1 meets.keeps.2.has_flows
+    judge_by short (Err (stop.CaptureRefused r)) meets = refused_short r short (subst (λ f. WatchRefuses f r) told meets.0.0)
+    judge_by short (Err (stop.CaptureCut place)) meets = plain_end (holds bytes) Cut place (subst (λ f. WatchCuts f place) told meets.0.0)
+    judge_by short (Err (stop.RunCut place summary)) meets = absurd meets.0.0
+    judge_by short (Err stop.ReadFault) meets = meets.0
+    judge_by short (Err stop.WriteFault) meets = meets.0.0
+    judge_by short (Err stop.NoMemory) meets = tt
+    judge_by short (Err (stop.PolicyRefused r)) meets = absurd (means_one r meets.0)
+    judge_by short (Err stop.UnknownAsset) meets = let none = meets.0.3 in cc
+    judge_by short (Err stop.LinkFault) meets = absurd meets.0.0
+    judge_by short (Err stop.IdleEnd) meets = absurd meets.0.0
+    judge_by short (Err (stop.Cut reason)) meets = absurd meets.0.0
+    judge_by short (Err (stop.Denied why)) meets = let e = objects_flows why meets.0.0 in (e.0, plain_end (holds bytes) FileEnd e.0 e.1)
+    judge_by short (Err (stop.TooManyCells name)) meets = absurd meets.0.0
+    judge_by short (Err (stop.TooManyRules name)) meets = absurd meets.0.0
+
+    -- where it is longer
+    ends_short : (found : AtPlace) (place : ℕ) → WatchEnd (holds bytes) found place → CAPTURE_LIMIT < length bytes → ⊥
+    ends_short found place e longer = let short = e.short in omega (arith, short, longer)
+
+    long_due : CAPTURE_LIMIT < length bytes → (r : Result Done Stop) → Meets (Judge policy capture) before after r → IsOf r failed status → DueBehind 6
+    long_due longer (Ok d) meets of = let e = flows_end meets.keeps.0.assets meets.keeps.1 meets.keeps.2.has_flows in absurd (ends_short FileEnd e.0 e.1 longer)
+    long_due longer (Err (stop.CaptureRefused r)) meets of = inl (stop_is failed status (stop.CaptureRefused r) of)
+    long_due longer (Err (stop.CaptureCut place)) meets of = absurd (ends_short Cut place (subst (λ f. WatchCuts f place) told meets.0.0) longer)
+    long_due longer (Err (stop.RunCut place summary)) meets of = absurd meets.0.0
+    long_due longer (Err stop.ReadFault) meets of = inr (inr (inl (stop_is failed status stop.ReadFault of, meets.0)))
+    long_due longer (Err stop.WriteFault) meets of = inr (inl (stop_is failed status stop.WriteFault of, inl meets.0.0))
+    long_due longer (Err stop.NoMemory) meets of = inr (inr (inr (stop_is failed status stop.NoMemory of)))
+    long_due longer (Err (stop.PolicyRefused r)) meets of = absurd (means_one r meets.0)
+    long_due longer (Err stop.UnknownAsset) meets of = let none = meets.0.3 in cc
+    long_due longer (Err stop.LinkFault) meets of = absurd meets.0.0
+    long_due longer (Err stop.IdleEnd) meets of = absurd meets.0.0
+    long_due longer (Err (stop.Cut reason)) meets of = absurd meets.0.0
+    long_due longer (Err (stop.Denied why)) meets of = let e = objects_flows why meets.0.0 in absurd (ends_short FileEnd e.0 e.1 longer)
+    long_due longer (Err (stop.TooManyCells name)) meets of = absurd meets.0.0
+    long_due longer (Err (stop.TooManyRules name)) meets of = absurd meets.0.0
+
+    judge_refused : (refused : CaptureRefusal) → WatchRefuses (holds bytes) refused → (r : Result Done Stop) → Meets (Judge policy capture) before after r → IsOf r failed status → DueBehind 6
+    judge_refused refused (inl is) r meets h = long_due is.1 r meets h
+    judge_refused refused (inr is) r meets h = refused_due HasListedRecords bytes (listing_once bytes) refused is.refuses r (judge_by is.short r meets) h
+
+  -- ---- what is learned of a capture
+
+  module _ (policy capture out : List ℕ) (known : TellsPolicy (before.files.content policy)) (bytes : List ℕ) (told : before.files.content capture ≡ holds bytes) where
+    knows_one : (r : PolicyRefusal) → RefusesPolicy (Learn policy capture out) before r → ⊥
+    knows_one r (inl cause) =
+        let e = cause.1 in
+        let here : cause.0 ≡ policy = cc in
+        not_refused (before.files.content policy) known.bytes known.policy r known.told known.means (subst (λ f. IsRefusedBy (before.files.content f) r) here cause.2)
+    knows_one r (inr (inl cause)) = let none = cause.2 in cc
+    knows_one r (inr (inr made)) = made
+
     -- a capture that is refused is watched to no other end
-    ends_otherwise : (r : CaptureRefusal) → WatchRefuses (holds bytes) r → (found : AtPlace) (place : ℕ) → IsWatchedUpTo (holds bytes) found place → Refusing found
+    ends_otherwise : (r : CaptureRefusal) → WatchRefuses (holds bytes) r → (found : AtPlace) (place : ℕ) → WatchEnd (holds bytes) found place → Refusing found
     ends_otherwise r (inl (is, long)) found place e = absurd (omega (arith, e.short, long))
     ends_otherwise r (inr s) found place e = ends_refused HasListedRecords bytes (listing_once bytes) r s.refuses found place (listed (holds bytes) found place e)
 
-    watched_up_to : (p : Policy) (flows : List FlowValue) → HasWatched policy capture before p flows → (place : ℕ) × IsWatchedUpTo (holds bytes) FileEnd place
-    watched_up_to p flows w = (w.has_flows.place, subst (λ f. IsWatchedUpTo f FileEnd w.has_flows.place) told w.has_flows.ends)
+    watched_up_to : (p : Policy) (flows : List FlowValue) → HasWatched policy capture before p flows → (place : ℕ) × WatchEnd (holds bytes) FileEnd place
+    watched_up_to p flows w = (w.has_flows.place, subst (λ f. WatchEnd f FileEnd w.has_flows.place) told w.has_flows.ends)
 
     learn_refused : (refused : CaptureRefusal) → WatchRefuses (holds bytes) refused → (r : Result Done Stop) → Meets (Learn policy capture out) before after r →
         IsOf r failed status → DueBehind 6
@@ -211,7 +294,7 @@ module _ (failed : Type 0) (status : ℕ) (before after : Outside) where
     learn_refused refused is (Err stop.ReadFault) meets h = inr (inr (inl (stop_is failed status stop.ReadFault h, meets.0)))
     learn_refused refused is (Err stop.WriteFault) meets h = inr (inl (stop_is failed status stop.WriteFault h, inl meets.0.0))
     learn_refused refused is (Err stop.NoMemory) meets h = inr (inr (inr (stop_is failed status stop.NoMemory h)))
-    learn_refused refused is (Err (stop.PolicyRefused r)) meets h = absurd (means_one r meets.0)
+    learn_refused refused is (Err (stop.PolicyRefused r)) meets h = absurd (knows_one r meets.0)
     learn_refused refused is (Err stop.UnknownAsset) meets h = let none = meets.0.3 in cc
     learn_refused refused is (Err (stop.TooManyRules name)) meets h =
         let cause = meets.0.0 in
@@ -224,7 +307,7 @@ module _ (failed : Type 0) (status : ℕ) (before after : Outside) where
     learn_refused refused is (Err (stop.Denied why)) meets h = absurd meets.0.0
     learn_refused refused is (Err (stop.TooManyCells name)) meets h = absurd meets.0.0
 
-    not_to_the_end : (cut place : ℕ) → WatchCuts (holds bytes) cut → IsWatchedUpTo (holds bytes) FileEnd place → ⊥
+    not_to_the_end : (cut place : ℕ) → WatchCuts (holds bytes) cut → WatchEnd (holds bytes) FileEnd place → ⊥
     not_to_the_end cut place is e = cc (listing_once bytes FileEnd Cut place cut (listed (holds bytes) FileEnd place e) (listed (holds bytes) Cut cut is))
 
     learn_cut : (cut : ℕ) → WatchCuts (holds bytes) cut → (r : Result Done Stop) → Meets (Learn policy capture out) before after r → IsOf r failed status → DueBehind 7
@@ -237,7 +320,7 @@ module _ (failed : Type 0) (status : ℕ) (before after : Outside) where
     learn_cut cut is (Err stop.ReadFault) meets h = inr (inr (inl (stop_is failed status stop.ReadFault h, meets.0)))
     learn_cut cut is (Err stop.WriteFault) meets h = inr (inl (stop_is failed status stop.WriteFault h, inl meets.0.0))
     learn_cut cut is (Err stop.NoMemory) meets h = inr (inr (inr (stop_is failed status stop.NoMemory h)))
-    learn_cut cut is (Err (stop.PolicyRefused r)) meets h = absurd (means_one r meets.0)
+    learn_cut cut is (Err (stop.PolicyRefused r)) meets h = absurd (knows_one r meets.0)
     learn_cut cut is (Err stop.UnknownAsset) meets h = let none = meets.0.3 in cc
     learn_cut cut is (Err (stop.TooManyRules name)) meets h =
         let cause = meets.0.0 in
@@ -255,6 +338,7 @@ module _ (failed : Type 0) (status : ℕ) (before after : Outside) where
   pub capture_from : (c : Command) → TellsRefusedCapture c before → (r : Result Done Stop) → Meets c before after r → IsOf r failed status → DueBehind 6
   capture_from (Packets capture) t r meets h =
       refused_due HasListedRecords t.bytes (listing_once t.bytes) t.refusal t.refuses.0 r (listing_by capture t.bytes t.told r meets) h
+  capture_from (Judge policy capture) (known, t) r meets h = judge_refused policy capture known t.bytes t.told t.refusal t.refuses r meets h
   capture_from (Run policy names) (known, t) r meets h =
       refused_due HasRunRecords t.bytes (run_once t.bytes) t.refusal t.refuses r (run_by policy names known t.bytes t.told r meets) h
   capture_from (Learn policy capture out) (known, t) r meets h = learn_refused policy capture out known t.bytes t.told t.refusal t.refuses r meets h
@@ -262,6 +346,8 @@ module _ (failed : Type 0) (status : ℕ) (before after : Outside) where
 
   pub capture_cut_from : (c : Command) → TellsCutCapture c before → (r : Result Done Stop) → Meets c before after r → IsOf r failed status → DueBehind 7
   capture_cut_from (Packets capture) t r meets h = cut_due HasListedRecords t.bytes (listing_once t.bytes) t.place t.cuts r (listing_by capture t.bytes t.told r meets) h
+  capture_cut_from (Judge policy capture) (known, t) r meets h =
+      cut_due HasListedRecords t.bytes (listing_once t.bytes) t.place (plain_end (holds t.bytes) Cut t.place t.cuts) r (judge_by policy capture known t.bytes t.told t.cuts.short r meets) h
   capture_cut_from (Run policy names) (known, t) r meets h = cut_due HasRunRecords t.bytes (run_once t.bytes) t.place t.cuts r (run_by policy names known t.bytes t.told r meets) h
   capture_cut_from (Learn policy capture out) (known, t) r meets h = learn_cut policy capture out known t.bytes t.told t.place t.cuts r meets h
   capture_cut_from c t r meets h = absurd t

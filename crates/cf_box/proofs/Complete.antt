@@ -1,6 +1,6 @@
 -- Where all is in form and nothing fails, the work is done.
 use Rattle.std.proofs.lemmas.Option.{get_or_from_slice_get, slice_get_within}
-use Rattle.std.proofs.Common.{◌≡◌, ◌⊎◌, ◌≤◌, ℕ, List, All, Some, Result, Ok, Err, drop, length, refl, sym, subst, ◌∙◌, ap, inl, inr, arith}
+use Rattle.std.proofs.Common.{◌≤◌, length, arith, ◌≡◌, ◌⊎◌, ℕ, List, All, Some, Result, Ok, Err, drop, refl, sym, subst, ◌∙◌, ap, inl, inr}
 use Rattle.cf_outside.specs.Files.{Content, holds, IsWhole}
 use Rattle.cf_run.proofs.RecordLists.{one_list, one_timed_list}
 use Rattle.cf_run.specs.Capture.{AreRecords, AtPlace, Clock, Cut, FileEnd, Large, LastPlace, Record, Refused, TooLong}
@@ -17,15 +17,16 @@ use Rattle.cf_policylang.specs.Documents.{policy_meaning}
 use Rattle.cf_policylang.specs.declared.PolicyRefusal.{PolicyRefusal}
 use Rattle.cf_run.specs.RunCapture.{HasRecords as HasRunRecords}
 use Rattle.cf_box.specs.Captures.{EndsAt, Refuses}
-use Rattle.cf_box.specs.Command.{Command, Check, Compare, Learn, Migrate, Packets, Run, Relay, World, Sift, asset_name, capture_file, other_file, policy_file}
+use Rattle.cf_box.specs.Command.{Command, Check, Compare, Judge, Migrate, Packets, Run, Relay, World, Sift, asset_name, capture_file, other_file, policy_file, Learn}
 use Rattle.cf_box.specs.Compare.{ExceedsAt, IsNotIncluded}
 use Rattle.cf_box.specs.Ends.{CutsCapture, CutsRun, CutsStream, Denies, EndsIdle, ExceedsCells, ExceedsRules, LacksAsset, LinkFails, Meets, RefusesCapture, RefusesMadePolicy, RefusesPolicy}
 use Rattle.cf_box.specs.Outside.{Outside, ReadFailed, WriteFailed}
 use Rattle.cf_box.specs.Packets.{HasListedRecords}
 use Rattle.cf_box.specs.PolicyFile.{HasPolicy, IsRefusedBy, TellsAsset}
 use Rattle.cf_box.specs.Run.{RunCuts, RunRefuses}
-use Rattle.cf_box.specs.Status.{EndsWell, HasInput, HasRecords, HasTimedRecords, HoldsWhatItAsks, NothingFails, TellsMade}
+use Rattle.cf_watch.specs.declared.fault.TheConstants.{CAPTURE_LIMIT}
 use Rattle.cf_box.specs.Watching.{WatchCuts, WatchRefuses}
+use Rattle.cf_box.specs.Status.{EndsWell, HasInput, HasRecords, HasTimedRecords, HoldsWhatItAsks, NothingFails, TellsMade}
 use Rattle.cf_box.specs.declared.denial.Denial.{Denial}
 use Rattle.cf_box.specs.declared.denial.Denial.TheVariants as denial
 use Rattle.cf_box.specs.declared.ending.CaptureRefusal.{CaptureRefusal}
@@ -33,7 +34,6 @@ use Rattle.cf_box.specs.declared.ending.CaptureRefusal.TheVariants as refusal
 use Rattle.cf_box.specs.declared.ending.Done.{Done}
 use Rattle.cf_box.specs.declared.ending.Stop.{Stop}
 use Rattle.cf_box.specs.declared.ending.Stop.TheVariants as stop
-use Rattle.cf_watch.specs.declared.fault.TheConstants.{CAPTURE_LIMIT}
 use Rattle.cf_box.proofs.CaptureStops.{listed}
 use Rattle.cf_box.proofs.Statuses.{Explains, IsOf, explained, read_failed, write_failed}
 
@@ -127,16 +127,16 @@ not_refused_watch bytes has short r (inr s) = not_refused_by HasListedRecords by
 not_cut_watch : (bytes : List ℕ) → HasRecords bytes → (place : ℕ) → WatchCuts (holds bytes) place → ⊥
 not_cut_watch bytes has place h = not_cut_at HasListedRecords bytes has.0 has.1 (listing_ends bytes has) place (listed (holds bytes) Cut place h)
 
-abbrev IsInForm : Command → Outside → Type 0
+abbrev pub IsInForm : Command → Outside → Type 0
 IsInForm c before = (file : List ℕ) → capture_file c ≡ Some file → (bytes : List ℕ) × (before.files.content file ≡ holds bytes) × EndsWell c bytes
 
 -- so no command's capture in form is refused, nor cut, nor is its run: a line a command
-record EndsInForm (c : Command) (before : Outside) : Type 0 where
-  refused : (r : CaptureRefusal) → RefusesCapture c before r → ⊥
-  cut : (place : ℕ) → CutsCapture c before place → ⊥
-  run_cut : (place : ℕ) → CutsRun c before place → ⊥
+pub record EndsInForm (c : Command) (before : Outside) : Type 0 where
+  pub refused : (r : CaptureRefusal) → RefusesCapture c before r → ⊥
+  pub cut : (place : ℕ) → CutsCapture c before place → ⊥
+  pub run_cut : (place : ℕ) → CutsRun c before place → ⊥
 
-ends_in_form : (c : Command) (before : Outside) → IsInForm c before → TellsMade c before → EndsInForm c before
+pub ends_in_form : (c : Command) (before : Outside) → IsInForm c before → TellsMade c before → EndsInForm c before
 ends_in_form (Packets capture) before good tells =
     let (bytes, told, has) = good capture refl in
     record {
@@ -150,6 +150,13 @@ ends_in_form (Run policy names) before good tells =
     record { refused = λ r h. not_refused_run bytes has r (subst (λ f. RunRefuses f r) told h); cut = uncut; run_cut = uncut }
 ends_in_form (Check policy) before good tells = record { refused = λ r h. h; cut = λ place h. h; run_cut = λ place h. h }
 ends_in_form (Compare policy other) before good tells = record { refused = λ r h. h; cut = λ place h. h; run_cut = λ place h. h }
+ends_in_form (Judge policy capture) before good tells =
+    let (bytes, told, has) = good capture refl in
+    record {
+      refused = λ r h. not_refused_watch bytes has.0 has.1 r (subst (λ f. WatchRefuses f r) told h);
+      cut = λ place h. not_cut_watch bytes has.0 place (subst (λ f. WatchCuts f place) told h);
+      run_cut = λ place h. h;
+    }
 ends_in_form (Learn policy capture out) before good tells =
     let (bytes, told, has) = good capture refl in
     record {
@@ -167,6 +174,7 @@ made_none : (c : Command) (before : Outside) → TellsMade c before → RefusesM
 made_none (World seed sessions policy names) before tells made = tells.0 made
 made_none (Check policy) before tells made = made
 made_none (Compare policy other) before tells made = made
+made_none (Judge policy capture) before tells made = made
 made_none (Learn policy capture out) before tells made = made
 made_none (Migrate policy out) before tells made = made
 made_none (Packets capture) before tells made = made
@@ -192,6 +200,7 @@ stops_nowhere ours theirs place reason all s lacks =
 
 not_denied : (ours theirs : Policy) → All (HasNothing theirs) ours.assets → (why : Denial) → IsNotIncluded ours theirs why → ⊥
 not_denied ours theirs all (denial.NoPartner name) d = stops_nowhere ours theirs d.0 _ all d.1 (λ asset none s. none.partner s.1)
+not_denied ours theirs all (denial.Objects tells) d = d
 not_denied ours theirs all (denial.Allows name client act) d = stops_nowhere ours theirs d.0 _ all d.1 (λ asset none s. none.difference client act s.1)
 
 not_exceeding : (ours theirs : Policy) (name : List ℕ) → All (HasNothing theirs) ours.assets → ExceedsAt ours theirs name → ⊥
@@ -200,6 +209,7 @@ not_exceeding ours theirs name all d = stops_nowhere ours theirs d.0 _ all d.1 (
 -- what is asked and is so is not denied, and is not too much: a line a command that asks
 asked_holds : (c : Command) (before : Outside) (why : Denial) → HoldsWhatItAsks c before → Denies c before why → ⊥
 asked_holds (Compare policy other) before why asked d = not_denied d.0 d.1 (asked d.0 d.1 d.2) why d.3
+asked_holds (Judge policy capture) before why asked d = asked why d
 asked_holds c before why asked d = absurd d
 
 asked_is_small : (c : Command) (before : Outside) (name : List ℕ) → HoldsWhatItAsks c before → ExceedsCells c before name → ⊥

@@ -15,7 +15,7 @@ use Rattle.cf_policy.specs.declared.Asset.{Asset}
 use Rattle.cf_policy.specs.declared.Policy.{Policy}
 use Rattle.cf_policylang.specs.Documents.{policy_meaning}
 use Rattle.cf_policylang.specs.declared.PolicyRefusal.{PolicyRefusal}
-use Rattle.cf_box.specs.Command.{Command, Check, Compare, Learn, Migrate, Packets, Run, Relay, World, Sift, asset_name, other_file, policy_file}
+use Rattle.cf_box.specs.Command.{Command, Check, Compare, Judge, Migrate, Packets, Run, Relay, World, Sift, asset_name, other_file, policy_file, Learn}
 use Rattle.cf_box.specs.Compare.{IsIncluded, OfPolicies, TellsNotIncluded}
 use Rattle.cf_box.specs.Ends.{Does, LacksAsset, Meets, PassesPolicy, RefusesMadePolicy, RefusesPolicy}
 use Rattle.cf_box.specs.Learn.{Learns}
@@ -26,12 +26,12 @@ use Rattle.cf_sift.specs.Names.{SiftNamesValue}
 use Rattle.cf_sift.specs.Stored.{GoesUpTo, stored_history}
 use Rattle.cf_box.specs.Relay.{HasRelayed, RelayLeaves, TellsRelay, relay_answer}
 use Rattle.cf_box.specs.Sift.{TakesStream, TellsCutStream}
-use Rattle.cf_box.specs.Status.{IsExact, TellsCut, TellsDenial, TellsIdle, TellsNoAsset, TellsNoPolicy}
+use Rattle.cf_box.specs.Status.{IsExact, TellsCut, TellsDenial, TellsIdle, TellsNoAsset, TellsNoPolicy, TellsObjection}
 use Rattle.cf_box.specs.declared.ending.Done.{Done}
 use Rattle.cf_box.specs.declared.ending.Stop.{Stop}
 use Rattle.cf_box.specs.declared.ending.Stop.TheVariants as stop
 use Rattle.cf_box.proofs.CaptureExact.{capture_from, capture_cut_from}
-use Rattle.cf_box.proofs.Complete.{not_lacking, not_refused, same_bytes, same_policy}
+use Rattle.cf_box.proofs.Complete.{EndsInForm, ends_in_form, not_lacking, not_refused, same_bytes, same_policy}
 use Rattle.cf_box.proofs.Passing.{found_passes, one_policy}
 use Rattle.cf_box.proofs.Relaying.{GoesOn, IsUncutEnd, few_by, idle_is_late, link_is_late, uncut_by}
 use Rattle.cf_box.proofs.Statuses.{Explains, IsOf, Unprinted, explained, read_failed, stop_is, write_failed}
@@ -49,6 +49,13 @@ does_pass before after (Compare policy second) d m =
     record {
       policy = λ file e. let same : policy ≡ file = cc in (ours, subst (λ f. HasPolicy (before.files.content f) ours) same m.includes.2.has_ours);
       other = λ file e. let same : second ≡ file = cc in (theirs, subst (λ f. HasPolicy (before.files.content f) theirs) same m.includes.2.has_theirs);
+      asset = λ file name e f. cc f;
+    }
+does_pass before after (Judge policy capture) d m =
+    let meaning : Policy = m.keeps.0 in
+    record {
+      policy = λ file e. let same : policy ≡ file = cc in (meaning, subst (λ f. HasPolicy (before.files.content f) meaning) same m.keeps.2.has_policy);
+      other = λ file e. cc e;
       asset = λ file name e f. cc f;
     }
 does_pass before after (Migrate policy out) d m =
@@ -81,6 +88,7 @@ made_unread : (c : Command) (before : Outside) (file : List ℕ) → policy_file
 made_unread (World seed sessions policy names) before file e made = cc e
 made_unread (Check policy) before file e made = made
 made_unread (Compare policy second) before file e made = made
+made_unread (Judge policy capture) before file e made = made
 made_unread (Learn policy capture out) before file e made = made
 made_unread (Migrate policy out) before file e made = made
 made_unread (Packets capture) before file e made = made
@@ -319,6 +327,7 @@ module _ (failed : Type 0) (status : ℕ) (before after : Outside) where
   idle_from : HasOneJudgement → (c : Command) → TellsIdle c before after.pair → (r : Result Done Stop) → Meets c before after r → IsOf r failed status → DueIdle
   idle_from law (Check policy) t r meets h = absurd t
   idle_from law (Compare policy second) t r meets h = absurd t
+  idle_from law (Judge policy capture) t r meets h = absurd t
   idle_from law (Learn policy capture out) t r meets h = absurd t
   idle_from law (Migrate policy out) t r meets h = absurd t
   idle_from law (Packets capture) t r meets h = absurd t
@@ -331,6 +340,7 @@ module _ (failed : Type 0) (status : ℕ) (before after : Outside) where
   stream_from : HasOneCut → HasOneJudgement → (c : Command) → TellsCut c before after.pair → (r : Result Done Stop) → Meets c before after r → IsOf r failed status → DueWritten
   stream_from one judgement (Check policy) t r meets h = absurd t
   stream_from one judgement (Compare policy second) t r meets h = absurd t
+  stream_from one judgement (Judge policy capture) t r meets h = absurd t
   stream_from one judgement (Learn policy capture out) t r meets h = absurd t
   stream_from one judgement (Migrate policy out) t r meets h = absurd t
   stream_from one judgement (Packets capture) t r meets h = absurd t
@@ -380,9 +390,34 @@ module _ (failed : Type 0) (status : ℕ) (before after : Outside) where
     denied_from (Err (stop.TooManyRules name)) meets h = absurd meets.0.0
     denied_from (Err (stop.TooManyCells name)) meets h = inl (inr (stop_is failed status (stop.TooManyCells name) h))
 
+  module _ (policy capture : List ℕ) (t : TellsObjection policy capture before) where
+    judged_in_form : EndsInForm (Judge policy capture) before
+    judged_in_form =
+        ends_in_form (Judge policy capture) before
+        (λ file e. let same : capture ≡ file = cc in (t.bytes, subst (λ f. before.files.content f ≡ holds t.bytes) same t.told, (t.ends, t.short))) tt
+
+    objection_from : (r : Result Done Stop) → Meets (Judge policy capture) before after r → IsOf r failed status → DueDenied
+    objection_from (Ok d) meets h = absurd (t.not_clean d meets.keeps)
+    objection_from (Err stop.ReadFault) meets h = inr (inl (stop_is failed status stop.ReadFault h, meets.0))
+    objection_from (Err stop.NoMemory) meets h = inr (inr (stop_is failed status stop.NoMemory h))
+    objection_from (Err (stop.PolicyRefused r)) meets h =
+        absurd (known_unrefused (Judge policy capture) before policy t.known.bytes t.known.policy r refl t.known.told t.known.means (λ second e. cc e) meets.0)
+    objection_from (Err stop.UnknownAsset) meets h = let cause : LacksAsset (Judge policy capture) before = meets.0 in absurd (cc (cause.3))
+    objection_from (Err stop.WriteFault) meets h = absurd (meets.1.unwritten refl)
+    objection_from (Err (stop.CaptureRefused r)) meets h = absurd (judged_in_form.refused r meets.0.0)
+    objection_from (Err (stop.CaptureCut place)) meets h = absurd (judged_in_form.cut place meets.0.0)
+    objection_from (Err (stop.RunCut place summary)) meets h = absurd meets.0.0
+    objection_from (Err stop.LinkFault) meets h = absurd meets.0.0
+    objection_from (Err stop.IdleEnd) meets h = absurd meets.0.0
+    objection_from (Err (stop.Cut reason)) meets h = absurd meets.0.0
+    objection_from (Err (stop.Denied why)) meets h = inl (inl (stop_is failed status (stop.Denied why) h))
+    objection_from (Err (stop.TooManyCells name)) meets h = absurd meets.0.0
+    objection_from (Err (stop.TooManyRules name)) meets h = absurd meets.0.0
+
   -- what is asked and is not so: a line a command that asks
   asked_from : (c : Command) → TellsDenial c before → (r : Result Done Stop) → Meets c before after r → IsOf r failed status → DueDenied
   asked_from (Compare policy second) t r meets h = denied_from policy second t r meets h
+  asked_from (Judge policy capture) t r meets h = objection_from policy capture t r meets h
   asked_from c t r meets h = absurd t
 
 -- what is due at the answer is due at the end

@@ -9,7 +9,7 @@ use Rattle.cf_run.specs.RunCapture.{RunNamesValue}
 use Rattle.cf_run.specs.declared.run.RunFault.{RunFault}
 use Rattle.cf_run.specs.declared.run.RunFault.TheVariants as fault
 use Rattle.cf_run.specs.declared.run.RunRefusal.TheVariants as by
-use Rattle.cf_box.specs.Command.{Command, Check, Compare, Learn, Migrate, Packets, Run, Relay, World, Sift, output_files}
+use Rattle.cf_box.specs.Command.{Command, Check, Compare, Judge, Migrate, Packets, Run, Relay, World, Sift, output_files, Learn}
 use Rattle.cf_box.specs.Ending.{status_of, stop_status}
 use Rattle.cf_box.specs.Ends.{Does, Leaves, Meets, StopsFor}
 use Rattle.cf_sift.specs.Outputs.{IsSameBeside, KeepsAllBut}
@@ -76,6 +76,7 @@ module _ (before after : Outside) where
   done_keeps : (k : Command) (d : Done) → Does k before after d → Keeps k
   done_keeps (Check policy) d m = nothing_written (Check policy) m.same.content
   done_keeps (Compare policy other) d m = nothing_written (Compare policy other) m.same.content
+  done_keeps (Judge policy capture) d m = nothing_written (Judge policy capture) m.same.content
   done_keeps (Learn policy capture out) d m = m.others
   done_keeps (Migrate policy out) d m = m.others
   done_keeps (Packets file) d m = nothing_written (Packets file) m.content
@@ -109,6 +110,7 @@ module _ (before after : Outside) where
   stop_keeps : (k : Command) (s : Stop) → Leaves k before after s → Keeps k
   stop_keeps (Check policy) s l = nothing_written (Check policy) l.same.content
   stop_keeps (Compare policy other) s l = nothing_written (Compare policy other) l.same.content
+  stop_keeps (Judge policy capture) s l = nothing_written (Judge policy capture) l.same.content
   stop_keeps (Learn policy capture out) s l = learn_keeps policy capture out s l
   stop_keeps (Migrate policy out) s l = migrate_keeps policy out s l
   stop_keeps (Packets file) s l = nothing_written (Packets file) l.content
@@ -162,6 +164,7 @@ module _ (before after : Outside) where
   unwritten_by : (k : Command) (s : Stop) → WritesNothing (stop_status s) → TellsMade k before → StopsFor k before after s → Leaves k before after s → after.files.content ≡ before.files.content
   unwritten_by (Check policy) s w t f l = l.same.content
   unwritten_by (Compare policy other) s w t f l = l.same.content
+  unwritten_by (Judge policy capture) s w t f l = l.same.content
   unwritten_by (Learn policy capture out) s w t f l = learn_unwritten policy capture out s w l
   unwritten_by (Migrate policy out) s w t f l = migrate_unwritten policy out s w l
   unwritten_by (Packets file) s w t f l = l.content

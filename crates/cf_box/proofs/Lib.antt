@@ -4,6 +4,7 @@ pub mod Comparing
 pub mod Complete
 pub mod Exact
 pub mod FileNames
+pub mod Judging
 pub mod Kept
 pub mod Learning
 pub mod Listing

@@ -11,14 +11,14 @@ use Rattle.cf_sift.specs.Stored.{stored_history}
 use Rattle.cf_outside.specs.Faults.{Rose}
 use Rattle.cf_outside.specs.PairValue.{PairValue}
 use Rattle.cf_policylang.specs.declared.PolicyRefusal.{PolicyRefusal}
-use Rattle.cf_box.specs.Command.{Command, Check, Compare, Learn, Migrate, Packets, Run, Relay, World, Sift}
+use Rattle.cf_box.specs.Command.{Command, Check, Compare, Judge, Migrate, Packets, Run, Relay, World, Sift, Learn}
 use Rattle.cf_box.specs.Ending.{Prints, Reports, end_text, status_of, stop_status, unprinted_status}
 use Rattle.cf_box.specs.Ends.{CutsCapture, CutsRun, CutsStream, Denies, EndsIdle, ExceedsCells, ExceedsRules, LacksAsset, LinkFails, Meets, RefusesCapture, RefusesPolicy}
 use Rattle.cf_box.specs.Learn.{HoldsLearned}
 use Rattle.cf_box.specs.Migrate.{KeepsMeaning}
 use Rattle.cf_box.specs.Outside.{Outside, ReadFailed, SinkValue, WriteFailed}
 use Rattle.cf_box.specs.Packets.{Lists, ListsFile}
-use Rattle.cf_box.specs.Status.{Includes, IsStatus, SiftPassesAllowed}
+use Rattle.cf_box.specs.Status.{Includes, IsStatus, JudgedClean, SiftPassesAllowed}
 use Rattle.cf_box.specs.declared.denial.Denial.{Denial}
 use Rattle.cf_box.specs.declared.ending.CaptureRefusal.{CaptureRefusal}
 use Rattle.cf_box.specs.declared.ending.Done.{Done}
@@ -108,6 +108,7 @@ module _ (failed : Type 0) (status : ℕ) where
     run_cut (Run policy names) place cut = cut
     run_cut (Check policy) place cut = absurd cut
     run_cut (Compare policy other) place cut = absurd cut
+    run_cut (Judge policy capture) place cut = absurd cut
     run_cut (Learn policy capture out) place cut = absurd cut
     run_cut (Migrate policy out) place cut = absurd cut
     run_cut (Packets capture) place cut = absurd cut
@@ -129,6 +130,7 @@ module _ (failed : Type 0) (status : ℕ) where
     link_of (Relay policy asset port idles log) pair fails = fails
     link_of (Check policy) pair fails = absurd fails
     link_of (Compare policy other) pair fails = absurd fails
+    link_of (Judge policy capture) pair fails = absurd fails
     link_of (Learn policy capture out) pair fails = absurd fails
     link_of (Migrate policy out) pair fails = absurd fails
     link_of (Packets capture) pair fails = absurd fails
@@ -165,6 +167,12 @@ module _ (failed : Type 0) (status : ℕ) where
       status ≡ 0 → Includes policy second before
   includes_from before middle policy second (Ok d) m h is = m.includes
   includes_from before middle policy second (Err s) m h is = absurd (not_done s h is)
+
+  -- nothing that was judged is objected to
+  judged_from : (before middle : Outside) (policy capture : List ℕ) (r : Result Done Stop) → Meets (Judge policy capture) before middle r → IsOf r failed status →
+      status ≡ 0 → JudgedClean policy capture before
+  judged_from before middle policy capture (Ok d) m h is = (d, m.keeps)
+  judged_from before middle policy capture (Err s) m h is = absurd (not_done s h is)
 
   -- a policy that was written anew means what it meant
   migrates_from : (before middle after : Outside) (policy out : List ℕ) → after.files ≡ middle.files → (r : Result Done Stop) →
@@ -220,6 +228,7 @@ module _ (failed : Type 0) (status : ℕ) where
   lists_from before middle after file (Ok (done.Relayed admitted refused)) m reports h is = cc (m.lists.answers.0)
   lists_from before middle after file (Ok (done.Checked assets rules)) m reports h is = cc (m.lists.answers.0)
   lists_from before middle after file (Ok done.Included) m reports h is = cc (m.lists.answers.0)
+  lists_from before middle after file (Ok (done.Unobjected flows commands)) m reports h is = cc (m.lists.answers.0)
   lists_from before middle after file (Ok (done.Ran summary)) m reports h is = cc (m.lists.answers.0)
   lists_from before middle after file (Err s) m reports h is = absurd (not_done s h is)
 
@@ -287,6 +296,10 @@ module _ {c : Command} {before after : Outside} {status : ℕ} (e : Explains c b
   pub includes_told : (policy second : List ℕ) → c ≡ Compare policy second → status ≡ 0 → Includes policy second before
   includes_told policy second is =
       includes_from Unprinted status before e.middle policy second e.r (subst (λ k. Meets k before e.middle e.r) is e.meets) explained
+
+  pub judged_told : (policy capture : List ℕ) → c ≡ Judge policy capture → status ≡ 0 → JudgedClean policy capture before
+  judged_told policy capture is =
+      judged_from Unprinted status before e.middle policy capture e.r (subst (λ k. Meets k before e.middle e.r) is e.meets) explained
 
   pub migrates_told : (policy out : List ℕ) → c ≡ Migrate policy out → status ≡ 0 → KeepsMeaning policy out before after
   migrates_told policy out is =

@@ -6,6 +6,7 @@ use Rattle.cf_sift.specs.Names.{SiftNamesValue}
 pub data Command : Type 0 where
   Check : (policy : List ℕ) → Command
   Compare : (policy other : List ℕ) → Command
+  Judge : (policy capture : List ℕ) → Command
   Learn : (policy capture out : List ℕ) → Command
   Migrate : (policy out : List ℕ) → Command
   Packets : (capture : List ℕ) → Command
@@ -18,6 +19,7 @@ pub data Command : Type 0 where
 abbrev pub policy_file : Command → Option (List ℕ)
 policy_file (Check policy) = Some policy
 policy_file (Compare policy other) = Some policy
+policy_file (Judge policy capture) = Some policy
 policy_file (Learn policy capture out) = Some policy
 policy_file (Migrate policy out) = Some policy
 policy_file (Packets capture) = None
@@ -35,6 +37,7 @@ other_file _ = None
 abbrev pub asset_name : Command → Option (List ℕ)
 asset_name (Check policy) = None
 asset_name (Compare policy other) = None
+asset_name (Judge policy capture) = None
 asset_name (Learn policy capture out) = None
 asset_name (Migrate policy out) = None
 asset_name (Packets capture) = None
@@ -47,6 +50,7 @@ asset_name (Sift policy asset client names) = Some asset
 abbrev pub capture_file : Command → Option (List ℕ)
 capture_file (Check policy) = None
 capture_file (Compare policy other) = None
+capture_file (Judge policy capture) = Some capture
 capture_file (Learn policy capture out) = Some capture
 capture_file (Migrate policy out) = None
 capture_file (Packets capture) = Some capture
@@ -59,6 +63,7 @@ capture_file (Sift policy asset client names) = None
 abbrev pub output_files : Command → List (List ℕ)
 output_files (Check policy) = []
 output_files (Compare policy other) = []
+output_files (Judge policy capture) = []
 output_files (Learn policy capture out) = out ∷ []
 output_files (Migrate policy out) = out ∷ []
 output_files (Packets capture) = []

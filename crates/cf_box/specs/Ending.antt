@@ -69,12 +69,17 @@ summary_text s =
 abbrev pub commands_text : (admitted refused : ℕ) → List ℕ
 commands_text admitted refused = codes "admitted " ++ decimal admitted ++ codes "\nrefused " ++ decimal refused ++ codes "\n"
 
+-- how many flows there are, and how many commands the policy allows
+abbrev pub unobjected_text : (flows commands : ℕ) → List ℕ
+unobjected_text flows commands = codes "yes flows " ++ decimal flows ++ codes " commands " ++ decimal commands ++ codes "\n"
+
 -- what is printed of work that was done; the lines of a listing were printed before
 abbrev pub done_text : Done → Option (List ℕ)
 done_text (done.Sifted admitted refused) = Some (commands_text admitted refused)
 done_text (done.Relayed admitted refused) = Some (commands_text admitted refused)
 done_text (done.Checked assets rules) = Some (codes "ok " ++ decimal assets ++ codes " " ++ decimal rules ++ codes "\n")
 done_text done.Included = Some (codes "included\n")
+done_text (done.Unobjected flows commands) = Some (unobjected_text flows commands)
 done_text done.Listed = None
 done_text (done.Ran summary) = Some (summary_text summary)
 

@@ -8,9 +8,11 @@ use Rattle.cf_policy.specs.declared.Asset.{Asset}
 use Rattle.cf_policy.specs.declared.Policy.{Policy}
 use Rattle.cf_policylang.specs.declared.PolicyRefusal.{PolicyRefusal}
 use Rattle.cf_box.specs.Check.{CheckLeaves, Checks}
-use Rattle.cf_box.specs.Command.{Command, Check, Compare, Learn, Migrate, Packets, Run, Relay, World, Sift, asset_name, other_file, policy_file}
+use Rattle.cf_box.specs.Command.{Command, Check, Compare, Judge, Migrate, Packets, Run, Relay, World, Sift, asset_name, other_file, policy_file, Learn}
 use Rattle.cf_box.specs.Compare.{CompareLeaves, Compares, DeniesInclusion, FilesExceed}
 use Rattle.cf_box.specs.Ending.{Puts, Reports}
+use Rattle.cf_box.specs.Judge.{JudgesClean, Objects}
+use Rattle.cf_box.specs.Watching.{WatchCuts, WatchRefuses}
 use Rattle.cf_box.specs.Learn.{FilesShowTooMuch, LearnLeaves, WritesLearned}
 use Rattle.cf_box.specs.Migrate.{MigrateLeaves, Migrates}
 use Rattle.cf_box.specs.Outside.{Outside, ReadFailed, WriteFailed}
@@ -19,7 +21,6 @@ use Rattle.cf_box.specs.PolicyFile.{HasPolicy, IsRefusedBy, asset_named}
 use Rattle.cf_box.specs.Relay.{CutsRelay, EndsRelayIdle, RelayLeaves, Relays}
 use Rattle.cf_box.specs.Run.{RunCuts, RunLeaves, RunRefuses, Runs}
 use Rattle.cf_box.specs.Sift.{CutsSift, SiftLeaves, Sifts}
-use Rattle.cf_box.specs.Watching.{WatchCuts, WatchRefuses}
 use Rattle.cf_box.specs.World.{MakesAndRuns, WorldLeaves}
 use Rattle.cf_box.specs.declared.denial.Denial.{Denial}
 use Rattle.cf_box.specs.declared.ending.CaptureRefusal.{CaptureRefusal}
@@ -62,6 +63,7 @@ pub record PassesPolicy (c : Command) (before : Outside) : Type 0 where
 -- makes for itself is in form: so it is only where the file does not tell what it holds
 abbrev pub RefusesCapture : Command → Outside → CaptureRefusal → Type 0
 RefusesCapture (Packets capture) before r = ListingRefuses (before.files.content capture) r
+RefusesCapture (Judge policy capture) before r = WatchRefuses (before.files.content capture) r
 RefusesCapture (Learn policy capture out) before r = WatchRefuses (before.files.content capture) r
 RefusesCapture (Run policy names) before r = RunRefuses (before.files.content names.capture) r
 RefusesCapture (World seed sessions policy names) before r = before.files.content names.capture ≡ untold
@@ -69,6 +71,7 @@ RefusesCapture _ before r = ⊥
 
 abbrev pub CutsCapture : Command → Outside → ℕ → Type 0
 CutsCapture (Packets capture) before place = ListingCuts (before.files.content capture) place
+CutsCapture (Judge policy capture) before place = WatchCuts (before.files.content capture) place
 CutsCapture (Learn policy capture out) before place = WatchCuts (before.files.content capture) place
 CutsCapture (Run policy names) before place = RunCuts (before.files.content names.capture) place
 CutsCapture (World seed sessions policy names) before place = before.files.content names.capture ≡ untold
@@ -84,6 +87,7 @@ CutsRun _ before place = ⊥
 abbrev pub CutsStream : Command → (before : Outside) → (pair : PairValue) → CutReason → Type 0
 CutsStream (Check policy) before pair reason = ⊥
 CutsStream (Compare policy other) before pair reason = ⊥
+CutsStream (Judge policy capture) before pair reason = ⊥
 CutsStream (Learn policy capture out) before pair reason = ⊥
 CutsStream (Migrate policy out) before pair reason = ⊥
 CutsStream (Packets capture) before pair reason = ⊥
@@ -105,6 +109,7 @@ LinkFails _ before pair = ⊥
 -- what is asked of a command's files is not so: a line a command that asks
 abbrev pub Denies : Command → Outside → Denial → Type 0
 Denies (Compare policy other) before why = DeniesInclusion policy other before why
+Denies (Judge policy capture) before why = Objects policy capture before why
 Denies _ before why = ⊥
 
 -- the rules of the asset of this name make too many cells: a line a command that compares
@@ -139,6 +144,7 @@ StopsFor c before after (stop.TooManyCells name) = ExceedsCells c before name.by
 abbrev pub Does : Command → (before after : Outside) → Done → Type 0
 Does (Check policy) before after d = Checks policy before after d
 Does (Compare policy other) before after d = Compares policy other before after d
+Does (Judge policy capture) before after d = JudgesClean policy capture before after d
 Does (Learn policy capture out) before after d = WritesLearned policy capture out before after d
 Does (Migrate policy out) before after d = Migrates policy out before after d
 Does (Packets capture) before after d = Lists capture before after d
@@ -151,6 +157,7 @@ Does (Sift policy asset client names) before after d = Sifts policy asset client
 abbrev pub Leaves : Command → (before after : Outside) → Stop → Type 0
 Leaves (Check policy) before after s = CheckLeaves before after s
 Leaves (Compare policy other) before after s = CompareLeaves before after s
+Leaves (Judge policy capture) before after s = CheckLeaves before after s
 Leaves (Learn policy capture out) before after s = LearnLeaves policy capture out before after s
 Leaves (Migrate policy out) before after s = MigrateLeaves policy out before after s
 Leaves (Packets capture) before after s = PacketsLeaves capture before after s

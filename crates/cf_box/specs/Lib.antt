@@ -5,11 +5,13 @@ pub mod Compare
 pub mod Denial
 pub mod Ending
 pub mod Ends
+pub mod Judge
 pub mod Laws
 pub mod Learn
 pub mod Limits
 pub mod Migrate
 pub mod Names
+pub mod Objection
 pub mod Outside
 pub mod PacketLine
 pub mod Packets

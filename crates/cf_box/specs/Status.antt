@@ -1,5 +1,5 @@
 -- What a status tells, each by itself.
-use Rattle.std.specs.Prelude.{◌≡◌, ◌≢◌, ◌⊎◌, ◌≤◌, ℕ, List, [], drop, length, Option, None, Some, Ok, Err}
+use Rattle.std.specs.Prelude.{◌≡◌, ◌≢◌, ◌⊎◌, ℕ, List, [], drop, length, ◌≤◌, Option, None, Some, Ok, Err}
 use Rattle.cf_audit.specs.declared.line.CutReason.{CutReason}
 use Rattle.cf_lane.specs.Follows.{AreJudged}
 use Rattle.cf_lane.specs.Judged.{Judged}
@@ -16,9 +16,11 @@ use Rattle.cf_policy.specs.declared.Policy.{Policy}
 use Rattle.cf_policylang.specs.Documents.{policy_meaning}
 use Rattle.cf_policylang.specs.declared.PolicyRefusal.{PolicyRefusal}
 use Rattle.cf_run.specs.RunCapture.{RunNamesValue}
-use Rattle.cf_box.specs.Command.{Command, Check, Compare, Learn, Migrate, Packets, Run, Relay, World, Sift, AsksPair, asset_name, capture_file, other_file, output_files, policy_file}
+use Rattle.cf_box.specs.Command.{Command, Check, Compare, Judge, Migrate, Packets, Run, Relay, World, Sift, AsksPair, asset_name, capture_file, other_file, output_files, policy_file, Learn}
 use Rattle.cf_box.specs.Compare.{IncludesAll, IsIncluded, OfPolicies, TellsNotIncluded}
-use Rattle.cf_box.specs.Ends.{CutsCapture, CutsStream, Denies, EndsIdle, ExceedsCells, ExceedsRules, LacksAsset, LinkFails, RefusesCapture, RefusesPolicy}
+use Rattle.cf_box.specs.Ends.{CutsCapture, CutsStream, Denies, EndsIdle, ExceedsCells, LacksAsset, LinkFails, RefusesCapture, RefusesPolicy, ExceedsRules}
+use Rattle.cf_box.specs.Judge.{KeepsPolicy, NeverObjects}
+use Rattle.cf_box.specs.Watching.{WatchCuts, WatchRefuses}
 use Rattle.cf_box.specs.Learn.{NeverTooMuch}
 use Rattle.cf_box.specs.Outside.{Outside, ReadFailed, WriteFailed}
 use Rattle.cf_box.specs.Packets.{ListingCuts, ListingRefuses}
@@ -26,12 +28,12 @@ use Rattle.cf_box.specs.PolicyFile.{FindsAsset, TellsPolicy, asset_named}
 use Rattle.cf_box.specs.Relay.{TellsCutRelay, TellsIdleRelay}
 use Rattle.cf_box.specs.Run.{RunCuts, RunRefuses}
 use Rattle.cf_box.specs.Sift.{TellsCutStream}
-use Rattle.cf_box.specs.Watching.{WatchCuts, WatchRefuses}
 use Rattle.cf_box.specs.declared.denial.Denial.{Denial}
 use Rattle.cf_box.specs.declared.ending.CaptureRefusal.{CaptureRefusal}
+use Rattle.cf_box.specs.declared.ending.Done.{Done}
+use Rattle.cf_watch.specs.declared.fault.TheConstants.{CAPTURE_LIMIT}
 use Rattle.cf_sift.specs.Names.{SiftNamesValue}
 use Rattle.cf_sift.specs.Stored.{stored_history}
-use Rattle.cf_watch.specs.declared.fault.TheConstants.{CAPTURE_LIMIT}
 
 -- the words are a command of which this is so
 abbrev pub OfCommand : Option Command → (Command → Type 0) → Type 0
@@ -72,6 +74,10 @@ AsksItsPair words = OfCommand words AsksPair
 abbrev pub Includes : (policy other : List ℕ) → Outside → Type 0
 Includes policy other before = OfPolicies policy other before IsIncluded
 
+-- nothing that clients sent in a capture is objected to
+abbrev pub JudgedClean : (policy capture : List ℕ) → Outside → Type 0
+JudgedClean policy capture before = (d : Done) × KeepsPolicy policy capture before d
+
 -- of the commands in the stream exactly those went to the output that the bytes of the policy allow, in their spelling
 -- and at their place; and no rule let more of them through than its rate
 pub record SiftPassesAllowed (policy name : List ℕ) (client : ℕ) (names : SiftNamesValue) (before after : Outside) : Type 0 where
@@ -102,6 +108,7 @@ HasTimedRecords bytes =
 -- the capture of a command that reads one ends so
 abbrev pub EndsWell : Command → List ℕ → Type 0
 EndsWell (Packets capture) bytes = HasRecords bytes
+EndsWell (Judge policy capture) bytes = HasRecords bytes × (length bytes ≤ CAPTURE_LIMIT)
 EndsWell (Learn policy capture out) bytes = HasRecords bytes × (length bytes ≤ CAPTURE_LIMIT)
 EndsWell (Run policy names) bytes = HasTimedRecords bytes
 EndsWell _ bytes = Unit {0}
@@ -114,6 +121,7 @@ TellsMade _ before = Unit {0}
 -- what is asked of a command's files is so: a line a command that asks
 abbrev pub HoldsWhatItAsks : Command → Outside → Type 0
 HoldsWhatItAsks (Compare policy other) before = IncludesAll policy other before
+HoldsWhatItAsks (Judge policy capture) before = NeverObjects policy capture before
 HoldsWhatItAsks (Learn policy capture out) before = NeverTooMuch policy capture before
 HoldsWhatItAsks _ before = Unit {0}
 
@@ -174,6 +182,7 @@ pub record TellsNoAsset (c : Command) (before : Outside) : Type 0 where
 abbrev pub TellsCut : Command → (before : Outside) → (pair : PairValue) → Type 0
 TellsCut (Check file) before pair = ⊥
 TellsCut (Compare file other) before pair = ⊥
+TellsCut (Judge file capture) before pair = ⊥
 TellsCut (Learn file capture out) before pair = ⊥
 TellsCut (Migrate file out) before pair = ⊥
 TellsCut (Packets file) before pair = ⊥
@@ -187,9 +196,19 @@ abbrev pub TellsIdle : Command → (before : Outside) → (pair : PairValue) →
 TellsIdle (Relay file asset port idles log) before pair = TellsIdleRelay file asset before pair idles
 TellsIdle _ before pair = ⊥
 
+-- the policy and the capture are told and in form, and something is objected to
+pub record TellsObjection (policy capture : List ℕ) (before : Outside) : Type 0 where
+  pub known : TellsPolicy (before.files.content policy)
+  pub bytes : List ℕ
+  pub told : before.files.content capture ≡ holds bytes
+  pub ends : HasRecords bytes
+  pub short : length bytes ≤ CAPTURE_LIMIT
+  pub not_clean : (d : Done) → KeepsPolicy policy capture before d → ⊥
+
 -- what a command asks of its files is told, and is not so: a line a command that asks
 abbrev pub TellsDenial : Command → Outside → Type 0
 TellsDenial (Compare policy other) before = TellsNotIncluded policy other before
+TellsDenial (Judge policy capture) before = TellsObjection policy capture before
 TellsDenial _ before = ⊥
 
 -- a file is told, and is refused as a capture so
@@ -210,6 +229,7 @@ pub record TellsCutAt (Cuts : Content → ℕ → Type 0) (file : Content) : Typ
 -- capture
 abbrev pub TellsRefusedCapture : Command → Outside → Type 0
 TellsRefusedCapture (Packets capture) before = TellsRefusal ListingRefuses (before.files.content capture)
+TellsRefusedCapture (Judge policy capture) before = TellsPolicy (before.files.content policy) × TellsRefusal WatchRefuses (before.files.content capture)
 TellsRefusedCapture (Run policy names) before = TellsPolicy (before.files.content policy) × TellsRefusal RunRefuses (before.files.content names.capture)
 TellsRefusedCapture (Learn policy capture out) before = TellsPolicy (before.files.content policy) × TellsRefusal WatchRefuses (before.files.content capture)
 TellsRefusedCapture _ before = ⊥
@@ -217,6 +237,7 @@ TellsRefusedCapture _ before = ⊥
 -- the same of one that is cut
 abbrev pub TellsCutCapture : Command → Outside → Type 0
 TellsCutCapture (Packets capture) before = TellsCutAt ListingCuts (before.files.content capture)
+TellsCutCapture (Judge policy capture) before = TellsPolicy (before.files.content policy) × TellsCutAt WatchCuts (before.files.content capture)
 TellsCutCapture (Run policy names) before = TellsPolicy (before.files.content policy) × TellsCutAt RunCuts (before.files.content names.capture)
 TellsCutCapture (Learn policy capture out) before = TellsPolicy (before.files.content policy) × TellsCutAt WatchCuts (before.files.content capture)
 TellsCutCapture _ before = ⊥

@@ -1,8 +1,9 @@
 -- The words that the program takes: `command_of` is the command that they are.
 use Rattle.std.specs.Prelude.{ℕ, ◌≤◌, List, [], ◌∷◌, Option, None, codes, bytes_eq, if◌then◌else◌}
-use Rattle.cf_box.specs.Command.{Command, Check, Compare, Learn, Migrate, Packets, Run, Relay, World, Sift}
+use Rattle.cf_box.specs.Command.{Command, Check, Compare, Judge, Migrate, Packets, Run, Relay, World, Sift, Learn}
 use Rattle.cf_box.specs.Check.{check_of}
 use Rattle.cf_box.specs.Compare.{compare_of}
+use Rattle.cf_box.specs.Judge.{judge_of}
 use Rattle.cf_box.specs.Learn.{learn_of}
 use Rattle.cf_box.specs.Migrate.{migrate_of}
 use Rattle.cf_box.specs.Packets.{packets_of}
@@ -21,6 +22,7 @@ command_of [] = None
 command_of (name ∷ words) =
     if bytes_eq name (codes "check") then check_of words
     else if bytes_eq name (codes "compare") then compare_of words
+    else if bytes_eq name (codes "judge") then judge_of words
     else if bytes_eq name (codes "learn") then learn_of words
     else if bytes_eq name (codes "migrate") then migrate_of words
     else if bytes_eq name (codes "packets") then packets_of words
@@ -34,6 +36,7 @@ command_of (name ∷ words) =
 abbrev pub command_value : CommandFields → Command
 command_value (fields.Check policy) = Check policy.now
 command_value (fields.Compare policy other) = Compare policy.now other.now
+command_value (fields.Judge policy capture) = Judge policy.now capture.now
 command_value (fields.Learn policy capture out) = Learn policy.now capture.now out.now
 command_value (fields.Migrate policy out) = Migrate policy.now out.now
 command_value (fields.Packets capture) = Packets capture.now

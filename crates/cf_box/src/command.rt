@@ -4,6 +4,7 @@ ghost use Rattle.cf_box.specs.Words.{HasFitWords, command_of, command_value};
 
 use crate::check::read_check;
 use crate::compare::read_compare;
+use crate::judge::read_judge;
 use crate::learn::read_learn;
 use crate::migrate::read_migrate;
 use crate::packets::read_packets;
@@ -25,6 +26,11 @@ pub enum Command<'a> {
     Compare {
         policy: &'a str,
         other: &'a str,
+    },
+    /// Judge what clients sent in a capture.
+    Judge {
+        policy: &'a str,
+        capture: &'a str,
     },
     /// Write a policy that allows exactly what a capture shows.
     Learn {
@@ -83,6 +89,9 @@ pub fn read_words(words: &[String]) -> Option<Command<'_>>
     }
     if name.as_str() == "compare" {
         return read_compare(rest);
+    }
+    if name.as_str() == "judge" {
+        return read_judge(rest);
     }
     if name.as_str() == "learn" {
         return read_learn(rest);

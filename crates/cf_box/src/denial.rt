@@ -5,6 +5,7 @@ ghost use Rattle.cf_box.specs.Denial.{denial_text};
 ghost use Rattle.cf_view.specs.Text.{dotted};
 
 use crate::ending::EndText;
+use crate::objection::{Objected, push_objected};
 use arrayvec::ArrayString;
 use cf_policy::LONGEST_NAME;
 use cf_view::{Act, push_number, push_signed, push_u16, push_u32};
@@ -24,6 +25,8 @@ pub enum Denial {
         client: u32,
         act: Act,
     },
+    /// What clients sent is objected to: this is the first objection.
+    Objects(Objected),
 }
 
 /// What is printed of a denial: a line.
@@ -40,6 +43,7 @@ pub(crate) fn denial_line(denial: &Denial) -> EndText
             push_dotted(&mut text, *client);
             push_act(&mut text, act);
         }
+        Denial::Objects(objected) => push_objected(&mut text, objected),
     }
     text.push_str("\n");
     text

@@ -1,7 +1,7 @@
 //! How the program ends: what was done, or why the work stopped, as a status and a printed text.
 ghost use Rattle.std.specs.Prelude.{◌≡◌, ◌≤◌, ◌+◌, ◌++◌, codes, decimal, length, option_map};
 ghost use Rattle.cf_audit.specs.Text.{cut_text};
-ghost use Rattle.cf_box.specs.Ending.{Prints, Puts, capture_number, commands_text, count_line, done_text, end_text, status_of, stop_status, stop_text, summary_text, unprinted_status};
+ghost use Rattle.cf_box.specs.Ending.{Prints, Puts, capture_number, commands_text, count_line, done_text, end_text, status_of, stop_status, stop_text, summary_text, unobjected_text, unprinted_status};
 ghost use Rattle.cf_box.specs.Outside.{sink_value};
 ghost use Rattle.cf_policylang.specs.Keys.{refusal_text};
 
@@ -24,6 +24,8 @@ pub enum Done {
     Checked { assets: u64, rules: u64 },
     /// A policy allows only what another allows.
     Included,
+    /// Nothing that clients sent in a capture is objected to, with the numbers of flows and of commands that the policy allows.
+    Unobjected { flows: u64, commands: u64 },
     /// Each record of a capture has its line.
     Listed,
     /// A policy was run over a capture, with what was counted.
@@ -311,6 +313,18 @@ fn line(words: &str) -> EndText
     text
 }
 
+fn unobjected_text(flows: u64, commands: u64) -> EndText
+    ensures { result.bytes ≡ unobjected_text flows commands }
+{
+    let mut text = EndText::new();
+    text.push_str("yes flows ");
+    push_number(&mut text, flows);
+    text.push_str(" commands ");
+    push_number(&mut text, commands);
+    text.push_str("\n");
+    text
+}
+
 /// What is printed of work that was done; the lines of a listing were printed before.
 fn done_text(done: &Done) -> Option<EndText>
     ensures { option_map (λ t. t.bytes) result ≡ done_text done.now }
@@ -321,6 +335,7 @@ fn done_text(done: &Done) -> Option<EndText>
         }
         Done::Checked { assets, rules } => Some(checked_text(*assets, *rules)),
         Done::Included => Some(line("included\n")),
+        Done::Unobjected { flows, commands } => Some(unobjected_text(*flows, *commands)),
         Done::Listed => None,
         Done::Ran(summary) => Some(counted_text(summary)),
     }

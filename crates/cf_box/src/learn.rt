@@ -10,35 +10,14 @@ ghost use Rattle.cf_policy.specs.Within.{IsWithin};
 ghost use Rattle.cf_watch.specs.FlowValue.{flow_value};
 
 use crate::command::Command;
-use crate::ending::{CaptureRefusal, Done, Stop};
+use crate::ending::{Done, Stop};
 use crate::names::are_names;
 use crate::policy_file::{load_policy, name_at, write_policy};
 use cf_learn::{LearnFault, learn};
 use cf_outside::Files;
 use cf_policy::Policy;
-use cf_watch::{Flow, WatchFault, WatchRefusal, watch};
+use cf_watch::{Flow, watch};
 use std::alloc::Global;
-
-impl From<WatchFault> for Stop {
-    ghost use Rattle.std.specs.Prelude.{◌≡◌};
-    ghost use Rattle.cf_box.specs.Watching.{fault_stop};
-
-    ghost from_gives = { λ fault stop. stop ≡ fault_stop fault };
-
-    fn from(fault: WatchFault) -> Self {
-        match fault {
-            WatchFault::NoMemory => Stop::NoMemory,
-            WatchFault::Read => Stop::ReadFault,
-            WatchFault::Cut(place) => Stop::CaptureCut(place),
-            WatchFault::Refused(WatchRefusal::Long) => Stop::CaptureRefused(CaptureRefusal::Long),
-            WatchFault::Refused(WatchRefusal::TooLong) => {
-                Stop::CaptureRefused(CaptureRefusal::TooLong)
-            }
-            WatchFault::Refused(WatchRefusal::Header(refusal)) => Stop::from(refusal),
-            WatchFault::Refused(WatchRefusal::Block(refusal)) => Stop::from(refusal),
-        }
-    }
-}
 
 /// The words behind `learn`.
 pub(crate) fn read_learn(words: &[String]) -> Option<Command<'_>>

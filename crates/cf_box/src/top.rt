@@ -1,6 +1,6 @@
 //! The top call.
 ghost use Rattle.std.specs.Prelude.{◌≡◌, ◌≤◌, ◌⊎◌, ◌↔◌, IsNone, List, Some, map, string_bytes, ℕ};
-ghost use Rattle.cf_box.specs.Command.{AsksPair, Compare, Learn, Migrate, Packets, Run, Sift, World};
+ghost use Rattle.cf_box.specs.Command.{AsksPair, Compare, Judge, Migrate, Packets, Run, Sift, World, Learn};
 ghost use Rattle.cf_box.specs.Ends.{Ends, Meets};
 ghost use Rattle.cf_box.specs.Laws.{HasLaws};
 ghost use Rattle.cf_box.specs.Learn.{HoldsLearned};
@@ -9,7 +9,7 @@ ghost use Rattle.cf_box.specs.Migrate.{KeepsMeaning};
 ghost use Rattle.cf_box.specs.Outside.{FilesNeverFall, files_value, outside_value};
 ghost use Rattle.cf_box.specs.Packets.{Lists};
 ghost use Rattle.cf_box.specs.RunHolds.{RunHolds};
-ghost use Rattle.cf_box.specs.Status.{AsksItsPair, CutsItsCapture, CutsItsStream, DeniesWhatItAsks, EndsItsIdles, ExceedsItsCells, ExceedsItsRules, Includes, IsComplete, IsExactly, IsStatus, LacksItsAsset, RefusesItsCapture, RefusesItsPolicy, SiftPassesAllowed, TakesItsOwn, TellsItsOwn, WritesNothing, outputs_of};
+ghost use Rattle.cf_box.specs.Status.{AsksItsPair, CutsItsCapture, CutsItsStream, DeniesWhatItAsks, EndsItsIdles, ExceedsItsCells, Includes, IsComplete, IsExactly, IsStatus, JudgedClean, LacksItsAsset, RefusesItsCapture, RefusesItsPolicy, SiftPassesAllowed, TakesItsOwn, TellsItsOwn, WritesNothing, outputs_of, ExceedsItsRules};
 ghost use Rattle.cf_box.specs.Words.{HasFitWords, command_of, command_value};
 ghost use Rattle.cf_box.specs.World.{WorldHolds};
 ghost use Rattle.cf_outside.specs.Faults.{Rose};
@@ -21,6 +21,7 @@ use crate::check::check;
 use crate::command::{Command, read_words};
 use crate::compare::compare_files;
 use crate::ending::{Done, Stop, put_text, report};
+use crate::judge::judge_capture;
 use crate::laws::laws_hold;
 use crate::learn::learn_capture;
 use crate::limits::limits_are;
@@ -54,6 +55,7 @@ fn perform<F: Files, O: Sink, P: Pair>(
     match command {
         Command::Check { policy } => check(alloc, policy, files),
         Command::Compare { policy, other } => compare_files(alloc, policy, other, files),
+        Command::Judge { policy, capture } => judge_capture(alloc, policy, capture, files),
         Command::Learn {
             policy,
             capture,
@@ -137,6 +139,10 @@ pub fn box_main<F: Files, O: Sink, P: Pair>(
     // Work whose input is in form is done where nothing fails and memory lasts.
     ensures complete { IsComplete (command_of (map string_bytes words.now)) (outside_value F.Files O.Sink P.Pair files.old out.old pair.old)
         (outside_value F.Files O.Sink P.Pair files.new out.new pair.new) result }
+
+    // Nothing that clients sent in the capture is objected to.
+    ensures judged { (policy capture : List ℕ) → command_of (map string_bytes words.now) ≡ Some (Judge policy capture) → result ≡ 0 →
+        JudgedClean policy capture (outside_value F.Files O.Sink P.Pair files.old out.old pair.old) }
 
     // What the first policy allows, to any client and at any asset, the second allows too.
     ensures includes { (policy other : List ℕ) → command_of (map string_bytes words.now) ≡ Some (Compare policy other) → result ≡ 0 →

@@ -94,6 +94,8 @@ static CHECK_SLOTS: [Slot; 1] = [POLICY];
 
 static COMPARE_SLOTS: [Slot; 2] = [POLICY, OTHER];
 
+static JUDGE_SLOTS: [Slot; 2] = [POLICY, CAPTURE];
+
 static LEARN_SLOTS: [Slot; 3] = [POLICY, CAPTURE, OUT];
 
 static MIGRATE_SLOTS: [Slot; 2] = [POLICY, OUT];
@@ -108,8 +110,8 @@ static RELAY_SLOTS: [Slot; 5] = [POLICY, ASSET, PORT, IDLES, LOG];
 
 static WORLD_SLOTS: [Slot; 6] = [SEED, SESSIONS, POLICY, CAPTURE, OUT, LOG];
 
-static COMMANDS: [&str; 9] = [
-    "sift", "check", "compare", "learn", "migrate", "packets", "run", "relay", "world",
+static COMMANDS: [&str; 10] = [
+    "sift", "check", "compare", "learn", "migrate", "packets", "judge", "run", "relay", "world",
 ];
 
 /// The words behind a command, if it is one.
@@ -120,6 +122,7 @@ fn slots_of(command: &str) -> Option<&'static [Slot]> {
         "compare" => Some(&COMPARE_SLOTS),
         "learn" => Some(&LEARN_SLOTS),
         "migrate" => Some(&MIGRATE_SLOTS),
+        "judge" => Some(&JUDGE_SLOTS),
         "packets" => Some(&PACKETS_SLOTS),
         "run" => Some(&RUN_SLOTS),
         "relay" => Some(&RELAY_SLOTS),

@@ -12,14 +12,14 @@ use Rattle.cf_view.specs.Framing.{BreaksAt, IsPartial}
 use Rattle.cf_view.specs.declared.Break.{Break}
 use Rattle.cf_watch.specs.FlowValue.{FlowValue}
 use Rattle.cf_judge.specs.Front.{IsReaderOf, TakesUnit}
-use Rattle.cf_judge.specs.Found.{IsFoundIn, with_finding, with_wrong}
+use Rattle.cf_judge.specs.Found.{IsFoundIn, with_ruling, with_wrong}
 use Rattle.cf_judge.specs.Objections.{admitted_in, first_wrong, wrong, wrong_by_fate, wrong_in}
 use Rattle.cf_judge.specs.Plain.{AreRead, Breaks, Ending, Whole, completed_in}
-use Rattle.cf_judge.specs.Finding.{finding_of}
-use Rattle.cf_judge.specs.declared.finding.Finding.{Finding}
+use Rattle.cf_judge.specs.Ruling.{ruling_of}
+use Rattle.cf_judge.specs.declared.ruling.Ruling.{Ruling}
 use Rattle.cf_judge.specs.declared.front.Reader.{Reader}
 use Rattle.cf_judge.specs.declared.judging.Found.{Found}
-use Rattle.cf_judge.specs.declared.finding.Complaint.TheVariants as complaint
+use Rattle.cf_judge.specs.declared.ruling.Complaint.TheVariants as complaint
 
 -- with these units in front, those from a place on are those of the flow
 pub record SoFar (asset : Asset) (f : FlowValue) (at : ℕ) (r : Reader) (found : Found) : Type 0 where
@@ -51,8 +51,8 @@ few_more : (b : Bool) → one_if b ≤ 1
 few_more true = omega arith
 few_more false = omega arith
 
--- a finding counts as the fate does
-counted : (found : Found) (number : ℕ) (f : Fate) → (with_finding found number (finding_of f)).commands ≡ found.commands + one_if (is_admitted f)
+-- a ruling counts as the fate does
+counted : (found : Found) (number : ℕ) (f : Fate) → (with_ruling found number (ruling_of f)).commands ≡ found.commands + one_if (is_admitted f)
 counted found number (fate.Refused refusal) = omega arith
 counted found number (fate.Stray because) = omega arith
 counted found number (fate.Admitted used) = refl
@@ -60,7 +60,7 @@ counted found number fate.Carried = omega arith
 counted found number fate.Lengthens = omega arith
 counted found number (fate.Cuts because) = omega arith
 
-first_found : (found : Found) (number : ℕ) (f : Fate) → (with_finding found number (finding_of f)).first ≡ option_or found.first (wrong_by_fate number f)
+first_found : (found : Found) (number : ℕ) (f : Fate) → (with_ruling found number (ruling_of f)).first ≡ option_or found.first (wrong_by_fate number f)
 first_found found number (fate.Refused refusal) = refl
 first_found found number (fate.Stray because) = refl
 first_found found number (fate.Admitted used) = sym (or_none found.first)
@@ -80,8 +80,8 @@ so_far_first asset f r h = record {
 }
 
 module _ (asset : Asset) (f : FlowValue) (at : ℕ) (r : Reader) (found : Found) (so : SoFar asset f at r found) where
-  pub so_far_on : (p : Finding) (used : ℕ) (new : Reader) (number : ℕ) → length f.born ≡ length f.bytes → TakesUnit asset f.client.address so.units (drop at f.bytes) p used new →
-      number ≡ get_or f.born (at + used - 1) 0 → SoFar asset f (at + used) new (with_finding found number p)
+  pub so_far_on : (p : Ruling) (used : ℕ) (new : Reader) (number : ℕ) → length f.born ≡ length f.bytes → TakesUnit asset f.client.address so.units (drop at f.bytes) p used new →
+      number ≡ get_or f.born (at + used - 1) 0 → SoFar asset f (at + used) new (with_ruling found number p)
   so_far_on p used new number sizes t is =
       let some : 0 < used = t.some in
       let inside : used ≤ length (drop at f.bytes) = t.begins.inside in
@@ -92,7 +92,7 @@ module _ (asset : Asset) (f : FlowValue) (at : ℕ) (r : Reader) (found : Found)
       let b = few_more (is_admitted t.fate) in
       let old_few = so.few in
       let now = counted found number t.fate in
-      subst (λ q. SoFar asset f (at + used) new (with_finding found number q)) (sym t.counts) (record {
+      subst (λ q. SoFar asset f (at + used) new (with_ruling found number q)) (sym t.counts) (record {
         units = so.units ++ j ∷ [];
         leads = λ js ending are. subst (λ xs. AreRead asset f.client.address [] f.bytes f.born xs ending) (sym (append_assoc so.units (j ∷ []) js))
             (so.leads (j ∷ js) ending (
@@ -135,7 +135,7 @@ module _ (asset : Asset) (f : FlowValue) (at : ℕ) (r : Reader) (found : Found)
 
   -- what was told of the bytes that were lent
   module _ (read : List ℕ) (same : read ≡ drop at f.bytes) where
-    pub took : (p : Finding) (used : ℕ) (new : Reader) → ((client : ℕ) (earlier : List Judged) → IsReaderOf asset client earlier r → TakesUnit asset client earlier read p used new) →
+    pub took : (p : Ruling) (used : ℕ) (new : Reader) → ((client : ℕ) (earlier : List Judged) → IsReaderOf asset client earlier r → TakesUnit asset client earlier read p used new) →
         TakesUnit asset f.client.address so.units (drop at f.bytes) p used new
     took p used new h = subst (λ xs. TakesUnit asset f.client.address so.units xs p used new) same (h f.client.address so.units so.reader)
 
@@ -147,7 +147,7 @@ module _ (asset : Asset) (f : FlowValue) (at : ℕ) (r : Reader) (found : Found)
         BreaksAt (SpellsUnit asset.protocol) (drop at f.bytes) place × (reason ≡ unit_break asset.protocol place)
     broke reason place h = subst (λ xs. BreaksAt (SpellsUnit asset.protocol) xs place × (reason ≡ unit_break asset.protocol place)) same (h f.client.address so.units so.reader)
 
-  pub took_inside : (p : Finding) (used : ℕ) (new : Reader) → TakesUnit asset f.client.address so.units (drop at f.bytes) p used new → (at + used ≤ length f.bytes) × (0 < used)
+  pub took_inside : (p : Ruling) (used : ℕ) (new : Reader) → TakesUnit asset f.client.address so.units (drop at f.bytes) p used new → (at + used ≤ length f.bytes) × (0 < used)
   took_inside p used new t =
       let some : 0 < used = t.some in
       let inside : used ≤ length (drop at f.bytes) = t.begins.inside in

@@ -6,8 +6,8 @@ use Rattle.cf_policy.specs.declared.Asset.{Asset}
 use Rattle.cf_watch.specs.FlowValue.{FlowValue}
 use Rattle.cf_judge.specs.Objections.{admitted_in, first_wrong, wrong}
 use Rattle.cf_judge.specs.Plain.{AreRead, Ending}
-use Rattle.cf_judge.specs.declared.finding.Finding.{Finding}
-use Rattle.cf_judge.specs.declared.finding.Finding.TheVariants as finding
+use Rattle.cf_judge.specs.declared.ruling.Ruling.{Ruling}
+use Rattle.cf_judge.specs.declared.ruling.Ruling.TheVariants as ruling
 use Rattle.cf_judge.specs.declared.judging.Found.{Found}
 use Rattle.cf_judge.specs.declared.judging.Wrong.{Wrong}
 
@@ -15,10 +15,10 @@ abbrev pub with_wrong : Found → Wrong → Found
 with_wrong found w = record { commands = found.commands; first = option_or found.first (Some w) }
 
 -- what was found, with a unit that a record completed
-abbrev pub with_finding : Found → (record_number : ℕ) → Finding → Found
-with_finding found number finding.Nothing = found
-with_finding found number finding.Allowed = record { commands = found.commands + 1; first = found.first }
-with_finding found number (finding.Wrong what) = with_wrong found (wrong number what)
+abbrev pub with_ruling : Found → (record_number : ℕ) → Ruling → Found
+with_ruling found number ruling.Nothing = found
+with_ruling found number ruling.Allowed = record { commands = found.commands + 1; first = found.first }
+with_ruling found number (ruling.Wrong what) = with_wrong found (wrong number what)
 
 -- the bytes are these units and this ending, of which so much was found
 pub record IsFoundIn (asset : Asset) (f : FlowValue) (found : Found) : Type 0 where

@@ -9,9 +9,9 @@ use Rattle.cf_policy.specs.Index.{IsIndexOf}
 use Rattle.cf_policy.specs.declared.Asset.{Asset}
 use Rattle.cf_view.specs.Framing.{Begins, BreaksAt, IsPartial}
 use Rattle.cf_view.specs.declared.Side.TheVariants as side
-use Rattle.cf_judge.specs.Finding.{finding_of}
+use Rattle.cf_judge.specs.Ruling.{ruling_of}
 use Rattle.cf_judge.specs.Plain.{HasPlainFate, completed_in}
-use Rattle.cf_judge.specs.declared.finding.Finding.{Finding}
+use Rattle.cf_judge.specs.declared.ruling.Ruling.{Ruling}
 use Rattle.cf_judge.specs.declared.front.Front.{Front}
 use Rattle.cf_judge.specs.declared.front.Front.TheVariants as front
 use Rattle.cf_judge.specs.declared.front.Reader.{Reader}
@@ -23,13 +23,13 @@ pub record IsReaderOf (asset : Asset) (client : ℕ) (earlier : List Judged) (r 
 
 -- a unit that counts for this, behind which the reader goes on
 pub record TakesUnit
-    (asset : Asset) (client : ℕ) (earlier : List Judged) (bytes : List ℕ) (found : Finding) (used : ℕ) (new : Reader) : Type 0 where
+    (asset : Asset) (client : ℕ) (earlier : List Judged) (bytes : List ℕ) (found : Ruling) (used : ℕ) (new : Reader) : Type 0 where
   pub unit : UnitValue
   pub begins : Begins (SpellsUnit asset.protocol) bytes unit used
   pub some : 0 < used
   pub fate : Fate
   pub has_fate : HasPlainFate asset client earlier unit fate
-  pub counts : found ≡ finding_of fate
+  pub counts : found ≡ ruling_of fate
   pub goes_on : (number : ℕ) → IsReaderOf asset client (earlier ++ completed_in number unit fate ∷ []) new
 
 abbrev pub IsFrontOf : Asset → ℕ → (earlier : List Judged) → (bytes : List ℕ) → (new : Reader) → Front → Type 0

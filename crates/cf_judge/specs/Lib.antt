@@ -1,4 +1,4 @@
-pub mod Finding
+pub mod Ruling
 pub mod Found
 pub mod Front
 pub mod Objections

@@ -7,10 +7,10 @@ use Rattle.cf_lane.specs.declared.fate.Fate.{Fate}
 use Rattle.cf_policy.specs.declared.Asset.{Asset}
 use Rattle.cf_watch.specs.FlowValue.{FlowValue}
 use Rattle.cf_watch.specs.declared.flow.Conflict.{Conflict}
-use Rattle.cf_judge.specs.Finding.{complaint_of}
+use Rattle.cf_judge.specs.Ruling.{complaint_of}
 use Rattle.cf_judge.specs.Plain.{AreRead, Breaks, Ending, Whole}
-use Rattle.cf_judge.specs.declared.finding.Complaint.{Complaint}
-use Rattle.cf_judge.specs.declared.finding.Complaint.TheVariants as complaint
+use Rattle.cf_judge.specs.declared.ruling.Complaint.{Complaint}
+use Rattle.cf_judge.specs.declared.ruling.Complaint.TheVariants as complaint
 use Rattle.cf_judge.specs.declared.judging.Judged.{Judged as Judgement}
 use Rattle.cf_judge.specs.declared.judging.Objection.{Objection}
 use Rattle.cf_judge.specs.declared.judging.Wrong.{Wrong}

@@ -11,10 +11,10 @@ ghost use Rattle.cf_lane.specs.Dnp3.{drop_why, fate_of_whole, form_reason, is_da
 ghost use Rattle.cf_lane.specs.declared.fate.Fate.TheVariants as fate;
 ghost use Rattle.cf_policy.specs.Index.{IsIndexOf};
 ghost use Rattle.cf_policy.specs.Verdict.{verdict_of};
-ghost use Rattle.cf_judge.specs.Finding.{finding_of};
+ghost use Rattle.cf_judge.specs.Ruling.{ruling_of};
 
-use crate::finding::{Complaint, Finding, judge_acts, refused};
 use crate::iec104::all;
+use crate::ruling::{Complaint, Ruling, judge_acts, refused};
 use cf_audit::Why;
 use cf_dnplink::{Frame, copy_user, user_len};
 use cf_dnpobj::{Fragment, FragmentRefusal, act_at, act_count, read_fragment};
@@ -106,13 +106,13 @@ pub(crate) fn drop_why(reason: &DropReason) -> Why
 }
 
 /// What a whole fragment counts for.
-pub(crate) fn judge_whole(asset: &Asset, index: &CodeIndex, octets: &View<'_>) -> Finding
+pub(crate) fn judge_whole(asset: &Asset, index: &CodeIndex, octets: &View<'_>) -> Ruling
     requires at_most { length octets.now.bytes ≤ 2048 }
-    ensures finding { (client : ℕ) → IsIndexOf asset.now client index.now
-        → result ≡ finding_of (fate_of_whole asset.now (verdict_of asset.now client) Side.Client (octets.now.bytes ∷ [])) }
+    ensures ruling { (client : ℕ) → IsIndexOf asset.now client index.now
+        → result ≡ ruling_of (fate_of_whole asset.now (verdict_of asset.now client) Side.Client (octets.now.bytes ∷ [])) }
 {
     if octets.len() < 2 {
-        return Finding::Wrong(Complaint::Stray(Why::Short));
+        return Ruling::Wrong(Complaint::Stray(Why::Short));
     }
     match read_fragment(all(octets)) {
         Err(refusal) => refused(Decider::Form, form_reason(&refusal)),
@@ -134,14 +134,14 @@ fn form_reason(refusal: &FragmentRefusal) -> Reason
 }
 
 /// What a request counts for: a confirmation for nothing.
-fn judge_request(asset: &Asset, index: &CodeIndex, fragment: &Fragment<'_>) -> Finding
+fn judge_request(asset: &Asset, index: &CodeIndex, fragment: &Fragment<'_>) -> Ruling
     requires at_most { length fragment.now.objects.bytes ≤ 2046 }
-    ensures finding { (client : ℕ) → IsIndexOf asset.now client index.now
-        → result ≡ finding_of (if nat_eq fragment.now.code 0 then fate.Carried
+    ensures ruling { (client : ℕ) → IsIndexOf asset.now client index.now
+        → result ≡ ruling_of (if nat_eq fragment.now.code 0 then fate.Carried
         else fate_of_acts asset.now (verdict_of asset.now client) (acts (fragment_value fragment.now))) }
 {
     if fragment.code == 0 {
-        return Finding::Nothing;
+        return Ruling::Nothing;
     }
     judge_acts(asset, index, act_count(fragment), |i| act_at(fragment, i))
 }

@@ -9,14 +9,14 @@ ghost use Rattle.cf_policy.specs.Index.{IsIndexOf};
 ghost use Rattle.cf_policy.specs.Within.{IsAssetWithin};
 ghost use Rattle.cf_view.specs.Framing.{BreaksAt, IsPartial};
 ghost use Rattle.cf_lane.specs.declared.fate.Fate.{Fate};
-ghost use Rattle.cf_judge.specs.Finding.{finding_of};
+ghost use Rattle.cf_judge.specs.Ruling.{ruling_of};
 ghost use Rattle.cf_judge.specs.Front.{IsFrontOf, IsReaderOf};
 ghost use Rattle.cf_judge.specs.Plain.{completed_in, frame_fate, frame_unit};
 
 use crate::dnp3::{drop_why, is_data, judge_whole, stray_of, take_segment};
-use crate::finding::{Complaint, Finding};
 use crate::iec104::{all, judge_apdu};
 use crate::modbus::judge_adu;
+use crate::ruling::{Complaint, Ruling};
 use cf_apci::next_apdu;
 use cf_dnplink::{Frame, next_frame};
 use cf_dnptrans::{Assembly, SegmentAnswer};
@@ -29,7 +29,7 @@ use std::alloc::Global;
 #[derive(Drop)]
 pub(crate) enum Front {
     /// A unit of so many octets.
-    Took { finding: Finding, used: usize },
+    Took { ruling: Ruling, used: usize },
     /// No whole unit.
     Rest,
     /// An octet that no unit has there.
@@ -72,7 +72,7 @@ impl Reader {
     {
         match next_frame(all(bytes)) {
             Framed::Unit { unit, used } => Front::Took {
-                finding: self.judge_frame(asset, &unit),
+                ruling: self.judge_frame(asset, &unit),
                 used,
             },
             Framed::More => Front::Rest,
@@ -84,22 +84,22 @@ impl Reader {
     }
 
     /// What a frame counts for; a segment of it is put to the fragment.
-    fn judge_frame(&mut self, asset: &Asset, frame: &Frame<'_>) -> Finding
+    fn judge_frame(&mut self, asset: &Asset, frame: &Frame<'_>) -> Ruling
         requires frame { IsFrame (frame_value frame.now) }
         ensures counts { (client : ℕ) (earlier : List Judged) → IsReaderOf asset.now client earlier self.old
-            → result ≡ finding_of (frame_fate asset.now client earlier (frame_value frame.now)) }
+            → result ≡ ruling_of (frame_fate asset.now client earlier (frame_value frame.now)) }
         ensures goes_on { (client : ℕ) (earlier : List Judged) (number : ℕ) (f : Fate) → IsReaderOf asset.now client earlier self.old
             → IsReaderOf asset.now client (earlier ++ completed_in number (frame_unit (frame_value frame.now)) f ∷ []) self.new }
     {
         if let Some(why) = stray_of(asset, frame) {
-            return Finding::Wrong(Complaint::Stray(why));
+            return Ruling::Wrong(Complaint::Stray(why));
         }
         if !is_data(frame) {
-            return Finding::Nothing;
+            return Ruling::Nothing;
         }
         match take_segment(&mut self.assembly, frame) {
-            SegmentAnswer::More => Finding::Nothing,
-            SegmentAnswer::Dropped(reason) => Finding::Wrong(Complaint::Stray(drop_why(&reason))),
+            SegmentAnswer::More => Ruling::Nothing,
+            SegmentAnswer::Dropped(reason) => Ruling::Wrong(Complaint::Stray(drop_why(&reason))),
             SegmentAnswer::Whole => judge_whole(asset, &self.index, &self.assembly.fragment()),
         }
     }
@@ -112,7 +112,7 @@ fn next_of_modbus(asset: &Asset, index: &CodeIndex, bytes: &View<'_>) -> Front
 {
     match next_adu(all(bytes)) {
         Framed::Unit { unit, used } => Front::Took {
-            finding: judge_adu(asset, index, &unit),
+            ruling: judge_adu(asset, index, &unit),
             used,
         },
         Framed::More => Front::Rest,
@@ -130,7 +130,7 @@ fn next_of_iec104(asset: &Asset, index: &CodeIndex, bytes: &View<'_>) -> Front
 {
     match next_apdu(all(bytes)) {
         Framed::Unit { unit, used } => Front::Took {
-            finding: judge_apdu(asset, index, &unit),
+            ruling: judge_apdu(asset, index, &unit),
             used,
         },
         Framed::More => Front::Rest,

@@ -4,10 +4,10 @@ ghost use Rattle.cf_apci.specs.Apdu.{Fits, apdu_value};
 ghost use Rattle.cf_lane.specs.Iec104.{fate_of_asdu};
 ghost use Rattle.cf_policy.specs.Index.{IsIndexOf};
 ghost use Rattle.cf_policy.specs.Verdict.{verdict_of};
-ghost use Rattle.cf_judge.specs.Finding.{finding_of};
+ghost use Rattle.cf_judge.specs.Ruling.{ruling_of};
 ghost use Rattle.cf_judge.specs.Plain.{fate_by_asdu};
 
-use crate::finding::{Finding, judge_acts, refused};
+use crate::ruling::{Ruling, judge_acts, refused};
 use cf_apci::Apdu;
 use cf_asdu::{AsduRefusal, act_at, act_count, read_asdu, station_of};
 use cf_policy::{Asset, CodeIndex, Decider};
@@ -16,23 +16,23 @@ use cf_view::{Reason, View};
 /// The fewest octets of an ASDU with an information object. IEC 60870-5-101, section 7.2.
 const SHORTEST: usize = 9;
 
-pub(crate) fn judge_apdu(asset: &Asset, index: &CodeIndex, apdu: &Apdu<'_>) -> Finding
+pub(crate) fn judge_apdu(asset: &Asset, index: &CodeIndex, apdu: &Apdu<'_>) -> Ruling
     requires fits { Fits (apdu_value apdu.now) }
-    ensures finding { (client : ℕ) → IsIndexOf asset.now client index.now
-        → result ≡ finding_of (fate_by_asdu asset.now client (apdu_value apdu.now)) }
+    ensures ruling { (client : ℕ) → IsIndexOf asset.now client index.now
+        → result ≡ ruling_of (fate_by_asdu asset.now client (apdu_value apdu.now)) }
 {
     match apdu {
         Apdu::Info { asdu, .. } => judge_asdu(asset, index, asdu),
-        Apdu::Ack { .. } | Apdu::Control(_) => Finding::Nothing,
+        Apdu::Ack { .. } | Apdu::Control(_) => Ruling::Nothing,
     }
 }
 
 /// Whether it is too short is tested first, then the station is compared, then the rest of its form is read, then the acts are
 /// judged.
-fn judge_asdu(asset: &Asset, index: &CodeIndex, octets: &View<'_>) -> Finding
+fn judge_asdu(asset: &Asset, index: &CodeIndex, octets: &View<'_>) -> Ruling
     requires at_most { length octets.now.bytes ≤ 249 }
-    ensures finding { (client : ℕ) → IsIndexOf asset.now client index.now
-        → result ≡ finding_of (fate_of_asdu asset.now (verdict_of asset.now client) octets.now.bytes) }
+    ensures ruling { (client : ℕ) → IsIndexOf asset.now client index.now
+        → result ≡ ruling_of (fate_of_asdu asset.now (verdict_of asset.now client) octets.now.bytes) }
 {
     if octets.len() < SHORTEST {
         return refused(Decider::Form, AsduRefusal::Short.reason());

@@ -2,11 +2,11 @@
 ghost use Rattle.std.specs.Prelude.{◌≡◌, ◌+◌, ◌^◌, ◌<◌, ◌≤◌, All, IfOk, IfSome, drop, length, map};
 ghost use Rattle.cf_policy.specs.Within.{AreAssetsWithin, IsAssetWithin};
 ghost use Rattle.cf_watch.specs.FlowValue.{IsForAsset, flow_value};
-ghost use Rattle.cf_judge.specs.Found.{IsFoundIn, with_finding, with_wrong};
+ghost use Rattle.cf_judge.specs.Found.{IsFoundIn, with_ruling, with_wrong};
 ghost use Rattle.cf_judge.specs.Objections.{IsJudgementOf, earlier, objection_by, sooner};
 
-use crate::finding::{Complaint, Finding};
 use crate::front::{Front, Reader};
+use crate::ruling::{Complaint, Ruling};
 use cf_policy::{Asset, Policy};
 use cf_view::{Endpoint, NoMemory, View};
 use cf_watch::Flow;
@@ -143,9 +143,9 @@ fn judge_flow(alloc: Global, asset: &Asset, flow: &Flow) -> Result<Found, NoMemo
                 };
                 return Ok(with_wrong(found, broken));
             }
-            Front::Took { finding, used } => {
+            Front::Took { ruling, used } => {
                 at += used;
-                found = with_finding(found, flow.born[at - 1], finding);
+                found = with_ruling(found, flow.born[at - 1], ruling);
             }
         }
     }
@@ -161,17 +161,17 @@ fn rest_of(bytes: &[u8], at: usize) -> View<'_>
 }
 
 /// What was found, with a unit that a record completed.
-fn with_finding(found: Found, number: u64, finding: Finding) -> Found
+fn with_ruling(found: Found, number: u64, ruling: Ruling) -> Found
     requires { found.commands + 1 < 2 ^ 64 }
-    ensures { result ≡ with_finding found number finding }
+    ensures { result ≡ with_ruling found number ruling }
 {
-    match finding {
-        Finding::Nothing => found,
-        Finding::Allowed => Found {
+    match ruling {
+        Ruling::Nothing => found,
+        Ruling::Allowed => Found {
             commands: found.commands + 1,
             first: found.first,
         },
-        Finding::Wrong(what) => with_wrong(found, Wrong { number, what }),
+        Ruling::Wrong(what) => with_wrong(found, Wrong { number, what }),
     }
 }
 

@@ -3,11 +3,11 @@
 #![tactic(auto)]
 
 mod dnp3;
-mod finding;
 mod front;
 mod iec104;
 mod judging;
 mod modbus;
+mod ruling;
 
-pub use finding::Complaint;
 pub use judging::{Judged, Objection, judge};
+pub use ruling::Complaint;

@@ -6,19 +6,19 @@ ghost use Rattle.cf_modbus.specs.Adu.{adu_value};
 ghost use Rattle.cf_modbus.specs.Request.{IsRead, request_value};
 ghost use Rattle.cf_policy.specs.Index.{IsIndexOf};
 ghost use Rattle.cf_policy.specs.Verdict.{verdict_of};
-ghost use Rattle.cf_judge.specs.Finding.{HasAduFinding, finding_of};
+ghost use Rattle.cf_judge.specs.Ruling.{HasAduRuling, ruling_of};
 
-use crate::finding::{Finding, judge_acts, refused};
+use crate::ruling::{Ruling, judge_acts, refused};
 use cf_modbus::{Adu, Request, act_at, act_count, read_request};
 use cf_policy::{Asset, CodeIndex, Decider};
 use cf_view::Reason;
 
 /// The station is compared first, then the form is read, then the acts are judged.
-pub(crate) fn judge_adu(asset: &Asset, index: &CodeIndex, adu: &Adu<'_>) -> Finding
+pub(crate) fn judge_adu(asset: &Asset, index: &CodeIndex, adu: &Adu<'_>) -> Ruling
     requires at_least { 1 ≤ length adu.now.pdu.bytes }
     requires at_most { length adu.now.pdu.bytes ≤ 253 }
-    ensures finding { (client : ℕ) → IsIndexOf asset.now client index.now
-        → HasAduFinding asset.now client (adu_value adu.now) result }
+    ensures ruling { (client : ℕ) → IsIndexOf asset.now client index.now
+        → HasAduRuling asset.now client (adu_value adu.now) result }
 {
     if u16::from(adu.unit) != asset.station {
         return refused(Decider::Station, Reason::Station);
@@ -29,10 +29,10 @@ pub(crate) fn judge_adu(asset: &Asset, index: &CodeIndex, adu: &Adu<'_>) -> Find
     }
 }
 
-fn judge_request(asset: &Asset, index: &CodeIndex, request: &Request<'_>) -> Finding
+fn judge_request(asset: &Asset, index: &CodeIndex, request: &Request<'_>) -> Ruling
     requires read { IsRead (request_value request.now) }
-    ensures finding { (client : ℕ) → IsIndexOf asset.now client index.now
-        → result ≡ finding_of (fate_of_acts asset.now (verdict_of asset.now client) (acts (request_value request.now))) }
+    ensures ruling { (client : ℕ) → IsIndexOf asset.now client index.now
+        → result ≡ ruling_of (fate_of_acts asset.now (verdict_of asset.now client) (acts (request_value request.now))) }
 {
     judge_acts(asset, index, act_count(request), |i| act_at(request, i))
 }

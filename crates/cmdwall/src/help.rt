@@ -36,6 +36,9 @@ usage:
   cmdwall packets CAPTURE
       prints a line for each record of a capture: the fields of its TCP segment over IPv4,
       or why it has none
+  cmdwall judge POLICY CAPTURE
+      says whether what clients sent to the assets in a capture keeps POLICY, whoever recorded
+      it, and else prints the first record with which something is wrong
   cmdwall help COMMAND
       says more of one command, with an example
   cmdwall --help
@@ -54,14 +57,16 @@ status:
    6  the capture is refused: 1 it is short, 2 its magic, 3 its version, 4 its link type,
       5 a record of more than 262,144 bytes, 6 a moment of 2^32 seconds or more, 7 a byte
       at place 2^40, 9 the length of a pcapng block or what stands in it, 10 a section
-      header, 11 an interface, 12 a unit of time
+      header, 11 an interface, 12 a unit of time; and for judge 8 more than 67,108,864
+      bytes
    7  the capture ends inside the record or the block that begins at the printed place
    8  the port, the client or the controller of a relay failed
    9  so many turns of a relay came in which nothing moved that it ended
   10  the policy has no asset of that name
   12  a stream is cut, for the printed reason
   13  memory ran out
-  15  POLICY allows what OTHER does not: the asset that OTHER lacks or the act is printed
+  15  POLICY allows what OTHER does not: the asset that OTHER lacks or the act is printed;
+      or CAPTURE does not keep POLICY: the first objection is printed
   17  the rules of the printed asset are too many to compare
 ";
 
@@ -162,6 +167,32 @@ with the numbers of assets and of all rules, as check has it.
 examples, of which the second prints 'included':
   cmdwall migrate examples/waterworks.toml new.toml
   cmdwall compare examples/waterworks.toml new.toml
+";
+
+const JUDGE: &str = "\
+cmdwall judge POLICY CAPTURE
+
+says whether what clients sent to the assets of POLICY in a capture keeps POLICY: the OUT of
+any box, or a recording of a line without one
+
+  POLICY   a text in the policy language (docs/POLICY.md)
+  CAPTURE  a pcap or pcapng file, of Ethernet or raw IP, of at most 67,108,864 bytes
+
+A flow is what one client sends to one asset, from a SYN in the capture on; packets before it
+are not used. Standard output has 'yes', with the numbers of flows and of commands that POLICY
+allows, with status 0; or, with status 15, 'no' and the first objection: the number of its
+record, the client, the asset, and one of
+
+  conflict POSITION     two packets carry different letters at one position of the flow
+  broken WHY            the bytes are no units of the protocol
+  refused RULE REASON   a command that POLICY refuses
+  stray WHY             a frame, segment or fragment of DNP3 that belongs to nothing
+
+How often a rule lets commands through plays no part, nor do the numbers of IEC 60870-5-104.
+Nothing is judged where the capture is refused or cut.
+
+example:
+  cmdwall judge examples/pump.toml examples/four.pcap
 ";
 
 const PACKETS: &str = "\
@@ -265,6 +296,7 @@ pub enum Topic {
     Learn,
     Migrate,
     Packets,
+    Judge,
     Run,
     Relay,
     World,
@@ -313,6 +345,7 @@ fn topic_of(word: &str) -> Option<Topic> {
         "learn" => Some(Topic::Learn),
         "migrate" => Some(Topic::Migrate),
         "packets" => Some(Topic::Packets),
+        "judge" => Some(Topic::Judge),
         "run" => Some(Topic::Run),
         "relay" => Some(Topic::Relay),
         "world" => Some(Topic::World),
@@ -334,6 +367,7 @@ pub fn print_topic(rt: &impl Print, topic: Topic) -> io::Result<()> {
         Topic::Learn => LEARN,
         Topic::Migrate => MIGRATE,
         Topic::Packets => PACKETS,
+        Topic::Judge => JUDGE,
         Topic::Run => RUN,
         Topic::Relay => RELAY,
         Topic::World => WORLD,

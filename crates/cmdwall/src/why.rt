@@ -50,6 +50,10 @@ pub fn expect_files<R: FileSystem>(
             files.expect(policy)?;
             files.expect(out)
         }
+        Command::Judge { policy, capture } => {
+            files.expect(policy)?;
+            files.expect(capture)
+        }
         Command::Packets { capture } => files.expect(capture),
         Command::Run { policy, names } | Command::World { policy, names, .. } => {
             expect_four(files, [policy, names.capture, names.out, names.log])
@@ -117,14 +121,15 @@ fn explain_command<R: FileSystem + Eprint + AllocGlobal>(
             Some(policy) => explain_policy(rt, policy, files).map(|_| ()),
             None => Ok(()),
         },
-        (6, Command::Learn { capture, .. }) if is_long(capture, files) => {
+        (6, Command::Judge { capture, .. } | Command::Learn { capture, .. })
+            if is_long(capture, files) => {
             eprintln!(rt;
                 "cmdwall: {capture}: it has more than 67,108,864 bytes, and no longer capture is watched"
             )
         }
-        (6 | 7, Command::Packets { capture }) | (6 | 7, Command::Learn { capture, .. }) => {
-            explain_capture(rt, capture, false, files)
-        }
+        (6 | 7, Command::Packets { capture })
+        | (6 | 7, Command::Judge { capture, .. })
+        | (6 | 7, Command::Learn { capture, .. }) => { explain_capture(rt, capture, false, files) }
         (6 | 7, Command::Run { names, .. }) | (6 | 7, Command::World { names, .. }) => {
             explain_capture(rt, names.capture, true, files)
         }
@@ -190,9 +195,10 @@ fn explain_link<R: Eprint>(rt: &R, link: Option<&LinkFault>) -> io::Result<()> {
 /// What stands in the files that a command writes.
 fn explain_outputs<R: Eprint + AllocGlobal>(rt: &R, command: &Command<'_>) -> io::Result<()> {
     let message = match command {
-        Command::Check { .. } | Command::Compare { .. } | Command::Packets { .. } => {
-            outputs_message(rt.alloc(), &[])?
-        }
+        Command::Check { .. }
+        | Command::Compare { .. }
+        | Command::Judge { .. }
+        | Command::Packets { .. } => outputs_message(rt.alloc(), &[])?,
         Command::Learn { out, .. } | Command::Migrate { out, .. } => {
             outputs_message(rt.alloc(), &[out])?
         }
@@ -215,6 +221,7 @@ fn policy_of<'a>(command: &Command<'a>) -> Option<&'a str> {
         Command::Packets { .. } => None,
         Command::Check { policy }
         | Command::Compare { policy, .. }
+        | Command::Judge { policy, .. }
         | Command::Learn { policy, .. }
         | Command::Migrate { policy, .. }
         | Command::Run { policy, .. }

@@ -9,7 +9,7 @@ use Rattle.cf_box.proofs.Complete.{complete_told}
 use Rattle.cf_box.proofs.Exact.{exact_told}
 use Rattle.cf_box.proofs.Kept.{kept_told, unwritten_told}
 use Rattle.cf_box.proofs.RunHolds.{run_told}
-use Rattle.cf_box.proofs.Statuses.{Explains, capture_told, cells_told, cut_told, denied_told, idle_told, includes_told, lack_told, learns_told, link_told, lists_told, migrates_told, passes_told, read_told, refusal_told, rules_told, stream_told, write_told}
+use Rattle.cf_box.proofs.Statuses.{Explains, capture_told, cells_told, cut_told, denied_told, idle_told, includes_told, judged_told, lack_told, link_told, lists_told, migrates_told, passes_told, read_told, refusal_told, stream_told, write_told, learns_told, rules_told}
 use Rattle.cf_box.proofs.WorldHolds.{own_told, world_told}
 use Rattle.cf_box.proofs.top.box_main.Given.{Over}
 use Rattle.cf_box.proofs.top.box_main.Goals as goal
@@ -71,6 +71,9 @@ returns-in-Some-clause-rules g c = λ is. subst (λ words. ExceedsItsRules words
 
 pub returns-in-Some-clause-cells : goal.returns-in-Some-clause-cells
 returns-in-Some-clause-cells g c = λ is. subst (λ words. ExceedsItsCells words (before g c)) c.in-Some.ensures.command (cells_told (explains g c) is)
+
+pub returns-in-Some-clause-judged : goal.returns-in-Some-clause-judged
+returns-in-Some-clause-judged g c = λ policy capture is. judged_told (explains g c) policy capture (let known = c.in-Some.ensures.command in cc)
 
 pub returns-in-Some-clause-includes : goal.returns-in-Some-clause-includes
 returns-in-Some-clause-includes g c = λ policy other is. includes_told (explains g c) policy other (let known = c.in-Some.ensures.command in cc)

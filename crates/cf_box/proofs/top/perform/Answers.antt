@@ -8,6 +8,9 @@ returns-in-Check-clause-meets g c = rw c.in-Check.is (c.check.ensures.meets (sin
 pub returns-in-Compare-clause-meets : goal.returns-in-Compare-clause-meets
 returns-in-Compare-clause-meets g c = rw c.in-Compare.is (c.compare_files.ensures.meets (sink_value g.O.Sink c.args.out.now) (pair_value g.P.Pair c.args.pair.now))
 
+pub returns-in-Judge-clause-meets : goal.returns-in-Judge-clause-meets
+returns-in-Judge-clause-meets g c = rw c.in-Judge.is (c.judge_capture.ensures.meets (sink_value g.O.Sink c.args.out.now) (pair_value g.P.Pair c.args.pair.now))
+
 pub returns-in-Learn-clause-meets : goal.returns-in-Learn-clause-meets
 returns-in-Learn-clause-meets g c = rw c.in-Learn.is (c.learn_capture.ensures.meets (sink_value g.O.Sink c.args.out.now) (pair_value g.P.Pair c.args.pair.now))
 

@@ -18,7 +18,7 @@ returns-in-Unit c =
         some = some_octet p c.args.bytes.now.bytes (Apdu (apdu_value c.in-Unit.unit)) c.in-Unit.used b;
         fate = fate_by_asdu c.args.asset.now client (apdu_value c.in-Unit.unit);
         has_fate = refl;
-        counts = c.judge_apdu.ensures.finding client (subst (IsIndexOf c.args.asset.now client) i h.index);
+        counts = c.judge_apdu.ensures.ruling client (subst (IsIndexOf c.args.asset.now client) i h.index);
         goes_on = λ number. reader_on c.args.asset.now client earlier r number (Apdu (apdu_value c.in-Unit.unit)) _ refl h;
       };
     }

@@ -15,9 +15,9 @@ returns-in-Unit c =
         unit = Adu (adu_value c.in-Unit.unit);
         begins = b;
         some = some_octet p c.args.bytes.now.bytes (Adu (adu_value c.in-Unit.unit)) c.in-Unit.used b;
-        fate = (c.judge_adu.ensures.finding client (subst (IsIndexOf c.args.asset.now client) i h.index)).0;
-        has_fate = (c.judge_adu.ensures.finding client (subst (IsIndexOf c.args.asset.now client) i h.index)).1;
-        counts = (c.judge_adu.ensures.finding client (subst (IsIndexOf c.args.asset.now client) i h.index)).2;
+        fate = (c.judge_adu.ensures.ruling client (subst (IsIndexOf c.args.asset.now client) i h.index)).0;
+        has_fate = (c.judge_adu.ensures.ruling client (subst (IsIndexOf c.args.asset.now client) i h.index)).1;
+        counts = (c.judge_adu.ensures.ruling client (subst (IsIndexOf c.args.asset.now client) i h.index)).2;
         goes_on = λ number. reader_on c.args.asset.now client earlier r number (Adu (adu_value c.in-Unit.unit)) _ refl h;
       };
     }

@@ -44,41 +44,41 @@ returns-in-Broken c =
 pub overflow_add-at-in-Took : goal.overflow_add-at-in-Took
 overflow_add-at-in-Took c =
     let same = c.rest_of.ensures ∙ ap (drop c.units.at) c.as_slice.ensures.value in
-    let t = took c.args.asset.now (flow_value c.args.flow.now) c.units.at c.units.reader c.units.found c.units.invariant c.rest_of.result.bytes same c.in-Took.finding c.in-Took.used c.next.new.self c.in-Took.ensures.front in
-    let i = took_inside c.args.asset.now (flow_value c.args.flow.now) c.units.at c.units.reader c.units.found c.units.invariant c.in-Took.finding c.in-Took.used c.next.new.self t in
+    let t = took c.args.asset.now (flow_value c.args.flow.now) c.units.at c.units.reader c.units.found c.units.invariant c.rest_of.result.bytes same c.in-Took.ruling c.in-Took.used c.next.new.self c.in-Took.ensures.front in
+    let i = took_inside c.args.asset.now (flow_value c.args.flow.now) c.units.at c.units.reader c.units.found c.units.invariant c.in-Took.ruling c.in-Took.used c.next.new.self t in
     omega (arith, i.0, c.args.flow.now.bytes.ok.0, c.args.flow.now.bytes.ok.1, c.args.flow.now.bytes.small)
 
 pub overflow_sub-at : goal.overflow_sub-at
 overflow_sub-at c =
     let same = c.rest_of.ensures ∙ ap (drop c.units.at) c.as_slice.ensures.value in
-    let t = took c.args.asset.now (flow_value c.args.flow.now) c.units.at c.units.reader c.units.found c.units.invariant c.rest_of.result.bytes same c.in-Took.finding c.in-Took.used c.next.new.self c.in-Took.ensures.front in
+    let t = took c.args.asset.now (flow_value c.args.flow.now) c.units.at c.units.reader c.units.found c.units.invariant c.rest_of.result.bytes same c.in-Took.ruling c.in-Took.used c.next.new.self c.in-Took.ensures.front in
     omega (arith, t.some)
 
 pub index-requires-in-Took : goal.index-requires-in-Took
 index-requires-in-Took c =
     let same = c.rest_of.ensures ∙ ap (drop c.units.at) c.as_slice.ensures.value in
-    let t = took c.args.asset.now (flow_value c.args.flow.now) c.units.at c.units.reader c.units.found c.units.invariant c.rest_of.result.bytes same c.in-Took.finding c.in-Took.used c.next.new.self c.in-Took.ensures.front in
-    let i = took_inside c.args.asset.now (flow_value c.args.flow.now) c.units.at c.units.reader c.units.found c.units.invariant c.in-Took.finding c.in-Took.used c.next.new.self t in
+    let t = took c.args.asset.now (flow_value c.args.flow.now) c.units.at c.units.reader c.units.found c.units.invariant c.rest_of.result.bytes same c.in-Took.ruling c.in-Took.used c.next.new.self c.in-Took.ensures.front in
+    let i = took_inside c.args.asset.now (flow_value c.args.flow.now) c.units.at c.units.reader c.units.found c.units.invariant c.in-Took.ruling c.in-Took.used c.next.new.self t in
     omega (arith, i.0, i.1, c.requires.born)
 
-pub with_finding-found-requires : goal.with_finding-found-requires
-with_finding-found-requires c = omega (arith, c.units.invariant.few, c.units.invariant.inside, c.args.flow.now.bytes.ok.0, c.args.flow.now.bytes.ok.1, c.args.flow.now.bytes.small)
+pub with_ruling-found-requires : goal.with_ruling-found-requires
+with_ruling-found-requires c = omega (arith, c.units.invariant.few, c.units.invariant.inside, c.args.flow.now.bytes.ok.0, c.args.flow.now.bytes.ok.1, c.args.flow.now.bytes.small)
 
 pub units-preserved : goal.units-preserved
 units-preserved c =
     let same = c.rest_of.ensures ∙ ap (drop c.units.at) c.as_slice.ensures.value in
-    let t = took c.args.asset.now (flow_value c.args.flow.now) c.units.at c.units.reader c.units.found c.units.invariant c.rest_of.result.bytes same c.in-Took.finding c.in-Took.used c.next.new.self c.in-Took.ensures.front in
-    let i = took_inside c.args.asset.now (flow_value c.args.flow.now) c.units.at c.units.reader c.units.found c.units.invariant c.in-Took.finding c.in-Took.used c.next.new.self t in
+    let t = took c.args.asset.now (flow_value c.args.flow.now) c.units.at c.units.reader c.units.found c.units.invariant c.rest_of.result.bytes same c.in-Took.ruling c.in-Took.used c.next.new.self c.in-Took.ensures.front in
+    let i = took_inside c.args.asset.now (flow_value c.args.flow.now) c.units.at c.units.reader c.units.found c.units.invariant c.in-Took.ruling c.in-Took.used c.next.new.self t in
     let n = get_or_read c.args.flow.now.born.items _ _ (omega (arith, i.0, i.1, c.requires.born)) c.index-in-Took.ensures 0 in
-    subst (SoFar c.args.asset.now (flow_value c.args.flow.now) (c.units.at + c.in-Took.used) c.next.new.self) (sym c.with_finding-found.ensures)
-    (so_far_on c.args.asset.now (flow_value c.args.flow.now) c.units.at c.units.reader c.units.found c.units.invariant c.in-Took.finding c.in-Took.used c.next.new.self c.index-in-Took.result.now
+    subst (SoFar c.args.asset.now (flow_value c.args.flow.now) (c.units.at + c.in-Took.used) c.next.new.self) (sym c.with_ruling-found.ensures)
+    (so_far_on c.args.asset.now (flow_value c.args.flow.now) c.units.at c.units.reader c.units.found c.units.invariant c.in-Took.ruling c.in-Took.used c.next.new.self c.index-in-Took.result.now
     c.requires.born t n)
 
 pub units-smaller : goal.units-smaller
 units-smaller c =
     let same = c.rest_of.ensures ∙ ap (drop c.units.at) c.as_slice.ensures.value in
-    let t = took c.args.asset.now (flow_value c.args.flow.now) c.units.at c.units.reader c.units.found c.units.invariant c.rest_of.result.bytes same c.in-Took.finding c.in-Took.used c.next.new.self c.in-Took.ensures.front in
-    let i = took_inside c.args.asset.now (flow_value c.args.flow.now) c.units.at c.units.reader c.units.found c.units.invariant c.in-Took.finding c.in-Took.used c.next.new.self t in
+    let t = took c.args.asset.now (flow_value c.args.flow.now) c.units.at c.units.reader c.units.found c.units.invariant c.rest_of.result.bytes same c.in-Took.ruling c.in-Took.used c.next.new.self c.in-Took.ensures.front in
+    let i = took_inside c.args.asset.now (flow_value c.args.flow.now) c.units.at c.units.reader c.units.found c.units.invariant c.in-Took.ruling c.in-Took.used c.next.new.self t in
     omega (arith, i.0, i.1)
 
 pub returns : goal.returns

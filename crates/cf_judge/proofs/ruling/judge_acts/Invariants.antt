@@ -3,7 +3,7 @@ use Rattle.cf_policy.specs.Index.{IsIndexOf}
 use Rattle.cf_policy.specs.Verdict.{verdict_of}
 use Rattle.cf_view.specs.declared.Act.{Act}
 use Rattle.cf_lane.specs.Acts.{GivesActs, first_refusal}
-use Rattle.cf_judge.proofs.finding.judge_acts.Given as goal
+use Rattle.cf_judge.proofs.ruling.judge_acts.Given as goal
 
 -- no act so far was refused
 abbrev pub invariant-loop-i : goal.invariant-loop-i

@@ -3,7 +3,7 @@ ghost use Rattle.std.specs.Prelude.{◌≡◌, ◌<◌, List, ℕ, length};
 ghost use Rattle.cf_lane.specs.Acts.{GivesActs, fate_of_acts};
 ghost use Rattle.cf_policy.specs.Index.{IsIndexOf};
 ghost use Rattle.cf_policy.specs.Verdict.{verdict_of};
-ghost use Rattle.cf_judge.specs.Finding.{finding_of};
+ghost use Rattle.cf_judge.specs.Ruling.{ruling_of};
 
 use cf_audit::Why;
 use cf_policy::{Asset, CodeIndex, Decider, Verdict};
@@ -24,7 +24,7 @@ pub enum Complaint {
 
 /// What a unit counts for.
 #[derive(Clone, Copy)]
-pub(crate) enum Finding {
+pub(crate) enum Ruling {
     /// Nothing: it is carried, or lengthens a fragment.
     Nothing,
     /// A command that the policy allows.
@@ -34,10 +34,10 @@ pub(crate) enum Finding {
 }
 
 /// A command that is refused.
-pub(crate) fn refused(decider: Decider, reason: Reason) -> Finding
-    ensures { result ≡ Finding.Wrong (Complaint.Refused decider reason) }
+pub(crate) fn refused(decider: Decider, reason: Reason) -> Ruling
+    ensures { result ≡ Ruling.Wrong (Complaint.Refused decider reason) }
 {
-    Finding::Wrong(Complaint::Refused(decider, reason))
+    Ruling::Wrong(Complaint::Refused(decider, reason))
 }
 
 /// A command of so many acts, of which the call gives each by its place: each is judged in its order, and the first that is not
@@ -47,10 +47,10 @@ pub(crate) fn judge_acts<F: Fn(u32) -> Act>(
     index: &CodeIndex,
     count: u32,
     act_at: F,
-) -> Finding
+) -> Ruling
     requires acts { (i : ℕ) → i < count → F.pre act_at i }
     ensures { (client : ℕ) (acts : List Act) → IsIndexOf asset.now client index.now → length acts ≡ count
-        → GivesActs (F.post act_at) acts → result ≡ finding_of (fate_of_acts asset.now (verdict_of asset.now client) acts) }
+        → GivesActs (F.post act_at) acts → result ≡ ruling_of (fate_of_acts asset.now (verdict_of asset.now client) acts) }
 {
     for i in 0..count {
         let act = act_at(i);
@@ -59,5 +59,5 @@ pub(crate) fn judge_acts<F: Fn(u32) -> Act>(
             Verdict::Refuse(decider, reason) => return refused(decider, reason),
         }
     }
-    Finding::Allowed
+    Ruling::Allowed
 }

@@ -1,0 +1,29 @@
+use Rattle.std.proofs.Common.{Err, ap, refl, subst, sym}
+use Rattle.cf_box.specs.Command.{Judge}
+use Rattle.cf_box.specs.Ends.{Meets}
+use Rattle.cf_box.specs.Outside.{files_value, outside}
+use Rattle.cf_box.proofs.Judging.{flows_meet, watch_stops}
+use Rattle.cf_box.proofs.judge.judge_capture.Goals as goal
+
+pub returns-in-Err-clause-meets : goal.returns-in-Err-clause-meets
+returns-in-Err-clause-meets g c = λ sink pair. (
+  c.in-Err.ensures.stop (Judge c.args.policy.now c.args.capture.now) sink pair refl,
+  record { unwritten = c.in-Err.ensures.unwritten; same = record { content = c.load_policy.ensures.only.content; sink = refl; pair = refl } },
+)
+
+pub returns-in-Ok-clause-meets : goal.returns-in-Ok-clause-meets
+returns-in-Ok-clause-meets g c = λ sink pair.
+    let before = outside (files_value g.F.Files c.args.files.now) sink pair in
+    let middle = outside (files_value g.F.Files c.load_policy.new.files) sink pair in
+    let after = outside (files_value g.F.Files c.watch.new.files) sink pair in
+    flows_meet c.args.policy.now c.args.capture.now before middle after c.in-Ok.meaning c.in-Ok.ensures.has c.load_policy.ensures.only c.watch.ensures.same refl refl _
+    c.in-Ok-watch.ensures.watched c.judge_flows.result c.judge_flows.ensures
+
+pub returns-in-Err-watch-clause-meets : goal.returns-in-Err-watch-clause-meets
+returns-in-Err-watch-clause-meets g c = λ sink pair.
+    let before = outside (files_value g.F.Files c.args.files.now) sink pair in
+    let middle = outside (files_value g.F.Files c.load_policy.new.files) sink pair in
+    let after = outside (files_value g.F.Files c.watch.new.files) sink pair in
+    subst (λ s. Meets (Judge c.args.policy.now c.args.capture.now) before after (Err s)) (sym c.from.ensures)
+    (watch_stops c.args.policy.now c.args.capture.now before middle after c.in-Ok.meaning c.in-Ok.ensures.has c.load_policy.ensures.only c.watch.ensures.same refl refl
+    c.in-Err-watch.fault c.in-Err-watch.ensures.fault (λ is. c.watch.ensures.read.rose (ap Err is)))

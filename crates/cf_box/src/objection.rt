@@ -1,0 +1,118 @@
+//! What is told of an objection to what clients sent.
+ghost use Rattle.std.specs.Prelude.{◌≡◌, ◌≤◌, ◌+◌, ◌++◌, length};
+ghost use Rattle.cf_audit.specs.Names.{break_name, reason_name, why_name};
+ghost use Rattle.cf_box.specs.Objection.{objected_text, told_text};
+
+use crate::denial::AssetName;
+use crate::ending::EndText;
+use cf_audit::Why;
+use cf_view::{Break, Endpoint, Reason, push_endpoint, push_number, push_signed};
+
+/// What a flow is objected to for, with the name of the rule.
+#[derive(Clone, Copy)]
+pub enum Told {
+    /// Two packets carried different letters at this position.
+    Conflict(i64),
+    /// The bytes are no units of the protocol.
+    Broken(Break),
+    /// A command is refused: by the rule of this name, or by `default`, `station` or `form`.
+    Refused { rule: AssetName, reason: Reason },
+    /// A frame, segment or fragment of DNP3 belongs to nothing.
+    Stray(Why),
+}
+
+/// The first objection to what clients sent.
+#[derive(Clone, Copy)]
+pub struct Objected {
+    /// The number, counted from 1, of the record with which it comes.
+    pub at_record: u64,
+    pub client: Endpoint,
+    /// The name of the asset.
+    pub asset: AssetName,
+    pub what: Told,
+}
+
+/// Pushes what is told of an objection, behind a word.
+pub(crate) fn push_objected(text: &mut EndText, objected: &Objected)
+    requires { length text.old.bytes ≤ 8 }
+    ensures { text.new.bytes ≡ text.old.bytes ++ objected_text objected.now }
+{
+    push_number(text, objected.at_record);
+    text.push_str(" ");
+    push_endpoint(text, &objected.client);
+    text.push_str(" ");
+    text.push_str(objected.asset.as_str());
+    text.push_str(" ");
+    push_told(text, &objected.what);
+}
+
+fn push_told(text: &mut EndText, told: &Told)
+    requires { length text.old.bytes ≤ 200 }
+    ensures { text.new.bytes ≡ text.old.bytes ++ told_text told.now }
+{
+    match told {
+        Told::Conflict(position) => {
+            text.push_str("conflict ");
+            push_signed(text, *position);
+        }
+        Told::Broken(reason) => {
+            text.push_str("broken ");
+            text.push_str(break_word(*reason));
+        }
+        Told::Refused { rule, reason } => {
+            text.push_str("refused ");
+            text.push_str(rule.as_str());
+            text.push_str(" ");
+            text.push_str(reason_word(*reason));
+        }
+        Told::Stray(why) => {
+            text.push_str("stray ");
+            text.push_str(why_word(*why));
+        }
+    }
+}
+
+fn reason_word(reason: Reason) -> &'static str
+    ensures name { result.now ≡ reason_name reason }
+    ensures short { length result.now ≤ 8 }
+{
+    match reason {
+        Reason::Function => "function",
+        Reason::Point => "point",
+        Reason::Value => "value",
+        Reason::Station => "station",
+    }
+}
+
+fn why_word(why: Why) -> &'static str
+    ensures name { result.now ≡ why_name why }
+    ensures short { length result.now ≤ 9 }
+{
+    match why {
+        Why::Address => "address",
+        Why::Direction => "direction",
+        Why::Code => "code",
+        Why::Empty => "empty",
+        Why::NoFirst => "first",
+        Why::Order => "order",
+        Why::TooLong => "long",
+        Why::Short => "short",
+    }
+}
+
+fn break_word(reason: Break) -> &'static str
+    ensures name { result.now ≡ break_name reason }
+    ensures short { length result.now ≤ 11 }
+{
+    match reason {
+        Break::Protocol => "protocol",
+        Break::Length => "length",
+        Break::Start => "start",
+        Break::FrameLength => "framelength",
+        Break::HeaderCrc => "headercrc",
+        Break::BlockCrc => "blockcrc",
+        Break::ApduStart => "apdustart",
+        Break::ApduLength => "apdulength",
+        Break::Control => "control",
+    }
+}
