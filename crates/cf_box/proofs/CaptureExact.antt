@@ -124,7 +124,7 @@ module _ (failed : Type 0) (status : ℕ) (before after : Outside) where
     unread_policy r (inr (inl cause)) = let none = cause.2 in cc
     unread_policy r (inr (inr made)) = made
 
-    listing_by : (r : Result Done Stop) → Meets (Packets capture) before after r → EndsBy HasListedRecords bytes r
+    listing_by : (r : Result Done Stop) → Meets (Packets capture) before after r → EndsBy HasListedRecords bytes (listing_once bytes) r
     listing_by (Ok d) meets =
         let l = meets.lists in
         let at : EndsAt HasListedRecords (before.files.content capture) FileEnd l.last.place = record {
@@ -160,7 +160,7 @@ module _ (failed : Type 0) (status : ℕ) (before after : Outside) where
     unrefused r (inr (inl cause)) = let none = cause.2 in cc
     unrefused r (inr (inr made)) = made
 
-    run_by : (r : Result Done Stop) → Meets (Run policy names) before after r → EndsBy HasRunRecords bytes r
+    run_by : (r : Result Done Stop) → Meets (Run policy names) before after r → EndsBy HasRunRecords bytes (run_once bytes) r
     run_by (Ok d) meets =
         let r = meets.1.runs.1 in
         let at : EndsAt HasRunRecords (before.files.content names.capture) FileEnd meets.1.runs.0 =
