@@ -121,15 +121,12 @@ fn explain_command<R: FileSystem + Eprint + AllocGlobal>(
             Some(policy) => explain_policy(rt, policy, files).map(|_| ()),
             None => Ok(()),
         },
-        (6, Command::Judge { capture, .. } | Command::Learn { capture, .. })
-            if is_long(capture, files) => {
-            eprintln!(rt;
-                "cmdwall: {capture}: it has more than 67,108,864 bytes, and no longer capture is watched"
-            )
+        (6, Command::Judge { capture, .. }) | (6, Command::Learn { capture, .. }) => {
+            explain_watched(rt, capture, files)
         }
         (6 | 7, Command::Packets { capture })
-        | (6 | 7, Command::Judge { capture, .. })
-        | (6 | 7, Command::Learn { capture, .. }) => { explain_capture(rt, capture, false, files) }
+        | (7, Command::Judge { capture, .. })
+        | (7, Command::Learn { capture, .. }) => explain_capture(rt, capture, false, files),
         (6 | 7, Command::Run { names, .. }) | (6 | 7, Command::World { names, .. }) => {
             explain_capture(rt, names.capture, true, files)
         }
@@ -292,15 +289,6 @@ fn warn_of_learned<R: Eprint>(rt: &R, out: &str) -> io::Result<()> {
     )
 }
 
-/// Whether a capture has more octets than are watched. Not where it cannot be read again, as a pipe.
-fn is_long<R: FileSystem>(name: &str, files: &mut RealFiles<'_, R>) -> bool {
-    let mut octet = [0u8; 1];
-    matches!(
-        files.read_at(name, CAPTURE_LIMIT, &mut octet),
-        ReadAnswer::Got(_)
-    )
-}
-
 /// Why one policy is not included in another.
 fn explain_inclusion<R: FileSystem + Eprint + AllocGlobal>(
     rt: &R,
@@ -340,6 +328,23 @@ fn explain_asset<R: FileSystem + Eprint + AllocGlobal>(
     };
     let message = asset_message(rt.alloc(), name, &policy, asset)?;
     eprintln!(rt; "cmdwall: {message}")
+}
+
+/// Why a capture is refused that is watched: it is too long, or its octets are at fault. A pipe cannot be read a second time.
+fn explain_watched<R: FileSystem + Eprint + AllocGlobal>(
+    rt: &R,
+    name: &str,
+    files: &mut RealFiles<'_, R>,
+) -> io::Result<()> {
+    let mut octet = [0u8; 1];
+    match files.read_at(name, CAPTURE_LIMIT, &mut octet) {
+        ReadAnswer::Got(_) => {
+            eprintln!(rt;
+                "cmdwall: {name}: it has more than 67,108,864 bytes, and no longer capture is watched"
+            )
+        }
+        ReadAnswer::End | ReadAnswer::Failed => explain_capture(rt, name, false, files),
+    }
 }
 
 /// Why a capture is refused, or where it is cut. `has_moments`: the command gives each record a moment.
