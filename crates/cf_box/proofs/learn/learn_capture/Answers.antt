@@ -33,7 +33,7 @@ returns-clause-meets g c = λ sink pair.
     unlearned_meets c.args.policy_file.now c.args.capture.now c.args.out.now before c.in-Ok.policy c.in-Ok.ensures.has flows
     (has_watched c.args.policy_file.now c.args.capture.now c.args.out.now before c.in-Ok.policy c.in-Ok.ensures.has middle flows c.load_policy.ensures.only c.in-Ok-watch.ensures.watched)
     after (record { content = c.watch.ensures.same ∙ c.load_policy.ensures.only.content; sink = refl; pair = refl }) c.in-Err-learned.stop
-    (subst (λ l. LearnsAs c.in-Ok.policy (map flow_value l) (Err c.in-Err-learned.stop)) c.as_slice.ensures c.in-Err-learned.ensures)
+    (subst (λ l. LearnsAs c.in-Ok.policy (map flow_value l) (Err c.in-Err-learned.stop)) c.as_slice.ensures.value c.in-Err-learned.ensures)
 
 pub returns-in-Ok-learned-clause-meets : goal.returns-in-Ok-learned-clause-meets
 returns-in-Ok-learned-clause-meets g c = λ sink pair.
@@ -46,6 +46,6 @@ returns-in-Ok-learned-clause-meets g c = λ sink pair.
     let earlier = c.load_policy.ensures.only.reads in
     written_meets c.args.policy_file.now c.args.capture.now c.args.out.now before c.in-Ok.policy c.in-Ok.ensures.has flows
     (has_watched c.args.policy_file.now c.args.capture.now c.args.out.now before c.in-Ok.policy c.in-Ok.ensures.has middle flows c.load_policy.ensures.only c.in-Ok-watch.ensures.watched)
-    watched after c.in-Ok-learned.policy (subst (λ l. IsLearned c.in-Ok.policy (map flow_value l) c.in-Ok-learned.policy) c.as_slice.ensures c.in-Ok-learned.ensures.0)
+    watched after c.in-Ok-learned.policy (subst (λ l. IsLearned c.in-Ok.policy (map flow_value l) c.in-Ok-learned.policy) c.as_slice.ensures.value c.in-Ok-learned.ensures.0)
     (record { content = c.watch.ensures.same ∙ c.load_policy.ensures.only.content; reads = omega (arith, reads, earlier); writes = c.watch.ensures.writes ∙ c.load_policy.ensures.only.writes })
     c.write_policy.ensures.others refl refl c.write_policy.result c.write_policy.ensures.writes c.write_policy.ensures.cause.rose c.write_policy.ensures.unwritten
