@@ -36,16 +36,22 @@ pub(crate) fn denial_line(denial: &Denial) -> EndText
     let mut text = EndText::new();
     text.push_str("no ");
     match denial {
-        Denial::NoPartner(name) => text.push_str(name.as_str()),
+        Denial::NoPartner(name) => {
+            text.push_str(name.as_str());
+            text.push_str("\n");
+        }
         Denial::Allows { name, client, act } => {
             text.push_str(name.as_str());
             text.push_str(" client ");
             push_dotted(&mut text, *client);
             push_act(&mut text, act);
+            text.push_str("\n");
         }
-        Denial::Objects(objected) => push_objected(&mut text, objected),
+        Denial::Objects(objected) => {
+            push_objected(&mut text, objected);
+            text.push_str("\n");
+        }
     }
-    text.push_str("\n");
     text
 }
 

@@ -1,5 +1,6 @@
 //! `judge POLICY CAPTURE`: whether what clients sent in a capture keeps a policy.
-ghost use Rattle.std.specs.Prelude.{◌≡◌, ◌≤◌, All, IfSome, Some, length, map, option_map, slice_get, string_bytes};
+ghost use Rattle.std.specs.Prelude.{[], ◌≡◌, ◌≤◌, All, IfSome, Some, length, map, option_map, slice_get, string_bytes};
+ghost use Rattle.std.specs.Option.{option_map_or};
 ghost use Rattle.cf_box.specs.Command.{Judge};
 ghost use Rattle.cf_box.specs.Ends.{Meets};
 ghost use Rattle.cf_box.specs.Judge.{IsTold, IsToldAs, SaysOfFlows, judge_of};
@@ -20,7 +21,7 @@ use crate::objection::{Objected, Told};
 use crate::policy_file::load_policy;
 use cf_judge::{Complaint, Objection, judge};
 use cf_outside::Files;
-use cf_policy::{Asset, Decider, Policy};
+use cf_policy::{Asset, Decider, Policy, Rule};
 use cf_watch::{Flow, watch};
 use std::alloc::Global;
 
@@ -125,15 +126,21 @@ fn rule_name(asset: &Asset, decider: &Decider) -> AssetName
     ensures { result.bytes ≡ name_of asset.now.rules decider.now }
 {
     match decider {
-        Decider::Rule(number) | Decider::Spent(number) => {
-            match asset.rules.as_slice().get(*number) {
-                Some(rule) => name_text(rule.name.as_str()),
-                None => AssetName::new(),
-            }
-        }
+        Decider::Rule(number) => name_of_rule(asset.rules.as_slice(), *number),
+        Decider::Spent(number) => name_of_rule(asset.rules.as_slice(), *number),
         Decider::Default => name_text("default"),
         Decider::Station => name_text("station"),
         Decider::Form => name_text("form"),
+    }
+}
+
+/// The name of the rule at a place; an empty one where there is none.
+fn name_of_rule(rules: &[Rule], place: usize) -> AssetName
+    ensures { result.bytes ≡ option_map_or (λ r. r.name) (slice_get rules.now place) [] }
+{
+    match rules.get(place) {
+        Some(rule) => name_text(rule.name.as_str()),
+        None => AssetName::new(),
     }
 }
 

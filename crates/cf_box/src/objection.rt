@@ -35,7 +35,8 @@ pub struct Objected {
 /// Pushes what is told of an objection, behind a word.
 pub(crate) fn push_objected(text: &mut EndText, objected: &Objected)
     requires { length text.old.bytes ≤ 8 }
-    ensures { text.new.bytes ≡ text.old.bytes ++ objected_text objected.now }
+    ensures text { text.new.bytes ≡ text.old.bytes ++ objected_text objected.now }
+    ensures short { length text.new.bytes ≤ 300 }
 {
     push_number(text, objected.at_record);
     text.push_str(" ");
@@ -48,7 +49,8 @@ pub(crate) fn push_objected(text: &mut EndText, objected: &Objected)
 
 fn push_told(text: &mut EndText, told: &Told)
     requires { length text.old.bytes ≤ 200 }
-    ensures { text.new.bytes ≡ text.old.bytes ++ told_text told.now }
+    ensures text { text.new.bytes ≡ text.old.bytes ++ told_text told.now }
+    ensures short { length text.new.bytes ≤ length text.old.bytes + 64 }
 {
     match told {
         Told::Conflict(position) => {
