@@ -1,10 +1,9 @@
 -- `packets CAPTURE`: the packets of a capture are listed, a line each (`PacketLine`).
-use Rattle.std.specs.Prelude.{◌≡◌, ◌≢◌, ◌⊎◌, ℕ, List, [], ◌∷◌, take, drop, if◌then◌else◌, Option, None, Some, Result, Ok, Err}
+use Rattle.std.specs.Prelude.{◌≡◌, ◌≢◌, ◌⊎◌, ℕ, List, [], ◌∷◌, take, if◌then◌else◌, Option, None, Some, Result, Ok, Err}
 use Rattle.cf_outside.specs.Faults.{Rose}
-use Rattle.cf_outside.specs.Files.{Content, untold, absent, holds}
+use Rattle.cf_outside.specs.Files.{Content}
 use Rattle.cf_outside.specs.Sink.{printed_with}
-use Rattle.cf_run.specs.Capture.{AreRecords, Cut, FileEnd, Large, LastPlace, Record, Refused, TooLong}
-use Rattle.cf_run.specs.Form.{first_place}
+use Rattle.cf_run.specs.Capture.{Cut, FileEnd, Large, LastPlace, Record, Refused, TooLong}
 use Rattle.cf_run.specs.Reader.{HasForm, OpensAs}
 use Rattle.cf_run.specs.declared.BlockRefusal.TheVariants as block
 use Rattle.cf_run.specs.declared.Form.{Form}
