@@ -1,6 +1,7 @@
 -- What is said of the flows of a capture, as the answer of the command.
-use Rattle.std.proofs.Common.{◌≡◌, ◌≢◌, ◌≤◌, ℕ, List, Some, Result, Ok, Err, refl, subst, ◌∙◌, inl, inr, arith}
+use Rattle.std.proofs.Common.{[], ◌∷◌, ◌<◌, length, slice_get, suc, zero, ◌≡◌, ◌≢◌, ◌≤◌, ℕ, List, Some, Result, Ok, Err, refl, subst, ◌∙◌, inl, inr, arith}
 use Rattle.cf_outside.specs.Files.{Content}
+use Rattle.cf_policy.specs.declared.Asset.{Asset}
 use Rattle.cf_policy.specs.declared.Policy.{Policy}
 use Rattle.cf_run.specs.Capture.{AtPlace}
 use Rattle.cf_run.specs.declared.BlockRefusal.{BlockRefusal}
@@ -27,6 +28,12 @@ use Rattle.cf_box.specs.declared.ending.Done.{Done}
 use Rattle.cf_box.specs.declared.ending.Stop.{Stop}
 use Rattle.cf_box.specs.declared.ending.Stop.TheVariants as stop
 use Rattle.cf_box.proofs.CaptureStops.{block_refuses, form_refuses}
+
+-- the asset at a place of a policy
+pub asset_at : (assets : List Asset) (place : ℕ) → place < length assets → (asset : Asset) × (slice_get assets place ≡ Some asset)
+asset_at [] place below = absurd (omega (arith, below))
+asset_at (asset ∷ assets) zero below = (asset, refl)
+asset_at (asset ∷ assets) (suc place) below = asset_at assets place (omega (arith, below))
 
 -- the records of a capture that is watched are those of a listing
 pub plain_end : (file : Content) (found : AtPlace) (place : ℕ) → WatchEndsAt file found place → EndsAt HasListedRecords file found place

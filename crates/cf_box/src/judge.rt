@@ -55,10 +55,11 @@ pub(crate) fn judge_capture<F: Files>(
         Ok(meaning) => meaning,
         Err(stop) => return Err(stop),
     };
-    match watch(alloc, &meaning, capture, files) {
-        Ok(flows) => judge_flows(alloc, &meaning, flows.as_slice()),
-        Err(fault) => Err(Stop::from(fault)),
-    }
+    let flows = match watch(alloc, &meaning, capture, files) {
+        Ok(flows) => flows,
+        Err(fault) => return Err(Stop::from(fault)),
+    };
+    judge_flows(alloc, &meaning, flows.as_slice())
 }
 
 /// What is said of flows.
