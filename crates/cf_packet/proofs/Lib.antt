@@ -1,4 +1,4 @@
 mod Mss
 mod PseudoHeader
 mod Sums
-mod Written
+pub mod Written

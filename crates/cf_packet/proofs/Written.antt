@@ -123,7 +123,7 @@ length_options : (mss : Option ℕ) (text : List ℕ) → length (option_octets 
 length_options None text = omega arith
 length_options (Some m) text = omega arith
 
-length_segment : (p : PacketValue) (checksum : ℕ) → length (segment_with checksum p) ≡ segment_length p
+pub length_segment : (p : PacketValue) (checksum : ℕ) → length (segment_with checksum p) ≡ segment_length p
 length_segment p checksum = omega (arith, length_options p.mss p.text)
 
 -- the options and the text behind 20 octets

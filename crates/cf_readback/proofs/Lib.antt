@@ -1,0 +1,5 @@
+mod Legs
+mod Ranges
+mod Reading
+mod Sending
+mod Writing

@@ -1,0 +1,61 @@
+-- The capture file of sent packets is read as these packets at these moments: RunsAreReadBack, read from the end. This project's own.
+use Rattle.std.specs.Prelude.{◌≡◌, ℕ, ◌<◌, ◌≤◌, ◌^◌, List, drop, length, map, Ok}
+use Rattle.std.specs.List.{AllByRecursion}
+use Rattle.cf_leg.specs.Emitted.{spelled}
+use Rattle.cf_packet.specs.Packet.{read_record}
+use Rattle.cf_packet.specs.Written.{IsWritable}
+use Rattle.cf_pcap.specs.Header.{output_header}
+use Rattle.cf_pcap.specs.Record.{moment_limit}
+use Rattle.cf_policy.specs.declared.Asset.{Asset}
+use Rattle.cf_run.specs.Capture.{AreRecords, FileEnd, LastPlace, Record}
+use Rattle.cf_run.specs.Form.{form_of}
+use Rattle.cf_run.specs.Run.{IsRun, capture_of}
+use Rattle.cf_run.specs.Trace.{AreEvents, Event, Input, sent}
+use Rattle.cf_run.specs.declared.Form.{Form}
+use Rattle.cf_run.specs.declared.Form.TheVariants as form
+use Rattle.cf_run.specs.declared.summary.Summary.{Summary}
+use Rattle.cf_session.specs.Sent.{Sent}
+use Rattle.cf_view.specs.Octets.{IsOctets}
+use Rattle.cf_view.specs.declared.LinkKind.TheVariants as link
+
+-- a packet may be written at its moment
+pub record MayBeWritten (s : Sent) : Type 0 where
+  pub moment : s.moment < moment_limit
+  pub packet : IsWritable s.packet
+
+-- all that events over records in time send may be
+abbrev pub SentMayBeWritten : Type 0
+SentMayBeWritten =
+    (assets : List Asset) (limit : ℕ) (events : List Event) → AreEvents assets limit events →
+    AllByRecursion (λ e. e.input.moment < moment_limit) events → AllByRecursion MayBeWritten (sent events)
+
+-- the form of the files that are written
+abbrev pub output_form : Form
+output_form = form.Classic output_header
+
+-- the record of a packet that was sent
+abbrev pub record_by : Sent → Record
+record_by s = record { stamp = s.moment; link = link.RawIp; body = spelled s.packet }
+
+-- its octets are read as the packet
+abbrev pub IsReadAgain : Sent → Type 0
+IsReadAgain s = read_record link.RawIp (spelled s.packet) ≡ Ok s.packet
+
+-- octets that have the header, and a record for each packet, in their order, up to their end
+pub record ReadsAs (octets : List ℕ) (all : List Sent) : Type 0 where
+  pub has_form : form_of octets ≡ Ok output_form
+  pub last : LastPlace
+  pub ends : last.found ≡ FileEnd
+  pub are : AreRecords output_form 24 (drop 24 octets) (map record_by all) last
+  pub packets : AllByRecursion IsReadAgain all
+
+-- that the fields are in their ranges follows from the octets
+abbrev pub CapturesAreRead : Type 0
+CapturesAreRead =
+    (all : List Sent) → AllByRecursion MayBeWritten all → IsOctets (capture_of all) → length (capture_of all) ≤ 2 ^ 40 → ReadsAs (capture_of all) all
+
+-- the output capture of a run over records in time is read as what its events sent
+abbrev pub RunsAreReadBack : Type 0
+RunsAreReadBack =
+    (assets : List Asset) (limit : ℕ) (given : List Input) (out log : List ℕ) (summary : Summary) (run : IsRun assets limit given out log summary) →
+    AllByRecursion (λ i. i.moment < moment_limit) given → IsOctets out → length out ≤ 2 ^ 40 → ReadsAs out (sent run.events)
