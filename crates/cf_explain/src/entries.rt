@@ -175,5 +175,5 @@ pub(crate) fn address_fault(text: &str) -> Option<&'static str> {
     {
         return Some("a number has no leading zero");
     }
-    Some("a number of it is none from 0 to 255")
+    Some("one of its four numbers is not from 0 to 255")
 }

@@ -50,9 +50,24 @@ pub(crate) fn entries_of(value: &Value) -> &[Value] {
     }
 }
 
+/// The entries of a list where a key takes one; none else.
+fn list_for(key: Key, value: &Value) -> &[Value] {
+    match key {
+        Key::Set
+        | Key::Asset
+        | Key::Rule
+        | Key::Clients
+        | Key::Codes
+        | Key::Groups
+        | Key::Points
+        | Key::Values => entries_of(value),
+        _ => &[],
+    }
+}
+
 /// What is wrong with the kind of a value.
 pub(crate) fn push_wrong_kind(out: &mut Page, key: Key, value: &Value) {
-    match first_other(key, entries_of(value)) {
+    match first_other(key, list_for(key, value)) {
         Some((number, entry)) => {
             push_entry(out, key, number, entry);
             out.push_all(&[", and has to be ", wanted_entry(key)]);

@@ -8,15 +8,21 @@ use std::alloc::{AllocError, Global};
 /// How many names of assets are written out.
 const NAMES: usize = 8;
 
-/// What stands in the outputs of these names after a failed write, or where memory ran out.
-pub fn outputs_message(alloc: Global, outputs: &[&str]) -> Result<String, AllocError> {
+/// What stands in a command's outputs after a failed write, or where memory ran out: in those that were begun, and in those that
+/// were left.
+pub fn outputs_message(alloc: Global, begun: &[&str], left: &[&str]) -> Result<String, AllocError> {
     let mut out = Page::new(alloc);
-    out.push_list(outputs);
-    out.push(if outputs.is_empty() {
-        "no file was changed"
-    } else {
-        ": each is as it was, or empty, or has a beginning of what it would have"
-    });
+    if begun.is_empty() {
+        out.push("no file was changed");
+        return out.finish();
+    }
+    out.push_list(begun);
+    out.push(": made anew, with a beginning of what it would have, or nothing");
+    if !left.is_empty() {
+        out.push("; ");
+        out.push_list(left);
+        out.push(": left as it was");
+    }
     out.finish()
 }
 

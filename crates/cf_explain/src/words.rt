@@ -136,13 +136,21 @@ fn slots_of(command: &str) -> Option<&'static [Slot]> {
 pub fn words_message(alloc: Global, words: &[String]) -> Result<String, AllocError> {
     let mut out = Page::new(alloc);
     match words.split_first() {
-        Some((command, rest)) => push_command(&mut out, command.as_str(), rest),
+        Some((command, rest)) => push_asked(&mut out, command.as_str(), rest),
         None => {
             out.push("there are no words; a first one names the command\n  ");
             push_commands(&mut out);
         }
     }
     out.finish()
+}
+
+/// What is wrong with a word and those behind it. Behind `help` stands the command that is asked for.
+fn push_asked(out: &mut Page, word: &str, rest: &[String]) {
+    match rest {
+        [asked] if word == "help" => push_no_command(out, asked.as_str()),
+        _ => push_command(out, word, rest),
+    }
 }
 
 fn push_command(out: &mut Page, command: &str, words: &[String]) {

@@ -7,7 +7,7 @@ mod same;
 mod writer;
 
 use crate::files::reader::{Reader, forget, opened, read_from};
-use crate::files::same::{Place, place_of, twin_of};
+use crate::files::same::{Place, Use, first_twins, is_begun, is_printed, place_of};
 use crate::files::writer::{Writer, append_to, create_file, flush_all, flush_one};
 use cf_outside::{Files, ReadAnswer, WriteAnswer};
 pub use same::Twins;
@@ -31,6 +31,17 @@ pub struct Fault {
     pub error: io::Error,
 }
 
+/// Why an output was not made, though the system would have made it.
+#[derive(Drop)]
+pub enum Withheld {
+    /// It is an input, or another output, under another name.
+    Twins(Twins),
+    /// Its name is `-`, which other programs read as standard output.
+    Dash,
+    /// It is what standard output goes to, which has the result.
+    Printed(String),
+}
+
 /// The files of the machine. They tell nothing of what they hold. Failures are counted. A file stays open between calls, and is
 /// read ahead.
 /// A file that two of the command's names stand for is never made empty.
@@ -44,7 +55,7 @@ pub struct RealFiles<'a, R: FileSystem> {
     /// Which files the command's names stand for.
     places: Vec<Place>,
     fault: Option<Fault>,
-    twins: Option<Twins>,
+    withheld: Option<Withheld>,
     /// What was gathered for a file that was then read could not be written.
     is_short: bool,
     read_faults: u64,
@@ -65,22 +76,42 @@ impl<'a, R: FileSystem> RealFiles<'a, R> {
             writers: Vec::new(alloc),
             places: Vec::new(alloc),
             fault: None,
-            twins: None,
+            withheld: None,
             is_short: false,
             read_faults: 0,
             write_faults: 0,
         }
     }
 
-    /// Notes which file a name of the command stands for before the work begins, so that no output is made empty that
-    /// is an input or another output under another name.
+    /// Notes which file the name of an input stands for before the work begins, so that no output is made empty that is one.
     pub fn expect(&mut self, name: &str) -> io::Result<()>
         ensures reads { self.new.read_faults ≡ self.old.read_faults }
         ensures writes { self.new.write_faults ≡ self.old.write_faults }
     {
-        let place = place_of(self.rt, self.alloc, name)?;
+        self.note(name, Use::Read)
+    }
+
+    /// Notes which file the name of an output stands for before the work begins. The first output that is made is withheld where
+    /// any of them is an input, or another output, under another name.
+    pub fn expect_output(&mut self, name: &str) -> io::Result<()>
+        ensures reads { self.new.read_faults ≡ self.old.read_faults }
+        ensures writes { self.new.write_faults ≡ self.old.write_faults }
+    {
+        self.note(name, Use::Output)
+    }
+
+    fn note(&mut self, name: &str, used: Use) -> io::Result<()>
+        ensures reads { self.new.read_faults ≡ self.old.read_faults }
+        ensures writes { self.new.write_faults ≡ self.old.write_faults }
+    {
+        let place = place_of(self.rt, self.alloc, name, used)?;
         self.places.push(place)?;
         Ok(())
+    }
+
+    /// Whether the file of this name was made anew.
+    pub fn is_begun(&self, name: &str) -> bool {
+        is_begun(&self.places, name)
     }
 
     /// The last call that failed, if one did.
@@ -88,9 +119,9 @@ impl<'a, R: FileSystem> RealFiles<'a, R> {
         self.fault.as_ref()
     }
 
-    /// The two names of one file for which a creation failed, if one did.
-    pub fn twins(&self) -> Option<&Twins> {
-        self.twins.as_ref()
+    /// Why an output was not made, though the system would have made it.
+    pub fn withheld(&self) -> Option<&Withheld> {
+        self.withheld.as_ref()
     }
 
     /// Writes what was gathered; says whether all of it was written, before a read too.
@@ -157,18 +188,33 @@ impl<'a, R: FileSystem> RealFiles<'a, R> {
         Ok(())
     }
 
-    /// Makes a file empty that no other name of the command stands for.
+    /// Makes a file empty, unless that is withheld.
     fn create_new(&mut self, name: &str) -> io::Result<()>
         ensures reads { self.new.read_faults ≡ self.old.read_faults }
         ensures writes { self.new.write_faults ≡ self.old.write_faults }
     {
-        if let Some(twins) = twin_of(self.rt, self.alloc, &self.places, name)? {
-            self.twins = Some(twins);
-            return Err(io::Error::from(io::ErrorKind::AlreadyExists));
+        if let Some(withheld) = self.reason_against(name)? {
+            self.withheld = Some(withheld);
+            return Err(io::Error::from(io::ErrorKind::InvalidInput));
         }
         forget(&mut self.reader, name);
         create_file(self.rt, self.alloc, &mut self.writers, name)?;
-        self.expect(name)
+        self.note(name, Use::Begun)
+    }
+
+    /// Why a file is not made: two of the command's names are one file, its name is `-`, or what is printed goes there. A log that
+    /// people follow may be printed.
+    fn reason_against(&self, name: &str) -> io::Result<Option<Withheld>> {
+        if let Some(twins) = first_twins(self.rt, self.alloc, &self.places)? {
+            return Ok(Some(Withheld::Twins(twins)));
+        }
+        if name == "-" {
+            return Ok(Some(Withheld::Dash));
+        }
+        if self.gather == Gather::Pieces && is_printed(self.rt, name) {
+            return Ok(Some(Withheld::Printed(String::from_str(self.alloc, name)?)));
+        }
+        Ok(None)
     }
 
     /// Keeps what the system said of a call that failed; nothing where memory ran out.

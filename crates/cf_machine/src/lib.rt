@@ -7,6 +7,6 @@ mod peer;
 mod sink;
 mod streams;
 
-pub use files::{Fault, Gather, RealFiles, Twins};
+pub use files::{Fault, Gather, RealFiles, Twins, Withheld};
 pub use link::{LinkFault, LinkPair, Part};
 pub use sink::RealSink;

@@ -326,7 +326,7 @@ pub fn question_of(words: &[String]) -> Asked {
 fn question_alone(word: &str) -> Asked {
     if word == "help" || is_help(word) {
         Asked::Help
-    } else if word == "--version" {
+    } else if is_version(word) {
         Asked::Version
     } else {
         Asked::Work
@@ -335,6 +335,10 @@ fn question_alone(word: &str) -> Asked {
 
 fn is_help(word: &str) -> bool {
     word == "--help" || word == "-h"
+}
+
+fn is_version(word: &str) -> bool {
+    word == "--version" || word == "-V" || word == "-v" || word == "version"
 }
 
 fn topic_of(word: &str) -> Option<Topic> {

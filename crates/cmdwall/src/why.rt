@@ -7,7 +7,7 @@ use cf_explain::{
     PolicyFile, asset_message, capture_message, inclusion_message, outputs_message, policy_message,
     policy_warnings, words_message,
 };
-use cf_machine::{LinkFault, Part, RealFiles};
+use cf_machine::{LinkFault, Part, RealFiles, Withheld};
 use cf_outside::{Files, ReadAnswer, WholeFault, read_whole};
 use cf_policy::Policy;
 use cf_policylang::{Cause, Key, LONGEST_TEXT, PolicyFault, PolicyRefusal, read_policy};
@@ -26,52 +26,79 @@ const TOO_LONG: PolicyRefusal = PolicyRefusal {
 /// The status of a relay whose streams failed.
 const LINK_FAULT: u8 = 8;
 
+/// The files that a command reads, and those that it makes.
+#[derive(Clone, Copy)]
+struct Named<'a> {
+    inputs: [Option<&'a str>; 2],
+    outputs: [Option<&'a str>; 4],
+}
+
+fn names_of<'a>(command: &Command<'a>) -> Named<'a> {
+    let none = [None; 4];
+    match command {
+        Command::Check { policy } => Named {
+            inputs: [Some(*policy), None],
+            outputs: none,
+        },
+        Command::Compare { policy, other } => Named {
+            inputs: [Some(*policy), Some(*other)],
+            outputs: none,
+        },
+        Command::Judge { policy, capture } => Named {
+            inputs: [Some(*policy), Some(*capture)],
+            outputs: none,
+        },
+        Command::Learn {
+            policy,
+            capture,
+            out,
+        } => Named {
+            inputs: [Some(*policy), Some(*capture)],
+            outputs: [Some(*out), None, None, None],
+        },
+        Command::Migrate { policy, out } => Named {
+            inputs: [Some(*policy), None],
+            outputs: [Some(*out), None, None, None],
+        },
+        Command::Packets { capture } => Named {
+            inputs: [Some(*capture), None],
+            outputs: none,
+        },
+        Command::Run { policy, names } => Named {
+            inputs: [Some(*policy), Some(names.capture)],
+            outputs: [Some(names.out), Some(names.log), None, None],
+        },
+        Command::World { policy, names, .. } => Named {
+            inputs: [None, None],
+            outputs: [
+                Some(*policy),
+                Some(names.capture),
+                Some(names.out),
+                Some(names.log),
+            ],
+        },
+        Command::Relay { policy, log, .. } => Named {
+            inputs: [Some(*policy), None],
+            outputs: [Some(*log), None, None, None],
+        },
+        Command::Sift { policy, names, .. } => Named {
+            inputs: [Some(*policy), Some(names.stream)],
+            outputs: [Some(names.out), Some(names.replies), Some(names.log), None],
+        },
+    }
+}
+
 /// Notes which files the names of a command stand for.
 pub fn expect_files<R: FileSystem>(
     command: &Command<'_>,
     files: &mut RealFiles<'_, R>,
 ) -> io::Result<()> {
-    match command {
-        Command::Check { policy } => files.expect(policy),
-        Command::Compare { policy, other } => {
-            files.expect(policy)?;
-            files.expect(other)
-        }
-        Command::Learn {
-            policy,
-            capture,
-            out,
-        } => {
-            files.expect(policy)?;
-            files.expect(capture)?;
-            files.expect(out)
-        }
-        Command::Migrate { policy, out } => {
-            files.expect(policy)?;
-            files.expect(out)
-        }
-        Command::Judge { policy, capture } => {
-            files.expect(policy)?;
-            files.expect(capture)
-        }
-        Command::Packets { capture } => files.expect(capture),
-        Command::Run { policy, names } | Command::World { policy, names, .. } => {
-            expect_four(files, [policy, names.capture, names.out, names.log])
-        }
-        Command::Relay { policy, log, .. } => {
-            files.expect(policy)?;
-            files.expect(log)
-        }
-        Command::Sift { policy, names, .. } => {
-            files.expect(policy)?;
-            expect_four(files, [names.stream, names.out, names.replies, names.log])
-        }
-    }
-}
-
-fn expect_four<R: FileSystem>(files: &mut RealFiles<'_, R>, names: [&str; 4]) -> io::Result<()> {
-    for name in names {
+    let named = names_of(command);
+    for name in named.inputs.into_iter().flatten() {
         files.expect(name)?;
+    }
+    for name in named.outputs.into_iter().flatten() {
+        files.expect_output(name)?;
     }
     Ok(())
 }
@@ -109,7 +136,7 @@ fn explain_command<R: FileSystem + Eprint + AllocGlobal>(
         (3, _) => explain_fault(rt, files),
         (4, _) => {
             explain_fault(rt, files)?;
-            explain_outputs(rt, command)
+            explain_outputs(rt, command, files)
         }
         (5, Command::Compare { policy, other }) => {
             if !explain_policy(rt, policy, files)? {
@@ -151,18 +178,16 @@ fn explain_command<R: FileSystem + Eprint + AllocGlobal>(
         }
         (13, _) => {
             eprintln!(rt; "cmdwall: memory ran out")?;
-            explain_outputs(rt, command)
+            explain_outputs(rt, command, files)
         }
         _ => Ok(()),
     }
 }
 
-/// The two names of one file, or the file that failed and what the system said.
+/// Why an output was withheld, or the file that failed and what the system said.
 fn explain_fault<R: FileSystem + Eprint>(rt: &R, files: &RealFiles<'_, R>) -> io::Result<()> {
-    if let Some(twins) = files.twins() {
-        let name = twins.name.as_str();
-        let other = twins.other.as_str();
-        return eprintln!(rt; "cmdwall: {name} and {other} are one file; it was left as it is");
+    if let Some(withheld) = files.withheld() {
+        return explain_withheld(rt, withheld);
     }
     match files.fault() {
         Some(fault) => {
@@ -171,6 +196,22 @@ fn explain_fault<R: FileSystem + Eprint>(rt: &R, files: &RealFiles<'_, R>) -> io
             eprintln!(rt; "cmdwall: {name}: {error}")
         }
         None => eprintln!(rt; "cmdwall: standard output could not be written"),
+    }
+}
+
+fn explain_withheld<R: Eprint>(rt: &R, withheld: &Withheld) -> io::Result<()> {
+    match withheld {
+        Withheld::Twins(twins) => {
+            let name = twins.name.as_str();
+            let other = twins.other.as_str();
+            eprintln!(rt; "cmdwall: {name} and {other} are one file; it was left as it is")
+        }
+        Withheld::Dash => { eprintln!(rt; "cmdwall: '-' is no output; a file of this name is ./-") }
+        Withheld::Printed(name) => {
+            eprintln!(rt;
+                "cmdwall: {name} is where standard output goes, which has the result; name a file or a pipe of its own"
+            )
+        }
     }
 }
 
@@ -189,26 +230,22 @@ fn explain_link<R: Eprint>(rt: &R, link: Option<&LinkFault>) -> io::Result<()> {
     eprintln!(rt; "cmdwall: {part}: {error}; the log has what came before")
 }
 
-/// What stands in the files that a command writes.
-fn explain_outputs<R: Eprint + AllocGlobal>(rt: &R, command: &Command<'_>) -> io::Result<()> {
-    let message = match command {
-        Command::Check { .. }
-        | Command::Compare { .. }
-        | Command::Judge { .. }
-        | Command::Packets { .. } => outputs_message(rt.alloc(), &[])?,
-        Command::Learn { out, .. } | Command::Migrate { out, .. } => {
-            outputs_message(rt.alloc(), &[out])?
+/// What stands in the files that a command makes.
+fn explain_outputs<R: FileSystem + Eprint + AllocGlobal>(
+    rt: &R,
+    command: &Command<'_>,
+    files: &RealFiles<'_, R>,
+) -> io::Result<()> {
+    let mut begun = Vec::new(rt.alloc());
+    let mut left = Vec::new(rt.alloc());
+    for name in names_of(command).outputs.into_iter().flatten() {
+        if files.is_begun(name) {
+            begun.push(name)?;
+        } else {
+            left.push(name)?;
         }
-        Command::Run { names, .. } => outputs_message(rt.alloc(), &[names.out, names.log])?,
-        Command::World { policy, names, .. } => outputs_message(
-            rt.alloc(),
-            &[policy, names.capture, names.out, names.log],
-        )?,
-        Command::Relay { log, .. } => outputs_message(rt.alloc(), &[log])?,
-        Command::Sift { names, .. } => {
-            outputs_message(rt.alloc(), &[names.out, names.replies, names.log])?
-        }
-    };
+    }
+    let message = outputs_message(rt.alloc(), begun.as_slice(), left.as_slice())?;
     eprintln!(rt; "cmdwall: {message}")
 }
 

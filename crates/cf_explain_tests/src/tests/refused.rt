@@ -145,7 +145,7 @@ p:16:1: asset 1 "pump", rule 2 "set": `codes` is an empty list
   codes are 1 to 64 whole numbers from 0 to 255, as codes = [3, 16]
 
 4: address = "10.0.0.256"
-p:4:1: asset 1 "pump": `address` is "10.0.0.256": a number of it is none from 0 to 255
+p:4:1: asset 1 "pump": `address` is "10.0.0.256": one of its four numbers is not from 0 to 255
   an address is four numbers from 0 to 255, without leading zeros, as address = "10.0.0.9"
 
 4: address = "10.0.0.09"
@@ -296,6 +296,10 @@ p:15:1: asset 1 "pump", rule 2 "set": entry 1 of `clients` is the text "10.0.0.1
 5: port =
 p:5:7: this is no TOML: invalid value, expected a string, number, boolean, date-time, array or inline table
   in the line: port =
+
+7: station = [1, 2]
+p:7:1: asset 1 "pump": `station` is a list, and has to be a whole number
+  the station of Modbus is its unit identifier, 0 to 255, as station = 1
 
 25: station = -1
 p:25:1: asset 2 "rtu": `station` is the number -1, out of its range

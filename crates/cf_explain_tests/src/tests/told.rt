@@ -15,6 +15,10 @@ chek p
 "chek" is no command; did you mean check?
   commands are sift, check, compare, learn, migrate, packets, judge, run, relay, world; 'cmdwall --help' says more
 
+help juge
+"juge" is no command; did you mean judge?
+  commands are sift, check, compare, learn, migrate, packets, judge, run, relay, world; 'cmdwall --help' says more
+
 filter p
 "filter" is no command
   commands are sift, check, compare, learn, migrate, packets, judge, run, relay, world; 'cmdwall --help' says more
@@ -32,7 +36,7 @@ the name of CAPTURE is empty
   cmdwall packets CAPTURE
 
 sift p a 10.0.0.256 s o r l
-CLIENT is "10.0.0.256", no IPv4 address as 10.0.0.5: a number of it is none from 0 to 255
+CLIENT is "10.0.0.256", no IPv4 address as 10.0.0.5: one of its four numbers is not from 0 to 255
   cmdwall sift POLICY ASSET CLIENT STREAM OUT REPLIES LOG
 
 sift p a client s o r l
@@ -173,20 +177,33 @@ pub(super) fn capture(alloc: Global, given: &str) -> Result<String, Fail> {
     }
 }
 
-/// A row: the names of outputs, and what stands in them.
-pub(super) const OUTPUTS: &str = "
+/// A row: the names of outputs that were begun, and behind `|` of those that were left, and what stands in them.
+pub(super) const OUTPUTS: &str = "|
 no file was changed
 
-o l
-o, l: each is as it was, or empty, or has a beginning of what it would have";
+| o l
+no file was changed
+
+o l |
+o, l: made anew, with a beginning of what it would have, or nothing
+
+o r | l
+o, r: made anew, with a beginning of what it would have, or nothing; l: left as it was";
 
 /// What stands in outputs.
 pub(super) fn outputs(alloc: Global, names: &str) -> Result<String, Fail> {
-    let mut outputs = Vec::new(alloc);
-    for name in names.split_whitespace() {
-        outputs.push(name)?;
+    let (begun, left) = names.split_once("|").unwrap_or((names, ""));
+    let begun = listed(alloc, begun)?;
+    let left = listed(alloc, left)?;
+    Ok(outputs_message(alloc, begun.as_slice(), left.as_slice())?)
+}
+
+fn listed<'a>(alloc: Global, text: &'a str) -> Result<Vec<&'a str>, Fail> {
+    let mut words = Vec::new(alloc);
+    for word in text.split_whitespace() {
+        words.push(word)?;
     }
-    Ok(outputs_message(alloc, outputs.as_slice())?)
+    Ok(words)
 }
 
 const POLICY: &[u8] = br#"version = 1

@@ -20,11 +20,22 @@ enum Leads {
     Nowhere,
 }
 
-/// A name of the command, and where it led before the work began.
+/// What the work does with a file.
+#[derive(Clone, Copy, PartialEq, Eq)]
+pub(crate) enum Use {
+    Read,
+    /// It is to be made anew.
+    Output,
+    /// It was made anew.
+    Begun,
+}
+
+/// A name of the command, where it led before the work began, and what is done with it.
 #[derive(Drop)]
 pub(crate) struct Place {
     name: String,
     leads: Leads,
+    used: Use,
 }
 
 /// Two names of one file.
@@ -35,16 +46,60 @@ pub struct Twins {
 }
 
 /// Where a name leads.
-pub(crate) fn place_of<R: FileSystem>(rt: &R, alloc: Global, name: &str) -> io::Result<Place> {
+pub(crate) fn place_of<R: FileSystem>(
+    rt: &R,
+    alloc: Global,
+    name: &str,
+    used: Use,
+) -> io::Result<Place> {
     Ok(Place {
         name: String::from_str(alloc, name)?,
         leads: leads_of(rt, name),
+        used,
+    })
+}
+
+/// Whether a file of this name was made anew.
+pub(crate) fn is_begun(places: &[Place], name: &str) -> bool {
+    places.iter().any(|place| place.used == Use::Begun && place.name.as_str() == name)
+}
+
+/// The first two names of one file of which one is an output's.
+pub(crate) fn first_twins<R: FileSystem>(
+    rt: &R,
+    alloc: Global,
+    places: &[Place],
+) -> Result<Option<Twins>, AllocError> {
+    for place in places.iter() {
+        if place.used == Use::Output {
+            if let Some(twins) = twin_of(rt, alloc, places, place.name.as_str())? {
+                return Ok(Some(twins));
+            }
+        }
+    }
+    Ok(None)
+}
+
+/// Whether a name leads to where standard output goes, and that is not the null device.
+pub(crate) fn is_printed<R: FileSystem>(rt: &R, name: &str) -> bool {
+    match (node_of(rt, name), node_of(rt, "/dev/stdout")) {
+        (Some(node), Some(out)) => node == out && node_of(rt, "/dev/null") != Some(node),
+        _ => false,
+    }
+}
+
+/// What a name leads to, if something is there.
+fn node_of<R: FileSystem>(rt: &R, name: &str) -> Option<Node> {
+    let known = fs::metadata(rt, name).ok()?;
+    Some(Node {
+        device: known.dev(),
+        number: known.ino(),
     })
 }
 
 /// The names of a file and of another place that leads to the same one. What is no file or folder, as a terminal or a pipe, is
 /// never the same.
-pub(crate) fn twin_of<R: FileSystem>(
+fn twin_of<R: FileSystem>(
     rt: &R,
     alloc: Global,
     places: &[Place],
