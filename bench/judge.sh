@@ -1,0 +1,103 @@
+#!/usr/bin/env bash
+# The processor time of `cmdwall judge` on captures of Modbus round trips and of DNP3 polls, beside that of `tcpdump -n -r` on the same
+# file in the same run (left out where it is missing), and its memory beside the text that the flows carry. Ratios, and no promise.
+# Words: the numbers of round trips (300,000) and of polls (200,000).
+set -eu
+top=$(cd "$(dirname "$0")/.." && pwd)
+work=$(mktemp -d)
+trap 'rm -rf "$work"' EXIT
+"$top/cmdwall" --version > /dev/null
+PYTHONDONTWRITEBYTECODE=1 python3 - "$top" "$work" "${1:-300000}" "${2:-200000}" <<'PY'
+import os, shutil, statistics, struct, subprocess, sys
+
+top, work, trips, polls = sys.argv[1], sys.argv[2], int(sys.argv[3]), int(sys.argv[4])
+sys.path.insert(0, os.path.join(top, "examples"))
+from make import ACK, PSH, SYN, adu, dnp3_request, frame, link_frame
+
+program = os.path.join(top, "crates", "cmdwall", "out", "cmdwall")
+if not os.path.exists(program):
+    program = os.path.join(top, "dist", "cmdwall")
+client, pump, outstation = ((10, 0, 0, 5), 49152), ((10, 0, 0, 9), 502), ((10, 0, 0, 7), 20000)
+policy = os.path.join(work, "policy.toml")
+with open(policy, "w") as file:
+    file.write('version = 1\n[[asset]]\nname = "pump"\naddress = "10.0.0.9"\nport = 502\nprotocol = "modbus"\nstation = 1\n'
+               '[[asset.rule]]\nname = "set"\naction = "allow"\ncodes = [6]\npoints = ["40..49"]\nvalues = ["0..500"]\n'
+               '[[asset]]\nname = "rtu"\naddress = "10.0.0.7"\nport = 20000\nprotocol = "dnp3"\nstation = 10\nmaster = 1\n'
+               '[[asset.rule]]\nname = "poll"\naction = "allow"\ncodes = [1]\n')
+
+
+def capture(name, asset, exchanges):
+    """A capture of one connection whose exchanges are (request, answer); the number of octets that the client sent."""
+    seq, ack, at, sent = 1000, 5000, 1_700_000_000_000_000, 0
+    records = [struct.pack("<IHHIIII", 0xA1B2C3D4, 2, 4, 0, 0, 65535, 1)]
+
+    def add(octets):
+        nonlocal at
+        records.append(struct.pack("<IIII", at // 1_000_000, at % 1_000_000, len(octets), len(octets)) + octets)
+        at += 10
+
+    add(frame(client, asset, seq, 0, SYN))
+    add(frame(asset, client, ack, seq + 1, SYN | ACK))
+    seq, ack = seq + 1, ack + 1
+    for request, answer in exchanges:
+        add(frame(client, asset, seq % 2**32, ack % 2**32, PSH | ACK, request))
+        seq, sent = seq + len(request), sent + len(request)
+        add(frame(asset, client, ack % 2**32, seq % 2**32, PSH | ACK, answer))
+        ack += len(answer)
+    path = os.path.join(work, name)
+    with open(path, "wb") as file:
+        file.writelines(records)
+    return path, sent
+
+
+def writes():
+    for trip in range(trips):
+        write = adu(trip % 65536, 1, struct.pack(">BHH", 6, 40 + trip % 10, trip % 500))
+        yield write, write
+
+
+def reads():
+    for poll in range(polls):
+        request = bytes([0xC0 + poll % 64]) + dnp3_request(poll % 16, 1, bytes([60, 2, 6, 60, 3, 6, 60, 4, 6]))
+        answer = bytes([0xC0 + poll % 64, 0xC0 + poll % 16, 0x81, 0, 0])
+        yield link_frame(0xC4, 10, 1, request), link_frame(0x44, 1, 10, answer)
+
+
+def took(words):
+    """Processor time in seconds: the median and the spread of five."""
+    times = []
+    for _ in range(5):
+        with open(os.path.join(work, "printed"), "wb") as printed:
+            child = subprocess.Popen(words, stdout=printed, stderr=subprocess.DEVNULL)
+            _, status, usage = os.wait4(child.pid, 0)
+        if status:
+            sys.exit(f"{words[0]} ended with {status}")
+        times.append(usage.ru_utime + usage.ru_stime)
+    return statistics.median(times), max(times) - min(times)
+
+
+def memory(words):
+    if not shutil.which("/usr/bin/time"):
+        return None
+    told = subprocess.run(["/usr/bin/time", "-f", "%M", *words], stdout=subprocess.DEVNULL, stderr=subprocess.PIPE, check=True)
+    return int(told.stderr.split()[-1]) * 1024
+
+
+for what, count, (path, sent) in [("round trips of Modbus", trips, capture("modbus", pump, writes())),
+                                  ("polls of DNP3", polls, capture("dnp3", outstation, reads()))]:
+    words = [program, "judge", policy, path]
+    ours, spread = took(words)
+    with open(os.path.join(work, "printed")) as printed:
+        said = printed.read()
+        if said != f"yes flows 1 commands {count}\n":
+            sys.exit(f"not what was wanted, so nothing was measured: {said}")
+    print(f"judge    {ours:.3f} s (spread {spread:.3f}) for {count:,} {what}, {os.path.getsize(path):,} octets")
+    held = memory(words)
+    if held is not None:
+        print(f"memory   {held:,} octets, {held / sent:.1f} times the {sent:,} octets that the client sent")
+    if shutil.which("tcpdump"):
+        other, spread = took(["tcpdump", "-n", "-r", path])
+        print(f"tcpdump  {other:.3f} s (spread {spread:.3f}): judge takes {ours / other:.2f} times as much")
+    else:
+        print("tcpdump is missing here, and was left out")
+PY
