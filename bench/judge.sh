@@ -1,7 +1,7 @@
 #!/usr/bin/env bash
-# The processor time of `cmdwall judge` on captures of Modbus round trips and of DNP3 polls, beside that of `tcpdump -n -r` on the same
-# file in the same run (left out where it is missing), and its memory beside the text that the flows carry. Ratios, and no promise.
-# Words: the numbers of round trips (300,000) and of polls (200,000).
+# The processor time of `cmdwall judge` on captures of Modbus round trips and of DNP3 polls, beside that of `tcpdump -n -r` and of
+# `tshark` with a display filter that finds the same function codes, on the same file in the same run (each left out where it is
+# missing), and its memory beside the text that the flows carry. Ratios, and no promise. Words: the numbers of round trips (300,000) and of polls (200,000).
 set -eu
 top=$(cd "$(dirname "$0")/.." && pwd)
 work=$(mktemp -d)
@@ -63,10 +63,10 @@ def reads():
         yield link_frame(0xC4, 10, 1, request), link_frame(0x44, 1, 10, answer)
 
 
-def took(words):
-    """Processor time in seconds: the median and the spread of five."""
+def took(words, turns=5):
+    """Processor time in seconds: the median and the spread of the turns."""
     times = []
-    for _ in range(5):
+    for _ in range(turns):
         with open(os.path.join(work, "printed"), "wb") as printed:
             child = subprocess.Popen(words, stdout=printed, stderr=subprocess.DEVNULL)
             _, status, usage = os.wait4(child.pid, 0)
@@ -83,8 +83,8 @@ def memory(words):
     return int(told.stderr.split()[-1]) * 1024
 
 
-for what, count, (path, sent) in [("round trips of Modbus", trips, capture("modbus", pump, writes())),
-                                  ("polls of DNP3", polls, capture("dnp3", outstation, reads()))]:
+for what, count, codes, (path, sent) in [("round trips of Modbus", trips, "modbus.func_code == 6", capture("modbus", pump, writes())),
+                                         ("polls of DNP3", polls, "dnp3.al.func == 1", capture("dnp3", outstation, reads()))]:
     words = [program, "judge", policy, path]
     ours, spread = took(words)
     with open(os.path.join(work, "printed")) as printed:
@@ -100,4 +100,9 @@ for what, count, (path, sent) in [("round trips of Modbus", trips, capture("modb
         print(f"tcpdump  {other:.3f} s (spread {spread:.3f}): judge takes {ours / other:.2f} times as much")
     else:
         print("tcpdump is missing here, and was left out")
+    if shutil.which("tshark"):
+        other, _ = took(["tshark", "-n", "-r", path, "-Y", codes], turns=1)
+        print(f"tshark   {other:.3f} s with {codes}: judge takes {ours / other:.3f} times as much")
+    else:
+        print("tshark is missing here, and was left out")
 PY
