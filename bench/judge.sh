@@ -1,7 +1,8 @@
 #!/usr/bin/env bash
 # The processor time of `cmdwall judge` on captures of Modbus round trips and of DNP3 polls, beside that of `tcpdump -n -r` and of
 # `tshark` with a display filter that finds the same function codes, on the same file in the same run (each left out where it is
-# missing), and its memory beside the text that the flows carry. Ratios, and no promise. Words: the numbers of round trips (300,000) and of polls (200,000).
+# missing), and its memory beside the text that the flows carry. Ratios, and no promise. Words: the numbers of round trips (300,000)
+# and of polls (200,000).
 set -eu
 top=$(cd "$(dirname "$0")/.." && pwd)
 work=$(mktemp -d)
