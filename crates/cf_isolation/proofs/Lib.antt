@@ -1,0 +1,10 @@
+mod Ends
+mod Filing
+mod Isolating
+mod Items
+mod Lists
+mod Packets
+mod Sending
+mod Stretch
+mod Tables
+mod Words

@@ -1,0 +1,3 @@
+pub mod Isolated
+pub mod Lines
+pub mod Records

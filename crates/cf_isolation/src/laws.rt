@@ -1,0 +1,29 @@
+//! Laws of a run's files: each is the contract of a function that does nothing.
+ghost use Rattle.cf_isolation.specs.Isolated.{CapturesAreIsolated, CapturesHoldSessions, SentIsIsolated, SentIsOfSessions};
+
+use cf_readback::runs_are_read_back;
+use cf_run::{octets_have_one_list_of_records, runs_isolate_sessions, sessions_are_right};
+
+/// What a run sent between the two endpoints of a session, in the session's time, is what the session's own events sent, in their
+/// order; and these are the records of the output capture between them.
+pub fn captures_hold_sessions()
+    ensures sent { SentIsOfSessions }
+    ensures records { CapturesHoldSessions }
+{
+    sessions_are_right();
+    runs_are_read_back();
+    octets_have_one_list_of_records();
+}
+
+/// Isolation of the output captures: a session of one run and one of another run of the same policy with equal moments, which have
+/// one client and asset, began in the same event by the same packet and are matched the same packets, have one time, and in it the two
+/// runs sent the same between the two endpoints, so that the two captures have the same records there.
+pub fn captures_are_isolated()
+    ensures sent { SentIsIsolated }
+    ensures records { CapturesAreIsolated }
+{
+    captures_hold_sessions();
+    runs_isolate_sessions();
+    runs_are_read_back();
+    octets_have_one_list_of_records();
+}
