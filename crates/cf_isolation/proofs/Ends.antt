@@ -1,7 +1,6 @@
 -- Where the packets of a session go: between its two endpoints.
-use Rattle.std.proofs.Common.{◌≡◌, ℕ, Bool, true, false, List, [], ◌∷◌, ◌++◌, refl, sym, subst}
-use Rattle.std.specs.List.{AllByRecursion}
-use Rattle.cf_leg.specs.Emits.{AllRight, IsGreeting, IsRight, syn, syn_ack_for}
+use Rattle.std.proofs.Common.{◌≡◌, List, refl, sym, subst}
+use Rattle.cf_leg.specs.Emits.{AllRight, IsGreeting, IsRight}
 use Rattle.cf_leg.specs.Event.{LegEvent}
 use Rattle.cf_leg.specs.declared.ends.Ends.{Ends}
 use Rattle.cf_leg.specs.declared.ends.Role.{Role}

@@ -1,20 +1,18 @@
 -- The records of an output capture between a session's endpoints.
-use Rattle.std.proofs.Common.{◌≡◌, ℕ, ◌&&◌, Bool, true, false, List, [], ◌∷◌, ◌++◌, cond, map, Ok, refl, sym, ap, ◌∙◌, subst}
-use Rattle.std.specs.Prelude.{filter}
+use Rattle.std.proofs.Common.{◌≡◌, ℕ, ◌&&◌, true, false, List, [], ◌∷◌, cond, map, refl, sym, ap, ◌∙◌}
 use Rattle.std.specs.List.{AllByRecursion}
-use Rattle.cf_packet.specs.Packet.{read_record}
 use Rattle.cf_policy.specs.declared.Asset.{Asset}
 use Rattle.cf_readback.specs.ReadBack.{IsReadAgain, RunsAreReadBack, output_form, record_by}
 use Rattle.cf_run.specs.Capture.{Record}
 use Rattle.cf_run.specs.Records.{HaveOneList}
 use Rattle.cf_run.specs.Run.{IsRun}
-use Rattle.cf_run.specs.Trace.{Event, Input, sent}
+use Rattle.cf_run.specs.Trace.{Input, sent}
 use Rattle.cf_run.specs.declared.summary.Summary.{Summary}
 use Rattle.cf_session.specs.Sent.{Sent}
 use Rattle.cf_session.specs.Session.{client_of}
 use Rattle.cf_view.specs.declared.Endpoint.{Endpoint}
 use Rattle.cf_isolation.specs.Isolated.{CapturesAreIsolated, CapturesHoldSessions, HasRecords, IsInTime, SentIsIsolated, SentIsOfSessions, began_at, seen_until}
-use Rattle.cf_isolation.specs.Records.{goes_between, is_during, is_packet_between, is_record_between, is_sent_between, records_between, sent_between}
+use Rattle.cf_isolation.specs.Records.{is_during, is_packet_between, is_record_between, is_sent_between, records_between, sent_between}
 
 module _ (client asset : Endpoint) (since until : ℕ) where
   one_same : (s : Sent) → IsReadAgain s → is_record_between client asset since until (record_by s) ≡ is_sent_between client asset since until s

@@ -1,5 +1,5 @@
 -- Two runs in which a session is matched alike sent the same between its endpoints.
-use Rattle.std.proofs.Common.{◌≡◌, ℕ, suc, ◌+◌, List, [], ◌∷◌, ◌++◌, length, map, refl, sym, ap, ◌∙◌, subst, arith}
+use Rattle.std.proofs.Common.{◌≡◌, ℕ, suc, ◌+◌, List, [], ◌∷◌, ◌++◌, length, map, refl, sym, ap, ◌∙◌, arith}
 use Rattle.std.proofs.lemmas.List.{length-append, map-append}
 use Rattle.cf_policy.specs.declared.Asset.{Asset}
 use Rattle.cf_session.specs.Session.{Flow, client_of}

@@ -1,5 +1,5 @@
 -- The moments of the items by which a history goes on.
-use Rattle.std.proofs.Common.{◌≡◌, ℕ, Bool, true, false, List, [], ◌∷◌, ◌++◌, map, refl, sym, ap, ◌∙◌, subst}
+use Rattle.std.proofs.Common.{◌≡◌, ℕ, zero, suc, Bool, true, false, List, [], ◌∷◌, ◌++◌, map, refl, sym, ap, ◌∙◌, subst}
 use Rattle.std.specs.List.{AllByRecursion}
 use Rattle.std.proofs.lemmas.List.{append_cancel_left}
 use Rattle.cf_lane.proofs.Earlier.{in_turn-append}
@@ -8,13 +8,13 @@ use Rattle.cf_lane.proofs.Units.{free_unit}
 use Rattle.cf_lane.specs.Follows.{AreJudged}
 use Rattle.cf_lane.specs.History.{Element, bytes_of}
 use Rattle.cf_lane.specs.Item.{AreItems, Broke, Completes, Ended, Item, Placed, Took, last_after, placed}
-use Rattle.cf_lane.specs.Judged.{Judged, in_turn, place_of}
-use Rattle.cf_lane.specs.Log.{command_octets, end_lines, has_unfinished, is_some_bytes, item_lines, line_about, lines, unit_lines}
+use Rattle.cf_lane.specs.Judged.{Judged, place_of}
+use Rattle.cf_lane.specs.Log.{command_octets, end_lines, has_unfinished, is_some_bytes, item_lines, line_about, lines, refusal_line, unit_lines}
 use Rattle.cf_lane.specs.Output.{output}
 use Rattle.cf_lane.specs.Unit.{AreUnits, Left, SpellsUnit, Tail, UnitValue, Wrong, unit_break}
 use Rattle.cf_lane.specs.declared.fate.Fate.{Fate}
 use Rattle.cf_lane.specs.declared.fate.Fate.TheVariants as fate
-use Rattle.cf_audit.specs.Line.{WhatValue}
+use Rattle.cf_audit.specs.Line.{Partial, Stray, WhatValue}
 use Rattle.cf_policy.specs.declared.Asset.{Asset}
 use Rattle.cf_policy.specs.declared.Protocol.{Protocol}
 use Rattle.cf_view.proofs.Units.{one_units_then_break, one_units_then_rest, rest_not_break}
@@ -81,18 +81,18 @@ module _ (now : ℕ) where
     AreAbout lines = AllByRecursion IsAbout lines
 
     unit_about : (replied : Bool) (s : Side) (octets : List ℕ) (f : Fate) → AreAbout (unit_lines asset client now replied s octets f)
-    unit_about replied s octets (fate.Refused refusal) = ((_, refl), tt)
-    unit_about replied s octets (fate.Stray because) = ((_, refl), tt)
+    unit_about replied s octets (fate.Refused refusal) = ((refusal_line asset refusal replied octets, refl), tt)
+    unit_about replied s octets (fate.Stray because) = ((Stray s because, refl), tt)
     unit_about replied s octets fate.Carried = tt
     unit_about replied s octets (fate.Admitted used) = tt
     unit_about replied s octets fate.Lengthens = tt
     unit_about replied s octets (fate.Cuts because) = tt
 
     end_about : (s : Side) (unfinished : Bool) (rest : ℕ) → AreAbout (end_lines asset client now s unfinished rest)
-    end_about s false 0 = tt
-    end_about s true 0 = ((_, refl), tt)
-    end_about s false (suc n) = ((_, refl), tt)
-    end_about s true (suc n) = ((_, refl), tt)
+    end_about s false zero = tt
+    end_about s true zero = ((Partial s 0, refl), tt)
+    end_about s false (suc n) = ((Partial s (suc n), refl), tt)
+    end_about s true (suc n) = ((Partial s (suc n), refl), tt)
 
     item_about : (earlier : List Judged) (j : Judged) (i : Item) → j.moment ≡ now → AreAbout (item_lines asset client earlier j i)
     item_about earlier j (Took s unit) h =

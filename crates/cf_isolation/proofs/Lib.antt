@@ -3,6 +3,8 @@ mod Filing
 mod Isolating
 mod Items
 mod Lists
+mod Logging
+mod Naming
 mod Packets
 mod Sending
 mod Stretch

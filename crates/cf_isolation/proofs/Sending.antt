@@ -1,5 +1,5 @@
 -- What a run sent between a session's endpoints, in its time, is what its events sent.
-use Rattle.std.proofs.Common.{◌≡◌, ℕ, zero, suc, ◌+◌, ◌-◌, ◌<◌, ◌≤◌, ◌&&◌, Bool, true, false, List, [], ◌∷◌, ◌++◌, cond, if◌then◌else◌, Option, Some, None, Result, Ok, Err, refl, sym, ap, ◌∙◌, subst, arith}
+use Rattle.std.proofs.Common.{◌≡◌, ℕ, ◌+◌, ◌≤◌, Bool, true, false, List, [], ◌∷◌, ◌++◌, cond, Option, Some, None, Result, Ok, Err, refl, sym, ap, ◌∙◌, subst, arith}
 use Rattle.std.specs.Prelude.{filter, slice_get}
 use Rattle.std.specs.List.{AllByRecursion, flat_map}
 use Rattle.std.proofs.lemmas.List.{append-nil}
@@ -13,15 +13,15 @@ use Rattle.cf_session.specs.Sent.{Sent, at, sent_first, sent_second}
 use Rattle.cf_session.specs.Session.{Flow, SessionEvent, client_of}
 use Rattle.cf_view.specs.declared.Endpoint.{Endpoint}
 use Rattle.cf_view.specs.declared.Side.{Side}
-use Rattle.cf_run.specs.Isolation.{HasSession, NoneBegins, begins_theirs, goes_to_theirs, is_flow_of, sent_by, sent_over, session_sent, ticks_of}
+use Rattle.cf_run.specs.Isolation.{NoneBegins, begins_theirs, goes_to_theirs, is_flow_of, sent_by, sent_over, ticks_of}
 use Rattle.cf_run.specs.Selected.{Rises, last_moment}
 use Rattle.cf_run.specs.Sessions.{Each, IsRight as IsRightSession, SessionsAreRight, gone_after}
 use Rattle.cf_run.specs.Summary.{found}
-use Rattle.cf_run.specs.Table.{Begins, Full, Goes, Match, Outside, Session, has_asset_at, match_of, same_endpoint}
-use Rattle.cf_run.specs.Trace.{AreEvents, AreTicks, Begun, Dropped, Event, GoesOnAt, GoesOnWith, NoRoom, NoSession, Received, Receives, ReceivesRecord, Went, kept, sent, sent_in_first, sent_in_second, sent_received, table_after, tick_of, ticked}
+use Rattle.cf_run.specs.Table.{Begins, Full, Goes, Match, Outside, Session, has_asset_at, match_of}
+use Rattle.cf_run.specs.Trace.{AreEvents, AreTicks, Begun, Dropped, Event, GoesOnAt, GoesOnWith, NoRoom, NoSession, Received, Receives, ReceivesRecord, Went, kept, sent, sent_in_first, sent_in_second, sent_received, table_after, tick_of}
 use Rattle.cf_isolation.specs.Isolated.{SentIsOfSessions}
 use Rattle.cf_isolation.specs.Records.{goes_between, is_during, sent_between}
-use Rattle.cf_isolation.proofs.Lists.{all_both, all_map, filter_all}
+use Rattle.cf_isolation.proofs.Lists.{all_both, all_map}
 use Rattle.cf_isolation.proofs.Packets.{HasHalf, IsHalved, all_halved, received_between, received_theirs, ticks_between}
 use Rattle.cf_isolation.proofs.Stretch.{IsNow, are_behind, during_early, during_yes, picked, picks_all, picks_append, picks_none, rises_behind, whole}
 use Rattle.cf_isolation.proofs.Tables.{HasOwn, IsOwn, all_own, begun_in, each_filter, each_get, found_has_all, kept_has, same_self, table_has}
@@ -169,7 +169,7 @@ module _ (law : SessionsAreRight) (assets : List Asset) (limit : ℕ) (flow : Fl
       picked (λ (s : Sent). s.moment) (λ s. goes_between client asset s.packet) first.input.moment (last_moment (later ++ first ∷ earlier)) (sent (after ++ (later ++ first ∷ earlier)))
       ≡ sent_over client asset first earlier later
   sends after later are rises none =
-      whole (λ (s : Sent). s.moment) (λ s. goes_between client asset s.packet) assets limit client asset (now law assets limit) sent refl (λ e es. refl) (timed law assets limit)
+      whole (λ (s : Sent). s.moment) (λ s. goes_between client asset s.packet) (AreEvents assets limit) (λ e es h. h.1) client asset (now law assets limit) sent refl (λ e es. refl) (timed law assets limit)
       (λ es e. sent_by client asset (table_after es) e) (own_is law assets limit client asset is_own.0 is_own.1) first earlier (sent_over client asset first earlier) (λ e later. refl)
       (λ until most g k. in_time until most) after later are rises none
 

@@ -1,6 +1,6 @@
 -- What events put out one after the other, each at its own moments, selected from the moment at which a session began to that of a later
 -- event.
-use Rattle.std.proofs.Common.{◌≡◌, ℕ, ◌+◌, ◌<◌, ◌≤◌, ◌&&◌, Bool, true, false, List, [], ◌∷◌, ◌++◌, cond, refl, sym, ap, ◌∙◌, subst, arith}
+use Rattle.std.proofs.Common.{◌≡◌, ℕ, ◌<◌, ◌≤◌, ◌&&◌, Bool, true, false, List, [], ◌∷◌, ◌++◌, cond, refl, sym, ap, ◌∙◌, subst, arith}
 use Rattle.std.specs.Prelude.{filter}
 use Rattle.std.specs.List.{AllByRecursion}
 use Rattle.std.proofs.lemmas.Bool.Decides.{nat_tests}
@@ -68,23 +68,27 @@ module _ {X : Type 0} (at : X → ℕ) (q : X → Bool) where
       filter_both q (λ x. is_during since until (at x)) xs ∙ in_time since until (filter q xs) (all_filtered (λ x. is_during since until (at x) ≡ true) xs h)
 
 -- what events put out, one after the other
-module _ {X : Type 0} (at : X → ℕ) (q : X → Bool) (assets : List Asset) (limit : ℕ) (client asset : Endpoint) (now : List Event → Event → List X) (all : List Event → List X)
+module _ {X : Type 0} (at : X → ℕ) (q : X → Bool) (Right : List Event → Type 0) (right_before : (e : Event) (es : List Event) → Right (e ∷ es) → Right es) (client asset : Endpoint) (now : List Event → Event → List X) (all : List Event → List X)
     (all_none : all [] ≡ []) (all_more : (e : Event) (es : List Event) → all (e ∷ es) ≡ all es ++ now es e)
-    (timed : (e : Event) (es : List Event) → AreEvents assets limit (e ∷ es) → Rises (e ∷ es) → AllByRecursion (IsNow at (last_moment es) e.input.moment) (now es e)) where
+    (timed : (e : Event) (es : List Event) → Right (e ∷ es) → Rises (e ∷ es) → AllByRecursion (IsNow at (last_moment es) e.input.moment) (now es e)) where
   abbrev picks : (since until : ℕ) → List X → List X
   picks since until xs = picked at q since until xs
 
+  right_behind : (after es : List Event) → Right (after ++ es) → Right es
+  right_behind [] es h = h
+  right_behind (e ∷ after) es h = right_behind after es (right_before e (after ++ es) h)
+
   -- nothing comes after the last moment
-  before_last : (es : List Event) → AreEvents assets limit es → Rises es → AllByRecursion (λ x. at x ≤ last_moment es) (all es)
+  before_last : (es : List Event) → Right es → Rises es → AllByRecursion (λ x. at x ≤ last_moment es) (all es)
   before_last [] h r = subst (AllByRecursion (λ x. at x ≤ 0)) (sym all_none) tt
   before_last (e ∷ es) h r =
       let m = e.input.moment in
-      let old = all_map (λ x. at x ≤ last_moment es) (λ x. at x ≤ m) (λ x g. omega (arith, g, r.0)) (all es) (before_last es h.1 r.1) in
+      let old = all_map (λ x. at x ≤ last_moment es) (λ x. at x ≤ m) (λ x g. omega (arith, g, r.0)) (all es) (before_last es (right_before e es h) r.1) in
       let new = all_map (IsNow at (last_moment es) m) (λ x. at x ≤ m) (λ x g. g.1) (now es e) (timed e es h r) in
       subst (AllByRecursion (λ x. at x ≤ m)) (sym (all_more e es)) (all_both (λ x. at x ≤ m) (all es) (now es e) old new)
 
   -- what comes after the time
-  without_after : (since : ℕ) (after es : List Event) → AreEvents assets limit (after ++ es) → Rises (after ++ es) →
+  without_after : (since : ℕ) (after es : List Event) → Right (after ++ es) → Rises (after ++ es) →
       picks since (last_moment es) (all (after ++ es)) ≡ picks since (last_moment es) (all es)
   without_after since [] es h r = refl
   without_after since (e ∷ after) es h r =
@@ -94,19 +98,19 @@ module _ {X : Type 0} (at : X → ℕ) (q : X → Bool) (assets : List Asset) (l
       let late = all_map (IsNow at (last_moment before) e.input.moment) (λ x. is_during since until (at x) ≡ false) (λ x g. during_late since until (at x) (omega (arith, g.0, grows)))
       (now before e) (timed e before h r) in
       ap (picks since until) (all_more e before) ∙ picks_append at q since until (all before) (now before e)
-      ∙ ap (λ ys. picks since until (all before) ++ ys) (picks_none at q since until (now before e) late) ∙ append-nil _ ∙ without_after since after es h.1 r.1
+      ∙ ap (λ ys. picks since until (all before) ++ ys) (picks_none at q since until (now before e) late) ∙ append-nil _ ∙ without_after since after es (right_before e before h) r.1
 
   module _ (own : List Event → Event → List X)
-      (own_is : (e : Event) (es : List Event) → AreEvents assets limit (e ∷ es) → Rises (e ∷ es) → begins_theirs client asset e.received ≡ false → filter q (now es e) ≡ own es e)
+      (own_is : (e : Event) (es : List Event) → Right (e ∷ es) → Rises (e ∷ es) → begins_theirs client asset e.received ≡ false → filter q (now es e) ≡ own es e)
       (first : Event) (earlier : List Event) (over : List Event → List X)
       (over_more : (e : Event) (later : List Event) → over (e ∷ later) ≡ over later ++ own (later ++ first ∷ earlier) e)
-      (start : (until : ℕ) → first.input.moment ≤ until → AreEvents assets limit (first ∷ earlier) → Rises (first ∷ earlier) → picks first.input.moment until (now earlier first) ≡ over []) where
-    stretch : (until : ℕ) (later : List Event) → AreEvents assets limit (later ++ first ∷ earlier) → Rises (later ++ first ∷ earlier) → last_moment (later ++ first ∷ earlier) ≤ until →
+      (start : (until : ℕ) → first.input.moment ≤ until → Right (first ∷ earlier) → Rises (first ∷ earlier) → picks first.input.moment until (now earlier first) ≡ over []) where
+    stretch : (until : ℕ) (later : List Event) → Right (later ++ first ∷ earlier) → Rises (later ++ first ∷ earlier) → last_moment (later ++ first ∷ earlier) ≤ until →
         NoneBegins client asset later → picks first.input.moment until (all (later ++ first ∷ earlier)) ≡ over later
     stretch until [] h r most none =
         let since = first.input.moment in
         let early = all_map (λ x. at x ≤ last_moment earlier) (λ x. is_during since until (at x) ≡ false) (λ x g. during_early since until (at x) (omega (arith, g, r.0)))
-        (all earlier) (before_last earlier h.1 r.1) in
+        (all earlier) (before_last earlier (right_before first earlier h) r.1) in
         ap (picks since until) (all_more first earlier) ∙ picks_append at q since until (all earlier) (now earlier first)
         ∙ ap (λ ys. ys ++ picks since until (now earlier first)) (picks_none at q since until (all earlier) early) ∙ start until most h r
     stretch until (e ∷ later) h r most none =
@@ -117,11 +121,11 @@ module _ {X : Type 0} (at : X → ℕ) (q : X → Bool) (assets : List Asset) (l
         (λ x g. during_yes since until (at x) (omega (arith, g.0, grows)) (omega (arith, g.1, most))) (now before e) (timed e before h r) in
         ap (picks since until) (all_more e before) ∙ picks_append at q since until (all before) (now before e)
         ∙ ap (λ ys. picks since until (all before) ++ ys) (picks_all at q since until (now before e) here ∙ own_is e before h r none.0)
-        ∙ ap (λ ys. ys ++ own before e) (stretch until later h.1 r.1 (omega (arith, most, r.0)) none.1) ∙ sym (over_more e later)
+        ∙ ap (λ ys. ys ++ own before e) (stretch until later (right_before e before h) r.1 (omega (arith, most, r.0)) none.1) ∙ sym (over_more e later)
 
-    pub whole : (after later : List Event) → AreEvents assets limit (after ++ (later ++ first ∷ earlier)) → Rises (after ++ (later ++ first ∷ earlier)) → NoneBegins client asset later →
+    pub whole : (after later : List Event) → Right (after ++ (later ++ first ∷ earlier)) → Rises (after ++ (later ++ first ∷ earlier)) → NoneBegins client asset later →
         picks first.input.moment (last_moment (later ++ first ∷ earlier)) (all (after ++ (later ++ first ∷ earlier))) ≡ over later
     whole after later h r none =
         let es = later ++ first ∷ earlier in
         without_after first.input.moment after es h r
-        ∙ stretch (last_moment es) later (are_behind assets limit after es h) (rises_behind after es r) (omega arith) none
+        ∙ stretch (last_moment es) later (right_behind after es h) (rises_behind after es r) (omega arith) none

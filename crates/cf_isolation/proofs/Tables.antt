@@ -1,7 +1,7 @@
 -- The flows of a table's sessions: each goes from no asset's endpoint to an asset's.
 use Rattle.std.proofs.Common.{◌≡◌, ℕ, zero, suc, ◌&&◌, ◌||◌, Bool, true, false, not, List, [], ◌∷◌, ◌++◌, cond, if◌then◌else◌, Option, Some, None, Result, Ok, Err, refl, sym, ap, ◌∙◌, subst, arith}
-use Rattle.std.specs.Prelude.{filter, find, position, slice_get, nat_lt, length}
-use Rattle.std.specs.List.{list_any, remove}
+use Rattle.std.specs.Prelude.{filter, slice_get}
+use Rattle.std.specs.List.{remove}
 use Rattle.std.proofs.lemmas.Bool.{true≢false}
 use Rattle.std.proofs.lemmas.Bool.Decides.{nat_tests}
 use Rattle.cf_packet.specs.Packet.{PacketValue}
@@ -10,8 +10,8 @@ use Rattle.cf_policy.specs.declared.Asset.{Asset}
 use Rattle.cf_session.specs.Session.{Flow, SessionEvent, client_of}
 use Rattle.cf_view.specs.declared.Endpoint.{Endpoint}
 use Rattle.cf_run.specs.Sessions.{Each}
-use Rattle.cf_run.specs.Table.{Begins, Full, Goes, Match, Outside, Session, asset_at, begins, begins_or_full, goes, goes_from_client, has_asset_at, is_between, is_opening, match_of, may_begin, place_of, same_endpoint, without}
-use Rattle.cf_run.specs.Trace.{AreEvents, Begun, Dropped, Event, NoRoom, NoSession, Received, Receives, ReceivesRecord, Went, after_received, kept, replaced, stays, table_after, tick_of, ticked, with_event_at, with_events}
+use Rattle.cf_run.specs.Table.{Begins, Full, Goes, Match, Outside, Session, asset_at, begins, begins_or_full, goes, goes_from_client, has_asset_at, is_opening, match_of, may_begin, place_of, same_endpoint, without}
+use Rattle.cf_run.specs.Trace.{AreEvents, Begun, Dropped, Event, NoRoom, NoSession, Received, Receives, ReceivesRecord, Went, after_received, kept, stays, table_after, tick_of, ticked, with_event_at, with_events}
 
 pub same_is : (a b : Endpoint) → same_endpoint a b ≡ true → a ≡ b
 same_is a b e =

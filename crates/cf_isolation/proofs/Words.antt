@@ -1,22 +1,23 @@
 -- The words of a line of the log: they tell its moment, its client and its asset's name.
-use Rattle.std.proofs.Common.{◌≡◌, ℕ, ◌+◌, ◌-◌, ◌*◌, ◌/◌, ◌%◌, ◌^◌, ◌<◌, ◌≤◌, ◌==◌, ◌&&◌, Bool, true, false, not, List, [], ◌∷◌, ◌++◌, cond, if◌then◌else◌, refl, sym, ap, ◌∙◌, subst, append_assoc, arith}
-use Rattle.std.specs.Prelude.{bytes_eq, codes, decimal, filter, nat_le}
+use Rattle.std.proofs.Common.{◌≡◌, ℕ, ◌+◌, ◌*◌, ◌/◌, ◌%◌, ◌^◌, ◌<◌, ◌==◌, ◌&&◌, Bool, true, false, not, List, [], ◌∷◌, ◌++◌, cond, refl, sym, ap, ◌∙◌, subst, append_assoc, arith}
+use Rattle.std.specs.Prelude.{bytes_eq, codes, decimal, filter}
 use Rattle.std.specs.List.{AllByRecursion, list_all}
-use Rattle.std.specs.Str.Parse.{AllDigits, digit_value, digits_value, digits_value_after}
+use Rattle.std.specs.Char.{digit_value}
+use Rattle.std.specs.Str.Parse.{AllDigits, digits_value, digits_value_after}
 use Rattle.std.proofs.lemmas.Bool.{and_parts, ne_eqb, true≢false}
 use Rattle.std.proofs.lemmas.Bool.Decides.{nat_tests}
 use Rattle.std.proofs.lemmas.Fmt.{decimal_digit, decimal_injective, decimal_is_IsNumeral}
 use Rattle.std.proofs.lemmas.List.Elements.{filter-append}
 use Rattle.std.proofs.lemmas.Slice.Eq.{bytes_eq-Decides}
 use Rattle.std.proofs.lemmas.Str.Parse.{tells_digits}
-use Rattle.cf_audit.specs.Line.{LineValue, WhatValue}
+use Rattle.cf_audit.specs.Line.{LineValue}
 use Rattle.cf_audit.specs.Text.{line_text, what_text}
 use Rattle.cf_policy.specs.Names.{is_name_byte}
 use Rattle.cf_run.specs.Table.{same_endpoint}
 use Rattle.cf_view.specs.Text.{dotted, endpoint_text, moment_text, six_digits}
 use Rattle.cf_view.specs.declared.Endpoint.{Endpoint}
 use Rattle.cf_isolation.specs.Lines.{behind_word, first_word, moment_in, names_both}
-use Rattle.cf_isolation.proofs.Lists.{all_both, all_map}
+use Rattle.cf_isolation.proofs.Lists.{all_both}
 use Rattle.cf_isolation.proofs.Tables.{same_is, same_self}
 
 -- ---- octets without one
@@ -226,7 +227,7 @@ name_lacks [] h = tt
 name_lacks (x ∷ xs) h = let parts = and_parts (is_name_byte x) (list_all is_name_byte xs) h in (name_far x parts.0, name_lacks xs parts.1)
 
 module _ (l : LineValue) (moment : IsMoment l.moment) (client : IsEndpoint l.client) (name : list_all is_name_byte l.asset ≡ true) where
-  behind_moment : List ℕ
+  abbrev behind_moment : List ℕ
   behind_moment = endpoint_text l.client ++ 32 ∷ (l.asset ++ 32 ∷ (what_text l.what ++ 10 ∷ []))
 
   text_is : line_text l ≡ moment_text l.moment ++ 32 ∷ behind_moment
@@ -252,6 +253,7 @@ module _ (l : LineValue) (moment : IsMoment l.moment) (client : IsEndpoint l.cli
       never : (b : Bool) → bytes_eq (endpoint_text l.client) (endpoint_text other) ≡ b → (l.client ≡ other → ⊥) → bytes_eq (endpoint_text l.client) (endpoint_text other) ≡ false
       never false e n = e
       never true e n = absurd (n (endpoint_is l.client other client h ((bytes_eq-Decides (endpoint_text l.client) (endpoint_text other)).0 e)))
+
       by : (b : Bool) → same_endpoint l.client other ≡ b → bytes_eq (endpoint_text l.client) (endpoint_text other) ≡ b
       by true e = (bytes_eq-Decides (endpoint_text l.client) (endpoint_text other)).1 (ap endpoint_text (same_is l.client other e))
       by false e = never _ refl (λ is. absurd (true≢false (sym (ap (λ x. same_endpoint x other) is ∙ same_self other) ∙ e)))

@@ -1,8 +1,10 @@
 //! Laws of a run's files: each is the contract of a function that does nothing.
 ghost use Rattle.cf_isolation.specs.Isolated.{CapturesAreIsolated, CapturesHoldSessions, SentIsIsolated, SentIsOfSessions};
+ghost use Rattle.cf_isolation.specs.Logged.{LogsAreIsolated, LogsHoldSessions};
 
 use cf_readback::runs_are_read_back;
 use cf_run::{octets_have_one_list_of_records, runs_isolate_sessions, sessions_are_right};
+use cf_session::work_is_of_what_was_taken;
 
 /// What a run sent between the two endpoints of a session, in the session's time, is what the session's own events sent, in their
 /// order; and these are the records of the output capture between them.
@@ -26,4 +28,22 @@ pub fn captures_are_isolated()
     runs_isolate_sessions();
     runs_are_read_back();
     octets_have_one_list_of_records();
+}
+
+/// The lines of the log that name a session's client and asset, in the session's time, are what the session's own events logged, in
+/// their order.
+pub fn logs_hold_sessions()
+    ensures { LogsHoldSessions }
+{
+    sessions_are_right();
+    work_is_of_what_was_taken();
+}
+
+/// Isolation of the logs: two sessions as those of `captures_are_isolated` have one time, and in it the two logs have the same lines
+/// that name them, in the same order.
+pub fn logs_are_isolated()
+    ensures { LogsAreIsolated }
+{
+    logs_hold_sessions();
+    runs_isolate_sessions();
 }

@@ -3,4 +3,6 @@
 
 mod laws;
 
-pub use laws::{captures_are_isolated, captures_hold_sessions};
+pub use laws::{
+    captures_are_isolated, captures_hold_sessions, logs_are_isolated, logs_hold_sessions,
+};

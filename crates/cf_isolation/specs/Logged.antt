@@ -1,0 +1,42 @@
+-- Isolation of the logs: what is matched to a session fixes the lines of the log that name it, and they are what its own events logged.
+-- The main definitions are LogsHoldSessions and LogsAreIsolated. A session's time is that of `Isolated`. This project's own.
+use Rattle.std.specs.Prelude.{◌≡◌, ◌<◌, ℕ, List, length, IfOk}
+use Rattle.std.specs.List.{AllByRecursion}
+use Rattle.cf_packet.specs.Written.{HasRanges}
+use Rattle.cf_pcap.specs.Record.{moment_limit}
+use Rattle.cf_policy.specs.Within.{AreAssetsWithin}
+use Rattle.cf_policy.specs.declared.Asset.{Asset}
+use Rattle.cf_run.specs.Isolation.{AreMatchedAlike, HasSession, moments_of, session_logged}
+use Rattle.cf_run.specs.Run.{IsRun}
+use Rattle.cf_run.specs.Trace.{Event, Input, logged}
+use Rattle.cf_run.specs.declared.summary.Summary.{Summary}
+use Rattle.cf_session.specs.Session.{Flow, client_of}
+use Rattle.cf_isolation.specs.Isolated.{HaveOneTime, began_at, seen_until}
+use Rattle.cf_isolation.specs.Lines.{lines_naming}
+
+-- all lines of a run that name a session's client and its asset, in the session's time
+abbrev pub logged_in_time : {events : List Event} → (flow : Flow) → HasSession flow events → List (List ℕ)
+logged_in_time {events} flow has = lines_naming (client_of flow) flow.asset.name (began_at has) (seen_until has) (logged events)
+
+-- a record is in time, and its packet, if it is one, has fields of their types, as one that was read from octets
+pub record IsRead (input : Input) : Type 0 where
+  pub moment : input.moment < moment_limit
+  pub packet : IfOk input.packet HasRanges
+
+-- under a policy whose assets have distinct names they are the lines that the session's own events logged, in their order
+abbrev pub LogsHoldSessions : Type 0
+LogsHoldSessions =
+    (assets : List Asset) (limit : ℕ) (given : List Input) (out log : List ℕ) (summary : Summary) (run : IsRun assets limit given out log summary) →
+    AreAssetsWithin assets → AllByRecursion IsRead given → (flow : Flow) (has : HasSession flow run.events) → logged_in_time flow has ≡ session_logged flow has
+
+-- two runs of one policy with equal moments: a session of the one and a session of the other, of the same client and asset, which
+-- began in the same event by the same packet, have one time up to the last event before which they are matched alike, and in it the
+-- two logs have the same lines that name them, in the same order. The rest of the two captures may differ in every way
+abbrev pub LogsAreIsolated : Type 0
+LogsAreIsolated =
+    (assets : List Asset) (limit : ℕ) (given other_given : List Input) (out other_out log other_log : List ℕ) (summary other_summary : Summary)
+    (run : IsRun assets limit given out log summary) (other_run : IsRun assets limit other_given other_out other_log other_summary) →
+    AreAssetsWithin assets → AllByRecursion IsRead given → AllByRecursion IsRead other_given → moments_of given ≡ moments_of other_given →
+    (flow : Flow) (one : HasSession flow run.events) (other : HasSession flow other_run.events) →
+    length one.earlier ≡ length other.earlier → AreMatchedAlike assets flow one other →
+    HaveOneTime flow one other × (logged_in_time flow one ≡ logged_in_time flow other)
