@@ -6,12 +6,12 @@ use Rattle.cf_readback.specs.ReadBack.{IsReadAgain, RunsAreReadBack, output_form
 use Rattle.cf_run.specs.Capture.{Record}
 use Rattle.cf_run.specs.Records.{HaveOneList}
 use Rattle.cf_run.specs.Run.{IsRun}
-use Rattle.cf_run.specs.Trace.{Input, sent}
+use Rattle.cf_run.specs.Trace.{Input, sent, tick_of}
 use Rattle.cf_run.specs.declared.summary.Summary.{Summary}
 use Rattle.cf_session.specs.Sent.{Sent}
 use Rattle.cf_session.specs.Session.{client_of}
 use Rattle.cf_view.specs.declared.Endpoint.{Endpoint}
-use Rattle.cf_isolation.specs.Isolated.{CapturesAreIsolated, CapturesHoldSessions, HasRecords, IsInTime, SentIsIsolated, SentIsOfSessions, began_at, seen_until}
+use Rattle.cf_isolation.specs.Isolated.{CapturesAreIsolated, CapturesHoldSessions, CapturesHoldToTheNext, HasRecords, IsInTime, SentIsIsolated, SentIsOfSessions, SentToTheNext, began_at, seen_until}
 use Rattle.cf_isolation.specs.Records.{is_during, is_packet_between, is_record_between, is_sent_between, records_between, sent_between}
 
 module _ (client asset : Endpoint) (since until : ℕ) where
@@ -41,6 +41,11 @@ module _ (back : RunsAreReadBack) (one_list : HaveOneList) where
   captures_hold law assets limit given out log summary run time records has flow session =
       of_file assets limit given out log summary run time records has (client_of flow) flow.asset.endpoint (began_at session) (seen_until session)
       ∙ ap (map record_by) (law assets limit given out log summary run flow session)
+
+  pub captures_to_the_next : SentToTheNext → CapturesHoldToTheNext
+  captures_to_the_next law assets limit given out log summary run time records has flow session behind =
+      of_file assets limit given out log summary run time records has (client_of flow) flow.asset.endpoint (began_at session) (tick_of behind.next.input)
+      ∙ ap (map record_by) (law assets limit given out log summary run flow session behind)
 
   pub captures_isolated : SentIsIsolated → CapturesAreIsolated
   captures_isolated law assets limit given other_given out other_out log other_log summary other_summary run other_run time other_time moments records others has others_have flow one other earlier matched =

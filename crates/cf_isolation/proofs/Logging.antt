@@ -24,14 +24,14 @@ use Rattle.cf_run.specs.Summary.{found}
 use Rattle.cf_run.specs.Table.{Begins, Full, Goes, Match, Outside, Session, is_between, match_of, same_endpoint}
 use Rattle.cf_run.specs.Trace.{AreEvents, AreTicks, Begun, Dropped, Event, GoesOnAt, GoesOnWith, Input, NoRoom, NoSession, Received, Receives, ReceivesRecord, Went, kept, logged, logged_at, logged_in_first, logged_in_second, logged_received, logged_ticks, table_after, tick_of}
 use Rattle.cf_isolation.specs.Lines.{lines_naming, moment_in, names_both}
-use Rattle.cf_isolation.specs.Logged.{IsRead, LogsAreIsolated, LogsHoldSessions}
+use Rattle.cf_isolation.specs.Logged.{IsRead, LogsAreIsolated, LogsHoldSessions, LogsHoldToTheNext}
 use Rattle.cf_isolation.specs.Records.{is_during}
 use Rattle.cf_isolation.proofs.Isolating.{one_time}
 use Rattle.cf_isolation.proofs.Lists.{all_both, all_map, filter_all}
 use Rattle.cf_isolation.proofs.Naming.{AreIts, IsTold, begins_its, first_its, lines_told, packet_its}
 use Rattle.cf_isolation.proofs.Packets.{HasHalf, IsHalved}
-use Rattle.cf_isolation.proofs.Sending.{halves}
-use Rattle.cf_isolation.proofs.Stretch.{IsNow, during_early, during_yes, picked, picks_all, picks_append, picks_none, rises_behind, whole}
+use Rattle.cf_isolation.proofs.Sending.{halves, next_is}
+use Rattle.cf_isolation.proofs.Stretch.{IsNow, during_early, during_late, during_yes, last_grows, picked, picks_all, picks_append, picks_none, rises_behind, to_next, whole}
 use Rattle.cf_isolation.proofs.Tables.{BegunHave, Has, IsAmong, begun_in, each_get, found_has_all, kept_has, same_self, table_has}
 use Rattle.cf_isolation.proofs.Words.{IsEndpoint, IsMoment}
 
@@ -208,6 +208,28 @@ module _ (works : WorkIsOfTheTaken) (assets : List Asset) (within : AreAssetsWit
           picks_append moment_in is_naming m until one two ∙ ap (λ xs. xs ++ picked moment_in is_naming m until two) (picks_none moment_in is_naming m until one early)
           ∙ picks_all moment_in is_naming m until two here ∙ all_theirs
 
+      -- in the event that comes next
+      module _ (next : Event) (later : List Event) (next_known : AreKnown assets limit (next ∷ (later ++ first ∷ earlier))) (next_rises : Rises (next ∷ (later ++ first ∷ earlier))) where
+        half_in_time : picked moment_in is_naming first.input.moment (tick_of next.input) (now (later ++ first ∷ earlier) next)
+            ≡ logged_ticks (filter (is_between client asset.endpoint) (kept (tick_of next.input) (table_after (later ++ first ∷ earlier))))
+            (ticks_of client asset.endpoint (kept (tick_of next.input) (table_after (later ++ first ∷ earlier))) next.ticks)
+        half_in_time =
+            let before = later ++ first ∷ earlier in
+            let since = first.input.moment in
+            let until = tick_of next.input in
+            let one = logged_in_first (table_after before) next in
+            let two = logged_in_second (table_after before) next in
+            let grows = last_grows later (first ∷ earlier) next_rises.1 in
+            let naming_first = first_naming next before next_known next_rises in
+            let here = all_map (λ line. moment_in line ≡ until) (λ line. is_during since until (moment_in line) ≡ true)
+            (λ line g. during_yes since until (moment_in line) (omega (arith, g, grows, next_rises.0)) (omega (arith, g))) one naming_first.moments in
+            let late = all_map (λ line. moment_in line ≡ until + 1) (λ line. is_during since until (moment_in line) ≡ false) (λ line g. during_late since until (moment_in line) (omega (arith, g)))
+            two (second_naming next before next_known next_rises).moments in
+            picks_append moment_in is_naming since until one two
+            ∙ ap (λ xs. xs ++ picked moment_in is_naming since until two) (picks_all moment_in is_naming since until one here ∙ naming_first.names)
+            ∙ ap (λ xs. logged_ticks (filter (is_between client asset.endpoint) (kept until (table_after before))) (ticks_of client asset.endpoint (kept until (table_after before)) next.ticks) ++ xs)
+            (picks_none moment_in is_naming since until two late) ∙ append-nil _
+
 -- ---- a run
 
 read_parts : (xs ys : List Input) → AllByRecursion IsRead (xs ++ ys) → AllByRecursion IsRead xs × AllByRecursion IsRead ys
@@ -261,6 +283,28 @@ logs_hold law works assets limit given out log summary run within read flow has 
     (own_is works assets within limit client asset is.0 is.1 law) has.first has.earlier (logged_over client asset.endpoint has.first has.earlier) (λ e later. refl)
     (λ until most h r. start works assets within limit client asset is.0 is.1 law flow refl refl has.first has.earlier has.begun has.begins h r until most)
     has.after has.later known rises has.none
+
+pub logs_to_the_next : SessionsAreRight → WorkIsOfTheTaken → LogsHoldToTheNext
+logs_to_the_next law works assets limit given out log summary run within read flow has behind =
+    let es = has.later ++ has.first ∷ has.earlier in
+    let is_next = next_is has behind in
+    let all = all_known assets limit run.events run.are (events_read run.events (subst (AllByRecursion IsRead) (sym run.are_inputs) read)) in
+    let known = subst (AreKnown assets limit) is_next all in
+    let rises = subst Rises is_next run.rises in
+    let next_known = known_behind assets limit behind.after (behind.next ∷ es) known in
+    let next_rises = rises_behind behind.after (behind.next ∷ es) rises in
+    let own = known_behind assets limit has.later (has.first ∷ has.earlier) (known_before assets limit behind.next es next_known) in
+    let own_rise = rises_behind has.later (has.first ∷ has.earlier) next_rises.1 in
+    let is = own.begun.0 flow has.begun has.begins in
+    let client = client_of flow in
+    let asset = flow.asset in
+    ap (λ events. lines_naming client asset.name has.first.input.moment (tick_of behind.next.input) (logged events)) is_next
+    ∙ to_next moment_in (λ line. names_both client asset.name line) (AreKnown assets limit) (known_before assets limit) client asset.endpoint (now works assets within limit client asset is.0 is.1 law) logged refl
+    (λ e later. refl) (timed works assets within limit client asset is.0 is.1 law) (λ later e. logged_by client asset.endpoint (table_after later) e)
+    (own_is works assets within limit client asset is.0 is.1 law) has.first has.earlier (logged_over client asset.endpoint has.first has.earlier) (λ e later. refl)
+    (λ until most h r. start works assets within limit client asset is.0 is.1 law flow refl refl has.first has.earlier has.begun has.begins h r until most)
+    behind.after has.later behind.next _ known rises has.none
+    (half_in_time works assets within limit client asset is.0 is.1 law flow refl refl has.first has.earlier has.begun has.begins own own_rise behind.next has.later next_known next_rises)
 
 pub logs_isolated : LogsHoldSessions → RunsIsolateSessions → LogsAreIsolated
 logs_isolated holds law assets limit given other_given out other_out log other_log summary other_summary run other_run within read other_read moments flow one other earlier matched =

@@ -1,5 +1,5 @@
 -- What a run sent between a session's endpoints, in its time, is what its events sent.
-use Rattle.std.proofs.Common.{◌≡◌, ℕ, ◌+◌, ◌≤◌, Bool, true, false, List, [], ◌∷◌, ◌++◌, cond, Option, Some, None, Result, Ok, Err, refl, sym, ap, ◌∙◌, subst, arith}
+use Rattle.std.proofs.Common.{◌≡◌, ℕ, ◌+◌, ◌≤◌, Bool, true, false, List, [], ◌∷◌, ◌++◌, cond, Option, Some, None, Result, Ok, Err, refl, sym, ap, ◌∙◌, subst, arith, append_assoc}
 use Rattle.std.specs.Prelude.{filter, slice_get}
 use Rattle.std.specs.List.{AllByRecursion, flat_map}
 use Rattle.std.proofs.lemmas.List.{append-nil}
@@ -19,11 +19,11 @@ use Rattle.cf_run.specs.Sessions.{Each, IsRight as IsRightSession, SessionsAreRi
 use Rattle.cf_run.specs.Summary.{found}
 use Rattle.cf_run.specs.Table.{Begins, Full, Goes, Match, Outside, Session, has_asset_at, match_of}
 use Rattle.cf_run.specs.Trace.{AreEvents, AreTicks, Begun, Dropped, Event, GoesOnAt, GoesOnWith, NoRoom, NoSession, Received, Receives, ReceivesRecord, Went, kept, sent, sent_in_first, sent_in_second, sent_received, table_after, tick_of}
-use Rattle.cf_isolation.specs.Isolated.{SentIsOfSessions}
+use Rattle.cf_isolation.specs.Isolated.{NextEvent, SentIsOfSessions, SentToTheNext}
 use Rattle.cf_isolation.specs.Records.{goes_between, is_during, sent_between}
 use Rattle.cf_isolation.proofs.Lists.{all_both, all_map}
 use Rattle.cf_isolation.proofs.Packets.{HasHalf, IsHalved, all_halved, received_between, received_theirs, ticks_between}
-use Rattle.cf_isolation.proofs.Stretch.{IsNow, are_behind, during_early, during_yes, picked, picks_all, picks_append, picks_none, rises_behind, whole}
+use Rattle.cf_isolation.proofs.Stretch.{IsNow, are_behind, during_early, during_late, during_yes, last_grows, picked, picks_all, picks_append, picks_none, rises_behind, to_next, whole}
 use Rattle.cf_isolation.proofs.Tables.{HasOwn, IsOwn, all_own, begun_in, each_filter, each_get, found_has_all, kept_has, same_self, table_has}
 
 -- ---- moments
@@ -173,6 +173,38 @@ module _ (law : SessionsAreRight) (assets : List Asset) (limit : ℕ) (flow : Fl
       (λ es e. sent_by client asset (table_after es) e) (own_is law assets limit client asset is_own.0 is_own.1) first earlier (sent_over client asset first earlier) (λ e later. refl)
       (λ until most g k. in_time until most) after later are rises none
 
+  -- in the event that comes next
+  module _ (next : Event) (later : List Event) (are : AreEvents assets limit (next ∷ (later ++ first ∷ earlier))) (rises : Rises (next ∷ (later ++ first ∷ earlier))) where
+    abbrev before : List Event
+    before = later ++ first ∷ earlier
+
+    half_in_time : picked (λ (s : Sent). s.moment) (λ s. goes_between client asset s.packet) first.input.moment (tick_of next.input) (now law assets limit before next)
+        ≡ flat_map sent_first (ticks_of client asset (kept (tick_of next.input) (table_after before)) next.ticks)
+    half_in_time =
+        let since = first.input.moment in
+        let until = tick_of next.input in
+        let q : Sent → Bool = λ s. goes_between client asset s.packet in
+        let grows = last_grows later (first ∷ earlier) rises.1 in
+        let here = all_map (λ (s : Sent). s.moment ≡ until) (λ s. is_during since until s.moment ≡ true) (λ s g. during_yes since until s.moment (omega (arith, g, grows, rises.0)) (omega (arith, g)))
+        (sent_in_first next) (first_now law assets limit next before are) in
+        let late = all_map (λ (s : Sent). s.moment ≡ next.input.moment) (λ s. is_during since until s.moment ≡ false) (λ s g. during_late since until s.moment (omega (arith, g, rises.0)))
+        (sent_in_second next) (second_now law assets limit next before are rises) in
+        picks_append (λ s. s.moment) q since until (sent_in_first next) (sent_in_second next)
+        ∙ ap (λ xs. xs ++ picked (λ (s : Sent). s.moment) q since until (sent_in_second next))
+        (picks_all (λ s. s.moment) q since until (sent_in_first next) here ∙ first_between law assets limit client asset is_own.0 is_own.1 next before are)
+        ∙ ap (λ xs. flat_map sent_first (ticks_of client asset (kept until (table_after before)) next.ticks) ++ xs) (picks_none (λ s. s.moment) q since until (sent_in_second next) late)
+        ∙ append-nil _
+
+  sends_to_next : (after later : List Event) (next : Event) → AreEvents assets limit (after ++ (next ∷ (later ++ first ∷ earlier))) → Rises (after ++ (next ∷ (later ++ first ∷ earlier))) →
+      NoneBegins client asset later →
+      picked (λ (s : Sent). s.moment) (λ s. goes_between client asset s.packet) first.input.moment (tick_of next.input) (sent (after ++ (next ∷ (later ++ first ∷ earlier))))
+      ≡ sent_over client asset first earlier later ++ flat_map sent_first (ticks_of client asset (kept (tick_of next.input) (table_after (later ++ first ∷ earlier))) next.ticks)
+  sends_to_next after later next are rises none =
+      to_next (λ (s : Sent). s.moment) (λ s. goes_between client asset s.packet) (AreEvents assets limit) (λ e es h. h.1) client asset (now law assets limit) sent refl (λ e es. refl)
+      (timed law assets limit) (λ es e. sent_by client asset (table_after es) e) (own_is law assets limit client asset is_own.0 is_own.1) first earlier
+      (sent_over client asset first earlier) (λ e later. refl) (λ until most g k. in_time until most) after later next _ are rises none
+      (half_in_time next later (are_behind assets limit after (next ∷ (later ++ first ∷ earlier)) are) (rises_behind after (next ∷ (later ++ first ∷ earlier)) rises))
+
 pub sent_of_sessions : SessionsAreRight → SentIsOfSessions
 sent_of_sessions law assets limit given out log summary run flow has =
     let behind = has.later ++ has.first ∷ has.earlier in
@@ -182,3 +214,19 @@ sent_of_sessions law assets limit given out log summary run flow has =
     let own_rise = rises_behind has.later (has.first ∷ has.earlier) (rises_behind has.after behind rises) in
     ap (λ es. sent_between (client_of flow) flow.asset.endpoint has.first.input.moment (last_moment behind) (sent es)) has.are
     ∙ sends law assets limit flow has.first has.earlier has.begun has.begins own own_rise has.after has.later are rises has.none
+
+-- the events up to the one that comes next, and it
+pub next_is : {events : List Event} {flow : Flow} (has : HasSession flow events) (behind : NextEvent has) → events ≡ behind.after ++ (behind.next ∷ (has.later ++ has.first ∷ has.earlier))
+next_is has behind =
+    has.are ∙ ap (λ after. after ++ (has.later ++ has.first ∷ has.earlier)) behind.are ∙ append_assoc behind.after (behind.next ∷ []) (has.later ++ has.first ∷ has.earlier)
+
+pub sent_to_the_next : SessionsAreRight → SentToTheNext
+sent_to_the_next law assets limit given out log summary run flow has behind =
+    let es = has.later ++ has.first ∷ has.earlier in
+    let is = next_is has behind in
+    let are = subst (AreEvents assets limit) is run.are in
+    let rises = subst Rises is run.rises in
+    let own = are_behind assets limit has.later (has.first ∷ has.earlier) (are_behind assets limit behind.after (behind.next ∷ es) are).1 in
+    let own_rise = rises_behind has.later (has.first ∷ has.earlier) (rises_behind behind.after (behind.next ∷ es) rises).1 in
+    ap (λ events. sent_between (client_of flow) flow.asset.endpoint has.first.input.moment (tick_of behind.next.input) (sent events)) is
+    ∙ sends_to_next law assets limit flow has.first has.earlier has.begun has.begins own own_rise behind.after has.later behind.next are rises has.none

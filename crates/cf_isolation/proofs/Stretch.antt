@@ -10,7 +10,7 @@ use Rattle.cf_policy.specs.declared.Asset.{Asset}
 use Rattle.cf_view.specs.declared.Endpoint.{Endpoint}
 use Rattle.cf_run.specs.Isolation.{NoneBegins, begins_theirs}
 use Rattle.cf_run.specs.Selected.{Rises, last_moment}
-use Rattle.cf_run.specs.Trace.{AreEvents, Event}
+use Rattle.cf_run.specs.Trace.{AreEvents, Event, tick_of}
 use Rattle.cf_isolation.specs.Records.{is_during}
 use Rattle.cf_isolation.proofs.Lists.{all_both, all_map, filter_all, filter_both}
 
@@ -36,7 +36,7 @@ during_yes since until m a b = grind (arith, nat_tests, a, b)
 pub during_early : (since until m : ℕ) → m < since → is_during since until m ≡ false
 during_early since until m a = grind (arith, nat_tests, a)
 
-during_late : (since until m : ℕ) → until < m → is_during since until m ≡ false
+pub during_late : (since until m : ℕ) → until < m → is_during since until m ≡ false
 during_late since until m a = grind (arith, nat_tests, a)
 
 module _ {X : Type 0} (at : X → ℕ) (q : X → Bool) where
@@ -88,17 +88,16 @@ module _ {X : Type 0} (at : X → ℕ) (q : X → Bool) (Right : List Event → 
       subst (AllByRecursion (λ x. at x ≤ m)) (sym (all_more e es)) (all_both (λ x. at x ≤ m) (all es) (now es e) old new)
 
   -- what comes after the time
-  without_after : (since : ℕ) (after es : List Event) → Right (after ++ es) → Rises (after ++ es) →
-      picks since (last_moment es) (all (after ++ es)) ≡ picks since (last_moment es) (all es)
-  without_after since [] es h r = refl
-  without_after since (e ∷ after) es h r =
-      let until = last_moment es in
+  without_after : (since until : ℕ) (after es : List Event) → Right (after ++ es) → Rises (after ++ es) → until ≤ last_moment es →
+      picks since until (all (after ++ es)) ≡ picks since until (all es)
+  without_after since until [] es h r most = refl
+  without_after since until (e ∷ after) es h r most =
       let before = after ++ es in
       let grows = last_grows after es r.1 in
-      let late = all_map (IsNow at (last_moment before) e.input.moment) (λ x. is_during since until (at x) ≡ false) (λ x g. during_late since until (at x) (omega (arith, g.0, grows)))
+      let late = all_map (IsNow at (last_moment before) e.input.moment) (λ x. is_during since until (at x) ≡ false) (λ x g. during_late since until (at x) (omega (arith, g.0, grows, most)))
       (now before e) (timed e before h r) in
       ap (picks since until) (all_more e before) ∙ picks_append at q since until (all before) (now before e)
-      ∙ ap (λ ys. picks since until (all before) ++ ys) (picks_none at q since until (now before e) late) ∙ append-nil _ ∙ without_after since after es (right_before e before h) r.1
+      ∙ ap (λ ys. picks since until (all before) ++ ys) (picks_none at q since until (now before e) late) ∙ append-nil _ ∙ without_after since until after es (right_before e before h) r.1 most
 
   module _ (own : List Event → Event → List X)
       (own_is : (e : Event) (es : List Event) → Right (e ∷ es) → Rises (e ∷ es) → begins_theirs client asset e.received ≡ false → filter q (now es e) ≡ own es e)
@@ -127,5 +126,18 @@ module _ {X : Type 0} (at : X → ℕ) (q : X → Bool) (Right : List Event → 
         picks first.input.moment (last_moment (later ++ first ∷ earlier)) (all (after ++ (later ++ first ∷ earlier))) ≡ over later
     whole after later h r none =
         let es = later ++ first ∷ earlier in
-        without_after first.input.moment after es h r
+        without_after first.input.moment (last_moment es) after es h r (omega arith)
         ∙ stretch (last_moment es) later (right_behind after es h) (rises_behind after es r) (omega arith) none
+
+    -- up to the packet of the next event
+    pub to_next : (after later : List Event) (next : Event) (last : List X) → Right (after ++ (next ∷ (later ++ first ∷ earlier))) → Rises (after ++ (next ∷ (later ++ first ∷ earlier))) →
+        NoneBegins client asset later → picks first.input.moment (tick_of next.input) (now (later ++ first ∷ earlier) next) ≡ last →
+        picks first.input.moment (tick_of next.input) (all (after ++ (next ∷ (later ++ first ∷ earlier)))) ≡ over later ++ last
+    to_next after later next last h r none ends =
+        let es = later ++ first ∷ earlier in
+        let since = first.input.moment in
+        let until = tick_of next.input in
+        let rises = rises_behind after (next ∷ es) r in
+        let right = right_behind after (next ∷ es) h in
+        without_after since until after (next ∷ es) h r (omega arith) ∙ ap (picks since until) (all_more next es) ∙ picks_append at q since until (all es) (now es next)
+        ∙ ap (λ ys. ys ++ picks since until (now es next)) (stretch until later (right_before next es right) rises.1 (omega (arith, rises.0)) none) ∙ ap (λ ys. over later ++ ys) ends

@@ -1,17 +1,18 @@
 -- Isolation of the logs: what is matched to a session fixes the lines of the log that name it, and they are what its own events logged.
 -- The main definitions are LogsHoldSessions and LogsAreIsolated. A session's time is that of `Isolated`. This project's own.
-use Rattle.std.specs.Prelude.{◌≡◌, ◌<◌, ℕ, List, length, IfOk}
+use Rattle.std.specs.Prelude.{◌≡◌, ◌<◌, ℕ, List, ◌∷◌, ◌++◌, filter, length, IfOk}
 use Rattle.std.specs.List.{AllByRecursion}
 use Rattle.cf_packet.specs.Written.{HasRanges}
 use Rattle.cf_pcap.specs.Record.{moment_limit}
 use Rattle.cf_policy.specs.Within.{AreAssetsWithin}
 use Rattle.cf_policy.specs.declared.Asset.{Asset}
-use Rattle.cf_run.specs.Isolation.{AreMatchedAlike, HasSession, moments_of, session_logged}
+use Rattle.cf_run.specs.Isolation.{AreMatchedAlike, HasSession, moments_of, session_logged, ticks_of}
 use Rattle.cf_run.specs.Run.{IsRun}
-use Rattle.cf_run.specs.Trace.{Event, Input, logged}
+use Rattle.cf_run.specs.Table.{is_between}
+use Rattle.cf_run.specs.Trace.{Event, Input, kept, logged, logged_ticks, table_after, tick_of}
 use Rattle.cf_run.specs.declared.summary.Summary.{Summary}
 use Rattle.cf_session.specs.Session.{Flow, client_of}
-use Rattle.cf_isolation.specs.Isolated.{HaveOneTime, began_at, seen_until}
+use Rattle.cf_isolation.specs.Isolated.{HaveOneTime, NextEvent, began_at, seen_until}
 use Rattle.cf_isolation.specs.Lines.{lines_naming}
 
 -- all lines of a run that name a session's client and its asset, in the session's time
@@ -28,6 +29,19 @@ abbrev pub LogsHoldSessions : Type 0
 LogsHoldSessions =
     (assets : List Asset) (limit : ℕ) (given : List Input) (out log : List ℕ) (summary : Summary) (run : IsRun assets limit given out log summary) →
     AreAssetsWithin assets → AllByRecursion IsRead given → (flow : Flow) (has : HasSession flow run.events) → logged_in_time flow has ≡ session_logged flow has
+
+-- what a session logs in the first half of the event that comes next
+abbrev pub logged_last : {events : List Event} → (flow : Flow) → (has : HasSession flow events) → NextEvent has → List (List ℕ)
+logged_last flow has behind =
+    let table = kept (tick_of behind.next.input) (table_after (has.later ++ has.first ∷ has.earlier)) in
+    logged_ticks (filter (is_between (client_of flow) flow.asset.endpoint) table) (ticks_of (client_of flow) flow.asset.endpoint table behind.next.ticks)
+
+-- so it is too up to that half, so up to the packet that begins the next session of theirs
+abbrev pub LogsHoldToTheNext : Type 0
+LogsHoldToTheNext =
+    (assets : List Asset) (limit : ℕ) (given : List Input) (out log : List ℕ) (summary : Summary) (run : IsRun assets limit given out log summary) →
+    AreAssetsWithin assets → AllByRecursion IsRead given → (flow : Flow) (has : HasSession flow run.events) (behind : NextEvent has) →
+    lines_naming (client_of flow) flow.asset.name (began_at has) (tick_of behind.next.input) (logged run.events) ≡ session_logged flow has ++ logged_last flow has behind
 
 -- two runs of one policy with equal moments: a session of the one and a session of the other, of the same client and asset, which
 -- began in the same event by the same packet, have one time up to the last event before which they are matched alike, and in it the

@@ -1,16 +1,19 @@
 //! Laws of a run's files: each is the contract of a function that does nothing.
-ghost use Rattle.cf_isolation.specs.Isolated.{CapturesAreIsolated, CapturesHoldSessions, SentIsIsolated, SentIsOfSessions};
-ghost use Rattle.cf_isolation.specs.Logged.{LogsAreIsolated, LogsHoldSessions};
+ghost use Rattle.cf_isolation.specs.Isolated.{CapturesAreIsolated, CapturesHoldSessions, CapturesHoldToTheNext, SentIsIsolated, SentIsOfSessions, SentToTheNext};
+ghost use Rattle.cf_isolation.specs.Logged.{LogsAreIsolated, LogsHoldSessions, LogsHoldToTheNext};
 
 use cf_readback::runs_are_read_back;
 use cf_run::{octets_have_one_list_of_records, runs_isolate_sessions, sessions_are_right};
 use cf_session::work_is_of_what_was_taken;
 
 /// What a run sent between the two endpoints of a session, in the session's time, is what the session's own events sent, in their
-/// order; and these are the records of the output capture between them.
+/// order; and these are the records of the output capture between them. So it is too up to the packet by which the next session of the
+/// same client and asset begins.
 pub fn captures_hold_sessions()
     ensures sent { SentIsOfSessions }
+    ensures sent_to_the_next { SentToTheNext }
     ensures records { CapturesHoldSessions }
+    ensures records_to_the_next { CapturesHoldToTheNext }
 {
     sessions_are_right();
     runs_are_read_back();
@@ -31,9 +34,10 @@ pub fn captures_are_isolated()
 }
 
 /// The lines of the log that name a session's client and asset, in the session's time, are what the session's own events logged, in
-/// their order.
+/// their order. So it is too up to the packet by which the next session of the same client and asset begins.
 pub fn logs_hold_sessions()
-    ensures { LogsHoldSessions }
+    ensures lines { LogsHoldSessions }
+    ensures lines_to_the_next { LogsHoldToTheNext }
 {
     sessions_are_right();
     work_is_of_what_was_taken();
