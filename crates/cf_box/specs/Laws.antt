@@ -1,5 +1,8 @@
 -- Laws over every run and every capture: HasLaws. This project's own.
+use Rattle.cf_isolation.specs.Isolated.{CapturesAreIsolated, CapturesHoldSessions}
+use Rattle.cf_isolation.specs.Logged.{LogsAreIsolated, LogsHoldSessions}
 use Rattle.cf_pcapng.specs.Calls.{GiveBlocks, HaveOneListOfBlocks}
+use Rattle.cf_readback.specs.ReadBack.{RunsAreReadBack}
 use Rattle.cf_refusals.specs.Told.{RefusedAreTold}
 use Rattle.cf_run.specs.Fixed.{RecordsFixRuns}
 use Rattle.cf_run.specs.Isolation.{RunsIsolateSessions}
@@ -8,6 +11,14 @@ use Rattle.cf_run.specs.Records.{HaveOneTimedList}
 pub record HasLaws : Type 0 where
   -- what a session of a run sends and logs is fixed by its own packets and their moments
   pub isolated : RunsIsolateSessions
+  -- the output capture of a run is read as what the run sent
+  pub read_back : RunsAreReadBack
+  -- its records between a session's endpoints, in the session's time, are those that the session sent, whatever else the capture holds
+  pub records_held : CapturesHoldSessions
+  pub records_isolated : CapturesAreIsolated
+  -- and the lines of the log that name it those that it logged
+  pub lines_held : LogsHoldSessions
+  pub lines_isolated : LogsAreIsolated
   -- each refused command has its line and, but in three cases, its reply
   pub told : RefusedAreTold
   -- two runs of one policy over the same records have the same outputs and counts

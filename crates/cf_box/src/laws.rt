@@ -1,7 +1,11 @@
 //! Laws over every run and every capture.
 ghost use Rattle.cf_box.specs.Laws.{HasLaws};
 
+use cf_isolation::{
+    captures_are_isolated, captures_hold_sessions, logs_are_isolated, logs_hold_sessions,
+};
 use cf_pcapng::{calls_give_blocks, files_have_one_list_of_blocks};
+use cf_readback::runs_are_read_back;
 use cf_refusals::refused_commands_are_told;
 use cf_run::{octets_have_one_list_of_records, records_fix_runs, runs_isolate_sessions};
 
@@ -10,6 +14,11 @@ pub(crate) fn laws_hold()
     ensures { HasLaws }
 {
     runs_isolate_sessions();
+    runs_are_read_back();
+    captures_hold_sessions();
+    captures_are_isolated();
+    logs_hold_sessions();
+    logs_are_isolated();
     refused_commands_are_told();
     records_fix_runs();
     octets_have_one_list_of_records();

@@ -1,3 +1,5 @@
 mod Codes
 mod Inclusion
 mod Reach
+mod ReadsHad
+mod SomeRead

@@ -11,6 +11,7 @@ use Rattle.cf_explain.specs.declared.found.What.TheVariants as what
 use Rattle.cf_acts.specs.Acts.{kinds}
 use Rattle.cf_acts.specs.Commands.{IsOfCommand}
 use Rattle.cf_explain.specs.Meets.{meets, includes_rule}
+use Rattle.cf_explain.specs.Reads.{HasReads, NamesReads}
 
 -- no act with this code that a command of the protocol has is the rule's
 abbrev pub NeverHas : Protocol → Rule → ℕ → Type 0
@@ -33,7 +34,7 @@ NeverDecides rules number = (client : ℕ) (act : Act) → first_number rules cl
 abbrev pub Holds : Asset → ℕ → Rule → What → Type 0
 Holds asset number rule (what.Never code why) = NeverMeets asset.protocol rule
 Holds asset number rule (what.Code code why) = NeverHas asset.protocol rule code
-Holds asset number rule what.Reads = WantsValue rule
+Holds asset number rule what.Reads = NamesReads asset.protocol rule × WantsValue rule
 Holds asset number rule (what.Covered earlier) = (earlier < number) × NeverDecides asset.rules number
 
 -- what is found, if something is, as a list
@@ -50,6 +51,7 @@ IsMet protocol rule =
 abbrev pub first_including : List Rule → ℕ → Rule → Option ℕ
 first_including rules number rule = position (λ r. includes_rule r rule) (take number rules)
 
--- there is nothing to find: each code is met, and no earlier rule includes the rule
+-- there is nothing to find: each code is met, the rule has the reads of function 23 that it names, and no earlier rule includes the rule
 abbrev pub IsSound : Asset → ℕ → Rule → Type 0
-IsSound asset number rule = IsMet asset.protocol rule × (first_including asset.rules number rule ≡ None)
+IsSound asset number rule =
+    IsMet asset.protocol rule × (NamesReads asset.protocol rule → HasReads rule) × (first_including asset.rules number rule ≡ None)

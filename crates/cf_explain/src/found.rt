@@ -7,6 +7,8 @@ ghost use Rattle.cf_policy.specs.declared.policy.Rule.{Rule};
 ghost use Rattle.cf_policy.specs.Verdict.{takes};
 ghost use Rattle.cf_acts.specs.Acts.{kinds};
 ghost use Rattle.cf_explain.specs.Meets.{meets};
+ghost use Rattle.cf_policy.specs.Within.{IsRuleWithin};
+ghost use Rattle.cf_explain.specs.Reads.{HasReads, HasSomeRead, NamesReads};
 ghost use Rattle.cf_explain.specs.Rules.{Holds, IsMet, IsSound, NeverHas, NeverMeets, WantsValue, first_including, listed};
 
 use crate::covered::covering;
@@ -45,6 +47,14 @@ pub fn findings(alloc: Global, asset: &Asset, number: usize) -> Result<Vec<What>
         None => partial_findings(alloc, asset, number, rule),
     }
 }
+
+/// A rule within its ranges of which nothing is found, and which names function 23 of Modbus and the group of its reads, has such a
+/// read of some command.
+#[tactic(auto, using(crate::proofs::SomeRead::some_read))]
+pub fn sound_rules_have_reads()
+    ensures { (asset : Asset) (number : ℕ) (rule : Rule) → IsRuleWithin rule → IsSound asset number rule
+        → NamesReads asset.protocol rule → HasSomeRead rule }
+{}
 
 /// That no command meets a rule, with the reason at its first code.
 fn whole_finding(protocol: Protocol, rule: &Rule) -> Option<What>
@@ -146,9 +156,12 @@ fn first_unmet(protocol: Protocol, rule: &Rule) -> Option<(u16, Unmet)> {
     None
 }
 
-/// That a rule of Modbus has function 23 with its reads, and states values, which reads have not.
+/// That a rule of Modbus has function 23 with its reads, and states values, which reads have not. Where a rule that has them states
+/// no values, the reads are its own.
 fn reads_finding(protocol: Protocol, rule: &Rule) -> Option<What>
-    ensures { IfSome result (λ what. (asset : Asset) (number : ℕ) → Holds asset number rule.now what) }
+    ensures so { IfSome result (λ what. (asset : Asset) (number : ℕ) → asset.protocol ≡ protocol
+        → Holds asset number rule.now what) }
+    ensures none { is_none result ≡ true → NamesReads protocol rule.now → HasReads rule.now }
 {
     if protocol != Protocol::Modbus || !wants_value(rule) || !takes(&rule.codes, 23) {
         return None;
@@ -160,7 +173,8 @@ fn reads_finding(protocol: Protocol, rule: &Rule) -> Option<What>
 }
 
 fn wants_value(rule: &Rule) -> bool
-    ensures { IsTrue result → WantsValue rule.now }
+    ensures stated { IsTrue result → WantsValue rule.now }
+    ensures unstated { result ≡ false → rule.now.values ≡ [] }
 {
     !rule.values.is_empty()
 }

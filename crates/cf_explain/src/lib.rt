@@ -29,7 +29,7 @@ mod wrong;
 pub use capture::capture_message;
 pub use covered::covering;
 pub use difference::{PolicyFile, inclusion_message};
-pub use found::{What, findings};
+pub use found::{What, findings, sound_rules_have_reads};
 pub use outputs::{asset_message, outputs_message};
 pub use policy::policy_message;
 pub use unmet::{Unmet, why_unmet};

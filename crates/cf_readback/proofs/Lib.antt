@@ -1,5 +1,5 @@
-mod Legs
+pub mod Legs
 mod Ranges
 mod Reading
 mod Sending
-mod Writing
+pub mod Writing

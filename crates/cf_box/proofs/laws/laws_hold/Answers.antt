@@ -3,6 +3,11 @@ use Rattle.cf_box.proofs.laws.laws_hold.Goals as goal
 pub returns : goal.returns
 returns c = record {
   isolated = c.runs_isolate_sessions.ensures;
+  read_back = c.runs_are_read_back.ensures;
+  records_held = c.captures_hold_sessions.ensures.records;
+  records_isolated = c.captures_are_isolated.ensures.records;
+  lines_held = c.logs_hold_sessions.ensures;
+  lines_isolated = c.logs_are_isolated.ensures;
   told = c.refused_commands_are_told.ensures;
   fixed = c.records_fix_runs.ensures.runs;
   records = c.octets_have_one_list_of_records.ensures.one_timed;

@@ -1,0 +1,122 @@
+-- The moments of the items by which a history goes on.
+use Rattle.std.proofs.Common.{◌≡◌, ℕ, zero, suc, Bool, true, false, List, [], ◌∷◌, ◌++◌, map, refl, sym, ap, ◌∙◌, subst}
+use Rattle.std.specs.List.{AllByRecursion}
+use Rattle.std.proofs.lemmas.List.{append_cancel_left}
+use Rattle.cf_lane.proofs.Earlier.{in_turn-append}
+use Rattle.cf_lane.proofs.Growth.{further, items_split}
+use Rattle.cf_lane.proofs.Units.{free_unit}
+use Rattle.cf_lane.specs.Follows.{AreJudged}
+use Rattle.cf_lane.specs.History.{Element, bytes_of}
+use Rattle.cf_lane.specs.Item.{AreItems, Broke, Completes, Ended, Item, Placed, Took, last_after, placed}
+use Rattle.cf_lane.specs.Judged.{Judged, place_of}
+use Rattle.cf_lane.specs.Log.{command_octets, end_lines, has_unfinished, is_some_bytes, item_lines, line_about, lines, refusal_line, unit_lines}
+use Rattle.cf_lane.specs.Output.{output}
+use Rattle.cf_lane.specs.Unit.{AreUnits, Left, SpellsUnit, Tail, UnitValue, Wrong, unit_break}
+use Rattle.cf_lane.specs.declared.fate.Fate.{Fate}
+use Rattle.cf_lane.specs.declared.fate.Fate.TheVariants as fate
+use Rattle.cf_audit.specs.Line.{Partial, Stray, WhatValue}
+use Rattle.cf_policy.specs.declared.Asset.{Asset}
+use Rattle.cf_policy.specs.declared.Protocol.{Protocol}
+use Rattle.cf_view.proofs.Units.{one_units_then_break, one_units_then_rest, rest_not_break}
+use Rattle.cf_view.specs.Framing.{IsPrefixFree}
+use Rattle.cf_view.specs.declared.Endpoint.{Endpoint}
+use Rattle.cf_view.specs.declared.Side.{Side}
+use Rattle.cf_view.specs.declared.Side.TheVariants as side
+use Rattle.cf_isolation.proofs.Lists.{all_both, all_front}
+
+-- ---- a history has one list of items
+
+module _ (p : Protocol) (free : IsPrefixFree (SpellsUnit p)) where
+  one_units : (us vs : List UnitValue) (xs : List ℕ) (t u : Tail) → AreUnits p xs us t → AreUnits p xs vs u → (us ≡ vs) × (t ≡ u)
+  one_units us vs xs (Left a) (Left b) x y = let same = one_units_then_rest (SpellsUnit p) free us vs xs a b x y in (same.0, ap Left same.1)
+  one_units us vs xs (Left a) (Wrong b) x y = absurd (rest_not_break (SpellsUnit p) free us vs xs a y.0 x y.1)
+  one_units us vs xs (Wrong a) (Left b) x y = absurd (rest_not_break (SpellsUnit p) free vs us xs b x.0 y x.1)
+  one_units us vs xs (Wrong a) (Wrong b) x y =
+      let same = one_units_then_break (SpellsUnit p) free us vs xs x.0 y.0 x.1 y.1 in
+      (same.0, ap Wrong (x.2 ∙ ap (unit_break p) same.1 ∙ sym y.2))
+
+  one_completes : (earlier : List Element) (e : Element) (is ks : List Placed) → Completes p earlier e is → Completes p earlier e ks → is ≡ ks
+  one_completes earlier e is ks c d =
+      let were = one_units c.before d.before (bytes_of e.side earlier) c.was d.was c.were d.were in
+      let are = one_units (c.before ++ c.more) (d.before ++ d.more) (bytes_of e.side (earlier ++ e ∷ [])) c.tail d.tail c.are d.are in
+      let more : c.more ≡ d.more = append_cancel_left d.before c.more d.more (ap (λ us. us ++ c.more) (sym were.0) ∙ are.0) in
+      c.is_items ∙ ap (λ us. map (placed e.moment) (map (Took e.side) us ++ last_after c.was e.side e.letters.ended c.tail)) more
+      ∙ ap (λ t. map (placed e.moment) (map (Took e.side) d.more ++ last_after c.was e.side e.letters.ended t)) are.1
+      ∙ ap (λ t. map (placed e.moment) (map (Took e.side) d.more ++ last_after t e.side e.letters.ended d.tail)) were.1 ∙ sym d.is_items
+
+  one_items : (earlier later : List Element) (is ks : List Placed) → AreItems p earlier later is → AreItems p earlier later ks → is ≡ ks
+  one_items earlier [] is ks a b = a ∙ sym b
+  one_items earlier (e ∷ later) is ks a b =
+      let now = one_completes earlier e a.0 b.0 a.2 b.2 in
+      let next = one_items (earlier ++ e ∷ []) later a.1 b.1 a.3 b.3 in
+      a.4 ∙ ap (λ xs. xs ++ a.1) now ∙ ap (λ xs. b.0 ++ xs) next ∙ sym b.4
+
+-- ---- moments
+
+module _ (now : ℕ) where
+  abbrev AreNow : List Placed → Type 0
+  AreNow items = AllByRecursion (λ i. i.moment ≡ now) items
+
+  placed_now : (moment : ℕ) (items : List Item) → moment ≡ now → AreNow (map (placed moment) items)
+  placed_now moment [] h = tt
+  placed_now moment (i ∷ items) h = (h, placed_now moment items h)
+
+  items_now : (p : Protocol) (earlier later : List Element) (items : List Placed) → AreItems p earlier later items → AllByRecursion (λ e. e.moment ≡ now) later → AreNow items
+  items_now p earlier [] items a h = subst AreNow (sym a) tt
+  items_now p earlier (e ∷ later) items a h =
+      subst AreNow (sym a.4) (all_both _ a.0 a.1 (subst AreNow (sym a.2.is_items) (placed_now e.moment _ h.0)) (items_now p (earlier ++ e ∷ []) later a.1 a.3 h.1))
+
+  judged_now : (js : List Judged) → AreNow (map place_of js) → AllByRecursion (λ j. j.moment ≡ now) js
+  judged_now [] h = tt
+  judged_now (j ∷ js) h = (h.0, judged_now js h.1)
+
+  -- ---- lines
+
+  module _ (asset : Asset) (client : Endpoint) where
+    -- a line about the two at that moment
+    abbrev pub IsAbout : List ℕ → Type 0
+    IsAbout line = (what : WhatValue) × (line ≡ line_about asset client now what)
+
+    abbrev pub AreAbout : List (List ℕ) → Type 0
+    AreAbout lines = AllByRecursion IsAbout lines
+
+    unit_about : (replied : Bool) (s : Side) (octets : List ℕ) (f : Fate) → AreAbout (unit_lines asset client now replied s octets f)
+    unit_about replied s octets (fate.Refused refusal) = ((refusal_line asset refusal replied octets, refl), tt)
+    unit_about replied s octets (fate.Stray because) = ((Stray s because, refl), tt)
+    unit_about replied s octets fate.Carried = tt
+    unit_about replied s octets (fate.Admitted used) = tt
+    unit_about replied s octets fate.Lengthens = tt
+    unit_about replied s octets (fate.Cuts because) = tt
+
+    end_about : (s : Side) (unfinished : Bool) (rest : ℕ) → AreAbout (end_lines asset client now s unfinished rest)
+    end_about s false zero = tt
+    end_about s true zero = ((Partial s 0, refl), tt)
+    end_about s false (suc n) = ((Partial s (suc n), refl), tt)
+    end_about s true (suc n) = ((Partial s (suc n), refl), tt)
+
+    item_about : (earlier : List Judged) (j : Judged) (i : Item) → j.moment ≡ now → AreAbout (item_lines asset client earlier j i)
+    item_about earlier j (Took s unit) h =
+        subst (λ m. AreAbout (unit_lines asset client m (is_some_bytes (output asset side.Client earlier j)) s (command_octets asset earlier s unit) j.fate)) (sym h)
+        (unit_about (is_some_bytes (output asset side.Client earlier j)) s (command_octets asset earlier s unit) j.fate)
+    item_about earlier j (Ended s rest) h =
+        subst (λ m. AreAbout (end_lines asset client m s (has_unfinished asset asset.protocol s earlier) rest)) (sym h) (end_about s (has_unfinished asset asset.protocol s earlier) rest)
+    item_about earlier j (Broke s because) h = tt
+
+    lines_about : (earlier js : List Judged) → AllByRecursion (λ j. j.moment ≡ now) js → AreAbout (lines asset client earlier js)
+    lines_about earlier [] h = tt
+    lines_about earlier (j ∷ js) h = all_both IsAbout (item_lines asset client earlier j j.item) _ (item_about earlier j j.item h.0) (lines_about (earlier ++ j ∷ []) js h.1)
+
+    -- the lines by which a history goes on
+    pub new_about : (h fed : List Element) (js ks : List Judged) → AreJudged asset client.address h js → AreJudged asset client.address (h ++ fed) ks →
+        AllByRecursion (λ e. e.moment ≡ now) fed → (more : List (List ℕ)) × (lines asset client [] ks ≡ lines asset client [] js ++ more) × AreAbout more
+    new_about h fed js ks a b all =
+        let split = items_split asset.protocol [] h fed b.items b.are_items in
+        let same = one_items asset.protocol (free_unit asset.protocol) [] h a.items split.0 a.are_items split.2 in
+        let f = further asset client.address [] js ks a.dropped b.dropped split.1
+        (ap (λ xs. xs ++ split.1) (sym a.are_first ∙ same) ∙ sym split.4 ∙ b.are_first) a.fates b.fates a.goes_on b.goes_on in
+        let moments = items_now asset.protocol h fed split.1 split.3 all in
+        let own = judged_now f.0 (all_front _ (map place_of f.0) f.1 (subst AreNow (sym f.3) moments)) in (
+          lines asset client js f.0,
+          ap (lines asset client []) f.2 ∙ in_turn-append (λ before j. item_lines asset client before j j.item) [] js f.0,
+          lines_about js f.0 own,
+        )

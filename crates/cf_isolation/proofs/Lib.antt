@@ -1,0 +1,12 @@
+mod Ends
+mod Filing
+mod Isolating
+mod Items
+mod Lists
+mod Logging
+mod Naming
+mod Packets
+mod Sending
+mod Stretch
+mod Tables
+mod Words

@@ -1,0 +1,186 @@
+-- The flows of a table's sessions: each goes from no asset's endpoint to an asset's.
+use Rattle.std.proofs.Common.{◌≡◌, ℕ, zero, suc, ◌&&◌, ◌||◌, Bool, true, false, not, List, [], ◌∷◌, ◌++◌, cond, if◌then◌else◌, Option, Some, None, Result, Ok, Err, refl, sym, ap, ◌∙◌, subst, arith}
+use Rattle.std.specs.Prelude.{filter, slice_get}
+use Rattle.std.specs.List.{remove}
+use Rattle.std.proofs.lemmas.Bool.{true≢false}
+use Rattle.std.proofs.lemmas.Bool.Decides.{nat_tests}
+use Rattle.cf_packet.specs.Packet.{PacketValue}
+use Rattle.cf_packet.specs.declared.packet.PacketRefusal.{PacketRefusal}
+use Rattle.cf_policy.specs.declared.Asset.{Asset}
+use Rattle.cf_session.specs.Session.{Flow, SessionEvent, client_of}
+use Rattle.cf_view.specs.declared.Endpoint.{Endpoint}
+use Rattle.cf_run.specs.Sessions.{Each}
+use Rattle.cf_run.specs.Table.{Begins, Full, Goes, Match, Outside, Session, asset_at, begins, begins_or_full, goes, goes_from_client, has_asset_at, is_opening, match_of, may_begin, place_of, same_endpoint, without}
+use Rattle.cf_run.specs.Trace.{AreEvents, Begun, Dropped, Event, NoRoom, NoSession, Received, Receives, ReceivesRecord, Went, after_received, kept, stays, table_after, tick_of, ticked, with_event_at, with_events}
+
+pub same_is : (a b : Endpoint) → same_endpoint a b ≡ true → a ≡ b
+same_is a b e =
+    let p : a.address ≡ b.address = grind (arith, nat_tests, e) in
+    let q : a.port ≡ b.port = grind (arith, nat_tests, e) in
+    ap (λ x. let r : Endpoint = record { address = x; port = a.port } in r) p ∙ ap (λ y. let r : Endpoint = record { address = b.address; port = y } in r) q
+
+pub same_self : (e : Endpoint) → same_endpoint e e ≡ true
+same_self e = grind (arith, nat_tests)
+
+-- an asset is one of these
+abbrev pub IsAmong : List Asset → Asset → Type 0
+IsAmong assets asset = (place : ℕ) × (slice_get assets place ≡ Some asset)
+
+-- a flow goes from no asset's endpoint to an asset's
+abbrev pub IsOwn : List Asset → Flow → Type 0
+IsOwn assets f = (has_asset_at assets (client_of f) ≡ false) × (has_asset_at assets f.asset.endpoint ≡ true)
+
+abbrev pub HasOwn : List Asset → Session → Type 0
+HasOwn assets s = IsOwn assets s.flow
+
+-- ---- of each session of a list
+
+pub each_append : (P : Session → Type 0) (xs ys : List Session) → Each P xs → Each P ys → Each P (xs ++ ys)
+each_append P [] ys h g = g
+each_append P (x ∷ xs) ys h g = (h.0, each_append P xs ys h.1 g)
+
+each_remove : (P : Session → Type 0) (xs : List Session) (i : ℕ) → Each P xs → Each P (remove xs i)
+each_remove P [] zero h = tt
+each_remove P [] (suc i) h = tt
+each_remove P (x ∷ xs) zero h = h.1
+each_remove P (x ∷ xs) (suc i) h = (h.0, each_remove P xs i h.1)
+
+pub each_filter : (P : Session → Type 0) (p : Session → Bool) (xs : List Session) → Each P xs → Each P (filter p xs)
+each_filter P p [] h = tt
+each_filter P p (x ∷ xs) h = elim (p x) as (λ b. Each P (cond b (x ∷ filter p xs) (filter p xs))) [ true ↦ (h.0, each_filter P p xs h.1) | false ↦ each_filter P p xs h.1 ]
+
+each_without : (P : Session → Type 0) (xs : List Session) (place : Option ℕ) → Each P xs → Each P (elim place [ Some i ↦ remove xs i | None ↦ xs ])
+each_without P xs None h = h
+each_without P xs (Some i) h = each_remove P xs i h
+
+pub each_get : (P : Session → Type 0) (xs : List Session) (i : ℕ) (s : Session) → Each P xs → slice_get xs i ≡ Some s → P s
+each_get P [] i s h e = cc
+each_get P (x ∷ xs) zero s h e = let same : x ≡ s = cc in subst P same h.0
+each_get P (x ∷ xs) (suc i) s h e = each_get P xs i s h.1 e
+
+-- ---- a packet that begins a session
+
+found_has : (assets : List Asset) (endpoint : Endpoint) (asset : Asset) → asset_at assets endpoint ≡ Some asset → has_asset_at assets asset.endpoint ≡ true
+found_has [] endpoint asset h = cc
+found_has (a ∷ assets) endpoint asset h = by (λ e. found_has assets endpoint asset e) (same_endpoint a.endpoint endpoint) h
+  where
+    by : (asset_at assets endpoint ≡ Some asset → has_asset_at assets asset.endpoint ≡ true) → (b : Bool) → cond b (Some a) (asset_at assets endpoint) ≡ Some asset →
+        has_asset_at (a ∷ assets) asset.endpoint ≡ true
+    by more true e = let same : a ≡ asset = cc in subst (λ x. has_asset_at (a ∷ assets) x.endpoint ≡ true) same (rw (same_self a.endpoint) refl)
+    by more false e = elim (same_endpoint a.endpoint asset.endpoint) as (λ b. (b || has_asset_at assets asset.endpoint) ≡ true) [ true ↦ refl | false ↦ more e ]
+
+found_among : (assets : List Asset) (endpoint : Endpoint) (asset : Asset) → asset_at assets endpoint ≡ Some asset → IsAmong assets asset
+found_among [] endpoint asset h = cc
+found_among (a ∷ assets) endpoint asset h = by (λ e. found_among assets endpoint asset e) (same_endpoint a.endpoint endpoint) h
+  where
+    by : (asset_at assets endpoint ≡ Some asset → IsAmong assets asset) → (b : Bool) → cond b (Some a) (asset_at assets endpoint) ≡ Some asset → IsAmong (a ∷ assets) asset
+    by more true e = (0, e)
+    by more false e = let there = more e in (suc there.0, there.1)
+
+-- what holds of a flow that a packet begins
+pub record IsBegunBy (assets : List Asset) (p : PacketValue) (f : Flow) : Type 0 where
+  pub own : IsOwn assets f
+  pub among : IsAmong assets f.asset
+  pub client : client_of f ≡ p.source
+
+module _ (assets : List Asset) (table : List Session) (p : PacketValue) (f : Flow) where
+  never_goes : (o q : Option ℕ) → goes_from_client o q ≡ Begins f → ⊥
+  never_goes (Some i) q h = cc
+  never_goes None (Some i) h = cc
+  never_goes None None h = cc
+
+  abbrev flow_to : Asset → Flow
+  flow_to asset = record { asset = asset; syn = p }
+
+  room_by : (asset : Asset) (b : Bool) → (if b then Begins (flow_to asset) else Full) ≡ Begins f → flow_to asset ≡ f
+  room_by asset true h = cc
+  room_by asset false h = cc
+
+  closed_by : (asset : Asset) (b : Bool) → (if b then begins_or_full table (flow_to asset) else goes table p) ≡ Begins f → flow_to asset ≡ f
+  closed_by asset true h = room_by asset _ h
+  closed_by asset false h = absurd (never_goes _ _ h)
+
+  begun_to : has_asset_at assets p.source ≡ false → (asset : Asset) → asset_at assets p.dest ≡ Some asset → IsBegunBy assets p (flow_to asset)
+  begun_to none asset e = record { own = (none, found_has assets p.dest asset e); among = found_among assets p.dest asset e; client = refl }
+
+  begun_if : has_asset_at assets p.source ≡ false → (o : Option Asset) → asset_at assets p.dest ≡ o → begins table p o ≡ Begins f → IsBegunBy assets p f
+  begun_if none None e h = absurd (never_goes _ _ h)
+  begun_if none (Some asset) e h = subst (IsBegunBy assets p) (closed_by asset _ h) (begun_to none asset e)
+
+  not_both : (a b : Bool) → (a && not b) ≡ true → b ≡ false
+  not_both true false e = refl
+  not_both true true e = absurd (true≢false (sym e))
+  not_both false b e = absurd (true≢false (sym e))
+
+  may_by : (b : Bool) → may_begin assets p ≡ b → (if b then begins table p (asset_at assets p.dest) else goes table p) ≡ Begins f → IsBegunBy assets p f
+  may_by true e h = begun_if (not_both (is_opening p) (has_asset_at assets p.source) e) (asset_at assets p.dest) refl h
+  may_by false e h = absurd (never_goes _ _ h)
+
+  pub begins_by : match_of assets table p ≡ Begins f → IsBegunBy assets p f
+  begins_by h = may_by (may_begin assets p) refl h
+
+module _ (assets : List Asset) (limit : ℕ) where
+  begun_by : (tick : ℕ) (table : List Session) (p : PacketValue) (m : Match) (f : Flow) (e : SessionEvent) → match_of assets table p ≡ m → Receives limit tick table p m (Begun f e) → IsBegunBy assets p f
+  begun_by tick table p (Begins g) f e is h = subst (IsBegunBy assets p) (sym h.0) (begins_by assets table p g is)
+  begun_by tick table p Full f e is h = absurd h
+  begun_by tick table p (Goes i s) f e is h = absurd h
+  begun_by tick table p Outside f e is h = absurd h
+
+  never_dropped : (f : Flow) (e : SessionEvent) → Begun f e ≡ Dropped → ⊥
+  never_dropped f e h = cc
+
+  -- the record is a packet, which begins it
+  pub begun_is : (tick : ℕ) (table : List Session) (p : Result PacketValue PacketRefusal) (f : Flow) (e : SessionEvent) → ReceivesRecord assets limit tick table p (Begun f e) →
+      (packet : PacketValue) × (p ≡ Ok packet) × IsBegunBy assets packet f
+  begun_is tick table (Err refusal) f e h = absurd (never_dropped f e h)
+  begun_is tick table (Ok packet) f e h = (packet, refl, begun_by tick table packet (match_of assets table packet) f e refl h)
+
+  -- of an event in which a session begins
+  pub begun_in : (e : Event) (es : List Event) → AreEvents assets limit (e ∷ es) → (f : Flow) (b : SessionEvent) → e.received ≡ Begun f b →
+      (packet : PacketValue) × (e.input.packet ≡ Ok packet) × IsBegunBy assets packet f
+  begun_in e es h f b is =
+      begun_is (tick_of e.input) (ticked e.ticks (tick_of e.input) (table_after es)) e.input.packet f b
+      (subst (ReceivesRecord assets limit (tick_of e.input) (ticked e.ticks (tick_of e.input) (table_after es)) e.input.packet) is h.0.received)
+
+-- ---- what holds of each flow that begins holds of each session of a table
+
+-- it does so of each of these events
+abbrev pub BegunHave : (Flow → Type 0) → List Event → Type 0
+BegunHave K [] = Unit {0}
+BegunHave K (e ∷ es) = ((f : Flow) (b : SessionEvent) → e.received ≡ Begun f b → K f) × BegunHave K es
+
+module _ (K : Flow → Type 0) where
+  abbrev pub Has : Session → Type 0
+  Has s = K s.flow
+
+  next_has : (ss : List Session) (ts : List SessionEvent) → Each Has ss → Each Has (with_events ss ts)
+  next_has [] ts h = tt
+  next_has (s ∷ ss) [] h = h
+  next_has (s ∷ ss) (t ∷ ts) h = (h.0, next_has ss ts h.1)
+
+  went_has : (i : ℕ) (e : SessionEvent) (ss : List Session) → Each Has ss → Each Has (with_event_at i e ss)
+  went_has i e [] h = tt
+  went_has zero e (s ∷ ss) h = (h.0, h.1)
+  went_has (suc i) e (s ∷ ss) h = (h.0, went_has i e ss h.1)
+
+  received_has : (table : List Session) (r : Received) → ((f : Flow) (b : SessionEvent) → r ≡ Begun f b → K f) → Each Has table → Each Has (after_received r table)
+  received_has table Dropped new h = h
+  received_has table NoRoom new h = h
+  received_has table NoSession new h = h
+  received_has table (Begun f e) new h =
+      each_append Has (without (client_of f) f.asset.endpoint table) _ (each_without Has table (place_of (client_of f) f.asset.endpoint table) h) (new f e refl, tt)
+  received_has table (Went i e) new h = each_filter Has stays (with_event_at i e table) (went_has i e table h)
+
+  pub kept_has : (tick : ℕ) (table : List Session) → Each Has table → Each Has (kept tick table)
+  kept_has tick table h = each_filter Has _ table h
+
+  pub found_has_all : (tick : ℕ) (ts : List SessionEvent) (table : List Session) → Each Has table → Each Has (ticked ts tick table)
+  found_has_all tick ts table h = each_filter Has stays (with_events (kept tick table) ts) (next_has (kept tick table) ts (kept_has tick table h))
+
+  pub table_has : (es : List Event) → BegunHave K es → Each Has (table_after es)
+  table_has [] h = tt
+  table_has (e ∷ es) h = received_has (ticked e.ticks (tick_of e.input) (table_after es)) e.received h.0 (found_has_all (tick_of e.input) e.ticks (table_after es) (table_has es h.1))
+
+pub all_own : (assets : List Asset) (limit : ℕ) (es : List Event) → AreEvents assets limit es → BegunHave (IsOwn assets) es
+all_own assets limit [] h = tt
+all_own assets limit (e ∷ es) h = ((λ f b is. (begun_in assets limit e es h f b is).2.own), all_own assets limit es h.1)

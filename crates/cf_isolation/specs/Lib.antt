@@ -1,0 +1,4 @@
+pub mod Isolated
+pub mod Lines
+pub mod Logged
+pub mod Records

@@ -1,0 +1,39 @@
+-- The packets of an output capture that go between two endpoints, in either direction, from one moment to another: sent_between; and the
+-- records of the file that are these packets: records_between. This project's own.
+use Rattle.std.specs.Prelude.{ℕ, nat_le, Bool, false, ◌&&◌, ◌||◌, List, filter, Result, Ok, Err}
+use Rattle.cf_packet.specs.Packet.{PacketValue, read_record}
+use Rattle.cf_packet.specs.declared.packet.PacketRefusal.{PacketRefusal}
+use Rattle.cf_run.specs.Capture.{Record}
+use Rattle.cf_run.specs.Table.{same_endpoint}
+use Rattle.cf_session.specs.Sent.{Sent}
+use Rattle.cf_view.specs.declared.Endpoint.{Endpoint}
+
+-- from the first of two moments up to the second, both included
+abbrev pub is_during : (since until : ℕ) → (moment : ℕ) → Bool
+is_during since until moment = nat_le since moment && nat_le moment until
+
+-- a packet goes from the first endpoint to the second
+abbrev pub goes_from : (source dest : Endpoint) → PacketValue → Bool
+goes_from source dest packet = same_endpoint packet.source source && same_endpoint packet.dest dest
+
+-- a packet goes from one of the two endpoints to the other
+abbrev pub goes_between : (client asset : Endpoint) → PacketValue → Bool
+goes_between client asset packet = goes_from client asset packet || goes_from asset client packet
+
+-- of what was sent
+abbrev pub is_sent_between : (client asset : Endpoint) → (since until : ℕ) → Sent → Bool
+is_sent_between client asset since until s = goes_between client asset s.packet && is_during since until s.moment
+
+abbrev pub sent_between : (client asset : Endpoint) → (since until : ℕ) → List Sent → List Sent
+sent_between client asset since until all = filter (is_sent_between client asset since until) all
+
+-- of the records of a capture file, as they are read: a record that is no packet goes nowhere
+abbrev pub is_packet_between : (client asset : Endpoint) → Result PacketValue PacketRefusal → Bool
+is_packet_between client asset (Ok packet) = goes_between client asset packet
+is_packet_between client asset (Err refusal) = false
+
+abbrev pub is_record_between : (client asset : Endpoint) → (since until : ℕ) → Record → Bool
+is_record_between client asset since until r = is_packet_between client asset (read_record r.link r.body) && is_during since until r.stamp
+
+abbrev pub records_between : (client asset : Endpoint) → (since until : ℕ) → List Record → List Record
+records_between client asset since until records = filter (is_record_between client asset since until) records
