@@ -1,7 +1,7 @@
 //! Records by why they were dropped.
 ghost use Rattle.std.specs.Prelude.{◌≤◌, ◌^◌};
 
-use crate::reason::{DropReason, REASONS, reason_of};
+use crate::reason::{REASONS, reason_of};
 use cf_outside::Files;
 use cf_packet::{PacketRefusal, read_packet};
 use cf_run::{NextRecord, RecordReader};
@@ -26,12 +26,7 @@ impl Dropped {
 
     /// Counts a record that was dropped.
     pub(crate) fn count(&mut self, link: &LinkKind, body: &[u8], refusal: PacketRefusal) {
-        let reason = reason_of(link, body, refusal);
-        self.add(reason);
-    }
-
-    fn add(&mut self, reason: DropReason) {
-        let place = reason as usize;
+        let place = reason_of(link, body, refusal) as usize;
         self.counts[place] = self.counts[place].saturating_add(1);
     }
 }

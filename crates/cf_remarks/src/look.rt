@@ -43,12 +43,12 @@ struct Seen {
 
 /// What CAPTURE and OUT of a run show. Each is read among files of its own, so that both stay open. Nothing where one of them cannot
 /// be read to its end as it was, or memory ran out. Changes no file.
-pub fn look_again<F: Files>(
+pub fn look_again<F: Files, G: Files>(
     alloc: Global,
     assets: &[Asset],
     names: &RunNames<'_>,
     files: &mut F,
-    others: &mut F,
+    others: &mut G,
 ) -> Option<Look> {
     let mut captured = RecordReader::open(alloc, files, names.capture).ok()?;
     let mut sent = RecordReader::open(alloc, others, names.out).ok()?;
@@ -69,14 +69,14 @@ pub fn look_again<F: Files>(
 }
 
 /// Sees all records of CAPTURE, each behind what the box sent before its moment, and says whether both files could be read so far.
-fn see_all<F: Files>(
+fn see_all<F: Files, G: Files>(
     seen: &mut Seen,
     assets: &[Asset],
     names: &RunNames<'_>,
     captured: &mut RecordReader,
     sent: &mut RecordReader,
     files: &mut F,
-    others: &mut F,
+    others: &mut G,
 ) -> bool
     requires captured { captured.old.place ≤ 2 ^ 40 }
     requires sent { sent.old.place ≤ 2 ^ 40 }
@@ -119,16 +119,26 @@ fn see_sent<F: Files>(
     requires near { sent.old.place ≤ 2 ^ 40 }
     ensures near { sent.new.place ≤ 2 ^ 40 }
 {
-    let mut next = first;
+    let NextRecord::Whole(mut stamp) = first else {
+        return behind(first);
+    };
     'packets: loop {
-        match next {
-            NextRecord::Whole(stamp) if stamp < moment => {
-                seen.take_sent(assets, &sent.link(), sent.body()).ok()?;
-            }
-            NextRecord::Whole(_) | NextRecord::End => return Some(next),
-            _ => return None,
+        if stamp >= moment {
+            return Some(NextRecord::Whole(stamp));
         }
-        next = sent.next(files, name);
+        seen.take_sent(assets, &sent.link(), sent.body()).ok()?;
+        match sent.next(files, name) {
+            NextRecord::Whole(next) => stamp = next,
+            found => return behind(found),
+        }
+    }
+}
+
+/// What stands behind the packets that the box sent, if it is their end.
+fn behind(found: NextRecord) -> Option<NextRecord> {
+    match found {
+        NextRecord::End => Some(found),
+        _ => None,
     }
 }
 

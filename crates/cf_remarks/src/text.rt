@@ -40,20 +40,20 @@ impl Lines {
 
     /// Puts a line, behind the word with which each remark begins.
     fn put(&mut self, pieces: &[Piece<'_>]) {
-        self.push(Words("note: "));
+        self.push("note: ");
         for piece in pieces {
-            self.push(*piece);
+            match piece {
+                Words(words) => self.push(words),
+                Number(number) => {
+                    self.is_whole = self.is_whole && write!(self.text, "{number}").is_ok();
+                }
+            }
         }
-        self.push(Words("\n"));
+        self.push("\n");
     }
 
-    fn push(&mut self, piece: Piece<'_>) {
-        if self.is_whole {
-            self.is_whole = match piece {
-                Words(words) => self.text.push_str(words).is_ok(),
-                Number(number) => write!(self.text, "{number}").is_ok(),
-            };
-        }
+    fn push(&mut self, words: &str) {
+        self.is_whole = self.is_whole && self.text.push_str(words).is_ok();
     }
 }
 
@@ -104,7 +104,7 @@ const LEFT_OPEN: &str =
 const AMID: &str = " came without the SYN of their connection: the capture begins amid it, \
     so no session has them";
 
-const FOREIGN: &str = " were not between a client and an asset of POLICY: \
+const FOREIGN: &str = " did not go between a client and an asset of POLICY: \
     no asset has such an address and port";
 
 const REST: &str = " came behind a cut, long behind a closing, or for a session that was not begun";

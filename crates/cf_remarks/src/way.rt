@@ -41,11 +41,12 @@ impl Way {
 
     /// What does not fit in a packet that came from this side.
     pub(crate) fn misfit(&self, packet: &Packet<'_>) -> Misfit {
+        let is_probe = letters_of(packet) == 1 && self.edge == Some(packet.seq);
         if has(packet, RST) {
             Misfit::Nothing
         } else if has(packet, ACK) && is_past(packet.ack, self.reached, true) {
             Misfit::Above
-        } else if !is_probe(packet, self.edge) && is_past(end_of(packet), self.edge, false) {
+        } else if !is_probe && is_past(end_of(packet), self.edge, false) {
             Misfit::Beyond
         } else {
             Misfit::Nothing
@@ -63,10 +64,10 @@ pub(crate) fn is_opening(packet: &Packet<'_>) -> bool {
     has(packet, SYN) && !has(packet, ACK | RST | FIN)
 }
 
-/// How many sequence numbers a packet takes.
+/// How many sequence numbers a packet takes. Its text has at most 65,535 octets, as all that IPv4 carries.
 fn letters_of(packet: &Packet<'_>) -> u32 {
-    let flags = u32::from(has(packet, SYN)) + u32::from(has(packet, FIN));
-    (packet.text.len() as u32).wrapping_add(flags)
+    let text = packet.text.len().min(65_535) as u32;
+    text + u32::from(has(packet, SYN)) + u32::from(has(packet, FIN))
 }
 
 /// The sequence number behind a packet.
@@ -74,16 +75,13 @@ fn end_of(packet: &Packet<'_>) -> u32 {
     packet.seq.wrapping_add(letters_of(packet))
 }
 
-/// Whether a number stands past another, less than 2^31 from it. RFC 9293, section 3.4.
-fn is_after(number: u32, other: u32) -> bool {
-    let distance = number.wrapping_sub(other);
-    0 < distance && distance < 1 << 31
-}
-
-/// The same, or what is told where there is no other.
+/// Whether a number stands past another, less than 2^31 from it; or what is told where there is no other. RFC 9293, section 3.4.
 fn is_past(number: u32, other: Option<u32>, without: bool) -> bool {
     match other {
-        Some(other) => is_after(number, other),
+        Some(other) => {
+            let distance = number.wrapping_sub(other);
+            0 < distance && distance < 1 << 31
+        }
         None => without,
     }
 }
@@ -95,9 +93,4 @@ fn greatest(known: Option<u32>, number: u32) -> Option<u32> {
     } else {
         known
     }
-}
-
-/// Whether a packet has one letter, right at the edge.
-fn is_probe(packet: &Packet<'_>, edge: Option<u32>) -> bool {
-    letters_of(packet) == 1 && edge == Some(packet.seq)
 }
