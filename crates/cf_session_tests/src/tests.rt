@@ -6,6 +6,7 @@ mod captures;
 mod ends;
 mod lanes;
 mod packets;
+mod remarked;
 mod sessions;
 
 use cf_outside::MemoryDesk;
@@ -112,5 +113,14 @@ fn captures_are_run_over(rt: HostRuntime) -> Result<(), Fail> {
     for block in captures::ROWS.split("\n\n") {
         captures::plays(&rt, rt.alloc(), block);
     }
+    Ok(())
+}
+
+#[test]
+fn runs_are_remarked_on(rt: HostRuntime) -> Result<(), Fail> {
+    for block in remarked::ROWS.split("\n\n") {
+        remarked::plays(&rt, rt.alloc(), block);
+    }
+    remarked::summary_is_read(&rt);
     Ok(())
 }

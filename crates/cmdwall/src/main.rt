@@ -2,6 +2,7 @@
 #![tactic(auto)]
 
 mod help;
+mod remark;
 mod why;
 
 use crate::help::{Asked, print_help, print_topic, print_version, question_of};
@@ -51,7 +52,8 @@ fn main(rt: HostRuntime) -> ExitCode {
     pair.leave();
     // What was gathered is part of the work: where it cannot be written, the work is not done.
     let status = if files.finish() { done } else { WRITE_FAULT };
-    explain(&rt, &words, status, &mut files, pair.fault());
+    let printed = str::from_utf8(out.last()).unwrap_or("");
+    explain(&rt, &words, status, printed, &mut files, pair.fault());
     ExitCode::from(status)
 }
 

@@ -2,6 +2,7 @@
 ghost use Rattle.std.specs.Prelude.{IfSome};
 ghost use Rattle.cf_policy.specs.Within.{IsWithin};
 
+use crate::remark::{remark_on_dropped, remark_on_run};
 use cf_box::{Command, read_words};
 use cf_explain::{
     PolicyFile, asset_message, capture_message, inclusion_message, outputs_message, policy_message,
@@ -103,16 +104,19 @@ pub fn expect_files<R: FileSystem>(
     Ok(())
 }
 
-/// Says why the work ended with this status, and of a policy that was checked what is to be warned of.
+/// Says why the work ended with this status, of a policy that was checked what is to be warned of, and what a run cannot know;
+/// `printed` is the end of what standard output has.
 pub fn explain<R: FileSystem + Eprint + AllocGlobal>(
     rt: &R,
     words: &[String],
     status: u8,
+    printed: &str,
     files: &mut RealFiles<'_, R>,
     link: Option<&LinkFault>,
 ) {
     let _ = match read_words(words) {
         Some(_) if status == LINK_FAULT => explain_link(rt, link),
+        Some(command) if status == 0 => remark(rt, &command, printed, files),
         Some(command) => explain_command(rt, &command, status, files),
         None => explain_words(rt, words),
     };
@@ -124,6 +128,32 @@ fn explain_words<R: Eprint + AllocGlobal>(rt: &R, words: &[String]) -> io::Resul
     eprintln!(rt; "cmdwall: {message}")
 }
 
+/// What is said of work that was done.
+fn remark<R: FileSystem + Eprint + AllocGlobal>(
+    rt: &R,
+    command: &Command<'_>,
+    printed: &str,
+    files: &mut RealFiles<'_, R>,
+) -> io::Result<()> {
+    match command {
+        Command::Check { policy } => warn(rt, policy, files),
+        Command::Learn { capture, out, .. } => {
+            if printed.ends_with(" 0\n") {
+                remark_on_dropped(rt, capture, files)?;
+            }
+            warn_of_learned(rt, out)
+        }
+        Command::Judge { capture, .. } if printed == "yes flows 0 commands 0\n" => {
+            remark_on_dropped(rt, capture, files)
+        }
+        Command::Packets { capture } if printed.contains(" dropped ") => {
+            remark_on_dropped(rt, capture, files)
+        }
+        Command::Run { policy, names } => remark_on_run(rt, policy, names, printed, files),
+        _ => Ok(()),
+    }
+}
+
 fn explain_command<R: FileSystem + Eprint + AllocGlobal>(
     rt: &R,
     command: &Command<'_>,
@@ -131,8 +161,6 @@ fn explain_command<R: FileSystem + Eprint + AllocGlobal>(
     files: &mut RealFiles<'_, R>,
 ) -> io::Result<()> {
     match (status, command) {
-        (0, Command::Check { policy }) => warn(rt, policy, files),
-        (0, Command::Learn { out, .. }) => warn_of_learned(rt, out),
         (3, _) => explain_fault(rt, files),
         (4, _) => {
             explain_fault(rt, files)?;
@@ -290,7 +318,7 @@ fn explain_policy<R: FileSystem + Eprint + AllocGlobal>(
 }
 
 /// The policy of a file and its text, if it can be read a second time.
-fn policy_again<R: FileSystem + AllocGlobal>(
+pub(crate) fn policy_again<R: FileSystem + AllocGlobal>(
     rt: &R,
     name: &str,
     files: &mut RealFiles<'_, R>,

@@ -1,0 +1,196 @@
+//! The remarks in words.
+
+use crate::dropped::Dropped;
+use crate::look::{Look, Misfits};
+use cf_run::Summary;
+use std::alloc::{AllocError, Global};
+use std::fmt::Write;
+
+/// A text that is put together piece by piece, and whether it has all that was put to it.
+#[derive(Drop)]
+struct Lines {
+    text: String,
+    is_whole: bool,
+}
+
+/// A piece of a line.
+#[derive(Clone, Copy)]
+enum Piece<'a> {
+    Words(&'a str),
+    Number(u64),
+}
+
+use Piece::{Number, Words};
+
+impl Lines {
+    fn new(alloc: Global) -> Lines {
+        Lines {
+            text: String::new(alloc),
+            is_whole: true,
+        }
+    }
+
+    fn finish(self) -> Result<String, AllocError> {
+        if self.is_whole {
+            Ok(self.text)
+        } else {
+            Err(AllocError)
+        }
+    }
+
+    /// Puts a line, behind the word with which each remark begins.
+    fn put(&mut self, pieces: &[Piece<'_>]) {
+        self.push("note: ");
+        for piece in pieces {
+            match piece {
+                Words(words) => self.push(words),
+                Number(number) => {
+                    self.is_whole = self.is_whole && write!(self.text, "{number}").is_ok();
+                }
+            }
+        }
+        self.push("\n");
+    }
+
+    fn push(&mut self, words: &str) {
+        self.is_whole = self.is_whole && self.text.push_str(words).is_ok();
+    }
+}
+
+/// A line for each reason for which records were dropped.
+pub fn dropped_text(alloc: Global, dropped: &Dropped) -> Result<String, AllocError> {
+    let mut lines = Lines::new(alloc);
+    put_dropped(&mut lines, dropped);
+    lines.finish()
+}
+
+/// What a run cannot know of its capture, a line each: nothing where there is nothing to say. `left` sessions never closed.
+pub fn run_text(
+    alloc: Global,
+    summary: &Summary,
+    look: &Look,
+    left: u64,
+) -> Result<String, AllocError> {
+    let mut lines = Lines::new(alloc);
+    put_dropped(&mut lines, &look.dropped);
+    put_outside(&mut lines, summary, look);
+    put_misfits(&mut lines, summary, &look.above, ABOVE);
+    put_misfits(&mut lines, summary, &look.beyond, BEYOND);
+    if left > 0 {
+        lines.put(&[
+            Number(left),
+            Words(" of "),
+            Number(summary.sessions),
+            Words(LEFT_OPEN),
+        ]);
+    }
+    if look.above.segments > 0 || look.beyond.segments > 0 || look.amid > 0 {
+        lines.put(&[Words(JUDGE)]);
+    }
+    lines.finish()
+}
+
+const ABOVE: &str =
+    " acknowledged what the box had not sent: the capture was not recorded at the box, \
+    but at a span port or on a host, where both hosts answer each other";
+
+const BEYOND: &str =
+    " stood beyond the window that the box had told: the hosts agreed on window scaling, \
+    which the box does not, or the capture was not recorded at the box";
+
+const LEFT_OPEN: &str =
+    " sessions never closed: the capture ends before they do, or has not all of their packets";
+
+const AMID: &str = " came without the SYN of their connection: the capture begins amid it, \
+    so no session has them";
+
+const FOREIGN: &str = " did not go between a client and an asset of POLICY: \
+    no asset has such an address and port";
+
+const REST: &str = " came behind a cut, long behind a closing, or for a session that was not begun";
+
+const JUDGE: &str = "for a recording from a span port or a host use 'cmdwall judge POLICY CAPTURE' \
+    (docs/RUN.md)";
+
+fn put_misfits(lines: &mut Lines, summary: &Summary, misfits: &Misfits, meaning: &str) {
+    if misfits.segments == 0 {
+        return;
+    }
+    lines.put(&[
+        Number(misfits.segments),
+        Words(if misfits.segments == 1 {
+            " segment in "
+        } else {
+            " segments in "
+        }),
+        Number(misfits.sessions),
+        Words(" of "),
+        Number(summary.sessions),
+        Words(" sessions"),
+        Words(meaning),
+    ]);
+}
+
+/// Packets of no session, by why.
+fn put_outside(lines: &mut Lines, summary: &Summary, look: &Look) {
+    let rest = summary
+        .outside
+        .saturating_sub(look.amid)
+        .saturating_sub(look.foreign);
+    let packets = summary.records.saturating_sub(summary.dropped);
+    let parts = [
+        (look.amid, AMID),
+        (look.foreign, FOREIGN),
+        (rest, REST),
+        (summary.full, FULL),
+    ];
+    for (count, meaning) in parts {
+        if count > 0 {
+            lines.put(&[
+                Number(count),
+                Words(" of "),
+                Number(packets),
+                Words(" packets"),
+                Words(meaning),
+            ]);
+        }
+    }
+}
+
+const FULL: &str = " would have begun a session while 256 others were open, and began none";
+
+fn put_dropped(lines: &mut Lines, dropped: &Dropped) {
+    for (place, count) in dropped.counts.iter().enumerate() {
+        if *count > 0 {
+            lines.put(&[
+                Number(*count),
+                Words(" of "),
+                Number(dropped.records),
+                Words(" records dropped: "),
+                Words(reason_words(place)),
+            ]);
+        }
+    }
+}
+
+/// What the records of a reason are, and what helps.
+fn reason_words(place: usize) -> &'static str {
+    match place {
+        0 => "IPv6, of which the box knows nothing",
+        1 =>
+            "frames with a VLAN tag (802.1Q); record on the VLAN's own interface, or where the tag is off",
+        2 => "frames with a service tag (802.1ad); record where both tags are off",
+        3 => "ARP, which carries no commands",
+        4 => "frames of other types, or cut within their header",
+        5 => "cut, as by a snap length; record whole packets, as 'tcpdump -s 0' does",
+        6 => "an IPv4 header whose lengths cannot be",
+        7 =>
+            "a wrong sum over the IPv4 header; record with offload off ('ethtool -K INTERFACE tx off'), or off the host",
+        8 => "fragments of IPv4 datagrams, which the box does not join",
+        9 => "no TCP, as UDP or ICMP",
+        10 => "a TCP header that is cut or cannot be",
+        _ =>
+            "a wrong TCP sum, as where a card fills it in behind the recording; record with offload off \
+            ('ethtool -K INTERFACE tx off'), or off the host",
+    }
+}
