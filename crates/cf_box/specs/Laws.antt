@@ -1,6 +1,6 @@
 -- Laws over every run and every capture: HasLaws. This project's own.
-use Rattle.cf_isolation.specs.Isolated.{CapturesAreIsolated, CapturesHoldSessions}
-use Rattle.cf_isolation.specs.Logged.{LogsAreIsolated, LogsHoldSessions}
+use Rattle.cf_isolation.specs.Isolated.{CapturesAreIsolated, CapturesHoldSessions, CapturesHoldToTheNext}
+use Rattle.cf_isolation.specs.Logged.{LogsAreIsolated, LogsHoldSessions, LogsHoldToTheNext}
 use Rattle.cf_pcapng.specs.Calls.{GiveBlocks, HaveOneListOfBlocks}
 use Rattle.cf_readback.specs.ReadBack.{RunsAreReadBack}
 use Rattle.cf_refusals.specs.Told.{RefusedAreTold}
@@ -13,11 +13,14 @@ pub record HasLaws : Type 0 where
   pub isolated : RunsIsolateSessions
   -- the output capture of a run is read as what the run sent
   pub read_back : RunsAreReadBack
-  -- its records between a session's endpoints, in the session's time, are those that the session sent, whatever else the capture holds
+  -- its records between a session's endpoints, in the session's time, are those that the session sent, and whatever else the capture
+  -- holds, they are the same
   pub records_held : CapturesHoldSessions
+  pub records_to_the_next : CapturesHoldToTheNext
   pub records_isolated : CapturesAreIsolated
-  -- and the lines of the log that name it those that it logged
+  -- so it is of the lines of the log that name it
   pub lines_held : LogsHoldSessions
+  pub lines_to_the_next : LogsHoldToTheNext
   pub lines_isolated : LogsAreIsolated
   -- each refused command has its line and, but in three cases, its reply
   pub told : RefusedAreTold

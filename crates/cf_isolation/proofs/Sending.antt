@@ -13,7 +13,7 @@ use Rattle.cf_session.specs.Sent.{Sent, at, sent_first, sent_second}
 use Rattle.cf_session.specs.Session.{Flow, SessionEvent, client_of}
 use Rattle.cf_view.specs.declared.Endpoint.{Endpoint}
 use Rattle.cf_view.specs.declared.Side.{Side}
-use Rattle.cf_run.specs.Isolation.{NoneBegins, begins_theirs, goes_to_theirs, is_flow_of, sent_by, sent_over, ticks_of}
+use Rattle.cf_run.specs.Isolation.{HasSession, NoneBegins, begins_theirs, goes_to_theirs, is_flow_of, sent_by, sent_over, ticks_of}
 use Rattle.cf_run.specs.Selected.{Rises, last_moment}
 use Rattle.cf_run.specs.Sessions.{Each, IsRight as IsRightSession, SessionsAreRight, gone_after}
 use Rattle.cf_run.specs.Summary.{found}
