@@ -228,7 +228,12 @@ sessions cut.
 
 CAPTURE has what reached the box: the packets of clients and controllers as they came to its two
 ports. In a recording from between two hosts, or of one of them, they acknowledge what the box
-would not have sent, so that little of it counts (docs/RUN.md).
+would not have sent, so that little of it counts: 'judge' is the command for a recording.
+
+Standard error says what cannot be known of CAPTURE, in lines 'cmdwall: note: ..' behind the
+counts: segments that acknowledge what the box had not sent, or stand beyond its window, and
+in how many sessions; sessions that never closed; packets without the SYN of their connection;
+records dropped, by reason (docs/RUN.md). All four names are those of files then, not of pipes.
 
 example:
   cmdwall run examples/waterworks.toml examples/waterworks.pcap out.pcap log.txt
