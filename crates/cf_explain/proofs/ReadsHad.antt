@@ -1,17 +1,16 @@
 -- A rule that states no values has the reads of function 23 that it names.
-use Rattle.std.proofs.Common.{◌≡◌, ℕ, zero, suc, ◌+◌, ◌<◌, ◌&&◌, pos, true, List, [], ◌∷◌, Some, None, refl, sym, ap, ◌∙◌, subst, arith}
+use Rattle.std.proofs.Common.{◌≡◌, ℕ, zero, suc, ◌+◌, ◌<◌, true, List, [], ◌∷◌, Some, None, refl, ap, arith}
 use Rattle.std.proofs.lemmas.Bool.{and_from}
 use Rattle.cf_view.specs.declared.base.Act.{Act}
 use Rattle.cf_view.specs.Octets.{IsOctets}
 use Rattle.cf_policy.specs.declared.policy.Protocol.{Protocol}
-use Rattle.cf_policy.specs.declared.policy.Protocol.TheVariants.{Modbus}
 use Rattle.cf_policy.specs.declared.policy.Rule.{Rule}
 use Rattle.cf_policy.specs.declared.policy.Span.{Span}
-use Rattle.cf_policy.specs.Verdict.{has_act, takes, takes_value}
-use Rattle.cf_acts.specs.Commands.{IsOfCommand, IsOfRequest}
+use Rattle.cf_policy.specs.Verdict.{takes_value}
+use Rattle.cf_acts.specs.Commands.{IsOfRequest}
 use Rattle.cf_modbus.specs.Acts.{acts}
 use Rattle.cf_modbus.specs.Request.{IsRead, RequestValue, SpellsRequest, body_of, form_of}
-use Rattle.cf_explain.specs.Reads.{HasReadAt, HasReads, NamesReads}
+use Rattle.cf_explain.specs.Reads.{HasReads, NamesReads}
 
 -- a request of function 23 that reads one register
 abbrev reading : ℕ → RequestValue

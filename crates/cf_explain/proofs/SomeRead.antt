@@ -1,7 +1,6 @@
 -- A rule within its ranges that names the reads of function 23, and has them, has one.
-use Rattle.std.proofs.Common.{◌≡◌, ℕ, ◌<◌, ◌≤◌, ℤ, pos, negsuc, ◌≤ℤ◌, int_le, ◌⊎◌, inl, inr, ◌||◌, true, false, List, [], ◌∷◌, Some, None, refl, sym, subst, ap, ◌∙◌, arith}
+use Rattle.std.proofs.Common.{◌≡◌, ℕ, ◌<◌, ℤ, pos, negsuc, ◌≤ℤ◌, int_le, ◌⊎◌, inl, inr, ◌||◌, true, false, List, [], ◌∷◌, Some, None, refl, sym, subst, arith}
 use Rattle.std.specs.List.{list_any}
-use Rattle.std.specs.Prelude.{All, AllPairs}
 use Rattle.std.proofs.lemmas.Int.{ints}
 use Rattle.std.proofs.lemmas.Bool.{and_from, and_parts, or_cases, or_left, true≢false}
 use Rattle.std.proofs.lemmas.List.Elements.{All-get_or}
@@ -9,7 +8,6 @@ use Rattle.std.proofs.lemmas.List.Folds.{Any-from_list_any, list_any-from_Any}
 use Rattle.cf_policy.specs.Verdict.{covers, takes}
 use Rattle.cf_policy.specs.Within.{AreSpansWithin, IsRuleWithin, IsSpanWithin}
 use Rattle.cf_policy.specs.declared.policy.Asset.{Asset}
-use Rattle.cf_policy.specs.declared.policy.Protocol.{Protocol}
 use Rattle.cf_policy.specs.declared.policy.Protocol.TheVariants.{Modbus}
 use Rattle.cf_policy.specs.declared.policy.Rule.{Rule}
 use Rattle.cf_policy.specs.declared.policy.Span.{Span}
@@ -17,8 +15,8 @@ use Rattle.cf_acts.specs.Acts.{between, kind, kinds, modbus_kind, up_to}
 use Rattle.cf_acts.specs.declared.Groups.TheVariants as groups
 use Rattle.cf_acts.specs.declared.Kind.{Kind}
 use Rattle.cf_explain.specs.Meets.{meets, overlaps, reaches, reaches_groups, reaches_values}
-use Rattle.cf_explain.specs.Reads.{HasReads, HasSomeRead, NamesReads}
-use Rattle.cf_explain.specs.Rules.{IsMet, IsSound}
+use Rattle.cf_explain.specs.Reads.{HasSomeRead, NamesReads}
+use Rattle.cf_explain.specs.Rules.{IsSound}
 
 natural : (z : ℤ) → pos 0 ≤ℤ z → (n : ℕ) × (z ≡ pos n)
 natural (pos n) h = (n, refl)

@@ -22,7 +22,9 @@ pub record HasReadAt (rule : Rule) (client point : ℕ) : Type 0 where
 
 -- so it is for each client and at each address that the rule has
 abbrev pub HasReads : Rule → Type 0
-HasReads rule = (client point : ℕ) → takes rule.clients (pos client) ≡ true → takes rule.points (pos point) ≡ true → point < 65536 → HasReadAt rule client point
+HasReads rule =
+    (client point : ℕ) → takes rule.clients (pos client) ≡ true → takes rule.points (pos point) ≡ true → point < 65536 →
+    HasReadAt rule client point
 
 -- some command with the function has a read that is the rule's
 pub record HasSomeRead (rule : Rule) : Type 0 where

@@ -39,7 +39,8 @@ pub record NextEvent {flow : Flow} {events : List Event} (has : HasSession flow 
   pub are : has.after ≡ after ++ next ∷ []
 
 -- two sessions have one time
-pub record HaveOneTime {events others : List Event} (flow : Flow) (one : HasSession flow events) (other : HasSession flow others) : Type 0 where
+pub record HaveOneTime {events others : List Event} (flow : Flow)
+    (one : HasSession flow events) (other : HasSession flow others) : Type 0 where
   pub began : began_at one ≡ began_at other
   pub seen : seen_until one ≡ seen_until other
 
@@ -52,28 +53,32 @@ sent_in_time {events} flow has = sent_between (client_of flow) flow.asset.endpoi
 -- it is what the session's own events sent, in their order
 abbrev pub SentIsOfSessions : Type 0
 SentIsOfSessions =
-    (assets : List Asset) (limit : ℕ) (given : List Input) (out log : List ℕ) (summary : Summary) (run : IsRun assets limit given out log summary) →
+    (assets : List Asset) (limit : ℕ) (given : List Input) (out log : List ℕ) (summary : Summary)
+    (run : IsRun assets limit given out log summary) →
     (flow : Flow) (has : HasSession flow run.events) → sent_in_time flow has ≡ session_sent flow has
 
 -- what a session sends in the first half of the event that comes next
 abbrev pub sent_last : {events : List Event} → (flow : Flow) → (has : HasSession flow events) → NextEvent has → List Sent
 sent_last flow has behind =
-    flat_map sent_first
-    (ticks_of (client_of flow) flow.asset.endpoint (kept (tick_of behind.next.input) (table_after (has.later ++ has.first ∷ has.earlier))) behind.next.ticks)
+    let table = kept (tick_of behind.next.input) (table_after (has.later ++ has.first ∷ has.earlier)) in
+    flat_map sent_first (ticks_of (client_of flow) flow.asset.endpoint table behind.next.ticks)
 
 -- up to that half, so up to the packet that begins the next session of theirs, it is what the session's own events sent
 abbrev pub SentToTheNext : Type 0
 SentToTheNext =
-    (assets : List Asset) (limit : ℕ) (given : List Input) (out log : List ℕ) (summary : Summary) (run : IsRun assets limit given out log summary) →
+    (assets : List Asset) (limit : ℕ) (given : List Input) (out log : List ℕ) (summary : Summary)
+    (run : IsRun assets limit given out log summary) →
     (flow : Flow) (has : HasSession flow run.events) (behind : NextEvent has) →
-    sent_between (client_of flow) flow.asset.endpoint (began_at has) (tick_of behind.next.input) (sent run.events) ≡ session_sent flow has ++ sent_last flow has behind
+    sent_between (client_of flow) flow.asset.endpoint (began_at has) (tick_of behind.next.input) (sent run.events)
+    ≡ session_sent flow has ++ sent_last flow has behind
 
 -- two runs of one policy with equal moments: a session of the one and a session of the other, of the same client and asset, which
 -- began in the same event by the same packet, have one time up to the last event before which they are matched alike, and in it the
 -- same was sent between their endpoints. The rest of the two captures may differ in every way
 abbrev pub SentIsIsolated : Type 0
 SentIsIsolated =
-    (assets : List Asset) (limit : ℕ) (given other_given : List Input) (out other_out log other_log : List ℕ) (summary other_summary : Summary)
+    (assets : List Asset) (limit : ℕ) (given other_given : List Input) (out other_out log other_log : List ℕ)
+    (summary other_summary : Summary)
     (run : IsRun assets limit given out log summary) (other_run : IsRun assets limit other_given other_out other_log other_summary) →
     moments_of given ≡ moments_of other_given →
     (flow : Flow) (one : HasSession flow run.events) (other : HasSession flow other_run.events) →
@@ -96,22 +101,25 @@ pub record IsInTime (given : List Input) (out : List ℕ) : Type 0 where
 -- the session's own events sent, in their order
 abbrev pub CapturesHoldSessions : Type 0
 CapturesHoldSessions =
-    (assets : List Asset) (limit : ℕ) (given : List Input) (out log : List ℕ) (summary : Summary) (run : IsRun assets limit given out log summary) → IsInTime given out →
-    (records : List Record) → HasRecords out records → (flow : Flow) (has : HasSession flow run.events) →
+    (assets : List Asset) (limit : ℕ) (given : List Input) (out log : List ℕ) (summary : Summary)
+    (run : IsRun assets limit given out log summary) → IsInTime given out → (records : List Record) → HasRecords out records →
+    (flow : Flow) (has : HasSession flow run.events) →
     records_between (client_of flow) flow.asset.endpoint (began_at has) (seen_until has) records ≡ map record_by (session_sent flow has)
 
 -- the same up to the first half of the event that comes next
 abbrev pub CapturesHoldToTheNext : Type 0
 CapturesHoldToTheNext =
-    (assets : List Asset) (limit : ℕ) (given : List Input) (out log : List ℕ) (summary : Summary) (run : IsRun assets limit given out log summary) → IsInTime given out →
-    (records : List Record) → HasRecords out records → (flow : Flow) (has : HasSession flow run.events) (behind : NextEvent has) →
+    (assets : List Asset) (limit : ℕ) (given : List Input) (out log : List ℕ) (summary : Summary)
+    (run : IsRun assets limit given out log summary) → IsInTime given out → (records : List Record) → HasRecords out records →
+    (flow : Flow) (has : HasSession flow run.events) (behind : NextEvent has) →
     records_between (client_of flow) flow.asset.endpoint (began_at has) (tick_of behind.next.input) records
     ≡ map record_by (session_sent flow has ++ sent_last flow has behind)
 
 -- two sessions as above: the two output captures have the same records between their endpoints in that time
 abbrev pub CapturesAreIsolated : Type 0
 CapturesAreIsolated =
-    (assets : List Asset) (limit : ℕ) (given other_given : List Input) (out other_out log other_log : List ℕ) (summary other_summary : Summary)
+    (assets : List Asset) (limit : ℕ) (given other_given : List Input) (out other_out log other_log : List ℕ)
+    (summary other_summary : Summary)
     (run : IsRun assets limit given out log summary) (other_run : IsRun assets limit other_given other_out other_log other_summary) →
     IsInTime given out → IsInTime other_given other_out → moments_of given ≡ moments_of other_given →
     (records others : List Record) → HasRecords out records → HasRecords other_out others →

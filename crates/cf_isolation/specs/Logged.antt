@@ -27,30 +27,36 @@ pub record IsRead (input : Input) : Type 0 where
 -- under a policy whose assets have distinct names they are the lines that the session's own events logged, in their order
 abbrev pub LogsHoldSessions : Type 0
 LogsHoldSessions =
-    (assets : List Asset) (limit : ℕ) (given : List Input) (out log : List ℕ) (summary : Summary) (run : IsRun assets limit given out log summary) →
-    AreAssetsWithin assets → AllByRecursion IsRead given → (flow : Flow) (has : HasSession flow run.events) → logged_in_time flow has ≡ session_logged flow has
+    (assets : List Asset) (limit : ℕ) (given : List Input) (out log : List ℕ) (summary : Summary)
+    (run : IsRun assets limit given out log summary) → AreAssetsWithin assets → AllByRecursion IsRead given →
+    (flow : Flow) (has : HasSession flow run.events) → logged_in_time flow has ≡ session_logged flow has
 
 -- what a session logs in the first half of the event that comes next
 abbrev pub logged_last : {events : List Event} → (flow : Flow) → (has : HasSession flow events) → NextEvent has → List (List ℕ)
 logged_last flow has behind =
     let table = kept (tick_of behind.next.input) (table_after (has.later ++ has.first ∷ has.earlier)) in
-    logged_ticks (filter (is_between (client_of flow) flow.asset.endpoint) table) (ticks_of (client_of flow) flow.asset.endpoint table behind.next.ticks)
+    logged_ticks (filter (is_between (client_of flow) flow.asset.endpoint) table)
+    (ticks_of (client_of flow) flow.asset.endpoint table behind.next.ticks)
 
 -- so it is too up to that half, so up to the packet that begins the next session of theirs
 abbrev pub LogsHoldToTheNext : Type 0
 LogsHoldToTheNext =
-    (assets : List Asset) (limit : ℕ) (given : List Input) (out log : List ℕ) (summary : Summary) (run : IsRun assets limit given out log summary) →
-    AreAssetsWithin assets → AllByRecursion IsRead given → (flow : Flow) (has : HasSession flow run.events) (behind : NextEvent has) →
-    lines_naming (client_of flow) flow.asset.name (began_at has) (tick_of behind.next.input) (logged run.events) ≡ session_logged flow has ++ logged_last flow has behind
+    (assets : List Asset) (limit : ℕ) (given : List Input) (out log : List ℕ) (summary : Summary)
+    (run : IsRun assets limit given out log summary) → AreAssetsWithin assets → AllByRecursion IsRead given →
+    (flow : Flow) (has : HasSession flow run.events) (behind : NextEvent has) →
+    lines_naming (client_of flow) flow.asset.name (began_at has) (tick_of behind.next.input) (logged run.events)
+    ≡ session_logged flow has ++ logged_last flow has behind
 
 -- two runs of one policy with equal moments: a session of the one and a session of the other, of the same client and asset, which
 -- began in the same event by the same packet, have one time up to the last event before which they are matched alike, and in it the
 -- two logs have the same lines that name them, in the same order. The rest of the two captures may differ in every way
 abbrev pub LogsAreIsolated : Type 0
 LogsAreIsolated =
-    (assets : List Asset) (limit : ℕ) (given other_given : List Input) (out other_out log other_log : List ℕ) (summary other_summary : Summary)
+    (assets : List Asset) (limit : ℕ) (given other_given : List Input) (out other_out log other_log : List ℕ)
+    (summary other_summary : Summary)
     (run : IsRun assets limit given out log summary) (other_run : IsRun assets limit other_given other_out other_log other_summary) →
-    AreAssetsWithin assets → AllByRecursion IsRead given → AllByRecursion IsRead other_given → moments_of given ≡ moments_of other_given →
+    AreAssetsWithin assets → AllByRecursion IsRead given → AllByRecursion IsRead other_given →
+    moments_of given ≡ moments_of other_given →
     (flow : Flow) (one : HasSession flow run.events) (other : HasSession flow other_run.events) →
     length one.earlier ≡ length other.earlier → AreMatchedAlike assets flow one other →
     HaveOneTime flow one other × (logged_in_time flow one ≡ logged_in_time flow other)

@@ -1,5 +1,6 @@
 //! Laws of a run's files: each is the contract of a function that does nothing.
-ghost use Rattle.cf_isolation.specs.Isolated.{CapturesAreIsolated, CapturesHoldSessions, CapturesHoldToTheNext, SentIsIsolated, SentIsOfSessions, SentToTheNext};
+ghost use Rattle.cf_isolation.specs.Isolated.{CapturesAreIsolated, CapturesHoldSessions, CapturesHoldToTheNext};
+ghost use Rattle.cf_isolation.specs.Isolated.{SentIsIsolated, SentIsOfSessions, SentToTheNext};
 ghost use Rattle.cf_isolation.specs.Logged.{LogsAreIsolated, LogsHoldSessions, LogsHoldToTheNext};
 
 use cf_readback::runs_are_read_back;

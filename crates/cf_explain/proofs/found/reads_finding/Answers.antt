@@ -1,4 +1,4 @@
-use Rattle.std.proofs.Common.{◌≡◌, ◌∙◌, true, ap, sym}
+use Rattle.std.proofs.Common.{◌∙◌, sym}
 use Rattle.std.proofs.lemmas.Bool.{true≢false}
 use Rattle.cf_explain.proofs.ReadsHad.{has_reads}
 use Rattle.cf_explain.proofs.found.reads_finding.Goals.{then-ne-via-then-ne, then-ne-via-else-ne+then-not-wants_value, then-ne-via-else-ne+else-not-wants_value+then-not-takes}
