@@ -1,7 +1,7 @@
 -- Acts of commands are in the regions of their code's kinds.
-use Rattle.std.proofs.Common.{◌≡◌, Bool, ℕ, ◌^◌, ◌+◌, ◌<◌, pos, int_le, true, false, List, [], ◌∷◌, Some, take, slice_get, get_or, length-take, cond, refl, sym, subst, ap, ◌∙◌, arith}
+use Rattle.std.proofs.Common.{◌≡◌, Bool, ℕ, ◌^◌, ◌+◌, ◌<◌, ℤ, pos, ◌≤ℤ◌, int_le, true, false, List, [], ◌∷◌, Some, take, slice_get, get_or, length-take, cond, refl, sym, subst, ap, ◌∙◌, arith}
 use mathlib.Core.Logic.{⊎_elim}
-use Rattle.std.specs.List.{flat_map, filter, list_any}
+use Rattle.std.specs.List.{flat_map, filter, list_all, list_any}
 use Rattle.std.proofs.lemmas.Int.{ints}
 use Rattle.std.proofs.lemmas.Bool.{true≢false, and_parts, and_from, or_cases, or_left, or_right, cases_lt}
 use Rattle.std.proofs.lemmas.List.{get_or-take}
@@ -18,6 +18,7 @@ use Rattle.cf_acts.specs.declared.Groups.{Groups}
 use Rattle.cf_acts.specs.declared.Groups.TheVariants as groups
 use Rattle.cf_acts.specs.declared.Kind.{Kind}
 use Rattle.cf_acts.specs.Acts.{between, up_to, has_group, has_value, is_of_kind, kinds}
+use Rattle.cf_acts.specs.Commands.{IsOfCommand}
 use Rattle.cf_acts.proofs.OfCommands.{command_acts_in}
 use Rattle.cf_acts.proofs.Served.{kinds_end}
 use Rattle.std.proofs.lemmas.Map.Keys.{any_passes_from_place}
@@ -131,3 +132,23 @@ cover_has p earlier rule Several h = h
 -- a rule that was read at a number is the one that stands there
 pub read_is : (rules read : List Rule) (n : ℕ) (q : Rule) → read ≡ rules → q ≡ get_or read n q → q ≡ get_or rules n q
 read_is rules read n q lent is = is ∙ ap (λ xs. get_or xs n q) lent
+
+kind_high : (ks : List Kind) (act : Act) (high : ℤ) → list_all (λ k. int_le k.points.high high) ks ≡ true → list_any (is_of_kind act) ks ≡ true
+    → pos act.point ≤ℤ high
+kind_high [] act high all some = absurd (true≢false (sym some))
+kind_high (k ∷ ks) act high all some =
+    let each = and_parts (int_le k.points.high high) (list_all (λ q. int_le q.points.high high) ks) all in
+    ⊎_elim
+    (λ here.
+    let group = and_parts (has_group k.groups (pos act.group)) _ here in
+    let place = and_parts (covers k.points (pos act.point)) (has_value k.values act.value) group.1 in
+    let ends = and_parts (int_le k.points.low (pos act.point)) (int_le (pos act.point) k.points.high) place.0 in
+    grind (arith, ints, each.0, ends.1))
+    (λ later. kind_high ks act high each.1 later)
+    (or_cases (is_of_kind act k) (list_any (is_of_kind act) ks) some)
+
+-- no act of a command with the code has a point above one that no kind's points go above
+pub point_high : (p : Protocol) (code : ℕ) (high : ℤ) → list_all (λ k. int_le k.points.high high) (kinds p code) ≡ true
+    → (act : Act) → act.code ≡ code → IsOfCommand p act → pos act.point ≤ℤ high
+point_high p code high all act same of =
+    kind_high (kinds p code) act high all (subst (λ c. list_any (is_of_kind act) (kinds p c) ≡ true) same (command_acts_in p act of))

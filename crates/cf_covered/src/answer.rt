@@ -15,9 +15,9 @@ const MOST_LOOKS: u32 = 1_000_000;
 /// What has all that a later rule has.
 #[derive(Clone, Copy, PartialEq, Eq, Debug)]
 pub enum Cover {
-    /// The first rule that has it alone, by its number from 0.
+    /// An earlier rule alone, by its number from 0.
     Rule(usize),
-    /// The rules before it, but none alone.
+    /// The rules before it together.
     Rules,
 }
 
