@@ -165,8 +165,13 @@ p:18:1: warning: asset 1 "x", rule 3 "c" never refuses anything: the rules befor
 .
 
 lists: codes = [5] / points = ["0..4"] | more: [[asset.rule]] / name = "b" / action = "refuse" / codes = [5] / points = ["5..9"] / [[asset.rule]] / name = "c" / action = "refuse" / codes = [5] / points = ["3..8"]
-p:18:1: warning: asset 1 "x", rule 3 "c" never refuses anything: the rules before it together decide all that it names, and some of
-    them allow it
+p:18:1: warning: asset 1 "x", rule 3 "c" never refuses anything: the rules before it together decide all that it names, and not all
+    of them refuse
+.
+
+action: action = "refuse" | lists: codes = [5] / points = ["5"] | more: [[asset.rule]] / name = "b" / action = "allow" / codes = [5] / points = ["0..9"] / [[asset.rule]] / name = "c" / action = "refuse" / codes = [5] / points = ["3..8"]
+p:18:1: warning: asset 1 "x", rule 3 "c" never refuses anything: rule 2 "b" before it allows all that it names, but for what still
+    earlier rules refuse
 .
 
 lists: codes = [5] / values = ["0"] | more: [[asset.rule]] / name = "b" / action = "allow" / codes = [5] / values = ["1"] / [[asset.rule]] / name = "c" / action = "allow" / codes = [5] / most = 1 / seconds = 1
