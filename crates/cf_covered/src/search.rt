@@ -14,25 +14,37 @@ use std::alloc::{AllocError, Global};
 /// One more than the highest code of a rule.
 const CODES: u16 = 256;
 
-/// Whether each act of a command that a rule has is one of the others' too. `false` also where more than so many regions of acts of
-/// a code would have to be looked at.
+/// What a search says.
+#[derive(Clone, Copy)]
+pub(crate) enum Search {
+    /// The others have all that the rule has.
+    All,
+    /// The rule has an act that none of the others has.
+    Alone,
+    /// More regions would have to be looked at than may be.
+    Stopped,
+}
+
+/// Whether each act of a command that a rule has is one of the others' too. Of each code at most so many regions of acts are looked
+/// at.
 pub(crate) fn have_all_of(
     alloc: Global,
     protocol: Protocol,
     others: &[&Rule],
     rule: &Rule,
     steps: u32,
-) -> Result<bool, AllocError>
-    ensures { IfOk result (λ all. all ≡ true → HaveAllOf protocol (map (λ r. r.now) others.now) rule.now) }
+) -> Result<Search, AllocError>
+    ensures { IfOk result (λ found. found ≡ Search.All → HaveAllOf protocol (map (λ r. r.now) others.now) rule.now) }
 {
     for code in 0..CODES {
         match have_code_of(alloc, protocol, others, rule, code, steps) {
-            Ok(true) => {}
-            Ok(false) => return Ok(false),
+            Ok(Search::All) => {}
+            Ok(Search::Alone) => return Ok(Search::Alone),
+            Ok(Search::Stopped) => return Ok(Search::Stopped),
             Err(fault) => return Err(fault),
         }
     }
-    Ok(true)
+    Ok(Search::All)
 }
 
 fn have_code_of(
@@ -42,11 +54,11 @@ fn have_code_of(
     rule: &Rule,
     code: u16,
     steps: u32,
-) -> Result<bool, AllocError>
-    ensures { IfOk result (λ all. all ≡ true → HaveCodeOf protocol (map (λ r. r.now) others.now) rule.now code) }
+) -> Result<Search, AllocError>
+    ensures { IfOk result (λ found. found ≡ Search.All → HaveCodeOf protocol (map (λ r. r.now) others.now) rule.now code) }
 {
     if !takes(&rule.codes, i64::from(code)) {
-        return Ok(true);
+        return Ok(Search::All);
     }
     let regions = regions_of(alloc, kinds(protocol, code))?;
     are_settled(regions, others, rule, code, steps)
@@ -60,20 +72,20 @@ fn are_settled(
     rule: &Rule,
     code: u16,
     steps: u32,
-) -> Result<bool, AllocError>
-    ensures { IfOk result (λ all. all ≡ true → AreSettled rule.now (map (λ r. r.now) others.now) code regions.items) }
+) -> Result<Search, AllocError>
+    ensures { IfOk result (λ found. found ≡ Search.All → AreSettled rule.now (map (λ r. r.now) others.now) code regions.items) }
 {
     let mut left = regions;
     for _ in 0..steps {
         match left.pop() {
-            None => return Ok(true),
+            None => return Ok(Search::All),
             Some(region) => match settled_part(others, rule, code, &region) {
-                None => return Ok(false),
+                None => return Ok(Search::Alone),
                 Some(part) => push_rest(&mut left, &region, &part)?,
             },
         }
     }
-    Ok(false)
+    Ok(Search::Stopped)
 }
 
 /// A part of a region, from its lowest act on, that is settled; none where the rule alone has the lowest.
