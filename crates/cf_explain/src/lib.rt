@@ -11,6 +11,7 @@ mod covered;
 mod difference;
 mod entries;
 mod found;
+mod gathered;
 mod kinds;
 mod link;
 mod nearest;

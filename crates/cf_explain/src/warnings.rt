@@ -1,11 +1,13 @@
 //! What `check` warns of: sets that no rule names, and rules that decide nothing, or less than they seem to.
-use crate::found::{What, findings};
+use crate::found::What;
+use crate::gathered::{Silence, Told, Warned, gathered, silence_about};
 use crate::page::Page;
 use crate::policy::push_rule_place;
 use crate::quote::push_quoted;
 use crate::sets::{is_named, name_of, sets_of, twin_of};
 use crate::unmet::{Unmet, reaches_place};
 use cf_acts::{Groups, Kind, kinds};
+use cf_covered::{Cover, Slip};
 use cf_policy::{Action, Asset, Policy, Protocol, Rule, Span};
 use std::alloc::{AllocError, Global};
 use toml::{Table, Value};
@@ -23,9 +25,9 @@ struct Source<'a> {
 /// A rule that is warned of, with its number and that of its asset, both from 1.
 #[derive(Clone, Copy)]
 struct Subject<'a> {
-    asset_number: u32,
+    asset_number: u64,
     asset: &'a Asset,
-    rule_number: u32,
+    rule_number: u64,
     rule: &'a Rule,
 }
 
@@ -36,9 +38,10 @@ struct Report {
     count: u32,
 }
 
-/// A line for each warning about a policy that was read from a text: a set that no rule names, or that has the points of an earlier
-/// one; a rule that no command meets, a code that none brings, values where reads have none, and a rule that an earlier one covers. Twenty are written out, and behind them how many
-/// more there are. The text is empty where there is none.
+/// A line for each warning about a policy that was read from a text: first the refusals behind rules that allow all that they name;
+/// then a set that no rule names, or that has the points of an earlier one; then a rule that no command meets, a code that none
+/// brings, values where reads have none, a rule that earlier ones cover, points that never come, and likely slips. Twenty are
+/// written out, and behind them how many more there are. The text is empty where there is none.
 pub fn policy_warnings(
     alloc: Global,
     file: &str,
@@ -50,15 +53,13 @@ pub fn policy_warnings(
         lines: Page::new(alloc),
         count: 0,
     };
+    let all = gathered(alloc, policy)?;
+    push_rules(&mut report, &source, policy, &all, Order::Silent);
     match toml::table_from_slice(alloc, text) {
         Ok(document) => push_sets(&mut report, &source, &document),
         Err(_) => report.lines.run_out(),
     }
-    let mut number = 0u32;
-    for asset in policy.assets.as_slice() {
-        number = number.saturating_add(1);
-        push_asset(&mut report, &source, number, asset);
-    }
+    push_rules(&mut report, &source, policy, &all, Order::Other);
     push_more(&mut report, file);
     report.lines.finish()
 }
@@ -127,50 +128,194 @@ fn push_set_name(out: &mut Page, number: usize, set: &Value) {
     push_quoted(out, name_of(set));
 }
 
-/// The warnings about an asset's rules.
-fn push_asset(report: &mut Report, source: &Source<'_>, asset_number: u32, asset: &Asset) {
-    let rules = asset.rules.as_slice();
-    let mut rule_number = 0u32;
-    for number in 0..rules.len() {
-        rule_number = rule_number.saturating_add(1);
-        let subject = Subject {
-            asset_number,
-            asset,
-            rule_number,
-            rule: &rules[number],
-        };
-        match findings(report.lines.alloc, asset, number) {
-            Ok(found) => push_rule(report, source, &subject, found.as_slice()),
-            Err(_) => report.lines.run_out(),
+/// Which warnings about rules are written.
+#[derive(Clone, Copy, PartialEq, Eq)]
+enum Order {
+    /// Refusals behind rules that allow.
+    Silent,
+    /// The others.
+    Other,
+}
+
+/// The warnings about rules, of one order.
+fn push_rules(
+    report: &mut Report,
+    source: &Source<'_>,
+    policy: &Policy,
+    all: &[Warned],
+    order: Order,
+) {
+    for warned in all {
+        if let Some(subject) = subject_of(policy, warned) {
+            let silence = silence_about(subject.asset, warned);
+            if silence.is_some() == (order == Order::Silent) {
+                push_rule(report, source, &subject, warned.told, silence);
+            }
         }
     }
 }
 
-/// The warnings about one rule.
-fn push_rule(report: &mut Report, source: &Source<'_>, subject: &Subject<'_>, found: &[What]) {
-    for what in found {
-        if report.count < MOST {
-            push_warning(&mut report.lines, source, subject, *what);
-        }
-        report.count = report.count.saturating_add(1);
-    }
+fn subject_of<'a>(policy: &'a Policy, warned: &Warned) -> Option<Subject<'a>> {
+    let asset = policy.assets.as_slice().get(warned.asset)?;
+    let rule = asset.rules.as_slice().get(warned.rule)?;
+    Some(Subject {
+        asset_number: (warned.asset as u64).saturating_add(1),
+        asset,
+        rule_number: (warned.rule as u64).saturating_add(1),
+        rule,
+    })
 }
 
-fn push_warning(out: &mut Page, source: &Source<'_>, subject: &Subject<'_>, what: What) {
-    let (asset, rule) = (subject.asset_number, subject.rule_number);
+/// The warning about one rule.
+fn push_rule(
+    report: &mut Report,
+    source: &Source<'_>,
+    subject: &Subject<'_>,
+    told: Told,
+    silence: Option<Silence>,
+) {
+    if report.count < MOST {
+        let out = &mut report.lines;
+        push_subject(out, source, subject);
+        match silence {
+            Some(silence) => push_silence(out, subject, silence),
+            None => push_told(out, subject, told),
+        }
+        out.push("\n");
+    }
+    report.count = report.count.saturating_add(1);
+}
+
+fn push_subject(out: &mut Page, source: &Source<'_>, subject: &Subject<'_>) {
     out.push(source.file);
-    push_rule_place(out, source.text, asset, rule);
+    push_rule_place(
+        out,
+        source.text,
+        u32::try_from(subject.asset_number).unwrap_or(u32::MAX),
+        u32::try_from(subject.rule_number).unwrap_or(u32::MAX),
+    );
     out.push(": warning: asset ");
-    out.push_number(u64::from(asset));
+    out.push_number(subject.asset_number);
     out.push(" ");
     push_quoted(out, subject.asset.name.as_str());
-    out.push(", rule ");
-    out.push_number(u64::from(rule));
+    out.push(", ");
+    push_rule_name(out, subject.rule_number, subject.rule);
+}
+
+fn push_rule_name(out: &mut Page, number: u64, rule: &Rule) {
+    out.push("rule ");
+    out.push_number(number);
     out.push(" ");
-    push_quoted(out, subject.rule.name.as_str());
+    push_quoted(out, rule.name.as_str());
+}
+
+/// That a rule never refuses anything.
+fn push_silence(out: &mut Page, subject: &Subject<'_>, silence: Silence) {
+    out.push(" never refuses anything: ");
+    match silence {
+        Silence::Rule(number) => push_allowance(out, subject, number, ""),
+        Silence::Rest(number) => push_allowance(
+            out,
+            subject,
+            number,
+            ", but for what still earlier rules refuse",
+        ),
+        Silence::All => out.push("the rules before it together allow all that it names"),
+        Silence::Part => out.push(
+            "the rules before it together decide all that it names, and not all of them refuse",
+        ),
+    }
+}
+
+/// The rule that allows all that a later one names.
+fn push_allowance(out: &mut Page, subject: &Subject<'_>, number: usize, but: &str) {
+    if let Some(first) = subject.asset.rules.as_slice().get(number) {
+        push_rule_name(out, (number as u64).saturating_add(1), first);
+        out.push(" before it allows all that it names");
+        if first.rate.is_some() {
+            out.push(", as often as its rate lets");
+        }
+        out.push(but);
+    }
+}
+
+fn push_told(out: &mut Page, subject: &Subject<'_>, told: Told) {
     out.push(": ");
-    push_what(out, subject, what);
-    out.push("\n");
+    match told {
+        Told::Found(what) => push_what(out, subject, what),
+        Told::Behind(Cover::Rule(earlier)) => push_covered(out, subject, earlier),
+        Told::Behind(Cover::Rules) => push_together(out, subject),
+        Told::Points(code, high) => push_passed(out, subject.rule, code, high),
+        Told::Slip(slip) => push_slip(out, slip),
+    }
+}
+
+/// That earlier rules together have all that this one has.
+fn push_together(out: &mut Page, subject: &Subject<'_>) {
+    out.push("it decides nothing: the rules before it together have all that it has");
+    push_unrated(out, subject);
+}
+
+/// The points of a rule that never come with a code, and those that do.
+fn push_passed(out: &mut Page, rule: &Rule, code: u16, high: i64) {
+    out.push("points ");
+    let mut between = "";
+    for span in rule.points.as_slice() {
+        if high < span.high {
+            out.push(between);
+            push_span(
+                out,
+                Span {
+                    low: span.low.max(high.saturating_add(1)),
+                    high: span.high,
+                },
+            );
+            between = ", ";
+        }
+    }
+    out.push(" never come with code ");
+    out.push_number(u64::from(code));
+    push_range(out, high);
+}
+
+/// The points from 0 to the highest.
+fn push_range(out: &mut Page, high: i64) {
+    if high == 0 {
+        out.push(": its point is always 0");
+    } else {
+        out.push(": its points are 0 to ");
+        out.push_signed(high);
+    }
+}
+
+fn push_slip(out: &mut Page, slip: Slip) {
+    out.push("likely a slip: ");
+    match slip {
+        Slip::Group(number) => push_group(out, number),
+        Slip::Register(number, first) => push_register(out, number, first),
+    }
+}
+
+/// What an object group without its variation means, and what it means with variation 1.
+fn push_group(out: &mut Page, number: i64) {
+    out.push("group ");
+    out.push_signed(number);
+    out.push(" is object group 0 with variation ");
+    out.push_signed(number);
+    out.push("; object group ");
+    out.push_signed(number);
+    out.push(" with variation 1 is ");
+    out.push_signed(number.saturating_mul(256).saturating_add(1));
+}
+
+/// The point that a manual means by a register.
+fn push_register(out: &mut Page, number: i64, first: i64) {
+    out.push("points count from 0, and a manual that numbers registers from ");
+    out.push_signed(first);
+    out.push(" means point ");
+    out.push_signed(number.saturating_sub(first));
+    out.push(" by ");
+    out.push_signed(number);
 }
 
 fn push_what(out: &mut Page, subject: &Subject<'_>, what: What) {
@@ -194,28 +339,26 @@ fn push_what(out: &mut Page, subject: &Subject<'_>, what: What) {
 
 /// That an earlier rule has all that this one has.
 fn push_covered(out: &mut Page, subject: &Subject<'_>, earlier: usize) {
-    out.push("it decides nothing: rule ");
-    out.push_number((earlier as u64).saturating_add(1));
-    out.push(" ");
-    match subject.asset.rules.as_slice().get(earlier) {
-        Some(first) => {
-            push_quoted(out, first.name.as_str());
-            out.push(" ");
-            out.push(before_it(first.action, subject.rule.action));
-            if subject.rule.rate.is_some() {
-                out.push(", so its rate bounds nothing");
-            }
-        }
-        None => out.push("stands before it and has all that it has"),
+    out.push("it decides nothing: ");
+    if let Some(first) = subject.asset.rules.as_slice().get(earlier) {
+        push_rule_name(out, (earlier as u64).saturating_add(1), first);
+        out.push(before_it(first.action, subject.rule.action));
+    }
+    push_unrated(out, subject);
+}
+
+/// That a rate of a rule which decides nothing bounds nothing.
+fn push_unrated(out: &mut Page, subject: &Subject<'_>) {
+    if subject.rule.rate.is_some() {
+        out.push(", so its rate bounds nothing");
     }
 }
 
 /// What an earlier rule does of all that a later one has.
 fn before_it(first: Action, later: Action) -> &'static str {
     match (first, later) {
-        (Action::Allow, Action::Refuse) => "stands before it and allows all that it would refuse",
-        (Action::Refuse, Action::Allow) => "stands before it and refuses all that it would allow",
-        _ => "stands before it and has all that it has",
+        (Action::Refuse, Action::Allow) => " stands before it and refuses all that it would allow",
+        _ => " stands before it and has all that it has",
     }
 }
 

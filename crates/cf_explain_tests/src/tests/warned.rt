@@ -57,7 +57,7 @@ lists: codes = [23] / groups = ["1"] / values = ["0..9"]
 .
 
 lists: codes = [6] | more: [[asset.rule]] / name = "b" / action = "refuse" / codes = [6] / points = ["4"]
-p:12:1: warning: asset 1 "x", rule 2 "b": it decides nothing: rule 1 "a" stands before it and allows all that it would refuse
+p:12:1: warning: asset 1 "x", rule 2 "b" never refuses anything: rule 1 "a" before it allows all that it names
 .
 
 action: action="refuse" | lists:codes=[6] / points=["0..9"] | more: [[asset.rule]] / name="b" / action="allow" / codes=[6] / points=["4..5"]
@@ -133,6 +133,99 @@ p:5:1: warning: set 2 "b": no rule names it
 p:5:1: warning: set 2 "b": it has the points of set 1 "a"
 p:8:1: warning: set 3 "c": it has the points of set 1 "a"
 p:17:1: warning: asset 1 "x", rule 1 "a": no command meets it: code 99 is not served; codes of Modbus are 1 to 6, 15, 16, 22 and 23
+.
+
+lists: codes = [5] / points = ["3"] / values = ["0..1"] | more: [[asset.rule]] / name = "b" / action = "refuse" / codes = [5] / points = ["3"]
+p:14:1: warning: asset 1 "x", rule 2 "b" never refuses anything: rule 1 "a" before it allows all that it names
+.
+
+lists: codes = [5] / points = ["3"] / values = ["0"] | more: [[asset.rule]] / name = "b" / action = "refuse" / codes = [5] / points = ["3"]
+.
+
+lists: clients = ["0.0.0.0..255.255.255.255"] / codes = [5] / groups = ["0"] / points = ["0..65535"] | more: [[asset.rule]] / name = "b" / action = "refuse" / codes = [5]
+p:15:1: warning: asset 1 "x", rule 2 "b" never refuses anything: rule 1 "a" before it allows all that it names
+.
+
+lists: clients = ["0.0.0.0..255.255.255.254"] / codes = [5] | more: [[asset.rule]] / name = "b" / action = "refuse" / codes = [5]
+.
+
+protocol: protocol = "iec104" | lists: codes = [45] / groups = ["5", "6", "8"] | more: [[asset.rule]] / name = "b" / action = "refuse" / codes = [45]
+p:13:1: warning: asset 1 "x", rule 2 "b" never refuses anything: rule 1 "a" before it allows all that it names
+.
+
+lists: codes = [5] / points = ["0..4", "5..9"] | more: [[asset.rule]] / name = "b" / action = "refuse" / codes = [5] / points = ["0..9"]
+p:13:1: warning: asset 1 "x", rule 2 "b" never refuses anything: rule 1 "a" before it allows all that it names
+.
+
+lists: codes = [5] / points = ["0..4", "6..9"] | more: [[asset.rule]] / name = "b" / action = "refuse" / codes = [5] / points = ["0..9"]
+.
+
+lists: codes = [5] / points = ["0..4"] | more: [[asset.rule]] / name = "b" / action = "allow" / codes = [5] / points = ["5..9"] / [[asset.rule]] / name = "c" / action = "refuse" / codes = [5] / points = ["3..8"]
+p:18:1: warning: asset 1 "x", rule 3 "c" never refuses anything: the rules before it together allow all that it names
+.
+
+lists: codes = [5] / points = ["0..4"] | more: [[asset.rule]] / name = "b" / action = "refuse" / codes = [5] / points = ["5..9"] / [[asset.rule]] / name = "c" / action = "refuse" / codes = [5] / points = ["3..8"]
+p:18:1: warning: asset 1 "x", rule 3 "c" never refuses anything: the rules before it together decide all that it names, and not all
+    of them refuse
+.
+
+action: action = "refuse" | lists: codes = [5] / points = ["5"] | more: [[asset.rule]] / name = "b" / action = "allow" / codes = [5] / points = ["0..9"] / [[asset.rule]] / name = "c" / action = "refuse" / codes = [5] / points = ["3..8"]
+p:18:1: warning: asset 1 "x", rule 3 "c" never refuses anything: rule 2 "b" before it allows all that it names, but for what still
+    earlier rules refuse
+.
+
+lists: codes = [5] / values = ["0"] | more: [[asset.rule]] / name = "b" / action = "allow" / codes = [5] / values = ["1"] / [[asset.rule]] / name = "c" / action = "allow" / codes = [5] / most = 1 / seconds = 1
+p:18:1: warning: asset 1 "x", rule 3 "c": it decides nothing: the rules before it together have all that it has, so its rate bounds
+    nothing
+.
+
+lists: codes = [5] / most = 1 / seconds = 1 | more: [[asset.rule]] / name = "b" / action = "refuse" / codes = [5] / points = ["4"]
+p:14:1: warning: asset 1 "x", rule 2 "b" never refuses anything: rule 1 "a" before it allows all that it names, as often as its
+    rate lets
+.
+
+lists: codes = [5] | more: [[asset.rule]] / name = "b" / action = "refuse" / codes = [5, 99]
+p:12:1: warning: asset 1 "x", rule 2 "b" never refuses anything: rule 1 "a" before it allows all that it names
+p:12:1: warning: asset 1 "x", rule 2 "b": no command with code 99 meets it: code 99 is not served; codes of Modbus are 1 to 6, 15, 16, 22
+    and 23
+.
+
+lists: codes = [99] | more: [[asset.rule]] / name = "b" / action = "allow" / codes = [5] / [[asset.rule]] / name = "c" / action = "refuse" / codes = [5] / points = ["1"]
+p:16:1: warning: asset 1 "x", rule 3 "c" never refuses anything: rule 2 "b" before it allows all that it names
+p:8:1: warning: asset 1 "x", rule 1 "a": no command meets it: code 99 is not served; codes of Modbus are 1 to 6, 15, 16, 22 and 23
+.
+
+protocol: protocol = "dnp3" / master = 1 | lists: codes = [1] / points = ["0..9"]
+p:9:1: warning: asset 1 "x", rule 1 "a": points 1 to 9 never come with code 1: its point is always 0
+.
+
+protocol: protocol = "dnp3" / master = 1 | lists: codes = [3, 20] / points = ["7", "0..2", "5"]
+p:9:1: warning: asset 1 "x", rule 1 "a": points 7, 1 to 2, 5 never come with code 20: its point is always 0
+.
+
+lists: codes = [3] / points = ["65000..70000"]
+p:8:1: warning: asset 1 "x", rule 1 "a": points 65536 to 70000 never come with code 3: its points are 0 to 65535
+.
+
+protocol: protocol = "dnp3" / master = 1 | lists: codes = [1] / groups = ["60"]
+p:9:1: warning: asset 1 "x", rule 1 "a": likely a slip: group 60 is object group 0 with variation 60; object group 60 with variation
+    1 is 15361
+.
+
+protocol: protocol = "dnp3" / master = 1 | lists: codes = [1] / groups = ["196..255", "256"]
+.
+
+lists: codes = [6] / points = ["40041..40050"]
+p:8:1: warning: asset 1 "x", rule 1 "a": likely a slip: points count from 0, and a manual that numbers registers from 40001 means
+    point 40 by 40041
+.
+
+lists: codes = [4] / points = ["30001"]
+p:8:1: warning: asset 1 "x", rule 1 "a": likely a slip: points count from 0, and a manual that numbers registers from 30001 means
+    point 0 by 30001
+.
+
+lists: codes = [5] / points = ["40041"]
 .
 
 protocol: protocol = "iec104" | lists: codes = [103] / points = ["16777216"]

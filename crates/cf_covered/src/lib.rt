@@ -1,0 +1,16 @@
+//! Whether the rules before a rule decide all that it has: every act that a command can have and that is the rule's. Beside it the
+//! points that such acts have, and numbers of rules that are likely slips.
+#![tactic(auto)]
+
+mod answer;
+mod common;
+mod points;
+mod regions;
+mod search;
+mod slips;
+mod spans;
+
+pub use answer::{Cover, cover_of};
+pub use common::have_common;
+pub use points::highest_point;
+pub use slips::{Slip, likely_slip};

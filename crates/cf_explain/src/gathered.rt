@@ -1,0 +1,180 @@
+//! What is warned of rules.
+ghost use Rattle.std.specs.Prelude.{◌<◌, length};
+
+use crate::found::{What, findings};
+use cf_covered::{Cover, Slip, cover_of, have_common, highest_point, likely_slip};
+use cf_policy::{Action, Asset, Policy, Rule, takes};
+use std::alloc::{AllocError, Global};
+
+/// One more than the highest code of a rule.
+const CODES: u16 = 256;
+
+/// What is warned of a rule.
+#[derive(Clone, Copy)]
+pub(crate) enum Told {
+    /// What is found of it.
+    Found(What),
+    /// Earlier rules have every act of a command that it has.
+    Behind(Cover),
+    /// It names points above the highest, the second number, of this code.
+    Points(u16, i64),
+    /// A number of it is likely a slip.
+    Slip(Slip),
+}
+
+/// What is warned of the rule of a number of an asset, both from 0.
+#[derive(Clone, Copy)]
+pub(crate) struct Warned {
+    pub asset: usize,
+    pub rule: usize,
+    pub told: Told,
+}
+
+/// What earlier rules do of all that a rule would refuse.
+#[derive(Clone, Copy, PartialEq, Eq)]
+pub(crate) enum Silence {
+    /// The rule of this number allows it.
+    Rule(usize),
+    /// The rule of this number allows it, but for what rules before that may refuse.
+    Rest(usize),
+    /// Together they allow it.
+    All,
+    /// Together they decide it, and not all of them refuse.
+    Part,
+}
+
+/// All that is warned of a policy's rules, in their order.
+pub(crate) fn gathered(alloc: Global, policy: &Policy) -> Result<Vec<Warned>, AllocError> {
+    let mut all = Vec::new(alloc);
+    let mut number = 0usize;
+    for asset in policy.assets.as_slice() {
+        gather_asset(alloc, &mut all, number, asset)?;
+        number = number.saturating_add(1);
+    }
+    Ok(all)
+}
+
+fn gather_asset(
+    alloc: Global,
+    all: &mut Vec<Warned>,
+    number: usize,
+    asset: &Asset,
+) -> Result<(), AllocError> {
+    for rule in 0..asset.rules.len() {
+        let found = findings(alloc, asset, rule)?;
+        let others = beside(alloc, asset, rule, found.as_slice())?;
+        for what in found.as_slice() {
+            put(all, number, rule, Some(Told::Found(*what)))?;
+        }
+        for told in &others {
+            put(all, number, rule, *told)?;
+        }
+    }
+    Ok(())
+}
+
+fn put(
+    all: &mut Vec<Warned>,
+    asset: usize,
+    rule: usize,
+    told: Option<Told>,
+) -> Result<(), AllocError> {
+    if let Some(told) = told {
+        all.push(Warned { asset, rule, told })?;
+    }
+    Ok(())
+}
+
+/// What is warned of a rule beside what is found of it.
+fn beside(
+    alloc: Global,
+    asset: &Asset,
+    number: usize,
+    found: &[What],
+) -> Result<[Option<Told>; 3], AllocError>
+    requires { number < length asset.now.rules }
+{
+    if found.iter().any(|what| is_whole(*what)) {
+        return Ok([None, None, None]);
+    }
+    let rule = &asset.rules.as_slice()[number];
+    let behind = cover_of(alloc, asset, number)?;
+    Ok([
+        behind.map(Told::Behind),
+        points_told(asset, rule),
+        likely_slip(asset.protocol, rule).map(Told::Slip),
+    ])
+}
+
+/// Whether what is found says that a rule has no act of a command, or none that no earlier rule has.
+fn is_whole(what: What) -> bool {
+    matches!(what, What::Never(_, _) | What::Covered(_))
+}
+
+/// That a rule names points which no act of a command with one of its codes has, beside some that they have.
+fn points_told(asset: &Asset, rule: &Rule) -> Option<Told> {
+    for code in 0..CODES {
+        if let Some(high) = passed_point(asset, rule, code) {
+            return Some(Told::Points(code, high));
+        }
+    }
+    None
+}
+
+/// The highest point of a code, where a rule with the code has some up to it and some above it.
+fn passed_point(asset: &Asset, rule: &Rule, code: u16) -> Option<i64> {
+    if !takes(&rule.codes, i64::from(code)) {
+        return None;
+    }
+    let high = highest_point(asset.protocol, code)?;
+    let spans = rule.points.as_slice();
+    if spans.iter().any(|span| span.low <= high) && spans.iter().any(|span| high < span.high) {
+        Some(high)
+    } else {
+        None
+    }
+}
+
+/// What earlier rules do of all that a rule would refuse, where one of them allows.
+pub(crate) fn silence_about(asset: &Asset, warned: &Warned) -> Option<Silence> {
+    let rules = asset.rules.as_slice();
+    let rule = rules.get(warned.rule)?;
+    if rule.action == Action::Allow {
+        return None;
+    }
+    match warned.told {
+        Told::Found(What::Covered(first)) | Told::Behind(Cover::Rule(first)) => {
+            silence_behind(rules, first, rule)
+        }
+        Told::Behind(Cover::Rules) => silence_among(rules.get(..warned.rule)?, rule),
+        _ => None,
+    }
+}
+
+fn silence_behind(rules: &[Rule], number: usize, rule: &Rule) -> Option<Silence> {
+    let first = rules.get(number)?;
+    if first.action == Action::Refuse {
+        None
+    } else if some_do(rules.get(..number)?, rule, Action::Refuse) {
+        Some(Silence::Rest(number))
+    } else {
+        Some(Silence::Rule(number))
+    }
+}
+
+fn silence_among(earlier: &[Rule], rule: &Rule) -> Option<Silence> {
+    if !some_do(earlier, rule, Action::Allow) {
+        None
+    } else if some_do(earlier, rule, Action::Refuse) {
+        Some(Silence::Part)
+    } else {
+        Some(Silence::All)
+    }
+}
+
+/// Whether some of the rules that may have an act in common with another do this.
+fn some_do(earlier: &[Rule], rule: &Rule, action: Action) -> bool {
+    earlier
+        .iter()
+        .any(|first| first.action == action && have_common(first, rule))
+}
