@@ -41,7 +41,8 @@ struct Report {
 /// A line for each warning about a policy that was read from a text: first the refusals behind rules that allow all that they name;
 /// then a set that no rule names, or that has the points of an earlier one; then a rule that no command meets, a code that none
 /// brings, values where reads have none, a rule that earlier ones cover, points that never come, and likely slips. Twenty are
-/// written out, and behind them how many more there are. The text is empty where there is none.
+/// written out, and behind them how many more there are. Where the document has sets, their number stands before what is said of
+/// them. The text is empty where there is nothing to say.
 pub fn policy_warnings(
     alloc: Global,
     file: &str,
@@ -76,6 +77,7 @@ fn push_more(report: &mut Report, file: &str) {
 /// The warnings about a document's sets.
 fn push_sets(report: &mut Report, source: &Source<'_>, document: &Table) {
     let sets = sets_of(document);
+    push_set_count(&mut report.lines, source.file, sets.len());
     let mut number = 0usize;
     for set in sets {
         number = number.saturating_add(1);
@@ -86,6 +88,20 @@ fn push_sets(report: &mut Report, source: &Source<'_>, document: &Table) {
             push_set(report, source, number, set, Some((twin, sets)));
         }
     }
+}
+
+/// How many sets there are, if there are some.
+fn push_set_count(out: &mut Page, file: &str, count: usize) {
+    if count == 0 {
+        return;
+    }
+    out.push_all(&[file, ": note: "]);
+    out.push_number(count as u64);
+    out.push(if count == 1 {
+        " set of points\n"
+    } else {
+        " sets of points\n"
+    });
 }
 
 /// The warning about a set, by its number from 1: that it has the points of an earlier one, or that no rule names it.

@@ -114,20 +114,25 @@ p:8:1: warning: asset 1 "x", rule 1 "a": no command with code 1 meets it: code 1
 .
 
 version: version = 2 / [[set]] / name = "low" / points = ["1"] | lists: codes = [6] / points = ["@low"]
+p: note: 1 set of points
 .
 
 version: version = 2 / [[set]] / name = "low" / points = ["1"] | lists: codes = [6]
+p: note: 1 set of points
 p:2:1: warning: set 1 "low": no rule names it
 .
 
 version: version = 2 / [[set]] / name = "a" / points = ["1", "4..5"] / [[set]] / name = "b" / points = ["1..1", "4..5"] | lists: codes = [6] / points = ["@b", "@a"]
+p: note: 2 sets of points
 p:5:1: warning: set 2 "b": it has the points of set 1 "a"
 .
 
 version: version = 2 / [[set]] / name = "a" / points = ["1", "4"] / [[set]] / name = "b" / points = ["4", "1"] | lists: codes = [6] / points = ["@b", "@a"]
+p: note: 2 sets of points
 .
 
 version: version = 2 / [[set]] / name = "a" / points = ["7"] / [[set]] / name = "b" / points = ["7"] / [[set]] / name = "c" / points = ["7"] | lists: codes = [99] / points = ["@c"]
+p: note: 3 sets of points
 p:2:1: warning: set 1 "a": no rule names it
 p:5:1: warning: set 2 "b": no rule names it
 p:5:1: warning: set 2 "b": it has the points of set 1 "a"
