@@ -1,0 +1,3 @@
+mod Ordering
+mod Reading
+mod Writing
