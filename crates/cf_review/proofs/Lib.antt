@@ -1,3 +1,4 @@
+mod First
 mod Ordering
 mod Reading
 mod Writing

@@ -1,11 +1,13 @@
 //! The review of a recording: all that a policy objects to in its flows, as lines of the log.
 #![tactic(auto)]
 
+mod laws;
 mod lines;
 mod remark;
 mod reviewing;
 mod spelling;
 
+pub use laws::judge_tells_the_first;
 pub use lines::write_lines;
 pub use remark::{Matter, Remark, SHOWN};
 pub use reviewing::{Reviewed, review};
