@@ -2,3 +2,4 @@ mod Asdus
 mod Flows
 mod Fronts
 mod Reading
+mod Shown

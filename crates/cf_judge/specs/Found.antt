@@ -6,6 +6,7 @@ use Rattle.cf_policy.specs.declared.Asset.{Asset}
 use Rattle.cf_watch.specs.FlowValue.{FlowValue}
 use Rattle.cf_judge.specs.Objections.{admitted_in, first_wrong, wrong}
 use Rattle.cf_judge.specs.Plain.{AreRead, Ending}
+use Rattle.cf_judge.specs.declared.ruling.Complaint.TheVariants as complaint
 use Rattle.cf_judge.specs.declared.ruling.Ruling.{Ruling}
 use Rattle.cf_judge.specs.declared.ruling.Ruling.TheVariants as ruling
 use Rattle.cf_judge.specs.declared.judging.Found.{Found}
@@ -18,7 +19,8 @@ with_wrong found w = record { commands = found.commands; first = option_or found
 abbrev pub with_ruling : Found → (record_number : ℕ) → Ruling → Found
 with_ruling found number ruling.Nothing = found
 with_ruling found number ruling.Allowed = record { commands = found.commands + 1; first = found.first }
-with_ruling found number (ruling.Wrong what) = with_wrong found (wrong number what)
+with_ruling found number (ruling.Refused refusal) = with_wrong found (wrong number (complaint.Refused refusal.decider refusal.reason))
+with_ruling found number (ruling.Stray because) = with_wrong found (wrong number (complaint.Stray because))
 
 -- the bytes are these units and this ending, of which so much was found
 pub record IsFoundIn (asset : Asset) (f : FlowValue) (found : Found) : Type 0 where

@@ -21,8 +21,8 @@ complaint_of fate.Lengthens = None
 complaint_of (fate.Cuts because) = None
 
 abbrev pub ruling_of : Fate → Ruling
-ruling_of (fate.Refused refusal) = ruling.Wrong (complaint.Refused refusal.decider refusal.reason)
-ruling_of (fate.Stray because) = ruling.Wrong (complaint.Stray because)
+ruling_of (fate.Refused refusal) = ruling.Refused refusal
+ruling_of (fate.Stray because) = ruling.Stray because
 ruling_of (fate.Admitted used) = ruling.Allowed
 ruling_of fate.Carried = ruling.Nothing
 ruling_of fate.Lengthens = ruling.Nothing

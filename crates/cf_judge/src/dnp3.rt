@@ -14,7 +14,7 @@ ghost use Rattle.cf_policy.specs.Verdict.{verdict_of};
 ghost use Rattle.cf_judge.specs.Ruling.{ruling_of};
 
 use crate::iec104::all;
-use crate::ruling::{Complaint, Ruling, judge_acts, refused};
+use crate::ruling::{Ruling, judge_acts, refused};
 use cf_audit::Why;
 use cf_dnplink::{Frame, copy_user, user_len};
 use cf_dnpobj::{Fragment, FragmentRefusal, act_at, act_count, read_fragment};
@@ -112,10 +112,15 @@ pub(crate) fn judge_whole(asset: &Asset, index: &CodeIndex, octets: &View<'_>) -
         → result ≡ ruling_of (fate_of_whole asset.now (verdict_of asset.now client) Side.Client (octets.now.bytes ∷ [])) }
 {
     if octets.len() < 2 {
-        return Ruling::Wrong(Complaint::Stray(Why::Short));
+        return Ruling::Stray(Why::Short);
     }
     match read_fragment(all(octets)) {
-        Err(refusal) => refused(Decider::Form, form_reason(&refusal)),
+        Err(refusal) => refused(
+            Decider::Form,
+            form_reason(&refusal),
+            u16::from(octets.at(1)),
+            0,
+        ),
         Ok(fragment) => judge_request(asset, index, &fragment),
     }
 }

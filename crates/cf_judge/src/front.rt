@@ -4,19 +4,23 @@ ghost use Rattle.cf_apci.specs.Apdu.{SpellsApdu};
 ghost use Rattle.cf_modbus.specs.Adu.{SpellsAdu};
 ghost use Rattle.cf_dnplink.specs.LinkFrame.{IsFrame, SpellsFrame, frame_value};
 ghost use Rattle.cf_lane.specs.Judged.{Judged};
-ghost use Rattle.cf_lane.specs.Unit.{SpellsUnit};
+ghost use Rattle.cf_lane.specs.Log.{command_octets};
+ghost use Rattle.cf_lane.specs.Unit.{SpellsUnit, UnitValue};
 ghost use Rattle.cf_policy.specs.Index.{IsIndexOf};
 ghost use Rattle.cf_policy.specs.Within.{IsAssetWithin};
 ghost use Rattle.cf_view.specs.Framing.{BreaksAt, IsPartial};
 ghost use Rattle.cf_lane.specs.declared.fate.Fate.{Fate};
+ghost use Rattle.cf_lane.specs.declared.fate.Fate.TheVariants as fate;
+ghost use Rattle.cf_lane.specs.declared.fate.Refusal.{Refusal};
+ghost use Rattle.cf_view.specs.declared.Side.TheVariants as side;
 ghost use Rattle.cf_judge.specs.Ruling.{ruling_of};
-ghost use Rattle.cf_judge.specs.Front.{IsFrontOf, IsReaderOf};
-ghost use Rattle.cf_judge.specs.Plain.{completed_in, frame_fate, frame_unit};
+ghost use Rattle.cf_judge.specs.Front.{HasWhole, IsFrontOf, IsReaderOf};
+ghost use Rattle.cf_judge.specs.Plain.{HasPlainFate, completed_in, frame_fate, frame_unit};
 
 use crate::dnp3::{drop_why, is_data, judge_whole, stray_of, take_segment};
 use crate::iec104::{all, judge_apdu};
 use crate::modbus::judge_adu;
-use crate::ruling::{Complaint, Ruling};
+use crate::ruling::Ruling;
 use cf_apci::next_apdu;
 use cf_dnplink::{Frame, next_frame};
 use cf_dnptrans::{Assembly, SegmentAnswer};
@@ -27,24 +31,27 @@ use std::alloc::Global;
 
 /// What stands at the front of bytes.
 #[derive(Drop)]
-pub(crate) enum Front {
+pub enum Front {
     /// A unit of so many octets.
     Took { ruling: Ruling, used: usize },
     /// No whole unit.
     Rest,
-    /// An octet that no unit has there.
+    /// An octet that no unit has at this place, counted in octets from 0.
     Broken { reason: Break, place: usize },
 }
 
-/// What is kept of a client's stream from unit to unit.
+/// Reads a client's stream to an asset unit by unit: what is kept of it from one to the next.
 #[derive(Drop)]
-pub(crate) struct Reader {
+pub struct Reader {
     index: CodeIndex,
     assembly: Assembly,
 }
 
 impl Reader {
-    pub(crate) fn new(alloc: Global, asset: &Asset, client: u32) -> Result<Reader, NoMemory>
+    /// The reader of a stream of a client with this address, before its first unit. It takes all its memory here.
+    ///
+    /// `NoMemory`: it could not be had.
+    pub fn new(alloc: Global, asset: &Asset, client: u32) -> Result<Reader, NoMemory>
         requires within { IsAssetWithin asset.now }
         ensures reader { IfOk result (λ r. IsReaderOf asset.now client [] r) }
     {
@@ -53,8 +60,8 @@ impl Reader {
         Ok(Reader { index, assembly })
     }
 
-    /// What stands at the front of bytes behind those that were read.
-    pub(crate) fn next(&mut self, asset: &Asset, bytes: &View<'_>) -> Front
+    /// What stands at the front of bytes behind those that were read. The asset is the same from unit to unit.
+    pub fn next(&mut self, asset: &Asset, bytes: &View<'_>) -> Front
         ensures front { (client : ℕ) (earlier : List Judged) → IsReaderOf asset.now client earlier self.old
             → IsFrontOf asset.now client earlier bytes.now.bytes self.new result }
     {
@@ -62,6 +69,22 @@ impl Reader {
             Protocol::Modbus => next_of_modbus(asset, &self.index, bytes),
             Protocol::Dnp3 => self.next_of_dnp3(asset, bytes),
             Protocol::Iec104 => next_of_iec104(asset, &self.index, bytes),
+        }
+    }
+
+    /// The octets of a command that was refused, whose last unit has these: the ADU or the APDU itself, or the DNP3 fragment that the
+    /// frame completed.
+    pub fn command_octets<'a>(&'a self, asset: &Asset, unit: View<'a>) -> View<'a>
+        requires whole { HasWhole asset.now self.now }
+        ensures octets { (client : ℕ) (earlier : List Judged) (number : ℕ) (u : UnitValue) (refusal : Refusal)
+            → IsReaderOf asset.now client (earlier ++ completed_in number u (fate.Refused refusal) ∷ []) self.now
+            → SpellsUnit asset.now.protocol u unit.entry.bytes → HasPlainFate asset.now client earlier u (fate.Refused refusal)
+            → result.bytes ≡ command_octets asset.now earlier side.Client u }
+    {
+        match asset.protocol {
+            Protocol::Modbus => unit,
+            Protocol::Dnp3 => self.assembly.fragment(),
+            Protocol::Iec104 => unit,
         }
     }
 
@@ -88,18 +111,19 @@ impl Reader {
         requires frame { IsFrame (frame_value frame.now) }
         ensures counts { (client : ℕ) (earlier : List Judged) → IsReaderOf asset.now client earlier self.old
             → result ≡ ruling_of (frame_fate asset.now client earlier (frame_value frame.now)) }
+        ensures whole { (refusal : Refusal) → result ≡ Ruling.Refused refusal → self.new.assembly.whole ≡ true }
         ensures goes_on { (client : ℕ) (earlier : List Judged) (number : ℕ) (f : Fate) → IsReaderOf asset.now client earlier self.old
             → IsReaderOf asset.now client (earlier ++ completed_in number (frame_unit (frame_value frame.now)) f ∷ []) self.new }
     {
         if let Some(why) = stray_of(asset, frame) {
-            return Ruling::Wrong(Complaint::Stray(why));
+            return Ruling::Stray(why);
         }
         if !is_data(frame) {
             return Ruling::Nothing;
         }
         match take_segment(&mut self.assembly, frame) {
             SegmentAnswer::More => Ruling::Nothing,
-            SegmentAnswer::Dropped(reason) => Ruling::Wrong(Complaint::Stray(drop_why(&reason))),
+            SegmentAnswer::Dropped(reason) => Ruling::Stray(drop_why(&reason)),
             SegmentAnswer::Whole => judge_whole(asset, &self.index, &self.assembly.fragment()),
         }
     }

@@ -1,5 +1,5 @@
 //! What an APDU of IEC 60870-5-104 counts for. Its numbers, and whether the transfer was started, are not judged.
-ghost use Rattle.std.specs.Prelude.{◌≡◌, ◌≤◌, ℕ, length};
+ghost use Rattle.std.specs.Prelude.{◌≡◌, ◌≤◌, ℕ, length, slice_index};
 ghost use Rattle.cf_apci.specs.Apdu.{Fits, apdu_value};
 ghost use Rattle.cf_lane.specs.Iec104.{fate_of_asdu};
 ghost use Rattle.cf_policy.specs.Index.{IsIndexOf};
@@ -35,14 +35,36 @@ fn judge_asdu(asset: &Asset, index: &CodeIndex, octets: &View<'_>) -> Ruling
         → result ≡ ruling_of (fate_of_asdu asset.now (verdict_of asset.now client) octets.now.bytes) }
 {
     if octets.len() < SHORTEST {
-        return refused(Decider::Form, AsduRefusal::Short.reason());
+        return refused(
+            Decider::Form,
+            AsduRefusal::Short.reason(),
+            kind_of(octets),
+            0,
+        );
     }
-    if station_of(all(octets)) != asset.station {
-        return refused(Decider::Station, Reason::Station);
+    let station = station_of(all(octets));
+    if station != asset.station {
+        return refused(
+            Decider::Station,
+            Reason::Station,
+            kind_of(octets),
+            u32::from(station),
+        );
     }
     match read_asdu(all(octets)) {
-        Err(refusal) => refused(Decider::Form, refusal.reason()),
+        Err(refusal) => refused(Decider::Form, refusal.reason(), kind_of(octets), 0),
         Ok(asdu) => judge_acts(asset, index, act_count(&asdu), |i| act_at(&asdu, i)),
+    }
+}
+
+/// The type of an ASDU; 0 where it has no octet.
+fn kind_of(octets: &View<'_>) -> u16
+    ensures { result ≡ slice_index octets.now.bytes 0 }
+{
+    if octets.is_empty() {
+        0
+    } else {
+        u16::from(octets.at(0))
     }
 }
 

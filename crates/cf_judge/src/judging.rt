@@ -171,7 +171,20 @@ fn with_ruling(found: Found, number: u64, ruling: Ruling) -> Found
             commands: found.commands + 1,
             first: found.first,
         },
-        Ruling::Wrong(what) => with_wrong(found, Wrong { number, what }),
+        Ruling::Refused(refusal) => with_wrong(
+            found,
+            Wrong {
+                number,
+                what: Complaint::Refused(refusal.decider, refusal.reason),
+            },
+        ),
+        Ruling::Stray(why) => with_wrong(
+            found,
+            Wrong {
+                number,
+                what: Complaint::Stray(why),
+            },
+        ),
     }
 }
 

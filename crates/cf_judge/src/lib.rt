@@ -9,5 +9,6 @@ mod judging;
 mod modbus;
 mod ruling;
 
+pub use front::{Front, Reader};
 pub use judging::{Judged, Objection, judge};
-pub use ruling::Complaint;
+pub use ruling::{Complaint, Ruling};

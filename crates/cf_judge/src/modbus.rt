@@ -20,11 +20,12 @@ pub(crate) fn judge_adu(asset: &Asset, index: &CodeIndex, adu: &Adu<'_>) -> Ruli
     ensures ruling { (client : ℕ) → IsIndexOf asset.now client index.now
         → HasAduRuling asset.now client (adu_value adu.now) result }
 {
+    let code = u16::from(adu.pdu.at(0));
     if u16::from(adu.unit) != asset.station {
-        return refused(Decider::Station, Reason::Station);
+        return refused(Decider::Station, Reason::Station, code, u32::from(adu.unit));
     }
     match read_request(adu) {
-        Err(refusal) => refused(Decider::Form, refusal.reason()),
+        Err(refusal) => refused(Decider::Form, refusal.reason(), code, 0),
         Ok(request) => judge_request(asset, index, &request),
     }
 }

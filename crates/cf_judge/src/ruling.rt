@@ -1,11 +1,12 @@
 //! What a unit of a client counts for.
 ghost use Rattle.std.specs.Prelude.{◌≡◌, ◌<◌, List, ℕ, length};
-ghost use Rattle.cf_lane.specs.Acts.{GivesActs, fate_of_acts};
+ghost use Rattle.cf_lane.specs.Acts.{GivesActs, act_of_code, fate_of_acts};
 ghost use Rattle.cf_policy.specs.Index.{IsIndexOf};
 ghost use Rattle.cf_policy.specs.Verdict.{verdict_of};
 ghost use Rattle.cf_judge.specs.Ruling.{ruling_of};
 
 use cf_audit::Why;
+use cf_lane::Refusal;
 use cf_policy::{Asset, CodeIndex, Decider, Verdict};
 use cf_view::{Act, Break, Reason};
 
@@ -22,22 +23,33 @@ pub enum Complaint {
     Stray(Why),
 }
 
-/// What a unit counts for.
+/// What a unit of a client counts for.
 #[derive(Clone, Copy)]
-pub(crate) enum Ruling {
+pub enum Ruling {
     /// Nothing: it is carried, or lengthens a fragment.
     Nothing,
     /// A command that the policy allows.
     Allowed,
-    /// Something that is wrong.
-    Wrong(Complaint),
+    /// A command that is refused, for the first act that is not allowed.
+    Refused(Refusal),
+    /// A frame, segment or fragment of DNP3 that belongs to nothing.
+    Stray(Why),
 }
 
-/// A command that is refused.
-pub(crate) fn refused(decider: Decider, reason: Reason) -> Ruling
-    ensures { result ≡ Ruling.Wrong (Complaint.Refused decider reason) }
+/// A refusal of a whole command: its act is the code with this point.
+pub(crate) fn refused(decider: Decider, reason: Reason, code: u16, point: u32) -> Ruling
+    ensures { result ≡ Ruling.Refused (record { decider = decider; reason = reason; act = act_of_code code point }) }
 {
-    Ruling::Wrong(Complaint::Refused(decider, reason))
+    Ruling::Refused(Refusal {
+        decider,
+        reason,
+        act: Act {
+            code,
+            group: 0,
+            point,
+            value: None,
+        },
+    })
 }
 
 /// A command of so many acts, of which the call gives each by its place: each is judged in its order, and the first that is not
@@ -56,7 +68,13 @@ pub(crate) fn judge_acts<F: Fn(u32) -> Act>(
         let act = act_at(i);
         match index.verdict(asset, &act) {
             Verdict::Allow(_) => {}
-            Verdict::Refuse(decider, reason) => return refused(decider, reason),
+            Verdict::Refuse(decider, reason) => {
+                return Ruling::Refused(Refusal {
+                    decider,
+                    reason,
+                    act,
+                });
+            }
         }
     }
     Ruling::Allowed

@@ -1,6 +1,6 @@
 -- The records of a capture that were watched so far.
-use Rattle.std.proofs.Common.{◌≡◌, ◌+◌, ◌≤◌, ℕ, suc, All, List, [], ◌∷◌, length, map, reverse, slice_get, Some, Ok, refl, sym, subst, arith}
-use Rattle.std.proofs.lemmas.List.{reverse-append}
+use Rattle.std.proofs.Common.{◌≡◌, ◌+◌, ◌≤◌, ℕ, suc, All, List, [], ◌∷◌, ◌++◌, ◌∙◌, ap, length, map, reverse, slice_get, Some, Ok, refl, sym, subst, arith}
+use Rattle.std.proofs.lemmas.List.{map-append, reverse-append}
 use Rattle.std.proofs.lemmas.List.Elements.{All-from_recursion}
 use Rattle.cf_outside.specs.Files.{Content, IsAtEnd}
 use Rattle.cf_policy.specs.declared.Asset.{Asset}
@@ -14,7 +14,7 @@ use Rattle.cf_run.specs.declared.NextRecord.TheVariants as next
 use Rattle.cf_watch.specs.Flow.{AreFlowsOf}
 use Rattle.cf_watch.specs.FlowValue.{IsForAsset, flow_value}
 use Rattle.cf_watch.specs.Trail.{IsHeard, IsWatchOf}
-use Rattle.cf_watch.specs.Watch.{EndsAt, HasFlows}
+use Rattle.cf_watch.specs.Watch.{EndsAt, IsRecordingOf}
 use Rattle.cf_watch.specs.Watched.{Watched, watched}
 use Rattle.cf_watch.specs.declared.fault.TheConstants.{CAPTURE_LIMIT}
 use Rattle.cf_watch.specs.declared.flow.Flow.{Flow}
@@ -23,22 +23,24 @@ use Rattle.cf_watch.specs.declared.watching.Watch.{Watch}
 use Rattle.cf_watch.proofs.ForAssets.{are_for}
 use Rattle.cf_watch.proofs.Leading.{Leads, leads_first, leads_on, leads_to}
 
--- these records stand in front of a reader's place, the newest first, and their flows are kept
-pub record SoFar (assets : List Asset) (file : Content) (start : Form) (reader : ReaderValue) (number : ℕ) (watch : Watch) : Type 0 where
+-- these records stand in front of a reader's place, the newest first, and their flows and stamps are kept
+pub record SoFar (assets : List Asset) (file : Content) (start : Form) (reader : ReaderValue) (number : ℕ) (watch : Watch) (stamps : List ℕ) : Type 0 where
   pub has_form : HasForm file (Ok start)
   pub newest : List Record
   pub leads : Leads file start reader.form reader.place (reverse newest)
   pub heard : IsWatchOf number watch (watched assets newest)
   pub count : length newest ≡ number
+  pub stamped : stamps ≡ map (λ r. r.stamp) (reverse newest)
 
-pub so_far_first : (assets : List Asset) (file : Content) (reader : ReaderValue) (watch : Watch) → HasForm file (Ok reader.form) → reader.place ≡ first_place reader.form → IsWatchOf 0 watch [] →
-    SoFar assets file reader.form reader 0 watch
-so_far_first assets file reader watch h first heard = record {
+pub so_far_first : (assets : List Asset) (file : Content) (reader : ReaderValue) (watch : Watch) (stamps : List ℕ) → HasForm file (Ok reader.form) → reader.place ≡ first_place reader.form → IsWatchOf 0 watch [] →
+    stamps ≡ [] → SoFar assets file reader.form reader 0 watch stamps
+so_far_first assets file reader watch stamps h first heard none = record {
   has_form = h;
   newest = [];
   leads = subst (λ n. Leads file reader.form reader.form n []) (sym first) (leads_first file reader.form h);
   heard = heard;
   count = refl;
+  stamped = none;
 }
 
 -- the first place is below the limit
@@ -55,11 +57,11 @@ are_flows (w ∷ ws) [] ts a b each = absurd (omega (arith, a))
 are_flows (w ∷ ws) (f ∷ fs) [] a b each = absurd (omega (arith, b))
 are_flows (w ∷ ws) (f ∷ fs) (t ∷ ts) a b each = ((each 0 f t w refl refl refl).flow, are_flows ws fs ts (omega (arith, a)) (omega (arith, b)) (λ i g u v x y z. each (suc i) g u v x y z))
 
-module _ {assets : List Asset} {file : Content} {start : Form} {reader : ReaderValue} {number : ℕ} {watch : Watch} (so : SoFar assets file start reader number watch) where
-  pub so_far_on : (new_reader : ReaderValue) (stamp : ℕ) (new : Watch) → FindsRecord file reader new_reader (next.Whole stamp) →
-      IsWatchOf (number + 1) new (watched assets (record { stamp = stamp; link = new_reader.link; body = new_reader.body } ∷ so.newest)) →
-      SoFar assets file start new_reader (number + 1) new
-  so_far_on new_reader stamp new found heard =
+module _ {assets : List Asset} {file : Content} {start : Form} {reader : ReaderValue} {number : ℕ} {watch : Watch} {stamps : List ℕ} (so : SoFar assets file start reader number watch stamps) where
+  pub so_far_on : (new_reader : ReaderValue) (stamp : ℕ) (new : Watch) (new_stamps : List ℕ) → FindsRecord file reader new_reader (next.Whole stamp) →
+      IsWatchOf (number + 1) new (watched assets (record { stamp = stamp; link = new_reader.link; body = new_reader.body } ∷ so.newest)) → new_stamps ≡ stamps ++ stamp ∷ [] →
+      SoFar assets file start new_reader (number + 1) new new_stamps
+  so_far_on new_reader stamp new new_stamps found heard more =
       let r : Record = record { stamp = stamp; link = new_reader.link; body = new_reader.body } in
       record {
         has_form = so.has_form;
@@ -67,6 +69,8 @@ module _ {assets : List Asset} {file : Content} {start : Form} {reader : ReaderV
         leads = subst (Leads file start new_reader.form new_reader.place) (sym (reverse-append (r ∷ []) so.newest)) (leads_on file start reader new_reader stamp (reverse so.newest) so.leads found);
         heard = heard;
         count = let c = so.count in omega (arith, c);
+        stamped = more ∙ ap (λ xs. xs ++ stamp ∷ []) so.stamped ∙ sym (map-append (λ (x : Record). x.stamp) (reverse so.newest) (r ∷ []))
+            ∙ ap (map (λ (x : Record). x.stamp)) (sym (reverse-append (r ∷ []) so.newest));
       }
 
   -- the records end here
@@ -82,13 +86,16 @@ module _ {assets : List Asset} {file : Content} {start : Form} {reader : ReaderV
   flows_now : AreFlowsOf (watched assets so.newest) (map flow_value watch.flows.items)
   flows_now = are_flows (watched assets so.newest) watch.flows.items watch.trails.items so.heard.flow_count so.heard.trail_count so.heard.each
 
-  pub has_flows : (place : ℕ) → IsAtEnd file CAPTURE_LIMIT → StandsBehind file reader place FileEnd → HasFlows assets file (map flow_value watch.flows.items)
-  has_flows place short stands = record {
-    newest = so.newest;
-    place = place;
-    ends = ends_at place FileEnd short stands tt;
-    are_newest = refl;
-    are_flows = flows_now;
+  pub is_recording : (place : ℕ) → IsAtEnd file CAPTURE_LIMIT → StandsBehind file reader place FileEnd → IsRecordingOf assets file (map flow_value watch.flows.items) stamps
+  is_recording place short stands = record {
+    has_flows = record {
+      newest = so.newest;
+      place = place;
+      ends = ends_at place FileEnd short stands tt;
+      are_newest = refl;
+      are_flows = flows_now;
+    };
+    are_stamps = so.stamped;
   }
 
   pub for_assets : All (IsForAsset assets) (map flow_value watch.flows.items)

@@ -1,5 +1,5 @@
 -- What a watcher answers about a capture file: WatchesAs. This project's own.
-use Rattle.std.specs.Prelude.{◌≡◌, ℕ, List, reverse, drop, Result, Ok, Err}
+use Rattle.std.specs.Prelude.{◌≡◌, ℕ, List, map, reverse, drop, Result, Ok, Err}
 use Rattle.cf_outside.specs.Files.{Content, IsAtEnd, IsLongerThan, absent, holds, untold}
 use Rattle.cf_policy.specs.declared.Asset.{Asset}
 use Rattle.cf_run.specs.Capture.{AreRecords, AtPlace, Cut, FileEnd, LastPlace, Record, Refused, TooLong}
@@ -35,6 +35,11 @@ pub record HasFlows (assets : List Asset) (file : Content) (flows : List FlowVal
   pub ends : EndsAt file FileEnd place
   pub are_newest : ends.records ≡ reverse newest
   pub are_flows : AreFlowsOf (watched assets newest) flows
+
+-- these flows, and of the same records the stamps in microseconds, in the order of the file
+pub record IsRecordingOf (assets : List Asset) (file : Content) (flows : List FlowValue) (stamps : List ℕ) : Type 0 where
+  pub has_flows : HasFlows assets file flows
+  pub are_stamps : stamps ≡ map (λ r. r.stamp) has_flows.ends.records
 
 -- an answer about a file, as far as it is told
 abbrev pub WatchesAs : List Asset → Content → Result (List FlowValue) WatchFault → Type 0

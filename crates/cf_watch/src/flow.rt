@@ -25,3 +25,11 @@ pub struct Flow {
     /// That of the first record that has one, at its lowest position.
     pub conflict: Option<Conflict>,
 }
+
+/// What a capture shows: its flows to the assets of a policy, in the order of their beginning, and the stamp of each record.
+#[derive(Drop)]
+pub struct Recording {
+    pub flows: Vec<Flow>,
+    /// That of the record with the number 1 first, in microseconds since the epoch.
+    pub stamps: Vec<u64>,
+}

@@ -11,6 +11,6 @@ mod reading;
 mod watching;
 
 pub use fault::{CAPTURE_LIMIT, WatchFault, WatchRefusal};
-pub use flow::{Conflict, Flow};
+pub use flow::{Conflict, Flow, Recording};
 pub use laws::{flows_are_for_assets, one_stream_is_seen};
-pub use reading::watch;
+pub use reading::{watch, watch_recording};

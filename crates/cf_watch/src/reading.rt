@@ -5,10 +5,10 @@ ghost use Rattle.cf_outside.specs.Files.{IsAtEnd, IsLongerThan};
 ghost use Rattle.cf_run.specs.Form.{first_place};
 ghost use Rattle.cf_run.specs.Reader.{HasForm};
 ghost use Rattle.cf_watch.specs.FlowValue.{IsForAsset, flow_value};
-ghost use Rattle.cf_watch.specs.Watch.{WatchesAs};
+ghost use Rattle.cf_watch.specs.Watch.{IsRecordingOf, WatchesAs};
 
 use crate::fault::{CAPTURE_LIMIT, WatchFault, WatchRefusal};
-use crate::flow::Flow;
+use crate::flow::{Flow, Recording};
 use crate::watching::Watch;
 use cf_outside::{Files, ReadAnswer};
 use cf_policy::{Asset, Policy};
@@ -29,6 +29,27 @@ pub fn watch<F: Files>(
     requires assets { length policy.now.assets < 2 ^ 32 }
     ensures watched { IfOk result (λ flows. WatchesAs policy.now.assets (F.content files.old capture.now) (Ok (map flow_value flows.items))) }
     ensures for_assets { IfOk result (λ flows. All (IsForAsset policy.now.assets) (map flow_value flows.items)) }
+    ensures fault { IfErr result (λ fault. WatchesAs policy.now.assets (F.content files.old capture.now) (Err fault)) }
+    ensures same { F.content files.new ≡ F.content files.old }
+    ensures read { HasCause (F.read_faults files.old) (F.read_faults files.new) (IsErrOf result WatchFault.Read) }
+    ensures writes { F.write_faults files.new ≡ F.write_faults files.old }
+{
+    match watch_recording(alloc, policy, capture, files) {
+        Ok(recording) => Ok(recording.flows),
+        Err(fault) => Err(fault),
+    }
+}
+
+/// The same, with the stamp of each record. It keeps these besides.
+pub fn watch_recording<F: Files>(
+    alloc: Global,
+    policy: &Policy,
+    capture: &str,
+    files: &mut F,
+) -> Result<Recording, WatchFault>
+    requires assets { length policy.now.assets < 2 ^ 32 }
+    ensures watched { IfOk result (λ r. IsRecordingOf policy.now.assets (F.content files.old capture.now) (map flow_value r.flows.items) r.stamps.items) }
+    ensures for_assets { IfOk result (λ r. All (IsForAsset policy.now.assets) (map flow_value r.flows.items)) }
     ensures fault { IfErr result (λ fault. WatchesAs policy.now.assets (F.content files.old capture.now) (Err fault)) }
     ensures same { F.content files.new ≡ F.content files.old }
     ensures read { HasCause (F.read_faults files.old) (F.read_faults files.new) (IsErrOf result WatchFault.Read) }
@@ -63,30 +84,31 @@ fn is_long<F: Files>(name: &str, files: &mut F) -> Option<bool>
     }
 }
 
-/// The flows of the records from the reader's place on.
+/// The recording of the records from the reader's place on.
 fn watch_records<F: Files>(
     alloc: Global,
     assets: &[Asset],
     name: &str,
     reader: &mut RecordReader,
     files: &mut F,
-) -> Result<Vec<Flow>, WatchFault>
+) -> Result<Recording, WatchFault>
     requires assets { length assets.now < 2 ^ 32 }
     requires short { IsAtEnd (F.content files.old name.now) CAPTURE_LIMIT }
     requires form { HasForm (F.content files.old name.now) (Ok reader.old.form) }
     requires place { reader.old.place ≡ first_place reader.old.form }
-    ensures watched { IfOk result (λ flows. WatchesAs assets.now (F.content files.old name.now) (Ok (map flow_value flows.items))) }
-    ensures for_assets { IfOk result (λ flows. All (IsForAsset assets.now) (map flow_value flows.items)) }
+    ensures watched { IfOk result (λ r. IsRecordingOf assets.now (F.content files.old name.now) (map flow_value r.flows.items) r.stamps.items) }
+    ensures for_assets { IfOk result (λ r. All (IsForAsset assets.now) (map flow_value r.flows.items)) }
     ensures fault { IfErr result (λ fault. WatchesAs assets.now (F.content files.old name.now) (Err fault)) }
     ensures same { F.content files.new ≡ F.content files.old }
     ensures read { HasCause (F.read_faults files.old) (F.read_faults files.new) (IsErrOf result WatchFault.Read) }
     ensures writes { F.write_faults files.new ≡ F.write_faults files.old }
 {
     let mut watch = Watch::new(alloc);
+    let mut stamps = Vec::new(alloc);
     let mut number: u64 = 0;
     'records: loop {
         match reader.next(files, name) {
-            NextRecord::Whole(_) => {
+            NextRecord::Whole(stamp) => {
                 if reader.place() > CAPTURE_LIMIT {
                     // The file has grown since it was opened.
                     return Err(WatchFault::Refused(WatchRefusal::Long));
@@ -96,8 +118,16 @@ fn watch_records<F: Files>(
                     Ok(()) => {}
                     Err(_) => return Err(WatchFault::NoMemory),
                 }
+                if stamps.push(stamp).is_err() {
+                    return Err(WatchFault::NoMemory);
+                }
             }
-            NextRecord::End => return Ok(watch.flows),
+            NextRecord::End => {
+                return Ok(Recording {
+                    flows: watch.flows,
+                    stamps,
+                });
+            }
             NextRecord::Cut => return Err(WatchFault::Cut(reader.place())),
             NextRecord::Refused(refusal) => {
                 return Err(WatchFault::Refused(WatchRefusal::Block(refusal)));

@@ -19,6 +19,7 @@ returns-in-Unit c =
         fate = fate_by_asdu c.args.asset.now client (apdu_value c.in-Unit.unit);
         has_fate = refl;
         counts = c.judge_apdu.ensures.ruling client (subst (IsIndexOf c.args.asset.now client) i h.index);
+        whole = λ refusal told is. absurd (cc (is, c.requires.iec104));
         goes_on = λ number. reader_on c.args.asset.now client earlier r number (Apdu (apdu_value c.in-Unit.unit)) _ refl h;
       };
     }

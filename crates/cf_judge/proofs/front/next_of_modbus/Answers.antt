@@ -18,6 +18,7 @@ returns-in-Unit c =
         fate = (c.judge_adu.ensures.ruling client (subst (IsIndexOf c.args.asset.now client) i h.index)).0;
         has_fate = (c.judge_adu.ensures.ruling client (subst (IsIndexOf c.args.asset.now client) i h.index)).1;
         counts = (c.judge_adu.ensures.ruling client (subst (IsIndexOf c.args.asset.now client) i h.index)).2;
+        whole = λ refusal told is. absurd (cc (is, c.requires.modbus));
         goes_on = λ number. reader_on c.args.asset.now client earlier r number (Adu (adu_value c.in-Unit.unit)) _ refl h;
       };
     }

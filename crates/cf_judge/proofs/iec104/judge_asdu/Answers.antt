@@ -15,6 +15,7 @@ returns-in-Err c = record {
       cc (
         c.refused-in-Err.ensures,
         c.reason-in-Err.ensures,
+        c.kind_of-in-Err.ensures,
         ap ruling_of (fate_of_unread c.args.asset.now (verdict_of c.args.asset.now client) octets long same c.in-Err.refusal
             (subst (λ (xs : List ℕ). Reads (Err c.in-Err.refusal) xs) c.all-2.ensures c.in-Err.ensures.true_answer)),
       ));

@@ -12,7 +12,7 @@ pub returns-then-from-asset : goal.returns-then-from-asset
 returns-then-from-asset c =
     let a = adu_value c.args.adu.now in
     let other : c.args.adu.now.unit ≢ c.args.asset.now.station = search rules in
-    record { ruling = λ client is. (fate.Refused (station_refusal a), of_other_station other refl, c.refused.ensures) }
+    record { ruling = λ client is. (fate.Refused (station_refusal a), of_other_station other refl, cc (c.refused.ensures)) }
 
 pub returns-in-Err : goal.returns-in-Err
 returns-in-Err c =

@@ -1,4 +1,4 @@
-use Rattle.std.proofs.Common.{arith, of_calls, ap, ◌∙◌}
+use Rattle.std.proofs.Common.{arith, of_calls, ap}
 use Rattle.cf_policy.specs.Verdict.{verdict_of}
 use Rattle.cf_lane.proofs.Commands.{admitted_at_end, allowed_at, refused_at}
 use Rattle.cf_lane.specs.Acts.{used_by}
@@ -9,8 +9,7 @@ use Rattle.cf_judge.proofs.ruling.judge_acts.Goals as goal
 pub returns-in-Refuse : goal.returns-in-Refuse
 returns-in-Refuse g c = λ client acts is size gives.
     let says = verdict_of c.args.asset.now client in
-    c.refused.ensures
-    ∙ ap ruling_of (refused_at says acts c.loop-i.i c.act_at-act.result
+    ap ruling_of (refused_at says acts c.loop-i.i c.act_at-act.result
     (gives c.loop-i.i c.act_at-act.result (omega (arith, size, c.loop-i-test.true)) (search of_calls))
     (c.loop-i.invariant client acts is size gives) (used_by (rated c.args.asset.now.rules) says acts) c.in-Refuse.decider c.in-Refuse.reason (c.in-Refuse.ensures.decides client is))
 

@@ -1,4 +1,4 @@
-use Rattle.std.proofs.Common.{◌≡◌, ◌+◌, ◌-◌, ◌∙◌, ℕ, List, Result, length, refl, sym, subst, ap, arith}
+use Rattle.std.proofs.Common.{rules, ◌≡◌, ◌+◌, ◌-◌, ◌++◌, ◌∷◌, [], ◌∙◌, ℕ, List, Result, length, refl, sym, subst, ap, arith}
 use Rattle.cf_outside.specs.Files.{Content}
 use Rattle.cf_packet.specs.Packet.{PacketValue, read_record}
 use Rattle.cf_packet.specs.declared.packet.PacketRefusal.{PacketRefusal}
@@ -10,12 +10,12 @@ use Rattle.cf_watch.specs.Trail.{IsWatchOf}
 use Rattle.cf_watch.specs.Watch.{EndsAt}
 use Rattle.cf_watch.specs.Watched.{watched, with_record}
 use Rattle.cf_watch.proofs.Lengths.{large_is_long, read_inside}
-use Rattle.cf_watch.proofs.SoFar.{ends_at, first_low, for_assets, has_flows, so_far_first, so_far_on}
+use Rattle.cf_watch.proofs.SoFar.{ends_at, first_low, for_assets, is_recording, so_far_first, so_far_on}
 use Rattle.cf_watch.proofs.reading.watch_records.Goals as goal
 
 pub records-init : goal.records-init
 records-init g c = record {
-  so = so_far_first c.args.assets.now (g.F.Files.content c.args.files.now c.args.name.now) c.args.reader.now _ c.requires.form c.requires.place c.new-watch.ensures;
+  so = so_far_first c.args.assets.now (g.F.Files.content c.args.files.now c.args.name.now) c.args.reader.now _ _ c.requires.form c.requires.place c.new-watch.ensures c.new-stamps.ensures.items;
   near = first_low c.args.reader.now.form c.args.reader.now.place c.requires.place;
   few = omega arith;
   same = refl;
@@ -28,7 +28,7 @@ records-preserved g c =
     let before = c.records.invariant in
     let so = before.so in
     let read = c.in-Whole.ensures in
-    let stamp = c.in-Whole.field-0 in
+    let stamp = c.in-Whole.stamp in
     let assets = c.args.assets.now in
     let reader : ReaderValue = c.next.new.self in
     let number = c.records.number in
@@ -39,11 +39,12 @@ records-preserved g c =
     let packet : read_record c.link.result c.body.result.now ≡ read_record reader.link reader.body =
     ap (λ l. read_record l c.body.result.now) c.link.ensures ∙ ap (λ b. read_record reader.link b) c.body.ensures in
     let count : number + 1 ≡ length so.newest + 1 = ap (λ n. n + 1) (sym so.count) in
+    let pushed : c.push.new.self.items ≡ c.records.stamps.items ++ stamp ∷ [] = search rules in
     let heard = c.in-Ok.ensures.heard ws (subst (λ (n : ℕ). IsWatchOf n c.records.watch ws) before_number so.heard) in
     record {
-      so = so_far_on so reader stamp c.take.new.self found
+      so = so_far_on so reader stamp c.take.new.self c.push.new.self.items found
           (subst (λ (n : ℕ). IsWatchOf (number + 1) c.take.new.self (with_record assets n (read_record reader.link reader.body) ws)) count
-          (subst (λ (p : Result PacketValue PacketRefusal). IsWatchOf (number + 1) c.take.new.self (with_record assets (number + 1) p ws)) packet heard));
+          (subst (λ (p : Result PacketValue PacketRefusal). IsWatchOf (number + 1) c.take.new.self (with_record assets (number + 1) p ws)) packet heard)) pushed;
       near = omega (arith, c.if-place-gt-CAPTURE_LIMIT.false, c.place.ensures);
       few = omega (arith, before.few, read.on);
       same = read.same ∙ before.same;
@@ -54,7 +55,7 @@ records-preserved g c =
 pub returns-then-place-gt-CAPTURE_LIMIT-clause-fault : goal.returns-then-place-gt-CAPTURE_LIMIT-clause-fault
 returns-then-place-gt-CAPTURE_LIMIT-clause-fault g c =
     let before = c.records.invariant in
-    let stamp = c.in-Whole.field-0 in
+    let stamp = c.in-Whole.stamp in
     let found : FindsRecord (g.F.Files.content c.args.files.now c.args.name.now) c.records.reader c.next.new.self (next.Whole stamp) =
     subst (λ (content : List ℕ → Content). FindsRecord (content c.args.name.now) c.records.reader c.next.new.self (next.Whole stamp)) before.same c.in-Whole.ensures.found in
     read_inside (g.F.Files.content c.args.files.now c.args.name.now) c.records.reader c.next.new.self stamp 67108864 found
@@ -65,7 +66,7 @@ returns-in-End-clause-watched g c =
     let before = c.records.invariant in
     let stands = subst (λ (content : List ℕ → Content). StandsBehind (content c.args.name.now) c.records.reader c.next.new.self.place FileEnd) before.same
     (stands_end (g.F.Files.content c.records.files c.args.name.now) c.records.reader c.next.new.self c.in-End.ensures.found) in
-    has_flows before.so c.next.new.self.place c.requires.short stands
+    is_recording before.so c.next.new.self.place c.requires.short stands
 
 pub returns-in-End-clause-for_assets : goal.returns-in-End-clause-for_assets
 returns-in-End-clause-for_assets g c = for_assets c.records.invariant.so

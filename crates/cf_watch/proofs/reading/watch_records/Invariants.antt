@@ -6,7 +6,7 @@ abbrev pub invariant-records : goal.invariant-records
 invariant-records g l =
     let content = g.F.Files.content in
     record {
-      so : SoFar l.assets (content l.fn.files l.name) l.fn.reader.form l.reader l.number l.watch;
+      so : SoFar l.assets (content l.fn.files l.name) l.fn.reader.form l.reader l.number l.watch l.stamps.items;
       near : l.reader.place ≤ 67108864;
       few : l.number ≤ l.reader.place;
       same : content l.files ≡ content l.fn.files;

@@ -19,6 +19,7 @@ returns-in-Unit c =
         fate = frame_fate c.args.asset.now client earlier x;
         has_fate = refl;
         counts = c.judge_frame.ensures.counts client earlier h;
+        whole = λ refusal told is. c.judge_frame.ensures.whole refusal told;
         goes_on = λ number. c.judge_frame.ensures.goes_on client earlier number (frame_fate c.args.asset.now client earlier x) h;
       };
     }

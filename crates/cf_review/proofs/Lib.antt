@@ -1,0 +1,4 @@
+mod First
+mod Ordering
+mod Reading
+mod Writing

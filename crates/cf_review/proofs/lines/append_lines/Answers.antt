@@ -1,0 +1,48 @@
+use Rattle.std.proofs.Common.{◌≡◌, ◌+◌, ◌++◌, ◌∙◌, ap, arith, drop, map, sym, take}
+use Rattle.cf_outside.specs.Files.{with_appended}
+use Rattle.cf_review.specs.Lines.{review_text}
+use Rattle.cf_review.specs.Remark.{remark_value}
+use Rattle.cf_review.proofs.Writing.{if_err, moved_on, on_err, partly_moved, text_more, text_split}
+use Rattle.cf_review.proofs.lines.append_lines.Goals as goal
+
+pub returns-in_err-put-clause-partly : goal.returns-in_err-put-clause-partly
+returns-in_err-put-clause-partly g c =
+    let inv = c.loop-remark.invariant in
+    let rs = c.args.remarks.now in
+    let i = c.loop-remark.remark-index in
+    let text = review_text c.args.assets.now c.args.stamps.now in
+    let p = c.in_err-put.ensures.partly in
+    on_err _ c.from_residual.result
+    (partly_moved inv.front c.loop-remark.piece.items (text (map remark_value (take i rs))) (text (map remark_value (drop i rs))) (text (map remark_value rs)) p.0 _ _ _ inv.told
+    (text_split c.args.assets.now c.args.stamps.now rs i) inv.file p.1)
+
+pub loop-remark-preserved : goal.loop-remark-preserved
+loop-remark-preserved g c =
+    let inv = c.loop-remark.invariant in
+    let rs = c.args.remarks.now in
+    let i = c.loop-remark.remark-index in
+    let text = review_text c.args.assets.now c.args.stamps.now in
+    let put = c.in_ok-put.ensures in
+    let more : text (map remark_value (take i rs)) ++ c.as_bytes.result.now ≡ text (map remark_value (take (i + 1) rs)) =
+    ap (λ xs. text (map remark_value (take i rs)) ++ xs) (c.as_bytes.ensures.value ∙ c.deref.ensures.0 ∙ c.spell.ensures.bytes)
+    ∙ sym (text_more c.args.assets.now c.args.stamps.now rs i c.remark-item.result c.loop-remark-test.true (sym c.remark-item.is)) in
+    let m = moved_on inv.front c.loop-remark.piece.items c.as_bytes.result.now c.put.new.piece.items (text (map remark_value (take i rs))) (text (map remark_value (take (i + 1) rs))) _ _ _ inv.told inv.file more put.done in
+    record {
+      front = m.0;
+      told = m.1;
+      file = m.2;
+      others = λ other h. put.others other h ∙ inv.others other h;
+      writes = omega (arith, inv.writes, put.cause.later);
+      reads = put.reads ∙ inv.reads;
+    }
+
+pub returns-clause-partly : goal.returns-clause-partly
+returns-clause-partly g c =
+    let inv = c.loop-remark.invariant in
+    let rs = c.args.remarks.now in
+    let i = c.loop-remark.remark-index in
+    let text = review_text c.args.assets.now c.args.stamps.now in
+    if_err _ _ c.append_all.result
+    (λ p. partly_moved inv.front c.loop-remark.piece.items (text (map remark_value (take i rs))) (text (map remark_value (drop i rs))) (text (map remark_value rs)) p.0 _ _ _ inv.told
+    (text_split c.args.assets.now c.args.stamps.now rs i) inv.file (p.1 ∙ ap (λ xs. with_appended (g.F.Files.content c.loop-remark.files c.args.log.now) (take p.0 xs)) c.as_slice.ensures.value))
+    c.append_all.ensures.partly

@@ -1,0 +1,77 @@
+use Rattle.std.proofs.Common.{rules, ◌≡◌, ◌+◌, ◌<◌, ◌++◌, ◌∷◌, [], ◌∙◌, sym, ap, subst, refl, arith, take, map, length, Some, min, ◌^◌, ◌-◌, slice_get, add-one}
+use Rattle.std.proofs.Math.Seq.{take-suc}
+use Rattle.std.proofs.lemmas.List.{length-map, map-append, take_all}
+use Rattle.std.proofs.lemmas.List.Sorted.{IsNonDecreasingBy-from_sort_by_key, answers_always}
+use Rattle.std.proofs.lemmas.Option.{slice_get_read}
+use Rattle.cf_watch.specs.FlowValue.{flow_value}
+use Rattle.cf_review.specs.Remark.{remark_value}
+use Rattle.cf_review.specs.declared.remark.Remark.{Remark}
+use Rattle.cf_review.proofs.Ordering.{in_order, when_done}
+use Rattle.cf_review.proofs.Reading.{ReviewedSoFar, asset_within, for_asset, reviewed_first, reviewed_on}
+use Rattle.cf_review.proofs.reviewing.review.Goals as goal
+
+pub loop-flow-init : goal.loop-flow-init
+loop-flow-init c = reviewed_first c.args.policy.now.assets _ (ap (map remark_value) c.new-remarks.ensures.items)
+
+pub bounds-assets-flow : goal.bounds-assets-flow
+bounds-assets-flow c =
+    let here = for_asset c.args.policy.now.assets c.args.flows.now c.requires.flows c.loop-flow.flow-index c.flow-item.result
+    (slice_get_read c.args.flows.now (length c.args.flows.now) c.loop-flow.flow-index c.flow-item.result refl c.loop-flow-test.true c.flow-item.is) in
+    omega (arith, here.asset, ap length c.as_slice-assets.ensures)
+
+pub review_flow-requires-clause-within : goal.review_flow-requires-clause-within
+review_flow-requires-clause-within c =
+    let lent = c.as_slice-assets.result.now in
+    let f = c.flow-item.result in
+    let asset = c.index-assets-flow.result in
+    let here = for_asset c.args.policy.now.assets c.args.flows.now c.requires.flows c.loop-flow.flow-index f
+    (slice_get_read c.args.flows.now (length c.args.flows.now) c.loop-flow.flow-index f refl c.loop-flow-test.true c.flow-item.is) in
+    let same : lent ≡ c.args.policy.now.assets = c.as_slice-assets.ensures in
+    let below : f.asset < length lent = omega (arith, here.asset, ap length same) in
+    asset_within c.args.policy.now.assets c.requires.within.each f.asset asset
+    (subst (λ xs. slice_get xs f.asset ≡ Some asset) same (slice_get_read lent (length lent) f.asset asset refl below c.index-assets-flow.is))
+
+pub review_flow-requires-clause-born : goal.review_flow-requires-clause-born
+review_flow-requires-clause-born c =
+    (for_asset c.args.policy.now.assets c.args.flows.now c.requires.flows c.loop-flow.flow-index c.flow-item.result
+    (slice_get_read c.args.flows.now (length c.args.flows.now) c.loop-flow.flow-index c.flow-item.result refl c.loop-flow-test.true c.flow-item.is)).born
+
+pub loop-flow-preserved : goal.loop-flow-preserved
+loop-flow-preserved c =
+    let assets = c.args.policy.now.assets in
+    let flows = c.args.flows.now in
+    let i = c.loop-flow.flow-index in
+    let f = c.flow-item.result in
+    let inside : i < length flows = c.loop-flow-test.true in
+    let more : take i flows ++ f ∷ [] ≡ take (i + 1) flows = rw add-one (ap (λ g. take i flows ++ g ∷ []) c.flow-item.is ∙ sym (take-suc flows i f inside)) in
+    let values : map flow_value (take i flows) ++ flow_value f ∷ [] ≡ map flow_value (take (i + 1) flows) = sym (map-append flow_value (take i flows) (f ∷ [])) ∙ ap (map flow_value) more in
+    let at : slice_get assets f.asset ≡ Some c.index-assets-flow.result =
+    let here = for_asset assets flows c.requires.flows i f (slice_get_read flows (length flows) i f refl inside c.flow-item.is) in
+    let lent = c.as_slice-assets.result.now in
+    let same : lent ≡ assets = c.as_slice-assets.ensures in
+    let below : f.asset < length lent = omega (arith, here.asset, ap length same) in
+    subst (λ xs. slice_get xs f.asset ≡ Some c.index-assets-flow.result) same (slice_get_read lent (length lent) f.asset c.index-assets-flow.result refl below c.index-assets-flow.is) in
+    let next = reviewed_on assets (map flow_value (take i flows)) c.loop-flow.admitted c.in_ok-more.more (map remark_value c.loop-flow.remarks.items) (map remark_value c.review_flow.new.remarks.items) (flow_value f)
+    c.index-assets-flow.result c.loop-flow.invariant at c.in_ok-more.ensures in
+    let counted : min (c.loop-flow.admitted + c.in_ok-more.more) (2 ^ 64 - 1) ≡ c.saturating_add-admitted.result = sym c.saturating_add-admitted.ensures in
+    subst (λ fs. ReviewedSoFar assets fs c.saturating_add-admitted.result (map remark_value c.review_flow.new.remarks.items)) values
+    (subst (λ n. ReviewedSoFar assets (map flow_value (take i flows) ++ flow_value f ∷ []) n (map remark_value c.review_flow.new.remarks.items)) counted next)
+
+pub returns : goal.returns
+returns c =
+    let inv = c.loop-flow.invariant in
+    let flows = c.args.flows.now in
+    let key = λ (r : Remark). r.at_record in
+    let all : map flow_value (take c.loop-flow.flow-index flows) ≡ map flow_value flows = ap (map flow_value) (take_all c.loop-flow.flow-index flows (omega (arith, c.loop-flow-test.false))) in
+    record {
+      reviewed = record {
+        readings = inv.readings;
+        of_flows = inv.of_flows ∙ all;
+        are_read = inv.are_read;
+        counts = sym (length-map flows flow_value);
+        admitted = inv.admitted_is;
+        remarks = in_order _ c.loop-flow.remarks.items c.sort_by_key.new.self.items (sym inv.remarks_are)
+            (IsNonDecreasingBy-from_sort_by_key key c.sort_by_key.new.self.items (when_done c.sort_by_key.result (sym c.if-is_err.ensures.value) c.sort_by_key.ensures.sorted) (λ a r q k. search rules))
+            (c.sort_by_key.ensures.stable key (answers_always _ _ _ (λ q a r q2 k. search rules)));
+      };
+    }

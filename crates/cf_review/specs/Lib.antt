@@ -1,0 +1,5 @@
+pub mod Counted
+pub mod First
+pub mod Lines
+pub mod Remark
+pub mod Review

@@ -1,0 +1,87 @@
+-- All that is objected to in flows, in the order of the records: IsReviewOf. In one record a conflict comes before the items of its
+-- flow, these in the order of the bytes, and flows in their order. This project's own.
+use Rattle.std.specs.Prelude.{◌≡◌, ◌==◌, ℕ, Bool, List, [], ◌∷◌, ◌++◌, length, map, take, slice_get, Option, Some, None}
+use Rattle.std.specs.List.{filter, flat_map}
+use Rattle.std.specs.List.Sorted.{IsNonDecreasingBy}
+use Rattle.cf_lane.specs.Item.{Broke, Ended, Item, Took}
+use Rattle.cf_lane.specs.Judged.{Judged, in_turn}
+use Rattle.cf_lane.specs.Log.{command_octets}
+use Rattle.cf_lane.specs.declared.fate.Fate.{Fate}
+use Rattle.cf_lane.specs.declared.fate.Fate.TheVariants as fate
+use Rattle.cf_policy.specs.declared.Asset.{Asset}
+use Rattle.cf_watch.specs.FlowValue.{FlowValue}
+use Rattle.cf_watch.specs.declared.flow.Conflict.{Conflict as ConflictOf}
+use Rattle.cf_judge.specs.Objections.{AreReadBy, Reading, admitted_in, commands_in}
+use Rattle.cf_judge.specs.Plain.{AreRead, Breaks, Ending, Whole}
+use Rattle.cf_review.specs.Remark.{Broken, Conflict, MatterValue, Refused, RemarkValue, Stray, remark_value}
+use Rattle.cf_review.specs.declared.remark.TheConstants.{SHOWN}
+use Rattle.cf_review.specs.declared.reviewing.Reviewed.{Reviewed}
+
+-- a remark on a flow
+abbrev pub remark_on : FlowValue → (record_number : ℕ) → MatterValue → RemarkValue
+remark_on f number what = record { at_record = number; client = f.client; asset = f.asset; what = what }
+
+-- the octets of the command that an item completes, after the earlier items
+abbrev pub octets_of : Asset → (earlier : List Judged) → Item → List ℕ
+octets_of asset earlier (Took s unit) = command_octets asset earlier s unit
+octets_of asset earlier (Ended s rest) = []
+octets_of asset earlier (Broke s because) = []
+
+-- a command of these octets is objected to if it is refused, and what is stray is
+abbrev pub matters : (octets : List ℕ) → Fate → List MatterValue
+matters octets (fate.Refused refusal) = Refused refusal (take SHOWN octets) ∷ []
+matters octets (fate.Stray because) = Stray because ∷ []
+matters octets fate.Carried = []
+matters octets (fate.Admitted used) = []
+matters octets fate.Lengthens = []
+matters octets (fate.Cuts because) = []
+
+-- the remarks on one unit of a flow, whose moment is the number of its record
+abbrev pub unit_remarks : Asset → FlowValue → (earlier : List Judged) → Judged → List RemarkValue
+unit_remarks asset f earlier j = map (remark_on f j.moment) (matters (octets_of asset earlier j.item) j.fate)
+
+abbrev pub end_remarks : FlowValue → Ending → List RemarkValue
+end_remarks f Whole = []
+end_remarks f (Breaks number reason) = remark_on f number (Broken reason) ∷ []
+
+abbrev pub conflict_remarks : FlowValue → Option ConflictOf → List RemarkValue
+conflict_remarks f None = []
+conflict_remarks f (Some c) = remark_on f c.at_record (Conflict c.position) ∷ []
+
+-- those on a flow whose bytes are these units and this ending
+abbrev pub flow_remarks : Asset → FlowValue → List Judged → Ending → List RemarkValue
+flow_remarks asset f js ending = conflict_remarks f f.conflict ++ (in_turn (unit_remarks asset f) [] js ++ end_remarks f ending)
+
+-- the bytes of a flow are some units and an ending, and these are the remarks behind others on it, with so many commands allowed
+pub record AddsReview (asset : Asset) (f : FlowValue) (old new : List RemarkValue) (admitted : ℕ) : Type 0 where
+  pub judged : List Judged
+  pub ending : Ending
+  pub are_read : AreRead asset f.client.address [] f.bytes f.born judged ending
+  pub admitted_is : admitted ≡ admitted_in judged
+  pub remarks : new ≡ old ++ flow_remarks asset f judged ending
+
+-- those on a flow to the asset at its place
+abbrev pub remarks_by : Option Asset → Reading → List RemarkValue
+remarks_by None r = []
+remarks_by (Some asset) r = flow_remarks asset r.flow r.judged r.ending
+
+-- those on all flows, one after the other
+abbrev pub remarks_on : List Asset → List Reading → List RemarkValue
+remarks_on assets readings = flat_map (λ r. remarks_by (slice_get assets r.flow.asset) r) readings
+
+abbrev pub is_at : (record_number : ℕ) → RemarkValue → Bool
+is_at number r = r.at_record == number
+
+-- these are told in the order of their records: of each record all, and each as often and in the order in which it stood
+pub record AreInOrder (all told : List RemarkValue) : Type 0 where
+  pub rising : IsNonDecreasingBy (λ r. r.at_record) told
+  pub of_each : (number : ℕ) → filter (is_at number) told ≡ filter (is_at number) all
+
+-- the flows can be read so, and this is all that is objected to in them
+pub record IsReviewOf (assets : List Asset) (flows : List FlowValue) (r : Reviewed) : Type 0 where
+  pub readings : List Reading
+  pub of_flows : map (λ x. x.flow) readings ≡ flows
+  pub are_read : AreReadBy assets readings
+  pub counts : r.flows ≡ length flows
+  pub admitted : r.admitted ≡ commands_in 0 readings
+  pub remarks : AreInOrder (remarks_on assets readings) (map remark_value r.remarks.items)

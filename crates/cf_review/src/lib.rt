@@ -1,0 +1,15 @@
+//! The review of a recording: all that a policy objects to in its flows, as lines of the log.
+#![tactic(auto)]
+
+mod counting;
+mod laws;
+mod lines;
+mod remark;
+mod reviewing;
+mod spelling;
+
+pub use counting::{Counts, count};
+pub use laws::judge_tells_the_first;
+pub use lines::write_lines;
+pub use remark::{Matter, Remark, SHOWN};
+pub use reviewing::{Reviewed, review};

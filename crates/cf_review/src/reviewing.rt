@@ -1,0 +1,193 @@
+//! All that a policy objects to in watched flows.
+ghost use Rattle.std.specs.Prelude.{◌≡◌, ◌≤◌, ◌++◌, ◌∷◌, [], ℕ, List, IfOk, OnOk, All, length, map, slice_range, take};
+ghost use Rattle.cf_lane.specs.Judged.{Judged as JudgedItem, is_admitted, one_if};
+ghost use Rattle.cf_lane.specs.Unit.{SpellsUnit, UnitValue};
+ghost use Rattle.cf_lane.specs.declared.fate.Fate.{Fate};
+ghost use Rattle.cf_lane.specs.declared.fate.Refusal.{Refusal};
+ghost use Rattle.cf_judge.specs.Front.{HasWhole, IsReaderOf};
+ghost use Rattle.cf_judge.specs.Plain.{HasPlainFate, completed_in};
+ghost use Rattle.cf_judge.specs.Ruling.{ruling_of};
+ghost use Rattle.cf_policy.specs.Within.{AreAssetsWithin, IsAssetWithin};
+ghost use Rattle.cf_watch.specs.FlowValue.{IsForAsset, flow_value};
+ghost use Rattle.cf_review.specs.Remark.{matter_value, remark_value};
+ghost use Rattle.cf_review.specs.declared.remark.TheConstants.{SHOWN};
+ghost use Rattle.cf_review.specs.Review.{AddsReview, IsReviewOf, conflict_remarks, remark_on, unit_remarks};
+
+use crate::remark::{Matter, Remark, SHOWN};
+use arrayvec::ArrayVec;
+use cf_judge::{Front, Reader, Ruling};
+use cf_policy::{Asset, Policy};
+use cf_view::{NoMemory, View, push_view};
+use cf_watch::Flow;
+use std::alloc::Global;
+
+/// What a policy says of all flows.
+#[derive(Drop)]
+pub struct Reviewed {
+    pub flows: u64,
+    /// How many commands the policy allows, up to where each flow breaks or ends.
+    pub admitted: u64,
+    /// All that it objects to, in the order of the records.
+    pub remarks: Vec<Remark>,
+}
+
+/// Judges flows, each of which is to an asset of the policy, and keeps all that the policy objects to. Rates and the numbers of
+/// IEC 60870-5-104 are not judged. The flows are those of a whole capture.
+pub fn review(alloc: Global, policy: &Policy, flows: &[Flow]) -> Result<Reviewed, NoMemory>
+    requires within { AreAssetsWithin policy.now.assets }
+    requires flows { All (IsForAsset policy.now.assets) (map flow_value flows.now) }
+    ensures reviewed { IfOk result (λ r. IsReviewOf policy.now.assets (map flow_value flows.now) r) }
+{
+    let assets = policy.assets.as_slice();
+    let mut remarks = Vec::new(alloc);
+    let mut admitted: u64 = 0;
+    for flow in flows {
+        let more = review_flow(alloc, &assets[flow.asset as usize], flow, &mut remarks)?;
+        admitted = admitted.saturating_add(more);
+    }
+    if remarks.sort_by_key(|remark| remark.at_record).is_err() {
+        return Err(NoMemory);
+    }
+    Ok(Reviewed {
+        flows: flows.len() as u64,
+        admitted,
+        remarks,
+    })
+}
+
+/// Adds the remarks on a flow to an asset, and answers how many of its commands are allowed.
+fn review_flow(
+    alloc: Global,
+    asset: &Asset,
+    flow: &Flow,
+    remarks: &mut Vec<Remark>,
+) -> Result<u64, NoMemory>
+    requires within { IsAssetWithin asset.now }
+    requires born { length flow.now.born.items ≡ length flow.now.bytes.items }
+    ensures { IfOk result (λ admitted. AddsReview asset.now (flow_value flow.now) (map remark_value remarks.old.items) (map remark_value remarks.new.items) admitted) }
+{
+    add_conflict(flow, remarks)?;
+    let mut admitted: u64 = 0;
+    if flow.bytes.is_empty() {
+        return Ok(admitted);
+    }
+    let mut reader = Reader::new(alloc, asset, flow.client.address)?;
+    let mut at = 0;
+    'units: while at < flow.bytes.len() {
+        match reader.next(asset, &octets_of(flow, at, flow.bytes.len())) {
+            Front::Rest => return Ok(admitted),
+            Front::Broken { reason, place } => {
+                add(flow, flow.born[at + place], Matter::Broken(reason), remarks)?;
+                return Ok(admitted);
+            }
+            Front::Took { ruling, used } => {
+                let unit = octets_of(flow, at, at + used);
+                at += used;
+                admitted += allowed_by(&ruling);
+                add_unit(
+                    &reader,
+                    asset,
+                    flow,
+                    unit,
+                    flow.born[at - 1],
+                    ruling,
+                    remarks,
+                )?;
+            }
+        }
+    }
+    Ok(admitted)
+}
+
+/// Octets of a flow.
+fn octets_of(flow: &Flow, from: usize, to: usize) -> View<'_>
+    requires ordered { from ≤ to }
+    requires inside { to ≤ length flow.now.bytes.items }
+    ensures { result.bytes ≡ slice_range flow.now.bytes.items from to }
+{
+    View::one(&flow.bytes.as_slice()[from..to])
+}
+
+/// How many commands a ruling allows.
+fn allowed_by(ruling: &Ruling) -> u64
+    ensures count { (f : Fate) → ruling.now ≡ ruling_of f → result ≡ one_if (is_admitted f) }
+    ensures few { result ≤ 1 }
+{
+    match ruling {
+        Ruling::Allowed => 1,
+        Ruling::Nothing | Ruling::Refused(_) | Ruling::Stray(_) => 0,
+    }
+}
+
+/// Adds a remark on a flow.
+fn add(flow: &Flow, number: u64, what: Matter, remarks: &mut Vec<Remark>) -> Result<(), NoMemory>
+    ensures { OnOk result (map remark_value remarks.new.items ≡ map remark_value remarks.old.items ++ remark_on (flow_value flow.now) number (matter_value what) ∷ []) }
+{
+    let remark = Remark {
+        at_record: number,
+        client: flow.client,
+        asset: flow.asset,
+        what,
+    };
+    match remarks.push(remark) {
+        Ok(()) => Ok(()),
+        Err(_) => Err(NoMemory),
+    }
+}
+
+/// Adds that a flow has a conflict, if it has one.
+fn add_conflict(flow: &Flow, remarks: &mut Vec<Remark>) -> Result<(), NoMemory>
+    ensures { OnOk result (map remark_value remarks.new.items ≡ map remark_value remarks.old.items ++ conflict_remarks (flow_value flow.now) flow.now.conflict) }
+{
+    match flow.conflict {
+        None => Ok(()),
+        Some(conflict) => {
+            add(
+                flow,
+                conflict.at_record,
+                Matter::Conflict(conflict.position),
+                remarks,
+            )?;
+            Ok(())
+        }
+    }
+}
+
+/// Adds what is objected to in a unit of these octets, behind which the reader stands.
+fn add_unit(
+    reader: &Reader,
+    asset: &Asset,
+    flow: &Flow,
+    unit: View<'_>,
+    number: u64,
+    ruling: Ruling,
+    remarks: &mut Vec<Remark>,
+) -> Result<(), NoMemory>
+    requires whole { (refusal : Refusal) → ruling ≡ Ruling.Refused refusal → HasWhole asset.now reader.now }
+    ensures { OnOk result ((client : ℕ) (earlier : List JudgedItem) (u : UnitValue) (f : Fate)
+        → IsReaderOf asset.now client (earlier ++ completed_in number u f ∷ []) reader.now → SpellsUnit asset.now.protocol u unit.entry.bytes
+        → HasPlainFate asset.now client earlier u f → ruling ≡ ruling_of f
+        → map remark_value remarks.new.items ≡ map remark_value remarks.old.items ++ unit_remarks asset.now (flow_value flow.now) earlier (completed_in number u f)) }
+{
+    match ruling {
+        Ruling::Nothing | Ruling::Allowed => Ok(()),
+        Ruling::Stray(why) => {
+            add(flow, number, Matter::Stray(why), remarks)?;
+            Ok(())
+        }
+        Ruling::Refused(refusal) => {
+            let octets = shown(&reader.command_octets(asset, unit));
+            add(flow, number, Matter::Refused { refusal, octets }, remarks)?;
+            Ok(())
+        }
+    }
+}
+
+/// The first octets of a command.
+fn shown(octets: &View<'_>) -> ArrayVec<u8, SHOWN>
+    ensures { result.items ≡ take SHOWN octets.now.bytes }
+{
+    let mut first = ArrayVec::<u8, SHOWN>::new();
+    push_view(&mut first, &octets.sub(0, SHOWN.min(octets.len())));
+    first
+}
