@@ -6,6 +6,30 @@ use cf_run::Summary;
 use std::alloc::{AllocError, Global};
 use std::fmt::Write;
 
+const ABOVE: &str =
+    " acknowledged what the box had not sent: the capture was not recorded at the box, \
+    but at a span port or on a host, where both hosts answer each other";
+
+const BEYOND: &str =
+    " stood beyond the window that the box had told: the hosts agreed on window scaling, \
+    which the box does not, or the capture was not recorded at the box";
+
+const LEFT_OPEN: &str =
+    " sessions never closed: the capture ends before they do, or has not all of their packets";
+
+const AMID: &str = " came without the SYN of their connection: the capture begins amid it; \
+    record from before it begins";
+
+const FOREIGN: &str = " did not go between a client and an asset of POLICY: \
+    neither end, or both, has an asset's address and port";
+
+const REST: &str = " came behind a cut, long behind a closing, or for a session that was not begun";
+
+const JUDGE: &str = "for a recording from a span port or a host use 'cmdwall judge POLICY CAPTURE' \
+    (docs/RUN.md)";
+
+const FULL: &str = " would have begun a session while 256 others were open, and began none";
+
 /// A text that is put together piece by piece, and whether it has all that was put to it.
 #[derive(Drop)]
 struct Lines {
@@ -84,33 +108,11 @@ pub fn run_text(
             Words(LEFT_OPEN),
         ]);
     }
-    if look.above.segments > 0 || look.beyond.segments > 0 || look.amid > 0 {
+    if look.above.segments > 0 || look.beyond.segments > 0 {
         lines.put(&[Words(JUDGE)]);
     }
     lines.finish()
 }
-
-const ABOVE: &str =
-    " acknowledged what the box had not sent: the capture was not recorded at the box, \
-    but at a span port or on a host, where both hosts answer each other";
-
-const BEYOND: &str =
-    " stood beyond the window that the box had told: the hosts agreed on window scaling, \
-    which the box does not, or the capture was not recorded at the box";
-
-const LEFT_OPEN: &str =
-    " sessions never closed: the capture ends before they do, or has not all of their packets";
-
-const AMID: &str = " came without the SYN of their connection: the capture begins amid it, \
-    so no session has them";
-
-const FOREIGN: &str = " did not go between a client and an asset of POLICY: \
-    no asset has such an address and port";
-
-const REST: &str = " came behind a cut, long behind a closing, or for a session that was not begun";
-
-const JUDGE: &str = "for a recording from a span port or a host use 'cmdwall judge POLICY CAPTURE' \
-    (docs/RUN.md)";
 
 fn put_misfits(lines: &mut Lines, summary: &Summary, misfits: &Misfits, meaning: &str) {
     if misfits.segments == 0 {
@@ -156,8 +158,6 @@ fn put_outside(lines: &mut Lines, summary: &Summary, look: &Look) {
         }
     }
 }
-
-const FULL: &str = " would have begun a session while 256 others were open, and began none";
 
 fn put_dropped(lines: &mut Lines, dropped: &Dropped) {
     for (place, count) in dropped.counts.iter().enumerate() {

@@ -66,9 +66,8 @@ row: a capture that begins amid a connection, and a packet to another port
 1.010000 k PA 6000 2012 65535 W
 1.020000 ip 4500002800004000400626c30a0000050a000009c00001f7000003e9000013895010ffffc25d0000
 says:
-note: 2 of 3 packets came without the SYN of their connection: the capture begins amid it, so no session has them
-note: 1 of 3 packets did not go between a client and an asset of POLICY: no asset has such an address and port
-note: for a recording from a span port or a host use 'cmdwall judge POLICY CAPTURE' (docs/RUN.md)
+note: 2 of 3 packets came without the SYN of their connection: the capture begins amid it; record from before it begins
+note: 1 of 3 packets did not go between a client and an asset of POLICY: neither end, or both, has an asset's address and port
 
 row: a write behind a reset
 1.000000 c S 1000 0 65535
