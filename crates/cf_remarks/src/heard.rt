@@ -1,6 +1,6 @@
 //! What clients sent to each asset, counted: the commands that `learn` reads, and what it leaves out.
-ghost use Rattle.std.specs.Prelude.{IfOk, IfSome};
-ghost use Rattle.cf_policy.specs.Within.{IsAssetWithin, IsWithin};
+ghost use Rattle.std.specs.Prelude.{IfSome};
+ghost use Rattle.cf_policy.specs.Within.{AreAssetsWithin, IsAssetWithin, IsWithin};
 
 use cf_judge::{Front, Reader, Ruling};
 use cf_outside::Files;
@@ -52,18 +52,26 @@ impl Heard {
 
     /// Counts a unit.
     fn take(&mut self, ruling: &Ruling) {
-        let count = match ruling {
-            Ruling::Nothing => return,
-            Ruling::Allowed => &mut self.commands,
-            Ruling::Refused(refusal) => match refusal.decider {
-                Decider::Station => &mut self.stations,
-                Decider::Form => &mut self.forms,
-                Decider::Rule(_) | Decider::Spent(_) | Decider::Default => &mut self.commands,
-            },
-            Ruling::Stray(_) => &mut self.strays,
-        };
-        *count = count.saturating_add(1);
+        match ruling {
+            Ruling::Nothing => {}
+            Ruling::Allowed => add_one(&mut self.commands),
+            Ruling::Refused(refusal) => self.take_refused(&refusal.decider),
+            Ruling::Stray(_) => add_one(&mut self.strays),
+        }
     }
+
+    /// Counts a command that is refused: what a rule says of it plays no part.
+    fn take_refused(&mut self, decider: &Decider) {
+        match decider {
+            Decider::Station => add_one(&mut self.stations),
+            Decider::Form => add_one(&mut self.forms),
+            Decider::Rule(_) | Decider::Spent(_) | Decider::Default => add_one(&mut self.commands),
+        }
+    }
+}
+
+fn add_one(count: &mut u64) {
+    *count = count.saturating_add(1);
 }
 
 /// What clients sent to the assets of a policy in a capture. Nothing where the capture cannot be watched, or memory ran out. Changes
@@ -93,7 +101,7 @@ pub(crate) fn heard_in<F: Files>(
 
 /// The asset at a place.
 fn asset_at(assets: &[Asset], place: u32) -> Option<&Asset>
-    requires { Rattle.cf_policy.specs.Within.AreAssetsWithin assets.now }
+    requires { AreAssetsWithin assets.now }
     ensures within { IfSome result (λ asset. IsAssetWithin asset.now) }
 {
     assets.get(place as usize)

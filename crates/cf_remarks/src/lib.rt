@@ -12,12 +12,17 @@
 //!   Segments with RST are neither.
 //! - A packet belongs to a connection whose SYN is not there where it comes before any SYN of its pair. A packet is of no asset where
 //!   not exactly one of its endpoints is an asset's. Both counts are exact: each such packet is of no session.
+//! - Behind `learn` the commands of each client to each asset are those with the asset's station whose form is read, up to where its
+//!   connection breaks; what is left out beside them is counted by why.
 //! - How many sessions never closed is what the summary counts without those that were cut and those that LOG says closed.
 #![tactic(auto)]
 
+mod amid;
 mod closes;
 mod counts;
 mod dropped;
+mod heard;
+mod learned;
 mod look;
 mod pair;
 mod reason;
@@ -27,6 +32,7 @@ mod way;
 pub use closes::left_open;
 pub use counts::{has_gaps, read_summary};
 pub use dropped::{Dropped, dropped_alone};
+pub use learned::learned_text;
 pub use look::{Look, Misfits, look_again};
 pub use reason::DropReason;
 pub use text::{dropped_text, run_text};

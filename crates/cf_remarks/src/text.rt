@@ -32,14 +32,14 @@ const FULL: &str = " would have begun a session while 256 others were open, and 
 
 /// A text that is put together piece by piece, and whether it has all that was put to it.
 #[derive(Drop)]
-struct Lines {
+pub(crate) struct Lines {
     text: String,
     is_whole: bool,
 }
 
 /// A piece of a line.
 #[derive(Clone, Copy)]
-enum Piece<'a> {
+pub(crate) enum Piece<'a> {
     Words(&'a str),
     Number(u64),
 }
@@ -47,14 +47,14 @@ enum Piece<'a> {
 use Piece::{Number, Words};
 
 impl Lines {
-    fn new(alloc: Global) -> Lines {
+    pub(crate) fn new(alloc: Global) -> Lines {
         Lines {
             text: String::new(alloc),
             is_whole: true,
         }
     }
 
-    fn finish(self) -> Result<String, AllocError> {
+    pub(crate) fn finish(self) -> Result<String, AllocError> {
         if self.is_whole {
             Ok(self.text)
         } else {
@@ -63,8 +63,21 @@ impl Lines {
     }
 
     /// Puts a line, behind the word with which each remark begins.
-    fn put(&mut self, pieces: &[Piece<'_>]) {
+    pub(crate) fn put(&mut self, pieces: &[Piece<'_>]) {
+        self.begin();
+        self.push_all(pieces);
+        self.end();
+    }
+
+    pub(crate) fn begin(&mut self) {
         self.push("note: ");
+    }
+
+    pub(crate) fn end(&mut self) {
+        self.push("\n");
+    }
+
+    pub(crate) fn push_all(&mut self, pieces: &[Piece<'_>]) {
         for piece in pieces {
             match piece {
                 Words(words) => self.push(words),
@@ -73,7 +86,6 @@ impl Lines {
                 }
             }
         }
-        self.push("\n");
     }
 
     fn push(&mut self, words: &str) {

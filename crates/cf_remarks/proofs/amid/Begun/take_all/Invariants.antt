@@ -1,0 +1,8 @@
+use Rattle.std.proofs.Common.{◌-◌, ◌^◌, ◌≤◌}
+use Rattle.cf_remarks.proofs.amid.Begun.take_all.Given as goal
+
+abbrev pub invariant-records : goal.invariant-records
+invariant-records g l = record { near : l.reader.place ≤ 2 ^ 40 }
+
+abbrev pub decreases-records : goal.decreases-records
+decreases-records g l = 2 ^ 40 - l.reader.place
