@@ -1,4 +1,5 @@
 //! Sessions that never closed.
+ghost use Rattle.std.specs.Prelude.{◌≡◌};
 
 use cf_outside::{Files, ReadAnswer};
 use cf_run::Summary;
@@ -38,8 +39,11 @@ impl Closes {
     }
 }
 
-/// How many sessions of a run neither closed nor were cut, by what was counted and its LOG. Nothing where LOG cannot be read.
-pub fn left_open<F: Files>(files: &mut F, log: &str, summary: &Summary) -> Option<u64> {
+/// How many sessions of a run neither closed nor were cut, by what was counted and its LOG. Nothing where LOG cannot be read. Changes no file.
+pub fn left_open<F: Files>(files: &mut F, log: &str, summary: &Summary) -> Option<u64>
+    ensures same { F.content files.new ≡ F.content files.old }
+    ensures writes { F.write_faults files.new ≡ F.write_faults files.old }
+{
     let closed = closes_in(files, log)?;
     Some(
         summary
@@ -49,7 +53,11 @@ pub fn left_open<F: Files>(files: &mut F, log: &str, summary: &Summary) -> Optio
     )
 }
 
-fn closes_in<F: Files>(files: &mut F, log: &str) -> Option<u64> {
+/// How many lines of a log say that a session closed.
+fn closes_in<F: Files>(files: &mut F, log: &str) -> Option<u64>
+    ensures same { F.content files.new ≡ F.content files.old }
+    ensures writes { F.write_faults files.new ≡ F.write_faults files.old }
+{
     let mut closes = Closes {
         words: 0,
         letters: 0,
@@ -57,7 +65,7 @@ fn closes_in<F: Files>(files: &mut F, log: &str) -> Option<u64> {
     };
     let mut piece = [0u8; PIECE];
     let mut place = 0u64;
-    for _ in 0..u64::MAX {
+    'pieces: for _ in 0..u64::MAX {
         match files.read_at(log, place, &mut piece) {
             ReadAnswer::Got(count) => {
                 for octet in piece.iter().take(count) {

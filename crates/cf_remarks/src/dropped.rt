@@ -1,5 +1,5 @@
 //! Records by why they were dropped.
-ghost use Rattle.std.specs.Prelude.{◌≤◌, ◌^◌};
+ghost use Rattle.std.specs.Prelude.{◌≡◌, ◌≤◌, ◌^◌};
 
 use crate::reason::{REASONS, reason_of};
 use cf_outside::Files;
@@ -33,7 +33,10 @@ impl Dropped {
 
 /// The records of a capture by why they are dropped, where there is one and none is a packet. Nothing where one is, and the records
 /// behind it are not read; nor where the capture is refused or cut, or cannot be read. Changes no file.
-pub fn dropped_alone<F: Files>(alloc: Global, files: &mut F, capture: &str) -> Option<Dropped> {
+pub fn dropped_alone<F: Files>(alloc: Global, files: &mut F, capture: &str) -> Option<Dropped>
+    ensures same { F.content files.new ≡ F.content files.old }
+    ensures writes { F.write_faults files.new ≡ F.write_faults files.old }
+{
     let mut reader = RecordReader::open(alloc, files, capture).ok()?;
     let mut dropped = Dropped::new();
     if !drops_all(&mut reader, files, capture, &mut dropped) || dropped.records == 0 {
@@ -50,6 +53,8 @@ fn drops_all<F: Files>(
     dropped: &mut Dropped,
 ) -> bool
     requires near { reader.old.place ≤ 2 ^ 40 }
+    ensures same { F.content files.new ≡ F.content files.old }
+    ensures writes { F.write_faults files.new ≡ F.write_faults files.old }
 {
     'records: loop {
         match reader.next(files, capture) {

@@ -1,5 +1,5 @@
 //! CAPTURE and OUT, read again side by side.
-ghost use Rattle.std.specs.Prelude.{◌≤◌, ◌^◌};
+ghost use Rattle.std.specs.Prelude.{◌≡◌, ◌≤◌, ◌^◌};
 
 use crate::dropped::Dropped;
 use crate::pair::{Pair, PairKey, pair_of};
@@ -49,7 +49,12 @@ pub fn look_again<F: Files, G: Files>(
     names: &RunNames<'_>,
     files: &mut F,
     others: &mut G,
-) -> Option<Look> {
+) -> Option<Look>
+    ensures same { F.content files.new ≡ F.content files.old }
+    ensures same_others { G.content others.new ≡ G.content others.old }
+    ensures writes { F.write_faults files.new ≡ F.write_faults files.old }
+    ensures writes_others { G.write_faults others.new ≡ G.write_faults others.old }
+{
     let mut captured = RecordReader::open(alloc, files, names.capture).ok()?;
     let mut sent = RecordReader::open(alloc, others, names.out).ok()?;
     let mut seen = Seen::new(alloc);
@@ -80,6 +85,10 @@ fn see_all<F: Files, G: Files>(
 ) -> bool
     requires captured { captured.old.place ≤ 2 ^ 40 }
     requires sent { sent.old.place ≤ 2 ^ 40 }
+    ensures same { F.content files.new ≡ F.content files.old }
+    ensures same_others { G.content others.new ≡ G.content others.old }
+    ensures writes { F.write_faults files.new ≡ F.write_faults files.old }
+    ensures writes_others { G.write_faults others.new ≡ G.write_faults others.old }
 {
     let mut next = sent.next(others, names.out);
     let mut least = 2u64;
@@ -118,6 +127,8 @@ fn see_sent<F: Files>(
 ) -> Option<NextRecord>
     requires near { sent.old.place ≤ 2 ^ 40 }
     ensures near { sent.new.place ≤ 2 ^ 40 }
+    ensures same { F.content files.new ≡ F.content files.old }
+    ensures writes { F.write_faults files.new ≡ F.write_faults files.old }
 {
     let NextRecord::Whole(mut stamp) = first else {
         return behind(first);

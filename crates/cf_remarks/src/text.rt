@@ -17,8 +17,8 @@ const BEYOND: &str =
 const LEFT_OPEN: &str =
     " sessions never closed: the capture ends before they do, or has not all of their packets";
 
-const AMID: &str = " came without the SYN of their connection: the capture begins amid it; \
-    record from before it begins";
+const AMID: &str = " came without the SYN of their connection: the capture begins amid it, \
+    or its SYN was dropped; record from before it begins";
 
 const FOREIGN: &str = " did not go between a client and an asset of POLICY: \
     neither end, or both, has an asset's address and port";

@@ -66,7 +66,7 @@ row: a capture that begins amid a connection, and a packet to another port
 1.010000 k PA 6000 2012 65535 W
 1.020000 ip 4500002800004000400626c30a0000050a000009c00001f7000003e9000013895010ffffc25d0000
 says:
-note: 2 of 3 packets came without the SYN of their connection: the capture begins amid it; record from before it begins
+note: 2 of 3 packets came without the SYN of their connection: the capture begins amid it, or its SYN was dropped; record from before it begins
 note: 1 of 3 packets did not go between a client and an asset of POLICY: neither end, or both, has an asset's address and port
 
 row: a write behind a reset
