@@ -62,9 +62,17 @@ fn put_heard(lines: &mut Lines, asset: &str, address: u32, heard: &Heard) {
     lines.push_all(&[
         Words(" sent "),
         Number(heard.commands),
-        Words(" commands in "),
+        Words(if heard.commands == 1 {
+            " command in "
+        } else {
+            " commands in "
+        }),
         Number(heard.flows),
-        Words(" connections"),
+        Words(if heard.flows == 1 {
+            " connection"
+        } else {
+            " connections"
+        }),
     ]);
     put_left(lines, heard);
     lines.end();

@@ -3,7 +3,8 @@
 use crate::why::policy_again;
 use cf_machine::{Gather, RealFiles};
 use cf_remarks::{
-    dropped_alone, dropped_text, has_gaps, left_open, look_again, read_summary, run_text,
+    dropped_alone, dropped_text, has_gaps, learned_text, left_open, look_again, read_summary,
+    run_text,
 };
 use cf_run::RunNames;
 use std::rt::Files as FileSystem;
@@ -56,6 +57,26 @@ pub(crate) fn remark_on_dropped<R: FileSystem + Eprint + AllocGlobal>(
     }
     match dropped_alone(rt.alloc(), files, capture) {
         Some(dropped) => print_lines(rt, &dropped_text(rt.alloc(), &dropped)?),
+        None => Ok(()),
+    }
+}
+
+/// Says what each client sent in a capture that a policy was learned from, and what was left out; or why no record is a packet.
+pub(crate) fn remark_on_learned<R: FileSystem + Eprint + AllocGlobal>(
+    rt: &R,
+    policy: &str,
+    capture: &str,
+    printed: &str,
+    files: &mut RealFiles<'_, R>,
+) -> io::Result<()> {
+    if printed.ends_with(" 0\n") {
+        remark_on_dropped(rt, capture, files)?;
+    }
+    if !is_file(rt, policy) || !is_file(rt, capture) {
+        return Ok(());
+    }
+    match policy_again(rt, policy, files) {
+        Some((read, _)) => print_lines(rt, &learned_text(rt.alloc(), &read, capture, files)?),
         None => Ok(()),
     }
 }

@@ -2,7 +2,7 @@
 ghost use Rattle.std.specs.Prelude.{IfSome};
 ghost use Rattle.cf_policy.specs.Within.{IsWithin};
 
-use crate::remark::{remark_on_dropped, remark_on_run};
+use crate::remark::{remark_on_dropped, remark_on_learned, remark_on_run};
 use cf_box::{Command, read_words};
 use cf_explain::{
     PolicyFile, asset_message, capture_message, inclusion_message, outputs_message, policy_message,
@@ -137,10 +137,12 @@ fn remark<R: FileSystem + Eprint + AllocGlobal>(
 ) -> io::Result<()> {
     match command {
         Command::Check { policy } => warn(rt, policy, files),
-        Command::Learn { capture, out, .. } => {
-            if printed.ends_with(" 0\n") {
-                remark_on_dropped(rt, capture, files)?;
-            }
+        Command::Learn {
+            policy,
+            capture,
+            out,
+        } => {
+            remark_on_learned(rt, policy, capture, printed, files)?;
             warn_of_learned(rt, out)
         }
         Command::Judge { capture, .. } if printed == "yes flows 0 commands 0\n" => {
