@@ -1,5 +1,6 @@
 -- Laws over every run and every capture: HasLaws. This project's own.
 use Rattle.cf_isolation.specs.Isolated.{CapturesAreIsolated, CapturesHoldSessions, CapturesHoldToTheNext}
+use Rattle.cf_isolation.specs.Lives.{AlikeInLines, AlikeInRecords, EachHasRecords, EachLogged}
 use Rattle.cf_isolation.specs.Logged.{LogsAreIsolated, LogsHoldSessions, LogsHoldToTheNext}
 use Rattle.cf_pcapng.specs.Calls.{GiveBlocks, HaveOneListOfBlocks}
 use Rattle.cf_readback.specs.ReadBack.{RunsAreReadBack}
@@ -22,6 +23,12 @@ pub record HasLaws : Type 0 where
   pub lines_held : LogsHoldSessions
   pub lines_to_the_next : LogsHoldToTheNext
   pub lines_isolated : LogsAreIsolated
+  -- over the whole life of each session, the records and the lines are those of its own events; and a session of another run with the
+  -- same flow that is given the same packets at the same moments has the same
+  pub records_owned : EachHasRecords
+  pub lines_owned : EachLogged
+  pub records_alike : AlikeInRecords
+  pub lines_alike : AlikeInLines
   -- each refused command has its line and, but in three cases, its reply
   pub told : RefusedAreTold
   -- two runs of one policy over the same records have the same outputs and counts

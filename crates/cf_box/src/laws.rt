@@ -2,7 +2,8 @@
 ghost use Rattle.cf_box.specs.Laws.{HasLaws};
 
 use cf_isolation::{
-    captures_are_isolated, captures_hold_sessions, logs_are_isolated, logs_hold_sessions,
+    alike_sessions_own_the_same, captures_are_isolated, captures_hold_sessions, logs_are_isolated,
+    logs_hold_sessions, sessions_own_their_lines, sessions_own_their_records,
 };
 use cf_pcapng::{calls_give_blocks, files_have_one_list_of_blocks};
 use cf_readback::runs_are_read_back;
@@ -19,6 +20,9 @@ pub(crate) fn laws_hold()
     captures_are_isolated();
     logs_hold_sessions();
     logs_are_isolated();
+    sessions_own_their_records();
+    sessions_own_their_lines();
+    alike_sessions_own_the_same();
     refused_commands_are_told();
     records_fix_runs();
     octets_have_one_list_of_records();

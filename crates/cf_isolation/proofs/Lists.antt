@@ -34,3 +34,7 @@ and_one p q x xs false e h = h
 pub filter_both : {X : Type 0} (p q : X → Bool) (xs : List X) → filter (λ y. p y && q y) xs ≡ filter q (filter p xs)
 filter_both p q [] = refl
 filter_both p q (x ∷ xs) = and_one p q x xs (p x) refl (filter_both p q xs)
+
+pub all_filtered : {X : Type 0} (P : X → Type 0) (q : X → Bool) (xs : List X) → AllByRecursion P xs → AllByRecursion P (filter q xs)
+all_filtered P q [] h = tt
+all_filtered P q (x ∷ xs) h = elim (q x) as (λ b. AllByRecursion P (cond b (x ∷ filter q xs) (filter q xs))) [ true ↦ (h.0, all_filtered P q xs h.1) | false ↦ all_filtered P q xs h.1 ]

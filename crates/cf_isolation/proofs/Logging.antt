@@ -38,16 +38,16 @@ use Rattle.cf_isolation.proofs.Words.{IsEndpoint, IsMoment}
 -- ---- an event
 
 -- the client of a flow is in the ranges of its fields, and its asset one of these
-abbrev IsKnown : List Asset → Flow → Type 0
+abbrev pub IsKnown : List Asset → Flow → Type 0
 IsKnown assets f = IsEndpoint (client_of f) × IsAmong assets f.asset
 
 -- right events, in time, in which known flows begin
-record AreKnown (assets : List Asset) (limit : ℕ) (es : List Event) : Type 0 where
-  are : AreEvents assets limit es
-  in_time : AllByRecursion (λ e. IsMoment e.input.moment) es
-  begun : BegunHave (IsKnown assets) es
+pub record AreKnown (assets : List Asset) (limit : ℕ) (es : List Event) : Type 0 where
+  pub are : AreEvents assets limit es
+  pub in_time : AllByRecursion (λ e. IsMoment e.input.moment) es
+  pub begun : BegunHave (IsKnown assets) es
 
-known_before : (assets : List Asset) (limit : ℕ) (e : Event) (es : List Event) → AreKnown assets limit (e ∷ es) → AreKnown assets limit es
+pub known_before : (assets : List Asset) (limit : ℕ) (e : Event) (es : List Event) → AreKnown assets limit (e ∷ es) → AreKnown assets limit es
 known_before assets limit e es h = record { are = h.are.1; in_time = h.in_time.1; begun = h.begun.1 }
 
 module _ (works : WorkIsOfTheTaken) (assets : List Asset) (within : AreAssetsWithin assets) (limit : ℕ) (client : Endpoint) (asset : Asset) (known : IsEndpoint client) (among : IsAmong assets asset) where
@@ -72,9 +72,9 @@ module _ (works : WorkIsOfTheTaken) (assets : List Asset) (within : AreAssetsWit
 
   -- ---- the first half
 
-  record TicksNaming (tick : ℕ) (ss : List Session) (ts : List SessionEvent) : Type 0 where
-    moments : AllByRecursion (λ line. moment_in line ≡ tick) (logged_ticks ss ts)
-    names : naming (logged_ticks ss ts) ≡ logged_ticks (filter (is_between client asset.endpoint) ss) (ticks_of client asset.endpoint ss ts)
+  pub record TicksNaming (tick : ℕ) (ss : List Session) (ts : List SessionEvent) : Type 0 where
+    pub moments : AllByRecursion (λ line. moment_in line ≡ tick) (logged_ticks ss ts)
+    pub names : naming (logged_ticks ss ts) ≡ logged_ticks (filter (is_between client asset.endpoint) ss) (ticks_of client asset.endpoint ss ts)
 
   ticks_naming : (tick : ℕ) (ss : List Session) (ts : List SessionEvent) → IsMoment tick → Each (Has (IsKnown assets)) ss → AreTicks tick ss ts → TicksNaming tick ss ts
   ticks_naming tick [] ts m k are = record { moments = tt; names = refl }
@@ -99,9 +99,9 @@ module _ (works : WorkIsOfTheTaken) (assets : List Asset) (within : AreAssetsWit
   lines_theirs table r =
       (if goes_to_theirs client asset.endpoint table r then logged_received table r else []) ++ (if begins_theirs client asset.endpoint r then logged_received table r else [])
 
-  record SecondNaming (tick : ℕ) (table : List Session) (r : Received) : Type 0 where
-    moments : AllByRecursion (λ line. moment_in line ≡ tick + 1) (logged_received table r)
-    names : naming (logged_received table r) ≡ lines_theirs table r
+  pub record SecondNaming (tick : ℕ) (table : List Session) (r : Received) : Type 0 where
+    pub moments : AllByRecursion (λ line. moment_in line ≡ tick + 1) (logged_received table r)
+    pub names : naming (logged_received table r) ≡ lines_theirs table r
 
   module _ (tick : ℕ) (m : IsMoment (tick + 1)) where
     goes_with : (s : Side) (p : PacketValue) (e : SessionEvent) (x : Session) (es : List SessionEvent) → x.events ≡ es → IsKnown assets x.flow → HasHalf limit tick x.flow es →
@@ -149,13 +149,13 @@ module _ (works : WorkIsOfTheTaken) (assets : List Asset) (within : AreAssetsWit
     abbrev now : List Event → Event → List (List ℕ)
     now es e = logged_in_first (table_after es) e ++ logged_in_second (table_after es) e
 
-    first_naming : (e : Event) (es : List Event) → AreKnown assets limit (e ∷ es) → Rises (e ∷ es) → TicksNaming (tick_of e.input) (kept (tick_of e.input) (table_after es)) e.ticks
+    pub first_naming : (e : Event) (es : List Event) → AreKnown assets limit (e ∷ es) → Rises (e ∷ es) → TicksNaming (tick_of e.input) (kept (tick_of e.input) (table_after es)) e.ticks
     first_naming e es h r =
         let small = h.in_time.0 in
         ticks_naming (tick_of e.input) (kept (tick_of e.input) (table_after es)) e.ticks (omega (arith, small))
         (kept_has (IsKnown assets) (tick_of e.input) (table_after es) (table_has (IsKnown assets) es h.begun.1)) h.are.0.ticks
 
-    second_naming : (e : Event) (es : List Event) → AreKnown assets limit (e ∷ es) → Rises (e ∷ es) → SecondNaming (tick_of e.input) (found (table_after es) e) e.received
+    pub second_naming : (e : Event) (es : List Event) → AreKnown assets limit (e ∷ es) → Rises (e ∷ es) → SecondNaming (tick_of e.input) (found (table_after es) e) e.received
     second_naming e es h r =
         let small = h.in_time.0 in
         received_naming (tick_of e.input) (omega (arith, small, r.0)) (found (table_after es) e) e.input.packet e.received
@@ -236,14 +236,14 @@ read_parts : (xs ys : List Input) → AllByRecursion IsRead (xs ++ ys) → AllBy
 read_parts [] ys h = (tt, h)
 read_parts (x ∷ xs) ys h = let more = read_parts xs ys h.1 in ((h.0, more.0), more.1)
 
-events_read : (es : List Event) → AllByRecursion IsRead (inputs_of es) → AllByRecursion (λ e. IsRead e.input) es
+pub events_read : (es : List Event) → AllByRecursion IsRead (inputs_of es) → AllByRecursion (λ e. IsRead e.input) es
 events_read [] h = tt
 events_read (e ∷ es) h = let parts = read_parts (inputs_of es) (e.input ∷ []) h in (parts.1.0, events_read es parts.0)
 
 ranged : (o : Result PacketValue PacketRefusal) (p : PacketValue) → o ≡ Ok p → IfOk o HasRanges → HasRanges p
 ranged o p is h = subst (λ x. IfOk x HasRanges) is h
 
-all_known : (assets : List Asset) (limit : ℕ) (es : List Event) → AreEvents assets limit es → AllByRecursion (λ e. IsRead e.input) es → AreKnown assets limit es
+pub all_known : (assets : List Asset) (limit : ℕ) (es : List Event) → AreEvents assets limit es → AllByRecursion (λ e. IsRead e.input) es → AreKnown assets limit es
 all_known assets limit [] h read = record { are = tt; in_time = tt; begun = tt }
 all_known assets limit (e ∷ es) h read =
     let before = all_known assets limit es h.1 read.1 in

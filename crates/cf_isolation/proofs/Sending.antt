@@ -83,10 +83,10 @@ module _ (law : SessionsAreRight) (assets : List Asset) (limit : ℕ) where
   abbrev now : List Event → Event → List Sent
   now es e = sent_in_first e ++ sent_in_second e
 
-  first_now : (e : Event) (es : List Event) → AreEvents assets limit (e ∷ es) → AllAt (tick_of e.input) (sent_in_first e)
+  pub first_now : (e : Event) (es : List Event) → AreEvents assets limit (e ∷ es) → AllAt (tick_of e.input) (sent_in_first e)
   first_now e es h = ticks_at (tick_of e.input) (kept (tick_of e.input) (table_after es)) e.ticks h.0.ticks
 
-  second_now : (e : Event) (es : List Event) → AreEvents assets limit (e ∷ es) → Rises (e ∷ es) → AllAt e.input.moment (sent_in_second e)
+  pub second_now : (e : Event) (es : List Event) → AreEvents assets limit (e ∷ es) → Rises (e ∷ es) → AllAt e.input.moment (sent_in_second e)
   second_now e es h r =
       let back : tick_of e.input + 1 ≡ e.input.moment = omega (arith, r.0) in
       subst (λ m. AllAt m (sent_in_second e)) back (received_at limit (tick_of e.input) assets (found (table_after es) e) e.input.packet e.received (halves e es h) h.0.received)
@@ -109,14 +109,14 @@ module _ (law : SessionsAreRight) (assets : List Asset) (limit : ℕ) where
     abbrev is_theirs_sent : Sent → Bool
     is_theirs_sent s = goes_between client asset s.packet
 
-    first_between : (e : Event) (es : List Event) → AreEvents assets limit (e ∷ es) →
+    pub first_between : (e : Event) (es : List Event) → AreEvents assets limit (e ∷ es) →
         filter is_theirs_sent (sent_in_first e) ≡ flat_map sent_first (ticks_of client asset (kept (tick_of e.input) (table_after es)) e.ticks)
     first_between e es h =
         let tick = tick_of e.input in
         ticks_between assets client asset none some limit tick (kept tick (table_after es)) e.ticks
         (each_filter (IsRightSession limit) _ (table_after es) (rights_after es h.1)) (kept_has (IsOwn assets) tick (table_after es) (own_after es h.1)) h.0.ticks
 
-    second_between : (e : Event) (es : List Event) → AreEvents assets limit (e ∷ es) →
+    pub second_between : (e : Event) (es : List Event) → AreEvents assets limit (e ∷ es) →
         filter is_theirs_sent (sent_in_second e) ≡ received_theirs assets client asset none some (found (table_after es) e) e.received
     second_between e es h =
         let tick = tick_of e.input in

@@ -1,6 +1,6 @@
 -- What events put out one after the other, each at its own moments, selected from the moment at which a session began to that of a later
 -- event.
-use Rattle.std.proofs.Common.{◌≡◌, ℕ, ◌<◌, ◌≤◌, ◌&&◌, Bool, true, false, List, [], ◌∷◌, ◌++◌, cond, refl, sym, ap, ◌∙◌, subst, arith}
+use Rattle.std.proofs.Common.{◌≡◌, ℕ, ◌<◌, ◌≤◌, ◌&&◌, Bool, true, false, List, [], ◌∷◌, ◌++◌, refl, sym, ap, ◌∙◌, subst, arith}
 use Rattle.std.specs.Prelude.{filter}
 use Rattle.std.specs.List.{AllByRecursion}
 use Rattle.std.proofs.lemmas.Bool.Decides.{nat_tests}
@@ -12,7 +12,7 @@ use Rattle.cf_run.specs.Isolation.{NoneBegins, begins_theirs}
 use Rattle.cf_run.specs.Selected.{Rises, last_moment}
 use Rattle.cf_run.specs.Trace.{AreEvents, Event, tick_of}
 use Rattle.cf_isolation.specs.Records.{is_during}
-use Rattle.cf_isolation.proofs.Lists.{all_both, all_map, filter_all, filter_both}
+use Rattle.cf_isolation.proofs.Lists.{all_both, all_filtered, all_map, filter_all, filter_both}
 
 pub last_grows : (after es : List Event) → Rises (after ++ es) → last_moment es ≤ last_moment (after ++ es)
 last_grows [] es r = omega arith
@@ -59,13 +59,9 @@ module _ {X : Type 0} (at : X → ℕ) (q : X → Bool) where
   in_time : (since until : ℕ) (ys : List X) → AllByRecursion (λ x. is_during since until (at x) ≡ true) ys → filter (λ x. is_during since until (at x)) ys ≡ ys
   in_time since until ys h = filter_all (λ x. is_during since until (at x)) true ys h
 
-  all_filtered : (P : X → Type 0) (xs : List X) → AllByRecursion P xs → AllByRecursion P (filter q xs)
-  all_filtered P [] h = tt
-  all_filtered P (x ∷ xs) h = elim (q x) as (λ b. AllByRecursion P (cond b (x ∷ filter q xs) (filter q xs))) [ true ↦ (h.0, all_filtered P xs h.1) | false ↦ all_filtered P xs h.1 ]
-
   pub picks_all : (since until : ℕ) (xs : List X) → AllByRecursion (λ x. is_during since until (at x) ≡ true) xs → picked since until xs ≡ filter q xs
   picks_all since until xs h =
-      filter_both q (λ x. is_during since until (at x)) xs ∙ in_time since until (filter q xs) (all_filtered (λ x. is_during since until (at x) ≡ true) xs h)
+      filter_both q (λ x. is_during since until (at x)) xs ∙ in_time since until (filter q xs) (all_filtered (λ x. is_during since until (at x) ≡ true) q xs h)
 
 -- what events put out, one after the other
 module _ {X : Type 0} (at : X → ℕ) (q : X → Bool) (Right : List Event → Type 0) (right_before : (e : Event) (es : List Event) → Right (e ∷ es) → Right es) (client asset : Endpoint) (now : List Event → Event → List X) (all : List Event → List X)

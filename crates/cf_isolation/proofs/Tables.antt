@@ -7,9 +7,9 @@ use Rattle.std.proofs.lemmas.Bool.Decides.{nat_tests}
 use Rattle.cf_packet.specs.Packet.{PacketValue}
 use Rattle.cf_packet.specs.declared.packet.PacketRefusal.{PacketRefusal}
 use Rattle.cf_policy.specs.declared.Asset.{Asset}
-use Rattle.cf_session.specs.Session.{Flow, SessionEvent, client_of}
+use Rattle.cf_session.specs.Session.{Flow, SessionEvent, client_of, is_expired}
 use Rattle.cf_view.specs.declared.Endpoint.{Endpoint}
-use Rattle.cf_run.specs.Sessions.{Each}
+use Rattle.cf_run.specs.Sessions.{Each, gone_after, leaves, left_by_packet, left_in, session_at, sessions_of}
 use Rattle.cf_run.specs.Table.{Begins, Full, Goes, Match, Outside, Session, asset_at, begins, begins_or_full, goes, goes_from_client, has_asset_at, is_opening, match_of, may_begin, place_of, same_endpoint, without}
 use Rattle.cf_run.specs.Trace.{AreEvents, Begun, Dropped, Event, NoRoom, NoSession, Received, Receives, ReceivesRecord, Went, after_received, kept, stays, table_after, tick_of, ticked, with_event_at, with_events}
 
@@ -180,6 +180,37 @@ module _ (K : Flow → Type 0) where
   pub table_has : (es : List Event) → BegunHave K es → Each Has (table_after es)
   table_has [] h = tt
   table_has (e ∷ es) h = received_has (ticked e.ticks (tick_of e.input) (table_after es)) e.received h.0 (found_has_all (tick_of e.input) e.ticks (table_after es) (table_has es h.1))
+
+  one_has : (table : List Session) (o : Option Session) → ((s : Session) → o ≡ Some s → Has s) → Each Has (elim o [ None ↦ [] | Some session ↦ session ∷ [] ])
+  one_has table None h = tt
+  one_has table (Some s) h = (h s refl, tt)
+
+  at_has : (table : List Session) (place : Option ℕ) → Each Has table → Each Has (session_at table place)
+  at_has table None h = tt
+  at_has table (Some i) h = one_has table (slice_get table i) (λ s e. each_get Has table i s h e)
+
+  left_has : (table : List Session) (r : Received) → Each Has table → Each Has (left_by_packet r table)
+  left_has table Dropped h = tt
+  left_has table NoRoom h = tt
+  left_has table NoSession h = tt
+  left_has table (Begun f e) h = at_has table (place_of (client_of f) f.asset.endpoint table) h
+  left_has table (Went i e) h = each_filter Has leaves (with_event_at i e table) (went_has i e table h)
+
+  -- of those that left it too
+  pub gone_have : (es : List Event) → BegunHave K es → Each Has (gone_after es)
+  gone_have [] h = tt
+  gone_have (e ∷ es) h =
+      let tick = tick_of e.input in
+      let table = table_after es in
+      let here = table_has es h.1 in
+      each_append Has (gone_after es) (left_in table e) (gone_have es h.1)
+      (each_append Has (filter (λ s. is_expired s.flow s.events tick) table) _ (each_filter Has (λ s. is_expired s.flow s.events tick) table here)
+      (each_append Has (filter leaves (with_events (kept tick table) e.ticks)) (left_by_packet e.received (ticked e.ticks tick table))
+      (each_filter Has leaves (with_events (kept tick table) e.ticks) (next_has (kept tick table) e.ticks (kept_has tick table here)))
+      (left_has (ticked e.ticks tick table) e.received (found_has_all tick e.ticks table here))))
+
+  pub sessions_have : (es : List Event) → BegunHave K es → Each Has (sessions_of es)
+  sessions_have es h = each_append Has (gone_after es) (table_after es) (gone_have es h) (table_has es h)
 
 pub all_own : (assets : List Asset) (limit : ℕ) (es : List Event) → AreEvents assets limit es → BegunHave (IsOwn assets) es
 all_own assets limit [] h = tt

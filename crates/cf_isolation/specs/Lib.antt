@@ -1,4 +1,5 @@
 pub mod Isolated
 pub mod Lines
+pub mod Lives
 pub mod Logged
 pub mod Records

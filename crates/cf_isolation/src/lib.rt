@@ -4,5 +4,6 @@
 mod laws;
 
 pub use laws::{
-    captures_are_isolated, captures_hold_sessions, logs_are_isolated, logs_hold_sessions,
+    alike_sessions_own_the_same, captures_are_isolated, captures_hold_sessions, logs_are_isolated,
+    logs_hold_sessions, sessions_own_their_lines, sessions_own_their_records,
 };

@@ -1,0 +1,231 @@
+-- The sessions of a client and an asset in a table, through the two halves of an event.
+use Rattle.std.proofs.Common.{◌≡◌, ℕ, zero, suc, ◌+◌, ◌&&◌, Bool, true, false, not, List, [], ◌∷◌, ◌++◌, length, cond, Option, Some, None, refl, sym, ap, ◌∙◌, subst, arith}
+use Rattle.std.specs.Prelude.{filter, nat_lt, position, slice_get}
+use Rattle.std.specs.List.{position_or_len, remove}
+use Rattle.std.proofs.lemmas.Bool.{true≢false}
+use Rattle.std.proofs.lemmas.Bool.Decides.{nat_tests}
+use Rattle.cf_policy.proofs.FirstPlace.{first_at}
+use Rattle.cf_session.specs.Session.{SessionEvent}
+use Rattle.cf_view.specs.declared.Endpoint.{Endpoint}
+use Rattle.cf_run.specs.Isolation.{ticks_of}
+use Rattle.cf_run.specs.Sessions.{session_at}
+use Rattle.cf_run.specs.Table.{Session, is_between, place_of}
+use Rattle.cf_run.specs.Trace.{AreTicks, replaced, with_event_at, with_events}
+use Rattle.cf_isolation.proofs.Lists.{filter_both}
+
+-- ---- filters
+
+filter_same : {A : Type 0} (p q : A → Bool) → ((x : A) → p x ≡ q x) → (xs : List A) → filter p xs ≡ filter q xs
+filter_same p q h [] = refl
+filter_same p q h (x ∷ xs) = ap (λ b. cond b (x ∷ filter p xs) (filter p xs)) (h x) ∙ ap (λ l. cond (q x) (x ∷ l) l) (filter_same p q h xs)
+
+and_swap : (a b : Bool) → (a && b) ≡ (b && a)
+and_swap true true = refl
+and_swap true false = refl
+and_swap false true = refl
+and_swap false false = refl
+
+-- two filters in either order
+pub filter_swap : {A : Type 0} (p q : A → Bool) (xs : List A) → filter p (filter q xs) ≡ filter q (filter p xs)
+filter_swap p q xs = sym (filter_both q p xs) ∙ filter_same (λ x. q x && p x) (λ x. p x && q x) (λ x. and_swap (q x) (p x)) xs ∙ filter_both p q xs
+
+pub filter_one : {A : Type 0} (p : A → Bool) (b : Bool) (x : A) → p x ≡ b → filter p (x ∷ []) ≡ cond b (x ∷ []) []
+filter_one p b x e = ap (λ c. cond c (x ∷ []) []) e
+
+-- what is left passes
+passing : {A : Type 0} (p : A → Bool) (xs : List A) (y : A) (ys : List A) → filter p xs ≡ y ∷ ys → p y ≡ true
+passing p [] y ys h = cc
+passing p (x ∷ xs) y ys h = by (λ e. passing p xs y ys e) (p x) refl h
+  where
+    by : (filter p xs ≡ y ∷ ys → p y ≡ true) → (b : Bool) → p x ≡ b → cond b (x ∷ filter p xs) (filter p xs) ≡ y ∷ ys → p y ≡ true
+    by more true e g = let same : x ≡ y = cc in subst (λ z. p z ≡ true) same e
+    by more false e g = more g
+
+pub one_passes : {A : Type 0} (p : A → Bool) (xs : List A) (y : A) → filter p xs ≡ y ∷ [] → p y ≡ true
+one_passes p xs y h = passing p xs y [] h
+
+-- none passes where none is first
+past_none : {A : Type 0} (p : A → Bool) (xs : List A) → nat_lt (position_or_len p xs) (length xs) ≡ false → filter p xs ≡ []
+past_none p [] h = refl
+past_none p (x ∷ xs) h = by (λ e. past_none p xs e) (p x) refl h
+  where
+    by : (nat_lt (position_or_len p xs) (length xs) ≡ false → filter p xs ≡ []) → (b : Bool) → p x ≡ b → nat_lt (position_or_len p (x ∷ xs)) (length (x ∷ xs)) ≡ false → filter p (x ∷ xs) ≡ []
+    by more true e g =
+        let first : nat_lt (cond (not true) (1 + position_or_len p xs) 0) (length (x ∷ xs)) ≡ false = subst (λ b. nat_lt (cond (not b) (1 + position_or_len p xs) 0) (length (x ∷ xs)) ≡ false) e g in
+        let yes : nat_lt 0 (length (x ∷ xs)) ≡ true = grind (arith, nat_tests) in
+        absurd (true≢false (sym yes ∙ first))
+    by more false e g =
+        let rest : nat_lt (1 + position_or_len p xs) (length (x ∷ xs)) ≡ false = subst (λ b. nat_lt (cond (not b) (1 + position_or_len p xs) 0) (length (x ∷ xs)) ≡ false) e g in
+        ap (λ b. cond b (x ∷ filter p xs) (filter p xs)) e ∙ more (grind (arith, nat_tests, rest))
+
+pub none_first : {A : Type 0} (p : A → Bool) (xs : List A) → position p xs ≡ None → filter p xs ≡ []
+none_first p xs h = past_none p xs (by _ refl h)
+  where
+    by : (b : Bool) → nat_lt (position_or_len p xs) (length xs) ≡ b → cond b (Some (position_or_len p xs)) None ≡ None → nat_lt (position_or_len p xs) (length xs) ≡ false
+    by true e g = cc
+    by false e g = e
+
+-- ---- an element at a place, among those that pass
+
+module _ (p : Session → Bool) (keeps : (s : Session) (es : List SessionEvent) → p (record s { events = es }) ≡ p s) where
+  -- those that pass before it and behind it
+  pub record Around (xs : List Session) (i : ℕ) (y : Session) : Type 0 where
+    pub front : List Session
+    pub back : List Session
+    pub is : filter p xs ≡ front ++ cond (p y) (y ∷ back) back
+    pub removed : filter p (remove xs i) ≡ front ++ back
+    pub changed : (e : SessionEvent) → filter p (with_event_at i e xs) ≡ front ++ cond (p y) (record y { events = replaced e y.events } ∷ back) back
+
+  more_around : (x : Session) (xs : List Session) (i : ℕ) (y : Session) (b : Bool) → p x ≡ b → Around xs i y → Around (x ∷ xs) (suc i) y
+  more_around x xs i y true e a = record {
+    front = x ∷ a.front;
+    back = a.back;
+    is = ap (λ b. cond b (x ∷ filter p xs) (filter p xs)) e ∙ ap (λ l. x ∷ l) a.is;
+    removed = ap (λ b. cond b (x ∷ filter p (remove xs i)) (filter p (remove xs i))) e ∙ ap (λ l. x ∷ l) a.removed;
+    changed = λ d. ap (λ b. cond b (x ∷ filter p (with_event_at i d xs)) (filter p (with_event_at i d xs))) e ∙ ap (λ l. x ∷ l) (a.changed d);
+  }
+  more_around x xs i y false e a = record {
+    front = a.front;
+    back = a.back;
+    is = ap (λ b. cond b (x ∷ filter p xs) (filter p xs)) e ∙ a.is;
+    removed = ap (λ b. cond b (x ∷ filter p (remove xs i)) (filter p (remove xs i))) e ∙ a.removed;
+    changed = λ d. ap (λ b. cond b (x ∷ filter p (with_event_at i d xs)) (filter p (with_event_at i d xs))) e ∙ a.changed d;
+  }
+
+  pub around : (xs : List Session) (i : ℕ) (y : Session) → slice_get xs i ≡ Some y → Around xs i y
+  around [] i y h = cc
+  around (x ∷ xs) zero y h =
+      let same : x ≡ y = cc in
+      subst (Around (x ∷ xs) zero) same
+      (record {
+        front = [];
+        back = filter p xs;
+        is = refl;
+        removed = refl;
+        changed = λ e. ap (λ b. cond b (record x { events = replaced e x.events } ∷ filter p xs) (filter p xs)) (keeps x (replaced e x.events));
+      })
+  around (x ∷ xs) (suc i) y h = more_around x xs i y (p x) refl (around xs i y h)
+
+-- ---- a client and an asset
+
+module _ (client asset : Endpoint) where
+  abbrev pub theirs : List Session → List Session
+  theirs ss = filter (is_between client asset) ss
+
+  pub around_theirs : (xs : List Session) (i : ℕ) (y : Session) → slice_get xs i ≡ Some y → Around (is_between client asset) (λ s es. refl) xs i y
+  around_theirs xs i y h = around (is_between client asset) (λ s es. refl) xs i y h
+
+  pub ticks_are : (tick : ℕ) (ss : List Session) (ts : List SessionEvent) → AreTicks tick ss ts → AreTicks tick (theirs ss) (ticks_of client asset ss ts)
+  ticks_are tick [] ts are = refl
+  ticks_are tick (s ∷ ss) [] are = absurd are
+  ticks_are tick (s ∷ ss) (t ∷ ts) are =
+      let more = ticks_are tick ss ts are.1 in
+      let F = theirs ss in
+      let T = ticks_of client asset ss ts in
+      elim (is_between client asset s) as (λ b. AreTicks tick (cond b (s ∷ F) F) (cond b (t ∷ T) T)) [ true ↦ (are.0, more) | false ↦ more ]
+
+  pub next_are : (tick : ℕ) (ss : List Session) (ts : List SessionEvent) → AreTicks tick ss ts → theirs (with_events ss ts) ≡ with_events (theirs ss) (ticks_of client asset ss ts)
+  next_are tick [] ts are = refl
+  next_are tick (s ∷ ss) [] are = absurd are
+  next_are tick (s ∷ ss) (t ∷ ts) are =
+      let more = next_are tick ss ts are.1 in
+      let new : Session = record s { events = t ∷ s.events } in
+      let N = theirs (with_events ss ts) in
+      let F = theirs ss in
+      let T = ticks_of client asset ss ts in
+      elim (is_between client asset s) as (λ b. cond b (new ∷ N) N ≡ with_events (cond b (s ∷ F) F) (cond b (t ∷ T) T)) [ true ↦ ap (λ l. new ∷ l) more | false ↦ more ]
+
+  -- ---- the session that gives way to a new one
+
+  -- at a place of the table, what stands there and what is left without it
+  pub record GivesWay (table : List Session) (place : Option ℕ) (left rest : List Session) : Type 0 where
+    pub gone : theirs (session_at table place) ≡ left
+    pub stays : theirs (elim place [ Some i ↦ remove table i | None ↦ table ]) ≡ rest
+
+  one_left : (x : Session) (y : Session) (front back : List Session) → y ∷ [] ≡ front ++ x ∷ back → (x ≡ y) × (front ++ back ≡ [])
+  one_left x y [] back h = let same : x ≡ y = cc in let none : [] ≡ back = cc in (same, sym none)
+  one_left x y (z ∷ []) back h = cc
+  one_left x y (z ∷ (w ∷ front)) back h = cc
+
+  none_left : (x : Session) (front back : List Session) → [] ≡ front ++ x ∷ back → ⊥
+  none_left x [] back h = cc
+  none_left x (z ∷ front) back h = cc
+
+  at_one : (table : List Session) (i : ℕ) (x : Session) → slice_get table i ≡ Some x → session_at table (Some i) ≡ x ∷ []
+  at_one table i x h = ap (λ o. elim o [ None ↦ [] | Some session ↦ session ∷ [] ]) h
+
+  -- the one of theirs, where there is one at most
+  gives_theirs : (table : List Session) (y : Session) (place : Option ℕ) → position (is_between client asset) table ≡ place → theirs table ≡ y ∷ [] → GivesWay table place (y ∷ []) []
+  gives_theirs table y None e h = let none = none_first (is_between client asset) table e in absurd (never (sym h ∙ none))
+    where
+      never : y ∷ [] ≡ [] → ⊥
+      never k = cc
+  gives_theirs table y (Some i) e h =
+      let first = first_at (is_between client asset) table i e in
+      let a = around_theirs table i first.0 first.1.here in
+      let all : y ∷ [] ≡ a.front ++ first.0 ∷ a.back = sym h ∙ a.is ∙ ap (λ b. a.front ++ cond b (first.0 ∷ a.back) a.back) first.1.passes in
+      let one = one_left first.0 y a.front a.back all in
+      record {
+        gone = ap theirs (at_one table i first.0 first.1.here) ∙ filter_one (is_between client asset) true first.0 first.1.passes ∙ ap (λ z. z ∷ []) one.0;
+        stays = a.removed ∙ one.1;
+      }
+
+  gives_none : (table : List Session) (place : Option ℕ) → position (is_between client asset) table ≡ place → theirs table ≡ [] → GivesWay table place [] []
+  gives_none table None e h = record { gone = refl; stays = h }
+  gives_none table (Some i) e h =
+      let first = first_at (is_between client asset) table i e in
+      let a = around_theirs table i first.0 first.1.here in
+      absurd (none_left first.0 a.front a.back (sym h ∙ a.is ∙ ap (λ b. a.front ++ cond b (first.0 ∷ a.back) a.back) first.1.passes))
+
+  -- that of others
+  gives_other : (c a : Endpoint) (table : List Session) → ((s : Session) → is_between c a s ≡ true → is_between client asset s ≡ false) → (place : Option ℕ) →
+      position (is_between c a) table ≡ place → GivesWay table place [] (theirs table)
+  gives_other c a table apart None e = record { gone = refl; stays = refl }
+  gives_other c a table apart (Some i) e =
+      let first = first_at (is_between c a) table i e in
+      let near = around_theirs table i first.0 first.1.here in
+      let other = apart first.0 first.1.passes in
+      record {
+        gone = ap theirs (at_one table i first.0 first.1.here) ∙ filter_one (is_between client asset) false first.0 other;
+        stays = near.removed ∙ sym (near.is ∙ ap (λ b. near.front ++ cond b (first.0 ∷ near.back) near.back) other);
+      }
+
+  pub own_gives : (table : List Session) (y : Session) → theirs table ≡ y ∷ [] → GivesWay table (place_of client asset table) (y ∷ []) []
+  own_gives table y h = gives_theirs table y (place_of client asset table) refl h
+
+  pub none_gives : (table : List Session) → theirs table ≡ [] → GivesWay table (place_of client asset table) [] []
+  none_gives table h = gives_none table (place_of client asset table) refl h
+
+  pub other_gives : (c a : Endpoint) (table : List Session) → ((s : Session) → is_between c a s ≡ true → is_between client asset s ≡ false) → GivesWay table (place_of c a table) [] (theirs table)
+  other_gives c a table apart = gives_other c a table apart (place_of c a table) refl
+
+  -- ---- the one that goes on
+
+  pub record Changes (table : List Session) (i : ℕ) (e : SessionEvent) (y : Session) : Type 0 where
+    pub after : theirs (with_event_at i e table) ≡ record y { events = replaced e y.events } ∷ []
+
+  pub own_changes : (table : List Session) (i : ℕ) (e : SessionEvent) (x y : Session) → slice_get table i ≡ Some x → is_between client asset x ≡ true → theirs table ≡ y ∷ [] → (x ≡ y) × Changes table i e y
+  own_changes table i e x y at passes h =
+      let a = around_theirs table i x at in
+      let all : y ∷ [] ≡ a.front ++ x ∷ a.back = sym h ∙ a.is ∙ ap (λ b. a.front ++ cond b (x ∷ a.back) a.back) passes in
+      let one = one_left x y a.front a.back all in
+      let new : Session → Session = λ z. record z { events = replaced e z.events } in (
+        one.0,
+        record {
+          after = a.changed e ∙ ap (λ b. a.front ++ cond b (new x ∷ a.back) a.back) passes ∙ put_in (new x) a.front a.back one.1 ∙ ap (λ z. new z ∷ []) one.0;
+        },
+      )
+    where
+      put_in : (z : Session) (front back : List Session) → front ++ back ≡ [] → front ++ z ∷ back ≡ z ∷ []
+      put_in z [] back k = ap (λ l. z ∷ l) k
+      put_in z (w ∷ front) back k = cc
+
+  pub none_changes : (table : List Session) (i : ℕ) (x : Session) → slice_get table i ≡ Some x → is_between client asset x ≡ true → theirs table ≡ [] → ⊥
+  none_changes table i x at passes h =
+      let a = around_theirs table i x at in
+      none_left x a.front a.back (sym h ∙ a.is ∙ ap (λ b. a.front ++ cond b (x ∷ a.back) a.back) passes)
+
+  pub other_changes : (table : List Session) (i : ℕ) (e : SessionEvent) (x : Session) → slice_get table i ≡ Some x → is_between client asset x ≡ false → theirs (with_event_at i e table) ≡ theirs table
+  other_changes table i e x at other =
+      let a = around_theirs table i x at in
+      a.changed e ∙ ap (λ b. a.front ++ cond b (record x { events = replaced e x.events } ∷ a.back) a.back) other ∙ sym (a.is ∙ ap (λ b. a.front ++ cond b (x ∷ a.back) a.back) other)

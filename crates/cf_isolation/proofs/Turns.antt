@@ -1,0 +1,371 @@
+-- What the two halves of an event do to the sessions of a client and an asset, and what these put out.
+use Rattle.std.proofs.Common.{◌≡◌, ℕ, ◌+◌, ◌<◌, ◌≤◌, ◌&&◌, Bool, true, false, not, List, [], ◌∷◌, ◌++◌, cond, Option, Some, None, refl, sym, ap, ◌∙◌, subst, append_assoc, arith}
+use Rattle.std.specs.Prelude.{filter, slice_get}
+use Rattle.std.specs.List.{AllByRecursion, remove}
+use Rattle.std.proofs.lemmas.Bool.{and_parts, true≢false}
+use Rattle.std.proofs.lemmas.List.{append-nil}
+use Rattle.std.proofs.lemmas.List.Elements.{filter-append}
+use Rattle.cf_audit.specs.declared.CutReason.{CutReason}
+use Rattle.cf_packet.specs.Packet.{PacketValue}
+use Rattle.cf_session.specs.Event.{IsBeginning, IsPacket, IsTick}
+use Rattle.cf_session.specs.Session.{Flow, SessionEvent, client_of, is_expired}
+use Rattle.cf_view.specs.declared.Endpoint.{Endpoint}
+use Rattle.cf_view.specs.declared.Side.{Side}
+use Rattle.cf_run.specs.Isolation.{begins_theirs, goes_to_theirs, is_flow_of, is_theirs, ticks_of}
+use Rattle.cf_run.specs.Sessions.{HasEvents, leaves, left_by_packet, session_at}
+use Rattle.cf_run.specs.Table.{Session, is_between, place_of, same_endpoint, without}
+use Rattle.cf_run.specs.Trace.{AreTicks, Begun, Dropped, GoesOnAt, GoesOnWith, NoRoom, NoSession, Received, Went, after_received, behind, is_cut, kept, stays, ticked, with_event_at, with_events}
+use Rattle.cf_isolation.specs.Lives.{born_at}
+use Rattle.cf_isolation.proofs.Lists.{all_map}
+use Rattle.cf_isolation.proofs.Order.{IsWithin, Moves, born, comes, grows, stays_so}
+use Rattle.cf_isolation.proofs.Tables.{same_is}
+use Rattle.cf_isolation.proofs.Theirs.{filter_one, filter_swap, next_are, none_changes, none_gives, other_changes, other_gives, own_changes, own_gives, ticks_are}
+
+pub data AtMostOne (ss : List Session) : Type 0 where
+  none_there : ss ≡ [] → AtMostOne ss
+  one_there : (s : Session) → ss ≡ s ∷ [] → AtMostOne ss
+
+uncut : (c : Option CutReason) → not (is_cut c) ≡ true → c ≡ None
+uncut None h = refl
+uncut (Some r) h = absurd (true≢false (sym h))
+
+module _ {X : Type 0} (at : X → ℕ) (first : Flow → SessionEvent → List X) (second : Flow → List SessionEvent → SessionEvent → List X) (own : Flow → List SessionEvent → List X)
+    (own_none : (f : Flow) → own f [] ≡ []) (own_more : (f : Flow) (e : SessionEvent) (es : List SessionEvent) → own f (e ∷ es) ≡ own f es ++ (first f e ++ second f es e))
+    (same_first : (f : Flow) (limit tick : ℕ) (es : List SessionEvent) (half : SessionEvent) (s : Side) (p : PacketValue) (e : SessionEvent) → IsTick f es tick half → half.cut ≡ None →
+    IsPacket f limit es half s p e → first f e ≡ first f half)
+    (no_second : (f : Flow) (d : SessionEvent) (es : List SessionEvent) (tick : ℕ) (t : SessionEvent) → IsTick f (d ∷ es) tick t → second f (d ∷ es) t ≡ [])
+    (no_first : (f : Flow) (tick : ℕ) (e : SessionEvent) → IsBeginning f tick e → first f e ≡ []) where
+  abbrev pub own_of : Session → List X
+  own_of s = own s.flow s.events
+
+  abbrev pub AllAt : ℕ → List X → Type 0
+  AllAt m xs = AllByRecursion (λ x. at x ≡ m) xs
+
+  at_within : (m low high : ℕ) (xs : List X) → low ≤ m → m < high → AllAt m xs → AllByRecursion (IsWithin at own_of low high) xs
+  at_within m low high xs a b h = all_map (λ x. at x ≡ m) (IsWithin at own_of low high) (λ x g. (omega (arith, g, a), omega (arith, g, b))) xs h
+
+  abbrev MovesTo : List Session → List Session → List X → ℕ → ℕ → Type 0
+  MovesTo before after more until now = Moves at own_of before after more until now
+
+  module _ (limit : ℕ) (client asset : Endpoint) (tick : ℕ) where
+    abbrev mine : List Session → List Session
+    mine ss = filter (is_between client asset) ss
+
+    -- ---- whom the packet finds
+
+    abbrev pub ticked_one : Session → SessionEvent → Session
+    ticked_one s t = record s { events = t ∷ s.events }
+
+    pub data Here (found : List Session) : Type 0 where
+      nobody : mine found ≡ [] → Here found
+      going : (s : Session) (t : SessionEvent) → mine found ≡ ticked_one s t ∷ [] → HasEvents limit s.flow s.events → IsTick s.flow s.events tick t → t.cut ≡ None → Here found
+
+    -- what a session put out, its first half included
+    ticked_own : (f : Flow) (es : List SessionEvent) (t : SessionEvent) → HasEvents limit f es → IsTick f es tick t → own f (t ∷ es) ≡ own f es ++ first f t
+    ticked_own f [] t h is = absurd h
+    ticked_own f (d ∷ es) t h is =
+        own_more f t (d ∷ es) ∙ ap (λ xs. own f (d ∷ es) ++ (first f t ++ xs)) (no_second f d es tick t is) ∙ ap (λ xs. own f (d ∷ es) ++ xs) (append-nil (first f t))
+
+    ticked_born : (f : Flow) (es : List SessionEvent) (t : SessionEvent) → HasEvents limit f es → born_at (t ∷ es) ≡ born_at es
+    ticked_born f [] t h = absurd h
+    ticked_born f (d ∷ es) t h = refl
+
+    -- and the second half with it
+    went_own : (f : Flow) (es : List SessionEvent) (t e : SessionEvent) (s : Side) (p : PacketValue) → HasEvents limit f es → IsTick f es tick t → t.cut ≡ None → IsPacket f limit es t s p e →
+        own f (e ∷ es) ≡ own f (t ∷ es) ++ second f es e
+    went_own f es t e s p h is none on =
+        own_more f e es ∙ ap (λ xs. own f es ++ (xs ++ second f es e)) (same_first f limit tick es t s p e is none on) ∙ sym (append_assoc (own f es) (first f t) (second f es e))
+        ∙ ap (λ xs. xs ++ second f es e) (sym (ticked_own f es t h is))
+
+    -- ---- the first half
+
+    pub record First (table : List Session) (ticks : List SessionEvent) (c : List X) (until : ℕ) : Type 0 where
+      pub left : List Session
+      pub expired : List Session
+      pub cut : List Session
+      pub expired_is : mine (filter (λ s. is_expired s.flow s.events tick) table) ≡ expired
+      pub cut_is : mine (filter leaves (with_events (kept tick table) ticks)) ≡ cut
+      pub left_is : expired ++ cut ≡ left
+      pub here : Here (ticked ticks tick table)
+      pub moves : (past : List Session) → MovesTo (past ++ mine table) (past ++ (left ++ mine (ticked ticks tick table))) c until (tick + 1)
+
+    module _ (table : List Session) (ticks : List SessionEvent) (are : AreTicks tick (kept tick table) ticks) (c : List X) (until : ℕ) (soon : until ≤ tick) where
+      abbrev exp : Session → Bool
+      exp s = is_expired s.flow s.events tick
+
+      abbrev U : List SessionEvent
+      U = ticks_of client asset (kept tick table) ticks
+
+      expired_mine : mine (filter exp table) ≡ filter exp (mine table)
+      expired_mine = filter_swap (is_between client asset) exp table
+
+      kept_mine : mine (kept tick table) ≡ filter (λ s. not (exp s)) (mine table)
+      kept_mine = filter_swap (is_between client asset) (λ s. not (exp s)) table
+
+      next_mine : mine (with_events (kept tick table) ticks) ≡ with_events (mine (kept tick table)) U
+      next_mine = next_are client asset tick (kept tick table) ticks are
+
+      cut_mine : mine (filter leaves (with_events (kept tick table) ticks)) ≡ filter leaves (with_events (mine (kept tick table)) U)
+      cut_mine = filter_swap (is_between client asset) leaves (with_events (kept tick table) ticks) ∙ ap (filter leaves) next_mine
+
+      found_mine : mine (ticked ticks tick table) ≡ filter stays (with_events (mine (kept tick table)) U)
+      found_mine = filter_swap (is_between client asset) stays (with_events (kept tick table) ticks) ∙ ap (filter stays) next_mine
+
+      -- none of theirs has a first half
+      nobody_ticks : (one : List Session) → mine table ≡ one → filter exp one ≡ one → filter (λ s. not (exp s)) one ≡ [] → c ≡ [] → First table ticks c until
+      nobody_ticks one is gone rest empty =
+          let kept_none : mine (kept tick table) ≡ [] = kept_mine ∙ ap (filter (λ s. not (exp s))) is ∙ rest in
+          let found_none : mine (ticked ticks tick table) ≡ [] = found_mine ∙ ap (λ l. filter stays (with_events l U)) kept_none in
+          record {
+            left = one;
+            expired = one;
+            cut = [];
+            expired_is = expired_mine ∙ ap (filter exp) is ∙ gone;
+            cut_is = cut_mine ∙ ap (λ l. filter leaves (with_events l U)) kept_none;
+            left_is = append-nil one;
+            here = nobody found_none;
+            moves = λ past.
+                let same : past ++ (one ++ mine (ticked ticks tick table)) ≡ past ++ mine table =
+                ap (λ l. past ++ (one ++ l)) found_none ∙ ap (λ l. past ++ l) (append-nil one) ∙ ap (λ l. past ++ l) (sym is) in
+                subst (λ l. MovesTo (past ++ mine table) l c until (tick + 1)) (sym same)
+                (subst (λ xs. MovesTo (past ++ mine table) (past ++ mine table) xs until (tick + 1)) (sym empty) (stays_so at own_of (past ++ mine table) until (tick + 1) (omega (arith, soon))));
+          }
+
+      -- their session has one
+      module _ (s : Session) (is : mine table ≡ s ∷ []) (right : HasEvents limit s.flow s.events) (lives : exp s ≡ false) (t : SessionEvent) (one : U ≡ t ∷ []) (tick_is : IsTick s.flow s.events tick t)
+          (c_is : c ≡ first s.flow t) (c_at : AllAt tick c) where
+        kept_one : mine (kept tick table) ≡ s ∷ []
+        kept_one = kept_mine ∙ ap (filter (λ x. not (exp x))) is ∙ filter_one (λ x. not (exp x)) true s (ap not lives)
+
+        next_one : with_events (mine (kept tick table)) U ≡ ticked_one s t ∷ []
+        next_one = ap (λ l. with_events l U) kept_one ∙ ap (with_events (s ∷ [])) one
+
+        expired_none : mine (filter exp table) ≡ []
+        expired_none = expired_mine ∙ ap (filter exp) is ∙ filter_one exp false s lives
+
+        moves_one : (past : List Session) → MovesTo (past ++ mine table) (past ++ ticked_one s t ∷ []) c until (tick + 1)
+        moves_one past =
+            subst (λ l. MovesTo (past ++ l) (past ++ ticked_one s t ∷ []) c until (tick + 1)) (sym is)
+            (grows at own_of past s (ticked_one s t) c until (tick + 1) (ticked_born s.flow s.events t right) (ticked_own s.flow s.events t right tick_is ∙ ap (λ xs. own s.flow s.events ++ xs) (sym c_is))
+            (at_within tick until (tick + 1) c soon (omega arith) c_at) (omega (arith, soon)))
+
+        by_cut : (b : Bool) → stays (ticked_one s t) ≡ b → First table ticks c until
+        by_cut true e =
+            let found_one : mine (ticked ticks tick table) ≡ ticked_one s t ∷ [] = found_mine ∙ ap (filter stays) next_one ∙ filter_one stays true (ticked_one s t) e in
+            record {
+              left = [];
+              expired = [];
+              cut = [];
+              expired_is = expired_none;
+              cut_is = cut_mine ∙ ap (filter leaves) next_one ∙ filter_one leaves false (ticked_one s t) (ap not e);
+              left_is = refl;
+              here = going s t found_one right tick_is (uncut t.cut e);
+              moves = λ past. subst (λ l. MovesTo (past ++ mine table) (past ++ l) c until (tick + 1)) (sym found_one) (moves_one past);
+            }
+        by_cut false e =
+            let found_none : mine (ticked ticks tick table) ≡ [] = found_mine ∙ ap (filter stays) next_one ∙ filter_one stays false (ticked_one s t) e in
+            record {
+              left = ticked_one s t ∷ [];
+              expired = [];
+              cut = ticked_one s t ∷ [];
+              expired_is = expired_none;
+              cut_is = cut_mine ∙ ap (filter leaves) next_one ∙ filter_one leaves true (ticked_one s t) (ap not e);
+              left_is = refl;
+              here = nobody found_none;
+              moves = λ past. subst (λ l. MovesTo (past ++ mine table) (past ++ ticked_one s t ∷ l) c until (tick + 1)) (sym found_none) (moves_one past);
+            }
+
+      -- what they put out is that of their first halves
+      abbrev pub IsOfTicks : Type 0
+      IsOfTicks = ((s : Session) (t : SessionEvent) → mine (kept tick table) ≡ s ∷ [] → U ≡ t ∷ [] → c ≡ first s.flow t) × (mine (kept tick table) ≡ [] → U ≡ [] → c ≡ [])
+
+      mine_are : AreTicks tick (mine (kept tick table)) U
+      mine_are = ticks_are client asset tick (kept tick table) ticks are
+
+      none_ticks : mine (kept tick table) ≡ [] → U ≡ []
+      none_ticks h = subst (λ l. AreTicks tick l U) h mine_are
+
+      one_tick : (s : Session) (us : List SessionEvent) → AreTicks tick (s ∷ []) us → (t : SessionEvent) × (us ≡ t ∷ []) × IsTick s.flow s.events tick t
+      one_tick s [] h = absurd h
+      one_tick s (t ∷ us) h = (t, ap (λ l. t ∷ l) h.1, h.0)
+
+      by_expiry : (s : Session) → mine table ≡ s ∷ [] → HasEvents limit s.flow s.events → IsOfTicks → AllAt tick c → (b : Bool) → exp s ≡ b → First table ticks c until
+      by_expiry s is right of c_at true e =
+          let none : filter (λ x. not (exp x)) (s ∷ []) ≡ [] = filter_one (λ x. not (exp x)) false s (ap not e) in
+          let kept_none = kept_mine ∙ ap (filter (λ x. not (exp x))) is ∙ none in
+          nobody_ticks (s ∷ []) is (filter_one exp true s e) none (of.1 kept_none (none_ticks kept_none))
+      by_expiry s is right of c_at false e =
+          let kept_is = kept_mine ∙ ap (filter (λ x. not (exp x))) is ∙ filter_one (λ x. not (exp x)) true s (ap not e) in
+          let ticked = one_tick s U (subst (λ l. AreTicks tick l U) kept_is mine_are) in
+          by_cut s is right e ticked.0 ticked.1 ticked.2 (of.0 s ticked.0 kept_is ticked.1) c_at (stays (ticked_one s ticked.0)) refl
+
+      pub first_turn : AtMostOne (mine table) → ((s : Session) → mine table ≡ s ∷ [] → HasEvents limit s.flow s.events) → IsOfTicks → AllAt tick c → First table ticks c until
+      first_turn (none_there is) right of c_at =
+          let kept_none = kept_mine ∙ ap (filter (λ x. not (exp x))) is in
+          nobody_ticks [] is refl refl (of.1 kept_none (none_ticks kept_none))
+      first_turn (one_there s is) right of c_at = by_expiry s is (right s is) of c_at (exp s) refl
+
+    -- ---- the second half
+
+    pub record Second (found : List Session) (r : Received) (c : List X) : Type 0 where
+      pub left : List Session
+      pub left_is : mine (left_by_packet r found) ≡ left
+      pub few : AtMostOne (mine (after_received r found))
+      pub moves : (past : List Session) → MovesTo (past ++ mine found) (past ++ (left ++ mine (after_received r found))) c (tick + 1) (tick + 2)
+
+    module _ (found : List Session) (here : Here found) (put : Received → List X) (put_begun : (f : Flow) (e : SessionEvent) → put (Begun f e) ≡ second f [] e)
+        (put_went : (i : ℕ) (e : SessionEvent) (x : Session) → slice_get found i ≡ Some x → put (Went i e) ≡ second x.flow (behind x.events) e) (c : List X) (c_at : AllAt (tick + 1) c) where
+      here_few : Here found → AtMostOne (mine found)
+      here_few (nobody h) = none_there h
+      here_few (going s t h right is none) = one_there (ticked_one s t) h
+
+      here_stay : Here found → filter stays (mine found) ≡ mine found
+      here_stay (nobody h) = ap (filter stays) h ∙ sym h
+      here_stay (going s t h right is none) = ap (filter stays) h ∙ filter_one stays true (ticked_one s t) (ap (λ x. not (is_cut x)) none) ∙ sym h
+
+      here_none : Here found → filter leaves (mine found) ≡ []
+      here_none (nobody h) = ap (filter leaves) h
+      here_none (going s t h right is none) = ap (filter leaves) h ∙ filter_one leaves false (ticked_one s t) (ap (λ x. not (not (is_cut x))) none)
+
+      -- nothing of theirs happens
+      quiet : (r : Received) → mine (left_by_packet r found) ≡ [] → mine (after_received r found) ≡ mine found → c ≡ [] → Second found r c
+      quiet r gone same empty = record {
+        left = [];
+        left_is = gone;
+        few = subst AtMostOne (sym same) (here_few here);
+        moves = λ past. subst (λ l. MovesTo (past ++ mine found) (past ++ l) c (tick + 1) (tick + 2)) (sym same)
+            (subst (λ xs. MovesTo (past ++ mine found) (past ++ mine found) xs (tick + 1) (tick + 2)) (sym empty) (stays_so at own_of (past ++ mine found) (tick + 1) (tick + 2) (omega arith)));
+      }
+
+      -- a session of theirs begins
+      abbrev new_one : Flow → SessionEvent → Session
+      new_one f e = record { flow = f; events = e ∷ [] }
+
+      place_same : (f : Flow) → is_flow_of client asset f ≡ true → place_of (client_of f) f.asset.endpoint found ≡ place_of client asset found
+      place_same f is =
+          let parts = and_parts (same_endpoint (client_of f) client) (same_endpoint f.asset.endpoint asset) is in
+          ap (λ x. place_of x f.asset.endpoint found) (same_is (client_of f) client parts.0) ∙ ap (λ x. place_of client x found) (same_is f.asset.endpoint asset parts.1)
+
+      begun_own : (f : Flow) (e : SessionEvent) → IsBeginning f tick e → own f (e ∷ []) ≡ second f [] e
+      begun_own f e h = own_more f e [] ∙ ap (λ xs. xs ++ (first f e ++ second f [] e)) (own_none f) ∙ ap (λ xs. xs ++ second f [] e) (no_first f tick e h)
+
+      begun_by : (f : Flow) (e : SessionEvent) → is_flow_of client asset f ≡ true → IsBeginning f tick e → c ≡ second f [] e → (gives : (left : List Session) × (mine (left_by_packet (Begun f e) found) ≡ left)
+          × (mine (without (client_of f) f.asset.endpoint found) ≡ []) × (mine found ≡ left)) → Second found (Begun f e) c
+      begun_by f e is h c_is (left, gone, rest, all) =
+          let new = new_one f e in
+          let after : mine (after_received (Begun f e) found) ≡ new ∷ [] =
+          filter-append (is_between client asset) (without (client_of f) f.asset.endpoint found) (new ∷ []) ∙ ap (λ l. l ++ mine (new ∷ [])) rest ∙ filter_one (is_between client asset) true new is in
+          let born_is : born new ≡ tick + 1 = ap (λ x. x.tick + 1) h.client in
+          record {
+            left = left;
+            left_is = gone;
+            few = one_there new after;
+            moves = λ past.
+                let same : past ++ (left ++ mine (after_received (Begun f e) found)) ≡ (past ++ mine found) ++ new ∷ [] =
+                ap (λ l. past ++ (left ++ l)) after ∙ ap (λ l. past ++ (l ++ new ∷ [])) (sym all) ∙ sym (append_assoc past (mine found) (new ∷ [])) in
+                subst (λ l. MovesTo (past ++ mine found) l c (tick + 1) (tick + 2)) (sym same)
+                (comes at own_of (past ++ mine found) new c (tick + 1) (tick + 2) (begun_own f e h ∙ sym c_is) (omega (arith, born_is)) (omega (arith, born_is))
+                (at_within (tick + 1) (born new) (tick + 2) c (omega (arith, born_is)) (omega arith) c_at));
+          }
+
+      begun_gives : (f : Flow) (e : SessionEvent) → is_flow_of client asset f ≡ true → Here found → (left : List Session) × (mine (left_by_packet (Begun f e) found) ≡ left)
+          × (mine (without (client_of f) f.asset.endpoint found) ≡ []) × (mine found ≡ left)
+      begun_gives f e is (nobody h) =
+          let gives = none_gives client asset found h in
+          let place = place_same f is in
+          ([], ap (λ o. mine (session_at found o)) place ∙ gives.gone, ap (λ o. mine (elim o [ Some i ↦ remove found i | None ↦ found ])) place ∙ gives.stays, h)
+      begun_gives f e is (going s t h right tick_is none) =
+          let gives = own_gives client asset found (ticked_one s t) h in
+          let place = place_same f is in
+          (ticked_one s t ∷ [], ap (λ o. mine (session_at found o)) place ∙ gives.gone, ap (λ o. mine (elim o [ Some i ↦ remove found i | None ↦ found ])) place ∙ gives.stays, h)
+
+      -- another's does
+      begun_other : (f : Flow) (e : SessionEvent) → is_flow_of client asset f ≡ false → c ≡ [] → Second found (Begun f e) c
+      begun_other f e other empty =
+          let apart : (s : Session) → is_between (client_of f) f.asset.endpoint s ≡ true → is_between client asset s ≡ false = λ s h.
+          let parts = and_parts (same_endpoint (client_of s.flow) (client_of f)) (same_endpoint s.flow.asset.endpoint f.asset.endpoint) h in
+          ap (λ x. same_endpoint x client && same_endpoint s.flow.asset.endpoint asset) (same_is (client_of s.flow) (client_of f) parts.0)
+          ∙ ap (λ x. same_endpoint (client_of f) client && same_endpoint x asset) (same_is s.flow.asset.endpoint f.asset.endpoint parts.1) ∙ other in
+          let gives = other_gives client asset (client_of f) f.asset.endpoint found apart in
+          quiet (Begun f e) gives.gone
+          (filter-append (is_between client asset) (without (client_of f) f.asset.endpoint found) (new_one f e ∷ []) ∙ ap (λ l. mine (without (client_of f) f.asset.endpoint found) ++ l)
+          (filter_one (is_between client asset) false (new_one f e) other) ∙ append-nil _ ∙ gives.stays) empty
+
+      -- their session's event goes on
+      abbrev went_one : Session → SessionEvent → Session
+      went_one s e = record s { events = e ∷ s.events }
+
+      module _ (i : ℕ) (e : SessionEvent) (s : Session) (t : SessionEvent) (is : mine found ≡ ticked_one s t ∷ []) (right : HasEvents limit s.flow s.events) (tick_is : IsTick s.flow s.events tick t)
+          (none : t.cut ≡ None) (from : Side) (p : PacketValue) (on : IsPacket s.flow limit s.events t from p e) (changed : mine (with_event_at i e found) ≡ went_one s e ∷ [])
+          (c_is : c ≡ second s.flow s.events e) where
+        gone_one : mine (left_by_packet (Went i e) found) ≡ filter leaves (went_one s e ∷ [])
+        gone_one = filter_swap (is_between client asset) leaves (with_event_at i e found) ∙ ap (filter leaves) changed
+
+        after_one : mine (after_received (Went i e) found) ≡ filter stays (went_one s e ∷ [])
+        after_one = filter_swap (is_between client asset) stays (with_event_at i e found) ∙ ap (filter stays) changed
+
+        went_moves : (past : List Session) → MovesTo (past ++ mine found) (past ++ went_one s e ∷ []) c (tick + 1) (tick + 2)
+        went_moves past =
+            subst (λ l. MovesTo (past ++ l) (past ++ went_one s e ∷ []) c (tick + 1) (tick + 2)) (sym is)
+            (grows at own_of past (ticked_one s t) (went_one s e) c (tick + 1) (tick + 2) (ticked_born s.flow s.events e right ∙ sym (ticked_born s.flow s.events t right))
+            (went_own s.flow s.events t e from p right tick_is none on ∙ ap (λ xs. own s.flow (t ∷ s.events) ++ xs) (sym c_is)) (at_within (tick + 1) (tick + 1) (tick + 2) c (omega arith) (omega arith) c_at) (omega arith))
+
+        went_by : (b : Bool) → stays (went_one s e) ≡ b → Second found (Went i e) c
+        went_by true h =
+            let after = after_one ∙ filter_one stays true (went_one s e) h in
+            record {
+              left = [];
+              left_is = gone_one ∙ filter_one leaves false (went_one s e) (ap not h);
+              few = one_there (went_one s e) after;
+              moves = λ past. subst (λ l. MovesTo (past ++ mine found) (past ++ l) c (tick + 1) (tick + 2)) (sym after) (went_moves past);
+            }
+        went_by false h =
+            let after = after_one ∙ filter_one stays false (went_one s e) h in
+            record {
+              left = went_one s e ∷ [];
+              left_is = gone_one ∙ filter_one leaves true (went_one s e) (ap not h);
+              few = none_there after;
+              moves = λ past. subst (λ l. MovesTo (past ++ mine found) (past ++ went_one s e ∷ l) c (tick + 1) (tick + 2)) (sym after) (went_moves past);
+            }
+
+      went_theirs : (i : ℕ) (e : SessionEvent) (x : Session) → slice_get found i ≡ Some x → is_between client asset x ≡ true → (from : Side) (p : PacketValue) →
+          GoesOnWith limit from p e x.flow x.events → c ≡ second x.flow (behind x.events) e → Here found → Second found (Went i e) c
+      went_theirs i e x at_i passes from p on c_is (nobody h) = absurd (none_changes client asset found i x at_i passes h)
+      went_theirs i e x at_i passes from p on c_is (going s t h right tick_is none) =
+          let changes = own_changes client asset found i e x (ticked_one s t) at_i passes h in
+          let goes : IsPacket s.flow limit s.events t from p e = subst (λ (y : Session). GoesOnWith limit from p e y.flow y.events) changes.0 on in
+          let put_is : c ≡ second s.flow s.events e = c_is ∙ ap (λ (y : Session). second y.flow (behind y.events) e) changes.0 in
+          went_by i e s t h right tick_is none from p goes changes.1.after put_is (stays (went_one s e)) refl
+
+      went_other : (i : ℕ) (e : SessionEvent) (x : Session) → slice_get found i ≡ Some x → is_between client asset x ≡ false → c ≡ [] → Second found (Went i e) c
+      went_other i e x at_i other empty =
+          let same = other_changes client asset found i e x at_i other in
+          quiet (Went i e) (filter_swap (is_between client asset) leaves (with_event_at i e found) ∙ ap (filter leaves) same ∙ here_none here)
+          (filter_swap (is_between client asset) stays (with_event_at i e found) ∙ ap (filter stays) same ∙ here_stay here) empty
+
+      -- what is put out, by what the packet is to theirs
+      abbrev pub of_theirs : (goes begins : Bool) → Received → List X
+      of_theirs goes begins r = cond goes (put r) [] ++ cond begins (put r) []
+
+      went_if : (i : ℕ) (e : SessionEvent) (x : Session) → slice_get found i ≡ Some x → (from : Side) (p : PacketValue) → GoesOnWith limit from p e x.flow x.events →
+          (b : Bool) → is_between client asset x ≡ b → c ≡ of_theirs b false (Went i e) → Second found (Went i e) c
+      went_if i e x at_i from p on true passes c_is = went_theirs i e x at_i passes from p on (c_is ∙ append-nil _ ∙ put_went i e x at_i) here
+      went_if i e x at_i from p on false other c_is = went_other i e x at_i other c_is
+
+      went_at : (i : ℕ) (e : SessionEvent) (o : Option Session) → slice_get found i ≡ o → (from : Side) (p : PacketValue) → GoesOnAt limit from p e o →
+          c ≡ of_theirs (is_theirs client asset o) false (Went i e) → Second found (Went i e) c
+      went_at i e None at_i from p on c_is = absurd on
+      went_at i e (Some x) at_i from p on c_is = went_if i e x at_i from p on (is_between client asset x) refl c_is
+
+      begun_if : (f : Flow) (e : SessionEvent) → IsBeginning f tick e → (b : Bool) → is_flow_of client asset f ≡ b → c ≡ of_theirs false b (Begun f e) → Second found (Begun f e) c
+      begun_if f e h true is c_is = begun_by f e is h (c_is ∙ put_begun f e) (begun_gives f e is here)
+      begun_if f e h false other c_is = begun_other f e other c_is
+
+      pub second_turn : (r : Received) → ((f : Flow) (e : SessionEvent) → r ≡ Begun f e → IsBeginning f tick e) →
+          ((i : ℕ) (e : SessionEvent) → r ≡ Went i e → (from : Side) × (p : PacketValue) × GoesOnAt limit from p e (slice_get found i)) →
+          c ≡ of_theirs (goes_to_theirs client asset found r) (begins_theirs client asset r) r → Second found r c
+      second_turn Dropped begun went c_is = quiet Dropped refl refl c_is
+      second_turn NoRoom begun went c_is = quiet NoRoom refl refl c_is
+      second_turn NoSession begun went c_is = quiet NoSession refl refl c_is
+      second_turn (Begun f e) begun went c_is = begun_if f e (begun f e refl) (is_flow_of client asset f) refl c_is
+      second_turn (Went i e) begun went c_is = let on = went i e refl in went_at i e (slice_get found i) refl on.0 on.1 on.2 c_is
