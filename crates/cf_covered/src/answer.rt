@@ -16,7 +16,7 @@ const MOST_LOOKS: u32 = 1_000_000;
 const FEW_STEPS: u32 = 8;
 
 /// What has all that a later rule has.
-#[derive(Clone, Copy, PartialEq, Eq, Debug)]
+#[derive(Clone, Copy)]
 pub enum Cover {
     /// An earlier rule alone, by its number from 0.
     Rule(usize),

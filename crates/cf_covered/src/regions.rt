@@ -3,7 +3,8 @@ ghost use Rattle.std.specs.Prelude.{◌≡◌, ℕ, ◌++◌, IfSome, IfOk, OnOk
 ghost use Rattle.std.specs.List.{flat_map};
 ghost use Rattle.cf_view.specs.declared.base.Act.{Act};
 ghost use Rattle.cf_policy.specs.Verdict.{has_act};
-ghost use Rattle.cf_covered.specs.Regions.{is_in, Begins, listed, rest, region_of, kind_regions, with_clients, with_groups, with_points, with_values};
+ghost use Rattle.cf_covered.specs.Regions.{is_in, Begins, listed, rest, region_of, kind_regions};
+ghost use Rattle.cf_covered.specs.Regions.{with_clients, with_groups, with_points, with_values};
 
 use crate::spans::{behind, lacked_part, lacked_values, taken_part, taken_values, values_behind};
 use cf_acts::{Groups, Kind};

@@ -2,7 +2,7 @@
 use cf_policy::{Protocol, Rule, Span, takes};
 
 /// A number of a rule that is likely a slip.
-#[derive(Clone, Copy, PartialEq, Eq, Debug)]
+#[derive(Clone, Copy)]
 pub enum Slip {
     /// This group of DNP3 is object group 0 with a variation that no standard names: likely an object group without its variation.
     Group(i64),

@@ -31,7 +31,7 @@ pub(crate) struct Warned {
 }
 
 /// What earlier rules do of all that a rule would refuse.
-#[derive(Clone, Copy, PartialEq, Eq)]
+#[derive(Clone, Copy)]
 pub(crate) enum Silence {
     /// The rule of this number allows it.
     Rule(usize),
