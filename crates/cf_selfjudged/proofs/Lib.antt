@@ -1,0 +1,12 @@
+mod Carrying
+mod GoingOn
+mod Heard
+mod Letterwise
+mod OfPackets
+mod OneFlow
+mod Order
+mod Others
+mod Pairs
+mod Separate
+mod Speaks
+mod Towards

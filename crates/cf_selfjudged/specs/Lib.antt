@@ -1,0 +1,7 @@
+pub mod Carried
+pub mod Heard
+pub mod OneFlow
+pub mod Order
+pub mod PairFlows
+pub mod Separate
+pub mod Speaks

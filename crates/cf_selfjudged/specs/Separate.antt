@@ -1,0 +1,47 @@
+-- A packet changes the flows of its own client and asset alone: PacketsKeepToTheirPair. This project's own.
+use Rattle.std.specs.Prelude.{◌≡◌, ◌&&◌, ◌==◌, ℕ, Bool, false, List, [], ◌∷◌, ◌++◌, filter, Option, Some, None, Ok, if◌then◌else◌}
+use Rattle.cf_packet.specs.Packet.{PacketValue}
+use Rattle.cf_policy.specs.declared.Asset.{Asset}
+use Rattle.cf_view.specs.declared.Endpoint.{Endpoint}
+use Rattle.cf_run.specs.Entries.{asset_place}
+use Rattle.cf_run.specs.Table.{same_endpoint}
+use Rattle.cf_watch.specs.Watched.{Watched, goes, is_between, with_record}
+use Rattle.cf_selfjudged.specs.OneFlow.{Numbered}
+use Rattle.cf_selfjudged.specs.PairFlows.{pair_on, pairs_on}
+
+-- the flows of a client and an asset, the newest first
+abbrev pub pair_of : (client : Endpoint) (asset : ℕ) → List Watched → List Watched
+pair_of client asset [] = []
+pair_of client asset (f ∷ fs) = pair_of client asset fs ++ (if is_between client asset f then f ∷ [] else [])
+
+abbrev pub PacketsKeepToTheirPair : Type 0
+PacketsKeepToTheirPair =
+    (number asset : ℕ) (p : PacketValue) (flows : List Watched) →
+    pair_of p.source asset (goes number p (Some asset) flows) ≡ pair_on number asset p (pair_of p.source asset flows)
+
+-- and it leaves those of another client or asset as they are
+abbrev pub OtherPairsStay : Type 0
+OtherPairsStay =
+    (number asset other : ℕ) (p : PacketValue) (client : Endpoint) (flows : List Watched) → (same_endpoint p.source client && (asset == other)) ≡ false →
+    pair_of client other (goes number p (Some asset) flows) ≡ pair_of client other flows
+
+-- ---- all packets of a capture
+
+-- the flows after these packets, the oldest first
+abbrev pub heard_on : List Asset → List Numbered → List Watched → List Watched
+heard_on assets [] flows = flows
+heard_on assets (n ∷ ns) flows = heard_on assets ns (with_record assets n.number (Ok n.packet) flows)
+
+-- a packet is from a client to an asset
+abbrev pub is_to_place : (client : Endpoint) (asset : ℕ) → PacketValue → Option ℕ → Bool
+is_to_place client asset p None = false
+is_to_place client asset p (Some place) = same_endpoint p.source client && (place == asset)
+
+abbrev pub is_to : List Asset → (client : Endpoint) (asset : ℕ) → Numbered → Bool
+is_to assets client asset n = is_to_place client asset n.packet (asset_place assets n.packet.dest)
+
+-- the flows of a client and an asset are those of the packets from the one to the other
+abbrev pub FlowsAreOfTheirPackets : Type 0
+FlowsAreOfTheirPackets =
+    (assets : List Asset) (client : Endpoint) (asset : ℕ) (heard : List Numbered) →
+    pair_of client asset (heard_on assets heard []) ≡ pairs_on asset (filter (is_to assets client asset) heard) []

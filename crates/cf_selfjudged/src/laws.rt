@@ -1,0 +1,54 @@
+//! Laws of what a run sends, as a judge reads it: each is the contract of a function that does nothing.
+ghost use Rattle.cf_selfjudged.specs.Carried.{SegmentsCarryOneStream};
+ghost use Rattle.cf_selfjudged.specs.Heard.{WatchedAreHeard};
+ghost use Rattle.cf_selfjudged.specs.OneFlow.{OneFlowIsUnobjected};
+ghost use Rattle.cf_selfjudged.specs.PairFlows.{FlowsAreOfSessions};
+ghost use Rattle.cf_selfjudged.specs.Separate.{FlowsAreOfTheirPackets};
+ghost use Rattle.cf_selfjudged.specs.Speaks.{SessionsSpeak};
+
+use cf_lane::{has_one_judgement, streams_go_on};
+use cf_leg::segments_carry_one_stream;
+use cf_session::work_is_of_what_was_taken;
+use cf_unobjected::beginnings_are_unobjected;
+use cf_watch::one_stream_is_seen;
+
+/// Letter by letter: each segment of a session to the controller has at each of its places the letter of one stream, which the
+/// session's stream to it begins with.
+pub fn segments_carry_to_controller()
+    ensures { SegmentsCarryOneStream }
+{
+    has_one_judgement();
+    segments_carry_one_stream();
+    streams_go_on();
+}
+
+/// A watched flow that carried the segments of a session to its controller, and nothing else with letters, has no conflict, and a judge
+/// objects to none of its bytes.
+pub fn one_flow_is_unobjected()
+    ensures { OneFlowIsUnobjected }
+{
+    segments_carry_to_controller();
+    work_is_of_what_was_taken();
+    one_stream_is_seen();
+    beginnings_are_unobjected();
+}
+
+/// Of a client and an asset each watched flow carried the packets of one session, and before them packets without letters.
+pub fn flows_are_of_sessions()
+    ensures { FlowsAreOfSessions }
+{}
+
+/// What a session sends to its controller is its SYN and then packets of its own, and no SYN after one with ACK.
+pub fn sessions_speak()
+    ensures { SessionsSpeak }
+{}
+
+/// The watched flows of a client and an asset are those of the packets from the one to the other, whatever other packets there are.
+pub fn flows_are_of_their_packets()
+    ensures { FlowsAreOfTheirPackets }
+{}
+
+/// The watched flows of a capture of sent packets are those of these packets, in their order.
+pub fn watched_are_heard()
+    ensures { WatchedAreHeard }
+{}
