@@ -1,4 +1,5 @@
 //! Laws of what goes to a controller: each is the contract of a function that does nothing.
+ghost use Rattle.cf_unobjected.specs.OneReading.{ReadingsAreOne};
 ghost use Rattle.cf_unobjected.specs.Passed.{PassedAreRight};
 ghost use Rattle.cf_unobjected.specs.Unobjected.{BeginningsAreUnobjected};
 
@@ -20,3 +21,8 @@ pub fn beginnings_are_unobjected()
     first_segments_make_the_first_fragments();
     user_octets_come_back();
 }
+
+/// The octets of a flow are read in one way.
+pub fn readings_are_one()
+    ensures { ReadingsAreOne }
+{}

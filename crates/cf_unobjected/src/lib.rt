@@ -3,4 +3,4 @@
 
 mod laws;
 
-pub use laws::{beginnings_are_unobjected, passed_are_right};
+pub use laws::{beginnings_are_unobjected, passed_are_right, readings_are_one};
