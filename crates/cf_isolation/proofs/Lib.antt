@@ -1,12 +1,12 @@
-mod Ends
+pub mod Ends
 mod Filing
 mod Isolating
 mod Items
-mod Lists
+pub mod Lists
 mod Logging
 mod Naming
 mod Packets
 mod Sending
 mod Stretch
-mod Tables
+pub mod Tables
 mod Words

@@ -1,12 +1,17 @@
 mod Carrying
 mod GoingOn
+mod Halves
 mod Heard
 mod Letterwise
 mod OfPackets
 mod OneFlow
+mod Onward
 mod Order
 mod Others
 mod Pairs
+mod Places
 mod Separate
 mod Speaks
+mod Stepping
+mod Theirs
 mod Towards

@@ -33,7 +33,7 @@ module _ (client : Endpoint) (asset : ℕ) where
       (subst (λ (c : Endpoint). pair_of c place (goes number p (Some place) flows) ≡ pair_on number place p (pair_of c place flows)) same (keeps number place p flows))
   step_some number place p flows false h = stays number place asset p client h flows
 
-  step : (number : ℕ) (p : PacketValue) (o : Option ℕ) (flows : List Watched) → pair_of client asset (goes number p o flows) ≡ after (is_to_place client asset p o) number p (pair_of client asset flows)
+  step : (number : ℕ) (p : PacketValue) (o : Option ℕ) (flows : List Watched) → pair_of client asset (goes number p o flows) ≡ after (is_to_place client asset p.source o) number p (pair_of client asset flows)
   step number p None flows = refl
   step number p (Some place) flows = step_some number place p flows (same_endpoint p.source client && (place == asset)) refl
 

@@ -32,13 +32,16 @@ abbrev pub heard_on : List Asset → List Numbered → List Watched → List Wat
 heard_on assets [] flows = flows
 heard_on assets (n ∷ ns) flows = heard_on assets ns (with_record assets n.number (Ok n.packet) flows)
 
--- a packet is from a client to an asset
-abbrev pub is_to_place : (client : Endpoint) (asset : ℕ) → PacketValue → Option ℕ → Bool
-is_to_place client asset p None = false
-is_to_place client asset p (Some place) = same_endpoint p.source client && (place == asset)
+-- what goes from a source to the asset of a place, if to one, goes from a client to an asset
+abbrev pub is_to_place : (client : Endpoint) (asset : ℕ) → (source : Endpoint) → (place : Option ℕ) → Bool
+is_to_place client asset source None = false
+is_to_place client asset source (Some place) = same_endpoint source client && (place == asset)
+
+abbrev pub goes_to_place : List Asset → (client : Endpoint) (asset : ℕ) → PacketValue → Bool
+goes_to_place assets client asset p = is_to_place client asset p.source (asset_place assets p.dest)
 
 abbrev pub is_to : List Asset → (client : Endpoint) (asset : ℕ) → Numbered → Bool
-is_to assets client asset n = is_to_place client asset n.packet (asset_place assets n.packet.dest)
+is_to assets client asset n = goes_to_place assets client asset n.packet
 
 -- the flows of a client and an asset are those of the packets from the one to the other
 abbrev pub FlowsAreOfTheirPackets : Type 0
