@@ -167,12 +167,12 @@ module _ (K : Flow → Type 0) where
   abbrev pub Has : Session → Type 0
   Has s = K s.flow
 
-  next_has : (ss : List Session) (ts : List SessionEvent) → Each Has ss → Each Has (with_events ss ts)
+  pub next_has : (ss : List Session) (ts : List SessionEvent) → Each Has ss → Each Has (with_events ss ts)
   next_has [] ts h = tt
   next_has (s ∷ ss) [] h = h
   next_has (s ∷ ss) (t ∷ ts) h = (h.0, next_has ss ts h.1)
 
-  went_has : (i : ℕ) (e : SessionEvent) (ss : List Session) → Each Has ss → Each Has (with_event_at i e ss)
+  pub went_has : (i : ℕ) (e : SessionEvent) (ss : List Session) → Each Has ss → Each Has (with_event_at i e ss)
   went_has i e [] h = tt
   went_has zero e (s ∷ ss) h = (h.0, h.1)
   went_has (suc i) e (s ∷ ss) h = (h.0, went_has i e ss h.1)

@@ -1,3 +1,4 @@
+mod Built
 mod Carrying
 mod GoingOn
 mod Halves
@@ -10,6 +11,7 @@ mod Order
 mod Others
 mod Pairs
 mod Places
+mod SelfJudged
 mod Separate
 mod Speaks
 mod Stepping

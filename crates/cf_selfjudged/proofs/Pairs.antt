@@ -167,7 +167,7 @@ after_all : (asset : ℕ) (Q : Spoken → Type 0) (ss : List Spoken) (fs : List 
 after_all asset Q [] fs is holds h = h
 after_all asset Q (s ∷ ss) fs is holds h = after_all asset Q ss (pairs_on asset (s.first ∷ s.rest) fs) is.1 holds.1 (after_one asset Q s fs is.0 holds.0 h)
 
-all_of : (asset : ℕ) (Q : Spoken → Type 0) (ss : List Spoken) → AllByRecursion IsSpoken ss → AllByRecursion Q ss → AllByRecursion (IsOfSession Q) (sessions_on asset ss [])
+pub all_of : (asset : ℕ) (Q : Spoken → Type 0) (ss : List Spoken) → AllByRecursion IsSpoken ss → AllByRecursion Q ss → AllByRecursion (IsOfSession Q) (sessions_on asset ss [])
 all_of asset Q ss is holds = (after_all asset Q ss [] is holds (record { quiet = tt; are = tt })).are
 
 all_map : (P Q : Spoken → Type 0) → ((s : Spoken) → P s → Q s) → (ss : List Spoken) → AllByRecursion P ss → AllByRecursion Q ss

@@ -3,5 +3,6 @@ pub mod Heard
 pub mod OneFlow
 pub mod Order
 pub mod PairFlows
+pub mod SelfJudged
 pub mod Separate
 pub mod Speaks

@@ -3,13 +3,16 @@ ghost use Rattle.cf_selfjudged.specs.Carried.{SegmentsCarryOneStream};
 ghost use Rattle.cf_selfjudged.specs.Heard.{WatchedAreHeard};
 ghost use Rattle.cf_selfjudged.specs.OneFlow.{OneFlowIsUnobjected};
 ghost use Rattle.cf_selfjudged.specs.PairFlows.{FlowsAreOfSessions};
+ghost use Rattle.cf_selfjudged.specs.SelfJudged.{RunsAreUnobjected};
 ghost use Rattle.cf_selfjudged.specs.Separate.{FlowsAreOfTheirPackets};
 ghost use Rattle.cf_selfjudged.specs.Speaks.{SessionsSpeak};
 
 use cf_lane::{has_one_judgement, streams_go_on};
 use cf_leg::segments_carry_one_stream;
+use cf_readback::runs_are_read_back;
+use cf_run::{octets_have_one_list_of_records, sessions_are_right};
 use cf_session::work_is_of_what_was_taken;
-use cf_unobjected::beginnings_are_unobjected;
+use cf_unobjected::{beginnings_are_unobjected, readings_are_one};
 use cf_watch::one_stream_is_seen;
 
 /// Letter by letter: each segment of a session to the controller has at each of its places the letter of one stream, which the
@@ -52,3 +55,17 @@ pub fn flows_are_of_their_packets()
 pub fn watched_are_heard()
     ensures { WatchedAreHeard }
 {}
+
+/// Whatever a run of a policy over records in time sends, every judgement of its output capture under that policy has no objection.
+pub fn runs_are_unobjected()
+    ensures { RunsAreUnobjected }
+{
+    one_flow_is_unobjected();
+    sessions_speak();
+    sessions_are_right();
+    flows_are_of_their_packets();
+    watched_are_heard();
+    readings_are_one();
+    runs_are_read_back();
+    octets_have_one_list_of_records();
+}

@@ -1,4 +1,3 @@
-use Rattle.cf_selfjudged.proofs.Onward.{chain}
 use Rattle.cf_selfjudged.proofs.Heard.{watched_heard}
 use Rattle.cf_selfjudged.proofs.laws.watched_are_heard.Goals as goal
 
