@@ -1,5 +1,5 @@
 -- The packets that were heard from a client to an asset, session by session.
-use Rattle.std.proofs.Common.{◌≡◌, ℕ, ◌&&◌, ◌==◌, Bool, true, false, List, [], ◌∷◌, ◌++◌, cond, map, slice_get, Option, Some, None, refl, sym, ap, ◌∙◌, subst}
+use Rattle.std.proofs.Common.{◌≡◌, ℕ, Bool, true, false, List, [], ◌∷◌, ◌++◌, cond, map, slice_get, Option, Some, None, refl, sym, ap, ◌∙◌, subst}
 use Rattle.std.specs.Prelude.{filter}
 use Rattle.std.specs.List.{AllByRecursion}
 use Rattle.std.proofs.lemmas.Bool.{false≢true}
@@ -17,7 +17,7 @@ use Rattle.cf_view.specs.declared.Endpoint.{Endpoint}
 use Rattle.cf_watch.specs.Watched.{Watched}
 use Rattle.cf_selfjudged.specs.OneFlow.{Numbered, packets_of}
 use Rattle.cf_selfjudged.specs.PairFlows.{IsSpoken, Spoken, pairs_on, sessions_on}
-use Rattle.cf_selfjudged.specs.Separate.{goes_to_place, is_to_place}
+use Rattle.cf_selfjudged.specs.Separate.{is_to_place}
 use Rattle.cf_selfjudged.specs.Speaks.{SessionsSpeak, SpeaksAs}
 use Rattle.cf_selfjudged.proofs.Halves.{is_theirs}
 use Rattle.cf_selfjudged.proofs.Others.{and_left, and_right, number_is}
@@ -78,14 +78,22 @@ record Split (ns : List Numbered) (xs ys : List PacketValue) : Type 0 where
   first_is : heard_as first ≡ xs
   rest_is : heard_as rest ≡ ys
 
+one_before : (n : Numbered) (ns : List Numbered) (x : PacketValue) (xs ys : List PacketValue) → n.packet ≡ x → Split ns xs ys → Split (n ∷ ns) (x ∷ xs) ys
+one_before n ns x xs ys e s = record {
+  first = n ∷ s.first;
+  rest = s.rest;
+  are = ap (λ l. n ∷ l) s.are;
+  first_is = ap (λ p. p ∷ heard_as s.first) e ∙ ap (λ l. x ∷ l) s.first_is;
+  rest_is = s.rest_is;
+}
+
 split : (ns : List Numbered) (xs ys : List PacketValue) → heard_as ns ≡ xs ++ ys → Split ns xs ys
 split ns [] ys h = record { first = []; rest = ns; are = refl; first_is = refl; rest_is = h }
 split [] (x ∷ xs) ys h = cc
 split (n ∷ ns) (x ∷ xs) ys h =
     let head : n.packet ≡ x = cc in
     let tail : heard_as ns ≡ xs ++ ys = cc in
-    let s = split ns xs ys tail in
-    record { first = n ∷ s.first; rest = s.rest; are = ap (λ l. n ∷ l) s.are; first_is = ap (λ p. p ∷ heard_as s.first) head ∙ ap (λ l. x ∷ l) s.first_is; rest_is = s.rest_is }
+    one_before n ns x xs ys head (split ns xs ys tail)
 
 pairs_both : (asset : ℕ) (xs ys : List Numbered) (fs : List Watched) → pairs_on asset (xs ++ ys) fs ≡ pairs_on asset ys (pairs_on asset xs fs)
 pairs_both asset [] ys fs = refl

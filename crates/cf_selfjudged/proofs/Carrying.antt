@@ -1,5 +1,5 @@
 -- What a watched flow carried is what the segments of a session carry.
-use Rattle.std.proofs.Common.{◌≡◌, ◌⊎◌, ◌+ℤ◌, ℕ, ℤ, pos, negsuc, ◌-◌, ◌/◌, ◌%◌, ◌==◌, max, Bool, true, false, inl, inr, List, [], ◌∷◌, ◌++◌, map, None, refl, sym, ap, ◌∙◌, subst, arith}
+use Rattle.std.proofs.Common.{◌≡◌, ◌⊎◌, ◌+ℤ◌, ℕ, ℤ, pos, negsuc, ◌-◌, ◌==◌, max, Bool, true, false, inl, inr, List, [], ◌∷◌, ◌++◌, map, None, refl, sym, ap, ◌∙◌, subst, arith}
 use Rattle.std.specs.Prelude.{if◌then◌else◌}
 use Rattle.std.specs.List.{AllByRecursion}
 use Rattle.std.proofs.lemmas.Bool.{cases_Bool, true≢false}
@@ -14,7 +14,7 @@ use Rattle.cf_leg.specs.declared.ends.Role.TheVariants as role
 use Rattle.cf_packet.specs.Packet.{PacketValue}
 use Rattle.cf_stream.specs.Position.{place_or_zero, position}
 use Rattle.cf_stream.specs.Stream.{Carries, Stream, letter_at, letter_count, letter_from}
-use Rattle.cf_watch.specs.Carried.{Carried, end_after, end_of, top_of}
+use Rattle.cf_watch.specs.Carried.{Carried, end_of, top_of}
 use Rattle.cf_watch.specs.Watched.{carried_by, text_place}
 use Rattle.cf_selfjudged.specs.OneFlow.{Numbered, carried_on, packets_of}
 

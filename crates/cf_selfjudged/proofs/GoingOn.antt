@@ -1,11 +1,9 @@
 -- The stream of a session to its controller goes on from event to event.
-use Rattle.std.proofs.Common.{◌≡◌, ℕ, zero, suc, Bool, true, false, ◌&&◌, ◌||◌, inl, inr, cond, ◌==◌, List, [], ◌∷◌, ◌++◌, map, Option, Some, None, refl, sym, ap, ◌∙◌, subst, arith}
-use Rattle.std.specs.Prelude.{slice_get}
+use Rattle.std.proofs.Common.{◌≡◌, ℕ, Bool, true, false, ◌&&◌, ◌||◌, inl, inr, cond, ◌==◌, List, [], ◌∷◌, ◌++◌, map, Option, Some, None, refl, sym, ap, ◌∙◌, subst}
 use Rattle.std.specs.List.{list_any}
 use Rattle.std.proofs.lemmas.Bool.{cases_Bool, false≢true, true≢false}
 use Rattle.std.proofs.lemmas.List.{append-nil, map-append}
 use Rattle.std.proofs.lemmas.List.Folds.{list_any-append}
-use Rattle.std.proofs.lemmas.Option.{same_Some}
 use Rattle.cf_audit.specs.declared.CutReason.{CutReason}
 use Rattle.cf_lane.specs.Follows.{AreJudged}
 use Rattle.cf_lane.specs.History.{Element, bytes_of, ended_of, is_side}
@@ -14,12 +12,8 @@ use Rattle.cf_lane.specs.Judged.{Judged, ends, has_ended, place_of}
 use Rattle.cf_lane.specs.Laws.{GoOn, QuietBehindEnd, StreamsGoOn}
 use Rattle.cf_lane.specs.Output.{other, outputs, stream_to}
 use Rattle.cf_lane.specs.Unit.{Left, Tail, UnitValue, Wrong}
-use Rattle.cf_leg.specs.Event.{Ending, LegEvent, sent_in, stream_after, stream_at}
-use Rattle.cf_leg.specs.OneStream.{CarryAll, Grows, IsOneStream, IsRightRun}
-use Rattle.cf_leg.specs.Told.{letters_sent, letters_sent_by, own_number}
-use Rattle.cf_leg.specs.declared.Ends.{Ends}
-use Rattle.cf_leg.specs.declared.Role.{Role}
-use Rattle.cf_packet.specs.Packet.{PacketValue}
+use Rattle.cf_leg.specs.Event.{Ending, LegEvent, stream_after, stream_at}
+use Rattle.cf_leg.specs.OneStream.{Grows}
 use Rattle.cf_policy.specs.declared.Asset.{Asset}
 use Rattle.cf_policy.specs.declared.Protocol.{Protocol}
 use Rattle.cf_stream.proofs.Extends.{extends_both, extends_none}
@@ -29,7 +23,7 @@ use Rattle.cf_view.specs.declared.Endpoint.{Endpoint}
 use Rattle.cf_view.specs.declared.Side.{Side}
 use Rattle.cf_view.specs.declared.Side.TheVariants as side
 use Rattle.cf_session.specs.Event.{AreEvents, EndsPacket, EndsTick, IsEvent}
-use Rattle.cf_session.specs.Session.{Flow, SessionEvent, client_of, clients, controllers, history, work_of}
+use Rattle.cf_session.specs.Session.{Flow, SessionEvent, client_of, controllers, history, work_of}
 use Rattle.cf_session.specs.Work.{Work, Works, fed_at, no_work}
 
 -- letters of a side add nothing to what was taken of the other

@@ -1,5 +1,5 @@
 -- What one half of a session's event sends towards an asset: its own early or late segments.
-use Rattle.std.proofs.Common.{◌≡◌, ℕ, ◌&&◌, ◌==◌, Bool, true, false, List, [], ◌∷◌, ◌++◌, cond, map, Option, Some, None, refl, sym, ap, ◌∙◌, subst}
+use Rattle.std.proofs.Common.{◌≡◌, ℕ, Bool, true, false, List, [], ◌∷◌, ◌++◌, cond, map, refl, ap, ◌∙◌}
 use Rattle.std.specs.Prelude.{filter}
 use Rattle.std.specs.List.{AllByRecursion}
 use Rattle.std.proofs.lemmas.List.{append-nil, map-append}
@@ -7,7 +7,7 @@ use Rattle.std.proofs.lemmas.List.Elements.{filter-append}
 use Rattle.cf_isolation.proofs.Ends.{GoesFrom, leg_goes}
 use Rattle.cf_isolation.proofs.Lists.{all_both, all_map, filter_all}
 use Rattle.cf_isolation.proofs.Tables.{IsOwn}
-use Rattle.cf_leg.specs.Event.{LegEvent, greeted_by, said_by}
+use Rattle.cf_leg.specs.Event.{LegEvent}
 use Rattle.cf_packet.specs.Packet.{PacketValue}
 use Rattle.cf_policy.specs.declared.Asset.{Asset}
 use Rattle.cf_readback.proofs.Legs.{LegsRight}

@@ -33,5 +33,5 @@ watched_onto assets (s ∷ ss) earlier h =
 pub watched_heard : WatchedAreHeard
 watched_heard assets newest all e h =
     let same : newest ≡ onto (map record_by all) [] =
-      sym (reverse-reverse newest) ∙ ap (λ (rs : List Record). reverse rs) e ∙ sym (append-nil (reverse (map record_by all))) ∙ sym (onto_is (map record_by all) []) in
+    sym (reverse-reverse newest) ∙ ap (λ (rs : List Record). reverse rs) e ∙ sym (append-nil (reverse (map record_by all))) ∙ sym (onto_is (map record_by all) []) in
     ap (watched assets) same ∙ watched_onto assets all [] h

@@ -1,9 +1,9 @@
 -- What a session was to say to its controller is below the limit; so the segments to it carry one stream, letter by letter.
 use Rattle.std.specs.Prelude.{nat_le}
-use Rattle.std.proofs.Common.{◌≡◌, ℕ, ◌<◌, ◌^◌, ◌≤◌, ◌||◌, Bool, true, false, ◌&&◌, if◌then◌else◌, cond, inl, inr, List, [], ◌∷◌, ◌++◌, map, Option, Some, None, refl, sym, ap, ◌∙◌, subst, append_assoc, arith}
+use Rattle.std.proofs.Common.{◌≡◌, ℕ, ◌<◌, ◌^◌, ◌≤◌, ◌||◌, Bool, true, false, ◌&&◌, if◌then◌else◌, cond, inl, inr, List, [], ◌∷◌, ◌++◌, map, Option, Some, None, refl, sym, ap, ◌∙◌, subst, arith}
 use Rattle.std.specs.Option.{is_some, option_or}
 use Rattle.std.proofs.lemmas.Bool.{cases_Bool, false≢true, true≢false}
-use Rattle.std.proofs.lemmas.List.{append-nil, map-append}
+use Rattle.std.proofs.lemmas.List.{append-nil}
 use Rattle.std.proofs.lemmas.List.Folds.{list_any-append}
 use Rattle.cf_audit.specs.declared.CutReason.{CutReason}
 use Rattle.cf_lane.specs.History.{Element, ended_of, is_side}
@@ -16,14 +16,14 @@ use Rattle.cf_readback.proofs.Legs.{legs_right}
 use Rattle.cf_view.specs.declared.Endpoint.{Endpoint}
 use Rattle.cf_selfjudged.specs.Carried.{CarriesOneStream}
 use Rattle.cf_stream.proofs.Extends.{extends_none}
-use Rattle.cf_stream.specs.Stream.{Byte, End, Extends, Letter, Stream, letter_count, no_letters}
+use Rattle.cf_stream.specs.Stream.{Stream, letter_count, no_letters}
 use Rattle.cf_policy.specs.declared.Asset.{Asset}
 use Rattle.cf_view.specs.declared.Side.{Side}
 use Rattle.cf_view.specs.declared.Side.TheVariants as side
 use Rattle.cf_session.specs.Cuts.{reset_cut}
 use Rattle.cf_session.specs.Event.{AreEvents, EndsPacket, EndsTick, IsBeginning, IsPacket, IsTick}
 use Rattle.cf_session.specs.Laws.{AreUncut, AreUncutBefore}
-use Rattle.cf_session.specs.Session.{Flow, SessionEvent, client_ends, client_of, clients, closed_at, controller_ends, controllers, history, is_closed, was_closed, work_of}
+use Rattle.cf_session.specs.Session.{Flow, SessionEvent, client_of, closed_at, controller_ends, controllers, history, is_closed, was_closed, work_of}
 use Rattle.cf_session.specs.Work.{Work, Works, no_work, work_by}
 use Rattle.cf_selfjudged.proofs.GoingOn.{controller_grown, or_true, tick_still, works_of}
 

@@ -1,18 +1,17 @@
 -- What a run sends from a client to an asset is what its sessions of theirs sent, one after the other, and they are never two at a time.
-use Rattle.std.proofs.Common.{◌≡◌, ℕ, zero, suc, ◌+◌, ◌≤◌, ◌&&◌, ◌==◌, Bool, true, false, not, List, [], ◌∷◌, ◌++◌, cond, Option, Some, None, option_map, Result, Ok, Err, refl, sym, ap, ◌∙◌, subst, append_assoc, arith}
+use Rattle.std.proofs.Common.{◌≡◌, ℕ, suc, ◌+◌, ◌≤◌, ◌&&◌, ◌==◌, Bool, true, false, not, List, [], ◌∷◌, ◌++◌, cond, Option, Some, None, option_map, Result, Ok, Err, refl, sym, ap, ◌∙◌, subst, append_assoc, arith}
 use Rattle.std.specs.Prelude.{filter, position, slice_get}
 use Rattle.std.specs.List.{flat_map, remove}
 use Rattle.std.proofs.lemmas.Bool.{false≢true, true≢false}
 use Rattle.std.proofs.lemmas.List.{append-nil}
-use Rattle.std.proofs.lemmas.Option.{same_Some}
-use Rattle.cf_isolation.proofs.Tables.{BegunHave, Has, HasOwn, IsOwn, all_own, begun_in, each_append, each_filter, each_get, found_has_all, kept_has, same_is, same_self, table_has}
-use Rattle.cf_leg.specs.Event.{LegEvent, greeted_by, is_idle, said_by, sent_in}
+use Rattle.cf_isolation.proofs.Tables.{HasOwn, IsOwn, all_own, begun_in, each_filter, found_has_all, kept_has, same_is, same_self, table_has}
+use Rattle.cf_leg.specs.Event.{LegEvent, is_idle, sent_in}
 use Rattle.cf_packet.specs.Packet.{PacketValue}
 use Rattle.cf_packet.specs.declared.packet.PacketRefusal.{PacketRefusal}
 use Rattle.cf_policy.specs.declared.Asset.{Asset}
 use Rattle.cf_readback.proofs.Legs.{each_back}
 use Rattle.cf_run.specs.Entries.{asset_place}
-use Rattle.cf_run.specs.Sessions.{Each, IsRight as IsRightSession, SessionsAreRight, gone_after, leaves, left_by_packet, left_in, session_at, sessions_of}
+use Rattle.cf_run.specs.Sessions.{Each, IsRight as IsRightSession, SessionsAreRight, gone_after, leaves, left_by_packet, session_at, sessions_of}
 use Rattle.cf_run.specs.Table.{Begins, Full, Goes, Match, Outside, Session, is_between, match_of, place_of, same_endpoint, without}
 use Rattle.cf_run.specs.Trace.{AreEvents, Begun, Dropped, Event, GoesOnAt, NoRoom, NoSession, Received, Receives, ReceivesRecord, Went, after_received, kept, sent, sent_received, stays, table_after, tick_of, ticked, with_event_at, with_events}
 use Rattle.cf_session.specs.Event.{IsBeginning}
@@ -22,11 +21,11 @@ use Rattle.cf_view.specs.declared.Endpoint.{Endpoint}
 use Rattle.cf_view.specs.declared.Side.{Side}
 use Rattle.cf_selfjudged.specs.OneFlow.{packets_of}
 use Rattle.cf_selfjudged.specs.Separate.{is_to_place}
-use Rattle.cf_selfjudged.proofs.Halves.{is_theirs, packets, picked, picked_append, second_picked}
+use Rattle.cf_selfjudged.proofs.Halves.{is_theirs, picked, picked_append, second_picked}
 use Rattle.cf_selfjudged.proofs.Others.{and_left, and_right, number_is}
 use Rattle.cf_selfjudged.proofs.Places.{one_place, place_by}
 use Rattle.cf_selfjudged.proofs.Stepping.{IsReady, all_ready, ticks_told, went_told}
-use Rattle.cf_selfjudged.proofs.Theirs.{count, count_append, fewer, fewer_out, none_told, one_of, parts, same_count, same_count_at, spoken, taken_out, told, told_append}
+use Rattle.cf_selfjudged.proofs.Theirs.{count, count_append, fewer, fewer_out, one_of, parts, same_count, same_count_at, taken_out, told, told_append}
 
 -- ---- lists in parts
 

@@ -1,5 +1,5 @@
 -- The flows of a client and an asset, session by session.
-use Rattle.std.proofs.Common.{◌≡◌, ◌&&◌, ◌||◌, ◌==◌, ℕ, suc, Bool, true, false, not, inl, inr, List, [], ◌∷◌, map, refl, sym, ap, ◌∙◌, subst, arith}
+use Rattle.std.proofs.Common.{◌≡◌, ◌&&◌, ◌||◌, ◌==◌, ℕ, Bool, true, false, not, inl, inr, List, [], ◌∷◌, map, refl, sym, ap, ◌∙◌, subst, arith}
 use Rattle.std.specs.List.{AllByRecursion}
 use Rattle.std.proofs.lemmas.Bool.{cases_Bool, false≢true, true≢false}
 use Rattle.std.proofs.lemmas.Bool.Decides.{nat_tests}
@@ -7,13 +7,13 @@ use Rattle.cf_leg.specs.Emits.{syn}
 use Rattle.cf_leg.specs.Segment.{has_ack, has_syn}
 use Rattle.cf_packet.specs.Packet.{PacketValue}
 use Rattle.cf_session.specs.Session.{Flow, controller_ends}
-use Rattle.cf_stream.specs.Stream.{Stream, letter_count}
+use Rattle.cf_stream.specs.Stream.{letter_count}
 use Rattle.cf_watch.specs.Carried.{Carried, top_of}
 use Rattle.cf_run.specs.Table.{is_opening}
 use Rattle.cf_watch.specs.Watched.{Watched, begins_anew, carried_by, with_packet}
 use Rattle.cf_selfjudged.specs.OneFlow.{Numbered, carried_on}
 use Rattle.cf_selfjudged.specs.Order.{SynsFirst}
-use Rattle.cf_selfjudged.specs.PairFlows.{GoesTo, IsOfSession, IsOneOf, IsSpoken, Spoken, pair_on, pairs_on, sessions_on}
+use Rattle.cf_selfjudged.specs.PairFlows.{GoesTo, IsOfSession, IsSpoken, Spoken, pair_on, pairs_on, sessions_on}
 
 abbrev AreSilent : List Carried → Type 0
 AreSilent cs = AllByRecursion (λ c. letter_count c.text ≡ 0) cs
@@ -154,13 +154,16 @@ after_one asset Q s fs is holds before =
     let all : pairs_on asset (s.first ∷ s.rest) fs ≡ w.last ∷ b.older = ap (λ (xs : List Watched). pairs_on asset s.rest xs) b.are ∙ w.are in
     subst (After Q) (sym all) (record {
       quiet = w.quiet;
-      are = (record {
-        session = s;
-        holds = holds;
-        silent = b.from.carried;
-        are_silent = b.silent;
-        is = w.carried ∙ ap (λ k. carried_on s.flow.syn.seq (carried_by s.first.number k (top_of b.from.carried) s.first.packet ∷ b.from.carried) s.rest) b.origin;
-      }, b.others);
+      are = (
+        record {
+          session = s;
+          holds = holds;
+          silent = b.from.carried;
+          are_silent = b.silent;
+          is = w.carried ∙ ap (λ k. carried_on s.flow.syn.seq (carried_by s.first.number k (top_of b.from.carried) s.first.packet ∷ b.from.carried) s.rest) b.origin;
+        },
+        b.others,
+      );
     })
 
 after_all : (asset : ℕ) (Q : Spoken → Type 0) (ss : List Spoken) (fs : List Watched) → AllByRecursion IsSpoken ss → AllByRecursion Q ss → After Q fs → After Q (sessions_on asset ss fs)
@@ -169,14 +172,3 @@ after_all asset Q (s ∷ ss) fs is holds h = after_all asset Q ss (pairs_on asse
 
 pub all_of : (asset : ℕ) (Q : Spoken → Type 0) (ss : List Spoken) → AllByRecursion IsSpoken ss → AllByRecursion Q ss → AllByRecursion (IsOfSession Q) (sessions_on asset ss [])
 all_of asset Q ss is holds = (after_all asset Q ss [] is holds (record { quiet = tt; are = tt })).are
-
-all_map : (P Q : Spoken → Type 0) → ((s : Spoken) → P s → Q s) → (ss : List Spoken) → AllByRecursion P ss → AllByRecursion Q ss
-all_map P Q f [] h = tt
-all_map P Q f (s ∷ ss) h = (f s h.0, all_map P Q f ss h.1)
-
-all_one : (ss : List Spoken) → AllByRecursion (IsOneOf ss) ss
-all_one [] = tt
-all_one (s ∷ ss) = ((0, refl), all_map (IsOneOf ss) (IsOneOf (s ∷ ss)) (λ t h. (suc h.0, h.1)) ss (all_one ss))
-
-pub all_of_one : (asset : ℕ) (ss : List Spoken) → AllByRecursion IsSpoken ss → AllByRecursion (IsOfSession (IsOneOf ss)) (sessions_on asset ss [])
-all_of_one asset ss is = all_of asset (IsOneOf ss) ss is (all_one ss)

@@ -1,45 +1,35 @@
 -- The flows of a run's output capture have no objection.
-use Rattle.std.proofs.Common.{◌≡◌, ℕ, ◌+◌, ◌<◌, ◌≤◌, ◌^◌, ◌&&◌, ◌==◌, Bool, true, false, List, [], ◌∷◌, ◌++◌, cond, if◌then◌else◌, length, map, slice_get, Option, Some, None, option_map, Result, Ok, Err, refl, sym, ap, ◌∙◌, subst, arith}
-use Rattle.std.specs.Prelude.{drop, filter, reverse}
+use Rattle.std.proofs.Common.{◌≡◌, ℕ, ◌+◌, ◌≤◌, ◌^◌, ◌==◌, Bool, true, false, List, [], ◌∷◌, ◌++◌, cond, if◌then◌else◌, map, slice_get, Some, None, option_map, Result, Ok, refl, sym, ap, ◌∙◌, subst, arith}
+use Rattle.std.specs.Prelude.{drop, filter}
 use Rattle.std.specs.List.{AllByRecursion}
 use Rattle.std.proofs.lemmas.Bool.Decides.{nat_tests}
 use Rattle.cf_isolation.proofs.Lists.{all_front, all_map}
-use Rattle.cf_judge.specs.Objections.{IsJudgementOf, AreReadBy, IsReadBy, Reading, earlier, first_wrong, objected, objection_of, objection_to, sooner, wrong_by}
-use Rattle.cf_judge.specs.Plain.{AreRead, Ending, Whole}
-use Rattle.cf_judge.specs.declared.judging.Judged.{Judged as Judgement}
-use Rattle.cf_judge.specs.declared.judging.Objection.{Objection}
-use Rattle.cf_lane.specs.Judged.{Judged}
-use Rattle.cf_outside.specs.Files.{holds}
+use Rattle.cf_judge.specs.Objections.{AreReadBy, IsReadBy, Reading, first_wrong, objected, objection_of, objection_to, sooner, wrong_by}
+use Rattle.cf_judge.specs.Plain.{AreRead, Whole}
 use Rattle.cf_packet.specs.Packet.{PacketValue}
 use Rattle.cf_policy.specs.declared.Asset.{Asset}
 use Rattle.cf_readback.specs.ReadBack.{ReadsAs, RunsAreReadBack, output_form, record_by}
-use Rattle.cf_run.specs.Capture.{AreRecords, LastPlace}
-use Rattle.cf_run.specs.Capture.{Record}
+use Rattle.cf_run.specs.Capture.{AreRecords}
 use Rattle.cf_run.specs.Form.{first_place, form_of}
 use Rattle.cf_run.specs.declared.FormRefusal.{FormRefusal}
 use Rattle.cf_run.specs.Records.{HaveOneList}
-use Rattle.cf_run.specs.Run.{IsRun}
 use Rattle.cf_run.specs.Sessions.{SessionsAreRight, sessions_of}
-use Rattle.cf_run.specs.Trace.{AreEvents, Event, Input, sent}
+use Rattle.cf_run.specs.Trace.{AreEvents, Event, sent}
 use Rattle.cf_run.specs.declared.Form.{Form}
-use Rattle.cf_run.specs.declared.summary.Summary.{Summary}
 use Rattle.cf_session.specs.Sent.{Sent}
 use Rattle.cf_session.specs.Session.{Flow, client_of}
 use Rattle.cf_unobjected.specs.OneReading.{ReadingsAreOne}
 use Rattle.cf_unobjected.specs.Unobjected.{IsUnobjected}
 use Rattle.cf_view.specs.declared.Endpoint.{Endpoint}
 use Rattle.cf_watch.specs.Flow.{AreFlowsOf, IsFlowOf}
-use Rattle.cf_watch.specs.FlowValue.{FlowValue}
-use Rattle.cf_watch.specs.Watch.{HasFlows, WatchesAs}
-use Rattle.cf_watch.specs.Watched.{Watched, is_between, watched}
-use Rattle.cf_watch.specs.declared.flow.Conflict.{Conflict}
+use Rattle.cf_watch.specs.Watched.{Watched, is_between}
 use Rattle.cf_selfjudged.specs.Heard.{WatchedAreHeard, numbered_from}
 use Rattle.cf_selfjudged.specs.OneFlow.{HasNoObjection, Numbered, OneFlowIsUnobjected}
-use Rattle.cf_selfjudged.specs.PairFlows.{IsOfSession, Spoken, pairs_on, sessions_on}
+use Rattle.cf_selfjudged.specs.PairFlows.{IsOfSession, sessions_on}
 use Rattle.cf_selfjudged.specs.SelfJudged.{RunsAreUnobjected}
 use Rattle.cf_selfjudged.specs.Separate.{FlowsAreOfTheirPackets, goes_to_place, heard_on, is_to, pair_of}
 use Rattle.cf_selfjudged.specs.Speaks.{SessionsSpeak}
-use Rattle.cf_selfjudged.proofs.Built.{Built, IsTheirs, build, sessions_found}
+use Rattle.cf_selfjudged.proofs.Built.{IsTheirs, build, sessions_found}
 use Rattle.cf_selfjudged.proofs.Halves.{packets}
 use Rattle.cf_selfjudged.proofs.Onward.{onward}
 use Rattle.cf_selfjudged.proofs.Pairs.{all_of}
@@ -102,12 +92,12 @@ module _ (one : OneFlowIsUnobjected) (speaks : SessionsSpeak) (law : SessionsAre
       let heard = numbered_from 1 (sent events) in
       all_of_pairs (IsFine assets) (heard_on assets heard [])
       (λ client asset.
-          (let theirs_heard = filter (is_to assets client asset) heard in
-          let is = picked_heard (goes_to_place assets client asset) heard ∙ ap (filter (goes_to_place assets client asset)) (heard_all 1 (sent events)) ∙ onward assets client asset law limit events are in
-          let built = build speaks assets limit client asset (sessions_of events) (law assets limit events are) (sessions_found assets limit events are) theirs_heard is in
-          let of = all_of asset (IsTheirs speaks assets limit client asset) built.sessions built.spoken built.theirs in
-          subst (AllByRecursion (IsFine assets client asset)) (sym (theirs assets client asset heard ∙ built.is []))
-          (all_map (IsOfSession (IsTheirs speaks assets limit client asset)) (IsFine assets client asset) (of_session client asset) (sessions_on asset built.sessions []) of)))
+      (let theirs_heard = filter (is_to assets client asset) heard in
+      let is = picked_heard (goes_to_place assets client asset) heard ∙ ap (filter (goes_to_place assets client asset)) (heard_all 1 (sent events)) ∙ onward assets client asset law limit events are in
+      let built = build speaks assets limit client asset (sessions_of events) (law assets limit events are) (sessions_found assets limit events are) theirs_heard is in
+      let of = all_of asset (IsTheirs speaks assets limit client asset) built.sessions built.spoken built.theirs in
+      subst (AllByRecursion (IsFine assets client asset)) (sym (theirs assets client asset heard ∙ built.is []))
+      (all_map (IsOfSession (IsTheirs speaks assets limit client asset)) (IsFine assets client asset) (of_session client asset) (sessions_on asset built.sessions []) of)))
 
 -- ---- the judgement
 

@@ -1,8 +1,8 @@
 -- What a run sends from a client to an asset is what its sessions of theirs sent, one after the other.
-use Rattle.std.proofs.Common.{◌≡◌, ℕ, zero, suc, ◌+◌, ◌≤◌, ◌&&◌, ◌==◌, Bool, true, false, not, inl, inr, List, [], ◌∷◌, ◌++◌, cond, if◌then◌else◌, Option, Some, None, option_map, Result, Ok, Err, refl, sym, ap, ◌∙◌, subst, append_assoc, arith}
-use Rattle.std.specs.Prelude.{filter, position, slice_get}
-use Rattle.std.specs.List.{AllByRecursion, flat_map, remove}
-use Rattle.std.proofs.lemmas.Bool.{false≢true, true≢false}
+use Rattle.std.proofs.Common.{◌≡◌, ℕ, zero, suc, ◌+◌, ◌≤◌, ◌&&◌, Bool, true, false, not, List, [], ◌∷◌, ◌++◌, cond, Option, Some, None, refl, sym, ap, ◌∙◌, append_assoc, arith}
+use Rattle.std.specs.Prelude.{filter, slice_get}
+use Rattle.std.specs.List.{flat_map}
+use Rattle.std.proofs.lemmas.Bool.{false≢true}
 use Rattle.std.proofs.lemmas.List.{append-nil}
 use Rattle.cf_audit.specs.declared.CutReason.{CutReason}
 use Rattle.cf_isolation.proofs.Tables.{HasOwn, IsOwn}
@@ -15,15 +15,15 @@ use Rattle.cf_readback.proofs.Legs.{legs_right}
 use Rattle.cf_run.specs.Sessions.{Each, HasEvents, IsRight as IsRightSession}
 use Rattle.cf_run.specs.Table.{Session}
 use Rattle.cf_run.specs.Trace.{AreTicks, GoesOnAt, GoesOnWith, ends_cut, is_cut, replaced, stays, with_event_at, with_events}
-use Rattle.cf_session.specs.Event.{AreEvents as AreSessionEvents, EndsTick, IsBeginning, IsPacket, IsTick, came_client, came_controller}
+use Rattle.cf_session.specs.Event.{AreEvents as AreSessionEvents, EndsTick, IsPacket, IsTick}
 use Rattle.cf_session.specs.Sent.{early, is_first_half, late, sent_first, sent_second}
-use Rattle.cf_session.specs.Session.{Flow, SessionEvent, client_of, controller_ends, controllers}
+use Rattle.cf_session.specs.Session.{Flow, SessionEvent, controller_ends, controllers}
 use Rattle.cf_view.specs.declared.Endpoint.{Endpoint}
 use Rattle.cf_view.specs.declared.Side.{Side}
 use Rattle.cf_view.specs.declared.Side.TheVariants as side
 use Rattle.cf_selfjudged.specs.OneFlow.{packets_of}
 use Rattle.cf_selfjudged.proofs.Halves.{first_picked, is_theirs, picked, picked_append, second_picked}
-use Rattle.cf_selfjudged.proofs.Theirs.{count, none_told, nothing_left, same_count, spoken, told}
+use Rattle.cf_selfjudged.proofs.Theirs.{count, none_told, spoken, told}
 
 -- ---- one event of an end
 

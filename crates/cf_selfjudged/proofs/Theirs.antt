@@ -1,8 +1,7 @@
 -- Of a list of sessions, with at most one of a client and an asset, what those of them sent to the asset.
-use Rattle.std.proofs.Common.{◌≡◌, ℕ, zero, suc, ◌+◌, ◌≤◌, ◌==◌, ◌&&◌, Bool, true, false, not, List, [], ◌∷◌, ◌++◌, cond, Option, Some, None, option_map, refl, sym, ap, ◌∙◌, subst, append_assoc, arith}
-use Rattle.std.specs.Prelude.{filter, position, slice_get}
+use Rattle.std.proofs.Common.{◌≡◌, ℕ, zero, suc, ◌+◌, ◌≤◌, Bool, true, false, not, List, [], ◌∷◌, ◌++◌, cond, Some, refl, sym, ap, ◌∙◌, append_assoc, arith}
+use Rattle.std.specs.Prelude.{filter}
 use Rattle.std.specs.List.{remove}
-use Rattle.std.proofs.lemmas.Bool.{false≢true, true≢false}
 use Rattle.std.proofs.lemmas.List.{append-nil}
 use Rattle.cf_packet.specs.Packet.{PacketValue}
 use Rattle.cf_run.specs.Sessions.{session_at}

@@ -1,5 +1,6 @@
--- The watched flows of one client and one asset, by the sessions whose packets they carried: FlowsAreOfSessions. This project's own.
-use Rattle.std.specs.Prelude.{◌≡◌, ℕ, false, true, List, [], ◌∷◌, map, slice_get, Some, if◌then◌else◌}
+-- The watched flows of one client and one asset, by the packets that go from the one to the other: pairs_on; and by the sessions whose
+-- packets these are: sessions_on. This project's own.
+use Rattle.std.specs.Prelude.{◌≡◌, ℕ, false, true, List, [], ◌∷◌, map, if◌then◌else◌}
 use Rattle.std.specs.List.{AllByRecursion}
 use Rattle.cf_leg.specs.Emits.{syn}
 use Rattle.cf_leg.specs.Segment.{has_ack, has_syn, letters_of}
@@ -51,10 +52,3 @@ pub record IsOfSession (Q : Spoken → Type 0) (w : Watched) : Type 0 where
   pub silent : List Carried
   pub are_silent : AllByRecursion (λ c. letter_count c.text ≡ 0) silent
   pub is : w.carried ≡ carried_on session.flow.syn.seq silent (session.first ∷ session.rest)
-
-abbrev pub IsOneOf : List Spoken → Spoken → Type 0
-IsOneOf ss s = (place : ℕ) × (slice_get ss place ≡ Some s)
-
--- each flow is of one of the sessions
-abbrev pub FlowsAreOfSessions : Type 0
-FlowsAreOfSessions = (asset : ℕ) (ss : List Spoken) → AllByRecursion IsSpoken ss → AllByRecursion (IsOfSession (IsOneOf ss)) (sessions_on asset ss [])

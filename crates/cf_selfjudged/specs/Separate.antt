@@ -1,31 +1,19 @@
--- A packet changes the flows of its own client and asset alone: PacketsKeepToTheirPair. This project's own.
+-- The watched flows of one client and one asset are those of the packets from the one to the other, whatever else is heard:
+-- FlowsAreOfTheirPackets. This project's own.
 use Rattle.std.specs.Prelude.{◌≡◌, ◌&&◌, ◌==◌, ℕ, Bool, false, List, [], ◌∷◌, ◌++◌, filter, Option, Some, None, Ok, if◌then◌else◌}
 use Rattle.cf_packet.specs.Packet.{PacketValue}
 use Rattle.cf_policy.specs.declared.Asset.{Asset}
 use Rattle.cf_view.specs.declared.Endpoint.{Endpoint}
 use Rattle.cf_run.specs.Entries.{asset_place}
 use Rattle.cf_run.specs.Table.{same_endpoint}
-use Rattle.cf_watch.specs.Watched.{Watched, goes, is_between, with_record}
+use Rattle.cf_watch.specs.Watched.{Watched, is_between, with_record}
 use Rattle.cf_selfjudged.specs.OneFlow.{Numbered}
-use Rattle.cf_selfjudged.specs.PairFlows.{pair_on, pairs_on}
+use Rattle.cf_selfjudged.specs.PairFlows.{pairs_on}
 
 -- the flows of a client and an asset, the newest first
 abbrev pub pair_of : (client : Endpoint) (asset : ℕ) → List Watched → List Watched
 pair_of client asset [] = []
 pair_of client asset (f ∷ fs) = pair_of client asset fs ++ (if is_between client asset f then f ∷ [] else [])
-
-abbrev pub PacketsKeepToTheirPair : Type 0
-PacketsKeepToTheirPair =
-    (number asset : ℕ) (p : PacketValue) (flows : List Watched) →
-    pair_of p.source asset (goes number p (Some asset) flows) ≡ pair_on number asset p (pair_of p.source asset flows)
-
--- and it leaves those of another client or asset as they are
-abbrev pub OtherPairsStay : Type 0
-OtherPairsStay =
-    (number asset other : ℕ) (p : PacketValue) (client : Endpoint) (flows : List Watched) → (same_endpoint p.source client && (asset == other)) ≡ false →
-    pair_of client other (goes number p (Some asset) flows) ≡ pair_of client other flows
-
--- ---- all packets of a capture
 
 -- the flows after these packets, the oldest first
 abbrev pub heard_on : List Asset → List Numbered → List Watched → List Watched

@@ -2,7 +2,6 @@
 ghost use Rattle.cf_selfjudged.specs.Carried.{SegmentsCarryOneStream};
 ghost use Rattle.cf_selfjudged.specs.Heard.{WatchedAreHeard};
 ghost use Rattle.cf_selfjudged.specs.OneFlow.{OneFlowIsUnobjected};
-ghost use Rattle.cf_selfjudged.specs.PairFlows.{FlowsAreOfSessions};
 ghost use Rattle.cf_selfjudged.specs.SelfJudged.{RunsAreUnobjected};
 ghost use Rattle.cf_selfjudged.specs.Separate.{FlowsAreOfTheirPackets};
 ghost use Rattle.cf_selfjudged.specs.Speaks.{SessionsSpeak};
@@ -17,7 +16,7 @@ use cf_watch::one_stream_is_seen;
 
 /// Letter by letter: each segment of a session to the controller has at each of its places the letter of one stream, which the
 /// session's stream to it begins with.
-pub fn segments_carry_to_controller()
+fn segments_carry_to_controller()
     ensures { SegmentsCarryOneStream }
 {
     has_one_judgement();
@@ -27,7 +26,7 @@ pub fn segments_carry_to_controller()
 
 /// A watched flow that carried the segments of a session to its controller, and nothing else with letters, has no conflict, and a judge
 /// objects to none of its bytes.
-pub fn one_flow_is_unobjected()
+fn one_flow_is_unobjected()
     ensures { OneFlowIsUnobjected }
 {
     segments_carry_to_controller();
@@ -36,23 +35,18 @@ pub fn one_flow_is_unobjected()
     beginnings_are_unobjected();
 }
 
-/// Of a client and an asset each watched flow carried the packets of one session, and before them packets without letters.
-pub fn flows_are_of_sessions()
-    ensures { FlowsAreOfSessions }
-{}
-
 /// What a session sends to its controller is its SYN and then packets of its own, and no SYN after one with ACK.
-pub fn sessions_speak()
+fn sessions_speak()
     ensures { SessionsSpeak }
 {}
 
 /// The watched flows of a client and an asset are those of the packets from the one to the other, whatever other packets there are.
-pub fn flows_are_of_their_packets()
+fn flows_are_of_their_packets()
     ensures { FlowsAreOfTheirPackets }
 {}
 
 /// The watched flows of a capture of sent packets are those of these packets, in their order.
-pub fn watched_are_heard()
+fn watched_are_heard()
     ensures { WatchedAreHeard }
 {}
 

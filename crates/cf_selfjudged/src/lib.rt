@@ -3,6 +3,4 @@
 
 mod laws;
 
-pub use laws::{
-    flows_are_of_sessions, flows_are_of_their_packets, one_flow_is_unobjected, runs_are_unobjected, segments_carry_to_controller, sessions_speak, watched_are_heard,
-};
+pub use laws::runs_are_unobjected;

@@ -1,5 +1,5 @@
 -- The octets of a flow are read in one way.
-use Rattle.std.proofs.Common.{◌≡◌, ◌<◌, ◌-◌, ◌∙◌, ◌++◌, ℕ, List, [], ◌∷◌, drop, slice_index, refl, sym, ap, subst}
+use Rattle.std.proofs.Common.{◌≡◌, ◌-◌, ◌∙◌, ◌++◌, ℕ, List, [], ◌∷◌, drop, slice_index, refl, sym, ap, subst}
 use Rattle.cf_judge.specs.Plain.{AreRead, Breaks, Ending, HasEnding, HasPlainFate, Whole, completed_in}
 use Rattle.cf_lane.proofs.Commands.{has_one_fate}
 use Rattle.cf_lane.proofs.Units.{free_unit}

@@ -10,6 +10,7 @@ returns c = record {
   lines_held = c.logs_hold_sessions.ensures.lines;
   lines_to_the_next = c.logs_hold_sessions.ensures.lines_to_the_next;
   lines_isolated = c.logs_are_isolated.ensures;
+  unobjected = c.runs_are_unobjected.ensures;
   told = c.refused_commands_are_told.ensures;
   fixed = c.records_fix_runs.ensures.runs;
   records = c.octets_have_one_list_of_records.ensures.one_timed;
