@@ -8,6 +8,7 @@ use Rattle.cf_refusals.specs.Told.{RefusedAreTold}
 use Rattle.cf_run.specs.Fixed.{RecordsFixRuns}
 use Rattle.cf_run.specs.Isolation.{RunsIsolateSessions}
 use Rattle.cf_run.specs.Records.{HaveOneTimedList}
+use Rattle.cf_selfjudged.specs.SelfJudged.{RunsAreUnobjected}
 
 pub record HasLaws : Type 0 where
   -- what a session of a run sends and logs is fixed by its own packets and their moments
@@ -29,6 +30,8 @@ pub record HasLaws : Type 0 where
   pub lines_owned : EachLogged
   pub records_alike : AlikeInRecords
   pub lines_alike : AlikeInLines
+  -- whatever a run sends, no judgement of its output capture under the run's own policy has an objection
+  pub unobjected : RunsAreUnobjected
   -- each refused command has its line and, but in three cases, its reply
   pub told : RefusedAreTold
   -- two runs of one policy over the same records have the same outputs and counts

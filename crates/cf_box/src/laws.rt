@@ -9,6 +9,7 @@ use cf_pcapng::{calls_give_blocks, files_have_one_list_of_blocks};
 use cf_readback::runs_are_read_back;
 use cf_refusals::refused_commands_are_told;
 use cf_run::{octets_have_one_list_of_records, records_fix_runs, runs_isolate_sessions};
+use cf_selfjudged::runs_are_unobjected;
 
 /// The laws of the layers below that speak of whole runs and whole captures.
 pub(crate) fn laws_hold()
@@ -23,6 +24,7 @@ pub(crate) fn laws_hold()
     sessions_own_their_records();
     sessions_own_their_lines();
     alike_sessions_own_the_same();
+    runs_are_unobjected();
     refused_commands_are_told();
     records_fix_runs();
     octets_have_one_list_of_records();

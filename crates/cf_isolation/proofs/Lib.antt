@@ -1,11 +1,11 @@
 mod EachLogged
 mod EachSent
-mod Ends
+pub mod Ends
 mod Filing
 mod Halves
 mod Isolating
 mod Items
-mod Lists
+pub mod Lists
 mod Lives
 mod Logging
 mod Naming
@@ -13,7 +13,7 @@ mod Order
 mod Packets
 mod Sending
 mod Stretch
-mod Tables
+pub mod Tables
 mod Theirs
 mod Turns
 mod Words

@@ -77,10 +77,24 @@ found_among (a ∷ assets) endpoint asset h = by (λ e. found_among assets endpo
     by more true e = (0, e)
     by more false e = let there = more e in (suc there.0, there.1)
 
+-- an asset that is found at an endpoint stands there
+found_there : (assets : List Asset) (endpoint : Endpoint) (asset : Asset) → asset_at assets endpoint ≡ Some asset → asset.endpoint ≡ endpoint
+found_there [] endpoint asset h = cc
+found_there (a ∷ assets) endpoint asset h = by (λ e. found_there assets endpoint asset e) (same_endpoint a.endpoint endpoint) refl h
+  where
+    by : (asset_at assets endpoint ≡ Some asset → asset.endpoint ≡ endpoint) → (b : Bool) → same_endpoint a.endpoint endpoint ≡ b → cond b (Some a) (asset_at assets endpoint) ≡ Some asset →
+        asset.endpoint ≡ endpoint
+    by more true is e = let same : a ≡ asset = cc in sym (ap (λ (x : Asset). x.endpoint) same) ∙ same_is a.endpoint endpoint is
+    by more false is e = more e
+
+found_itself : (assets : List Asset) (endpoint : Endpoint) (asset : Asset) → asset_at assets endpoint ≡ Some asset → asset_at assets asset.endpoint ≡ Some asset
+found_itself assets endpoint asset h = subst (λ e. asset_at assets e ≡ Some asset) (sym (found_there assets endpoint asset h)) h
+
 -- what holds of a flow that a packet begins
 pub record IsBegunBy (assets : List Asset) (p : PacketValue) (f : Flow) : Type 0 where
   pub own : IsOwn assets f
   pub among : IsAmong assets f.asset
+  pub found : asset_at assets f.asset.endpoint ≡ Some f.asset
   pub client : client_of f ≡ p.source
 
 module _ (assets : List Asset) (table : List Session) (p : PacketValue) (f : Flow) where
@@ -101,7 +115,7 @@ module _ (assets : List Asset) (table : List Session) (p : PacketValue) (f : Flo
   closed_by asset false h = absurd (never_goes _ _ h)
 
   begun_to : has_asset_at assets p.source ≡ false → (asset : Asset) → asset_at assets p.dest ≡ Some asset → IsBegunBy assets p (flow_to asset)
-  begun_to none asset e = record { own = (none, found_has assets p.dest asset e); among = found_among assets p.dest asset e; client = refl }
+  begun_to none asset e = record { own = (none, found_has assets p.dest asset e); among = found_among assets p.dest asset e; found = found_itself assets p.dest asset e; client = refl }
 
   begun_if : has_asset_at assets p.source ≡ false → (o : Option Asset) → asset_at assets p.dest ≡ o → begins table p o ≡ Begins f → IsBegunBy assets p f
   begun_if none None e h = absurd (never_goes _ _ h)
@@ -153,12 +167,12 @@ module _ (K : Flow → Type 0) where
   abbrev pub Has : Session → Type 0
   Has s = K s.flow
 
-  next_has : (ss : List Session) (ts : List SessionEvent) → Each Has ss → Each Has (with_events ss ts)
+  pub next_has : (ss : List Session) (ts : List SessionEvent) → Each Has ss → Each Has (with_events ss ts)
   next_has [] ts h = tt
   next_has (s ∷ ss) [] h = h
   next_has (s ∷ ss) (t ∷ ts) h = (h.0, next_has ss ts h.1)
 
-  went_has : (i : ℕ) (e : SessionEvent) (ss : List Session) → Each Has ss → Each Has (with_event_at i e ss)
+  pub went_has : (i : ℕ) (e : SessionEvent) (ss : List Session) → Each Has ss → Each Has (with_event_at i e ss)
   went_has i e [] h = tt
   went_has zero e (s ∷ ss) h = (h.0, h.1)
   went_has (suc i) e (s ∷ ss) h = (h.0, went_has i e ss h.1)

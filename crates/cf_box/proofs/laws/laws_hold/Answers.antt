@@ -14,6 +14,7 @@ returns c = record {
   lines_owned = c.sessions_own_their_lines.ensures;
   records_alike = c.alike_sessions_own_the_same.ensures.records;
   lines_alike = c.alike_sessions_own_the_same.ensures.lines;
+  unobjected = c.runs_are_unobjected.ensures;
   told = c.refused_commands_are_told.ensures;
   fixed = c.records_fix_runs.ensures.runs;
   records = c.octets_have_one_list_of_records.ensures.one_timed;

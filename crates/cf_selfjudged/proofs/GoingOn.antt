@@ -1,0 +1,180 @@
+-- The stream of a session to its controller goes on from event to event.
+use Rattle.std.proofs.Common.{◌≡◌, ℕ, Bool, true, false, ◌&&◌, ◌||◌, inl, inr, cond, ◌==◌, List, [], ◌∷◌, ◌++◌, map, Option, Some, None, refl, sym, ap, ◌∙◌, subst}
+use Rattle.std.specs.List.{list_any}
+use Rattle.std.proofs.lemmas.Bool.{cases_Bool, false≢true, true≢false}
+use Rattle.std.proofs.lemmas.List.{append-nil, map-append}
+use Rattle.std.proofs.lemmas.List.Folds.{list_any-append}
+use Rattle.cf_audit.specs.declared.CutReason.{CutReason}
+use Rattle.cf_lane.specs.Follows.{AreJudged}
+use Rattle.cf_lane.specs.History.{Element, bytes_of, ended_of, is_side}
+use Rattle.cf_lane.specs.Item.{AreItems, Completes, Placed, Took, last_after, placed}
+use Rattle.cf_lane.specs.Judged.{Judged, ends, has_ended, place_of}
+use Rattle.cf_lane.specs.Laws.{GoOn, QuietBehindEnd, StreamsGoOn}
+use Rattle.cf_lane.specs.Output.{other, outputs, stream_to}
+use Rattle.cf_lane.specs.Unit.{Left, Tail, UnitValue, Wrong}
+use Rattle.cf_leg.specs.Event.{Ending, LegEvent, stream_after, stream_at}
+use Rattle.cf_leg.specs.OneStream.{Grows}
+use Rattle.cf_policy.specs.declared.Asset.{Asset}
+use Rattle.cf_policy.specs.declared.Protocol.{Protocol}
+use Rattle.cf_stream.proofs.Extends.{extends_both, extends_none}
+use Rattle.cf_stream.proofs.Taken.{same_stream}
+use Rattle.cf_stream.specs.Stream.{Extends, Stream, letter_count, no_letters}
+use Rattle.cf_view.specs.declared.Endpoint.{Endpoint}
+use Rattle.cf_view.specs.declared.Side.{Side}
+use Rattle.cf_view.specs.declared.Side.TheVariants as side
+use Rattle.cf_session.specs.Event.{AreEvents, EndsPacket, EndsTick, IsEvent}
+use Rattle.cf_session.specs.Session.{Flow, SessionEvent, client_of, controllers, history, work_of}
+use Rattle.cf_session.specs.Work.{Work, Works, fed_at, no_work}
+
+-- letters of a side add nothing to what was taken of the other
+other_bytes : (now : ℕ) (s : Side) (l : Stream) → bytes_of (other s) (fed_at now s l) ≡ []
+other_bytes now side.Client l = elim (letter_count l == 0) as (λ b. bytes_of side.Controller (cond b [] (record { moment = now; side = side.Client; letters = l } ∷ [])) ≡ []) [ true ↦ refl | false ↦ refl ]
+other_bytes now side.Controller l = elim (letter_count l == 0) as (λ b. bytes_of side.Client (cond b [] (record { moment = now; side = side.Controller; letters = l } ∷ [])) ≡ []) [ true ↦ refl | false ↦ refl ]
+
+-- ---- an End among the items is one of the history
+
+abbrev is_end : Side → Placed → Bool
+is_end s q = ends s q.item
+
+took_none : (s t : Side) (m : ℕ) (us : List UnitValue) → list_any (is_end s) (map (placed m) (map (Took t) us)) ≡ false
+took_none s t m [] = refl
+took_none s t m (u ∷ us) = took_none s t m us
+
+or_no : (b : Bool) → (b || false) ≡ true → (b && true) ≡ true
+or_no true e = refl
+or_no false e = absurd (false≢true e)
+
+last_any : (s t : Side) (m : ℕ) (was tail : Tail) (ended : Bool) → list_any (is_end s) (map (placed m) (last_after was t ended tail)) ≡ true → (is_side s t && ended) ≡ true
+last_any s t m (Wrong r) tail ended e = absurd (false≢true e)
+last_any s t m (Left rest) (Wrong r) ended e = absurd (false≢true e)
+last_any s t m (Left rest) (Left now) true e = or_no (is_side s t) e
+last_any s t m (Left rest) (Left now) false e = absurd (false≢true e)
+
+completed_end : (p : Protocol) (s : Side) (earlier : List Element) (e : Element) (items : List Placed) → Completes p earlier e items → list_any (is_end s) items ≡ true → (is_side s e.side && e.letters.ended) ≡ true
+completed_end p s earlier e items c h =
+    last_any s e.side e.moment c.was c.tail e.letters.ended
+    (sym (ap (list_any (is_end s)) (c.is_items ∙ map-append (placed e.moment) (map (Took e.side) c.more) (last_after c.was e.side e.letters.ended c.tail))
+    ∙ list_any-append (is_end s) (map (placed e.moment) (map (Took e.side) c.more)) (map (placed e.moment) (last_after c.was e.side e.letters.ended c.tail))
+    ∙ ap (λ b. b || list_any (is_end s) (map (placed e.moment) (last_after c.was e.side e.letters.ended c.tail))) (took_none s e.side e.moment c.more)) ∙ h)
+
+pub or_true : (a b : Bool) → (a ≡ true) → (a || b) ≡ true
+or_true true b e = refl
+or_true false b e = absurd (false≢true e)
+
+or_right : (a b : Bool) → (b ≡ true) → (a || b) ≡ true
+or_right true b e = refl
+or_right false b e = e
+
+or_else : (a b : Bool) → (a || b) ≡ true → a ≡ false → b ≡ true
+or_else true b e f = absurd (true≢false f)
+or_else false b e f = e
+
+items_end : (p : Protocol) (s : Side) (earlier later : List Element) (items : List Placed) → AreItems p earlier later items → list_any (is_end s) items ≡ true → ended_of s later ≡ true
+items_end p s earlier [] items are h = absurd (false≢true (sym (ap (list_any (is_end s)) are) ∙ h))
+items_end p s earlier (e ∷ later) items are h =
+    let now = are.0 in
+    let next = are.1 in
+    let split : (list_any (is_end s) now || list_any (is_end s) next) ≡ true = sym (list_any-append (is_end s) now next) ∙ sym (ap (list_any (is_end s)) are.4) ∙ h in
+    elim (cases_Bool (list_any (is_end s) now)) [
+      | inl a ↦ or_true (is_side s e.side && e.letters.ended) (ended_of s later) (completed_end p s earlier e now are.2 a)
+      | inr a ↦ or_right (is_side s e.side && e.letters.ended) (ended_of s later) (items_end p s (earlier ++ e ∷ []) later next are.3 (or_else (list_any (is_end s) now) (list_any (is_end s) next) split a))
+    ]
+
+placed_end : (s : Side) (js : List Judged) → list_any (is_end s) (map place_of js) ≡ has_ended s js
+placed_end s [] = refl
+placed_end s (j ∷ js) = ap (λ b. ends s j.item || b) (placed_end s js)
+
+judged_end : (asset : Asset) (client : ℕ) (s : Side) (h : List Element) (js : List Judged) → AreJudged asset client h js → has_ended s js ≡ true → ended_of s h ≡ true
+judged_end asset client s h js a e =
+    items_end asset.protocol s [] h a.items a.are_items
+    (ap (list_any (is_end s)) a.are_first ∙ list_any-append (is_end s) (map place_of js) a.dropped
+    ∙ or_true (list_any (is_end s) (map place_of js)) (list_any (is_end s) a.dropped) (placed_end s js ∙ e))
+
+-- ---- the streams of the lane go on
+
+works_none : (asset : Asset) (client : Endpoint) → Works asset client [] no_work
+works_none asset client = record { judged = []; are_judged = record { items = []; are_items = refl; dropped = []; are_first = refl; goes_on = refl; fates = tt }; is_work = refl }
+
+works_one : (f : Flow) (limit : ℕ) (es : List SessionEvent) (e : SessionEvent) → IsEvent f limit es e → Works f.asset (client_of f) (history es) (work_of es) → Works f.asset (client_of f) (history (e ∷ es)) e.work
+works_one f limit [] e h w = subst (λ x. Works f.asset (client_of f) ([] ++ x) e.work) (sym h.fed) (subst (Works f.asset (client_of f) []) (sym h.work) w)
+works_one f limit (d ∷ es) e (inl h) w =
+    subst (λ x. Works f.asset (client_of f) (history (d ∷ es) ++ x) e.work) (sym h.fed)
+    (subst (λ x. Works f.asset (client_of f) x e.work) (sym (append-nil (history (d ∷ es)))) (subst (Works f.asset (client_of f) (history (d ∷ es))) (sym h.work) w))
+works_one f limit (d ∷ es) e (inr h) w = h.5.work
+
+pub works_of : (f : Flow) (limit : ℕ) (es : List SessionEvent) → AreEvents f limit es → Works f.asset (client_of f) (history es) (work_of es)
+works_of f limit [] h = works_none f.asset (client_of f)
+works_of f limit (e ∷ es) h = works_one f limit es e h.0 (works_of f limit es h.1)
+
+-- a side whose End was taken brings no more bytes
+quiet_side : (s t : Side) (now : ℕ) (l : Stream) (h : List Element) (fed : List Element) → fed ≡ fed_at now s l → (ended_of s h ≡ true → fed ≡ []) → ended_of t h ≡ true → bytes_of t fed ≡ []
+quiet_side side.Client side.Client now l h fed e u d = ap (bytes_of side.Client) (u d)
+quiet_side side.Client side.Controller now l h fed e u d = ap (bytes_of side.Controller) e ∙ other_bytes now side.Client l
+quiet_side side.Controller side.Client now l h fed e u d = ap (bytes_of side.Client) e ∙ other_bytes now side.Controller l
+quiet_side side.Controller side.Controller now l h fed e u d = ap (bytes_of side.Controller) (u d)
+
+fed_quiet : (f : Flow) (limit : ℕ) (es : List SessionEvent) (e : SessionEvent) (t : Side) → IsEvent f limit es e → ended_of t (history es) ≡ true → bytes_of t e.fed ≡ []
+fed_quiet f limit [] e t h d = ap (bytes_of t) h.fed
+fed_quiet f limit (d0 ∷ es) e t (inl h) d = ap (bytes_of t) h.fed
+fed_quiet f limit (d0 ∷ es) e t (inr h) d = quiet_side h.1 t _ h.5.fed.0 (history (d0 ∷ es)) e.fed h.5.fed.1 h.5.unended d
+
+outputs_on : (asset : Asset) (client : Endpoint) (to : Side) (js ks : List Judged) → (g : GoOn asset client js ks) → outputs asset to [] ks ≡ outputs asset to [] js ++ outputs asset to js g.ms
+outputs_on asset client side.Client js ks g = g.to_client
+outputs_on asset client side.Controller js ks g = g.to_controller
+
+module _ (go : StreamsGoOn) (quiet : QuietBehindEnd) (f : Flow) (limit : ℕ) where
+  judged_extend : (es : List SessionEvent) (e : SessionEvent) (to : Side) → AreEvents f limit (e ∷ es) → (a : Works f.asset (client_of f) (history es) (work_of es)) → (b : Works f.asset (client_of f) (history (e ∷ es)) e.work) →
+      Extends (stream_to f.asset to a.judged) (stream_to f.asset to b.judged)
+  judged_extend es e to are a b =
+      let g = go f.asset (client_of f) (history es) e.fed a.judged b.judged a.are_judged b.are_judged in
+      record {
+        more = outputs f.asset to a.judged g.ms;
+        bytes = outputs_on f.asset (client_of f) to a.judged b.judged g;
+        ended = λ d.
+            (let still = fed_quiet f limit es e (other to) are.0 (judged_end f.asset (client_of f).address (other to) (history es) a.judged a.are_judged d) in
+            let none = quiet f.asset (client_of f).address (history es) e.fed a.judged g.ms to a.are_judged (subst (AreJudged f.asset (client_of f).address (history (e ∷ es))) g.all b.are_judged) d still in
+            same_stream (stream_to f.asset to b.judged) (stream_to f.asset to a.judged)
+            (outputs_on f.asset (client_of f) to a.judged b.judged g ∙ ap (λ xs. outputs f.asset to [] a.judged ++ xs) none ∙ append-nil (outputs f.asset to [] a.judged))
+            (ap (has_ended (other to)) g.all ∙ list_any-append (λ j. ends (other to) j.item) a.judged g.ms ∙ or_true (has_ended (other to) a.judged) (has_ended (other to) g.ms) d ∙ sym d));
+      }
+
+  controller_on : (es : List SessionEvent) (e : SessionEvent) → AreEvents f limit (e ∷ es) → Extends (work_of es).to_controller e.work.to_controller
+  controller_on es e are =
+      let a = works_of f limit es are.1 in
+      let b = works_of f limit (e ∷ es) are in
+      subst (λ (w : Work). Extends w.to_controller e.work.to_controller) (sym a.is_work) (subst (λ (w : Work). Extends (stream_to f.asset side.Controller a.judged) w.to_controller) (sym b.is_work) (judged_extend es e side.Controller are a b))
+
+-- ---- what a leg was to say
+
+-- the ending says the stream, or leaves what was said
+record Says (before whole : Stream) (x : Ending) : Type 0 where
+  grows : Extends before (stream_at x before)
+  on : Extends (stream_at x before) whole
+
+says_still : (before whole : Stream) (x : Ending) → stream_at x before ≡ before → Extends before whole → Says before whole x
+says_still before whole x e h = record { grows = subst (Extends before) (sym e) (extends_none before); on = subst (λ w. Extends w whole) (sym e) h }
+
+pub tick_still : (before : Stream) (c : Option CutReason) (x : Ending) → EndsTick c x → stream_at x before ≡ before
+tick_still before None x h = ap (λ y. stream_at y before) h
+tick_still before (Some r) x h = ap (λ y. stream_at y before) h.1
+
+packet_says : (before whole : Stream) (roomy : Bool) (c : Option CutReason) (x : Ending) → Extends before whole → EndsPacket c whole roomy x → Says before whole x
+packet_says before whole roomy None x e h = subst (Says before whole) (sym h.1) (record { grows = e; on = extends_none whole })
+packet_says before whole roomy (Some r) x e h = says_still before whole x (ap (λ y. stream_at y before) h.1) e
+
+controller_says : (f : Flow) (limit : ℕ) (es : List SessionEvent) (e : SessionEvent) → IsEvent f limit es e → Extends (stream_after (controllers es)) e.work.to_controller → Says (stream_after (controllers es)) e.work.to_controller e.controller.ending
+controller_says f limit [] e h x = subst (λ (l : LegEvent). Says no_letters e.work.to_controller l.ending) (sym h.controller) (record { grows = extends_none no_letters; on = x })
+controller_says f limit (d ∷ es) e (inl h) x = says_still _ _ e.controller.ending (tick_still _ e.cut e.controller.ending h.controller_ending) x
+controller_says f limit (d ∷ es) e (inr h) x = packet_says _ _ _ e.cut e.controller.ending x h.5.controller_ending
+
+pub record Grown (es : List LegEvent) (whole : Stream) : Type 0 where
+  pub grows : Grows es
+  pub on : Extends (stream_after es) whole
+
+module _ (go : StreamsGoOn) (quiet : QuietBehindEnd) (f : Flow) (limit : ℕ) where
+  pub controller_grown : (es : List SessionEvent) → AreEvents f limit es → Grown (controllers es) (work_of es).to_controller
+  controller_grown [] h = record { grows = tt; on = extends_none no_letters }
+  controller_grown (e ∷ es) h =
+      let g = controller_grown es h.1 in
+      let s = controller_says f limit es e h.0 (extends_both _ _ _ g.on (controller_on go quiet f limit es e h)) in
+      record { grows = (s.grows, g.grows); on = s.on }

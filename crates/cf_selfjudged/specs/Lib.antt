@@ -1,0 +1,8 @@
+pub mod Carried
+pub mod Heard
+pub mod OneFlow
+pub mod Order
+pub mod PairFlows
+pub mod SelfJudged
+pub mod Separate
+pub mod Speaks

@@ -1,0 +1,6 @@
+//! What a run sends, as a judge of the same policy reads its output capture: no flow of it has an objection.
+#![tactic(auto)]
+
+mod laws;
+
+pub use laws::runs_are_unobjected;

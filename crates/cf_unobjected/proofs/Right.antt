@@ -1,0 +1,236 @@
+-- What items let through, item by item.
+use Rattle.std.proofs.Common.{◌≡◌, ◌≤◌, ◌∙◌, ◌++◌, ℕ, List, [], ◌∷◌, Bool, true, false, Option, None, Some, Result, Ok, Err, if◌then◌else◌, length, map, nat_eq, nat_le, nat_lt, slice_index, unwrap_or, refl, sym, ap, subst, arith}
+use Rattle.std.specs.List.{AllByRecursion}
+use Rattle.std.proofs.lemmas.Bool.{false≢true}
+use Rattle.std.proofs.lemmas.Bool.Decides.{nat_tests}
+use Rattle.std.proofs.lemmas.Option.{none-some}
+use Rattle.cf_apci.specs.Apdu.{Ack, Control, Info}
+use Rattle.cf_audit.specs.declared.line.CutReason.{CutReason}
+use Rattle.cf_audit.specs.declared.line.Why.{Why}
+use Rattle.cf_decode.specs.Passed.{passed_by}
+use Rattle.cf_decode.specs.Dnp3.{passed_by_frame}
+use Rattle.cf_decode.specs.Iec104.{acks, passed_by_apdu}
+use Rattle.cf_decode.specs.Modbus.{passed_by_adu}
+use Rattle.cf_decode.specs.Units.{Fragment, Passed, Whole}
+use Rattle.cf_dnplink.specs.LinkFrame.{FrameValue}
+use Rattle.cf_dnptrans.specs.Passing.{completed}
+use Rattle.cf_dnptrans.specs.declared.assembly.SegmentAnswer.{SegmentAnswer}
+use Rattle.cf_lane.specs.Acts.{by_refusal, fate_of_acts, first_refusal, refusal_or, used_by}
+use Rattle.cf_lane.specs.Rates.{Says, is_spent, rated, said, says_at, unless_spent}
+use Rattle.cf_dnplink.specs.UserOctets.{user_of}
+use Rattle.cf_dnptrans.specs.Transport.{fitting, is_linked, last_fragment, octets_of, since_first}
+use Rattle.cf_lane.specs.Dnp3.{answer_now, segments_of, fate_of_fragment, fate_of_frame, fate_of_read, fate_of_segment, fate_of_whole, is_data, stray_of}
+use Rattle.cf_lane.specs.Fate.{HaveFates, HasItemFate}
+use Rattle.cf_lane.specs.Iec104.{asdu_in, asdu_refused, fate_by_form, fate_of_asdu, or_cut}
+use Rattle.cf_lane.specs.Item.{Broke, Ended, Item, Took}
+use Rattle.cf_lane.specs.Judged.{Judged, goes_on, in_turn, is_refused}
+use Rattle.cf_lane.specs.Modbus.{HasCommandFate, of_its_acts, of_no_form, of_other_station}
+use Rattle.cf_lane.specs.Numbers.{ack_cut, info_cut}
+use Rattle.cf_lane.specs.Unit.{Adu, Apdu, Frame}
+use Rattle.cf_lane.specs.declared.fate.Refusal.{Refusal}
+use Rattle.cf_modbus.specs.Adu.{AduValue}
+use Rattle.cf_policy.specs.Verdict.{verdict_of}
+use Rattle.cf_policy.specs.declared.Asset.{Asset}
+use Rattle.cf_policy.specs.declared.Verdict.{Verdict}
+use Rattle.cf_view.specs.declared.Act.{Act}
+use Rattle.cf_asdu.specs.Asdu.{refusal_reason, station_of}
+use Rattle.cf_asdu.specs.declared.asdu.AsduRefusal.{AsduRefusal}
+use Rattle.cf_dnpobj.specs.Fragment.{FragmentValue, read_octets}
+use Rattle.cf_dnpobj.specs.declared.fragment.FragmentRefusal.{FragmentRefusal}
+use Rattle.cf_asdu.specs.Asdu as asdu_form
+use Rattle.cf_asdu.specs.Acts as asdus
+use Rattle.cf_dnpobj.specs.Acts as fragments
+use Rattle.cf_modbus.specs.Acts as requests
+use Rattle.cf_asdu.specs.declared.asdu.AsduRefusal.TheVariants as refusal
+use Rattle.cf_policy.specs.declared.Decider.TheVariants as decider
+use Rattle.cf_policy.specs.declared.Verdict.TheVariants as verdict
+use Rattle.cf_view.specs.declared.Reason.TheVariants as reason
+use Rattle.cf_lane.specs.declared.fate.Fate.{Fate}
+use Rattle.cf_dnptrans.specs.declared.assembly.SegmentAnswer.TheVariants as answers
+use Rattle.cf_lane.specs.declared.fate.Fate.TheVariants as fate
+use Rattle.cf_audit.specs.declared.line.Why.TheVariants as why
+use Rattle.cf_view.specs.declared.Side.TheVariants as side
+use Rattle.cf_unobjected.specs.Passed.{IsRight}
+
+all_append : {X : Type 0} (P : X → Type 0) (xs ys : List X) → AllByRecursion P xs → AllByRecursion P ys → AllByRecursion P (xs ++ ys)
+all_append P [] ys a b = b
+all_append P (x ∷ xs) ys a b = (a.0, all_append P xs ys a.1 b)
+
+fits_by : (octets xs : List ℕ) (b : Bool) → nat_le (length octets) 2048 ≡ b → (if b then Some octets else None) ≡ Some xs → length xs ≤ 2048
+fits_by octets xs true e h =
+    let l : length octets ≤ 2048 = grind (arith, nat_tests, e) in
+    let same : octets ≡ xs = ap (λ o. unwrap_or o octets) h in
+    subst (λ ys. length ys ≤ 2048) same l
+fits_by octets xs false e h = absurd (none-some xs h)
+
+made_by : (run : List (List ℕ)) (xs : List ℕ) (b : Bool) → (if b then fitting (octets_of run) else None) ≡ Some xs → length xs ≤ 2048
+made_by run xs true h = fits_by (octets_of run) xs (nat_le (length (octets_of run)) 2048) refl h
+made_by run xs false h = absurd (none-some xs h)
+
+-- a fragment has at most 2,048 octets
+most_of : (segments : List (List ℕ)) (xs : List ℕ) → last_fragment segments ≡ Some xs → length xs ≤ 2048
+most_of segments xs h = made_by (since_first segments) xs (is_linked (since_first segments)) h
+
+-- ---- what is allowed where rules may be spent is allowed where none is
+
+-- by one verdict no act is refused, if none is by the other
+abbrev Allows : (strict plain : Says) → Type 0
+Allows strict plain = (acts : List Act) → first_refusal strict acts ≡ None → first_refusal plain acts ≡ None
+
+by_verdict : (spent : ℕ → Bool) (act : Act) (v : Verdict) (later other : Option Refusal) → (later ≡ None → other ≡ None) →
+    refusal_or act (said spent v) later ≡ None → refusal_or act v other ≡ None
+by_verdict spent act (verdict.Allow number) later other to h = by_spent (spent number) h where
+  by_spent : (b : Bool) → refusal_or act (unless_spent b number) later ≡ None → other ≡ None
+  by_spent true h = absurd (none-some _ (sym h))
+  by_spent false h = to h
+by_verdict spent act (verdict.Refuse d because) later other to h = absurd (none-some _ (sym h))
+
+says_allows : (asset : Asset) (client : ℕ) (earlier : List Judged) (moment : ℕ) → Allows (says_at asset client earlier moment) (verdict_of asset client)
+says_allows asset client earlier moment [] h = refl
+says_allows asset client earlier moment (act ∷ acts) h =
+    by_verdict (is_spent asset earlier moment) act (verdict_of asset client act) (first_refusal (says_at asset client earlier moment) acts) (first_refusal (verdict_of asset client) acts)
+    (says_allows asset client earlier moment acts) h
+
+goes_by : (used : List Bool) (o : Option Refusal) → goes_on (by_refusal used o) ≡ true → o ≡ None
+goes_by used None e = refl
+goes_by used (Some refusal) e = absurd (false≢true e)
+
+by_none : (used : List Bool) (o : Option Refusal) → o ≡ None → by_refusal used o ≡ fate.Admitted used
+by_none used None e = refl
+by_none used (Some refusal) e = absurd (none-some refusal (sym e))
+
+module _ (asset : Asset) (client : ℕ) (says : Says) (allows : Allows says (verdict_of asset client)) where
+  abbrev plain : List Act → List Bool
+  plain acts = used_by (rated asset.rules) (verdict_of asset client) acts
+
+  acts_admitted : (acts : List Act) → goes_on (fate_of_acts asset says acts) ≡ true → fate_of_acts asset (verdict_of asset client) acts ≡ fate.Admitted (plain acts)
+  acts_admitted acts e =
+      by_none (plain acts) (first_refusal (verdict_of asset client) acts) (allows acts (goes_by (used_by (rated asset.rules) says acts) (first_refusal says acts) e))
+
+  acts_go : (acts : List Act) → goes_on (fate_of_acts asset says acts) ≡ true → goes_on (fate_of_acts asset (verdict_of asset client) acts) ≡ true
+  acts_go acts e = ap goes_on (acts_admitted acts e)
+
+  confirms_or : (b : Bool) (acts : List Act) → goes_on (if b then fate.Carried else fate_of_acts asset says acts) ≡ true →
+      goes_on (if b then fate.Carried else fate_of_acts asset (verdict_of asset client) acts) ≡ true
+  confirms_or true acts e = refl
+  confirms_or false acts e = acts_go acts e
+
+  read_goes : (code : ℕ) (read : Result FragmentValue FragmentRefusal) → goes_on (fate_of_read asset says code read) ≡ true → goes_on (fate_of_read asset (verdict_of asset client) code read) ≡ true
+  read_goes code (Ok f) e = confirms_or (nat_eq f.code 0) (fragments.acts f) e
+  read_goes code (Err refusal) e = absurd (false≢true e)
+
+  pub fragment_goes : (octets : List ℕ) → goes_on (fate_of_fragment asset says side.Client octets) ≡ true → goes_on (fate_of_fragment asset (verdict_of asset client) side.Client octets) ≡ true
+  fragment_goes octets e = read_goes (slice_index octets 1) (read_octets octets) e
+
+  form_goes : (octets : List ℕ) (o : Option AsduRefusal) → goes_on (fate_by_form asset says octets o) ≡ true → goes_on (fate_by_form asset (verdict_of asset client) octets o) ≡ true
+  form_goes octets (Some refusal) e = absurd (false≢true e)
+  form_goes octets None e = acts_go (asdus.acts (asdu_in octets)) e
+
+  abbrev short_refusal : List ℕ → Fate
+  short_refusal octets = asdu_refused decider.Form (refusal_reason refusal.Short) octets 0
+
+  abbrev station_refusal : List ℕ → Fate
+  station_refusal octets = asdu_refused decider.Station reason.Station octets (station_of octets)
+
+  station_goes : (octets : List ℕ) (here : Bool) →
+      goes_on (if here then fate_by_form asset says octets (asdu_form.first_refusal (asdu_in octets)) else station_refusal octets) ≡ true →
+      goes_on (if here then fate_by_form asset (verdict_of asset client) octets (asdu_form.first_refusal (asdu_in octets)) else station_refusal octets) ≡ true
+  station_goes octets true e = form_goes octets (asdu_form.first_refusal (asdu_in octets)) e
+  station_goes octets false e = absurd (false≢true e)
+
+  short_goes : (octets : List ℕ) (short : Bool) (f g : Fate) → (goes_on f ≡ true → goes_on g ≡ true) → goes_on (if short then short_refusal octets else f) ≡ true →
+      goes_on (if short then short_refusal octets else g) ≡ true
+  short_goes octets true f g to e = absurd (false≢true e)
+  short_goes octets false f g to e = to e
+
+  pub asdu_goes : (octets : List ℕ) → goes_on (fate_of_asdu asset says octets) ≡ true → goes_on (fate_of_asdu asset (verdict_of asset client) octets) ≡ true
+  asdu_goes octets e = short_goes octets (nat_lt (length octets) 9) _ _ (station_goes octets (nat_eq (station_of octets) asset.station)) e
+
+  abbrev AreRight : List Passed → Type 0
+  AreRight = AllByRecursion (IsRight asset client)
+
+  -- ---- Modbus
+
+  admitted_plainly : (a : AduValue) (f : Fate) → goes_on f ≡ true → HasCommandFate asset says a f → (used : List Bool) × HasCommandFate asset (verdict_of asset client) a (fate.Admitted used)
+  admitted_plainly a f g (of_other_station d e) = absurd (false≢true (sym (ap goes_on e) ∙ g))
+  admitted_plainly a f g (of_no_form s refusal r e) = absurd (false≢true (sym (ap goes_on e) ∙ g))
+  admitted_plainly a f g (of_its_acts s r p e) =
+      (plain (requests.acts r), of_its_acts s r p (sym (acts_admitted (requests.acts r) (sym (ap goes_on e) ∙ g))))
+
+  adu_if : (b : Bool) (a : AduValue) → (b ≡ true → IsRight asset client (Whole (Adu a))) → AreRight (if b then Whole (Adu a) ∷ [] else [])
+  adu_if true a right = (right refl, tt)
+  adu_if false a right = tt
+
+  adu_right : (a : AduValue) (f : Fate) → HasCommandFate asset says a f → AreRight (passed_by_adu f a)
+  adu_right a f h = adu_if (goes_on f) a (λ g. admitted_plainly a f g h)
+
+  -- ---- DNP3
+
+  fragment_by : (octets : List ℕ) → 2 ≤ length octets → length octets ≤ 2048 → (f : Fate) → fate_of_fragment asset says side.Client octets ≡ f → AreRight (if goes_on f then Fragment octets ∷ [] else [])
+  fragment_by octets long most fate.Carried e = ((long, most, fragment_goes octets (ap goes_on e)), tt)
+  fragment_by octets long most (fate.Admitted used) e = ((long, most, fragment_goes octets (ap goes_on e)), tt)
+  fragment_by octets long most (fate.Refused refusal) e = tt
+  fragment_by octets long most (fate.Stray because) e = tt
+  fragment_by octets long most fate.Lengthens e = tt
+  fragment_by octets long most (fate.Cuts because) e = tt
+
+  fragment_right : (octets : List ℕ) (short : Bool) → length octets ≤ 2048 → nat_lt (length octets) 2 ≡ short →
+      AreRight (if goes_on (fate_of_whole asset says side.Client (octets ∷ [])) then Fragment octets ∷ [] else [])
+  fragment_right octets true most e = rw e tt
+  fragment_right octets false most e = let long : 2 ≤ length octets = grind (arith, nat_tests, e) in
+      subst (λ (b : Bool). AreRight (if goes_on (if b then fate.Stray why.Short else fate_of_fragment asset says side.Client octets) then Fragment octets ∷ [] else [])) (sym e)
+      (fragment_by octets long most (fate_of_fragment asset says side.Client octets) refl)
+
+  segment_right : (answer : SegmentAnswer) (segments : List (List ℕ)) (last : Option (List ℕ)) → last_fragment segments ≡ last →
+      AreRight (if goes_on (fate_of_segment asset says side.Client answer (completed answer last)) then map Fragment (completed answer last) else [])
+  segment_right answers.More segments last e = tt
+  segment_right (answers.Dropped because) segments last e = tt
+  segment_right answers.Whole segments None e = tt
+  segment_right answers.Whole segments (Some octets) e = fragment_right octets (nat_lt (length octets) 2) (most_of segments octets e) refl
+
+  frame_right : (earlier : List Judged) (x : FrameValue) (stray : Option Why) → stray_of asset side.Client x ≡ stray → (data_ : Bool) → is_data x ≡ data_ →
+      AreRight (passed_by_frame asset earlier (fate_of_frame asset says side.Client earlier x stray) x)
+  frame_right earlier x (Some because) s data_ d = tt
+  frame_right earlier x None s false d = rw d ((s, d), tt)
+  frame_right earlier x None s true d = rw d (segment_right (answer_now asset side.Client earlier x) (user_of x.blocks ∷ segments_of asset side.Client earlier) (last_fragment (user_of x.blocks ∷ segments_of asset side.Client earlier)) refl)
+
+  -- ---- IEC 60870-5-104
+
+  acks_right : (o : Option ℕ) → AreRight (acks o)
+  acks_right None = tt
+  acks_right (Some receive) = (refl, tt)
+
+  asdu_right : (s r : ℕ) (asdu : List ℕ) (owed : Option ℕ) (f : Fate) → fate_of_asdu asset says asdu ≡ f →
+      AreRight (if goes_on f then Whole (Apdu (Info s r asdu)) ∷ [] else (if is_refused f then acks owed else []))
+  asdu_right s r asdu owed (fate.Admitted used) e = (asdu_goes asdu (ap goes_on e), tt)
+  asdu_right s r asdu owed fate.Carried e = (asdu_goes asdu (ap goes_on e), tt)
+  asdu_right s r asdu owed (fate.Refused refusal) e = acks_right owed
+  asdu_right s r asdu owed (fate.Stray because) e = tt
+  asdu_right s r asdu owed fate.Lengthens e = tt
+  asdu_right s r asdu owed (fate.Cuts because) e = tt
+
+  info_right : (earlier : List Judged) (send receive : ℕ) (asdu : List ℕ) (cut : Option CutReason) →
+      AreRight (passed_by_apdu earlier (or_cut cut (fate_of_asdu asset says asdu)) (Info send receive asdu))
+  info_right earlier send receive asdu (Some because) = tt
+  info_right earlier send receive asdu None = asdu_right _ _ asdu _ (fate_of_asdu asset says asdu) refl
+
+  ack_right : (earlier : List Judged) (receive : ℕ) (cut : Option CutReason) → AreRight (passed_by_apdu earlier (or_cut cut fate.Carried) (Ack receive))
+  ack_right earlier receive (Some because) = tt
+  ack_right earlier receive None = (refl, tt)
+
+  pub by_item : (earlier : List Judged) (j : Judged) (item : Item) → HasItemFate asset says earlier item j.fate → AreRight (passed_by asset earlier j item)
+  by_item earlier j (Took side.Client (Adu a)) h = adu_right a j.fate h
+  by_item earlier j (Took side.Client (Frame x)) h = subst (λ f. AreRight (passed_by_frame asset earlier f x)) (sym h) (frame_right earlier x _ refl _ refl)
+  by_item earlier j (Took side.Client (Apdu (Control octet))) h = subst (λ f. AreRight (passed_by_apdu earlier f (Control octet))) (sym h) (refl, tt)
+  by_item earlier j (Took side.Client (Apdu (Ack receive))) h = subst (λ f. AreRight (passed_by_apdu earlier f (Ack receive))) (sym h) (ack_right earlier receive (ack_cut side.Client earlier receive))
+  by_item earlier j (Took side.Client (Apdu (Info send receive asdu))) h =
+      subst (λ f. AreRight (passed_by_apdu earlier f (Info send receive asdu))) (sym h) (info_right earlier send receive asdu (info_cut side.Client earlier send receive))
+  by_item earlier j (Took side.Controller u) h = tt
+  by_item earlier j (Ended s n) h = tt
+  by_item earlier j (Broke s because) h = tt
+
+pub all_right : (asset : Asset) (client : ℕ) (earlier js : List Judged) → HaveFates asset client earlier js → AllByRecursion (IsRight asset client) (in_turn (λ before j. passed_by asset before j j.item) earlier js)
+all_right asset client earlier [] h = tt
+all_right asset client earlier (j ∷ js) h =
+    all_append (IsRight asset client) _ _ (by_item asset client (says_at asset client earlier j.moment) (says_allows asset client earlier j.moment) earlier j j.item h.0)
+    (all_right asset client (earlier ++ j ∷ []) js h.1)

@@ -1,0 +1,10 @@
+use Rattle.std.proofs.Common.{[]}
+use Rattle.cf_decode.specs.Passed.{passed}
+use Rattle.cf_unobjected.proofs.Beginnings.{unobjected}
+use Rattle.cf_unobjected.proofs.Right.{all_right}
+use Rattle.cf_unobjected.proofs.laws.beginnings_are_unobjected.Goals as goal
+
+pub returns : goal.returns
+returns c asset client h js bytes more born are out =
+    unobjected c.first_segments_make_the_first_fragments.ensures c.user_octets_come_back.ensures asset client (passed asset js) bytes born (all_right asset client [] js are.fates)
+    (c.stream_decodes.ensures.decodes asset client h js bytes more are out)

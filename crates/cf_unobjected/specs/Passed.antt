@@ -1,0 +1,28 @@
+-- What is let through to a controller is nothing that a judge would object to: PassedAreRight. This project's own.
+use Rattle.std.specs.Prelude.{◌≡◌, ◌≤◌, Bool, ℕ, List, true, false, None, length}
+use Rattle.std.specs.List.{AllByRecursion}
+use Rattle.cf_decode.specs.Passed.{passed}
+use Rattle.cf_decode.specs.Units.{Fragment, Passed, Whole}
+use Rattle.cf_judge.specs.Plain.{fate_by_asdu}
+use Rattle.cf_lane.specs.Dnp3.{fate_of_fragment, is_data, stray_of}
+use Rattle.cf_lane.specs.Follows.{AreJudged}
+use Rattle.cf_lane.specs.History.{Element}
+use Rattle.cf_lane.specs.Judged.{Judged, goes_on}
+use Rattle.cf_lane.specs.Modbus.{HasCommandFate}
+use Rattle.cf_lane.specs.Unit.{Adu, Apdu, Frame}
+use Rattle.cf_policy.specs.Verdict.{verdict_of}
+use Rattle.cf_policy.specs.declared.Asset.{Asset}
+use Rattle.cf_lane.specs.declared.fate.Fate.TheVariants as fate
+use Rattle.cf_view.specs.declared.Side.TheVariants as side
+
+-- by the verdict on each act, whatever rule was spent: an ADU is an admitted command; a frame is a served link status frame; an APDU, whatever its numbers, is carried or an admitted command;
+-- a fragment has two octets or more, and is a confirmation or an admitted command
+abbrev pub IsRight : Asset → (client : ℕ) → Passed → Type 0
+IsRight asset client (Whole (Adu a)) = (used : List Bool) × HasCommandFate asset (verdict_of asset client) a (fate.Admitted used)
+IsRight asset client (Whole (Frame x)) = (stray_of asset side.Client x ≡ None) × (is_data x ≡ false)
+IsRight asset client (Whole (Apdu a)) = goes_on (fate_by_asdu asset client a) ≡ true
+IsRight asset client (Fragment octets) = (2 ≤ length octets) × (length octets ≤ 2048) × (goes_on (fate_of_fragment asset (verdict_of asset client) side.Client octets) ≡ true)
+
+abbrev pub PassedAreRight : Type 0
+PassedAreRight =
+    (asset : Asset) (client : ℕ) (h : List Element) (js : List Judged) → AreJudged asset client h js → AllByRecursion (IsRight asset client) (passed asset js)
