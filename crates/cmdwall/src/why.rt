@@ -46,6 +46,15 @@ pub fn expect_files<R: FileSystem>(
             files.expect(capture)?;
             files.expect(out)
         }
+        Command::Review {
+            policy,
+            capture,
+            log,
+        } => {
+            files.expect(policy)?;
+            files.expect(capture)?;
+            files.expect(log)
+        }
         Command::Migrate { policy, out } => {
             files.expect(policy)?;
             files.expect(out)
@@ -121,12 +130,13 @@ fn explain_command<R: FileSystem + Eprint + AllocGlobal>(
             Some(policy) => explain_policy(rt, policy, files).map(|_| ()),
             None => Ok(()),
         },
-        (6, Command::Judge { capture, .. }) | (6, Command::Learn { capture, .. }) => {
-            explain_watched(rt, capture, files)
-        }
+        (6, Command::Judge { capture, .. })
+        | (6, Command::Learn { capture, .. })
+        | (6, Command::Review { capture, .. }) => explain_watched(rt, capture, files),
         (6 | 7, Command::Packets { capture })
         | (7, Command::Judge { capture, .. })
-        | (7, Command::Learn { capture, .. }) => explain_capture(rt, capture, false, files),
+        | (7, Command::Learn { capture, .. })
+        | (7, Command::Review { capture, .. }) => explain_capture(rt, capture, false, files),
         (6 | 7, Command::Run { names, .. }) | (6 | 7, Command::World { names, .. }) => {
             explain_capture(rt, names.capture, true, files)
         }
@@ -204,7 +214,9 @@ fn explain_outputs<R: Eprint + AllocGlobal>(rt: &R, command: &Command<'_>) -> io
             rt.alloc(),
             &[policy, names.capture, names.out, names.log],
         )?,
-        Command::Relay { log, .. } => outputs_message(rt.alloc(), &[log])?,
+        Command::Relay { log, .. } | Command::Review { log, .. } => {
+            outputs_message(rt.alloc(), &[log])?
+        }
         Command::Sift { names, .. } => {
             outputs_message(rt.alloc(), &[names.out, names.replies, names.log])?
         }
@@ -221,6 +233,7 @@ fn policy_of<'a>(command: &Command<'a>) -> Option<&'a str> {
         | Command::Judge { policy, .. }
         | Command::Learn { policy, .. }
         | Command::Migrate { policy, .. }
+        | Command::Review { policy, .. }
         | Command::Run { policy, .. }
         | Command::World { policy, .. }
         | Command::Relay { policy, .. }
