@@ -1,5 +1,5 @@
 -- A capture that is told and refused, or cut: with what else the work over it can end.
-use Rattle.std.proofs.Common.{◌≡◌, ◌<◌, ◌≤◌, ◌⊎◌, ℕ, List, arith, length, None, Some, Result, Ok, Err, drop, ap, subst, inl, inr}
+use Rattle.std.proofs.Common.{◌≡◌, ◌<◌, ◌≤◌, ◌⊎◌, ℕ, List, arith, length, Result, Ok, Err, drop, ap, subst, inl, inr}
 use Rattle.cf_outside.specs.Files.{Content, holds}
 use Rattle.cf_policylang.specs.declared.PolicyRefusal.{PolicyRefusal}
 use Rattle.cf_run.proofs.RecordLists.{one_list, one_timed_list}
@@ -16,20 +16,22 @@ use Rattle.cf_watch.specs.FlowValue.{FlowValue}
 use Rattle.cf_watch.specs.Watch.{EndsAt as WatchEnd, HasFlows}
 use Rattle.cf_watch.specs.declared.fault.TheConstants.{CAPTURE_LIMIT}
 use Rattle.cf_box.specs.Captures.{EndsAt, Refuses}
-use Rattle.cf_box.specs.Command.{Command, Judge, Packets, Run, Learn}
+use Rattle.cf_box.specs.Command.{Command, Judge, Packets, Review, Run, Learn}
 use Rattle.cf_box.specs.Ends.{Meets, RefusesPolicy}
 use Rattle.cf_box.specs.Judge.{Objects}
 use Rattle.cf_box.specs.Watching.{WatchCuts, WatchRefuses, HasWatched}
 use Rattle.cf_box.specs.Outside.{Outside, ReadFailed, WriteFailed}
-use Rattle.cf_box.specs.Packets.{HasListedRecords, ListingCuts, ListingRefuses}
+use Rattle.cf_box.specs.Packets.{HasListedRecords}
 use Rattle.cf_box.specs.PolicyFile.{IsRefusedBy, TellsPolicy}
-use Rattle.cf_box.specs.Run.{RunCuts, RunRefuses}
-use Rattle.cf_box.specs.Status.{TellsCutAt, TellsCutCapture, TellsRefusal, TellsRefusedCapture}
+use Rattle.cf_box.specs.Review.{DoesReview, HasReview, HoldsReview, Remarks}
+use Rattle.cf_review.specs.declared.Reviewed.{Reviewed}
+use Rattle.cf_box.specs.Status.{TellsCutCapture, TellsRefusedCapture}
 use Rattle.cf_box.specs.declared.denial.Denial.{Denial}
 use Rattle.cf_box.specs.declared.denial.Denial.TheVariants as denial
 use Rattle.cf_box.specs.declared.ending.CaptureRefusal.{CaptureRefusal}
 use Rattle.cf_box.specs.declared.ending.CaptureRefusal.TheVariants as refusal
 use Rattle.cf_box.specs.declared.ending.Done.{Done}
+use Rattle.cf_box.specs.declared.ending.Done.TheVariants as done
 use Rattle.cf_box.specs.declared.ending.Stop.{Stop}
 use Rattle.cf_box.specs.declared.ending.Stop.TheVariants as stop
 use Rattle.cf_policy.specs.declared.Policy.{Policy}
@@ -215,6 +217,7 @@ module _ (failed : Type 0) (status : ℕ) (before after : Outside) where
     objects_flows : (why : Denial) → Objects policy capture before why → WatchEndsAt (holds bytes) FileEnd
     objects_flows (denial.Objects tells) o = flows_end o.0.assets o.1 o.2.has_flows
     objects_flows (denial.NoPartner name) o = absurd o
+    objects_flows (denial.Remarks counts) o = absurd o
     objects_flows (denial.Allows name client act) o = absurd o
 
     -- where it is not longer than the limit
@@ -333,6 +336,77 @@ module _ (failed : Type 0) (status : ℕ) (before after : Outside) where
     learn_cut cut is (Err (stop.Denied why)) meets h = absurd meets.0.0
     learn_cut cut is (Err (stop.TooManyCells name)) meets h = absurd meets.0.0
 
+  -- ---- a review of a capture
+
+  module _ (policy capture log : List ℕ) (known : TellsPolicy (before.files.content policy)) (bytes : List ℕ) (told : before.files.content capture ≡ holds bytes) where
+    reads_one : (r : PolicyRefusal) → RefusesPolicy (Review policy capture log) before r → ⊥
+    reads_one r (inl cause) =
+        let e = cause.1 in
+        let here : cause.0 ≡ policy = cc in
+        not_refused (before.files.content policy) known.bytes known.policy r known.told known.means (subst (λ f. IsRefusedBy (before.files.content f) r) here cause.2)
+    reads_one r (inr (inl cause)) = let none = cause.2 in cc
+    reads_one r (inr (inr made)) = made
+
+    -- a capture that is refused is watched to no other end
+    ends_apart : (r : CaptureRefusal) → WatchRefuses (holds bytes) r → (found : AtPlace) (place : ℕ) → WatchEnd (holds bytes) found place → Refusing found
+    ends_apart r (inl (is, long)) found place e = absurd (omega (arith, e.short, long))
+    ends_apart r (inr s) found place e = ends_refused HasListedRecords bytes (listing_once bytes) r s.refuses found place (listed (holds bytes) found place e)
+
+    recorded_up_to : (p : Policy) (stamps : List ℕ) (r : Reviewed) → HasReview policy capture before p stamps r → (place : ℕ) × WatchEnd (holds bytes) FileEnd place
+    recorded_up_to p stamps r w = let has = w.recorded.has_flows in (has.place, subst (λ f. WatchEnd f FileEnd has.place) told has.ends)
+
+    remarks_end : (why : Denial) → Remarks policy capture before why → (place : ℕ) × WatchEnd (holds bytes) FileEnd place
+    remarks_end (denial.Remarks counts) o = recorded_up_to o.0 o.1 o.2 o.3
+    remarks_end (denial.Objects tells) o = absurd o
+    remarks_end (denial.NoPartner name) o = absurd o
+    remarks_end (denial.Allows name client act) o = absurd o
+
+    done_end : (d : Done) → DoesReview policy capture log before after d → (place : ℕ) × WatchEnd (holds bytes) FileEnd place
+    done_end (done.Reviewed counts) m = let h : HoldsReview policy capture log before after = m.0.holds in recorded_up_to h.known h.stamps h.reviewed h.has
+    done_end d m = absurd m
+
+    review_refused : (refused : CaptureRefusal) → WatchRefuses (holds bytes) refused → (r : Result Done Stop) → Meets (Review policy capture log) before after r →
+        IsOf r failed status → DueBehind 6
+    review_refused refused is (Ok d) meets h =
+        let w = done_end d meets in
+        absurd (ends_apart refused is FileEnd w.0 w.1)
+    review_refused refused is (Err (stop.CaptureRefused r)) meets h = inl (stop_is failed status (stop.CaptureRefused r) h)
+    review_refused refused is (Err (stop.CaptureCut place)) meets h = absurd (ends_apart refused is Cut place (subst (λ f. WatchCuts f place) told meets.0.0))
+    review_refused refused is (Err stop.ReadFault) meets h = inr (inr (inl (stop_is failed status stop.ReadFault h, meets.0)))
+    review_refused refused is (Err stop.WriteFault) meets h = inr (inl (stop_is failed status stop.WriteFault h, inl meets.0.0))
+    review_refused refused is (Err stop.NoMemory) meets h = inr (inr (inr (stop_is failed status stop.NoMemory h)))
+    review_refused refused is (Err (stop.PolicyRefused r)) meets h = absurd (reads_one r meets.0)
+    review_refused refused is (Err stop.UnknownAsset) meets h = let none = meets.0.3 in cc
+    review_refused refused is (Err (stop.TooManyRules name)) meets h = absurd meets.0.0
+    review_refused refused is (Err (stop.RunCut place summary)) meets h = absurd meets.0.0
+    review_refused refused is (Err stop.LinkFault) meets h = absurd meets.0.0
+    review_refused refused is (Err stop.IdleEnd) meets h = absurd meets.0.0
+    review_refused refused is (Err (stop.Cut reason)) meets h = absurd meets.0.0
+    review_refused refused is (Err (stop.Denied why)) meets h = let w = remarks_end why meets.0.0 in absurd (ends_apart refused is FileEnd w.0 w.1)
+    review_refused refused is (Err (stop.TooManyCells name)) meets h = absurd meets.0.0
+
+    not_to_its_end : (cut place : ℕ) → WatchCuts (holds bytes) cut → WatchEnd (holds bytes) FileEnd place → ⊥
+    not_to_its_end cut place is e = cc (listing_once bytes FileEnd Cut place cut (listed (holds bytes) FileEnd place e) (listed (holds bytes) Cut cut is))
+
+    review_cut : (cut : ℕ) → WatchCuts (holds bytes) cut → (r : Result Done Stop) → Meets (Review policy capture log) before after r → IsOf r failed status → DueBehind 7
+    review_cut cut is (Ok d) meets h =
+        let w = done_end d meets in
+        absurd (not_to_its_end cut w.0 is w.1)
+    review_cut cut is (Err (stop.CaptureRefused r)) meets h = absurd (ends_apart r (subst (λ f. WatchRefuses f r) told meets.0.0) Cut cut is)
+    review_cut cut is (Err (stop.CaptureCut place)) meets h = inl (stop_is failed status (stop.CaptureCut place) h)
+    review_cut cut is (Err stop.ReadFault) meets h = inr (inr (inl (stop_is failed status stop.ReadFault h, meets.0)))
+    review_cut cut is (Err stop.WriteFault) meets h = inr (inl (stop_is failed status stop.WriteFault h, inl meets.0.0))
+    review_cut cut is (Err stop.NoMemory) meets h = inr (inr (inr (stop_is failed status stop.NoMemory h)))
+    review_cut cut is (Err (stop.PolicyRefused r)) meets h = absurd (reads_one r meets.0)
+    review_cut cut is (Err stop.UnknownAsset) meets h = let none = meets.0.3 in cc
+    review_cut cut is (Err (stop.TooManyRules name)) meets h = absurd meets.0.0
+    review_cut cut is (Err (stop.RunCut place summary)) meets h = absurd meets.0.0
+    review_cut cut is (Err stop.LinkFault) meets h = absurd meets.0.0
+    review_cut cut is (Err stop.IdleEnd) meets h = absurd meets.0.0
+    review_cut cut is (Err (stop.Cut reason)) meets h = absurd meets.0.0
+    review_cut cut is (Err (stop.Denied why)) meets h = let w = remarks_end why meets.0.0 in absurd (not_to_its_end cut w.0 is w.1)
+    review_cut cut is (Err (stop.TooManyCells name)) meets h = absurd meets.0.0
+
   -- ---- a line a command that reads a capture
 
   pub capture_from : (c : Command) → TellsRefusedCapture c before → (r : Result Done Stop) → Meets c before after r → IsOf r failed status → DueBehind 6
@@ -341,6 +415,7 @@ module _ (failed : Type 0) (status : ℕ) (before after : Outside) where
   capture_from (Judge policy capture) (known, t) r meets h = judge_refused policy capture known t.bytes t.told t.refusal t.refuses r meets h
   capture_from (Run policy names) (known, t) r meets h =
       refused_due HasRunRecords t.bytes (run_once t.bytes) t.refusal t.refuses r (run_by policy names known t.bytes t.told r meets) h
+  capture_from (Review policy capture log) (known, t) r meets h = review_refused policy capture log known t.bytes t.told t.refusal t.refuses r meets h
   capture_from (Learn policy capture out) (known, t) r meets h = learn_refused policy capture out known t.bytes t.told t.refusal t.refuses r meets h
   capture_from c t r meets h = absurd t
 
@@ -349,5 +424,6 @@ module _ (failed : Type 0) (status : ℕ) (before after : Outside) where
   capture_cut_from (Judge policy capture) (known, t) r meets h =
       cut_due HasListedRecords t.bytes (listing_once t.bytes) t.place (plain_end (holds t.bytes) Cut t.place t.cuts) r (judge_by policy capture known t.bytes t.told t.cuts.short r meets) h
   capture_cut_from (Run policy names) (known, t) r meets h = cut_due HasRunRecords t.bytes (run_once t.bytes) t.place t.cuts r (run_by policy names known t.bytes t.told r meets) h
+  capture_cut_from (Review policy capture log) (known, t) r meets h = review_cut policy capture log known t.bytes t.told t.place t.cuts r meets h
   capture_cut_from (Learn policy capture out) (known, t) r meets h = learn_cut policy capture out known t.bytes t.told t.place t.cuts r meets h
   capture_cut_from c t r meets h = absurd t

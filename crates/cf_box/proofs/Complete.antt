@@ -17,7 +17,7 @@ use Rattle.cf_policylang.specs.Documents.{policy_meaning}
 use Rattle.cf_policylang.specs.declared.PolicyRefusal.{PolicyRefusal}
 use Rattle.cf_run.specs.RunCapture.{HasRecords as HasRunRecords}
 use Rattle.cf_box.specs.Captures.{EndsAt, Refuses}
-use Rattle.cf_box.specs.Command.{Command, Check, Compare, Judge, Migrate, Packets, Run, Relay, World, Sift, asset_name, capture_file, other_file, policy_file, Learn}
+use Rattle.cf_box.specs.Command.{Command, Check, Compare, Judge, Migrate, Packets, Review, Run, Relay, World, Sift, asset_name, capture_file, policy_file, Learn}
 use Rattle.cf_box.specs.Compare.{ExceedsAt, IsNotIncluded}
 use Rattle.cf_box.specs.Ends.{CutsCapture, CutsRun, CutsStream, Denies, EndsIdle, ExceedsCells, ExceedsRules, LacksAsset, LinkFails, Meets, RefusesCapture, RefusesMadePolicy, RefusesPolicy}
 use Rattle.cf_box.specs.Outside.{Outside, ReadFailed, WriteFailed}
@@ -164,6 +164,13 @@ ends_in_form (Learn policy capture out) before good tells =
       cut = λ place h. not_cut_watch bytes has.0 place (subst (λ f. WatchCuts f place) told h);
       run_cut = λ place h. h;
     }
+ends_in_form (Review policy capture log) before good tells =
+    let (bytes, told, has) = good capture refl in
+    record {
+      refused = λ r h. not_refused_watch bytes has.0 has.1 r (subst (λ f. WatchRefuses f r) told h);
+      cut = λ place h. not_cut_watch bytes has.0 place (subst (λ f. WatchCuts f place) told h);
+      run_cut = λ place h. h;
+    }
 ends_in_form (Migrate policy out) before good tells = record { refused = λ r h. h; cut = λ place h. h; run_cut = λ place h. h }
 ends_in_form (Relay policy asset port idles log) before good tells = record { refused = λ r h. h; cut = λ place h. h; run_cut = λ place h. h }
 ends_in_form (World seed sessions policy names) before good tells = record { refused = λ r h. tells.1 h; cut = λ place h. tells.1 h; run_cut = λ place h. tells.1 h }
@@ -176,6 +183,7 @@ made_none (Check policy) before tells made = made
 made_none (Compare policy other) before tells made = made
 made_none (Judge policy capture) before tells made = made
 made_none (Learn policy capture out) before tells made = made
+made_none (Review policy capture log) before tells made = made
 made_none (Migrate policy out) before tells made = made
 made_none (Packets capture) before tells made = made
 made_none (Run policy names) before tells made = made
@@ -201,6 +209,7 @@ stops_nowhere ours theirs place reason all s lacks =
 not_denied : (ours theirs : Policy) → All (HasNothing theirs) ours.assets → (why : Denial) → IsNotIncluded ours theirs why → ⊥
 not_denied ours theirs all (denial.NoPartner name) d = stops_nowhere ours theirs d.0 _ all d.1 (λ asset none s. none.partner s.1)
 not_denied ours theirs all (denial.Objects tells) d = d
+not_denied ours theirs all (denial.Remarks counts) d = d
 not_denied ours theirs all (denial.Allows name client act) d = stops_nowhere ours theirs d.0 _ all d.1 (λ asset none s. none.difference client act s.1)
 
 not_exceeding : (ours theirs : Policy) (name : List ℕ) → All (HasNothing theirs) ours.assets → ExceedsAt ours theirs name → ⊥
@@ -210,6 +219,7 @@ not_exceeding ours theirs name all d = stops_nowhere ours theirs d.0 _ all d.1 (
 asked_holds : (c : Command) (before : Outside) (why : Denial) → HoldsWhatItAsks c before → Denies c before why → ⊥
 asked_holds (Compare policy other) before why asked d = not_denied d.0 d.1 (asked d.0 d.1 d.2) why d.3
 asked_holds (Judge policy capture) before why asked d = asked why d
+asked_holds (Review policy capture log) before why asked d = asked why d
 asked_holds c before why asked d = absurd d
 
 asked_is_small : (c : Command) (before : Outside) (name : List ℕ) → HoldsWhatItAsks c before → ExceedsCells c before name → ⊥

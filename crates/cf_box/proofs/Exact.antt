@@ -15,7 +15,7 @@ use Rattle.cf_policy.specs.declared.Asset.{Asset}
 use Rattle.cf_policy.specs.declared.Policy.{Policy}
 use Rattle.cf_policylang.specs.Documents.{policy_meaning}
 use Rattle.cf_policylang.specs.declared.PolicyRefusal.{PolicyRefusal}
-use Rattle.cf_box.specs.Command.{Command, Check, Compare, Judge, Migrate, Packets, Run, Relay, World, Sift, asset_name, other_file, policy_file, Learn}
+use Rattle.cf_box.specs.Command.{Command, Check, Compare, Judge, Migrate, Packets, Review, Run, Relay, World, Sift, other_file, policy_file, Learn}
 use Rattle.cf_box.specs.Compare.{IsIncluded, OfPolicies, TellsNotIncluded}
 use Rattle.cf_box.specs.Ends.{Does, LacksAsset, Meets, PassesPolicy, RefusesMadePolicy, RefusesPolicy}
 use Rattle.cf_box.specs.Learn.{Learns}
@@ -25,9 +25,12 @@ use Rattle.cf_sift.specs.Laws.{HasOneCut}
 use Rattle.cf_sift.specs.Names.{SiftNamesValue}
 use Rattle.cf_sift.specs.Stored.{GoesUpTo, stored_history}
 use Rattle.cf_box.specs.Relay.{HasRelayed, RelayLeaves, TellsRelay, relay_answer}
+use Rattle.cf_box.specs.Review.{DoesReview, HoldsReview, NothingRemarked}
+use Rattle.cf_review.specs.declared.Counts.{Counts}
 use Rattle.cf_box.specs.Sift.{TakesStream, TellsCutStream}
-use Rattle.cf_box.specs.Status.{IsExact, TellsCut, TellsDenial, TellsIdle, TellsNoAsset, TellsNoPolicy, TellsObjection}
+use Rattle.cf_box.specs.Status.{IsExact, TellsCut, TellsDenial, TellsIdle, TellsNoAsset, TellsNoPolicy, TellsObjection, TellsRemark, TellsRemarks}
 use Rattle.cf_box.specs.declared.ending.Done.{Done}
+use Rattle.cf_box.specs.declared.ending.Done.TheVariants as done
 use Rattle.cf_box.specs.declared.ending.Stop.{Stop}
 use Rattle.cf_box.specs.declared.ending.Stop.TheVariants as stop
 use Rattle.cf_box.proofs.CaptureExact.{capture_from, capture_cut_from}
@@ -72,6 +75,14 @@ does_pass before after (Learn policy capture out) d m =
       other = λ file e. cc e;
       asset = λ file name e f. cc f;
     }
+does_pass before after (Review policy capture log) (done.Reviewed counts) m =
+    let h : HoldsReview policy capture log before after = m.0.holds in
+    record {
+      policy = λ file e. let same : policy ≡ file = cc in (h.known, subst (λ f. HasPolicy (before.files.content f) h.known) same h.has.has_policy);
+      other = λ file e. cc e;
+      asset = λ file name e f. cc f;
+    }
+does_pass before after (Review policy capture log) d m = absurd m
 does_pass before after (Packets capture) d m = record { policy = λ file e. cc e; other = λ file e. cc e; asset = λ file name e f. cc e }
 does_pass before after (Run policy names) d m = record {
   policy = λ file e. let same : policy ≡ file = cc in (m.1.policy, subst (λ f. HasPolicy (before.files.content f) m.1.policy) same m.1.has);
@@ -90,6 +101,7 @@ made_unread (Check policy) before file e made = made
 made_unread (Compare policy second) before file e made = made
 made_unread (Judge policy capture) before file e made = made
 made_unread (Learn policy capture out) before file e made = made
+made_unread (Review policy capture log) before file e made = made
 made_unread (Migrate policy out) before file e made = made
 made_unread (Packets capture) before file e made = made
 made_unread (Run policy names) before file e made = made
@@ -329,6 +341,7 @@ module _ (failed : Type 0) (status : ℕ) (before after : Outside) where
   idle_from law (Compare policy second) t r meets h = absurd t
   idle_from law (Judge policy capture) t r meets h = absurd t
   idle_from law (Learn policy capture out) t r meets h = absurd t
+  idle_from law (Review policy capture log) t r meets h = absurd t
   idle_from law (Migrate policy out) t r meets h = absurd t
   idle_from law (Packets capture) t r meets h = absurd t
   idle_from law (Run policy names) t r meets h = absurd t
@@ -342,6 +355,7 @@ module _ (failed : Type 0) (status : ℕ) (before after : Outside) where
   stream_from one judgement (Compare policy second) t r meets h = absurd t
   stream_from one judgement (Judge policy capture) t r meets h = absurd t
   stream_from one judgement (Learn policy capture out) t r meets h = absurd t
+  stream_from one judgement (Review policy capture log) t r meets h = absurd t
   stream_from one judgement (Migrate policy out) t r meets h = absurd t
   stream_from one judgement (Packets capture) t r meets h = absurd t
   stream_from one judgement (Run policy names) t r meets h = absurd t
@@ -414,6 +428,38 @@ module _ (failed : Type 0) (status : ℕ) (before after : Outside) where
     objection_from (Err (stop.TooManyCells name)) meets h = absurd meets.0.0
     objection_from (Err (stop.TooManyRules name)) meets h = absurd meets.0.0
 
+  module _ (policy capture log : List ℕ) (t : TellsRemark policy capture before) where
+    reviewed_in_form : EndsInForm (Review policy capture log) before
+    reviewed_in_form =
+        ends_in_form (Review policy capture log) before
+        (λ file e. let same : capture ≡ file = cc in (t.bytes, subst (λ f. before.files.content f ≡ holds t.bytes) same t.told, (t.ends, t.short))) tt
+
+    clean_of : (counts : Counts) → DoesReview policy capture log before after (done.Reviewed counts) → NothingRemarked policy capture before
+    clean_of counts m = let h : HoldsReview policy capture log before after = m.0.holds in (h.known, h.stamps, h.reviewed, h.has, m.1)
+
+    remark_from : (r : Result Done Stop) → Meets (Review policy capture log) before after r → IsOf r failed status → DueBehind 15
+    remark_from (Ok (done.Reviewed counts)) meets h = absurd (t.not_clean (clean_of counts meets))
+    remark_from (Ok d) meets h = absurd meets
+    remark_from (Err stop.ReadFault) meets h = inr (inr (inl (stop_is failed status stop.ReadFault h, meets.0)))
+    remark_from (Err stop.NoMemory) meets h = inr (inr (inr (stop_is failed status stop.NoMemory h)))
+    remark_from (Err (stop.PolicyRefused r)) meets h =
+        absurd (known_unrefused (Review policy capture log) before policy t.known.bytes t.known.policy r refl t.known.told t.known.means (λ second e. cc e) meets.0)
+    remark_from (Err stop.UnknownAsset) meets h = let cause : LacksAsset (Review policy capture log) before = meets.0 in absurd (cc (cause.3))
+    remark_from (Err stop.WriteFault) meets h = inr (inl (stop_is failed status stop.WriteFault h, inl meets.0.0))
+    remark_from (Err (stop.CaptureRefused r)) meets h = absurd (reviewed_in_form.refused r meets.0.0)
+    remark_from (Err (stop.CaptureCut place)) meets h = absurd (reviewed_in_form.cut place meets.0.0)
+    remark_from (Err (stop.RunCut place summary)) meets h = absurd meets.0.0
+    remark_from (Err stop.LinkFault) meets h = absurd meets.0.0
+    remark_from (Err stop.IdleEnd) meets h = absurd meets.0.0
+    remark_from (Err (stop.Cut reason)) meets h = absurd meets.0.0
+    remark_from (Err (stop.Denied why)) meets h = inl (stop_is failed status (stop.Denied why) h)
+    remark_from (Err (stop.TooManyCells name)) meets h = absurd meets.0.0
+    remark_from (Err (stop.TooManyRules name)) meets h = absurd meets.0.0
+
+  remarked_from : (c : Command) → TellsRemarks c before → (r : Result Done Stop) → Meets c before after r → IsOf r failed status → DueBehind 15
+  remarked_from (Review policy capture log) t r meets h = remark_from policy capture log t r meets h
+  remarked_from c t r meets h = absurd t
+
   -- what is asked and is not so: a line a command that asks
   asked_from : (c : Command) → TellsDenial c before → (r : Result Done Stop) → Meets c before after r → IsOf r failed status → DueDenied
   asked_from (Compare policy second) t r meets h = denied_from policy second t r meets h
@@ -455,6 +501,8 @@ exact_told one law {c = c} {before = before} {after = after} {status = status} e
       (stream_from (Unprinted e) status before e.middle one law c (subst (λ p. TellsCut c before p) e.reports.pair t) e.r e.meets (explained e)));
   idle = λ t. plain status 9 before after (later_written status 9 before e.middle after (Unprinted e) (read_failed e) (write_failed e)
       (idle_from (Unprinted e) status before e.middle law c (subst (λ p. TellsIdle c before p) e.reports.pair t) e.r e.meets (explained e)));
+  remarked = λ t. plain status 15 before after (later_written status 15 before e.middle after (Unprinted e) (read_failed e) (write_failed e)
+      (remarked_from (Unprinted e) status before e.middle c t e.r e.meets (explained e)));
   denied = λ t. later ((status ≡ 15) ⊎ (status ≡ 17)) status before e.middle after (read_failed e)
       (asked_from (Unprinted e) status before e.middle c t e.r e.meets (explained e));
 }

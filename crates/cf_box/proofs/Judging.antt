@@ -1,5 +1,5 @@
 -- What is said of the flows of a capture, as the answer of the command.
-use Rattle.std.proofs.Common.{[], ◌∷◌, ◌<◌, length, slice_get, suc, zero, ◌≡◌, ◌≢◌, ◌≤◌, ℕ, List, Some, Result, Ok, Err, refl, subst, ◌∙◌, inl, inr, arith}
+use Rattle.std.proofs.Common.{[], ◌∷◌, ◌<◌, length, slice_get, suc, zero, ◌≡◌, ◌≢◌, ℕ, List, Some, Result, Ok, Err, refl, subst, ◌∙◌, inl, inr, arith}
 use Rattle.cf_outside.specs.Files.{Content}
 use Rattle.cf_policy.specs.declared.Asset.{Asset}
 use Rattle.cf_policy.specs.declared.Policy.{Policy}
@@ -39,14 +39,14 @@ asset_at (asset ∷ assets) (suc place) below = asset_at assets place (omega (ar
 pub plain_end : (file : Content) (found : AtPlace) (place : ℕ) → WatchEndsAt file found place → EndsAt HasListedRecords file found place
 plain_end file found place e = record { form = e.form; has_form = e.has_form; records = e.records; are_records = e.are_records }
 
-form_apart : (of : FormRefusal) → (form_refusal of ≢ refusal.Clock) × (form_refusal of ≢ refusal.Large)
+pub form_apart : (of : FormRefusal) → (form_refusal of ≢ refusal.Clock) × (form_refusal of ≢ refusal.Large)
 form_apart form.Short = ((λ e. cc e), (λ e. cc e))
 form_apart form.Magic = ((λ e. cc e), (λ e. cc e))
 form_apart form.Version = ((λ e. cc e), (λ e. cc e))
 form_apart form.LinkType = ((λ e. cc e), (λ e. cc e))
 form_apart form.Section = ((λ e. cc e), (λ e. cc e))
 
-block_apart : (of : BlockRefusal) → (block_refusal of ≢ refusal.Clock) × (block_refusal of ≢ refusal.Large)
+pub block_apart : (of : BlockRefusal) → (block_refusal of ≢ refusal.Clock) × (block_refusal of ≢ refusal.Large)
 block_apart block.Block = ((λ e. cc e), (λ e. cc e))
 block_apart block.Section = ((λ e. cc e), (λ e. cc e))
 block_apart block.Interface = ((λ e. cc e), (λ e. cc e))

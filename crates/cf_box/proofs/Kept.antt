@@ -9,7 +9,7 @@ use Rattle.cf_run.specs.RunCapture.{RunNamesValue}
 use Rattle.cf_run.specs.declared.run.RunFault.{RunFault}
 use Rattle.cf_run.specs.declared.run.RunFault.TheVariants as fault
 use Rattle.cf_run.specs.declared.run.RunRefusal.TheVariants as by
-use Rattle.cf_box.specs.Command.{Command, Check, Compare, Judge, Migrate, Packets, Run, Relay, World, Sift, output_files, Learn}
+use Rattle.cf_box.specs.Command.{Command, Check, Compare, Judge, Migrate, Packets, Review, Run, Relay, World, Sift, output_files, Learn}
 use Rattle.cf_box.specs.Ending.{status_of, stop_status}
 use Rattle.cf_box.specs.Ends.{Does, Leaves, Meets, StopsFor}
 use Rattle.cf_sift.specs.Outputs.{IsSameBeside, KeepsAllBut}
@@ -17,10 +17,13 @@ use Rattle.cf_box.specs.Learn.{LearnLeaves}
 use Rattle.cf_box.specs.Migrate.{MigrateLeaves}
 use Rattle.cf_box.specs.Outside.{Outside}
 use Rattle.cf_box.specs.Relay.{HasRelayed, end_answer, relay_answer}
+use Rattle.cf_box.specs.Review.{DoesReview, ReviewLeaves}
 use Rattle.cf_box.specs.Run.{RunLeaves, run_stop}
 use Rattle.cf_box.specs.Sift.{SiftLeaves}
 use Rattle.cf_box.specs.Status.{TellsMade, WritesNothing}
+use Rattle.cf_box.specs.declared.denial.Denial.TheVariants as denial
 use Rattle.cf_box.specs.declared.ending.Done.{Done}
+use Rattle.cf_box.specs.declared.ending.Done.TheVariants as done
 use Rattle.cf_box.specs.declared.ending.Stop.{Stop}
 use Rattle.cf_box.specs.declared.ending.Stop.TheVariants as stop
 use Rattle.cf_sift.specs.Names.{SiftNamesValue}
@@ -72,6 +75,10 @@ module _ (before after : Outside) where
       KeepsAllBut before.files.content after.files.content (log ∷ [])
   relay_keeps policy asset port idles log answer relayed = λ other differs. relayed.others other differs
 
+  review_done_keeps : (policy capture log : List ℕ) (d : Done) → DoesReview policy capture log before after d → Keeps (Review policy capture log)
+  review_done_keeps policy capture log (done.Reviewed counts) m = m.0.others
+  review_done_keeps policy capture log d m = absurd m
+
   -- what was done keeps every file but the outputs: a line a command
   done_keeps : (k : Command) (d : Done) → Does k before after d → Keeps k
   done_keeps (Check policy) d m = nothing_written (Check policy) m.same.content
@@ -80,6 +87,7 @@ module _ (before after : Outside) where
   done_keeps (Learn policy capture out) d m = m.others
   done_keeps (Migrate policy out) d m = m.others
   done_keeps (Packets file) d m = nothing_written (Packets file) m.content
+  done_keeps (Review policy capture log) d m = review_done_keeps policy capture log d m
   done_keeps (Run policy names) d m = m.1.others
   done_keeps (Relay policy asset port idles log) d m = relay_keeps policy asset port idles log m.0 m.1
   done_keeps (World seed sessions policy names) d m = λ other p c out log. m.2.1.others other out log ∙ m.1.others other p c
@@ -100,6 +108,11 @@ module _ (before after : Outside) where
   learn_keeps policy capture out stop.WriteFault l = l.others
   learn_keeps policy capture out s l = nothing_written (Learn policy capture out) l.content
 
+  review_keeps : (policy capture log : List ℕ) (s : Stop) → ReviewLeaves policy capture log before after s → Keeps (Review policy capture log)
+  review_keeps policy capture log (stop.Denied (denial.Remarks counts)) l = l.0.others
+  review_keeps policy capture log stop.WriteFault l = l.others
+  review_keeps policy capture log s l = nothing_written (Review policy capture log) l.content
+
   -- a run that stopped, from another moment on
   run_stop_keeps : (between : Outside) (policy : List ℕ) (names : RunNamesValue) (s : Stop) → RunLeaves policy names between after s →
       KeepsAllBut between.files.content after.files.content (names.out ∷ names.log ∷ [])
@@ -112,6 +125,7 @@ module _ (before after : Outside) where
   stop_keeps (Compare policy other) s l = nothing_written (Compare policy other) l.same.content
   stop_keeps (Judge policy capture) s l = nothing_written (Judge policy capture) l.same.content
   stop_keeps (Learn policy capture out) s l = learn_keeps policy capture out s l
+  stop_keeps (Review policy capture log) s l = review_keeps policy capture log s l
   stop_keeps (Migrate policy out) s l = migrate_keeps policy out s l
   stop_keeps (Packets file) s l = nothing_written (Packets file) l.content
   stop_keeps (Run policy names) s (inl l) = nothing_written (Run policy names) l.1.content
@@ -140,6 +154,11 @@ module _ (before after : Outside) where
   learn_unwritten policy capture out stop.WriteFault w l = absurd (none_of 4 w (omega arith) (omega arith) (omega arith))
   learn_unwritten policy capture out s w l = l.content
 
+  review_unwritten : (policy capture log : List ℕ) (s : Stop) → WritesNothing (stop_status s) → ReviewLeaves policy capture log before after s → after.files.content ≡ before.files.content
+  review_unwritten policy capture log (stop.Denied (denial.Remarks counts)) w l = absurd (none_of 15 w (omega arith) (omega arith) (omega arith))
+  review_unwritten policy capture log stop.WriteFault w l = absurd (none_of 4 w (omega arith) (omega arith) (omega arith))
+  review_unwritten policy capture log s w l = l.content
+
   -- no stop of a world whose files tell what they hold has one
   not_of_world : (seed sessions : ℕ) (policy : List ℕ) (names : RunNamesValue) (s : Stop) → WritesNothing (stop_status s) → TellsMade (World seed sessions policy names) before →
       StopsFor (World seed sessions policy names) before after s → ⊥
@@ -166,6 +185,7 @@ module _ (before after : Outside) where
   unwritten_by (Compare policy other) s w t f l = l.same.content
   unwritten_by (Judge policy capture) s w t f l = l.same.content
   unwritten_by (Learn policy capture out) s w t f l = learn_unwritten policy capture out s w l
+  unwritten_by (Review policy capture log) s w t f l = review_unwritten policy capture log s w l
   unwritten_by (Migrate policy out) s w t f l = migrate_unwritten policy out s w l
   unwritten_by (Packets file) s w t f l = l.content
   unwritten_by (Run policy names) s w t f (inl l) = l.1.content

@@ -11,6 +11,7 @@ pub mod Listing
 pub mod Migrating
 pub mod Numerals
 mod Passing
+pub mod Recorded
 pub mod Relaying
 pub mod RunHolds
 pub mod Runs

@@ -11,15 +11,18 @@ use Rattle.cf_sift.specs.Stored.{stored_history}
 use Rattle.cf_outside.specs.Faults.{Rose}
 use Rattle.cf_outside.specs.PairValue.{PairValue}
 use Rattle.cf_policylang.specs.declared.PolicyRefusal.{PolicyRefusal}
-use Rattle.cf_box.specs.Command.{Command, Check, Compare, Judge, Migrate, Packets, Run, Relay, World, Sift, Learn}
+use Rattle.cf_box.specs.Command.{Command, Check, Compare, Judge, Migrate, Packets, Review, Run, Relay, World, Sift, Learn}
 use Rattle.cf_box.specs.Ending.{Prints, Reports, end_text, status_of, stop_status, unprinted_status}
 use Rattle.cf_box.specs.Ends.{CutsCapture, CutsRun, CutsStream, Denies, EndsIdle, ExceedsCells, ExceedsRules, LacksAsset, LinkFails, Meets, RefusesCapture, RefusesPolicy}
 use Rattle.cf_box.specs.Learn.{HoldsLearned}
 use Rattle.cf_box.specs.Migrate.{KeepsMeaning}
 use Rattle.cf_box.specs.Outside.{Outside, ReadFailed, SinkValue, WriteFailed}
 use Rattle.cf_box.specs.Packets.{Lists, ListsFile}
+use Rattle.cf_box.specs.Review.{HoldsReview, ReviewHolds, WritesReview}
+use Rattle.cf_review.specs.declared.Counts.{Counts}
 use Rattle.cf_box.specs.Status.{Includes, IsStatus, JudgedClean, SiftPassesAllowed}
 use Rattle.cf_box.specs.declared.denial.Denial.{Denial}
+use Rattle.cf_box.specs.declared.denial.Denial.TheVariants as denial
 use Rattle.cf_box.specs.declared.ending.CaptureRefusal.{CaptureRefusal}
 use Rattle.cf_box.specs.declared.ending.Done.{Done}
 use Rattle.cf_box.specs.declared.ending.Done.TheVariants as done
@@ -110,6 +113,7 @@ module _ (failed : Type 0) (status : ℕ) where
     run_cut (Compare policy other) place cut = absurd cut
     run_cut (Judge policy capture) place cut = absurd cut
     run_cut (Learn policy capture out) place cut = absurd cut
+    run_cut (Review policy capture log) place cut = absurd cut
     run_cut (Migrate policy out) place cut = absurd cut
     run_cut (Packets capture) place cut = absurd cut
     run_cut (Relay policy asset port idles log) place cut = absurd cut
@@ -132,6 +136,7 @@ module _ (failed : Type 0) (status : ℕ) where
     link_of (Compare policy other) pair fails = absurd fails
     link_of (Judge policy capture) pair fails = absurd fails
     link_of (Learn policy capture out) pair fails = absurd fails
+    link_of (Review policy capture log) pair fails = absurd fails
     link_of (Migrate policy out) pair fails = absurd fails
     link_of (Packets capture) pair fails = absurd fails
     link_of (Run policy names) pair fails = absurd fails
@@ -192,6 +197,33 @@ module _ (failed : Type 0) (status : ℕ) where
       record { learned = k.learned; learns = k.learns; holds_text = record { text = t.text; means = t.means; in_file = ap (λ f. f.content out) same ∙ t.in_file } }
   learns_from before middle after policy capture out same (Err s) m h is = absurd (not_done s h is)
 
+  -- a review is written where it has a remark, and where it has none
+  reviewed_holds : (before middle after : Outside) (policy capture log : List ℕ) (counts : Counts) → after.files ≡ middle.files → WritesReview policy capture log before middle counts →
+      HoldsReview policy capture log before after
+  reviewed_holds before middle after policy capture log counts same w =
+      let h = w.holds in
+      record { known = h.known; stamps = h.stamps; reviewed = h.reviewed; has = h.has; in_file = ap (λ f. f.content log) same ∙ h.in_file }
+
+  reviews_from : (before middle after : Outside) (policy capture log : List ℕ) → after.files ≡ middle.files → (r : Result Done Stop) →
+      Meets (Review policy capture log) before middle r → IsOf r failed status → (status ≡ 0) ⊎ (status ≡ 15) → ReviewHolds policy capture log before after status
+  unfolding reviewed_holds
+  reviews_from before middle after policy capture log same (Ok (done.Reviewed counts)) m h is = record {
+    holds = reviewed_holds before middle after policy capture log counts same m.0;
+    clean = λ e. m.1;
+    remarked = λ e. absurd (other (Ok (done.Reviewed counts)) 15 h e (omega arith) (omega arith));
+  }
+  reviews_from before middle after policy capture log same (Err (stop.Denied (denial.Remarks counts))) m h is = record {
+    holds = reviewed_holds before middle after policy capture log counts same m.1.0;
+    clean = λ e. absurd (not_done (stop.Denied (denial.Remarks counts)) h e);
+    remarked = λ e. m.1.1;
+  }
+  reviews_from before middle after policy capture log same (Err (stop.Denied (denial.Objects tells))) m h is = absurd m.0.0
+  reviews_from before middle after policy capture log same (Err (stop.Denied (denial.NoPartner name))) m h is = absurd m.0.0
+  reviews_from before middle after policy capture log same (Err (stop.Denied (denial.Allows name client act))) m h is = absurd m.0.0
+  reviews_from before middle after policy capture log same (Ok d) m h is = absurd m
+  reviews_from before middle after policy capture log same (Err s) m h (inl is) = absurd (not_done s h is)
+  reviews_from before middle after policy capture log same (Err s) m h (inr is) = absurd (other (Err s) 15 h is (omega arith) (omega arith))
+
   -- what was filtered is what the policy allows
   passes_from : LanePassesAllowed → RatesHold → (before middle after : Outside) (policy name : List ℕ) (client : ℕ) (names : SiftNamesValue) → after.files ≡ middle.files →
       (r : Result Done Stop) → Meets (Sift policy name client names) before middle r → IsOf r failed status → status ≡ 0 →
@@ -230,6 +262,7 @@ module _ (failed : Type 0) (status : ℕ) where
   lists_from before middle after file (Ok done.Included) m reports h is = cc (m.lists.answers.0)
   lists_from before middle after file (Ok (done.Unobjected flows commands)) m reports h is = cc (m.lists.answers.0)
   lists_from before middle after file (Ok (done.Ran summary)) m reports h is = cc (m.lists.answers.0)
+  lists_from before middle after file (Ok (done.Reviewed counts)) m reports h is = cc (m.lists.answers.0)
   lists_from before middle after file (Err s) m reports h is = absurd (not_done s h is)
 
 module _ {c : Command} {before after : Outside} {status : ℕ} (e : Explains c before after status) where
@@ -308,6 +341,10 @@ module _ {c : Command} {before after : Outside} {status : ℕ} (e : Explains c b
   pub learns_told : (policy capture out : List ℕ) → c ≡ Learn policy capture out → status ≡ 0 → HoldsLearned policy capture out before after
   learns_told policy capture out is =
       learns_from Unprinted status before e.middle after policy capture out e.reports.files e.r (subst (λ k. Meets k before e.middle e.r) is e.meets) explained
+
+  pub reviews_told : (policy capture log : List ℕ) → c ≡ Review policy capture log → (status ≡ 0) ⊎ (status ≡ 15) → ReviewHolds policy capture log before after status
+  reviews_told policy capture log is =
+      reviews_from Unprinted status before e.middle after policy capture log e.reports.files e.r (subst (λ k. Meets k before e.middle e.r) is e.meets) explained
 
   pub passes_told : LanePassesAllowed → RatesHold → (policy name : List ℕ) (client : ℕ) (names : SiftNamesValue) → c ≡ Sift policy name client names → status ≡ 0 →
       SiftPassesAllowed policy name client names before after

@@ -10,6 +10,7 @@ pub data Command : Type 0 where
   Learn : (policy capture out : List ℕ) → Command
   Migrate : (policy out : List ℕ) → Command
   Packets : (capture : List ℕ) → Command
+  Review : (policy capture log : List ℕ) → Command
   Run : (policy : List ℕ) (names : RunNamesValue) → Command
   Relay : (policy asset : List ℕ) (port idles : ℕ) (log : List ℕ) → Command
   World : (seed sessions : ℕ) (policy : List ℕ) (names : RunNamesValue) → Command
@@ -23,6 +24,7 @@ policy_file (Judge policy capture) = Some policy
 policy_file (Learn policy capture out) = Some policy
 policy_file (Migrate policy out) = Some policy
 policy_file (Packets capture) = None
+policy_file (Review policy capture log) = Some policy
 policy_file (Run policy names) = Some policy
 policy_file (Relay policy asset port idles log) = Some policy
 policy_file (World seed sessions policy names) = None
@@ -41,6 +43,7 @@ asset_name (Judge policy capture) = None
 asset_name (Learn policy capture out) = None
 asset_name (Migrate policy out) = None
 asset_name (Packets capture) = None
+asset_name (Review policy capture log) = None
 asset_name (Run policy names) = None
 asset_name (Relay policy asset port idles log) = Some asset
 asset_name (World seed sessions policy names) = None
@@ -54,6 +57,7 @@ capture_file (Judge policy capture) = Some capture
 capture_file (Learn policy capture out) = Some capture
 capture_file (Migrate policy out) = None
 capture_file (Packets capture) = Some capture
+capture_file (Review policy capture log) = Some capture
 capture_file (Run policy names) = Some names.capture
 capture_file (Relay policy asset port idles log) = None
 capture_file (World seed sessions policy names) = None
@@ -67,6 +71,7 @@ output_files (Judge policy capture) = []
 output_files (Learn policy capture out) = out ∷ []
 output_files (Migrate policy out) = out ∷ []
 output_files (Packets capture) = []
+output_files (Review policy capture log) = log ∷ []
 output_files (Run policy names) = names.out ∷ names.log ∷ []
 output_files (Relay policy asset port idles log) = log ∷ []
 output_files (World seed sessions policy names) = policy ∷ names.capture ∷ names.out ∷ names.log ∷ []

@@ -30,6 +30,7 @@ abbrev pub IsNotIncluded : (ours theirs : Policy) → Denial → Type 0
 IsNotIncluded ours theirs (denial.NoPartner name) =
     (place : ℕ) × StopsAt ours theirs place (λ asset. (name.bytes ≡ asset.name) × HasNoPartner theirs asset)
 IsNotIncluded ours theirs (denial.Objects tells) = ⊥
+IsNotIncluded ours theirs (denial.Remarks counts) = ⊥
 IsNotIncluded ours theirs (denial.Allows name client act) =
     (place : ℕ) × StopsAt ours theirs place (λ asset. (name.bytes ≡ asset.name) × HasDifference theirs asset client act)
 

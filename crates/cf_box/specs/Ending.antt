@@ -5,7 +5,7 @@ use Rattle.cf_outside.specs.Faults.{Rose}
 use Rattle.cf_outside.specs.Sink.{printed_with}
 use Rattle.cf_policylang.specs.Keys.{refusal_text}
 use Rattle.cf_run.specs.declared.summary.Summary.{Summary}
-use Rattle.cf_box.specs.Denial.{denial_text}
+use Rattle.cf_box.specs.Denial.{count_line, denial_text, reviewed_text}
 use Rattle.cf_box.specs.Outside.{Outside, SinkValue}
 use Rattle.cf_box.specs.declared.ending.CaptureRefusal.{CaptureRefusal}
 use Rattle.cf_box.specs.declared.ending.CaptureRefusal.TheVariants as refusal
@@ -56,9 +56,6 @@ capture_number refusal.Interface = 11
 capture_number refusal.Resolution = 12
 
 -- what was counted, a line each
-abbrev pub count_line : (word : List ℕ) → (number : ℕ) → List ℕ
-count_line word number = word ++ decimal number ++ codes "\n"
-
 abbrev pub summary_text : Summary → List ℕ
 summary_text s =
     count_line (codes "records ") s.records ++ (count_line (codes "dropped ") s.dropped ++ (count_line (codes "outside ") s.outside
@@ -81,6 +78,7 @@ done_text (done.Checked assets rules) = Some (codes "ok " ++ decimal assets ++ c
 done_text done.Included = Some (codes "included\n")
 done_text (done.Unobjected flows commands) = Some (unobjected_text flows commands)
 done_text done.Listed = None
+done_text (done.Reviewed counts) = Some (reviewed_text counts)
 done_text (done.Ran summary) = Some (summary_text summary)
 
 -- what is printed of a cause: nothing of a write fault, and nothing where memory ran out

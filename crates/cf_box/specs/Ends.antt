@@ -8,7 +8,7 @@ use Rattle.cf_policy.specs.declared.Asset.{Asset}
 use Rattle.cf_policy.specs.declared.Policy.{Policy}
 use Rattle.cf_policylang.specs.declared.PolicyRefusal.{PolicyRefusal}
 use Rattle.cf_box.specs.Check.{CheckLeaves, Checks}
-use Rattle.cf_box.specs.Command.{Command, Check, Compare, Judge, Migrate, Packets, Run, Relay, World, Sift, asset_name, other_file, policy_file, Learn}
+use Rattle.cf_box.specs.Command.{Command, Check, Compare, Judge, Migrate, Packets, Review, Run, Relay, World, Sift, asset_name, other_file, policy_file, Learn}
 use Rattle.cf_box.specs.Compare.{CompareLeaves, Compares, DeniesInclusion, FilesExceed}
 use Rattle.cf_box.specs.Ending.{Puts, Reports}
 use Rattle.cf_box.specs.Judge.{JudgesClean, Objects}
@@ -19,6 +19,7 @@ use Rattle.cf_box.specs.Outside.{Outside, ReadFailed, WriteFailed}
 use Rattle.cf_box.specs.Packets.{ListingCuts, ListingRefuses, Lists, PacketsLeaves}
 use Rattle.cf_box.specs.PolicyFile.{HasPolicy, IsRefusedBy, asset_named}
 use Rattle.cf_box.specs.Relay.{CutsRelay, EndsRelayIdle, RelayLeaves, Relays}
+use Rattle.cf_box.specs.Review.{DoesReview, Remarks, ReviewLeaves}
 use Rattle.cf_box.specs.Run.{RunCuts, RunLeaves, RunRefuses, Runs}
 use Rattle.cf_box.specs.Sift.{CutsSift, SiftLeaves, Sifts}
 use Rattle.cf_box.specs.World.{MakesAndRuns, WorldLeaves}
@@ -65,6 +66,7 @@ abbrev pub RefusesCapture : Command → Outside → CaptureRefusal → Type 0
 RefusesCapture (Packets capture) before r = ListingRefuses (before.files.content capture) r
 RefusesCapture (Judge policy capture) before r = WatchRefuses (before.files.content capture) r
 RefusesCapture (Learn policy capture out) before r = WatchRefuses (before.files.content capture) r
+RefusesCapture (Review policy capture log) before r = WatchRefuses (before.files.content capture) r
 RefusesCapture (Run policy names) before r = RunRefuses (before.files.content names.capture) r
 RefusesCapture (World seed sessions policy names) before r = before.files.content names.capture ≡ untold
 RefusesCapture _ before r = ⊥
@@ -73,6 +75,7 @@ abbrev pub CutsCapture : Command → Outside → ℕ → Type 0
 CutsCapture (Packets capture) before place = ListingCuts (before.files.content capture) place
 CutsCapture (Judge policy capture) before place = WatchCuts (before.files.content capture) place
 CutsCapture (Learn policy capture out) before place = WatchCuts (before.files.content capture) place
+CutsCapture (Review policy capture log) before place = WatchCuts (before.files.content capture) place
 CutsCapture (Run policy names) before place = RunCuts (before.files.content names.capture) place
 CutsCapture (World seed sessions policy names) before place = before.files.content names.capture ≡ untold
 CutsCapture _ before place = ⊥
@@ -91,6 +94,7 @@ CutsStream (Judge policy capture) before pair reason = ⊥
 CutsStream (Learn policy capture out) before pair reason = ⊥
 CutsStream (Migrate policy out) before pair reason = ⊥
 CutsStream (Packets capture) before pair reason = ⊥
+CutsStream (Review policy capture log) before pair reason = ⊥
 CutsStream (Run policy names) before pair reason = ⊥
 CutsStream (Relay policy asset port idles log) before pair reason = CutsRelay policy asset before pair reason
 CutsStream (World seed sessions policy names) before pair reason = ⊥
@@ -110,6 +114,7 @@ LinkFails _ before pair = ⊥
 abbrev pub Denies : Command → Outside → Denial → Type 0
 Denies (Compare policy other) before why = DeniesInclusion policy other before why
 Denies (Judge policy capture) before why = Objects policy capture before why
+Denies (Review policy capture log) before why = Remarks policy capture before why
 Denies _ before why = ⊥
 
 -- the rules of the asset of this name make too many cells: a line a command that compares
@@ -148,6 +153,7 @@ Does (Judge policy capture) before after d = JudgesClean policy capture before a
 Does (Learn policy capture out) before after d = WritesLearned policy capture out before after d
 Does (Migrate policy out) before after d = Migrates policy out before after d
 Does (Packets capture) before after d = Lists capture before after d
+Does (Review policy capture log) before after d = DoesReview policy capture log before after d
 Does (Run policy names) before after d = Runs policy names before after d
 Does (Relay policy asset port idles log) before after d = Relays policy asset port idles log before after d
 Does (World seed sessions policy names) before after d = MakesAndRuns sessions policy names before after d
@@ -161,6 +167,7 @@ Leaves (Judge policy capture) before after s = CheckLeaves before after s
 Leaves (Learn policy capture out) before after s = LearnLeaves policy capture out before after s
 Leaves (Migrate policy out) before after s = MigrateLeaves policy out before after s
 Leaves (Packets capture) before after s = PacketsLeaves capture before after s
+Leaves (Review policy capture log) before after s = ReviewLeaves policy capture log before after s
 Leaves (Run policy names) before after s = RunLeaves policy names before after s
 Leaves (Relay policy asset port idles log) before after s = RelayLeaves policy asset port idles log before after s
 Leaves (World seed sessions policy names) before after s = WorldLeaves sessions policy names before after s

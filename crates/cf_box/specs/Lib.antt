@@ -17,6 +17,7 @@ pub mod PacketLine
 pub mod Packets
 pub mod PolicyFile
 pub mod Relay
+pub mod Review
 pub mod Run
 pub mod RunHolds
 pub mod Sift

@@ -16,7 +16,7 @@ use Rattle.cf_policy.specs.declared.Policy.{Policy}
 use Rattle.cf_policylang.specs.Documents.{policy_meaning}
 use Rattle.cf_policylang.specs.declared.PolicyRefusal.{PolicyRefusal}
 use Rattle.cf_run.specs.RunCapture.{RunNamesValue}
-use Rattle.cf_box.specs.Command.{Command, Check, Compare, Judge, Migrate, Packets, Run, Relay, World, Sift, AsksPair, asset_name, capture_file, other_file, output_files, policy_file, Learn}
+use Rattle.cf_box.specs.Command.{Command, Check, Compare, Judge, Migrate, Packets, Review, Run, Relay, World, Sift, AsksPair, asset_name, capture_file, other_file, output_files, policy_file, Learn}
 use Rattle.cf_box.specs.Compare.{IncludesAll, IsIncluded, OfPolicies, TellsNotIncluded}
 use Rattle.cf_box.specs.Ends.{CutsCapture, CutsStream, Denies, EndsIdle, ExceedsCells, LacksAsset, LinkFails, RefusesCapture, RefusesPolicy, ExceedsRules}
 use Rattle.cf_box.specs.Judge.{KeepsPolicy, NeverObjects}
@@ -26,6 +26,7 @@ use Rattle.cf_box.specs.Outside.{Outside, ReadFailed, WriteFailed}
 use Rattle.cf_box.specs.Packets.{ListingCuts, ListingRefuses}
 use Rattle.cf_box.specs.PolicyFile.{FindsAsset, TellsPolicy, asset_named}
 use Rattle.cf_box.specs.Relay.{TellsCutRelay, TellsIdleRelay}
+use Rattle.cf_box.specs.Review.{NeverRemarks, NothingRemarked}
 use Rattle.cf_box.specs.Run.{RunCuts, RunRefuses}
 use Rattle.cf_box.specs.Sift.{TellsCutStream}
 use Rattle.cf_box.specs.declared.denial.Denial.{Denial}
@@ -110,6 +111,7 @@ abbrev pub EndsWell : Command → List ℕ → Type 0
 EndsWell (Packets capture) bytes = HasRecords bytes
 EndsWell (Judge policy capture) bytes = HasRecords bytes × (length bytes ≤ CAPTURE_LIMIT)
 EndsWell (Learn policy capture out) bytes = HasRecords bytes × (length bytes ≤ CAPTURE_LIMIT)
+EndsWell (Review policy capture log) bytes = HasRecords bytes × (length bytes ≤ CAPTURE_LIMIT)
 EndsWell (Run policy names) bytes = HasTimedRecords bytes
 EndsWell _ bytes = Unit {0}
 
@@ -123,6 +125,7 @@ abbrev pub HoldsWhatItAsks : Command → Outside → Type 0
 HoldsWhatItAsks (Compare policy other) before = IncludesAll policy other before
 HoldsWhatItAsks (Judge policy capture) before = NeverObjects policy capture before
 HoldsWhatItAsks (Learn policy capture out) before = NeverTooMuch policy capture before
+HoldsWhatItAsks (Review policy capture log) before = NeverRemarks policy capture before
 HoldsWhatItAsks _ before = Unit {0}
 
 -- what a command needs is told, and in form: its policy has a meaning and the asset of the name, its capture is one whose
@@ -186,6 +189,7 @@ TellsCut (Judge file capture) before pair = ⊥
 TellsCut (Learn file capture out) before pair = ⊥
 TellsCut (Migrate file out) before pair = ⊥
 TellsCut (Packets file) before pair = ⊥
+TellsCut (Review file capture log) before pair = ⊥
 TellsCut (Run file names) before pair = ⊥
 TellsCut (Relay file asset port idles log) before pair = TellsCutRelay file asset before pair
 TellsCut (World seed sessions file names) before pair = ⊥
@@ -211,6 +215,19 @@ TellsDenial (Compare policy other) before = TellsNotIncluded policy other before
 TellsDenial (Judge policy capture) before = TellsObjection policy capture before
 TellsDenial _ before = ⊥
 
+-- the policy and the capture are told and in form, and a review has a remark: a line a command that writes one
+pub record TellsRemark (policy capture : List ℕ) (before : Outside) : Type 0 where
+  pub known : TellsPolicy (before.files.content policy)
+  pub bytes : List ℕ
+  pub told : before.files.content capture ≡ holds bytes
+  pub ends : HasRecords bytes
+  pub short : length bytes ≤ CAPTURE_LIMIT
+  pub not_clean : NothingRemarked policy capture before → ⊥
+
+abbrev pub TellsRemarks : Command → Outside → Type 0
+TellsRemarks (Review policy capture log) before = TellsRemark policy capture before
+TellsRemarks _ before = ⊥
+
 -- a file is told, and is refused as a capture so
 pub record TellsRefusal (Refused : Content → CaptureRefusal → Type 0) (file : Content) : Type 0 where
   pub bytes : List ℕ
@@ -231,6 +248,7 @@ abbrev pub TellsRefusedCapture : Command → Outside → Type 0
 TellsRefusedCapture (Packets capture) before = TellsRefusal ListingRefuses (before.files.content capture)
 TellsRefusedCapture (Judge policy capture) before = TellsPolicy (before.files.content policy) × TellsRefusal WatchRefuses (before.files.content capture)
 TellsRefusedCapture (Run policy names) before = TellsPolicy (before.files.content policy) × TellsRefusal RunRefuses (before.files.content names.capture)
+TellsRefusedCapture (Review policy capture log) before = TellsPolicy (before.files.content policy) × TellsRefusal WatchRefuses (before.files.content capture)
 TellsRefusedCapture (Learn policy capture out) before = TellsPolicy (before.files.content policy) × TellsRefusal WatchRefuses (before.files.content capture)
 TellsRefusedCapture _ before = ⊥
 
@@ -239,6 +257,7 @@ abbrev pub TellsCutCapture : Command → Outside → Type 0
 TellsCutCapture (Packets capture) before = TellsCutAt ListingCuts (before.files.content capture)
 TellsCutCapture (Judge policy capture) before = TellsPolicy (before.files.content policy) × TellsCutAt WatchCuts (before.files.content capture)
 TellsCutCapture (Run policy names) before = TellsPolicy (before.files.content policy) × TellsCutAt RunCuts (before.files.content names.capture)
+TellsCutCapture (Review policy capture log) before = TellsPolicy (before.files.content policy) × TellsCutAt WatchCuts (before.files.content capture)
 TellsCutCapture (Learn policy capture out) before = TellsPolicy (before.files.content policy) × TellsCutAt WatchCuts (before.files.content capture)
 TellsCutCapture _ before = ⊥
 
@@ -247,7 +266,7 @@ abbrev pub YieldsWritten : (before after : Outside) → (status : ℕ) → Type 
 YieldsWritten before after status = ((status ≡ 4) × WriteFailed before after) ⊎ Yields before after status
 
 -- each of these gives its status, and nothing but a failed read or want of memory comes before it, and before a capture that is
--- refused or cut, a stream that is cut or an idle end a failed write
+-- refused or cut, a stream that is cut, an idle end or a remark a failed write
 pub record IsExact (c : Command) (before after : Outside) (status : ℕ) : Type 0 where
   pub refused : TellsNoPolicy c before → (status ≡ 5) ⊎ Yields before after status
   pub unknown : TellsNoAsset c before → (status ≡ 10) ⊎ Yields before after status
@@ -256,6 +275,7 @@ pub record IsExact (c : Command) (before after : Outside) (status : ℕ) : Type 
   pub cut : TellsCut c before after.pair → (status ≡ 12) ⊎ YieldsWritten before after status
   pub idle : TellsIdle c before after.pair → (status ≡ 9) ⊎ YieldsWritten before after status
   pub denied : TellsDenial c before → ((status ≡ 15) ⊎ (status ≡ 17)) ⊎ Yields before after status
+  pub remarked : TellsRemarks c before → (status ≡ 15) ⊎ YieldsWritten before after status
 
 abbrev pub IsExactly : Option Command → (before after : Outside) → (status : ℕ) → Type 0
 IsExactly words before after status = (c : Command) → words ≡ Some c → IsExact c before after status

@@ -1,6 +1,6 @@
 -- The words that the program takes: `command_of` is the command that they are.
 use Rattle.std.specs.Prelude.{ℕ, ◌≤◌, List, [], ◌∷◌, Option, None, codes, bytes_eq, if◌then◌else◌}
-use Rattle.cf_box.specs.Command.{Command, Check, Compare, Judge, Migrate, Packets, Run, Relay, World, Sift, Learn}
+use Rattle.cf_box.specs.Command.{Command, Check, Compare, Judge, Migrate, Packets, Review, Run, Relay, World, Sift, Learn}
 use Rattle.cf_box.specs.Check.{check_of}
 use Rattle.cf_box.specs.Compare.{compare_of}
 use Rattle.cf_box.specs.Judge.{judge_of}
@@ -8,6 +8,7 @@ use Rattle.cf_box.specs.Learn.{learn_of}
 use Rattle.cf_box.specs.Migrate.{migrate_of}
 use Rattle.cf_box.specs.Packets.{packets_of}
 use Rattle.cf_box.specs.Relay.{relay_of}
+use Rattle.cf_box.specs.Review.{review_of}
 use Rattle.cf_box.specs.Run.{run_of}
 use Rattle.cf_box.specs.Sift.{sift_of}
 use Rattle.cf_run.specs.RunCapture.{AreApart as AreRunApart, run_names_value}
@@ -26,6 +27,7 @@ command_of (name ∷ words) =
     else if bytes_eq name (codes "learn") then learn_of words
     else if bytes_eq name (codes "migrate") then migrate_of words
     else if bytes_eq name (codes "packets") then packets_of words
+    else if bytes_eq name (codes "review") then review_of words
     else if bytes_eq name (codes "run") then run_of words
     else if bytes_eq name (codes "relay") then relay_of words
     else if bytes_eq name (codes "world") then world_of words
@@ -40,6 +42,7 @@ command_value (fields.Judge policy capture) = Judge policy.now capture.now
 command_value (fields.Learn policy capture out) = Learn policy.now capture.now out.now
 command_value (fields.Migrate policy out) = Migrate policy.now out.now
 command_value (fields.Packets capture) = Packets capture.now
+command_value (fields.Review policy capture log) = Review policy.now capture.now log.now
 command_value (fields.Run policy names) = Run policy.now (run_names_value names)
 command_value (fields.Relay policy asset port idles log) = Relay policy.now asset.now port idles log.now
 command_value (fields.World seed sessions policy names) = World seed sessions policy.now (run_names_value names)

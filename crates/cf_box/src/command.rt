@@ -9,6 +9,7 @@ use crate::learn::read_learn;
 use crate::migrate::read_migrate;
 use crate::packets::read_packets;
 use crate::relay::read_relay;
+use crate::review::read_review;
 use crate::run::read_run;
 use crate::sift::read_sift;
 use crate::world::read_world;
@@ -46,6 +47,12 @@ pub enum Command<'a> {
     /// List the records of a capture.
     Packets {
         capture: &'a str,
+    },
+    /// Write all that a policy objects to in a capture.
+    Review {
+        policy: &'a str,
+        capture: &'a str,
+        log: &'a str,
     },
     /// Run a policy over a capture.
     Run {
@@ -101,6 +108,9 @@ pub fn read_words(words: &[String]) -> Option<Command<'_>>
     }
     if name.as_str() == "packets" {
         return read_packets(rest);
+    }
+    if name.as_str() == "review" {
+        return read_review(rest);
     }
     if name.as_str() == "run" {
         return read_run(rest);

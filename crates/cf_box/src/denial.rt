@@ -1,13 +1,14 @@
 //! Answers of no, with the name of the asset at which what was asked is not so.
 ghost use Rattle.std.specs.Prelude.{◌≡◌, ◌≤◌, ◌+◌, ◌++◌, codes, length};
 ghost use Rattle.cf_audit.specs.Text.{act_text};
-ghost use Rattle.cf_box.specs.Denial.{denial_text};
+ghost use Rattle.cf_box.specs.Denial.{denial_text, reviewed_text};
 ghost use Rattle.cf_view.specs.Text.{dotted};
 
-use crate::ending::EndText;
+use crate::ending::{EndText, push_count};
 use crate::objection::{Objected, push_objected};
 use arrayvec::ArrayString;
 use cf_policy::LONGEST_NAME;
+use cf_review::Counts;
 use cf_view::{Act, push_number, push_signed, push_u16, push_u32};
 
 /// The name of an asset.
@@ -27,6 +28,8 @@ pub enum Denial {
     },
     /// What clients sent is objected to: this is the first objection.
     Objects(Objected),
+    /// A review has remarks: so much was counted.
+    Remarks(Counts),
 }
 
 /// What is printed of a denial: a line.
@@ -34,13 +37,14 @@ pub(crate) fn denial_line(denial: &Denial) -> EndText
     ensures { result.bytes ≡ denial_text denial.now }
 {
     let mut text = EndText::new();
-    text.push_str("no ");
     match denial {
         Denial::NoPartner(name) => {
+            text.push_str("no ");
             text.push_str(name.as_str());
             text.push_str("\n");
         }
         Denial::Allows { name, client, act } => {
+            text.push_str("no ");
             text.push_str(name.as_str());
             text.push_str(" client ");
             push_dotted(&mut text, *client);
@@ -48,11 +52,30 @@ pub(crate) fn denial_line(denial: &Denial) -> EndText
             text.push_str("\n");
         }
         Denial::Objects(objected) => {
+            text.push_str("no ");
             push_objected(&mut text, objected);
             text.push_str("\n");
         }
+        Denial::Remarks(counts) => push_reviewed(&mut text, counts),
     }
     text
+}
+
+/// Pushes what was counted of a review, a line each.
+pub(crate) fn push_reviewed(text: &mut EndText, counts: &Counts)
+    requires { length text.old.bytes ≤ 64 }
+    ensures { text.new.bytes ≡ text.old.bytes ++ reviewed_text counts.now }
+{
+    push_count(text, "flows ", counts.flows);
+    push_count(text, "commands ", counts.commands);
+    push_count(text, "admitted ", counts.admitted);
+    push_count(text, "refused rule ", counts.by_rule);
+    push_count(text, "refused default ", counts.by_default);
+    push_count(text, "refused station ", counts.by_station);
+    push_count(text, "refused form ", counts.by_form);
+    push_count(text, "strays ", counts.strays);
+    push_count(text, "conflicts ", counts.conflicts);
+    push_count(text, "broken ", counts.broken);
 }
 
 /// Pushes an IPv4 address in its dotted form.

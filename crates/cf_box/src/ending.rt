@@ -1,15 +1,17 @@
 //! How the program ends: what was done, or why the work stopped, as a status and a printed text.
 ghost use Rattle.std.specs.Prelude.{◌≡◌, ◌≤◌, ◌+◌, ◌++◌, codes, decimal, length, option_map};
 ghost use Rattle.cf_audit.specs.Text.{cut_text};
-ghost use Rattle.cf_box.specs.Ending.{Prints, Puts, capture_number, commands_text, count_line, done_text, end_text, status_of, stop_status, stop_text, summary_text, unobjected_text, unprinted_status};
+ghost use Rattle.cf_box.specs.Ending.{Prints, Puts, capture_number, commands_text, done_text, end_text, status_of, stop_status, stop_text, summary_text, unobjected_text, unprinted_status};
 ghost use Rattle.cf_box.specs.Outside.{sink_value};
+ghost use Rattle.cf_box.specs.Denial.{count_line, reviewed_text};
 ghost use Rattle.cf_policylang.specs.Keys.{refusal_text};
 
-use crate::denial::{AssetName, Denial, denial_line};
+use crate::denial::{AssetName, Denial, denial_line, push_reviewed};
 use arrayvec::ArrayString;
 use cf_audit::{CutReason, push_cut};
 use cf_outside::{Sink, WriteAnswer};
 use cf_policylang::{PolicyRefusal, push_refusal};
+use cf_review::Counts;
 use cf_run::{BlockRefusal, FormRefusal, Summary};
 use cf_view::push_number;
 
@@ -30,6 +32,8 @@ pub enum Done {
     Listed,
     /// A policy was run over a capture, with what was counted.
     Ran(Summary),
+    /// A review of a capture was written and has no remark, with what was counted.
+    Reviewed(Counts),
 }
 
 /// Why the work stopped: the same causes for every command.
@@ -228,7 +232,7 @@ fn capture_number(refusal: CaptureRefusal) -> u64
 }
 
 /// Pushes a number behind its word, as a line.
-fn push_count(text: &mut EndText, word: &str, number: u64)
+pub(crate) fn push_count(text: &mut EndText, word: &str, number: u64)
     requires { length text.old.bytes + (length word.now + 21) ≤ 384 }
     ensures text { text.new.bytes ≡ text.old.bytes ++ count_line word.now number }
     ensures short { length text.new.bytes ≤ length text.old.bytes + (length word.now + 21) }
@@ -325,6 +329,14 @@ fn unobjected_text(flows: u64, commands: u64) -> EndText
     text
 }
 
+fn reviewed_text(counts: &Counts) -> EndText
+    ensures { result.bytes ≡ reviewed_text counts.now }
+{
+    let mut text = EndText::new();
+    push_reviewed(&mut text, counts);
+    text
+}
+
 /// What is printed of work that was done; the lines of a listing were printed before.
 fn done_text(done: &Done) -> Option<EndText>
     ensures { option_map (λ t. t.bytes) result ≡ done_text done.now }
@@ -338,6 +350,7 @@ fn done_text(done: &Done) -> Option<EndText>
         Done::Unobjected { flows, commands } => Some(unobjected_text(*flows, *commands)),
         Done::Listed => None,
         Done::Ran(summary) => Some(counted_text(summary)),
+        Done::Reviewed(counts) => Some(reviewed_text(counts)),
     }
 }
 

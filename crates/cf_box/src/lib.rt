@@ -17,6 +17,7 @@ mod packet_line;
 mod packets;
 mod policy_file;
 mod relay;
+mod review;
 mod run;
 mod sift;
 mod spell;

@@ -1,6 +1,6 @@
 //! The top call.
 ghost use Rattle.std.specs.Prelude.{◌≡◌, ◌≤◌, ◌⊎◌, ◌↔◌, IsNone, List, Some, map, string_bytes, ℕ};
-ghost use Rattle.cf_box.specs.Command.{AsksPair, Compare, Judge, Migrate, Packets, Run, Sift, World, Learn};
+ghost use Rattle.cf_box.specs.Command.{AsksPair, Compare, Judge, Migrate, Packets, Review, Run, Sift, World, Learn};
 ghost use Rattle.cf_box.specs.Ends.{Ends, Meets};
 ghost use Rattle.cf_box.specs.Laws.{HasLaws};
 ghost use Rattle.cf_box.specs.Learn.{HoldsLearned};
@@ -8,6 +8,7 @@ ghost use Rattle.cf_box.specs.Limits.{HasLimits};
 ghost use Rattle.cf_box.specs.Migrate.{KeepsMeaning};
 ghost use Rattle.cf_box.specs.Outside.{FilesNeverFall, files_value, outside_value};
 ghost use Rattle.cf_box.specs.Packets.{Lists};
+ghost use Rattle.cf_box.specs.Review.{ReviewHolds};
 ghost use Rattle.cf_box.specs.RunHolds.{RunHolds};
 ghost use Rattle.cf_box.specs.Status.{AsksItsPair, CutsItsCapture, CutsItsStream, DeniesWhatItAsks, EndsItsIdles, ExceedsItsCells, Includes, IsComplete, IsExactly, IsStatus, JudgedClean, LacksItsAsset, RefusesItsCapture, RefusesItsPolicy, SiftPassesAllowed, TakesItsOwn, TellsItsOwn, WritesNothing, outputs_of, ExceedsItsRules};
 ghost use Rattle.cf_box.specs.Words.{HasFitWords, command_of, command_value};
@@ -28,6 +29,7 @@ use crate::limits::limits_are;
 use crate::migrate::migrate;
 use crate::packets::packets;
 use crate::relay::relay;
+use crate::review::review_capture;
 use crate::run::run;
 use crate::sift::sift;
 use crate::world::world;
@@ -69,6 +71,11 @@ fn perform<F: Files, O: Sink, P: Pair>(
             client,
             names,
         } => sift(alloc, policy, asset, client, &names, files),
+        Command::Review {
+            policy,
+            capture,
+            log,
+        } => review_capture(alloc, policy, capture, log, files),
         Command::Run { policy, names } => run(alloc, policy, &names, files),
         Command::Relay {
             policy,
@@ -91,7 +98,7 @@ fn perform<F: Files, O: Sink, P: Pair>(
 /// Statuses: 0 done; 2 the words have no form; 3 a read failed; 4 a write failed, or work that was done could not be
 /// printed; 5 the policy's text means none; 6 the capture is refused; 7 it ends inside a record; 8 a call on the pair of
 /// streams failed; 9 it answered `Idle` too often; 10 the policy has no asset of the name; 12 a stream is cut; 13 memory ran
-/// out; 15 what was asked is not so; 16 an asset would have too many rules; 17 there is too much to compare.
+/// out; 15 what was asked is not so, or a review has a remark; 16 an asset would have too many rules; 17 there is too much to compare.
 pub fn box_main<F: Files, O: Sink, P: Pair>(
     alloc: Global,
     words: &[String],
@@ -157,6 +164,12 @@ pub fn box_main<F: Files, O: Sink, P: Pair>(
     ensures learns { (policy capture file : List ℕ) → command_of (map string_bytes words.now) ≡ Some (Learn policy capture file) → result ≡ 0 →
         HoldsLearned policy capture file (outside_value F.Files O.Sink P.Pair files.old out.old pair.old)
         (outside_value F.Files O.Sink P.Pair files.new out.new pair.new) }
+
+    // The log of a review holds exactly the lines of all that the policy objects to in the capture, in the order of its records: none
+    // where the status is 0.
+    ensures reviews { (policy capture file : List ℕ) → command_of (map string_bytes words.now) ≡ Some (Review policy capture file) →
+        (result ≡ 0) ⊎ (result ≡ 15) → ReviewHolds policy capture file (outside_value F.Files O.Sink P.Pair files.old out.old pair.old)
+        (outside_value F.Files O.Sink P.Pair files.new out.new pair.new) result }
 
     // Each record of a capture has its line.
     ensures lists { (capture : List ℕ) → command_of (map string_bytes words.now) ≡ Some (Packets capture) → result ≡ 0 →

@@ -106,12 +106,15 @@ static SIFT_SLOTS: [Slot; 7] = [POLICY, ASSET, CLIENT, STREAM, OUT, REPLIES, LOG
 
 static RUN_SLOTS: [Slot; 4] = [POLICY, CAPTURE, OUT, LOG];
 
+static REVIEW_SLOTS: [Slot; 3] = [POLICY, CAPTURE, LOG];
+
 static RELAY_SLOTS: [Slot; 5] = [POLICY, ASSET, PORT, IDLES, LOG];
 
 static WORLD_SLOTS: [Slot; 6] = [SEED, SESSIONS, POLICY, CAPTURE, OUT, LOG];
 
-static COMMANDS: [&str; 10] = [
-    "sift", "check", "compare", "learn", "migrate", "packets", "judge", "run", "relay", "world",
+static COMMANDS: [&str; 11] = [
+    "sift", "check", "compare", "learn", "migrate", "packets", "judge", "review", "run", "relay",
+    "world",
 ];
 
 /// The words behind a command, if it is one.
@@ -123,6 +126,7 @@ fn slots_of(command: &str) -> Option<&'static [Slot]> {
         "learn" => Some(&LEARN_SLOTS),
         "migrate" => Some(&MIGRATE_SLOTS),
         "judge" => Some(&JUDGE_SLOTS),
+        "review" => Some(&REVIEW_SLOTS),
         "packets" => Some(&PACKETS_SLOTS),
         "run" => Some(&RUN_SLOTS),
         "relay" => Some(&RELAY_SLOTS),

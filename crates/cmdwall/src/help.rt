@@ -39,6 +39,9 @@ usage:
   cmdwall judge POLICY CAPTURE
       says whether what clients sent to the assets in a capture keeps POLICY, whoever recorded
       it, and else prints the first record with which something is wrong
+  cmdwall review POLICY CAPTURE LOG
+      writes a line for all that POLICY objects to in what clients sent in a capture: each
+      command that it refuses, and all else with which something is wrong
   cmdwall help COMMAND
       says more of one command, with an example
   cmdwall --help
@@ -57,8 +60,8 @@ status:
    6  the capture is refused: 1 it is short, 2 its magic, 3 its version, 4 its link type,
       5 a record of more than 262,144 bytes, 6 a moment of 2^32 seconds or more, 7 a byte
       at place 2^40, 9 the length of a pcapng block or what stands in it, 10 a section
-      header, 11 an interface, 12 a unit of time; and for judge 8 more than 67,108,864
-      bytes
+      header, 11 an interface, 12 a unit of time; and for judge, review and learn 8 more than
+      67,108,864 bytes
    7  the capture ends inside the record or the block that begins at the printed place
    8  the port, the client or the controller of a relay failed
    9  so many turns of a relay came in which nothing moved that it ended
@@ -66,7 +69,7 @@ status:
   12  a stream is cut, for the printed reason
   13  memory ran out
   15  POLICY allows what OTHER does not: the asset that OTHER lacks or the act is printed;
-      or CAPTURE does not keep POLICY: the first objection is printed
+      or CAPTURE does not keep POLICY: judge prints the first objection, review counts them
   17  the rules of the printed asset are too many to compare
 ";
 
@@ -195,6 +198,34 @@ example:
   cmdwall judge examples/pump.toml examples/four.pcap
 ";
 
+const REVIEW: &str = "\
+cmdwall review POLICY CAPTURE LOG
+
+writes all that POLICY objects to in what clients sent to its assets in a capture, a line each
+(docs/REVIEW.md): what a box with POLICY would have met there
+
+  POLICY   a text in the policy language (docs/POLICY.md)
+  CAPTURE  a pcap or pcapng file, of Ethernet or raw IP, of at most 67,108,864 bytes
+  LOG      is created behind all else, and gets the lines, in the order of the records
+
+The three names differ. A flow is what one client sends to one asset, from a SYN in the capture
+on; packets before it are not used. Each line has the moment of the record with which the thing
+was whole, the client, the asset, and one of
+
+  refuse RULE REASON code C group G point X value V unanswered HEX   (docs/LOG.md)
+  stray client WHY      a frame, segment or fragment of DNP3 that belongs to nothing
+  broken WHY            the bytes are no units of the protocol; the flow is read up to here
+  conflict POSITION     two packets carry different letters at one position of the flow
+
+Standard output has the numbers of flows, of commands, of those that POLICY allows and refuses,
+by what refuses them, and of the other lines. The status is 0 where there is no line, and 15
+where there is one. How often a rule lets commands through plays no part, nor do the numbers of
+IEC 60870-5-104. Nothing is written where the capture is refused or cut.
+
+example:
+  cmdwall review examples/pump.toml examples/four.pcap log.txt
+";
+
 const PACKETS: &str = "\
 cmdwall packets CAPTURE
 
@@ -302,6 +333,7 @@ pub enum Topic {
     Migrate,
     Packets,
     Judge,
+    Review,
     Run,
     Relay,
     World,
@@ -355,6 +387,7 @@ fn topic_of(word: &str) -> Option<Topic> {
         "migrate" => Some(Topic::Migrate),
         "packets" => Some(Topic::Packets),
         "judge" => Some(Topic::Judge),
+        "review" => Some(Topic::Review),
         "run" => Some(Topic::Run),
         "relay" => Some(Topic::Relay),
         "world" => Some(Topic::World),
@@ -377,6 +410,7 @@ pub fn print_topic(rt: &impl Print, topic: Topic) -> io::Result<()> {
         Topic::Migrate => MIGRATE,
         Topic::Packets => PACKETS,
         Topic::Judge => JUDGE,
+        Topic::Review => REVIEW,
         Topic::Run => RUN,
         Topic::Relay => RELAY,
         Topic::World => WORLD,

@@ -57,6 +57,14 @@ fn names_of<'a>(command: &Command<'a>) -> Named<'a> {
             inputs: [Some(*policy), Some(*capture)],
             outputs: [Some(*out), None, None, None],
         },
+        Command::Review {
+            policy,
+            capture,
+            log,
+        } => Named {
+            inputs: [Some(*policy), Some(*capture)],
+            outputs: [Some(*log), None, None, None],
+        },
         Command::Migrate { policy, out } => Named {
             inputs: [Some(*policy), None],
             outputs: [Some(*out), None, None, None],
@@ -178,12 +186,13 @@ fn explain_command<R: FileSystem + Eprint + AllocGlobal>(
             Some(policy) => explain_policy(rt, policy, files).map(|_| ()),
             None => Ok(()),
         },
-        (6, Command::Judge { capture, .. }) | (6, Command::Learn { capture, .. }) => {
-            explain_watched(rt, capture, files)
-        }
+        (6, Command::Judge { capture, .. })
+        | (6, Command::Learn { capture, .. })
+        | (6, Command::Review { capture, .. }) => explain_watched(rt, capture, files),
         (6 | 7, Command::Packets { capture })
         | (7, Command::Judge { capture, .. })
-        | (7, Command::Learn { capture, .. }) => explain_capture(rt, capture, false, files),
+        | (7, Command::Learn { capture, .. })
+        | (7, Command::Review { capture, .. }) => explain_capture(rt, capture, false, files),
         (6 | 7, Command::Run { names, .. }) | (6 | 7, Command::World { names, .. }) => {
             explain_capture(rt, names.capture, true, files)
         }
@@ -288,6 +297,7 @@ fn policy_of<'a>(command: &Command<'a>) -> Option<&'a str> {
         | Command::Judge { policy, .. }
         | Command::Learn { policy, .. }
         | Command::Migrate { policy, .. }
+        | Command::Review { policy, .. }
         | Command::Run { policy, .. }
         | Command::World { policy, .. }
         | Command::Relay { policy, .. }

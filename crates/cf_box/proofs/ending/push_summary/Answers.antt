@@ -1,5 +1,5 @@
 use Rattle.std.proofs.Common.{codes}
-use Rattle.cf_box.specs.Ending.{count_line}
+use Rattle.cf_box.specs.Denial.{count_line}
 use Rattle.cf_box.proofs.Texts.{eight_joined}
 use Rattle.cf_box.proofs.ending.push_summary.Goals as goal
 

@@ -31,3 +31,6 @@ returns-in-Relay-clause-meets g c = rw c.in-Relay.is (c.relay.ensures.meets (sin
 
 pub returns-in-World-clause-meets : goal.returns-in-World-clause-meets
 returns-in-World-clause-meets g c = rw c.in-World.is (c.world.ensures.meets (sink_value g.O.Sink c.args.out.now) (pair_value g.P.Pair c.args.pair.now))
+
+pub returns-in-Review-clause-meets : goal.returns-in-Review-clause-meets
+returns-in-Review-clause-meets g c = rw c.in-Review.is (c.review_capture.ensures.meets (sink_value g.O.Sink c.args.out.now) (pair_value g.P.Pair c.args.pair.now))

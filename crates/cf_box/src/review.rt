@@ -1,0 +1,84 @@
+//! `review POLICY CAPTURE LOG`: all that a policy objects to in what clients sent in a capture is written, a line each.
+ghost use Rattle.std.specs.Prelude.{◌≡◌, IfSome, map, option_map, string_bytes};
+ghost use Rattle.cf_box.specs.Command.{Review};
+ghost use Rattle.cf_box.specs.Ends.{Meets};
+ghost use Rattle.cf_box.specs.Outside.{FilesNeverFall, SinkValue, files_value, outside};
+ghost use Rattle.cf_box.specs.Review.{AnswersBy, review_of};
+ghost use Rattle.cf_box.specs.Words.{HasFitWords, command_value};
+ghost use Rattle.cf_outside.specs.PairValue.{PairValue};
+
+use crate::command::Command;
+use crate::denial::Denial;
+use crate::ending::{Done, Stop};
+use crate::names::are_names;
+use crate::policy_file::load_policy;
+use cf_outside::Files;
+use cf_review::{Reviewed, count, review, write_lines};
+use cf_watch::watch_recording;
+use std::alloc::Global;
+
+/// The words behind `review`.
+pub(crate) fn read_review(words: &[String]) -> Option<Command<'_>>
+    ensures command { option_map command_value result ≡ review_of (map string_bytes words.now) }
+    ensures fit { IfSome result HasFitWords }
+{
+    let [policy, capture, log] = words else {
+        return None;
+    };
+    let (policy, capture, log) = (policy.as_str(), capture.as_str(), log.as_str());
+    if !are_names(&[policy, capture, log]) {
+        return None;
+    }
+    Some(Command::Review {
+        policy,
+        capture,
+        log,
+    })
+}
+
+/// Reads the policy and the capture, reviews its flows, and writes the lines of all remarks into the log, which is created last.
+pub(crate) fn review_capture<F: Files>(
+    alloc: Global,
+    policy_file: &str,
+    capture: &str,
+    log: &str,
+    files: &mut F,
+) -> Result<Done, Stop>
+    ensures meets { (sink : SinkValue) (pair : PairValue) → Meets (Review policy_file.now capture.now log.now)
+        (outside (files_value F.Files files.old) sink pair) (outside (files_value F.Files files.new) sink pair) result }
+    ensures later { FilesNeverFall (files_value F.Files files.old) (files_value F.Files files.new) }
+{
+    let policy = match load_policy(alloc, policy_file, files) {
+        Ok(policy) => policy,
+        Err(stop) => return Err(stop),
+    };
+    let recording = match watch_recording(alloc, &policy, capture, files) {
+        Ok(recording) => recording,
+        Err(fault) => return Err(Stop::from(fault)),
+    };
+    let reviewed = match review(alloc, &policy, recording.flows.as_slice()) {
+        Ok(reviewed) => reviewed,
+        Err(_) => return Err(Stop::NoMemory),
+    };
+    match write_lines(
+        &policy,
+        recording.stamps.as_slice(),
+        reviewed.remarks.as_slice(),
+        log,
+        files,
+    ) {
+        Ok(()) => answer(&reviewed),
+        Err(_) => Err(Stop::WriteFault),
+    }
+}
+
+/// The answer about a review whose lines were written.
+fn answer(reviewed: &Reviewed) -> Result<Done, Stop>
+    ensures { AnswersBy reviewed.now result }
+{
+    let counts = count(reviewed);
+    if reviewed.remarks.is_empty() {
+        return Ok(Done::Reviewed(counts));
+    }
+    Err(Stop::Denied(Denial::Remarks(counts)))
+}
