@@ -25,8 +25,8 @@ const FOREIGN: &str = " did not go between a client and an asset of POLICY: \
 
 const REST: &str = " came behind a cut, long behind a closing, or for a session that was not begun";
 
-const JUDGE: &str = "for a recording from a span port or a host use 'cmdwall judge POLICY CAPTURE' \
-    (docs/RUN.md)";
+const REVIEW: &str = "for a recording from a span port or a host use 'cmdwall review POLICY CAPTURE LOG' \
+    (docs/REVIEW.md)";
 
 const FULL: &str = " would have begun a session while 256 others were open, and began none";
 
@@ -121,7 +121,7 @@ pub fn run_text(
         ]);
     }
     if look.above.segments > 0 || look.beyond.segments > 0 {
-        lines.put(&[Words(JUDGE)]);
+        lines.put(&[Words(REVIEW)]);
     }
     lines.finish()
 }

@@ -259,7 +259,7 @@ sessions cut.
 
 CAPTURE has what reached the box: the packets of clients and controllers as they came to its two
 ports. In a recording from between two hosts, or of one of them, they acknowledge what the box
-would not have sent, so that little of it counts: 'judge' is the command for a recording.
+would not have sent, so that little of it counts: 'review' is the command for a recording.
 
 Standard error says what cannot be known of CAPTURE, in lines 'cmdwall: note: ..' behind the
 counts: segments that acknowledge what the box had not sent, or stand beyond its window, and

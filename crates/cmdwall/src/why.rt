@@ -24,6 +24,9 @@ const TOO_LONG: PolicyRefusal = PolicyRefusal {
     rule: 0,
 };
 
+/// The status where memory ran out.
+const NO_MEMORY: u8 = 13;
+
 /// The status of a relay whose streams failed.
 const LINK_FAULT: u8 = 8;
 
@@ -164,63 +167,97 @@ fn remark<R: FileSystem + Eprint + AllocGlobal>(
     }
 }
 
+/// Why the work ended with a status other than 0.
 fn explain_command<R: FileSystem + Eprint + AllocGlobal>(
     rt: &R,
     command: &Command<'_>,
     status: u8,
     files: &mut RealFiles<'_, R>,
 ) -> io::Result<()> {
-    match (status, command) {
-        (3, _) => explain_fault(rt, files),
-        (4, _) => {
+    match status {
+        3 => explain_fault(rt, files),
+        4 => {
             explain_fault(rt, files)?;
             explain_outputs(rt, command, files)
         }
-        (5, Command::Compare { policy, other }) => {
-            if !explain_policy(rt, policy, files)? {
-                explain_policy(rt, other, files)?;
-            }
-            Ok(())
-        }
-        (5, _) => match policy_of(command) {
-            Some(policy) => explain_policy(rt, policy, files).map(|_| ()),
-            None => Ok(()),
-        },
-        (6, Command::Judge { capture, .. })
-        | (6, Command::Learn { capture, .. })
-        | (6, Command::Review { capture, .. }) => explain_watched(rt, capture, files),
-        (6 | 7, Command::Packets { capture })
-        | (7, Command::Judge { capture, .. })
-        | (7, Command::Learn { capture, .. })
-        | (7, Command::Review { capture, .. }) => explain_capture(rt, capture, false, files),
-        (6 | 7, Command::Run { names, .. }) | (6 | 7, Command::World { names, .. }) => {
-            explain_capture(rt, names.capture, true, files)
-        }
-        (9, _) => {
-            eprintln!(rt;
-                "cmdwall: nothing came for so long that the relay ended; the log has what came before"
-            )
-        }
-        (10, Command::Sift { policy, asset, .. }) | (10, Command::Relay { policy, asset, .. }) => {
-            explain_asset(rt, policy, asset, files)
-        }
-        (12, _) => {
-            eprintln!(rt; "cmdwall: the stream is cut; the outputs have what came before the cut")
-        }
-        (15 | 17, Command::Compare { policy, other }) => {
-            explain_inclusion(rt, policy, other, files)
-        }
-        (16, _) => {
-            eprintln!(rt;
-                "cmdwall: the asset would have more than 1,024 rules; a capture of fewer clients and acts has fewer"
-            )
-        }
-        (13, _) => {
-            eprintln!(rt; "cmdwall: memory ran out")?;
+        5 => explain_refused(rt, command, files),
+        6 | 7 => explain_bad_capture(rt, command, status, files),
+        NO_MEMORY => {
+            explain_status(rt, status)?;
             explain_outputs(rt, command, files)
         }
+        10 | 15 | 17 => explain_denial(rt, command, files),
+        _ => explain_status(rt, status),
+    }
+}
+
+/// The policy that is refused, the first of two that is.
+fn explain_refused<R: FileSystem + Eprint + AllocGlobal>(
+    rt: &R,
+    command: &Command<'_>,
+    files: &mut RealFiles<'_, R>,
+) -> io::Result<()> {
+    let Some(policy) = policy_of(command) else {
+        return Ok(());
+    };
+    let is_told = explain_policy(rt, policy, files)?;
+    if let Command::Compare { other, .. } = command {
+        if !is_told {
+            explain_policy(rt, other, files)?;
+        }
+    }
+    Ok(())
+}
+
+/// Why a capture is refused, with status 6, or where it is cut, with 7.
+fn explain_bad_capture<R: FileSystem + Eprint + AllocGlobal>(
+    rt: &R,
+    command: &Command<'_>,
+    status: u8,
+    files: &mut RealFiles<'_, R>,
+) -> io::Result<()> {
+    match command {
+        Command::Run { names, .. } | Command::World { names, .. } => {
+            explain_capture(rt, names.capture, true, files)
+        }
+        Command::Judge { capture, .. }
+        | Command::Learn { capture, .. }
+        | Command::Review { capture, .. }
+            if status == 6 => explain_watched(rt, capture, files),
+        Command::Judge { capture, .. }
+        | Command::Learn { capture, .. }
+        | Command::Review { capture, .. }
+        | Command::Packets { capture } => explain_capture(rt, capture, false, files),
         _ => Ok(()),
     }
+}
+
+/// What a policy has in place of what was asked for.
+fn explain_denial<R: FileSystem + Eprint + AllocGlobal>(
+    rt: &R,
+    command: &Command<'_>,
+    files: &mut RealFiles<'_, R>,
+) -> io::Result<()> {
+    match command {
+        Command::Sift { policy, asset, .. } | Command::Relay { policy, asset, .. } => {
+            explain_asset(rt, policy, asset, files)
+        }
+        Command::Compare { policy, other } => explain_inclusion(rt, policy, other, files),
+        _ => Ok(()),
+    }
+}
+
+/// What a status says by itself, if it says something.
+fn explain_status<R: Eprint>(rt: &R, status: u8) -> io::Result<()> {
+    let words = match status {
+        9 => "nothing came for so long that the relay ended; the log has what came before",
+        12 => "the stream is cut; the outputs have what came before the cut",
+        NO_MEMORY => "memory ran out",
+        16 =>
+            "the asset would have more than 1,024 rules; a capture of fewer clients and acts has fewer",
+        _ => return Ok(()),
+    };
+    eprintln!(rt; "cmdwall: {words}")
 }
 
 /// Why an output was withheld, or the file that failed and what the system said.

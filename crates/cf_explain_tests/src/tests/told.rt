@@ -17,7 +17,7 @@ chek p
 
 help juge
 "juge" is no command; did you mean judge?
-  commands are sift, check, compare, learn, migrate, packets, judge, run, relay, world; 'cmdwall --help' says more
+  commands are sift, check, compare, learn, migrate, packets, judge, review, run, relay, world; 'cmdwall --help' says more
 
 filter p
 "filter" is no command

@@ -47,7 +47,7 @@ row: a refused write as a span port has it, which the controller answers with tw
 says:
 note: 3 segments in 1 of 1 sessions acknowledged what the box had not sent: the capture was not recorded at the box, but at a span port or on a host, where both hosts answer each other
 note: 1 of 1 sessions never closed: the capture ends before they do, or has not all of their packets
-note: for a recording from a span port or a host use 'cmdwall judge POLICY CAPTURE' (docs/RUN.md)
+note: for a recording from a span port or a host use 'cmdwall review POLICY CAPTURE LOG' (docs/REVIEW.md)
 
 row: two octets of which the second is beyond the window, a probe at its edge, and the last octet in it
 1.000000 c S 1000 0 65535
@@ -59,7 +59,7 @@ row: two octets of which the second is beyond the window, a probe at its edge, a
 1.060000 c RA +0 +0 0
 says:
 note: 1 segment in 1 of 1 sessions stood beyond the window that the box had told: the hosts agreed on window scaling, which the box does not, or the capture was not recorded at the box
-note: for a recording from a span port or a host use 'cmdwall judge POLICY CAPTURE' (docs/RUN.md)
+note: for a recording from a span port or a host use 'cmdwall review POLICY CAPTURE LOG' (docs/REVIEW.md)
 
 row: a capture that begins amid a connection, and a packet to another port
 1.000000 c PA 2000 6000 65535 W
