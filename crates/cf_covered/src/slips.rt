@@ -15,10 +15,12 @@ const LAST_VARIATION: i64 = 195;
 
 /// The function codes that name holding registers, and input registers. MODBUS Application Protocol Specification V1.1b3, section 6.
 const HOLDING: [i64; 5] = [3, 6, 16, 22, 23];
+
 const INPUT: [i64; 1] = [4];
 
 /// Where manuals begin to number holding registers, and input registers.
 const FIRST_HOLDING: i64 = 40_001;
+
 const FIRST_INPUT: i64 = 30_001;
 
 /// The most registers that such a number of five digits leaves.
@@ -50,7 +52,11 @@ fn numbered_from(rule: &Rule, first: i64, codes: &[i64]) -> Option<Slip> {
     if !codes.iter().any(|code| takes(&rule.codes, *code)) {
         return None;
     }
-    let number = first_within(rule.points.as_slice(), first, first.saturating_add(REGISTERS - 1))?;
+    let number = first_within(
+        rule.points.as_slice(),
+        first,
+        first.saturating_add(REGISTERS - 1),
+    )?;
     Some(Slip::Register(number, first))
 }
 
