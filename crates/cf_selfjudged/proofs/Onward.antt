@@ -213,11 +213,11 @@ module _ (assets : List Asset) (client : Endpoint) (place : ℕ) where
         let first = ticks_told assets client place limit tick K e.ticks right (kept_has (IsOwn assets) tick T own_table) h.0.ticks (kept_few tick T few) in
         let second = second_told limit tick F e.input.packet e.received (all_ready limit tick K e.ticks right h.0.ticks) (found_has_all (IsOwn assets) tick e.ticks T own_table)
         (λ f b is. (begun_in assets limit e es h f b is).2.own) (ticked_few tick e.ticks T few) h.0.received in
-        let S1 = flat_map sent_first e.ticks in
-        let S2 = sent_received e.received in
-        picked_append assets client place (sent es) (S1 ++ S2) ∙ ap (λ ps. P (sent es) ++ ps) (picked_append assets client place S1 S2)
-        ∙ ap (λ ps. ps ++ (P S1 ++ P S2)) (onward es h.1 ∙ told_append ours (gone_after es) T)
-        ∙ chain (told ours (gone_after es)) (told ours T) (told ours X) (told ours K) (P S1) (told ours W) (told ours Y) (told ours F) (P S2) (told ours Z) (told ours A)
+        let by_clock = flat_map sent_first e.ticks in
+        let by_packet = sent_received e.received in
+        picked_append assets client place (sent es) (by_clock ++ by_packet) ∙ ap (λ ps. P (sent es) ++ ps) (picked_append assets client place by_clock by_packet)
+        ∙ ap (λ ps. ps ++ (P by_clock ++ P by_packet)) (onward es h.1 ∙ told_append ours (gone_after es) T)
+        ∙ chain (told ours (gone_after es)) (told ours T) (told ours X) (told ours K) (P by_clock) (told ours W) (told ours Y) (told ours F) (P by_packet) (told ours Z) (told ours A)
         (sym (parts ours (λ s. is_expired s.flow s.events tick) (λ s. not (is_expired s.flow s.events tick)) (λ s. refl) T few)) first
         (sym (parts ours leaves stays (λ s. not_not (stays s)) W (with_few tick e.ticks T few))) second
         ∙ sym (told_append ours (gone_after es ++ (X ++ (Y ++ Z))) A

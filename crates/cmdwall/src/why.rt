@@ -30,73 +30,43 @@ const NO_MEMORY: u8 = 13;
 /// The status of a relay whose streams failed.
 const LINK_FAULT: u8 = 8;
 
-/// The files that a command reads, and those that it makes.
-#[derive(Clone, Copy)]
-struct Named<'a> {
-    inputs: [Option<&'a str>; 2],
-    outputs: [Option<&'a str>; 4],
+/// The files that a command reads; an empty name stands for none.
+fn inputs_of<'a>(command: &Command<'a>) -> [&'a str; 2] {
+    match command {
+        Command::Check { policy }
+        | Command::Migrate { policy, .. }
+        | Command::Relay { policy, .. } => [*policy, ""],
+        Command::Compare { policy, other } => [*policy, *other],
+        Command::Judge { policy, capture }
+        | Command::Learn {
+            policy,
+            capture,
+            ..
+        }
+        | Command::Review {
+            policy,
+            capture,
+            ..
+        } => [*policy, *capture],
+        Command::Packets { capture } => [*capture, ""],
+        Command::Run { policy, names } => [*policy, names.capture],
+        Command::Sift { policy, names, .. } => [*policy, names.stream],
+        Command::World { .. } => ["", ""],
+    }
 }
 
-fn names_of<'a>(command: &Command<'a>) -> Named<'a> {
-    let none = [None; 4];
+/// The files that a command makes; an empty name stands for none.
+fn outputs_of<'a>(command: &Command<'a>) -> [&'a str; 4] {
     match command {
-        Command::Check { policy } => Named {
-            inputs: [Some(*policy), None],
-            outputs: none,
-        },
-        Command::Compare { policy, other } => Named {
-            inputs: [Some(*policy), Some(*other)],
-            outputs: none,
-        },
-        Command::Judge { policy, capture } => Named {
-            inputs: [Some(*policy), Some(*capture)],
-            outputs: none,
-        },
-        Command::Learn {
-            policy,
-            capture,
-            out,
-        } => Named {
-            inputs: [Some(*policy), Some(*capture)],
-            outputs: [Some(*out), None, None, None],
-        },
-        Command::Review {
-            policy,
-            capture,
-            log,
-        } => Named {
-            inputs: [Some(*policy), Some(*capture)],
-            outputs: [Some(*log), None, None, None],
-        },
-        Command::Migrate { policy, out } => Named {
-            inputs: [Some(*policy), None],
-            outputs: [Some(*out), None, None, None],
-        },
-        Command::Packets { capture } => Named {
-            inputs: [Some(*capture), None],
-            outputs: none,
-        },
-        Command::Run { policy, names } => Named {
-            inputs: [Some(*policy), Some(names.capture)],
-            outputs: [Some(names.out), Some(names.log), None, None],
-        },
-        Command::World { policy, names, .. } => Named {
-            inputs: [None, None],
-            outputs: [
-                Some(*policy),
-                Some(names.capture),
-                Some(names.out),
-                Some(names.log),
-            ],
-        },
-        Command::Relay { policy, log, .. } => Named {
-            inputs: [Some(*policy), None],
-            outputs: [Some(*log), None, None, None],
-        },
-        Command::Sift { policy, names, .. } => Named {
-            inputs: [Some(*policy), Some(names.stream)],
-            outputs: [Some(names.out), Some(names.replies), Some(names.log), None],
-        },
+        Command::Check { .. }
+        | Command::Compare { .. }
+        | Command::Judge { .. }
+        | Command::Packets { .. } => [""; 4],
+        Command::Learn { out, .. } | Command::Migrate { out, .. } => [*out, "", "", ""],
+        Command::Relay { log, .. } | Command::Review { log, .. } => [*log, "", "", ""],
+        Command::Run { names, .. } => [names.out, names.log, "", ""],
+        Command::Sift { names, .. } => [names.out, names.replies, names.log, ""],
+        Command::World { policy, names, .. } => [*policy, names.capture, names.out, names.log],
     }
 }
 
@@ -105,12 +75,15 @@ pub fn expect_files<R: FileSystem>(
     command: &Command<'_>,
     files: &mut RealFiles<'_, R>,
 ) -> io::Result<()> {
-    let named = names_of(command);
-    for name in named.inputs.into_iter().flatten() {
-        files.expect(name)?;
+    for name in inputs_of(command) {
+        if !name.is_empty() {
+            files.expect(name)?;
+        }
     }
-    for name in named.outputs.into_iter().flatten() {
-        files.expect_output(name)?;
+    for name in outputs_of(command) {
+        if !name.is_empty() {
+            files.expect_output(name)?;
+        }
     }
     Ok(())
 }
@@ -314,10 +287,10 @@ fn explain_outputs<R: FileSystem + Eprint + AllocGlobal>(
 ) -> io::Result<()> {
     let mut begun = Vec::new(rt.alloc());
     let mut left = Vec::new(rt.alloc());
-    for name in names_of(command).outputs.into_iter().flatten() {
+    for name in outputs_of(command) {
         if files.is_begun(name) {
             begun.push(name)?;
-        } else {
+        } else if !name.is_empty() {
             left.push(name)?;
         }
     }

@@ -31,6 +31,7 @@ pub struct Segment {
 }
 
 impl Segment {
+    /// The packet of these fields.
     pub fn packet(&self) -> Packet<'_> {
         Packet {
             source: self.source,
