@@ -1,6 +1,6 @@
 //! What a run cannot know, and why records were dropped, said in words. CAPTURE, and OUT beside it, are read again behind a run: both
-//! are in the order of time, and OUT has all that the box sent. Nothing is promised of these counts but that each call ends; they are
-//! meant as follows. This project's own.
+//! are in the order of time, and OUT has all that the box sent. It is proved that each call ends and changes no file; of the counts
+//! nothing is, and they are meant as follows. This project's own.
 //!
 //! - A pair is a client's endpoint and an asset's. Its session begins with the SYN that OUT has to the asset, and ends with an RST in
 //!   OUT, which the box sends where it cuts a session. A session that closed stays until its pair begins anew, so what comes more than
