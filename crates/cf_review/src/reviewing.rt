@@ -77,7 +77,12 @@ fn review_flow(
         match reader.next(asset, &octets_of(flow, at, flow.bytes.len())) {
             Front::Rest => return Ok(admitted),
             Front::Broken { reason, place } => {
-                add(flow, flow.record_at(at + place), Matter::Broken(reason), remarks)?;
+                add(
+                    flow,
+                    flow.record_at(at + place),
+                    Matter::Broken(reason),
+                    remarks,
+                )?;
                 return Ok(admitted);
             }
             Front::Took { ruling, used } => {
