@@ -121,7 +121,7 @@ fn sooner(first: Option<Wrong>, later: Option<Wrong>) -> Option<Wrong>
 /// Judges the bytes of a flow to an asset.
 fn judge_flow(alloc: Global, asset: &Asset, flow: &Flow) -> Result<Found, NoMemory>
     requires within { IsAssetWithin asset.now }
-    requires born { length flow.now.born.items ≡ length flow.now.bytes.items }
+    requires born { length flow.now.born ≡ length flow.now.bytes.items }
     ensures { IfOk result (λ found. IsFoundIn asset.now (flow_value flow.now) found) }
 {
     let mut found = Found {
@@ -138,14 +138,14 @@ fn judge_flow(alloc: Global, asset: &Asset, flow: &Flow) -> Result<Found, NoMemo
             Front::Rest => return Ok(found),
             Front::Broken { reason, place } => {
                 let broken = Wrong {
-                    number: flow.born[at + place],
+                    number: flow.record_at(at + place),
                     what: Complaint::Broken(reason),
                 };
                 return Ok(with_wrong(found, broken));
             }
             Front::Took { ruling, used } => {
                 at += used;
-                found = with_ruling(found, flow.born[at - 1], ruling);
+                found = with_ruling(found, flow.record_at(at - 1), ruling);
             }
         }
     }

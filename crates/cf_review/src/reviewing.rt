@@ -63,7 +63,7 @@ fn review_flow(
     remarks: &mut Vec<Remark>,
 ) -> Result<u64, NoMemory>
     requires within { IsAssetWithin asset.now }
-    requires born { length flow.now.born.items ≡ length flow.now.bytes.items }
+    requires born { length flow.now.born ≡ length flow.now.bytes.items }
     ensures { IfOk result (λ admitted. AddsReview asset.now (flow_value flow.now) (map remark_value remarks.old.items) (map remark_value remarks.new.items) admitted) }
 {
     add_conflict(flow, remarks)?;
@@ -77,7 +77,12 @@ fn review_flow(
         match reader.next(asset, &octets_of(flow, at, flow.bytes.len())) {
             Front::Rest => return Ok(admitted),
             Front::Broken { reason, place } => {
-                add(flow, flow.born[at + place], Matter::Broken(reason), remarks)?;
+                add(
+                    flow,
+                    flow.record_at(at + place),
+                    Matter::Broken(reason),
+                    remarks,
+                )?;
                 return Ok(admitted);
             }
             Front::Took { ruling, used } => {
@@ -89,7 +94,7 @@ fn review_flow(
                     asset,
                     flow,
                     unit,
-                    flow.born[at - 1],
+                    flow.record_at(at - 1),
                     ruling,
                     remarks,
                 )?;

@@ -3,6 +3,7 @@ mod Leading
 mod Lengths
 mod Letters
 mod OneStream
+mod Pieces
 mod SoFar
 mod Standing
 mod Tables

@@ -99,15 +99,15 @@ module _ (carried : List Carried) (c : Carried) (old mid new : Flow) (a b d : BT
   pub all_grow : Grows c.number old new
   all_grow = grows_both c.number old mid new takes.grows grows
 
-  pub born_now : HasBytes carried old.bytes.items → AreBorn carried old.bytes.items old.born.items → AreBorn (c ∷ carried) new.bytes.items new.born.items
+  pub born_now : HasBytes carried old.bytes.items → AreBorn carried old.bytes.items old.born → AreBorn (c ∷ carried) new.bytes.items new.born
   born_now had h =
       let g = all_grow in
       let bytes_size : length new.bytes.items ≡ length old.bytes.items + length g.more = ap length g.bytes ∙ length-append old.bytes.items g.more in
       let born_size : length (replicate (length g.more) c.number) ≡ length g.more = length-replicate (length g.more) c.number in
       record {
-        count = ap length g.born ∙ length-append old.born.items (replicate (length g.more) c.number) ∙ omega (arith, bytes_size, born_size, h.count);
+        count = ap length g.born ∙ length-append old.born (replicate (length g.more) c.number) ∙ omega (arith, bytes_size, born_size, h.count);
         each = λ place number e.
-            elim (get_parts old.born.items (replicate (length g.more) c.number) place number (ap (λ (xs : List ℕ). slice_get xs place) (sym g.born) ∙ e)) [
+            elim (get_parts old.born (replicate (length g.more) c.number) place number (ap (λ (xs : List ℕ). slice_get xs place) (sym g.born) ∙ e)) [
               | inl x ↦ (let o = h.each place number x in
                   record { newer = c ∷ o.newer; one = o.one; older = o.older; are = ap (λ (cs : List Carried). c ∷ cs) o.are; is_number = o.is_number; before = o.before; has_before = o.has_before; not_yet = o.not_yet; now = o.now; has_now = o.has_now; reached = o.reached })
               | inr (x, y) ↦ record {
@@ -115,13 +115,13 @@ module _ (carried : List Carried) (c : Carried) (old mid new : Flow) (a b d : BT
                 one = c;
                 older = carried;
                 are = refl;
-                is_number = sym (get_same (length g.more) c.number (place - length old.born.items) number y);
+                is_number = sym (get_same (length g.more) c.number (place - length old.born) number y);
                 before = old.bytes.items;
                 has_before = had;
                 not_yet = omega (arith, h.count, x);
                 now = new.bytes.items;
                 has_now = bytes_now;
-                reached = let inside = slice_get_within (replicate (length g.more) c.number) (place - length old.born.items) number y in omega (arith, inside, born_size, bytes_size, h.count, x);
+                reached = let inside = slice_get_within (replicate (length g.more) c.number) (place - length old.born) number y in omega (arith, inside, born_size, bytes_size, h.count, x);
               }
             ];
       }

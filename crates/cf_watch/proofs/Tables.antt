@@ -190,14 +190,14 @@ nothing_known a p e =
     rw (l, g) refl
 
 -- a flow with nothing carried
-pub heard_first : (f : Flow) (t : Trail) (client : Endpoint) (asset origin : ℕ) → f.client ≡ client → f.asset ≡ asset → f.bytes.items ≡ [] → f.born.items ≡ [] → f.conflict ≡ None →
+pub heard_first : (f : Flow) (t : Trail) (client : Endpoint) (asset origin : ℕ) → f.client ≡ client → f.asset ≡ asset → f.bytes.items ≡ [] → f.born ≡ [] → f.conflict ≡ None →
     t.origin ≡ origin → t.answered ≡ false → t.top ≡ 0 → t.ahead.entries ≡ [] → IsHeard f t (record { client = client; asset = asset; origin = origin; answered = false; carried = [] })
 heard_first f t client asset origin c a bs ns k o r z e = record {
   flow = record {
     client = c;
     asset = a;
     bytes = subst (λ xs. HasBytes [] xs) (sym bs) (false, record { bytes = λ p l. absurd (omega (arith, l)); ended = λ d. absurd (false≢true d); unfinished = λ _. refl });
-    born = subst (λ xs. AreBorn [] xs f.born.items) (sym bs) (subst (λ ys. AreBorn [] [] ys) (sym ns) (record { count = refl; each = λ place number h. absurd (none-some number h) }));
+    born = subst (λ xs. AreBorn [] xs f.born) (sym bs) (subst (λ ys. AreBorn [] [] ys) (sym ns) (record { count = refl; each = λ place number h. absurd (none-some number h) }));
     conflict = k;
   };
   origin = o;

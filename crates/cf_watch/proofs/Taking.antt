@@ -26,14 +26,14 @@ or_assoc None y z = refl
 or_assoc (Some l) y z = refl
 
 pub grows_nothing : (number : ℕ) (flow : Flow) → Grows number flow flow
-grows_nothing number flow = record { more = []; bytes = sym (append-nil flow.bytes.items); born = sym (append-nil flow.born.items); client = refl; asset = refl }
+grows_nothing number flow = record { more = []; bytes = sym (append-nil flow.bytes.items); born = sym (append-nil flow.born); client = refl; asset = refl }
 
 pub grows_both : (number : ℕ) (old mid new : Flow) → Grows number old mid → Grows number mid new → Grows number old new
 grows_both number old mid new g h =
     let b : (old.bytes.items ++ g.more) ++ h.more ≡ old.bytes.items ++ (g.more ++ h.more) = rw append_assoc refl in
     let r : replicate (length g.more) number ++ replicate (length h.more) number ≡ replicate (length (g.more ++ h.more)) number =
     replicate-append-replicate (length g.more) (length h.more) number ∙ ap (λ (n : ℕ). replicate n number) (sym (length-append g.more h.more)) in
-    let c : (old.born.items ++ replicate (length g.more) number) ++ replicate (length h.more) number ≡ old.born.items ++ replicate (length (g.more ++ h.more)) number =
+    let c : (old.born ++ replicate (length g.more) number) ++ replicate (length h.more) number ≡ old.born ++ replicate (length (g.more ++ h.more)) number =
     rw (append_assoc, r) refl in
     record {
       more = g.more ++ h.more;

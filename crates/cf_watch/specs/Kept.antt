@@ -26,7 +26,7 @@ stream_of heard.End = record { bytes = []; ended = true }
 pub record Grows (number : ℕ) (old new : Flow) : Type 0 where
   pub more : List ℕ
   pub bytes : new.bytes.items ≡ old.bytes.items ++ more
-  pub born : new.born.items ≡ old.born.items ++ replicate (length more) number
+  pub born : new.born ≡ old.born ++ replicate (length more) number
   pub client : new.client ≡ old.client
   pub asset : new.asset ≡ old.asset
 

@@ -23,6 +23,7 @@ fn letter_at(bytes: &[u8], ahead: &Ahead, place: u64) -> Option<Letter>
 
 /// Puts a byte behind the others.
 fn push(flow: &mut Flow, number: u64, byte: u8) -> Result<(), NoMemory>
+    requires number { number < 2 ^ 32 }
     ensures grows { OnOk result (Grows number flow.old flow.new) }
     ensures bytes { OnOk result (flow.new.bytes.items ≡ flow.old.bytes.items ++ byte ∷ []) }
     ensures conflict { flow.new.conflict ≡ flow.old.conflict }
@@ -41,6 +42,7 @@ fn keep(
     place: u64,
     letter: Letter,
 ) -> Result<(), NoMemory>
+    requires number { number < 2 ^ 32 }
     requires blank { known flow.old.bytes.items ahead.old place ≡ None }
     ensures knows { OnOk result ((p : ℕ) → known flow.new.bytes.items ahead.new p ≡ (if p == place then Some (letter_value letter) else known flow.old.bytes.items ahead.old p)) }
     ensures grows { OnOk result (Grows number flow.old flow.new) }
@@ -70,6 +72,7 @@ fn carry_letter(
     at: i64,
     letter: Letter,
 ) -> Result<(), NoMemory>
+    requires number { number < 2 ^ 32 }
     ensures takes { OnOk result (Takes (record { number = number; at = at; text = stream_of letter }) flow.old ahead.old flow.new ahead.new) }
 {
     if at < 0 {
@@ -101,6 +104,7 @@ fn carry_text(
     at: i64,
     text: &[u8],
 ) -> Result<(), NoMemory>
+    requires number { number < 2 ^ 32 }
     requires past { at ≤ℤ pos (2 ^ 62) }
     requires short { length text.now ≤ 65535 }
     ensures takes { OnOk result (Takes (record { number = number; at = at; text = record { bytes = text.now; ended = false } }) flow.old ahead.old flow.new ahead.new) }
@@ -120,6 +124,7 @@ pub(crate) fn carry(
     text: &[u8],
     ended: bool,
 ) -> Result<(), NoMemory>
+    requires number { number < 2 ^ 32 }
     requires past { at ≤ℤ pos (2 ^ 62) }
     requires short { length text.now ≤ 65535 }
     ensures takes { OnOk result (Takes (record { number = number; at = at; text = record { bytes = text.now; ended = ended } }) flow.old ahead.old flow.new ahead.new) }
@@ -133,6 +138,7 @@ pub(crate) fn carry(
 
 /// Goes on over the bytes that came ahead, up to the first gap or End.
 pub(crate) fn advance(flow: &mut Flow, ahead: &mut Ahead, number: u64) -> Result<(), NoMemory>
+    requires number { number < 2 ^ 32 }
     ensures knows { OnOk result ((p : ℕ) → known flow.new.bytes.items ahead.new p ≡ known flow.old.bytes.items ahead.old p) }
     ensures grows { OnOk result (Grows number flow.old flow.new) }
     ensures stops { OnOk result ((b : ℕ) → known flow.new.bytes.items ahead.new (length flow.new.bytes.items) ≢ Some (Byte b)) }

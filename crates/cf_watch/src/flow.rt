@@ -1,5 +1,8 @@
 //! Flows that a capture shows.
+ghost use Rattle.std.specs.Prelude.{◌≡◌, ◌<◌, length, slice_index};
+ghost use Rattle.cf_watch.specs.FlowValue.{flow_value};
 
+use crate::born::Born;
 use cf_view::Endpoint;
 
 /// Two packets of a flow carried different letters at one position.
@@ -21,9 +24,19 @@ pub struct Flow {
     /// The bytes at the positions 0, 1 and so on, up to the first gap or End.
     pub bytes: Vec<u8>,
     /// For each byte the number, counted from 1, of the record with which the bytes reached it.
-    pub born: Vec<u64>,
+    pub born: Born,
     /// That of the first record that has one, at its lowest position.
     pub conflict: Option<Conflict>,
+}
+
+impl Flow {
+    /// The number, counted from 1, of the record with which the bytes reached that at a place, counted from 0.
+    pub fn record_at(&self, place: usize) -> u64
+        requires place { place < length self.now.born }
+        ensures { result ≡ slice_index (flow_value self.now).born place }
+    {
+        self.born.record_at(place)
+    }
 }
 
 /// What a capture shows: its flows to the assets of a policy, in the order of their beginning, and the stamp of each record.

@@ -1,6 +1,7 @@
 //! The flows of a capture, as a watcher between the clients and the assets sees them.
 #![tactic(auto)]
 
+mod born;
 mod carry;
 mod fault;
 mod flow;
@@ -10,6 +11,7 @@ mod place;
 mod reading;
 mod watching;
 
+pub use born::Born;
 pub use fault::{CAPTURE_LIMIT, WatchFault, WatchRefusal};
 pub use flow::{Conflict, Flow, Recording};
 pub use laws::{flows_are_for_assets, one_stream_is_seen};

@@ -1,5 +1,5 @@
 //! The flows of a capture file.
-ghost use Rattle.std.specs.Prelude.{◌≡◌, ◌+◌, ◌-◌, ◌*◌, ◌^◌, ◌<◌, ◌≤◌, Ok, Err, Some, None, true, false, List, All, IsErrOf, length, map, IfOk, IfErr};
+ghost use Rattle.std.specs.Prelude.{◌≡◌, ◌+◌, ◌-◌, ◌*◌, ◌^◌, ◌<◌, ◌≤◌, ◌++◌, ◌∷◌, [], ℕ, OnOk, Ok, Err, Some, None, true, false, List, All, IsErrOf, length, map, IfOk, IfErr};
 ghost use Rattle.cf_outside.specs.Faults.{HasCause};
 ghost use Rattle.cf_outside.specs.Files.{IsAtEnd, IsLongerThan};
 ghost use Rattle.cf_run.specs.Form.{first_place};
@@ -13,6 +13,7 @@ use crate::watching::Watch;
 use cf_outside::{Files, ReadAnswer};
 use cf_policy::{Asset, Policy};
 use cf_run::{NextRecord, RecordReader};
+use cf_view::NoMemory;
 use std::alloc::Global;
 
 /// The flows of a capture to the assets of a policy, in the order of their beginning: of a pcap or a pcapng file of at most
@@ -34,7 +35,7 @@ pub fn watch<F: Files>(
     ensures read { HasCause (F.read_faults files.old) (F.read_faults files.new) (IsErrOf result WatchFault.Read) }
     ensures writes { F.write_faults files.new ≡ F.write_faults files.old }
 {
-    match watch_recording(alloc, policy, capture, files) {
+    match watch_keeping(alloc, Stamps::Dropped, policy, capture, files) {
         Ok(recording) => Ok(recording.flows),
         Err(fault) => Err(fault),
     }
@@ -55,6 +56,32 @@ pub fn watch_recording<F: Files>(
     ensures read { HasCause (F.read_faults files.old) (F.read_faults files.new) (IsErrOf result WatchFault.Read) }
     ensures writes { F.write_faults files.new ≡ F.write_faults files.old }
 {
+    watch_keeping(alloc, Stamps::Kept, policy, capture, files)
+}
+
+/// Whether the stamps of the records are kept.
+#[derive(Clone, Copy)]
+enum Stamps {
+    Kept,
+    Dropped,
+}
+
+/// The flows of a capture, with the stamp of each record where they are kept.
+fn watch_keeping<F: Files>(
+    alloc: Global,
+    stamps: Stamps,
+    policy: &Policy,
+    capture: &str,
+    files: &mut F,
+) -> Result<Recording, WatchFault>
+    requires assets { length policy.now.assets < 2 ^ 32 }
+    ensures watched { IfOk result (λ r. (all : List ℕ) × IsRecordingOf policy.now.assets (F.content files.old capture.now) (map flow_value r.flows.items) all × (stamps ≡ Stamps.Kept → r.stamps.items ≡ all)) }
+    ensures for_assets { IfOk result (λ r. All (IsForAsset policy.now.assets) (map flow_value r.flows.items)) }
+    ensures fault { IfErr result (λ fault. WatchesAs policy.now.assets (F.content files.old capture.now) (Err fault)) }
+    ensures same { F.content files.new ≡ F.content files.old }
+    ensures read { HasCause (F.read_faults files.old) (F.read_faults files.new) (IsErrOf result WatchFault.Read) }
+    ensures writes { F.write_faults files.new ≡ F.write_faults files.old }
+{
     match is_long(capture, files) {
         Some(false) => {}
         Some(true) => return Err(WatchFault::Refused(WatchRefusal::Long)),
@@ -62,7 +89,8 @@ pub fn watch_recording<F: Files>(
     }
     match RecordReader::open(alloc, files, capture) {
         Ok(mut reader) => {
-            watch_records(alloc, policy.assets.as_slice(), capture, &mut reader, files)
+            let assets = policy.assets.as_slice();
+            watch_records(alloc, stamps, assets, capture, &mut reader, files)
         }
         Err(fault) => Err(WatchFault::from(fault)),
     }
@@ -84,9 +112,23 @@ fn is_long<F: Files>(name: &str, files: &mut F) -> Option<bool>
     }
 }
 
+/// Keeps a stamp behind the others, where stamps are kept.
+fn keep_stamp(stamps: Stamps, kept: &mut Vec<u64>, stamp: u64) -> Result<(), NoMemory>
+    ensures { OnOk result (stamps ≡ Stamps.Kept → kept.new.items ≡ kept.old.items ++ stamp ∷ []) }
+{
+    match stamps {
+        Stamps::Dropped => Ok(()),
+        Stamps::Kept => match kept.push(stamp) {
+            Ok(()) => Ok(()),
+            Err(_) => Err(NoMemory),
+        },
+    }
+}
+
 /// The recording of the records from the reader's place on.
 fn watch_records<F: Files>(
     alloc: Global,
+    stamps: Stamps,
     assets: &[Asset],
     name: &str,
     reader: &mut RecordReader,
@@ -96,7 +138,7 @@ fn watch_records<F: Files>(
     requires short { IsAtEnd (F.content files.old name.now) CAPTURE_LIMIT }
     requires form { HasForm (F.content files.old name.now) (Ok reader.old.form) }
     requires place { reader.old.place ≡ first_place reader.old.form }
-    ensures watched { IfOk result (λ r. IsRecordingOf assets.now (F.content files.old name.now) (map flow_value r.flows.items) r.stamps.items) }
+    ensures watched { IfOk result (λ r. (all : List ℕ) × IsRecordingOf assets.now (F.content files.old name.now) (map flow_value r.flows.items) all × (stamps ≡ Stamps.Kept → r.stamps.items ≡ all)) }
     ensures for_assets { IfOk result (λ r. All (IsForAsset assets.now) (map flow_value r.flows.items)) }
     ensures fault { IfErr result (λ fault. WatchesAs assets.now (F.content files.old name.now) (Err fault)) }
     ensures same { F.content files.new ≡ F.content files.old }
@@ -104,7 +146,7 @@ fn watch_records<F: Files>(
     ensures writes { F.write_faults files.new ≡ F.write_faults files.old }
 {
     let mut watch = Watch::new(alloc);
-    let mut stamps = Vec::new(alloc);
+    let mut kept = Vec::new(alloc);
     let mut number: u64 = 0;
     'records: loop {
         match reader.next(files, name) {
@@ -118,14 +160,14 @@ fn watch_records<F: Files>(
                     Ok(()) => {}
                     Err(_) => return Err(WatchFault::NoMemory),
                 }
-                if stamps.push(stamp).is_err() {
+                if keep_stamp(stamps, &mut kept, stamp).is_err() {
                     return Err(WatchFault::NoMemory);
                 }
             }
             NextRecord::End => {
                 return Ok(Recording {
                     flows: watch.flows,
-                    stamps,
+                    stamps: kept,
                 });
             }
             NextRecord::Cut => return Err(WatchFault::Cut(reader.place())),

@@ -11,6 +11,7 @@ ghost use Rattle.cf_run.specs.Entries.{asset_place};
 ghost use Rattle.cf_run.specs.Table.{same_endpoint};
 ghost use Rattle.cf_watch.specs.Watched.{Watched, begins_anew, begun_by, goes, goes_at, with_packet, with_record};
 
+use crate::born::Born;
 use crate::carry::{Ahead, advance, carry};
 use crate::flow::Flow;
 use crate::place::{has, has_fin, is_opening, text_place, top_after};
@@ -56,6 +57,7 @@ fn hear(
     number: u64,
     packet: &Packet<'_>,
 ) -> Result<(), NoMemory>
+    requires number { number < 2 ^ 32 }
     requires low { trail.old.top ≤ 2 ^ 60 }
     requires short { length packet.now.text.now ≤ 65535 }
     ensures heard { OnOk result ((w : Watched) → IsHeard flow.old trail.old w → IsHeard flow.new trail.new (with_packet number (packet_value packet.now) w)) }
@@ -246,7 +248,7 @@ impl Watch {
             client: packet.source,
             asset,
             bytes: Vec::new(alloc),
-            born: Vec::new(alloc),
+            born: Born::new(alloc),
             conflict: None,
         };
         let mut trail = Trail {

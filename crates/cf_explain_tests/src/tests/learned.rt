@@ -7,7 +7,7 @@ use cf_policy::{Policy, Rule, Span};
 use cf_policylang::read_policy;
 use cf_samples::rows::octets;
 use cf_view::Endpoint;
-use cf_watch::Flow;
+use cf_watch::{Born, Flow};
 use std::alloc::{AllocError, Global};
 use std::fmt::Write;
 use std::test::Fail;
@@ -112,7 +112,7 @@ fn flow_of(alloc: Global, given: &str) -> Result<Flow, Fail> {
         },
         asset: asset.parse::<u32>().unwrap_or(0),
         bytes: bytes_of(alloc, text)?,
-        born: Vec::new(alloc),
+        born: Born::new(alloc),
         conflict: None,
     })
 }

@@ -1,6 +1,6 @@
 use Rattle.std.proofs.Common.{◌≡◌, ◌+◌, ◌∙◌, length, drop, sym, ap, subst, arith}
 use Rattle.std.proofs.lemmas.Bool.Decides.{nat_tests}
-use Rattle.std.proofs.lemmas.List.{get_or_read, nil_from_length}
+use Rattle.std.proofs.lemmas.List.{nil_from_length}
 use Rattle.cf_judge.specs.Found.{IsFoundIn}
 use Rattle.cf_watch.specs.FlowValue.{flow_value}
 use Rattle.cf_judge.proofs.Reading.{SoFar, broke, broke_inside, found_all, found_break, found_nothing, found_rest, so_far_first, so_far_on, took, took_inside, waits}
@@ -25,21 +25,20 @@ overflow_add-at c =
     let i = broke_inside c.args.asset.now (flow_value c.args.flow.now) c.units.at c.units.reader c.units.found c.units.invariant c.in-Broken.place b.0 in
     omega (arith, i, c.args.flow.now.bytes.ok.0, c.args.flow.now.bytes.ok.1, c.args.flow.now.bytes.small)
 
-pub index-requires : goal.index-requires
-index-requires c =
+pub record_at-requires : goal.record_at-requires
+record_at-requires c =
     let same = c.rest_of.ensures ∙ ap (drop c.units.at) c.as_slice.ensures.value in
     let b = broke c.args.asset.now (flow_value c.args.flow.now) c.units.at c.units.reader c.units.found c.units.invariant c.rest_of.result.bytes same c.in-Broken.reason c.in-Broken.place c.in-Broken.ensures.front in
     let i = broke_inside c.args.asset.now (flow_value c.args.flow.now) c.units.at c.units.reader c.units.found c.units.invariant c.in-Broken.place b.0 in
-    omega (arith, i, c.requires.born)
+    record { place = omega (arith, i, c.requires.born) }
 
 pub returns-in-Broken : goal.returns-in-Broken
 returns-in-Broken c =
     let same = c.rest_of.ensures ∙ ap (drop c.units.at) c.as_slice.ensures.value in
     let b = broke c.args.asset.now (flow_value c.args.flow.now) c.units.at c.units.reader c.units.found c.units.invariant c.rest_of.result.bytes same c.in-Broken.reason c.in-Broken.place c.in-Broken.ensures.front in
     let i = broke_inside c.args.asset.now (flow_value c.args.flow.now) c.units.at c.units.reader c.units.found c.units.invariant c.in-Broken.place b.0 in
-    let n = get_or_read c.args.flow.now.born.items _ _ (omega (arith, i, c.requires.born)) c.index.ensures 0 in
     subst (IsFoundIn c.args.asset.now (flow_value c.args.flow.now)) (sym c.with_wrong.ensures)
-    (found_break c.args.asset.now (flow_value c.args.flow.now) c.units.at c.units.reader c.units.found c.units.invariant c.in-Broken.reason c.in-Broken.place c.index.result.now b.0 b.1 n)
+    (found_break c.args.asset.now (flow_value c.args.flow.now) c.units.at c.units.reader c.units.found c.units.invariant c.in-Broken.reason c.in-Broken.place c.record_at.result b.0 b.1 c.record_at.ensures)
 
 pub overflow_add-at-in-Took : goal.overflow_add-at-in-Took
 overflow_add-at-in-Took c =
@@ -54,12 +53,12 @@ overflow_sub-at c =
     let t = took c.args.asset.now (flow_value c.args.flow.now) c.units.at c.units.reader c.units.found c.units.invariant c.rest_of.result.bytes same c.in-Took.ruling c.in-Took.used c.next.new.self c.in-Took.ensures.front in
     omega (arith, t.some)
 
-pub index-requires-in-Took : goal.index-requires-in-Took
-index-requires-in-Took c =
+pub record_at-requires-in-Took : goal.record_at-requires-in-Took
+record_at-requires-in-Took c =
     let same = c.rest_of.ensures ∙ ap (drop c.units.at) c.as_slice.ensures.value in
     let t = took c.args.asset.now (flow_value c.args.flow.now) c.units.at c.units.reader c.units.found c.units.invariant c.rest_of.result.bytes same c.in-Took.ruling c.in-Took.used c.next.new.self c.in-Took.ensures.front in
     let i = took_inside c.args.asset.now (flow_value c.args.flow.now) c.units.at c.units.reader c.units.found c.units.invariant c.in-Took.ruling c.in-Took.used c.next.new.self t in
-    omega (arith, i.0, i.1, c.requires.born)
+    record { place = omega (arith, i.0, i.1, c.requires.born) }
 
 pub with_ruling-found-requires : goal.with_ruling-found-requires
 with_ruling-found-requires c = omega (arith, c.units.invariant.few, c.units.invariant.inside, c.args.flow.now.bytes.ok.0, c.args.flow.now.bytes.ok.1, c.args.flow.now.bytes.small)
@@ -69,10 +68,9 @@ units-preserved c =
     let same = c.rest_of.ensures ∙ ap (drop c.units.at) c.as_slice.ensures.value in
     let t = took c.args.asset.now (flow_value c.args.flow.now) c.units.at c.units.reader c.units.found c.units.invariant c.rest_of.result.bytes same c.in-Took.ruling c.in-Took.used c.next.new.self c.in-Took.ensures.front in
     let i = took_inside c.args.asset.now (flow_value c.args.flow.now) c.units.at c.units.reader c.units.found c.units.invariant c.in-Took.ruling c.in-Took.used c.next.new.self t in
-    let n = get_or_read c.args.flow.now.born.items _ _ (omega (arith, i.0, i.1, c.requires.born)) c.index-in-Took.ensures 0 in
     subst (SoFar c.args.asset.now (flow_value c.args.flow.now) (c.units.at + c.in-Took.used) c.next.new.self) (sym c.with_ruling-found.ensures)
-    (so_far_on c.args.asset.now (flow_value c.args.flow.now) c.units.at c.units.reader c.units.found c.units.invariant c.in-Took.ruling c.in-Took.used c.next.new.self c.index-in-Took.result.now
-    c.requires.born t n)
+    (so_far_on c.args.asset.now (flow_value c.args.flow.now) c.units.at c.units.reader c.units.found c.units.invariant c.in-Took.ruling c.in-Took.used c.next.new.self c.record_at-in-Took.result
+    c.requires.born t c.record_at-in-Took.ensures)
 
 pub units-smaller : goal.units-smaller
 units-smaller c =

@@ -1,6 +1,6 @@
 use Rattle.std.proofs.Common.{◌≡◌, ◌∙◌, length, map, slice_range, ap, arith}
 use Rattle.std.proofs.lemmas.Bool.Decides.{nat_tests}
-use Rattle.std.proofs.lemmas.List.{get_or_read, nil_from_length}
+use Rattle.std.proofs.lemmas.List.{nil_from_length}
 use Rattle.cf_watch.specs.FlowValue.{flow_value}
 use Rattle.cf_review.specs.Remark.{remark_value}
 use Rattle.cf_review.proofs.Reading.{broke, broke_inside, found_all, found_break, found_nothing, found_rest, so_far_first, so_far_on, took, took_inside, waits}
@@ -30,13 +30,13 @@ overflow_add-at c =
     let i = broke_inside c.args.asset.now (flow_value c.args.flow.now) (map remark_value c.args.remarks.now.items) c.units.at c.units.reader c.units.admitted (map remark_value c.units.remarks.items) c.units.invariant c.in-Broken.place b.0 in
     omega (arith, i, c.args.flow.now.bytes.ok.0, c.args.flow.now.bytes.ok.1, c.args.flow.now.bytes.small)
 
-pub index-requires : goal.index-requires
-index-requires c =
+pub record_at-requires : goal.record_at-requires
+record_at-requires c =
     let size : c.len-in-units.result ≡ length c.args.flow.now.bytes.items = omega (arith, c.len-in-units.ensures, c.args.flow.now.bytes.ok.0, c.args.flow.now.bytes.ok.1, c.args.flow.now.bytes.small) in
     let lent : c.octets_of.result.bytes ≡ slice_range c.args.flow.now.bytes.items c.units.at (length c.args.flow.now.bytes.items) = c.octets_of.ensures ∙ ap (slice_range c.args.flow.now.bytes.items c.units.at) size in
     let b = broke c.args.asset.now (flow_value c.args.flow.now) (map remark_value c.args.remarks.now.items) c.units.at c.units.reader c.units.admitted (map remark_value c.units.remarks.items) c.units.invariant c.octets_of.result.bytes lent c.in-Broken.reason c.in-Broken.place c.in-Broken.ensures.front in
     let i = broke_inside c.args.asset.now (flow_value c.args.flow.now) (map remark_value c.args.remarks.now.items) c.units.at c.units.reader c.units.admitted (map remark_value c.units.remarks.items) c.units.invariant c.in-Broken.place b.0 in
-    omega (arith, i, c.requires.born)
+    record { place = omega (arith, i, c.requires.born) }
 
 pub returns-in-Broken : goal.returns-in-Broken
 returns-in-Broken c =
@@ -44,8 +44,7 @@ returns-in-Broken c =
     let lent : c.octets_of.result.bytes ≡ slice_range c.args.flow.now.bytes.items c.units.at (length c.args.flow.now.bytes.items) = c.octets_of.ensures ∙ ap (slice_range c.args.flow.now.bytes.items c.units.at) size in
     let b = broke c.args.asset.now (flow_value c.args.flow.now) (map remark_value c.args.remarks.now.items) c.units.at c.units.reader c.units.admitted (map remark_value c.units.remarks.items) c.units.invariant c.octets_of.result.bytes lent c.in-Broken.reason c.in-Broken.place c.in-Broken.ensures.front in
     let i = broke_inside c.args.asset.now (flow_value c.args.flow.now) (map remark_value c.args.remarks.now.items) c.units.at c.units.reader c.units.admitted (map remark_value c.units.remarks.items) c.units.invariant c.in-Broken.place b.0 in
-    let n = get_or_read c.args.flow.now.born.items _ _ (omega (arith, i, c.requires.born)) c.index.ensures 0 in
-    found_break c.args.asset.now (flow_value c.args.flow.now) (map remark_value c.args.remarks.now.items) c.units.at c.units.reader c.units.admitted (map remark_value c.units.remarks.items) c.units.invariant c.in-Broken.reason c.in-Broken.place c.index.result.now _ b.0 b.1 n c.in_ok-add-in-Broken.ensures
+    found_break c.args.asset.now (flow_value c.args.flow.now) (map remark_value c.args.remarks.now.items) c.units.at c.units.reader c.units.admitted (map remark_value c.units.remarks.items) c.units.invariant c.in-Broken.reason c.in-Broken.place c.record_at.result _ b.0 b.1 c.record_at.ensures c.in_ok-add-in-Broken.ensures
 
 pub overflow_add-at-in-Took : goal.overflow_add-at-in-Took
 overflow_add-at-in-Took c =
@@ -79,13 +78,13 @@ overflow_sub-at c =
     let i = took_inside c.args.asset.now (flow_value c.args.flow.now) (map remark_value c.args.remarks.now.items) c.units.at c.units.reader c.units.admitted (map remark_value c.units.remarks.items) c.units.invariant c.in-Took.ruling c.in-Took.used c.next.new.self t in
     omega (arith, i.1)
 
-pub index-requires-in-Took : goal.index-requires-in-Took
-index-requires-in-Took c =
+pub record_at-requires-in-Took : goal.record_at-requires-in-Took
+record_at-requires-in-Took c =
     let size : c.len-in-units.result ≡ length c.args.flow.now.bytes.items = omega (arith, c.len-in-units.ensures, c.args.flow.now.bytes.ok.0, c.args.flow.now.bytes.ok.1, c.args.flow.now.bytes.small) in
     let lent : c.octets_of.result.bytes ≡ slice_range c.args.flow.now.bytes.items c.units.at (length c.args.flow.now.bytes.items) = c.octets_of.ensures ∙ ap (slice_range c.args.flow.now.bytes.items c.units.at) size in
     let t = took c.args.asset.now (flow_value c.args.flow.now) (map remark_value c.args.remarks.now.items) c.units.at c.units.reader c.units.admitted (map remark_value c.units.remarks.items) c.units.invariant c.octets_of.result.bytes lent c.in-Took.ruling c.in-Took.used c.next.new.self c.in-Took.ensures.front in
     let i = took_inside c.args.asset.now (flow_value c.args.flow.now) (map remark_value c.args.remarks.now.items) c.units.at c.units.reader c.units.admitted (map remark_value c.units.remarks.items) c.units.invariant c.in-Took.ruling c.in-Took.used c.next.new.self t in
-    omega (arith, i.0, i.1, c.requires.born)
+    record { place = omega (arith, i.0, i.1, c.requires.born) }
 
 pub add_unit-requires : goal.add_unit-requires
 add_unit-requires c =
@@ -109,9 +108,8 @@ units-preserved c =
     let lent : c.octets_of.result.bytes ≡ slice_range c.args.flow.now.bytes.items c.units.at (length c.args.flow.now.bytes.items) = c.octets_of.ensures ∙ ap (slice_range c.args.flow.now.bytes.items c.units.at) size in
     let t = took c.args.asset.now (flow_value c.args.flow.now) (map remark_value c.args.remarks.now.items) c.units.at c.units.reader c.units.admitted (map remark_value c.units.remarks.items) c.units.invariant c.octets_of.result.bytes lent c.in-Took.ruling c.in-Took.used c.next.new.self c.in-Took.ensures.front in
     let i = took_inside c.args.asset.now (flow_value c.args.flow.now) (map remark_value c.args.remarks.now.items) c.units.at c.units.reader c.units.admitted (map remark_value c.units.remarks.items) c.units.invariant c.in-Took.ruling c.in-Took.used c.next.new.self t in
-    let n = get_or_read c.args.flow.now.born.items _ _ (omega (arith, i.0, i.1, c.requires.born)) c.index-in-Took.ensures 0 in
-    so_far_on c.args.asset.now (flow_value c.args.flow.now) (map remark_value c.args.remarks.now.items) c.units.at c.units.reader c.units.admitted (map remark_value c.units.remarks.items) c.units.invariant c.in-Took.ruling c.in-Took.used c.next.new.self c.index-in-Took.result.now c.allowed_by-admitted.result c.octets_of-unit.result.bytes _
-    c.requires.born t n c.allowed_by-admitted.ensures.few c.allowed_by-admitted.ensures.count c.octets_of-unit.ensures c.in_ok-add_unit-in-Took.ensures
+    so_far_on c.args.asset.now (flow_value c.args.flow.now) (map remark_value c.args.remarks.now.items) c.units.at c.units.reader c.units.admitted (map remark_value c.units.remarks.items) c.units.invariant c.in-Took.ruling c.in-Took.used c.next.new.self c.record_at-in-Took.result c.allowed_by-admitted.result c.octets_of-unit.result.bytes _
+    c.requires.born t c.record_at-in-Took.ensures c.allowed_by-admitted.ensures.few c.allowed_by-admitted.ensures.count c.octets_of-unit.ensures c.in_ok-add_unit-in-Took.ensures
 
 pub returns : goal.returns
 returns c =

@@ -15,7 +15,9 @@ use Rattle.cf_watch.proofs.reading.watch_records.Goals as goal
 
 pub records-init : goal.records-init
 records-init g c = record {
-  so = so_far_first c.args.assets.now (g.F.Files.content c.args.files.now c.args.name.now) c.args.reader.now _ _ c.requires.form c.requires.place c.new-watch.ensures c.new-stamps.ensures.items;
+  all = [];
+  so = so_far_first c.args.assets.now (g.F.Files.content c.args.files.now c.args.name.now) c.args.reader.now _ [] c.requires.form c.requires.place c.new-watch.ensures refl;
+  kept = λ _. c.new-kept.ensures.items;
   near = first_low c.args.reader.now.form c.args.reader.now.place c.requires.place;
   few = omega arith;
   same = refl;
@@ -39,12 +41,14 @@ records-preserved g c =
     let packet : read_record c.link.result c.body.result.now ≡ read_record reader.link reader.body =
     ap (λ l. read_record l c.body.result.now) c.link.ensures ∙ ap (λ b. read_record reader.link b) c.body.ensures in
     let count : number + 1 ≡ length so.newest + 1 = ap (λ n. n + 1) (sym so.count) in
-    let pushed : c.push.new.self.items ≡ c.records.stamps.items ++ stamp ∷ [] = search rules in
     let heard = c.in-Ok.ensures.heard ws (subst (λ (n : ℕ). IsWatchOf n c.records.watch ws) before_number so.heard) in
     record {
-      so = so_far_on so reader stamp c.take.new.self c.push.new.self.items found
+      all = before.all ++ stamp ∷ [];
+      so = so_far_on so reader stamp c.take.new.self (before.all ++ stamp ∷ []) found
           (subst (λ (n : ℕ). IsWatchOf (number + 1) c.take.new.self (with_record assets n (read_record reader.link reader.body) ws)) count
-          (subst (λ (p : Result PacketValue PacketRefusal). IsWatchOf (number + 1) c.take.new.self (with_record assets (number + 1) p ws)) packet heard)) pushed;
+          (subst (λ (p : Result PacketValue PacketRefusal). IsWatchOf (number + 1) c.take.new.self (with_record assets (number + 1) p ws)) packet heard)) refl;
+      kept = λ keeps. let pushed : c.keep_stamp.new.kept.items ≡ c.records.kept.items ++ stamp ∷ [] = search rules in
+          pushed ∙ ap (λ (xs : List ℕ). xs ++ stamp ∷ []) (before.kept keeps);
       near = omega (arith, c.if-place-gt-CAPTURE_LIMIT.false, c.place.ensures);
       few = omega (arith, before.few, read.on);
       same = read.same ∙ before.same;
@@ -66,7 +70,7 @@ returns-in-End-clause-watched g c =
     let before = c.records.invariant in
     let stands = subst (λ (content : List ℕ → Content). StandsBehind (content c.args.name.now) c.records.reader c.next.new.self.place FileEnd) before.same
     (stands_end (g.F.Files.content c.records.files c.args.name.now) c.records.reader c.next.new.self c.in-End.ensures.found) in
-    is_recording before.so c.next.new.self.place c.requires.short stands
+    (before.all, is_recording before.so c.next.new.self.place c.requires.short stands, before.kept)
 
 pub returns-in-End-clause-for_assets : goal.returns-in-End-clause-for_assets
 returns-in-End-clause-for_assets g c = for_assets c.records.invariant.so

@@ -1,4 +1,5 @@
-use Rattle.std.proofs.Common.{◌≡◌, ◌-◌, ◌^◌, ◌≤◌}
+use Rattle.std.proofs.Common.{◌≡◌, ◌-◌, ◌^◌, ◌≤◌, ℕ, List}
+use Rattle.cf_watch.specs.declared.reading.Stamps.TheVariants as stamps
 use Rattle.cf_watch.proofs.SoFar.{SoFar}
 use Rattle.cf_watch.proofs.reading.watch_records.Given as goal
 
@@ -6,7 +7,9 @@ abbrev pub invariant-records : goal.invariant-records
 invariant-records g l =
     let content = g.F.Files.content in
     record {
-      so : SoFar l.assets (content l.fn.files l.name) l.fn.reader.form l.reader l.number l.watch l.stamps.items;
+      all : List ℕ;
+      so : SoFar l.assets (content l.fn.files l.name) l.fn.reader.form l.reader l.number l.watch all;
+      kept : l.stamps ≡ stamps.Kept → l.kept.items ≡ all;
       near : l.reader.place ≤ 67108864;
       few : l.number ≤ l.reader.place;
       same : content l.files ≡ content l.fn.files;

@@ -21,7 +21,7 @@ returns c =
     let trail = c.hear.new.trail in
     let first : Watched = record { client = packet.source; asset = c.args.asset; origin = packet.seq; answered = false; carried = [] } in
     let one = begun_by number c.args.asset packet in
-    let is = c.in_ok-hear.ensures.heard first (heard_first _ _ packet.source c.args.asset packet.seq refl refl c.new.ensures.items c.new-2.ensures.items refl refl refl refl c.new-3.ensures.empty) in
+    let is = c.in_ok-hear.ensures.heard first (heard_first _ _ packet.source c.args.asset packet.seq refl refl c.new.ensures.items c.new-2.ensures refl refl refl refl c.new-3.ensures.empty) in
     let low : trail.top ≤ (number - 1 + 1) * 2 ^ 32 = omega (arith, c.in_ok-hear.ensures.low, c.requires.number.0) in
     let updates : (q : FlowKey) → get key_cmp new.last q ≡ cond (is_eq (key_cmp (key_of one.client one.asset) q)) (Some (length old.flows.items)) (get key_cmp old.last q) =
     λ q. c.in_ok-add.ensures.last q
