@@ -8,7 +8,7 @@ use Rattle.cf_refusals.specs.Told.{RefusedAreTold}
 use Rattle.cf_run.specs.Fixed.{RecordsFixRuns}
 use Rattle.cf_run.specs.Isolation.{RunsIsolateSessions}
 use Rattle.cf_run.specs.Records.{HaveOneTimedList}
-use Rattle.cf_selfjudged.specs.SelfJudged.{RunsAreUnobjected}
+use Rattle.cf_selfjudged.specs.SelfJudged.{RunsAreUnobjected, WatchedRunsAreUnobjected}
 
 pub record HasLaws : Type 0 where
   -- what a session of a run sends and logs is fixed by its own packets and their moments
@@ -30,8 +30,10 @@ pub record HasLaws : Type 0 where
   pub lines_owned : EachLogged
   pub records_alike : AlikeInRecords
   pub lines_alike : AlikeInLines
-  -- whatever a run sends, no judgement of its output capture under the run's own policy has an objection
+  -- whatever a run sends, no judgement of the flows of its output capture under the run's own policy has an objection; so it is of the
+  -- flows that a watcher tells of the file
   pub unobjected : RunsAreUnobjected
+  pub watched_unobjected : WatchedRunsAreUnobjected
   -- each refused command has its line and, but in three cases, its reply
   pub told : RefusedAreTold
   -- two runs of one policy over the same records have the same outputs and counts

@@ -78,7 +78,7 @@ found_among (a ∷ assets) endpoint asset h = by (λ e. found_among assets endpo
     by more false e = let there = more e in (suc there.0, there.1)
 
 -- an asset that is found at an endpoint stands there
-found_there : (assets : List Asset) (endpoint : Endpoint) (asset : Asset) → asset_at assets endpoint ≡ Some asset → asset.endpoint ≡ endpoint
+pub found_there : (assets : List Asset) (endpoint : Endpoint) (asset : Asset) → asset_at assets endpoint ≡ Some asset → asset.endpoint ≡ endpoint
 found_there [] endpoint asset h = cc
 found_there (a ∷ assets) endpoint asset h = by (λ e. found_there assets endpoint asset e) (same_endpoint a.endpoint endpoint) refl h
   where

@@ -13,6 +13,7 @@ use Rattle.cf_run.specs.Table.{is_opening}
 use Rattle.cf_watch.specs.Watched.{Watched, begins_anew, carried_by, with_packet}
 use Rattle.cf_selfjudged.specs.OneFlow.{Numbered, carried_on}
 use Rattle.cf_selfjudged.specs.Order.{SynsFirst}
+use Rattle.cf_selfjudged.proofs.Others.{and_left, and_right, number_is}
 use Rattle.cf_selfjudged.specs.PairFlows.{GoesTo, IsOfSession, IsSpoken, Spoken, pair_on, pairs_on, sessions_on}
 
 abbrev AreSilent : List Carried → Type 0
@@ -90,14 +91,6 @@ record Begins (asset : ℕ) (flow : Flow) (n : Numbered) (fs : List Watched) (P 
   silent : AreSilent from.carried
   others : AllByRecursion P older
 
-and_left : (a b : Bool) → (a && b) ≡ true → a ≡ true
-and_left true b h = refl
-and_left false b h = h
-
-and_right : (a b : Bool) → (a && b) ≡ true → b ≡ true
-and_right true b h = h
-and_right false b h = absurd (false≢true h)
-
 not_true : (a : Bool) → not a ≡ true → a ≡ false
 not_true true h = absurd (false≢true h)
 not_true false h = refl
@@ -105,9 +98,6 @@ not_true false h = refl
 not_false : (a : Bool) → not a ≡ false → a ≡ true
 not_false true h = refl
 not_false false h = absurd (true≢false h)
-
-equal_number : (a b : ℕ) → (a == b) ≡ true → a ≡ b
-equal_number a b e = grind (arith, nat_tests, e)
 
 abbrev HeadIsQuiet : List Watched → Type 0
 HeadIsQuiet [] = Unit {0}
@@ -132,7 +122,7 @@ begins asset flow n (f ∷ fs) P e q h =
             from = f;
             older = fs;
             are = rw on refl;
-            origin = sym (equal_number n.packet.seq f.origin (and_left (n.packet.seq == f.origin) _ same)) ∙ number;
+            origin = sym (number_is n.packet.seq f.origin (and_left (n.packet.seq == f.origin) _ same)) ∙ number;
             unanswered = quiet;
             silent = q quiet;
             others = h.1;

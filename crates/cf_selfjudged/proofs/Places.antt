@@ -5,7 +5,7 @@ use Rattle.std.specs.List.{position_or_len}
 use Rattle.std.proofs.lemmas.Bool.{cases_Bool, true≢false}
 use Rattle.std.proofs.lemmas.Bool.Decides.{nat_tests}
 use Rattle.std.proofs.lemmas.Option.{none-some, same_Some}
-use Rattle.cf_isolation.proofs.Tables.{same_is}
+use Rattle.cf_isolation.proofs.Tables.{found_there}
 use Rattle.cf_policy.specs.declared.Asset.{Asset}
 use Rattle.cf_run.specs.Entries.{asset_place}
 use Rattle.cf_run.specs.Table.{asset_at, has_asset_at, same_endpoint}
@@ -42,15 +42,6 @@ pub place_has : (assets : List Asset) (e : Endpoint) (k : ℕ) → asset_place a
 place_has [] e k h = cc
 place_has (a ∷ assets) e k h =
     has_by assets a e k _ (asset_place assets e) (place_has assets e) refl (sym (place_by (λ (x : Asset). same_endpoint x.endpoint e) a assets _ refl) ∙ h)
-
-there_by : (assets : List Asset) (x : Asset) (e : Endpoint) (a : Asset) (b : Bool) → (asset_at assets e ≡ Some a → a.endpoint ≡ e) → same_endpoint x.endpoint e ≡ b → cond b (Some x) (asset_at assets e) ≡ Some a →
-    a.endpoint ≡ e
-there_by assets x e a true more is g = subst (λ (y : Asset). y.endpoint ≡ e) (same_Some x a g) (same_is x.endpoint e is)
-there_by assets x e a false more is g = more g
-
-pub found_there : (assets : List Asset) (e : Endpoint) (a : Asset) → asset_at assets e ≡ Some a → a.endpoint ≡ e
-found_there [] e a h = absurd (none-some a h)
-found_there (x ∷ assets) e a h = there_by assets x e a _ (found_there assets e a) refl h
 
 none_by : (assets : List Asset) (a : Asset) (e : Endpoint) (b : Bool) → (has_asset_at assets e ≡ false → asset_place assets e ≡ None) → same_endpoint a.endpoint e ≡ b → has_asset_at (a ∷ assets) e ≡ false →
     asset_place (a ∷ assets) e ≡ None

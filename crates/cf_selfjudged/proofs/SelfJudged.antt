@@ -1,6 +1,6 @@
 -- The flows of a run's output capture have no objection.
 use Rattle.std.proofs.Common.{◌≡◌, ℕ, ◌+◌, ◌≤◌, ◌^◌, ◌==◌, Bool, true, false, List, [], ◌∷◌, ◌++◌, cond, if◌then◌else◌, map, slice_get, Some, None, option_map, Result, Ok, refl, sym, ap, ◌∙◌, subst, arith}
-use Rattle.std.specs.Prelude.{drop, filter}
+use Rattle.std.specs.Prelude.{drop, filter, length, reverse}
 use Rattle.std.specs.List.{AllByRecursion}
 use Rattle.std.proofs.lemmas.Bool.Decides.{nat_tests}
 use Rattle.cf_isolation.proofs.Lists.{all_front, all_map}
@@ -9,7 +9,7 @@ use Rattle.cf_judge.specs.Plain.{AreRead, Whole}
 use Rattle.cf_packet.specs.Packet.{PacketValue}
 use Rattle.cf_policy.specs.declared.Asset.{Asset}
 use Rattle.cf_readback.specs.ReadBack.{ReadsAs, RunsAreReadBack, output_form, record_by}
-use Rattle.cf_run.specs.Capture.{AreRecords}
+use Rattle.cf_run.specs.Capture.{AreRecords, FileEnd, LastPlace}
 use Rattle.cf_run.specs.Form.{first_place, form_of}
 use Rattle.cf_run.specs.declared.FormRefusal.{FormRefusal}
 use Rattle.cf_run.specs.Records.{HaveOneList}
@@ -26,7 +26,7 @@ use Rattle.cf_watch.specs.Watched.{Watched, is_between}
 use Rattle.cf_selfjudged.specs.Heard.{WatchedAreHeard, numbered_from}
 use Rattle.cf_selfjudged.specs.OneFlow.{HasNoObjection, Numbered, OneFlowIsUnobjected}
 use Rattle.cf_selfjudged.specs.PairFlows.{IsOfSession, sessions_on}
-use Rattle.cf_selfjudged.specs.SelfJudged.{RunsAreUnobjected}
+use Rattle.cf_selfjudged.specs.SelfJudged.{RunsAreUnobjected, WatchedRunsAreUnobjected}
 use Rattle.cf_selfjudged.specs.Separate.{FlowsAreOfTheirPackets, goes_to_place, heard_on, is_to, pair_of}
 use Rattle.cf_selfjudged.specs.Speaks.{SessionsSpeak}
 use Rattle.cf_selfjudged.proofs.Built.{IsTheirs, build, sessions_found}
@@ -127,14 +127,23 @@ form_is : (x : Result Form FormRefusal) (a b : Form) → x ≡ Ok a → x ≡ Ok
 form_is x a b h g = cc
 
 pub self_judged : OneFlowIsUnobjected → SessionsSpeak → SessionsAreRight → FlowsAreOfTheirPackets → WatchedAreHeard → ReadingsAreOne → RunsAreReadBack → HaveOneList → RunsAreUnobjected
-self_judged one speaks law theirs heard readings_one back one_list assets limit given out log summary run small moments octets flows watches j judgement =
+self_judged one speaks law theirs heard readings_one back one_list assets limit given out log summary run small time newest has flows of_records j judgement =
     let all = sent run.events in
-    let ends = watches.ends in
-    let reads : ReadsAs out all = back assets limit given out log summary run moments octets (let short = ends.short in omega (arith, short)) in
-    let same : ends.form ≡ output_form = form_is (form_of out) ends.form output_form ends.has_form reads.has_form in
-    let has : AreRecords output_form 24 (drop 24 out) ends.records (record { place = watches.place; found = _ }) = subst (λ f. AreRecords f (first_place f) (drop (first_place f) out) ends.records (record { place = watches.place; found = _ })) same ends.are_records in
-    let records = (one_list output_form 24 (drop 24 out) ends.records (map record_by all) _ reads.last has reads.are).0 in
-    let ws = heard assets watches.newest all (sym watches.are_newest ∙ records) reads.packets in
-    let of : AreFlowsOf (heard_on assets (numbered_from 1 all) []) flows = subst (λ l. AreFlowsOf l flows) ws watches.are_flows in
+    let reads : ReadsAs out all = back assets limit given out log summary run time.moments time.octets time.size in
+    let records = (one_list output_form 24 (drop 24 out) (reverse newest) (map record_by all) has.0 reads.last has.1 reads.are).0 in
+    let ws = heard assets newest all records reads.packets in
+    let of : AreFlowsOf (heard_on assets (numbered_from 1 all) []) flows = subst (λ l. AreFlowsOf l flows) ws of_records in
     let of_readings = subst (AreFlowsOf (heard_on assets (numbered_from 1 all) [])) (sym judgement.of_flows) of in
     judgement.objection ∙ none_of readings_one assets (heard_on assets (numbered_from 1 all) []) judgement.readings (all_fine one speaks law theirs assets limit small run.events run.are) of_readings judgement.are_read
+
+-- the file that holds them has the form that is written
+pub watched_judged : RunsAreReadBack → RunsAreUnobjected → WatchedRunsAreUnobjected
+watched_judged back law assets limit given out log summary run small moments octets flows watches j judgement =
+    let ends = watches.ends in
+    let few : length out ≤ 2 ^ 40 = (let short = ends.short in omega (arith, short)) in
+    let reads = back assets limit given out log summary run moments octets few in
+    let same : ends.form ≡ output_form = form_is (form_of out) ends.form output_form ends.has_form reads.has_form in
+    let last : LastPlace = record { place = watches.place; found = FileEnd } in
+    let are : AreRecords output_form 24 (drop 24 out) ends.records last = subst (λ f. AreRecords f (first_place f) (drop (first_place f) out) ends.records last) same ends.are_records in
+    law assets limit given out log summary run small (record { moments = moments; octets = octets; size = few }) watches.newest
+    (last, subst (λ rs. AreRecords output_form 24 (drop 24 out) rs last) watches.are_newest are) flows watches.are_flows j judgement

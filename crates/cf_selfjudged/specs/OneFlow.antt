@@ -43,5 +43,5 @@ pub record HasNoObjection (flow : Flow) (carried : List Carried) : Type 0 where
 
 abbrev pub OneFlowIsUnobjected : Type 0
 OneFlowIsUnobjected =
-    (flow : Flow) (limit : ℕ) (events : List SessionEvent) (carried : List Carried) → limit ≤ 2 ^ 30 → AreEvents flow limit events → AreUncutBefore events →
-    CarriedSession flow events carried → HasNoObjection flow carried
+    (flow : Flow) (limit : ℕ) (events : List SessionEvent) (carried : List Carried) → limit ≤ 2 ^ 30 → AreEvents flow limit events →
+    AreUncutBefore events → CarriedSession flow events carried → HasNoObjection flow carried

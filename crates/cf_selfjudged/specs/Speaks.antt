@@ -14,5 +14,6 @@ pub record SpeaksAs (flow : Flow) (events : List SessionEvent) (heard : List Num
 
 abbrev pub SessionsSpeak : Type 0
 SessionsSpeak =
-    (flow : Flow) (limit : ℕ) (event : SessionEvent) (earlier : List SessionEvent) (heard : List Numbered) → AreEvents flow limit (event ∷ earlier) →
-    map (λ n. n.packet) heard ≡ packets_of (controllers (event ∷ earlier)) → SpeaksAs flow (event ∷ earlier) heard
+    (flow : Flow) (limit : ℕ) (event : SessionEvent) (earlier : List SessionEvent) (heard : List Numbered) →
+    AreEvents flow limit (event ∷ earlier) → map (λ n. n.packet) heard ≡ packets_of (controllers (event ∷ earlier)) →
+    SpeaksAs flow (event ∷ earlier) heard

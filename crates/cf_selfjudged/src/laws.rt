@@ -2,7 +2,7 @@
 ghost use Rattle.cf_selfjudged.specs.Carried.{SegmentsCarryOneStream};
 ghost use Rattle.cf_selfjudged.specs.Heard.{WatchedAreHeard};
 ghost use Rattle.cf_selfjudged.specs.OneFlow.{OneFlowIsUnobjected};
-ghost use Rattle.cf_selfjudged.specs.SelfJudged.{RunsAreUnobjected};
+ghost use Rattle.cf_selfjudged.specs.SelfJudged.{RunsAreUnobjected, WatchedRunsAreUnobjected};
 ghost use Rattle.cf_selfjudged.specs.Separate.{FlowsAreOfTheirPackets};
 ghost use Rattle.cf_selfjudged.specs.Speaks.{SessionsSpeak};
 
@@ -50,9 +50,11 @@ fn watched_are_heard()
     ensures { WatchedAreHeard }
 {}
 
-/// Whatever a run of a policy over records in time sends, every judgement of its output capture under that policy has no objection.
+/// Whatever a run of a policy over records in time sends, every judgement of the flows of its output capture under that policy has no
+/// objection; so it is of the flows that a watcher tells of a file that holds it.
 pub fn runs_are_unobjected()
-    ensures { RunsAreUnobjected }
+    ensures records { RunsAreUnobjected }
+    ensures watched { WatchedRunsAreUnobjected }
 {
     one_flow_is_unobjected();
     sessions_speak();

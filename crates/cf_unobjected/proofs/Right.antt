@@ -51,10 +51,7 @@ use Rattle.cf_lane.specs.declared.fate.Fate.TheVariants as fate
 use Rattle.cf_audit.specs.declared.line.Why.TheVariants as why
 use Rattle.cf_view.specs.declared.Side.TheVariants as side
 use Rattle.cf_unobjected.specs.Passed.{IsRight}
-
-all_append : {X : Type 0} (P : X → Type 0) (xs ys : List X) → AllByRecursion P xs → AllByRecursion P ys → AllByRecursion P (xs ++ ys)
-all_append P [] ys a b = b
-all_append P (x ∷ xs) ys a b = (a.0, all_append P xs ys a.1 b)
+use Rattle.cf_unobjected.proofs.Dnp3.{all_both}
 
 fits_by : (octets xs : List ℕ) (b : Bool) → nat_le (length octets) 2048 ≡ b → (if b then Some octets else None) ≡ Some xs → length xs ≤ 2048
 fits_by octets xs true e h =
@@ -232,5 +229,5 @@ module _ (asset : Asset) (client : ℕ) (says : Says) (allows : Allows says (ver
 pub all_right : (asset : Asset) (client : ℕ) (earlier js : List Judged) → HaveFates asset client earlier js → AllByRecursion (IsRight asset client) (in_turn (λ before j. passed_by asset before j j.item) earlier js)
 all_right asset client earlier [] h = tt
 all_right asset client earlier (j ∷ js) h =
-    all_append (IsRight asset client) _ _ (by_item asset client (says_at asset client earlier j.moment) (says_allows asset client earlier j.moment) earlier j j.item h.0)
+    all_both (IsRight asset client) _ _ (by_item asset client (says_at asset client earlier j.moment) (says_allows asset client earlier j.moment) earlier j j.item h.0)
     (all_right asset client (earlier ++ j ∷ []) js h.1)

@@ -7,5 +7,5 @@ use Rattle.cf_policy.specs.declared.Asset.{Asset}
 -- two readings of the same octets, which came with the same records, have the same units, fates and ending
 abbrev pub ReadingsAreOne : Type 0
 ReadingsAreOne =
-    (asset : Asset) (client : ℕ) (bytes born : List ℕ) (js ks : List Judged) (ending other : Ending) → AreRead asset client [] bytes born js ending →
-    AreRead asset client [] bytes born ks other → (js ≡ ks) × (ending ≡ other)
+    (asset : Asset) (client : ℕ) (bytes born : List ℕ) (js ks : List Judged) (ending other : Ending) →
+    AreRead asset client [] bytes born js ending → AreRead asset client [] bytes born ks other → (js ≡ ks) × (ending ≡ other)
