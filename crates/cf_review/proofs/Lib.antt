@@ -1,4 +1,5 @@
 mod First
 mod Ordering
 mod Reading
+mod Rising
 mod Writing

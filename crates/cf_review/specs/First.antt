@@ -7,7 +7,10 @@ use Rattle.cf_judge.specs.declared.Complaint.{Complaint}
 use Rattle.cf_judge.specs.declared.Complaint.TheVariants as complaint
 use Rattle.cf_judge.specs.declared.Objection.{Objection}
 use Rattle.cf_policy.specs.declared.Asset.{Asset}
+use Rattle.cf_run.specs.Capture.{Record}
+use Rattle.cf_watch.specs.Flow.{AreFlowsOf}
 use Rattle.cf_watch.specs.FlowValue.{FlowValue}
+use Rattle.cf_watch.specs.Watched.{watched}
 use Rattle.cf_review.specs.Remark.{Broken, Conflict, MatterValue, Refused, RemarkValue, Stray}
 use Rattle.cf_review.specs.Review.{AreInOrder, remarks_on}
 
@@ -29,6 +32,11 @@ first_of (r ∷ rs) = Some r
 pub record IsRising (f : FlowValue) : Type 0 where
   pub count : length f.born ≡ length f.bytes
   pub rises : IsNonDecreasingBy (λ n. n) f.born
+
+-- so it is of the flows of each capture
+abbrev pub BytesComeInOrder : Type 0
+BytesComeInOrder =
+    (assets : List Asset) (newest : List Record) (flows : List FlowValue) → AreFlowsOf (watched assets newest) flows → AllByRecursion IsRising flows
 
 -- of flows that are read so, the judge's objection is the first remark of a review
 abbrev pub JudgeTellsTheFirst : Type 0
