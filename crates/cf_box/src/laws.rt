@@ -8,6 +8,7 @@ use cf_isolation::{
 use cf_pcapng::{calls_give_blocks, files_have_one_list_of_blocks};
 use cf_readback::runs_are_read_back;
 use cf_refusals::refused_commands_are_told;
+use cf_review::{bytes_come_in_order, judge_tells_the_first};
 use cf_run::{octets_have_one_list_of_records, records_fix_runs, runs_isolate_sessions};
 use cf_selfjudged::runs_are_unobjected;
 
@@ -25,6 +26,8 @@ pub(crate) fn laws_hold()
     sessions_own_their_lines();
     alike_sessions_own_the_same();
     runs_are_unobjected();
+    bytes_come_in_order();
+    judge_tells_the_first();
     refused_commands_are_told();
     records_fix_runs();
     octets_have_one_list_of_records();
