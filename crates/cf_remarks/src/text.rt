@@ -25,7 +25,8 @@ const FOREIGN: &str = " did not go between a client and an asset of POLICY: \
 
 const REST: &str = " came behind a cut, long behind a closing, or for a session that was not begun";
 
-const REVIEW: &str = "for a recording from a span port or a host use 'cmdwall review POLICY CAPTURE LOG' \
+const REVIEW: &str =
+    "for a recording from a span port or a host use 'cmdwall review POLICY CAPTURE LOG' \
     (docs/REVIEW.md)";
 
 const FULL: &str = " would have begun a session while 256 others were open, and began none";
