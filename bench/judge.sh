@@ -1,8 +1,8 @@
 #!/usr/bin/env bash
-# The processor time of `cmdwall judge` on captures of Modbus round trips and of DNP3 polls, beside that of `tcpdump -n -r` and of
-# `tshark` with a display filter that finds the same function codes, on the same file in the same run (each left out where it is
-# missing), and its memory beside the text that the flows carry. Ratios, and no promise. Words: the numbers of round trips (300,000)
-# and of polls (200,000).
+# The processor time of `cmdwall judge` and `cmdwall review` on captures of Modbus round trips and of DNP3 polls, beside that of
+# `tcpdump -n -r` and of `tshark` with a display filter that finds the same function codes, on the same file in the same run (each left
+# out where it is missing), and the memory of `judge` beside the text that the flows carry. Ratios, and no promise. Words: the numbers of
+# round trips (300,000) and of polls (200,000).
 set -eu
 top=$(cd "$(dirname "$0")/.." && pwd)
 work=$(mktemp -d)
@@ -87,6 +87,8 @@ def memory(words):
 for what, count, codes, (path, sent) in [("round trips of Modbus", trips, "modbus.func_code == 6", capture("modbus", pump, writes())),
                                          ("polls of DNP3", polls, "dnp3.al.func == 1", capture("dnp3", outstation, reads()))]:
     words = [program, "judge", policy, path]
+    reviewed, spread = took([program, "review", policy, path, os.path.join(work, "log")])
+    print(f"review   {reviewed:.3f} s (spread {spread:.3f})")
     ours, spread = took(words)
     with open(os.path.join(work, "printed")) as printed:
         said = printed.read()
@@ -98,7 +100,7 @@ for what, count, codes, (path, sent) in [("round trips of Modbus", trips, "modbu
         print(f"memory   {held:,} octets, {held / sent:.1f} times the {sent:,} octets that the client sent")
     if shutil.which("tcpdump"):
         other, spread = took(["tcpdump", "-n", "-r", path])
-        print(f"tcpdump  {other:.3f} s (spread {spread:.3f}): judge takes {ours / other:.2f} times as much")
+        print(f"tcpdump  {other:.3f} s (spread {spread:.3f}): judge takes {ours / other:.2f} times as much, review {reviewed / other:.2f}")
     else:
         print("tcpdump is missing here, and was left out")
     if shutil.which("tshark"):

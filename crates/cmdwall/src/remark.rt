@@ -61,6 +61,18 @@ pub(crate) fn remark_on_dropped<R: FileSystem + Eprint + AllocGlobal>(
     }
 }
 
+/// Says that a capture has no connection to an asset from its beginning on; and why no record is a packet, where that is so.
+pub(crate) fn remark_on_nothing<R: FileSystem + Eprint + AllocGlobal>(
+    rt: &R,
+    capture: &str,
+    files: &mut RealFiles<'_, R>,
+) -> io::Result<()> {
+    eprintln!(rt;
+        "cmdwall: note: no connection to an asset of POLICY begins in CAPTURE: no SYN goes to an asset's address and port"
+    )?;
+    remark_on_dropped(rt, capture, files)
+}
+
 /// Says what each client sent in a capture that a policy was learned from, and what was left out; or why no record is a packet.
 pub(crate) fn remark_on_learned<R: FileSystem + Eprint + AllocGlobal>(
     rt: &R,
