@@ -186,7 +186,7 @@ are not used. Standard output has 'yes', with the numbers of flows and of comman
 allows, with status 0; or, with status 15, 'no' and the first objection: the number of its
 record, the client, the asset, and one of
 
-  conflict POSITION     two packets carry different letters at one position of the flow
+  conflict POSITION     two packets carry different bytes at one position of the flow
   broken WHY            the bytes are no units of the protocol
   refused RULE REASON   a command that POLICY refuses
   stray WHY             a frame, segment or fragment of DNP3 that belongs to nothing
@@ -215,7 +215,7 @@ was whole, the client, the asset, and one of
   refuse RULE REASON code C group G point X value V unanswered HEX   (docs/LOG.md)
   stray client WHY      a frame, segment or fragment of DNP3 that belongs to nothing
   broken WHY            the bytes are no units of the protocol; the flow is read up to here
-  conflict POSITION     two packets carry different letters at one position of the flow
+  conflict POSITION     two packets carry different bytes at one position of the flow
 
 Standard output has the numbers of flows, of commands, of those that POLICY allows and refuses,
 by what refuses them, and of the other lines. The status is 0 where there is no line, and 15
