@@ -18,6 +18,9 @@ pub data WhatValue : Type 0 where
   Partial : Side → (count : ℕ) → WhatValue
   Close : (admitted refused : ℕ) → WhatValue
   Cut : CutReason → WhatValue
+  Listen Full Unreached : WhatValue
+  Lost Silent : (admitted refused : ℕ) → WhatValue
+  NoMemory : WhatValue
 
 pub record LineValue : Type 0 where
   pub moment : ℕ
@@ -33,6 +36,12 @@ what_value (what.Stray side why) = Stray side why
 what_value (what.Partial side count) = Partial side count
 what_value (what.Close admitted refused) = Close admitted refused
 what_value (what.Cut reason) = Cut reason
+what_value what.Listen = Listen
+what_value what.Full = Full
+what_value what.Unreached = Unreached
+what_value (what.Lost admitted refused) = Lost admitted refused
+what_value (what.Silent admitted refused) = Silent admitted refused
+what_value what.NoMemory = NoMemory
 
 abbrev pub line_value : Line → LineValue
 line_value line = record { moment = line.moment; client = line.client; asset = line.asset.now; what = what_value line.what }
@@ -45,6 +54,12 @@ HasShortRule (Stray side why) = Unit {0}
 HasShortRule (Partial side count) = Unit {0}
 HasShortRule (Close admitted refused) = Unit {0}
 HasShortRule (Cut reason) = Unit {0}
+HasShortRule Listen = Unit {0}
+HasShortRule Full = Unit {0}
+HasShortRule Unreached = Unit {0}
+HasShortRule (Lost admitted refused) = Unit {0}
+HasShortRule (Silent admitted refused) = Unit {0}
+HasShortRule NoMemory = Unit {0}
 
 abbrev pub HasShortNames : LineValue → Type 0
 HasShortNames line = (length line.asset ≤ NAME_LIMIT) × HasShortRule line.what

@@ -4,7 +4,7 @@ use Rattle.std.specs.Fmt.{signed_decimal}
 use Rattle.hex.specs.Hex.{encode_lower}
 use Rattle.cf_view.specs.Text.{endpoint_text, moment_text}
 use Rattle.cf_view.specs.declared.Act.{Act}
-use Rattle.cf_audit.specs.Line.{LineValue, WhatValue, Begun, Refuse, Stray, Partial, Close, Cut}
+use Rattle.cf_audit.specs.Line.{LineValue, WhatValue, Begun, Refuse, Stray, Partial, Close, Cut, Listen, Full, Unreached, Lost, Silent, NoMemory}
 use Rattle.cf_audit.specs.Names.{side_name, reason_name, why_name, break_name, mark}
 use Rattle.cf_audit.specs.declared.line.CutReason.{CutReason}
 use Rattle.cf_audit.specs.declared.line.CutReason.TheVariants as cut
@@ -33,6 +33,10 @@ cut_text (cut.NoAnswer side) = side_name side ++ codes " noanswer"
 cut_text cut.ResetByClient = codes "client reset"
 cut_text cut.ResetByController = codes "controller reset"
 
+-- numbers of commands
+abbrev pub counts_text : (admitted refused : ℕ) → List ℕ
+counts_text admitted refused = codes " admitted " ++ decimal admitted ++ codes " refused " ++ decimal refused
+
 -- what happened
 abbrev pub what_text : WhatValue → List ℕ
 what_text Begun = codes "open"
@@ -41,8 +45,14 @@ what_text (Refuse rule reason act replied unit) =
     ++ encode_lower (take 16 unit)
 what_text (Stray side why) = codes "stray " ++ side_name side ++ codes " " ++ why_name why
 what_text (Partial side count) = codes "partial " ++ side_name side ++ codes " " ++ decimal count
-what_text (Close admitted refused) = codes "close admitted " ++ decimal admitted ++ codes " refused " ++ decimal refused
+what_text (Close admitted refused) = codes "close" ++ counts_text admitted refused
 what_text (Cut reason) = codes "cut " ++ cut_text reason
+what_text Listen = codes "listen"
+what_text Full = codes "full"
+what_text Unreached = codes "unreached"
+what_text (Lost admitted refused) = codes "lost" ++ counts_text admitted refused
+what_text (Silent admitted refused) = codes "silent" ++ counts_text admitted refused
+what_text NoMemory = codes "nomemory"
 
 -- a moment, the client, the asset and what happened; a line feed ends it
 abbrev pub line_text : LineValue → List ℕ

@@ -5,4 +5,4 @@ mod line;
 mod write;
 
 pub use line::{CutReason, Line, NAME_LIMIT, What, Why};
-pub use write::{push_cut, write_line};
+pub use write::{break_word, push_cut, reason_word, why_word, write_line};

@@ -83,6 +83,24 @@ pub enum What<'a> {
     },
     /// A session was cut.
     Cut(CutReason),
+    /// A service began to listen for an asset.
+    Listen,
+    /// A client took the last place that its asset, or the service, had.
+    Full,
+    /// A client came and its controller took no connection.
+    Unreached,
+    /// A connection of a session failed, with the session's numbers of commands.
+    Lost {
+        admitted: u64,
+        refused: u64,
+    },
+    /// Nothing moved in a session for too long, with its numbers of commands.
+    Silent {
+        admitted: u64,
+        refused: u64,
+    },
+    /// Memory was wanting for a session.
+    NoMemory,
 }
 
 /// A line of the log.

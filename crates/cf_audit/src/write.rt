@@ -2,9 +2,9 @@
 ghost use Rattle.std.specs.Prelude.{◌≡◌, ◌+◌, ◌≤◌, ◌++◌, length};
 ghost use Rattle.arrayvec.specs.ArrayString.{array_string_len};
 ghost use Rattle.cf_audit.specs.declared.line.TheConstants.{NAME_LIMIT};
-ghost use Rattle.cf_audit.specs.Line.{Close, HasShortNames, HasShortRule, Refuse, line_value, what_value};
+ghost use Rattle.cf_audit.specs.Line.{HasShortNames, HasShortRule, Refuse, line_value, what_value};
 ghost use Rattle.cf_audit.specs.Names.{break_name, mark, reason_name, side_name, why_name};
-ghost use Rattle.cf_audit.specs.Text.{act_text, cut_text, line_text, what_text};
+ghost use Rattle.cf_audit.specs.Text.{act_text, counts_text, cut_text, line_text, what_text};
 
 use crate::line::{CutReason, Line, What, Why};
 use arrayvec::ArrayString;
@@ -23,7 +23,8 @@ fn side_word(side: Side) -> &'static str
     }
 }
 
-fn reason_word(reason: Reason) -> &'static str
+/// Why a command was refused, as the log spells it. This project's own words.
+pub fn reason_word(reason: Reason) -> &'static str
     ensures name { result.now ≡ reason_name reason }
     ensures short { length result.now ≤ 8 }
 {
@@ -35,7 +36,8 @@ fn reason_word(reason: Reason) -> &'static str
     }
 }
 
-fn why_word(why: Why) -> &'static str
+/// Why a frame, segment or fragment was dropped, as the log spells it. This project's own words.
+pub fn why_word(why: Why) -> &'static str
     ensures name { result.now ≡ why_name why }
     ensures short { length result.now ≤ 9 }
 {
@@ -51,7 +53,8 @@ fn why_word(why: Why) -> &'static str
     }
 }
 
-fn break_word(reason: Break) -> &'static str
+/// Where bytes are no unit of the protocol, as the log spells it. This project's own words.
+pub fn break_word(reason: Break) -> &'static str
     ensures name { result.now ≡ break_name reason }
     ensures short { length result.now ≤ 11 }
 {
@@ -166,12 +169,12 @@ fn push_refusal<const N: usize>(
     push_hex(out, unit);
 }
 
-fn push_close<const N: usize>(out: &mut ArrayString<N>, admitted: u64, refused: u64)
-    requires { array_string_len out.old + 64 ≤ N }
-    ensures bytes { out.new.bytes ≡ out.old.bytes ++ what_text (Close admitted refused) }
-    ensures short { array_string_len out.new ≤ array_string_len out.old + 64 }
+fn push_counts<const N: usize>(out: &mut ArrayString<N>, admitted: u64, refused: u64)
+    requires { array_string_len out.old + 59 ≤ N }
+    ensures bytes { out.new.bytes ≡ out.old.bytes ++ counts_text admitted refused }
+    ensures short { array_string_len out.new ≤ array_string_len out.old + 59 }
 {
-    out.push_str("close admitted ");
+    out.push_str(" admitted ");
     push_number(out, admitted);
     out.push_str(" refused ");
     push_number(out, refused);
@@ -204,11 +207,26 @@ fn push_what<const N: usize>(out: &mut ArrayString<N>, what: &What<'_>)
             out.push_str(" ");
             push_number(out, *count);
         }
-        What::Close { admitted, refused } => push_close(out, *admitted, *refused),
+        What::Close { admitted, refused } => {
+            out.push_str("close");
+            push_counts(out, *admitted, *refused);
+        }
         What::Cut(reason) => {
             out.push_str("cut ");
             push_cut(out, reason);
         }
+        What::Listen => out.push_str("listen"),
+        What::Full => out.push_str("full"),
+        What::Unreached => out.push_str("unreached"),
+        What::Lost { admitted, refused } => {
+            out.push_str("lost");
+            push_counts(out, *admitted, *refused);
+        }
+        What::Silent { admitted, refused } => {
+            out.push_str("silent");
+            push_counts(out, *admitted, *refused);
+        }
+        What::NoMemory => out.push_str("nomemory"),
     }
 }
 

@@ -1,5 +1,5 @@
 -- The lines of the log: one for each refused command, each stray frame, and bytes that are left at an end. This project's own.
-use Rattle.cf_audit.specs.Line.{Begun, Close, Cut, LineValue, Partial, Refuse, Stray, WhatValue}
+use Rattle.cf_audit.specs.Line.{Begun, Close, Cut, Full, LineValue, Listen, Lost, NoMemory, Partial, Refuse, Silent, Stray, Unreached, WhatValue}
 use Rattle.cf_audit.specs.Text.{line_text}
 use Rattle.cf_lane.specs.Dnp3.{frame_octets, is_fragment_unfinished}
 use Rattle.cf_lane.specs.Iec104.{apdu_octets}
@@ -84,6 +84,12 @@ HasPlainRule (Stray side why) = Unit {0}
 HasPlainRule (Partial side count) = Unit {0}
 HasPlainRule (Close admitted refused) = Unit {0}
 HasPlainRule (Cut reason) = Unit {0}
+HasPlainRule Listen = Unit {0}
+HasPlainRule Full = Unit {0}
+HasPlainRule Unreached = Unit {0}
+HasPlainRule (Lost admitted refused) = Unit {0}
+HasPlainRule (Silent admitted refused) = Unit {0}
+HasPlainRule NoMemory = Unit {0}
 
 abbrev pub HasPlainNames : LineValue → Type 0
 HasPlainNames line = (list_all is_name_byte line.asset ≡ true) × HasPlainRule line.what

@@ -8,7 +8,7 @@ mod writer;
 
 use crate::files::reader::{Reader, forget, opened, read_from};
 use crate::files::same::{Place, Use, first_twins, is_begun, is_printed, place_of};
-use crate::files::writer::{Writer, append_to, create_file, flush_all, flush_one};
+use crate::files::writer::{Writer, append_to, create_file, flush_all, flush_one, open_at_end};
 use cf_outside::{Files, ReadAnswer, WriteAnswer};
 pub use same::Twins;
 use std::alloc::Global;
@@ -202,6 +202,19 @@ impl<'a, R: FileSystem> RealFiles<'a, R> {
         self.note(name, Use::Begun)
     }
 
+    /// Makes a file ready to be gone on with, unless that is withheld.
+    fn open_kept(&mut self, name: &str) -> io::Result<()>
+        ensures reads { self.new.read_faults ≡ self.old.read_faults }
+        ensures writes { self.new.write_faults ≡ self.old.write_faults }
+    {
+        if let Some(withheld) = self.reason_against(name)? {
+            self.withheld = Some(withheld);
+            return Err(io::Error::from(io::ErrorKind::InvalidInput));
+        }
+        forget(&mut self.reader, name);
+        open_at_end(self.rt, self.alloc, &mut self.writers, name)
+    }
+
     /// Why a file is not made: two of the command's names are one file, its name is `-`, or what is printed goes there. A log that
     /// people follow may be printed.
     fn reason_against(&self, name: &str) -> io::Result<Option<Withheld>> {
@@ -274,6 +287,17 @@ impl<R: FileSystem> Files for RealFiles<'_, R> {
             name,
             bytes,
         ) {
+            Ok(()) => WriteAnswer::Done,
+            Err(error) => {
+                self.keep_fault(name, error);
+                self.write_faults = self.write_faults.saturating_add(1);
+                WriteAnswer::Failed
+            }
+        }
+    }
+
+    fn go_on(&mut self, name: &str) -> WriteAnswer {
+        match self.open_kept(name) {
             Ok(()) => WriteAnswer::Done,
             Err(error) => {
                 self.keep_fault(name, error);

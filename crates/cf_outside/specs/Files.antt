@@ -1,6 +1,6 @@
 -- What an object outside tells of a file, and what the calls on files do to it. The main definitions are `Content`, and
--- `ReadsAt`, `Creates` and `Appends`, one for each call; below them stand a file read whole and one written in pieces.
-use Rattle.std.specs.Prelude.{◌≡◌, ◌≢◌, ◌<◌, ◌≤◌, ◌⊎◌, ℕ, List, [], ◌++◌, length, take, drop}
+-- `ReadsAt`, `Creates`, `Appends` and `GoesOn`, one for each call; below them stand a file read whole and one written in pieces.
+use Rattle.std.specs.Prelude.{◌≡◌, ◌≢◌, ◌<◌, ◌≤◌, ◌==◌, ◌-◌, ◌⊎◌, ℕ, List, [], ◌∷◌, ◌++◌, length, take, drop, slice_get, unwrap_or, if◌then◌else◌}
 use Rattle.cf_outside.specs.declared.files.ReadAnswer.{ReadAnswer}
 use Rattle.cf_outside.specs.declared.files.ReadAnswer.TheVariants as read
 use Rattle.cf_outside.specs.declared.files.WriteAnswer.{WriteAnswer}
@@ -25,6 +25,16 @@ abbrev pub with_appended : Content → List ℕ → Content
 with_appended untold bytes = untold
 with_appended absent bytes = absent
 with_appended (holds all) bytes = holds (all ++ bytes)
+
+-- what a text needs at its end, so that its last line has its line feed
+abbrev pub missing_feed : List ℕ → List ℕ
+missing_feed all = if unwrap_or (slice_get all (length all - 1)) 10 == 10 then [] else 10 ∷ []
+
+-- a file that is gone on with, line by line
+abbrev pub content_gone_on : Content → Content
+content_gone_on untold = untold
+content_gone_on absent = holds []
+content_gone_on (holds all) = holds (all ++ missing_feed all)
 
 -- these bytes stand at that place
 abbrev pub HasAt : Content → ℕ → List ℕ → Type 0
@@ -57,6 +67,11 @@ Creates old new write.Failed = (new ≡ old) ⊎ (new ≡ content_after_create o
 abbrev pub Appends : List ℕ → Content → Content → WriteAnswer → Type 0
 Appends bytes old new write.Done = (old ≢ absent) × (new ≡ with_appended old bytes)
 Appends bytes old new write.Failed = (k : ℕ) × (new ≡ with_appended old (take k bytes))
+
+-- a file made ready to be gone on with; a call that failed may have done so all the same
+abbrev pub GoesOn : Content → Content → WriteAnswer → Type 0
+GoesOn old new write.Done = new ≡ content_gone_on old
+GoesOn old new write.Failed = (new ≡ old) ⊎ (new ≡ content_gone_on old)
 
 -- the file begins with these bytes
 abbrev pub BeginsWith : Content → List ℕ → Type 0

@@ -1,11 +1,11 @@
 -- What files in memory hold, and what the calls do to them. The main definitions are `MemoryFilesValue`, and `MemoryReads`,
--- `MemoryCreates` and `MemoryAppends`, one for each call.
+-- `MemoryCreates`, `MemoryAppends` and `MemoryGoesOn`, one for each call.
 use Rattle.std.specs.Prelude.{◌≡◌, ◌≢◌, ◌⊎◌, ◌≤◌, ℕ, min, Option, None, Some, IsSome, List, [], ◌++◌, length, take, drop}
 use Rattle.std.specs.declared.alloc.Global.{Global}
 use Rattle.std.specs.declared.vec.Vec.{Vec}
 use Rattle.std.specs.BTreeMap.{get_by_text}
 use Rattle.cf_outside.specs.Faults.{counted}
-use Rattle.cf_outside.specs.Files.{Content, untold, absent, holds, with_appended}
+use Rattle.cf_outside.specs.Files.{Content, untold, absent, holds, content_gone_on, with_appended}
 use Rattle.cf_outside.specs.Memory.{left_in}
 use Rattle.cf_outside.specs.declared.script.Fail.{Fail}
 use Rattle.cf_outside.specs.declared.memory_files.MemoryFiles.{MemoryFiles}
@@ -98,3 +98,13 @@ MemoryAppends name bytes old new write.Failed =
     ⊎ ((old.content name ≡ absent) × (new.content name ≡ absent) × (new ≡ with_write_fault new.content old))
     ⊎ ((next_file_fail old ≢ Some 0) × (old.content name ≢ absent) × (new.content name ≡ old.content name)
     × (new ≡ with_write_lack new.content old))
+
+-- a file made ready to be gone on with; a call that failed left it as it was, and want of memory does not come where the script
+-- has it fail
+abbrev pub MemoryGoesOn : List ℕ → MemoryFilesValue → MemoryFilesValue → WriteAnswer → Type 0
+MemoryGoesOn name old new write.Done =
+    (next_file_fail old ≡ None) × (new.content name ≡ content_gone_on (old.content name)) × (new ≡ with_content new.content old)
+MemoryGoesOn name old new write.Failed =
+    (new.content name ≡ old.content name)
+    × ((IsSome (next_file_fail old) × (new ≡ with_write_fault new.content old))
+    ⊎ ((next_file_fail old ≡ None) × (new ≡ with_write_lack new.content old)))

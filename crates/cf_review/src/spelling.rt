@@ -180,20 +180,3 @@ fn name_of_rule(rules: &[Rule], place: usize) -> &str
         None => "",
     }
 }
-
-fn break_word(reason: Break) -> &'static str
-    ensures name { result.now ≡ break_name reason }
-    ensures short { length result.now ≤ 11 }
-{
-    match reason {
-        Break::Protocol => "protocol",
-        Break::Length => "length",
-        Break::Start => "start",
-        Break::FrameLength => "framelength",
-        Break::HeaderCrc => "headercrc",
-        Break::BlockCrc => "blockcrc",
-        Break::ApduStart => "apdustart",
-        Break::ApduLength => "apdulength",
-        Break::Control => "control",
-    }
-}

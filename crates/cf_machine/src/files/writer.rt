@@ -5,7 +5,7 @@ use crate::files::{Fault, Gather, fault_of};
 use std::alloc::Global;
 use std::fs::OpenOptions;
 use std::io;
-use std::io::Write;
+use std::io::{Read, Seek, SeekFrom, Write};
 use std::rt::Files as FileSystem;
 
 /// How many files are kept open for writing.
@@ -62,6 +62,39 @@ pub(crate) fn create_file<R: FileSystem>(
         .truncate(true)
         .open(rt, name)?;
     keep_open(alloc, writers, name, file)
+}
+
+/// Opens a file at its end, made where it is not there, gives its last line the line feed that it may lack, and keeps it open.
+pub(crate) fn open_at_end<R: FileSystem>(
+    rt: &R,
+    alloc: Global,
+    writers: &mut Vec<Writer<R::File>>,
+    name: &str,
+) -> io::Result<()> {
+    flush_one(writers, name)?;
+    if let Some(place) = find_writer(writers, name) {
+        writers.remove(place);
+    }
+    let mut file = OpenOptions::new()
+        .append(true)
+        .create(true)
+        .open(rt, name)?;
+    if file.metadata()?.is_file() && lacks_feed(rt, name)? {
+        file.write_all(b"\n")?;
+    }
+    keep_open(alloc, writers, name, file)
+}
+
+/// Whether a file has octets, and the last of them is no line feed.
+fn lacks_feed<R: FileSystem>(rt: &R, name: &str) -> io::Result<bool> {
+    let mut file = OpenOptions::new().read(true).open(rt, name)?;
+    if file.seek(SeekFrom::End(0))? == 0 {
+        return Ok(false);
+    }
+    file.seek(SeekFrom::End(-1))?;
+    let mut last = [b'\n'];
+    file.read_exact(&mut last)?;
+    Ok(last[0] != b'\n')
 }
 
 /// Puts bytes at the end of a file that is there.

@@ -1,5 +1,5 @@
 use Rattle.std.proofs.Common.{append_assoc}
-use Rattle.cf_audit.proofs.write.push_close.Goals as goal
+use Rattle.cf_audit.proofs.write.push_counts.Goals as goal
 
 pub returns-clause-bytes : goal.returns-clause-bytes
 returns-clause-bytes g c =
