@@ -4,7 +4,7 @@ use Rattle.std.specs.Prelude.{IfErr, OnOk}
 use Rattle.std.specs.List.{list_any}
 use Rattle.std.specs.Option.{option_or}
 use Rattle.cf_audit.specs.declared.line.CutReason.{CutReason}
-use Rattle.cf_lane.specs.Follows.{rest_of}
+use Rattle.cf_lane.specs.Follows.{over, rest_of}
 use Rattle.cf_lane.specs.Handled.{WritesLog}
 use Rattle.cf_lane.specs.Laws.{QuietBehindEnd, StreamsGoOn}
 use Rattle.cf_lane.specs.Limit.{limit_by, limit_cut}
@@ -20,8 +20,9 @@ use Rattle.cf_view.specs.declared.Side.TheVariants as side
 use Rattle.cf_relay.proofs.Doing.{IsQuiet, by_own, by_side, quiet_idle, quiet_none, silent_kept}
 use Rattle.cf_relay.proofs.Giving.{with_none}
 use Rattle.cf_relay.proofs.Hearing.{or_false}
+use Rattle.cf_relay.proofs.Lined.{apart_none}
 use Rattle.cf_relay.proofs.Stages.{breaks_nothing, no_take, one_broken, one_stage, open_ended, takes_stage}
-use Rattle.cf_relay.proofs.Standing.{Silent, TakesTo, stands_cut, stands_full, stands_heard, stands_missed, stands_silent}
+use Rattle.cf_relay.proofs.Standing.{Silent, TakesTo, left_apart, stands_cut, stands_full, stands_heard, stands_missed, stands_silent}
 use Rattle.cf_relay.specs.Answers.{closes, history_of, idles_after, with_answers}
 use Rattle.cf_relay.specs.Relaying.{RelayingValue, is_closed, lane_state, letters_from, queue_to, rests_of}
 use Rattle.cf_relay.specs.Scene.{AddsAnswers, DoesBetween, RoseBy, StopsBetween, StopsBy, scene}
@@ -37,6 +38,10 @@ take_state_of s now log told = take_state (lane_state now log) (rest_of s (rests
 rests_same : (s : Side) (old new : RelayingValue) → rest_of s (rests_of new) ≡ rest_of s (rests_of old) → rest_of (other s) (rests_of new) ≡ rest_of (other s) (rests_of old) → rests_of new ≡ rests_of old
 rests_same side.Client old new e d = ap (λ (xs : List ℕ). record { client = xs; controller = new.controller_rest }) e ∙ ap (λ (xs : List ℕ). record { client = old.client_rest; controller = xs }) d
 rests_same side.Controller old new e d = ap (λ (xs : List ℕ). record { client = new.client_rest; controller = xs }) e ∙ ap (λ (xs : List ℕ). record { client = xs; controller = old.controller_rest }) d
+
+-- the same over a log of its own
+own_same : (own : Option (List (List ℕ))) (a b : TakeState) → a ≡ b → record a { state = over own a.state } ≡ record b { state = over own b.state }
+own_same own a b same = ap (λ (x : TakeState). record x { state = over own x.state }) same
 
 -- nothing came, or an answer Idle: the lane, its queues and its log are as they were
 silent_asked : (s : Side) (answers : List Entry) (old new : RelayingValue) (log log' : Option (List (List ℕ))) (told told' t : Option (List Entry)) (n : ℕ) → TakesTo s old new → IsQuiet answers → ((t : Side) → list_any (closes t) answers ≡ false) →
@@ -70,10 +75,11 @@ module _ (law : StreamsGoOn) (quiet : QuietBehindEnd) (asset : Asset) (most : �
     answers = [];
     adds = adds_answer [] (ap (λ (x : TakeState). x.told) same ∙ with_none pair.told);
     still = still;
-    does = λ first es st. (
-      one_stage asset most (Taking s) es [] (no_take asset most first es old desk.lines st few s never),
-      stands_silent asset first es [] old new desk.lines desk'.lines st
-          (silent_asked s [] old new desk.lines desk'.lines pair.told pair'.told pair.told old.idle to quiet_none (λ t. refl) same refl),
+    does = λ first own es st. (
+      one_stage asset most (Taking s) es [] (no_take asset most first es old own st few s never),
+      apart_none own desk.lines desk'.lines _ (ap (λ (x : TakeState). x.state.lines) same)
+          (stands_silent asset first es [] old new own own st
+          (silent_asked s [] old new own own pair.told pair'.told pair.told old.idle to quiet_none (λ t. refl) (own_same own _ _ same) refl)),
     );
   }
 
@@ -83,10 +89,11 @@ module _ (law : StreamsGoOn) (quiet : QuietBehindEnd) (asset : Asset) (most : �
     answers = takes.answer ∷ [];
     adds = adds_answer (takes.answer ∷ []) takes.answers.tells;
     still = still;
-    does = λ first es st. (
-      one_stage asset most (Taking s) es (takes.answer ∷ []) (takes_stage asset most first es old desk.lines st few s takes.answer may takes.answers.is_taken),
-      stands_heard law asset first es s takes.answer takes.answers.is_taken old desk.lines st new desk'.lines to (open_ended asset most first es old desk.lines st s may.open_still)
-          takes.answers.letters takes.answers.idles takes.hears quiet short,
+    does = λ first own es st. (
+      one_stage asset most (Taking s) es (takes.answer ∷ []) (takes_stage asset most first es old own st few s takes.answer may takes.answers.is_taken),
+      left_apart law asset first es s takes.answer takes.answers.is_taken old own desk.lines st new desk'.lines None to takes.hears _
+          (stands_heard law asset first es s takes.answer takes.answers.is_taken old own desk.lines st new desk'.lines to (open_ended asset most first es old own st s may.open_still)
+          takes.answers.letters takes.answers.idles takes.hears quiet short),
     );
   }
 
@@ -96,10 +103,11 @@ module _ (law : StreamsGoOn) (quiet : QuietBehindEnd) (asset : Asset) (most : �
     answers = takes.answer ∷ [];
     adds = adds_answer (takes.answer ∷ []) takes.answers.tells;
     cause = still;
-    does = λ first es st. (
-      one_broken asset most (Taking s) es (takes.answer ∷ []) (takes_stage asset most first es old desk.lines st few s takes.answer may takes.answers.is_taken),
-      stands_full law asset first es s takes.answer takes.answers.is_taken old desk.lines st new desk'.lines to (open_ended asset most first es old desk.lines st s may.open_still)
-          takes.answers.letters takes.answers.idles takes.hears reason full,
+    does = λ first own es st. (
+      one_broken asset most (Taking s) es (takes.answer ∷ []) (takes_stage asset most first es old own st few s takes.answer may takes.answers.is_taken),
+      left_apart law asset first es s takes.answer takes.answers.is_taken old own desk.lines st new desk'.lines None to takes.hears _
+          (stands_full law asset first es s takes.answer takes.answers.is_taken old own desk.lines st new desk'.lines to (open_ended asset most first es old own st s may.open_still)
+          takes.answers.letters takes.answers.idles takes.hears reason full),
     );
   }
 
@@ -109,11 +117,11 @@ module _ (law : StreamsGoOn) (quiet : QuietBehindEnd) (asset : Asset) (most : �
     answers = Idle s ∷ [];
     adds = adds_answer (Idle s ∷ []) (ap (λ (x : TakeState). x.told) same);
     cause = cause;
-    does = λ first es st. (
-      one_broken asset most (Taking s) es (Idle s ∷ []) (takes_stage asset most first es old desk.lines st few s (Idle s) may refl),
-      (
-        stands_silent asset first es (Idle s ∷ []) old new desk.lines desk'.lines st
-            (silent_asked s (Idle s ∷ []) old new desk.lines desk'.lines pair.told pair'.told (with_answers pair.told (Idle s ∷ [])) (old.idle + 1) to (quiet_idle s) (λ t. refl) same (omega arith)),
+    does = λ first own es st. (
+      one_broken asset most (Taking s) es (Idle s ∷ []) (takes_stage asset most first es old own st few s (Idle s) may refl),
+      apart_none own desk.lines desk'.lines _ (ap (λ (x : TakeState). x.state.lines) same) (
+        stands_silent asset first es (Idle s ∷ []) old new own own st
+            (silent_asked s (Idle s ∷ []) old new own own pair.told pair'.told (with_answers pair.told (Idle s ∷ [])) (old.idle + 1) to (quiet_idle s) (λ t. refl) (own_same own _ _ same) (omega arith)),
         full,
       ),
     );
@@ -122,11 +130,11 @@ module _ (law : StreamsGoOn) (quiet : QuietBehindEnd) (asset : Asset) (most : �
     answers = [];
     adds = adds_answer [] (ap (λ (x : TakeState). x.told) same ∙ with_none pair.told);
     cause = cause;
-    does = λ first es st. (
+    does = λ first own es st. (
       breaks_nothing asset most (Taking s ∷ []) es,
-      (
-        stands_silent asset first es [] old new desk.lines desk'.lines st
-            (silent_asked s [] old new desk.lines desk'.lines pair.told pair'.told pair.told old.idle to quiet_none (λ t. refl) same refl),
+      apart_none own desk.lines desk'.lines _ (ap (λ (x : TakeState). x.state.lines) same) (
+        stands_silent asset first es [] old new own own st
+            (silent_asked s [] old new own own pair.told pair'.told pair.told old.idle to quiet_none (λ t. refl) (own_same own _ _ same) refl),
         subst (λ (n : ℕ). n < most) (sym (ap (λ (x : TakeState). x.idle) same)) few,
       ),
     );
@@ -135,19 +143,20 @@ module _ (law : StreamsGoOn) (quiet : QuietBehindEnd) (asset : Asset) (most : �
     answers = answer ∷ [];
     adds = adds_answer (answer ∷ []) answers.tells;
     cause = cause;
-    does = λ first es st. (
-      one_broken asset most (Taking s) es (answer ∷ []) (takes_stage asset most first es old desk.lines st few s answer may answers.is_taken),
-      stands_missed law asset first es s answer answers.is_taken old desk.lines st desk' misses,
+    does = λ first own es st. (
+      one_broken asset most (Taking s) es (answer ∷ []) (takes_stage asset most first es old own st few s answer may answers.is_taken),
+      stands_missed law asset first es s answer answers.is_taken old own desk.lines st desk' misses,
     );
   }
   take_stops (stop.Cut reason) (may, takes) cause = record {
     answers = takes.answer ∷ [];
     adds = adds_answer (takes.answer ∷ []) takes.answers.tells;
     cause = cause;
-    does = λ first es st. (
-      one_broken asset most (Taking s) es (takes.answer ∷ []) (takes_stage asset most first es old desk.lines st few s takes.answer may takes.answers.is_taken),
-      stands_cut law asset first es s takes.answer takes.answers.is_taken old desk.lines st new desk'.lines (Some reason) to takes.hears reason
-          (λ js cuts qc qk. ap (λ c. option_or c (limit_cut LETTER_LIMIT (history_of (es ++ takes.answer ∷ [])) (stream_to asset side.Client js) (stream_to asset side.Controller js))) cuts),
+    does = λ first own es st. (
+      one_broken asset most (Taking s) es (takes.answer ∷ []) (takes_stage asset most first es old own st few s takes.answer may takes.answers.is_taken),
+      left_apart law asset first es s takes.answer takes.answers.is_taken old own desk.lines st new desk'.lines (Some reason) to takes.hears _
+          (stands_cut law asset first es s takes.answer takes.answers.is_taken old own desk.lines st new desk'.lines (Some reason) to takes.hears reason
+          (λ js cuts qc qk. ap (λ c. option_or c (limit_cut LETTER_LIMIT (history_of (es ++ takes.answer ∷ [])) (stream_to asset side.Client js) (stream_to asset side.Controller js))) cuts)),
     );
   }
 

@@ -14,6 +14,7 @@ use Rattle.cf_view.specs.declared.Side.{Side}
 use Rattle.cf_view.specs.declared.Side.TheVariants as side
 use Rattle.cf_relay.proofs.Giving.{given_more, with_none}
 use Rattle.cf_relay.proofs.Hearing.{or_false}
+use Rattle.cf_relay.proofs.Lined.{apart_none}
 use Rattle.cf_relay.proofs.Lists.{closes_more, history_more, met_more, told_more}
 use Rattle.cf_relay.proofs.Scenes.{writes_none}
 use Rattle.cf_relay.proofs.Stages.{begins_stage, breaks_nothing, finishes_stage, gives_stage, no_finish, one_broken, one_stage, tells_stage}
@@ -203,9 +204,9 @@ tell_goes asset most old pair pair' desk m now is few still e later none same =
       answers = Moment m ∷ [];
       adds = record { tells = e; link = later; idles = λ start r. omega (arith, r, same); log = writes_none desk };
       still = none;
-      does = λ first es st. (
-        one_stage asset most Telling es (Moment m ∷ []) (tells_stage asset most first es old desk.lines st few still m),
-        stands_silent asset first es (Moment m ∷ []) old (record old { moment = max old.moment m }) desk.lines desk.lines st (silent_moment old desk.lines m),
+      does = λ first own es st. (
+        one_stage asset most Telling es (Moment m ∷ []) (tells_stage asset most first es old own st few still m),
+        apart_none own desk.lines desk.lines _ refl (stands_silent asset first es (Moment m ∷ []) old (record old { moment = max old.moment m }) own own st (silent_moment old own m)),
       );
     })
 
@@ -216,7 +217,7 @@ link_stops asset most ps old pair pair' desk few e rose same later = record {
   answers = [];
   adds = record { tells = e ∙ with_none pair.told; link = later; idles = λ start r. omega (arith, r, same); log = writes_none desk };
   cause = rose;
-  does = λ first es st. (breaks_nothing asset most ps es, (subst (λ (x : List Entry). StandsFor asset first x old desk.lines) (sym (append-nil es)) st, few));
+  does = λ first own es st. (breaks_nothing asset most ps es, apart_none own desk.lines desk.lines _ refl (subst (λ (x : List Entry). StandsFor asset first x old own) (sym (append-nil es)) st, few));
 }
 
 -- ---- giving
@@ -229,9 +230,9 @@ module _ (asset : Asset) (most : ℕ) (s : Side) (old new : RelayingValue) (pair
     answers = answers;
     adds = record { tells = gave.tells; link = later; idles = idles; log = writes_none desk };
     still = still;
-    does = λ first es st. (
-      one_stage asset most (Giving s) es answers (gives_stage asset most first es old desk.lines st few s answers gives),
-      stands_silent asset first es answers old new desk.lines desk.lines st (silent_gives s old new desk.lines pair.told pair'.told answers (giving_all s (queue_to s old).kept answers gives) to gave stands),
+    does = λ first own es st. (
+      one_stage asset most (Giving s) es answers (gives_stage asset most first es old own st few s answers gives),
+      apart_none own desk.lines desk.lines _ refl (stands_silent asset first es answers old new own own st (silent_gives s old new own pair.told pair'.told answers (giving_all s (queue_to s old).kept answers gives) to gave stands)),
     );
   }
 
@@ -241,18 +242,18 @@ module _ (asset : Asset) (most : ℕ) (s : Side) (old new : RelayingValue) (pair
     answers = answers;
     adds = record { tells = gave.tells; link = later; idles = idles; log = writes_none desk };
     cause = cause;
-    does = λ first es st. (
-      one_broken asset most (Giving s) es answers (gives_stage asset most first es old desk.lines st few s answers gives),
-      (stands_silent asset first es answers old new desk.lines desk.lines st (silent_gives s old new desk.lines pair.told pair'.told answers (giving_all s (queue_to s old).kept answers gives) to gave stands), full),
+    does = λ first own es st. (
+      one_broken asset most (Giving s) es answers (gives_stage asset most first es old own st few s answers gives),
+      apart_none own desk.lines desk.lines _ refl (stands_silent asset first es answers old new own own st (silent_gives s old new own pair.told pair'.told answers (giving_all s (queue_to s old).kept answers gives) to gave stands), full),
     );
   }
   give_stops stop.Link (answers, gave, begins, goes) cause = record {
     answers = answers;
     adds = record { tells = gave.tells; link = later; idles = idles; log = writes_none desk };
     cause = cause;
-    does = λ first es st. (
-      inl (begins_stage asset most first es old desk.lines st few s answers begins),
-      (stands_silent asset first es answers old new desk.lines desk.lines st (silent_gives s old new desk.lines pair.told pair'.told answers (giving_begun s (queue_to s old).kept answers begins) to gave stands), goes),
+    does = λ first own es st. (
+      inl (begins_stage asset most first es old own st few s answers begins),
+      apart_none own desk.lines desk.lines _ refl (stands_silent asset first es answers old new own own st (silent_gives s old new own pair.told pair'.told answers (giving_begun s (queue_to s old).kept answers begins) to gave stands), goes),
     );
   }
   give_stops stop.Write gave cause = absurd gave
@@ -306,18 +307,18 @@ module _ (asset : Asset) (most : ℕ) (s : Side) (old new : RelayingValue) (pair
     answers = Finished s ∷ [];
     adds = record { tells = tells; link = later; idles = λ start r. omega (arith, r, same, to.idle); log = writes_none desk };
     still = still;
-    does = λ first es st. (
-      one_stage asset most (Finishing s) es (Finished s ∷ []) (finishes_stage asset most first es old desk.lines st few s last),
-      stands_silent asset first es (Finished s ∷ []) old new desk.lines desk.lines st (silent_close s old new desk.lines to closed last),
+    does = λ first own es st. (
+      one_stage asset most (Finishing s) es (Finished s ∷ []) (finishes_stage asset most first es old own st few s last),
+      apart_none own desk.lines desk.lines _ refl (stands_silent asset first es (Finished s ∷ []) old new own own st (silent_close s old new own to closed last)),
     );
   }
   finish_goes still x (inr (never, closed, tells)) = record {
     answers = [];
     adds = record { tells = tells ∙ with_none pair.told; link = later; idles = λ start r. omega (arith, r, same, to.idle); log = writes_none desk };
     still = still;
-    does = λ first es st. (
-      one_stage asset most (Finishing s) es [] (no_finish asset most first es old desk.lines st few s never),
-      stands_silent asset first es [] old new desk.lines desk.lines st (silent_same s old new desk.lines to closed),
+    does = λ first own es st. (
+      one_stage asset most (Finishing s) es [] (no_finish asset most first es old own st few s never),
+      apart_none own desk.lines desk.lines _ refl (stands_silent asset first es [] old new own own st (silent_same s old new own to closed)),
     );
   }
 
@@ -327,9 +328,9 @@ module _ (asset : Asset) (most : ℕ) (s : Side) (old new : RelayingValue) (pair
     answers = [];
     adds = record { tells = tells ∙ with_none pair.told; link = later; idles = λ start r. omega (arith, r, same, to.idle); log = writes_none desk };
     cause = cause;
-    does = λ first es st. (
+    does = λ first own es st. (
       breaks_nothing asset most (Finishing s ∷ []) es,
-      (stands_silent asset first es [] old new desk.lines desk.lines st (silent_same s old new desk.lines to closed), omega (arith, few, to.idle)),
+      apart_none own desk.lines desk.lines _ refl (stands_silent asset first es [] old new own own st (silent_same s old new own to closed), omega (arith, few, to.idle)),
     );
   }
   finish_stops stop.Idle none cause = absurd none

@@ -1,8 +1,8 @@
 -- What the answers of a relay mean, by what was done and by the last line.
-use Rattle.std.proofs.Common.{Err, List, None, Ok, Option, Result, Some, [], ap, arith, drop, inl, inr, length, refl, subst, suc, sym, take, true, ℕ, ◌++◌, ◌<◌, ◌∙◌, ◌∷◌, ◌≡◌, ◌≤◌}
+use Rattle.std.proofs.Common.{Err, List, None, Ok, Option, Result, [], ap, arith, drop, inl, inr, length, refl, subst, suc, sym, take, true, ℕ, ◌++◌, ◌<◌, ◌∙◌, ◌∷◌, ◌≡◌, ◌≤◌}
 use Rattle.std.specs.List.{concat}
 use Rattle.std.specs.Option.{option_or}
-use Rattle.std.proofs.lemmas.List.{append-nil, append_assoc}
+use Rattle.std.proofs.lemmas.List.{append-nil}
 use Rattle.cf_audit.specs.Line.{Begun, Close, Cut}
 use Rattle.cf_audit.specs.declared.line.CutReason.{CutReason}
 use Rattle.cf_lane.specs.Follows.{AreJudged, Follows, no_rests}
@@ -23,6 +23,7 @@ use Rattle.cf_view.specs.declared.Side.{Side}
 use Rattle.cf_view.specs.declared.Side.TheVariants as side
 use Rattle.cf_relay.proofs.Doing.{by_side}
 use Rattle.cf_relay.proofs.Giving.{with_more, with_one}
+use Rattle.cf_relay.proofs.Lined.{lines_both, lines_none}
 use Rattle.cf_relay.proofs.Standing.{limit_is}
 use Rattle.cf_relay.proofs.Stages.{breaks_nothing, does_broken, does_then, goes_on}
 use Rattle.cf_relay.specs.Answers.{given, history_of, is_finished, with_answers}
@@ -41,14 +42,6 @@ use Rattle.cf_relay.specs.declared.stop.Stop.TheVariants as stop
 
 -- ---- the lines of a log
 
-pub with_no_lines : (x : Option (List (List ℕ))) → x ≡ with_lines x []
-with_no_lines None = refl
-with_no_lines (Some ls) = ap Some (sym (append-nil ls))
-
-pub with_both : (b : Option (List (List ℕ))) (xs ys : List (List ℕ)) → with_lines (with_lines b xs) ys ≡ with_lines b (xs ++ ys)
-with_both None xs ys = refl
-with_both (Some b) xs ys = ap Some (append_assoc b xs ys)
-
 take_all : {A : Type 0} (xs ys : List A) → take (length xs) (xs ++ ys) ≡ xs
 take_all [] ys = refl
 take_all (x ∷ xs) ys = ap (λ zs. x ∷ zs) (take_all xs ys)
@@ -62,7 +55,7 @@ pub begins_last : (base log : Option (List (List ℕ))) (part : List ℕ) (xs : 
 begins_last base log part xs line (inl (same, (k, some))) =
     (length xs, k, same ∙ ap (with_lines base) (sym (take_all xs (line ∷ []))), some ∙ ap (λ ls. take k (concat ls)) (sym (drop_all xs (line ∷ []))))
 begins_last base log part xs line (inr (added, none)) =
-    (length (xs ++ line ∷ []), 0, added ∙ with_both base xs (line ∷ []) ∙ ap (with_lines base) (sym (take_all (xs ++ line ∷ []) []) ∙ ap (take (length (xs ++ line ∷ []))) (append-nil (xs ++ line ∷ []))), none)
+    (length (xs ++ line ∷ []), 0, added ∙ lines_both base xs (line ∷ []) ∙ ap (with_lines base) (sym (take_all (xs ++ line ∷ []) []) ∙ ap (take (length (xs ++ line ∷ []))) (append-nil (xs ++ line ∷ []))), none)
 
 -- ---- the beginning
 
@@ -100,7 +93,7 @@ module _ (asset : Asset) (listen most : ℕ) (few : 0 < most) (base : Option (Li
     relayed = relayed_none asset listen most few;
     goes = goes_first asset listen most few;
     prefixes = no_prefixes asset [] (λ s. refl);
-    holds_log = (same ∙ with_no_lines base, whole);
+    holds_log = (same ∙ lines_none base, whole);
   }
 
   pub link_met : (client : Endpoint) → desk.lines ≡ base → desk.whole ≡ true → IsLinkEnd asset listen most (desk_log base desk) (met_at listen asset.endpoint client ∷ [])
@@ -109,7 +102,7 @@ module _ (asset : Asset) (listen most : ℕ) (few : 0 < most) (base : Option (Li
     relayed = relayed_met asset listen most few client;
     goes = goes_met asset listen most few client;
     prefixes = no_prefixes asset (met_at listen asset.endpoint client ∷ []) (λ s. refl);
-    holds_log = (same ∙ with_no_lines base, whole);
+    holds_log = (same ∙ lines_none base, whole);
   }
 
   pub write_told : (client : Endpoint) (m : ℕ) → MayHaveMore (line_about asset client m Begun ∷ []) base desk.lines desk.line_part → IsWriteEnd asset listen most (desk_log base desk) (met_at listen asset.endpoint client ∷ Moment m ∷ [])
@@ -122,7 +115,7 @@ module _ (asset : Asset) (listen most : ℕ) (few : 0 < most) (base : Option (Li
     prefixes = no_prefixes asset (met_at listen asset.endpoint client ∷ Moment m ∷ []) (λ s. refl);
     last = [];
     is_last = inl refl;
-    begins = begins_last base desk.lines desk.line_part [] (line_about asset client m Begun) (subst (λ x. MayHaveMore (line_about asset client m Begun ∷ []) x desk.lines desk.line_part) (with_no_lines base) may);
+    begins = begins_last base desk.lines desk.line_part [] (line_about asset client m Begun) (subst (λ x. MayHaveMore (line_about asset client m Begun ∷ []) x desk.lines desk.line_part) (lines_none base) may);
   }
 
 -- ---- the ends of the turns
@@ -138,7 +131,7 @@ module _ (asset : Asset) (listen most : ℕ) (few : 0 < most) (client : Endpoint
   -- the lines behind the open line
   lines_all : (log : Option (List (List ℕ))) (answers : List Entry) (js : List Judged) → log ≡ with_lines (with_lines base (line_about asset client m Begun ∷ [])) (lines asset client [] js) →
       log ≡ with_lines base (log_of asset (met_at listen asset.endpoint client ∷ Moment m ∷ answers) js)
-  lines_all log answers js e = e ∙ with_both base (line_about asset client m Begun ∷ []) (lines asset client [] js)
+  lines_all log answers js e = e ∙ lines_both base (line_about asset client m Begun ∷ []) (lines asset client [] js)
 
   stands_lines : (answers : List Entry) (now : RelayingValue) (log : Option (List (List ℕ))) (s2 : StandsFor asset (with_lines base (line_about asset client m Begun ∷ [])) (met_at listen asset.endpoint client ∷ Moment m ∷ answers) now log) →
       log ≡ with_lines base (log_of asset (met_at listen asset.endpoint client ∷ Moment m ∷ answers) s2.follows.judged)
@@ -187,7 +180,7 @@ module _ (asset : Asset) (listen most : ℕ) (few : 0 < most) (client : Endpoint
           counts = record { admitted = s2.follows.knows.admitted; refused = s2.follows.knows.refused };
           holds_log = (
             added ∙ ap (λ x. with_lines x (line_about asset client now.moment (Close now.lane.admitted now.lane.refused) ∷ [])) (stands_lines answers now d1.lines s2)
-                ∙ with_both base (log_of asset (met_at listen asset.endpoint client ∷ Moment m ∷ answers) s2.follows.judged) (line_about asset client now.moment (Close now.lane.admitted now.lane.refused) ∷ [])
+                ∙ lines_both base (log_of asset (met_at listen asset.endpoint client ∷ Moment m ∷ answers) s2.follows.judged) (line_about asset client now.moment (Close now.lane.admitted now.lane.refused) ∷ [])
                 ∙ ap (λ k. with_lines base (log_of asset (met_at listen asset.endpoint client ∷ Moment m ∷ answers) s2.follows.judged ++ line_about asset client k (Close now.lane.admitted now.lane.refused) ∷ [])) s2.moment,
             whole,
           );
@@ -216,11 +209,11 @@ module _ (asset : Asset) (listen most : ℕ) (few : 0 < most) (client : Endpoint
       BeginsLines base desk.lines desk.line_part ((line_about asset client m Begun ∷ ls) ++ [])
   begun_lines desk ls count some e d =
       subst (BeginsLines base desk.lines desk.line_part) (sym (append-nil (line_about asset client m Begun ∷ ls)))
-      (suc count, some, e ∙ with_both base (line_about asset client m Begun ∷ []) (take count ls), d)
+      (suc count, some, e ∙ lines_both base (line_about asset client m Begun ∷ []) (take count ls), d)
 
   -- the relay stopped within its turns
   pub stop_ends : (n : ℕ) (answers : List Entry) (now : RelayingValue) (d1 d2 : DeskValue) (why : Stop) → BeginsStages asset most (turns n) (met_at listen asset.endpoint client ∷ Moment m ∷ []) answers →
-      StandsStopped asset most (with_lines base (line_about asset client m Begun ∷ [])) (met_at listen asset.endpoint client ∷ Moment m ∷ answers) why now d1 → StaysWhole (Err why) d1 →
+      StandsStopped asset most (with_lines base (line_about asset client m Begun ∷ [])) (met_at listen asset.endpoint client ∷ Moment m ∷ answers) why now d1.lines d1.line_part → StaysWhole (Err why) d1 →
       (r : Result RelayDone RelayFault) → StopsWith asset client now why d1 d2 r → RelayEnds asset listen most (desk_log base d2) ⊥ (met_at listen asset.endpoint client ∷ Moment m ∷ answers) r
   unfolding goes_on
   stop_ends n answers now d1 d2 stop.Idle breaks (s2, full) stays r (is, same) =
@@ -264,7 +257,7 @@ module _ (asset : Asset) (listen most : ℕ) (few : 0 < most) (client : Endpoint
         counts = s2.counts;
         holds_log = (
           added ∙ ap (λ x. with_lines x (line_about asset client now.moment (Cut reason) ∷ [])) (cut_lines answers now d1.lines reason s2)
-              ∙ with_both base (log_of asset (met_at listen asset.endpoint client ∷ Moment m ∷ answers) s2.judged) (line_about asset client now.moment (Cut reason) ∷ [])
+              ∙ lines_both base (log_of asset (met_at listen asset.endpoint client ∷ Moment m ∷ answers) s2.judged) (line_about asset client now.moment (Cut reason) ∷ [])
               ∙ ap (λ k. with_lines base (log_of asset (met_at listen asset.endpoint client ∷ Moment m ∷ answers) s2.judged ++ line_about asset client k (Cut reason) ∷ [])) s2.moment,
           whole,
         );
@@ -300,7 +293,7 @@ close_idles asset client now d1 d2 most start idles (Ok d) (is, added, whole) = 
 close_idles asset client now d1 d2 most start idles (Err e) h = tt
 
 pub stop_idles : (asset : Asset) (most : ℕ) (first : Option (List (List ℕ))) (es : List Entry) (client : Endpoint) (now : RelayingValue) (d1 d2 : DeskValue) (start idles : ℕ) (why : Stop) (r : Result RelayDone RelayFault) →
-    StandsStopped asset most first es why now d1 → StopsWith asset client now why d1 d2 r → RoseBy now.idle start idles → IdlesRose most start idles r
+    StandsStopped asset most first es why now d1.lines d1.line_part → StopsWith asset client now why d1 d2 r → RoseBy now.idle start idles → IdlesRose most start idles r
 stop_idles asset most first es client now d1 d2 start idles stop.Idle r (s2, full) (is, same) rose =
     subst (IdlesRose most start idles) (sym is) (subst (λ (n : ℕ). RoseBy n start idles) full rose)
 stop_idles asset most first es client now d1 d2 start idles stop.Link r st (is, same) rose = subst (IdlesRose most start idles) (sym is) tt

@@ -6,6 +6,7 @@ mod Files
 mod Gave
 mod Giving
 mod Hearing
+mod Lined
 mod Lists
 mod Moving
 mod Scenes

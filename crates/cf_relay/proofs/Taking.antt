@@ -2,7 +2,7 @@
 use Rattle.std.proofs.Common.{Err, List, None, Ok, Option, Result, [], arith, inr, length, refl, sym, ap, subst, take, ℕ, ◌++◌, ◌+◌, ◌<◌, ◌∙◌, ◌≡◌, ◌≤◌}
 use Rattle.std.specs.Prelude.{OnErr, OnOk}
 use Rattle.std.proofs.lemmas.List.{append-nil, length-take-le}
-use Rattle.cf_lane.specs.Follows.{Follows, with_rest}
+use Rattle.cf_lane.specs.Follows.{Follows, over, with_rest}
 use Rattle.cf_lane.specs.Handled.{IsLaneOf, State, debt}
 use Rattle.cf_lane.specs.History.{Element}
 use Rattle.cf_outside.specs.Desk.{DeskValue}
@@ -10,6 +10,7 @@ use Rattle.cf_outside.specs.Pair.{Ended, Entry, Got, Idle, with_entry}
 use Rattle.cf_policy.specs.declared.Asset.{Asset}
 use Rattle.cf_view.specs.declared.Side.{Side}
 use Rattle.cf_relay.proofs.Hearing.{same_pushed, same_rest}
+use Rattle.cf_relay.proofs.Lined.{lines_none}
 use Rattle.cf_relay.specs.Taken.{AnswersTo, IsHeard, MayTakeNow, TakesAnswer, TakesBy, take_state}
 use Rattle.cf_relay.specs.declared.stop.Stop.{Stop}
 use Rattle.cf_relay.specs.declared.stop.Stop.TheVariants as stop
@@ -19,8 +20,13 @@ hears_idle : (asset : Asset) (moment : ℕ) (s : Side) (rest : List ℕ) (now : 
 hears_idle asset moment s rest now short of_asset owed = record {
   left = rest;
   keeps = λ n. (refl, short);
-  follows = λ h rests first is f. subst (λ r. Follows asset (h ++ []) r None first now) (sym (ap (with_rest s rests) is ∙ same_rest s rests))
-      (subst (λ (k : List Element). Follows asset k rests None first now) (sym (append-nil h)) f);
+  follows = λ h rests first own is f. record {
+    more = [];
+    added = lines_none now.lines;
+    follows = subst (λ (l : Option (List (List ℕ))). Follows asset (h ++ []) (with_rest s rests rest) None first (over l now)) (lines_none own)
+        (subst (λ r. Follows asset (h ++ []) r None first (over own now)) (sym (ap (with_rest s rests) is ∙ same_rest s rests))
+        (subst (λ (k : List Element). Follows asset k rests None first (over own now)) (sym (append-nil h)) f));
+  };
   of_asset = of_asset;
   debt = owed;
   client = refl;

@@ -11,7 +11,7 @@ use Rattle.cf_policy.specs.declared.Asset.{Asset}
 use Rattle.std.specs.Prelude.{List, Option, min, ℕ, ◌++◌, ◌+◌, ◌-◌, ◌^◌, ◌≡◌, ◌≤◌}
 use Rattle.cf_relay.specs.Answers.{with_answers}
 use Rattle.cf_relay.specs.Relaying.{RelayingValue, relaying_value}
-use Rattle.cf_relay.specs.Stands.{StandsFor, StandsStopped}
+use Rattle.cf_relay.specs.Stands.{Apart, StandsFor, StandsStopped}
 use Rattle.cf_relay.specs.Turn.{BeginsStages, DoesStages, Stage}
 use Rattle.cf_relay.specs.declared.relaying.Relaying.{Relaying}
 use Rattle.cf_relay.specs.declared.stop.Stop.{Stop}
@@ -40,13 +40,14 @@ pub record AddsAnswers (old new : Scene) (answers : List Entry) : Type 0 where
   pub idles : (start : ℕ) → RoseBy old.relaying.idle start old.pair.idles → RoseBy new.relaying.idle start new.pair.idles
   pub log : WritesLog old.desk new.desk
 
--- the stages are done, whatever list came before; no call on the pair failed
+-- the stages are done, whatever list and whatever lines of its own came before; no call on the pair failed
 pub record DoesBetween (asset : Asset) (most : ℕ) (stages : List Stage) (old new : Scene) : Type 0 where
   pub answers : List Entry
   pub adds : AddsAnswers old new answers
   pub still : new.pair.faults ≡ old.pair.faults
-  pub does : (first : Option (List (List ℕ))) (es : List Entry) → StandsFor asset first es old.relaying old.desk.lines →
-      DoesStages asset most stages es answers × StandsFor asset first (es ++ answers) new.relaying new.desk.lines
+  pub does : (first own : Option (List (List ℕ))) (es : List Entry) → StandsFor asset first es old.relaying own →
+      DoesStages asset most stages es answers
+      × Apart own old.desk.lines new.desk.lines (λ log. StandsFor asset first (es ++ answers) new.relaying log)
 
 -- a stop has its cause; a call on the pair failed in one of them alone
 abbrev pub StopsBy : Stop → (old new : Scene) → Type 0
@@ -55,10 +56,11 @@ StopsBy (stop.Cut reason) old new = new.pair.faults ≡ old.pair.faults
 StopsBy stop.Link old new = Rose old.pair.faults new.pair.faults
 StopsBy stop.Write old new = (new.pair.faults ≡ old.pair.faults) × Rose old.desk.faults new.desk.faults
 
--- the stages break off, whatever list came before
+-- the stages break off, whatever list and whatever lines of its own came before
 pub record StopsBetween (asset : Asset) (most : ℕ) (stages : List Stage) (stop : Stop) (old new : Scene) : Type 0 where
   pub answers : List Entry
   pub adds : AddsAnswers old new answers
   pub cause : StopsBy stop old new
-  pub does : (first : Option (List (List ℕ))) (es : List Entry) → StandsFor asset first es old.relaying old.desk.lines →
-      BeginsStages asset most stages es answers × StandsStopped asset most first (es ++ answers) stop new.relaying new.desk
+  pub does : (first own : Option (List (List ℕ))) (es : List Entry) → StandsFor asset first es old.relaying own →
+      BeginsStages asset most stages es answers × Apart own old.desk.lines new.desk.lines
+      (λ log. StandsStopped asset most first (es ++ answers) stop new.relaying log new.desk.line_part)

@@ -8,7 +8,6 @@ use Rattle.cf_lane.specs.Limit.{limit_cut}
 use Rattle.cf_lane.specs.Log.{lines, with_lines}
 use Rattle.cf_lane.specs.Output.{other, outputs, stream_to}
 use Rattle.cf_lane.specs.declared.limit.TheConstants.{LETTER_LIMIT}
-use Rattle.cf_outside.specs.Desk.{DeskValue}
 use Rattle.cf_outside.specs.Pair.{Entry}
 use Rattle.cf_policy.specs.declared.Asset.{Asset}
 use Rattle.cf_stream.specs.Stream.{letter_count}
@@ -20,6 +19,12 @@ use Rattle.cf_relay.specs.Relaying.{RelayingValue, is_closed, lane_state, letter
 use Rattle.cf_relay.specs.Turn.{AreItemsOf, cut_at}
 use Rattle.cf_relay.specs.declared.stop.Stop.{Stop}
 use Rattle.cf_relay.specs.declared.stop.Stop.TheVariants as stop
+
+-- a log got lines, by which something goes on that stands over lines of its own: the log may have lines of others besides
+pub record Apart (own old new : Option (List (List ℕ))) (Stands : Option (List (List ℕ)) → Type 0) : Type 0 where
+  pub more : List (List ℕ)
+  pub added : new ≡ with_lines old more
+  pub stands : Stands (with_lines own more)
 
 -- lane, queues and log have the history of the list, which nothing cuts
 pub record StandsFor (asset : Asset) (first : Option (List (List ℕ))) (es : List Entry) (now : RelayingValue)
@@ -72,16 +77,17 @@ IsCutShort short whole =
     × (short ≡ earlier ++ bytes_at moment s bytes ∷ []) × (whole ≡ earlier ++ bytes_at moment s (bytes ++ more) ∷ []))
 
 -- a line failed: the log has a beginning of the lines of the items up to there
-pub record StandsMissed (asset : Asset) (first : Option (List (List ℕ))) (es : List Entry) (desk : DeskValue) : Type 0 where
+pub record StandsMissed (asset : Asset) (first : Option (List (List ℕ))) (es : List Entry) (log : Option (List (List ℕ)))
+    (part : List ℕ) : Type 0 where
   pub history : List Element
   pub is_short : IsCutShort history (history_of es)
-  pub began : Began asset (client_of es) history first desk.lines desk.line_part
+  pub began : Began asset (client_of es) history first log part
   pub prefixes : GivenPrefixes asset es began.judged
 
 -- what a relay that stops stands for, with its list
 abbrev pub StandsStopped : Asset → (most : ℕ) → (first : Option (List (List ℕ))) → List Entry → Stop → RelayingValue
-    → DeskValue → Type 0
-StandsStopped asset most first es stop.Idle now desk = StandsFor asset first es now desk.lines × (now.idle ≡ most)
-StandsStopped asset most first es stop.Link now desk = StandsFor asset first es now desk.lines × (now.idle < most)
-StandsStopped asset most first es stop.Write now desk = StandsMissed asset first es desk
-StandsStopped asset most first es (stop.Cut reason) now desk = StandsCut asset first es now desk.lines reason
+    → (log : Option (List (List ℕ))) → (part : List ℕ) → Type 0
+StandsStopped asset most first es stop.Idle now log part = StandsFor asset first es now log × (now.idle ≡ most)
+StandsStopped asset most first es stop.Link now log part = StandsFor asset first es now log × (now.idle < most)
+StandsStopped asset most first es stop.Write now log part = StandsMissed asset first es log part
+StandsStopped asset most first es (stop.Cut reason) now log part = StandsCut asset first es now log reason

@@ -1,6 +1,6 @@
 -- What taking does to a lane, its queues and its log. This project's own.
 use Rattle.cf_audit.specs.declared.line.CutReason.{CutReason}
-use Rattle.cf_lane.specs.Follows.{Began, BeganWithin, Follows, Rests, rest_of, with_rest}
+use Rattle.cf_lane.specs.Follows.{AddsTo, BeganApart, BeganApartWithin, Follows, Rests, over, rest_of, with_rest}
 use Rattle.cf_lane.specs.Handled.{IsLaneOf, IsOpen, State, debt}
 use Rattle.cf_lane.specs.History.{Element, end_at, is_side}
 use Rattle.cf_lane.specs.Limit.{limit_by}
@@ -58,9 +58,9 @@ pub record IsHeard (asset : Asset) (moment : ℕ) (s : Side) (answer : Entry) (c
     (rest_before rest_after : List ℕ) (old new : State) : Type 0 where
   pub left : List ℕ
   pub keeps : cut ≡ None → (rest_after ≡ left) × (length rest_after < 300)
-  pub follows : (h : List Element) (rests : Rests) (first : Option (List (List ℕ))) → rest_before ≡ rest_of s rests
-      → Follows asset h rests None first old
-      → Follows asset (h ++ element_of moment answer) (with_rest s rests left) cut first new
+  pub follows : (h : List Element) (rests : Rests) (first own : Option (List (List ℕ))) → rest_before ≡ rest_of s rests
+      → Follows asset h rests None first (over own old)
+      → AddsTo asset (h ++ element_of moment answer) (with_rest s rests left) cut first own old.lines new
   pub of_asset : IsLaneOf asset new.lane
   pub debt : debt new.lane ≤ 5300
   pub client : new.lane.client ≡ old.lane.client
@@ -76,14 +76,14 @@ abbrev pub MissesLine : Asset → (moment : ℕ) → Side → Entry → (rest : 
 MissesLine asset moment s (Met meeting) rest old desk = ⊥
 MissesLine asset moment s (Moment other) rest old desk = ⊥
 MissesLine asset moment s (Got of bytes) rest old desk =
-    (h : List Element) (rests : Rests) (first : Option (List (List ℕ))) → rest ≡ rest_of s rests
-    → Follows asset h rests None first old
-    → BeganWithin asset old.lane.client h moment s bytes first desk.lines desk.line_part
+    (h : List Element) (rests : Rests) (first own : Option (List (List ℕ))) → rest ≡ rest_of s rests
+    → Follows asset h rests None first (over own old)
+    → BeganApartWithin asset old.lane.client h moment s bytes first own old.lines desk.lines desk.line_part
 MissesLine asset moment s (Took of bytes) rest old desk = ⊥
 MissesLine asset moment s (Ended of) rest old desk =
-    (h : List Element) (rests : Rests) (first : Option (List (List ℕ))) → rest ≡ rest_of s rests
-    → Follows asset h rests None first old
-    → Began asset old.lane.client (h ++ end_at moment s ∷ []) first desk.lines desk.line_part
+    (h : List Element) (rests : Rests) (first own : Option (List (List ℕ))) → rest ≡ rest_of s rests
+    → Follows asset h rests None first (over own old)
+    → BeganApart asset old.lane.client (h ++ end_at moment s ∷ []) first own old.lines desk.lines desk.line_part
 MissesLine asset moment s (Idle of) rest old desk = ⊥
 MissesLine asset moment s (Finished of) rest old desk = ⊥
 

@@ -2,8 +2,9 @@ use Rattle.std.proofs.Common.{[], ap, arith, inr, refl, ◌∙◌, ◌∷◌}
 use Rattle.cf_audit.specs.Line.{Begun}
 use Rattle.cf_lane.specs.Log.{line_about, with_lines}
 use Rattle.cf_outside.specs.Pair.{Moment, met_at}
-use Rattle.cf_relay.proofs.Ending.{first_stands, link_first, link_met, told_two, with_no_lines, write_told}
+use Rattle.cf_relay.proofs.Ending.{first_stands, link_first, link_met, told_two, write_told}
 use Rattle.cf_relay.proofs.Giving.{with_none}
+use Rattle.cf_relay.proofs.Lined.{lines_none}
 use Rattle.cf_relay.specs.Relaying.{RelayingValue, relaying_value}
 use Rattle.cf_relay.proofs.top.relay_desk.Goals as goal
 
@@ -13,7 +14,7 @@ returns-in-Failed-clause-ends g c =
 
 pub returns-in-Err-clause-ends : goal.returns-in-Err-clause-ends
 returns-in-Err-clause-ends g c =
-    (met_at c.args.listen c.args.asset.now.endpoint c.in-Met.client ∷ [], c.in-Met.ensures.entry, inr ((c.in-Met.client, refl), (with_no_lines _, c.requires.whole)))
+    (met_at c.args.listen c.args.asset.now.endpoint c.in-Met.client ∷ [], c.in-Met.ensures.entry, inr ((c.in-Met.client, refl), (lines_none _, c.requires.whole)))
 
 pub returns-in-Failed-moment-clause-ends : goal.returns-in-Failed-moment-clause-ends
 returns-in-Failed-moment-clause-ends g c = (
