@@ -9,6 +9,7 @@ mod Hearing
 mod Lined
 mod Lists
 mod Moving
+mod OnePair
 mod Scenes
 mod Serving
 mod Stages

@@ -4,6 +4,7 @@ use Rattle.std.specs.Prelude.{IfErr, OnOk}
 use Rattle.std.proofs.lemmas.List.{append-nil}
 use Rattle.cf_lane.specs.Handled.{WritesLog}
 use Rattle.cf_lane.specs.Log.{with_lines}
+use Rattle.cf_links.specs.Links.{with_answers}
 use Rattle.cf_outside.proofs.Desks.{keeps_both, keeps_none}
 use Rattle.cf_outside.specs.Desk.{DeskValue}
 use Rattle.cf_outside.specs.Faults.{Rose}
@@ -12,7 +13,6 @@ use Rattle.cf_policy.specs.declared.Asset.{Asset}
 use Rattle.cf_relay.proofs.Giving.{with_more, with_none}
 use Rattle.cf_relay.proofs.Lined.{apart_as, apart_more, apart_none}
 use Rattle.cf_relay.proofs.Stages.{breaks_more, does_broken, does_then}
-use Rattle.cf_relay.specs.Answers.{with_answers}
 use Rattle.cf_relay.specs.Scene.{AddsAnswers, DoesBetween, Scene, StopsBetween, StopsBy}
 use Rattle.cf_relay.specs.Stands.{StandsFor, StandsStopped}
 use Rattle.cf_relay.specs.Turn.{Stage}
@@ -33,7 +33,7 @@ writes_both d e f h g = record {
 
 adds_both : (old mid new : Scene) (xs ys : List Entry) → AddsAnswers old mid xs → AddsAnswers mid new ys → AddsAnswers old new (xs ++ ys)
 adds_both old mid new xs ys h g = record {
-  tells = g.tells ∙ ap (λ t. with_answers t ys) h.tells ∙ with_more old.pair.told xs ys;
+  tells = g.tells ∙ ap (λ t. with_answers t ys) h.tells ∙ with_more old.links.told xs ys;
   link = omega (arith, h.link, g.link);
   idles = λ start r. g.idles start (h.idles start r);
   log = writes_both old.desk mid.desk new.desk h.log g.log;
@@ -42,7 +42,7 @@ adds_both old mid new xs ys h g = record {
 pub goes_none : (asset : Asset) (most : ℕ) (now : Scene) → DoesBetween asset most [] now now
 goes_none asset most now = record {
   answers = [];
-  adds = record { tells = with_none now.pair.told; link = omega arith; idles = λ start r. r; log = writes_none now.desk };
+  adds = record { tells = with_none now.links.told; link = omega arith; idles = λ start r. r; log = writes_none now.desk };
   still = refl;
   does = λ first own es st. (refl, apart_none own now.desk.lines now.desk.lines (λ log. StandsFor asset first (es ++ []) now.relaying log) refl (subst (λ (x : List Entry). StandsFor asset first x now.relaying own) (sym (append-nil es)) st));
 }
@@ -66,7 +66,7 @@ stopped_at : (asset : Asset) (most : ℕ) (first : Option (List (List ℕ))) (es
     StandsStopped asset most first es why now.relaying log now.desk.line_part → StandsStopped asset most first fs why now.relaying log now.desk.line_part
 stopped_at asset most first es fs why now e log st = subst (λ (x : List Entry). StandsStopped asset most first x why now.relaying log now.desk.line_part) e st
 
-cause_later : (why : Stop) (old mid new : Scene) (xs : List Entry) → AddsAnswers old mid xs → mid.pair.faults ≡ old.pair.faults → StopsBy why mid new → StopsBy why old new
+cause_later : (why : Stop) (old mid new : Scene) (xs : List Entry) → AddsAnswers old mid xs → mid.links.faults ≡ old.links.faults → StopsBy why mid new → StopsBy why old new
 cause_later stop.Idle old mid new xs h still c = c ∙ still
 cause_later (stop.Cut reason) old mid new xs h still c = c ∙ still
 cause_later stop.Link old mid new xs h still c = omega (arith, h.link, c)
@@ -121,7 +121,7 @@ faults_of before now r why was link = record {
   still = λ never. link.still (λ is. never cc);
 }
 
-pub stop_cause : (why : Stop) (old new : Scene) → FaultsBy old.pair.faults new.pair.faults (why ≡ stop.Link) → (why ≡ stop.Write → Rose old.desk.faults new.desk.faults) → StopsBy why old new
+pub stop_cause : (why : Stop) (old new : Scene) → FaultsBy old.links.faults new.links.faults (why ≡ stop.Link) → (why ≡ stop.Write → Rose old.desk.faults new.desk.faults) → StopsBy why old new
 stop_cause stop.Link old new link write = link.rose refl
 stop_cause stop.Idle old new link write = link.still (λ is. cc)
 stop_cause stop.Write old new link write = (link.still (λ is. cc), write refl)

@@ -1,16 +1,19 @@
 -- What a relay keeps between two stages stands for the list of answers: StandsFor; and what it stands for as it stops. This
 -- project's own.
 use Rattle.cf_audit.specs.declared.line.CutReason.{CutReason}
-use Rattle.cf_lane.specs.Follows.{Began, Follows}
+use Rattle.cf_lane.specs.Follows.{Began, Follows, no_rests}
+use Rattle.cf_lane.specs.Handled.{IsLaneOf, LaneValue, debt, state}
 use Rattle.cf_lane.specs.History.{Element, bytes_at, ended_of, taken}
 use Rattle.cf_lane.specs.Judged.{Judged, is_admitted, is_refused}
 use Rattle.cf_lane.specs.Limit.{limit_cut}
 use Rattle.cf_lane.specs.Log.{lines, with_lines}
 use Rattle.cf_lane.specs.Output.{other, outputs, stream_to}
 use Rattle.cf_lane.specs.declared.limit.TheConstants.{LETTER_LIMIT}
+use Rattle.cf_outq.specs.SendQueue.{IsQueueOf, Queue}
 use Rattle.cf_outside.specs.Pair.{Entry}
 use Rattle.cf_policy.specs.declared.Asset.{Asset}
-use Rattle.cf_stream.specs.Stream.{letter_count}
+use Rattle.cf_stream.specs.Stream.{letter_count, no_letters}
+use Rattle.cf_view.specs.declared.Endpoint.{Endpoint}
 use Rattle.cf_view.specs.declared.Side.{Side}
 use Rattle.std.specs.Prelude.{List, None, Option, Some, [], count_by, length, true, ℕ, ◌++◌, ◌<◌, ◌∷◌, ◌≡◌, ◌⊎◌}
 use Rattle.cf_view.specs.declared.Side.TheVariants as side
@@ -44,6 +47,14 @@ pub record StandsFor (asset : Asset) (first : Option (List (List ℕ))) (es : Li
   pub done : (s : Side) → is_closed s now ≡ true → ((queue_to s now).kept ≡ []) × ((queue_to s now).ended ≡ true)
   pub moment : now.moment ≡ moment_of es
   pub idle : now.idle ≡ idle_run es
+
+-- a lane of an asset and a client that has handled nothing: with two empty queues it follows an empty history over any log
+pub record IsNewLane (asset : Asset) (client : Endpoint) (lane : LaneValue) : Type 0 where
+  pub of_asset : IsLaneOf asset lane
+  pub of_client : lane.client ≡ client
+  pub counts : (lane.admitted ≡ 0) × (lane.refused ≡ 0) × (debt lane ≡ 0)
+  pub follows : (to_client to_controller : Queue) (first : Option (List (List ℕ))) → IsQueueOf to_client no_letters
+      → IsQueueOf to_controller no_letters → Follows asset [] no_rests None first (state lane to_client to_controller first)
 
 -- each side was given a prefix of the stream to it
 abbrev pub IsPrefix : List ℕ → List ℕ → Type 0

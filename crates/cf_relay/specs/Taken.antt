@@ -5,6 +5,7 @@ use Rattle.cf_lane.specs.Handled.{IsLaneOf, IsOpen, State, debt}
 use Rattle.cf_lane.specs.History.{Element, end_at, is_side}
 use Rattle.cf_lane.specs.Limit.{limit_by}
 use Rattle.cf_lane.specs.declared.limit.TheConstants.{LETTER_LIMIT}
+use Rattle.cf_links.specs.Links.{SessionTold, with_answers}
 use Rattle.cf_outq.specs.SendQueue.{Queue}
 use Rattle.cf_outside.specs.Desk.{DeskValue}
 use Rattle.cf_outside.specs.Pair.{Ended, Entry, Finished, Got, Idle, Met, Moment, Took}
@@ -12,7 +13,7 @@ use Rattle.cf_policy.specs.declared.Asset.{Asset}
 use Rattle.cf_view.specs.declared.Side.{Side}
 use Rattle.std.specs.Prelude.{Bool, Err, List, None, Ok, Option, Result, Some, [], if◌then◌else◌, length, true, ℕ, ◌++◌, ◌+◌, ◌<◌, ◌∷◌, ◌≡◌, ◌≤◌, ◌||◌, ◌⊎◌}
 use Rattle.cf_view.specs.declared.Side.TheVariants as side
-use Rattle.cf_relay.specs.Answers.{element_of, idles_after, with_answers}
+use Rattle.cf_relay.specs.Answers.{element_of, idles_after}
 use Rattle.cf_relay.specs.Turn.{IsTakeAnswer}
 use Rattle.cf_relay.specs.declared.stop.Stop.{Stop}
 use Rattle.cf_relay.specs.declared.stop.Stop.TheVariants as stop
@@ -88,7 +89,7 @@ MissesLine asset moment s (Idle of) rest old desk = ⊥
 MissesLine asset moment s (Finished of) rest old desk = ⊥
 
 -- a side that was asked answered
-pub record AnswersTo (s : Side) (answer : Entry) (told_before told_after : Option (List Entry))
+pub record AnswersTo (s : Side) (answer : Entry) (told_before told_after : SessionTold)
     (idle_before idle_after letters_before letters_after : ℕ) : Type 0 where
   pub is_taken : IsTakeAnswer s answer
   pub tells : told_after ≡ with_answers told_before (answer ∷ [])
@@ -101,9 +102,9 @@ pub record TakeState : Type 0 where
   pub rest : List ℕ
   pub letters : ℕ
   pub idle : ℕ
-  pub told : Option (List Entry)
+  pub told : SessionTold
 
-abbrev pub take_state : State → (rest : List ℕ) → (letters idle : ℕ) → Option (List Entry) → TakeState
+abbrev pub take_state : State → (rest : List ℕ) → (letters idle : ℕ) → SessionTold → TakeState
 take_state state rest letters idle told = record { state = state; rest = rest; letters = letters; idle = idle; told = told }
 
 -- a side was asked, answered, and the lane handled it
