@@ -9,7 +9,7 @@ use Rattle.cf_outside.specs.Files.{Content, IsPartly, absent, content_after_crea
 use Rattle.cf_outside.specs.Lines.{ends_with_line, file_lines, file_part, lines_from, rest_from}
 use Rattle.cf_outside.specs.Pair.{Entry}
 use Rattle.cf_policy.specs.declared.Asset.{Asset}
-use Rattle.cf_relay.proofs.Ending.{empty_judged, relayed_none}
+use Rattle.cf_relay.proofs.Starting.{empty_judged, relayed_none}
 use Rattle.cf_relay.specs.Closing.{BeginsLines}
 use Rattle.cf_relay.specs.Ends.{EndsAs, IsMemoryEnd, IsFileTold, IsWriteEnd, LogContents, RelayEnds, file_log}
 use Rattle.cf_relay.specs.declared.done.RelayDone.{RelayDone}

@@ -1,3 +1,4 @@
+-- The interface of lemmas for the crates above: Lined and Turned.
 mod Asked
 mod Asking
 mod Doing
@@ -6,7 +7,7 @@ mod Files
 mod Gave
 mod Giving
 mod Hearing
-mod Lined
+pub mod Lined
 mod Lists
 mod Moving
 mod OnePair
@@ -14,5 +15,7 @@ mod Scenes
 mod Serving
 mod Stages
 mod Standing
+mod Starting
 mod Taking
+pub mod Turned
 mod Turning

@@ -2,9 +2,9 @@ use Rattle.std.proofs.Common.{List, Option, [], ap, arith, inr, refl, subst, sym
 use Rattle.cf_audit.specs.Line.{Begun}
 use Rattle.cf_lane.specs.Log.{line_about, with_lines}
 use Rattle.cf_outside.specs.Pair.{Moment, met_at}
-use Rattle.cf_relay.proofs.Ending.{link_first, link_met, new_lane, write_told}
 use Rattle.cf_relay.proofs.Lined.{lines_none}
 use Rattle.cf_relay.proofs.OnePair.{all_none, told_two}
+use Rattle.cf_relay.proofs.Starting.{link_first, link_met, new_lane, write_told}
 use Rattle.cf_relay.specs.Relaying.{RelayingValue, relaying_value}
 use Rattle.cf_relay.specs.Stands.{StandsFor}
 use Rattle.cf_relay.proofs.top.relay_desk.Goals as goal
