@@ -1,4 +1,4 @@
--- The interface of lemmas for the crates above: Lined and Turned.
+-- The interface of lemmas for the crates above: Lined, Starting and Turned.
 mod Asked
 mod Asking
 mod Doing
@@ -15,7 +15,7 @@ mod Scenes
 mod Serving
 mod Stages
 mod Standing
-mod Starting
+pub mod Starting
 mod Taking
 pub mod Turned
 mod Turning

@@ -9,7 +9,6 @@ use Rattle.cf_lane.specs.History.{ended_of, taken}
 use Rattle.cf_lane.specs.Log.{line_about, with_lines}
 use Rattle.cf_lane.specs.Output.{other, outputs}
 use Rattle.cf_outq.specs.SendQueue.{IsQueueOf, Queue, empty}
-use Rattle.cf_outside.specs.Desk.{DeskValue}
 use Rattle.cf_outside.specs.Pair.{Entry, Moment, met_at}
 use Rattle.cf_policy.specs.declared.Asset.{Asset}
 use Rattle.cf_stream.specs.Stream.{letter_count, no_letters}
@@ -20,8 +19,8 @@ use Rattle.cf_relay.proofs.Lined.{lines_both, lines_none}
 use Rattle.cf_relay.proofs.Standing.{limit_is}
 use Rattle.cf_relay.proofs.Stages.{breaks_nothing, does_broken}
 use Rattle.cf_relay.specs.Answers.{given, history_of, is_finished}
-use Rattle.cf_relay.specs.Closing.{BeginsLines, desk_log}
-use Rattle.cf_relay.specs.Ends.{IsLinkEnd, IsWriteEnd}
+use Rattle.cf_relay.specs.Closing.{BeginsLines}
+use Rattle.cf_relay.specs.Ends.{LogContents, IsLinkEnd, IsWriteEnd}
 use Rattle.cf_relay.specs.Relaying.{IsSound, RelayingValue, begun_value, is_closed, letters_from, queue_to}
 use Rattle.cf_relay.specs.Stands.{GivenPrefixes, IsNewLane, StandsFor}
 use Rattle.cf_relay.specs.Turn.{IsUnstopped, DoesStages, IsRelayed, Meeting, Telling, stages}
@@ -75,27 +74,31 @@ module _ (asset : Asset) (listen most : ℕ) (few : 0 < most) where
 no_prefixes : (asset : Asset) (es : List Entry) → ((s : Side) → given s es ≡ []) → GivenPrefixes asset es []
 no_prefixes asset es none s = ([], sym (append-nil (given s es) ∙ none s))
 
-module _ (asset : Asset) (listen most : ℕ) (few : 0 < most) (base : Option (List (List ℕ))) (desk : DeskValue) where
-  pub link_first : desk.lines ≡ base → desk.whole ≡ true → IsLinkEnd asset listen most (desk_log base desk) []
+module _ (asset : Asset) (listen most : ℕ) (few : 0 < most) (log : LogContents) where
+  -- no client was met
+  pub link_first : log.Holds [] → IsLinkEnd asset listen most log []
   unfolding goes_first
-  link_first same whole = record {
+  link_first none = record {
     relayed = relayed_none asset listen most few;
     goes = goes_first asset listen most few;
     prefixes = no_prefixes asset [] (λ s. refl);
-    holds_log = (same ∙ lines_none base, whole);
+    holds_log = none;
   }
 
-  pub link_met : (client : Endpoint) → desk.lines ≡ base → desk.whole ≡ true → IsLinkEnd asset listen most (desk_log base desk) (met_at listen asset.endpoint client ∷ [])
+  -- no moment was told
+  pub link_met : (client : Endpoint) → log.Holds [] → IsLinkEnd asset listen most log (met_at listen asset.endpoint client ∷ [])
   unfolding goes_met
-  link_met client same whole = record {
+  link_met client none = record {
     relayed = relayed_met asset listen most few client;
     goes = goes_met asset listen most few client;
     prefixes = no_prefixes asset (met_at listen asset.endpoint client ∷ []) (λ s. refl);
-    holds_log = (same ∙ lines_none base, whole);
+    holds_log = none;
   }
 
-  pub write_told : (client : Endpoint) (m : ℕ) → MayHaveMore (line_about asset client m Begun ∷ []) base desk.lines desk.line_part → IsWriteEnd asset listen most (desk_log base desk) (met_at listen asset.endpoint client ∷ Moment m ∷ [])
-  write_told client m may = record {
+  -- the line of the beginning failed
+  pub write_told : (client : Endpoint) (m : ℕ) (base all : Option (List (List ℕ))) (part : List ℕ) → MayHaveMore (line_about asset client m Begun ∷ []) base all part →
+      ((ls : List (List ℕ)) → BeginsLines base all part ls → log.Begins ls) → IsWriteEnd asset listen most log (met_at listen asset.endpoint client ∷ Moment m ∷ [])
+  write_told client m base all part may begins = record {
     relayed = relayed_told asset listen most few client m;
     history = [];
     is_short = inl refl;
@@ -104,7 +107,7 @@ module _ (asset : Asset) (listen most : ℕ) (few : 0 < most) (base : Option (Li
     prefixes = no_prefixes asset (met_at listen asset.endpoint client ∷ Moment m ∷ []) (λ s. refl);
     last = [];
     is_last = inl refl;
-    begins = begins_last base desk.lines desk.line_part [] (line_about asset client m Begun) (subst (λ x. MayHaveMore (line_about asset client m Begun ∷ []) x desk.lines desk.line_part) (lines_none base) may);
+    begins = begins _ (begins_last base all part [] (line_about asset client m Begun) (subst (λ x. MayHaveMore (line_about asset client m Begun ∷ []) x all part) (lines_none base) may));
   }
 
 -- ---- the beginning of the turns
