@@ -23,9 +23,11 @@ act_of a e i =
       value = number_at e.number a.objects (object_place e i + 3);
     }
 
+-- an act for each information object of a type with this element, and none of a type that is not served
 abbrev pub acts_by : Option Element → AsduValue → List Act
 acts_by None a = []
 acts_by (Some e) a = map (act_of a e) (range_with_len 0 a.number)
 
+-- the acts of an ASDU, by the element of its type
 unfoldable pub acts : AsduValue → List Act
 acts a = acts_by (element_of a.kind) a

@@ -3,6 +3,7 @@ use Rattle.std.specs.Prelude.{ℕ, List, [], ◌∷◌, Option, None, Some}
 use Rattle.cf_run.specs.RunCapture.{RunNamesValue}
 use Rattle.cf_sift.specs.Names.{SiftNamesValue}
 
+-- a command of the program, with the names of its files and its other words
 pub data Command : Type 0 where
   Check : (policy : List ℕ) → Command
   Compare : (policy other : List ℕ) → Command

@@ -16,6 +16,7 @@ use Rattle.cf_box.specs.declared.ending.Stop.{Stop}
 use Rattle.cf_box.specs.declared.ending.Stop.TheVariants as stop
 use Rattle.cf_sift.specs.Outputs.{KeepsAllBut}
 
+-- the words after `learn`: the names of a policy, of a capture and of the policy that is written
 abbrev pub learn_of : List (List ℕ) → Option Command
 learn_of (policy ∷ capture ∷ out ∷ []) = if are_names (policy ∷ capture ∷ out ∷ []) then Some (Learn policy capture out) else None
 learn_of _ = None

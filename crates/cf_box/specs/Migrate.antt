@@ -12,6 +12,7 @@ use Rattle.cf_box.specs.declared.ending.Stop.{Stop}
 use Rattle.cf_box.specs.declared.ending.Stop.TheVariants as stop
 use Rattle.cf_sift.specs.Outputs.{KeepsAllBut}
 
+-- the words after `migrate`: the name of a policy and that of the policy that is written
 abbrev pub migrate_of : List (List ℕ) → Option Command
 migrate_of (policy ∷ out ∷ []) = if are_names (policy ∷ out ∷ []) then Some (Migrate policy out) else None
 migrate_of _ = None

@@ -19,6 +19,7 @@ is_command code = nat_le 3 code && nat_le code 6
 abbrev pub is_write : ℕ → Bool
 is_write code = code == 2
 
+-- the object has this group and this variation
 abbrev pub is_object : ℕ → ℕ → ℕ → ℕ → Bool
 is_object group variation g v = (group == g) && (variation == v)
 

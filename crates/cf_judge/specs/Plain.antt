@@ -46,6 +46,7 @@ pub data Ending : Type 0 where
   Whole : Ending
   Breaks : (record_number : ℕ) → Break → Ending
 
+-- what follows the last unit: a proper prefix of one, or octets that break, and then the record of the octet that does
 abbrev pub HasEnding : Asset → (bytes born : List ℕ) → Ending → Type 0
 HasEnding asset bytes born Whole = IsPartial (SpellsUnit asset.protocol) bytes
 HasEnding asset bytes born (Breaks number reason) =

@@ -23,6 +23,7 @@ abbrev pub GoesOnAfter : Option CutReason → (later : List Judged) → (going :
 GoesOnAfter None later going = going
 GoesOnAfter (Some reason) later going = later ≡ []
 
+-- items are dropped only after one that cuts
 abbrev pub GoesOn : (judged : List Judged) → (dropped : List Placed) → Type 0
 GoesOn [] dropped = dropped ≡ []
 GoesOn (j ∷ js) dropped = GoesOnAfter (cut_by j.fate) js (GoesOn js dropped)

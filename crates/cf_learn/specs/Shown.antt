@@ -28,6 +28,7 @@ pub data Message : Type 0 where
   Fragment : (octets : List ℕ) → Message
   Asdu : (octets : List ℕ) → Message
 
+-- the message that one unit is, if it is one; those of DNP3 are made of several frames
 abbrev pub message_in : UnitValue → List Message
 message_in (Adu a) = Request a ∷ []
 message_in (Frame x) = []

@@ -40,6 +40,7 @@ abbrev pub options_within : (count : ℕ) → Bool → List ℕ → List BlockOp
 options_within zero big_endian octets = []
 options_within (suc count) big_endian octets = with_first (first_option big_endian octets) (λ size. options_within count big_endian (drop size octets))
 
+-- the options in these octets, up to the end of the list
 abbrev pub options_of : Bool → List ℕ → List BlockOptionValue
 options_of big_endian octets = options_within (length octets) big_endian octets
 

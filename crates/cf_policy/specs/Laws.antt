@@ -9,6 +9,7 @@ use Rattle.cf_policy.specs.declared.policy.Verdict.{Verdict}
 use Rattle.cf_policy.specs.declared.policy.Verdict.TheVariants as verdict
 use Rattle.cf_policy.specs.Verdict.{has_act, verdict_of}
 
+-- the verdict allows the act
 abbrev pub IsAllowed : Verdict → Type 0
 IsAllowed (verdict.Allow n) = Unit {0}
 IsAllowed _ = ⊥

@@ -26,17 +26,21 @@ has_other known (member text value members) = not (is_among known text) || has_o
 abbrev pub stated : Key → Members → Option Data
 stated key members = get_member (key_text key) members
 
+-- the value of a key that must be there
 abbrev pub required : Key → Place → Members → Tested Data
 required key place members = or_refused cause.MissingKey key place (stated key members)
 
+-- a value that must be a text
 abbrev pub as_text : Key → Place → Data → Tested (List ℕ)
 as_text key place (string s) = Ok s
 as_text key place _ = refused cause.WrongKind key place
 
+-- a value that must be an integer
 abbrev pub as_number : Key → Place → Data → Tested ℤ
 as_number key place (integer z) = Ok z
 as_number key place _ = refused cause.WrongKind key place
 
+-- a value that must be a table
 abbrev pub as_table : Key → Place → Data → Tested Members
 as_table key place (table members) = Ok members
 as_table key place _ = refused cause.WrongKind key place
@@ -60,6 +64,7 @@ abbrev pub all_kind : Kind → Items → Bool
 all_kind key no_items = true
 all_kind key (item value items) = is_kind key value && all_kind key items
 
+-- how many values an array has
 abbrev pub count : Items → ℕ
 count no_items = 0
 count (item value items) = 1 + count items

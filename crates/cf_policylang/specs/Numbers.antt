@@ -20,6 +20,7 @@ has_spare text =
 abbrev pub within : ℤ → ℤ → ℤ → Option ℤ
 within low high z = if int_le low z && int_le z high then Some z else None
 
+-- the number of a text, where it lies in the range
 abbrev pub printed_number_in : ℤ → ℤ → List ℕ → Option ℤ
 printed_number_in low high text = option_and_then (within low high) (printed_number text)
 
@@ -44,6 +45,7 @@ number_span low high text =
     let both = ends text in
     option_and_then (λ a. option_and_then (span a) (printed_number_in low high both.1)) (printed_number_in low high both.0)
 
+-- an octet of a dotted address
 abbrev pub octet : List ℕ → Option ℕ
 octet text = option_map nat_abs (printed_number_in (pos 0) (pos 255) text)
 
@@ -51,6 +53,7 @@ octet text = option_map nat_abs (printed_number_in (pos 0) (pos 255) text)
 abbrev pub joined : ℕ → ℕ → ℕ → ℕ → ℕ
 joined a b c d = ((a * 256 + b) * 256 + c) * 256 + d
 
+-- the address of four octets, each a text
 abbrev pub octets : List ℕ → List ℕ → List ℕ → List ℕ → Option ℕ
 octets a b c d =
     option_and_then (λ i. option_and_then (λ j. option_and_then (λ k. option_map (joined i j k) (octet d)) (octet c)) (octet b)) (octet a)

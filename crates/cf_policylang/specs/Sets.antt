@@ -23,6 +23,7 @@ use Rattle.cf_policylang.specs.Tested.{Tested, and_then, refused, or_refused, at
 
 -- ---- the sets of a document
 
+-- the keys that a set may have
 abbrev pub set_keys : List Key
 set_keys = key.Name ∷ key.Points ∷ []
 
@@ -30,6 +31,7 @@ set_keys = key.Name ∷ key.Points ∷ []
 abbrev pub is_set_taken : List PointSet → List ℕ → Bool
 is_set_taken seen text = list_any (λ s. bytes_eq s.name text) seen
 
+-- the name of a set, which no earlier one has
 abbrev pub set_name : Place → List PointSet → Members → Tested (List ℕ)
 set_name place seen members =
     and_then (name place members) (λ text. if is_set_taken seen text then refused cause.Duplicate key.Name place else Ok text)
@@ -58,6 +60,7 @@ set_items (Some value) =
     and_then (as_array_of kind.Table key.Set at_document value) (λ items.
     if nat_lt MOST_SETS (count items) then refused cause.TooMany key.Set at_document else Ok items)
 
+-- the sets of a document, tested in their order
 abbrev pub sets : Members → Tested (List PointSet)
 sets members = and_then (set_items (stated key.Set members)) (λ items. sets_from 0 items [])
 
@@ -87,6 +90,7 @@ abbrev pub entry_spans : List PointSet → Place → List ℕ → Option (List �
 entry_spans sets place text (Some set) = set_spans sets place set
 entry_spans sets place text None = own_span place text
 
+-- the spans of one entry of a rule's points: its own, or those of the set that it names
 abbrev pub point_entry : Named → Place → Data → Tested (List Span)
 point_entry named place value =
     and_then (as_text key.Points place value) (λ text. entry_spans named.sets place text (named_in named.edition text))
@@ -104,6 +108,7 @@ stated_points named place value =
     and_then (points_from named place items []) (λ own.
     if nat_lt most_spans (length own) then refused cause.TooMany key.Points place else Ok own))
 
+-- the points of a rule, none where the key is not there
 abbrev pub points_if_any : Named → Place → Option Data → Tested (List Span)
 points_if_any named place None = Ok []
 points_if_any named place (Some value) = stated_points named place value

@@ -32,9 +32,11 @@ open_lines asset client (moment ∷ later) = line_about asset client moment Begu
 abbrev pub log_of : Asset → List Entry → List Judged → List (List ℕ)
 log_of asset es js = open_lines asset (client_of es) (moments es) ++ lines asset (client_of es) [] js
 
+-- the line of the closing, at the greatest moment told
 abbrev pub close_line : Asset → List Entry → (admitted refused : ℕ) → List ℕ
 close_line asset es admitted refused = line_about asset (client_of es) (moment_of es) (Close admitted refused)
 
+-- the line of the cut, at the greatest moment told
 abbrev pub cut_line : Asset → List Entry → CutReason → List ℕ
 cut_line asset es reason = line_about asset (client_of es) (moment_of es) (Cut reason)
 
@@ -142,6 +144,7 @@ IdlesRoseAt most before now ends.Done = Unit {0}
 IdlesRoseAt most before now ends.IdleEnd = RoseBy most before now
 IdlesRoseAt most before now (ends.Cut reason) = Unit {0}
 
+-- the pair's count of idle answers rose by as many as the answer says; of a fault nothing is said
 abbrev pub IdlesRose : (most : ℕ) → (before now : ℕ) → Result RelayDone RelayFault → Type 0
 IdlesRose most before now (Ok done) = IdlesRoseAt most before now done.end
 IdlesRose most before now (Err fault) = Unit {0}

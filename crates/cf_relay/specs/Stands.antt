@@ -44,6 +44,7 @@ pub record StandsFor (asset : Asset) (first : Option (List (List ℕ))) (es : Li
 abbrev pub IsPrefix : List ℕ → List ℕ → Type 0
 IsPrefix xs all = (more : List ℕ) × (all ≡ xs ++ more)
 
+-- each side was given a beginning of the stream to it
 abbrev pub GivenPrefixes : Asset → List Entry → List Judged → Type 0
 GivenPrefixes asset es js = (s : Side) → IsPrefix (given s es) (outputs asset s [] js)
 

@@ -59,6 +59,7 @@ IsTakeAnswer s (Ended of) = of ≡ s
 IsTakeAnswer s (Idle of) = of ≡ s
 IsTakeAnswer s (Finished of) = ⊥
 
+-- the list is not empty
 abbrev pub HasBytes : List ℕ → Type 0
 HasBytes [] = ⊥
 HasBytes (x ∷ xs) = Unit {0}
@@ -93,6 +94,7 @@ pub record MayFinish (asset : Asset) (s : Side) (es : List Entry) (js : List Jud
   pub ends : (queue_of asset s es js).ended ≡ true
   pub first : is_finished s es ≡ false
 
+-- a stage of a relay: meeting, telling the moment, taking from a side, giving to a side, or closing it
 pub data Stage : Type 0 where
   -- at a port
   Meeting : ℕ → Stage

@@ -58,12 +58,15 @@ is_controllers origins.Mirror = false
 abbrev pub from_client : List Event → ℕ
 from_client events = length (client_frames events)
 
+-- how many I frames went to the controller
 abbrev pub to_controller : List Event → ℕ
 to_controller events = count_by is_admitted (client_frames events)
 
+-- how many I frames the controller sent
 abbrev pub from_controller : List Event → ℕ
 from_controller events = count_by is_controllers (frames_to_client events)
 
+-- how many I frames went to the client, the controller's and mirrors
 abbrev pub to_client : List Event → ℕ
 to_client events = length (frames_to_client events)
 
@@ -192,6 +195,7 @@ unacked_by_controller events = from_client events - covered_by (acked_by_control
 abbrev pub client_ack_refusal : List Event → ℕ → Option NumberRefusal
 client_ack_refusal events nr = receive_refusal (acked_by_client events) (to_client events) nr
 
+-- what is wrong with a receive number of the controller, if anything is
 abbrev pub controller_ack_refusal : List Event → ℕ → Option NumberRefusal
 controller_ack_refusal events nr = receive_refusal (acked_by_controller events) (to_controller events) nr
 

@@ -40,10 +40,12 @@ matters octets (fate.Cuts because) = []
 abbrev pub unit_remarks : Asset → FlowValue → (earlier : List Judged) → Judged → List RemarkValue
 unit_remarks asset f earlier j = map (remark_on f j.moment) (matters (octets_of asset earlier j.item) j.fate)
 
+-- the remark of an end of a flow's bytes: one where they break
 abbrev pub end_remarks : FlowValue → Ending → List RemarkValue
 end_remarks f Whole = []
 end_remarks f (Breaks number reason) = remark_on f number (Broken reason) ∷ []
 
+-- the remark of a flow's conflict, if it has one
 abbrev pub conflict_remarks : FlowValue → Option ConflictOf → List RemarkValue
 conflict_remarks f None = []
 conflict_remarks f (Some c) = remark_on f c.at_record (Conflict c.position) ∷ []
@@ -69,6 +71,7 @@ remarks_by (Some asset) r = flow_remarks asset r.flow r.judged r.ending
 abbrev pub remarks_on : List Asset → List Reading → List RemarkValue
 remarks_on assets readings = flat_map (λ r. remarks_by (slice_get assets r.flow.asset) r) readings
 
+-- the remark is of the record of this number
 abbrev pub is_at : (record_number : ℕ) → RemarkValue → Bool
 is_at number r = r.at_record == number
 

@@ -91,6 +91,7 @@ section_at section place octets =
 
 -- ---- both
 
+-- what stands at a place of a file, in either form
 abbrev pub at_place : Form → ℕ → List ℕ → AtPlace
 at_place (form.Classic header) place octets = classic_at header place octets
 at_place (form.Blocks section) place octets = section_at section place octets
@@ -105,6 +106,7 @@ pub record LastPlace : Type 0 where
   pub place : ℕ
   pub found : AtPlace
 
+-- it ends the records: neither a record nor a block that is passed over
 abbrev pub IsLast : AtPlace → Type 0
 IsLast (Fits r used) = ⊥
 IsLast (Passes used) = ⊥

@@ -56,6 +56,7 @@ pub record IsHalfBeforeBeginning (assets : List Asset) (before : List Session) (
 abbrev pub IsSecondHalf : List Asset → (limit : ℕ) → List Session → Input → Half → Type 0
 IsSecondHalf assets limit before input half = (event : Event) × (event.input ≡ input) × IsEvent assets limit before event × (half ≡ second_half before event)
 
+-- a half that the event of a record may have at this table
 abbrev pub IsHalfOf : List Asset → (limit : ℕ) → List Session → Input → Half → Type 0
 IsHalfOf assets limit before input half = IsFirstHalf before input half ⊎ IsSecondHalf assets limit before input half
 

@@ -44,6 +44,7 @@ AreTimedPieces file_form least place octets (None ∷ more) last =
     (used : ℕ) × (timed least (at_place file_form place octets) ≡ Passes used)
     × AreTimedPieces (form_behind file_form octets) least (place + used) (drop used octets) more last
 
+-- these are the records, each tested with its moment, of which none is below the least one
 abbrev pub AreTimed : Form → (least place : ℕ) → List ℕ → List Record → LastPlace → Type 0
 AreTimed file_form least place octets records last =
     (pieces : List (Option Record)) × AreTimedPieces file_form least place octets pieces last × (records ≡ records_among pieces)

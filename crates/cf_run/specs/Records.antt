@@ -17,6 +17,7 @@ HaveOneList =
     (file_form : Form) (place : ℕ) (octets : List ℕ) (rs ss : List Record) (e g : LastPlace) →
     AreRecords file_form place octets rs e → AreRecords file_form place octets ss g → (rs ≡ ss) × (e ≡ g)
 
+-- octets have one list of timed records, and one end
 abbrev pub HaveOneTimedList : Type 0
 HaveOneTimedList =
     (file_form : Form) (least place : ℕ) (octets : List ℕ) (rs ss : List Record) (e g : LastPlace) →

@@ -27,9 +27,11 @@ IsBrokenOff ending = (rst : PacketValue) × (ending ≡ Cut rst)
 
 -- ---- the beginning: the box sends its SYN to the controller
 
+-- the SYN that the box sends to the controller, with the number of the client's own
 abbrev pub greets_controller : Flow → Came
 greets_controller flow = Greeting (syn (controller_ends flow) flow.syn.seq)
 
+-- the first event of a session: the SYN goes out, and nothing else happens
 pub record IsBeginning (flow : Flow) (tick : ℕ) (event : SessionEvent) : Type 0 where
   pub right : AreRight flow [] event
   -- the speech says nothing, and starts the timer of the SYN
@@ -46,6 +48,7 @@ abbrev pub EndsTick : (cut : Option CutReason) → Ending → Type 0
 EndsTick None ending = ending ≡ Unspoken
 EndsTick (Some because) ending = IsBrokenOff ending
 
+-- the first half of a later event: both clock calls, and a cut where an end gives up
 pub record IsTick (flow : Flow) (earlier : List SessionEvent) (tick : ℕ) (event : SessionEvent) : Type 0 where
   pub right : AreRight flow earlier event
   pub controller_tick : event.controller.tick ≡ tick
@@ -69,10 +72,12 @@ abbrev pub came_controller : (from : Side) → PacketValue → Came
 came_controller side.Client packet = Nothing
 came_controller side.Controller packet = Packet packet
 
+-- what comes at the client's end: its own packet, or its greeting as the controller's end opens
 abbrev pub came_client : Flow → (from : Side) → PacketValue → (opens : Bool) → Came
 came_client flow side.Client packet opens = Packet packet
 came_client flow side.Controller packet opens = if opens then Greeting (syn_ack_for (client_ends flow) flow.syn.seq packet.seq) else Nothing
 
+-- nothing is cut
 abbrev pub is_none : Option CutReason → Bool
 is_none None = true
 is_none (Some because) = false
@@ -95,6 +100,7 @@ EndsPacket (Some because) stream roomy ending = IsBrokenOff ending
 abbrev pub GoesOn : (half event : LegEvent) → Type 0
 GoesOn half event = (event.tick ≡ half.tick) × (event.ticked ≡ half.ticked)
 
+-- the second half: it goes on with the first, its packet comes at the end of its side, and what is taken is fed to the lane
 pub record IsPacket (flow : Flow) (limit : ℕ) (earlier : List SessionEvent) (half : SessionEvent) (from : Side) (packet : PacketValue) (event : SessionEvent) : Type 0 where
   pub right : AreRight flow earlier event
   pub controller_on : GoesOn half.controller event.controller

@@ -27,6 +27,7 @@ pub record Given : Type 0 where
   pub from_client : Option PacketValue
   pub from_controller : Option PacketValue
 
+-- what an event is given, by its two ends
 abbrev pub given : SessionEvent → Given
 given event = record { tick = event.client.tick; from_client = packet_in event.client.came; from_controller = packet_in event.controller.came }
 

@@ -66,6 +66,7 @@ module _ (asset : Asset) (client : Endpoint) (names : SiftNamesValue) (first now
   abbrev pub HasReplies : List Judged → Type 0
   HasReplies judged = now names.replies ≡ with_appended (first names.replies) (outputs asset side.Client [] judged)
 
+  -- or all of the earlier replies, and a beginning of what follows
   abbrev pub GoesOnReplies : (before judged : List Judged) → Type 0
   GoesOnReplies before judged =
       (k : ℕ) × (length (outputs asset side.Client [] before) ≤ k)

@@ -16,6 +16,7 @@ pub record Carried : Type 0 where
 abbrev pub end_after : (at : ℤ) (count : ℕ) → ℕ
 end_after at count = if count == 0 then 0 else place_or_zero (at +ℤ pos count)
 
+-- the place after the last letter of a packet
 abbrev pub end_of : Carried → ℕ
 end_of c = end_after c.at (letter_count c.text)
 
@@ -75,6 +76,7 @@ pub record IsConflictWith (copy : ℕ → Option Letter) (c : Carried) (conflict
   pub here : Differs copy c place
   pub lowest : (p : ℕ) → Differs copy c p → place ≤ p
 
+-- the conflict of a packet, or that it has none
 abbrev pub IsConflictOf : (ℕ → Option Letter) → Carried → Option Conflict → Type 0
 IsConflictOf copy c None = (p : ℕ) → Differs copy c p → ⊥
 IsConflictOf copy c (Some conflict) = IsConflictWith copy c conflict
