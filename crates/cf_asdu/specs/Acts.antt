@@ -1,6 +1,5 @@
--- What a command does: an act for each information object, in order.
--- IEC 60870-5-101, section 7.2.5: an information object address of three octets, the low one first. That a command is judged by
--- acts, and the group of an act, are this project's own.
+-- What a command does: `acts`, an act for each information object, in order. IEC 60870-5-101, section 7.2.5: an information object
+-- address of three octets, the low one first. That a command is judged by acts, and the group of an act, are this project's own.
 use Rattle.std.specs.Prelude.{ℕ, ◌+◌, ◌*◌, ◌%◌, List, [], map, Option, Some, None}
 use Rattle.std.specs.List.{range_with_len}
 use Rattle.cf_view.specs.declared.Act.{Act}

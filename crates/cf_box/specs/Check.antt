@@ -1,4 +1,4 @@
--- `check POLICY`: a policy is read, and its assets and rules are counted.
+-- `check POLICY`: a policy is read, and its assets and rules are counted: `Checks`.
 use Rattle.std.specs.Prelude.{◌≡◌, ◌≢◌, ℕ, List, [], ◌∷◌, Option, None, Some, if◌then◌else◌}
 use Rattle.cf_policy.specs.declared.Policy.{Policy}
 use Rattle.cf_box.specs.Command.{Command, Check}

@@ -1,4 +1,4 @@
--- What the words ask for, and what each command needs.
+-- What the words ask for, `Command`, and what each command needs.
 use Rattle.std.specs.Prelude.{ℕ, List, [], ◌∷◌, Option, None, Some}
 use Rattle.cf_run.specs.RunCapture.{RunNamesValue}
 use Rattle.cf_sift.specs.Names.{SiftNamesValue}

@@ -1,4 +1,4 @@
--- What is printed of an answer of no.
+-- What is printed of an answer of no: `denial_text`.
 use Rattle.std.specs.Prelude.{List, ℕ, ◌++◌, codes, decimal}
 use Rattle.cf_audit.specs.Text.{act_text}
 use Rattle.cf_review.specs.declared.Counts.{Counts}

@@ -1,4 +1,4 @@
--- How the program ends: the status of each ending, and what is printed.
+-- How the program ends: the status of each ending, `status_of`, and what is printed, `Reports`.
 use Rattle.std.specs.Prelude.{◌≡◌, ◌⊎◌, ℕ, List, ◌++◌, Option, None, Some, Result, Ok, Err, codes, decimal, take}
 use Rattle.cf_audit.specs.Text.{cut_text}
 use Rattle.cf_outside.specs.Faults.{Rose}

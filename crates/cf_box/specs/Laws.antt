@@ -1,4 +1,4 @@
--- Laws over every run and every capture: HasLaws. This project's own.
+-- Laws over every run and every capture: HasLaws.
 use Rattle.cf_isolation.specs.Isolated.{CapturesAreIsolated, CapturesHoldSessions, CapturesHoldToTheNext}
 use Rattle.cf_isolation.specs.Lives.{AlikeInLines, AlikeInRecords, EachHasRecords, EachLogged}
 use Rattle.cf_isolation.specs.Logged.{LogsAreIsolated, LogsHoldSessions, LogsHoldToTheNext}

@@ -1,5 +1,4 @@
--- `migrate POLICY OUT`: a policy is written as a document of version 2 that means the same. The main definition is
--- `KeepsMeaning`.
+-- `migrate POLICY OUT`: a policy is written as a document of version 2 that means the same: `KeepsMeaning`.
 use Rattle.std.specs.Prelude.{◌≡◌, ℕ, List, [], ◌∷◌, Option, None, Some, if◌then◌else◌}
 use Rattle.cf_policy.specs.declared.Policy.{Policy}
 use Rattle.cf_box.specs.Check.{ChangesNothing}

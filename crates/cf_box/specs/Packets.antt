@@ -1,4 +1,4 @@
--- `packets CAPTURE`: the packets of a capture are listed, a line each (`PacketLine`).
+-- `packets CAPTURE`: the packets of a capture are listed, a line each (`PacketLine`): `Lists`.
 use Rattle.std.specs.Prelude.{◌≡◌, ◌≢◌, ◌⊎◌, ℕ, List, [], ◌∷◌, take, if◌then◌else◌, Option, None, Some, Result, Ok, Err}
 use Rattle.cf_outside.specs.Faults.{Rose}
 use Rattle.cf_outside.specs.Files.{Content}

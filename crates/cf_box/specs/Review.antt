@@ -1,5 +1,5 @@
--- `review POLICY CAPTURE LOG`: all that a policy objects to in what clients sent in a capture, a line each. The main definition is
--- `HoldsReview`; what is watched is said in `cf_watch`, what is objected to in `cf_review`.
+-- `review POLICY CAPTURE LOG`: all that a policy objects to in what clients sent in a capture, a line each: `HoldsReview`. What is
+-- watched is said in `cf_watch`, what is objected to in `cf_review`.
 use Rattle.std.specs.Prelude.{◌≡◌, ◌≢◌, ℕ, List, [], ◌∷◌, map, Option, None, Some, Result, Ok, Err, if◌then◌else◌}
 use Rattle.cf_outside.specs.Files.{IsPartly, content_after_write}
 use Rattle.cf_policy.specs.declared.Policy.{Policy}

@@ -1,4 +1,4 @@
--- `run POLICY CAPTURE OUT LOG`: a policy is run over a capture.
+-- `run POLICY CAPTURE OUT LOG`: a policy is run over a capture: `Runs`.
 use Rattle.std.specs.Prelude.{◌≡◌, ◌⊎◌, ℕ, List, [], ◌∷◌, Option, None, Some, Result, Ok, Err, if◌then◌else◌}
 use Rattle.cf_lane.specs.declared.limit.TheConstants.{LETTER_LIMIT}
 use Rattle.cf_outside.specs.Files.{Content}

@@ -1,4 +1,4 @@
--- What a status tells, each by itself.
+-- What a status tells, each by itself, and `IsExactly` and `IsComplete`: when it must be one.
 use Rattle.std.specs.Prelude.{◌≡◌, ◌≢◌, ◌⊎◌, ℕ, List, [], drop, length, ◌≤◌, Option, None, Some, Ok, Err}
 use Rattle.cf_audit.specs.declared.line.CutReason.{CutReason}
 use Rattle.cf_lane.specs.Follows.{AreJudged}

@@ -1,5 +1,4 @@
--- `world SEED SESSIONS POLICY CAPTURE OUT LOG`: a policy and a capture are made from a number, and the policy is run over the
--- capture. The main definitions are `MakesAndRuns` and `WorldHolds`.
+-- `world SEED SESSIONS POLICY CAPTURE OUT LOG`: a policy and a capture are made from a number, and run: `MakesAndRuns` and `WorldHolds`.
 use Rattle.std.specs.Prelude.{◌≡◌, ◌≢◌, ◌⊎◌, ℕ, ◌-◌, ◌^◌, ◌≤◌, List, [], ◌∷◌, Option, None, Err, if◌then◌else◌, option_and_then, option_map}
 use Rattle.cf_run.specs.RunCapture.{AreApart, RunNamesValue}
 use Rattle.cf_world.specs.World.{LeavesWorld, MakesWorld, WorldNamesValue}

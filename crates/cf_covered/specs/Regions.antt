@@ -1,4 +1,4 @@
--- Regions of acts, and what settles them: AreSettled. Private functions alone cite it.
+-- Beside the proof: regions of acts, and what settles them: `AreSettled`. Private functions alone cite it.
 use Rattle.std.specs.Prelude.{◌≡◌, ℕ, ℤ, pos, ◌+ℤ◌, int_lt, Bool, true, ◌&&◌, if◌then◌else◌, List, [], ◌∷◌, Option, Some, None}
 use Rattle.std.specs.List.{flat_map, list_any}
 use Rattle.cf_view.specs.declared.base.Act.{Act}

@@ -1,6 +1,5 @@
--- The table of objects: which function codes take which objects with which qualifiers. IEEE 1815-2012, sections 4.2.2 (qualifier
--- codes and ranges) and 4.4 (function codes), and annex A (objects). Which of them are served is this project's own. The table
--- itself is `layout_of`.
+-- The table of objects, `layout_of`: which function codes take which objects with which qualifiers. IEEE 1815-2012, sections 4.2.2
+-- (qualifier codes and ranges) and 4.4 (function codes), and annex A (objects). Which of them are served is this project's own.
 use Rattle.std.specs.Prelude.{ℕ, ◌+◌, ◌*◌, ◌/◌, ◌==◌, ◌&&◌, ◌||◌, nat_le, Bool, if◌then◌else◌, Option, Some, None}
 use Rattle.cf_dnpobj.specs.declared.object.Layout.{Layout}
 use Rattle.cf_dnpobj.specs.declared.object.Layout.TheVariants as layout

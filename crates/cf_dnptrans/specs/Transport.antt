@@ -1,4 +1,4 @@
--- The transport function of DNP3: the first octet of a segment has FIN 80, FIR 40 and a sequence of six bits; application
+-- The transport function of DNP3, `answer_to`: the first octet of a segment has FIN 80, FIR 40 and a sequence of six bits; application
 -- octets follow. IEEE 1815-2012, section 8.2. That a repeat is dropped, and the limit of 2,048 octets, are this project's own.
 --
 -- The segments of a side so far are a list, the newest first. Each is the list of its octets. The main definitions are

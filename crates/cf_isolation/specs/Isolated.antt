@@ -1,5 +1,5 @@
--- Isolation of the files: what is matched to a session fixes the records of the output capture between its two endpoints, and they are
--- what its own events sent. The main definitions are CapturesHoldSessions and CapturesAreIsolated. This project's own.
+-- Isolation of the files, `CapturesHoldSessions` and `CapturesAreIsolated`: what is matched to a session fixes the records of the
+-- output capture between its two endpoints, and they are what its own events sent.
 --
 -- A session's time in a run goes from the moment of the record in which it began to that of any record before the one in which the next
 -- session of its client and asset begins: the records that are considered, `HasSession` of `cf_run`. The next session of theirs has the

@@ -1,4 +1,4 @@
--- The lines of a log that name a client and an asset, from one moment to another: lines_naming. This project's own.
+-- The lines of a log that name a client and an asset, from one moment to another: lines_naming.
 --
 -- A line is its moment, its client, the name of its asset and what happened, with one space between them.
 use Rattle.std.specs.Prelude.{ℕ, ◌==◌, not, Bool, ◌&&◌, if◌then◌else◌, List, [], ◌∷◌, filter, bytes_eq}

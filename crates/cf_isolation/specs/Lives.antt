@@ -1,5 +1,5 @@
 -- The life of each session of a run in the two output files: EachSent and EachLogged; and what two runs have alike: AlikeInRecords and
--- AlikeInLines. A session is one of `sessions_of` of `cf_run`, with its own events. This project's own.
+-- AlikeInLines. A session is one of `sessions_of` of `cf_run`, with its own events.
 --
 -- A life goes from the moment of the record in which the session began to before that of the record in which the next session of the
 -- same client and asset begins, or to the end.

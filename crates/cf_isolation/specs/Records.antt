@@ -1,5 +1,5 @@
--- The packets of an output capture that go between two endpoints, in either direction, from one moment to another: sent_between; and the
--- records of the file that are these packets: records_between. This project's own.
+-- The packets of an output capture that go between two endpoints, in either direction, from one moment to another: sent_between; and
+-- the records of the file that are these packets: records_between.
 use Rattle.std.specs.Prelude.{ℕ, nat_le, Bool, false, ◌&&◌, ◌||◌, List, filter, Result, Ok, Err}
 use Rattle.cf_packet.specs.Packet.{PacketValue, read_record}
 use Rattle.cf_packet.specs.declared.packet.PacketRefusal.{PacketRefusal}

@@ -1,4 +1,5 @@
--- What a reader of a client's bytes keeps, and what it answers about the unit at their front. This project's own.
+-- Steps of the proof: what a reader of a client's bytes keeps, `IsReaderOf`, and what it answers about the unit at their front,
+-- `IsFrontOf`.
 use Rattle.std.specs.Prelude.{◌≡◌, ◌<◌, ℕ, true, List, [], ◌∷◌, ◌++◌}
 use Rattle.cf_dnptrans.specs.AssemblyValue.{IsAssemblyOf}
 use Rattle.cf_lane.specs.Dnp3.{segments_of}

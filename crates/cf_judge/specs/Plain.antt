@@ -1,5 +1,5 @@
--- The units of a client's bytes, each with its fate: AreRead. The fates are those of a lane, but that no rule is ever spent, and that an
--- APDU of IEC 60870-5-104 is judged by its ASDU alone. This project's own.
+-- The units of a client's bytes, each with its fate: AreRead. The fates are those of a lane, but that no rule is ever spent, and that
+-- an APDU of IEC 60870-5-104 is judged by its ASDU alone.
 use Rattle.std.specs.Prelude.{◌≡◌, ◌-◌, ◌<◌, ℕ, List, [], ◌∷◌, ◌++◌, drop, slice_index}
 use Rattle.cf_apci.specs.Apdu.{Ack, ApduValue, Control, Info}
 use Rattle.cf_dnplink.specs.LinkFrame.{FrameValue}

@@ -1,4 +1,4 @@
--- What a policy makes of the acts of a command. This project's own.
+-- What a policy makes of the acts of a command: `fate_of_acts`.
 use Rattle.cf_lane.specs.declared.fate.Fate.{Fate}
 use Rattle.cf_lane.specs.declared.fate.Refusal.{Refusal}
 use Rattle.cf_lane.specs.Rates.{Says, is_place, rated, rated_place}

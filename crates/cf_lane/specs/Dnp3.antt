@@ -1,5 +1,5 @@
--- DNP3 in the lane: which frames are served, the fate of a frame, what it puts into the stream to each side, and what its
--- line shows. IEEE 1815-2012; which frames are served, and fates, are this project's own.
+-- DNP3 in the lane: which frames are served (`stray_of`), the fate of a frame (`fate_of_frame`), what it puts into the stream to each
+-- side, and what its line shows. IEEE 1815-2012; which frames are served, and fates, are this project's own.
 use Rattle.cf_lane.specs.Rates.{Says}
 use Rattle.cf_audit.specs.declared.line.Why.{Why}
 use Rattle.cf_dnplink.specs.LinkFrame.{FrameValue}

@@ -1,4 +1,4 @@
--- The fate of each item. This project's own.
+-- The fate of each item: `HasFate`.
 use Rattle.cf_lane.specs.Rates.{Says, says_at}
 use Rattle.cf_lane.specs.Dnp3.{fate_of_frame, stray_of}
 use Rattle.cf_lane.specs.Iec104.{fate_of_apdu}

@@ -1,4 +1,4 @@
--- What a lane, its two queues and the log stand for: the items of a whole history. This project's own.
+-- The judged items of a history, `AreJudged`, and when a lane, its two queues and the log stand for them: `Follows`.
 use Rattle.cf_audit.specs.declared.line.CutReason.{CutReason}
 use Rattle.cf_lane.specs.Fate.{HaveFates}
 use Rattle.cf_lane.specs.Handled.{Knows, State}

@@ -1,5 +1,5 @@
--- What a lane does with the units at the front of a side's bytes. Nothing here speaks of a history: the items before are
--- any items that lane and queues stand for.
+-- Steps of the proof: what a lane does with the units at the front of a side's bytes: `Handled` and `Steps`. Nothing here speaks of a
+-- history: the items before are any items that lane and queues stand for.
 use Rattle.cf_audit.specs.declared.line.CutReason.{CutReason}
 use Rattle.cf_lane.specs.Fate.{HaveFates}
 use Rattle.cf_lane.specs.Item.{Item, Took}

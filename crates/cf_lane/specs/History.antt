@@ -1,4 +1,4 @@
--- The history of a session: what was newly taken of each side, event by event, oldest first. This project's own.
+-- The history of a session, a list of `Element`: what was newly taken of each side, event by event, oldest first.
 use Rattle.cf_stream.specs.Stream.{Stream}
 use Rattle.cf_view.specs.declared.Side.{Side}
 use Rattle.std.specs.List.{list_any}

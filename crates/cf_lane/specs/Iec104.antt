@@ -1,5 +1,5 @@
--- IEC 104 in the lane: the fate of an APDU, what it puts into the stream to each side, and what its line shows.
--- IEC 60870-5-104; fates are this project's own.
+-- IEC 104 in the lane: the fate of an APDU (`fate_of_apdu`), what it puts into the stream to each side, and what its line shows. IEC
+-- 60870-5-104; fates are this project's own.
 use Rattle.cf_lane.specs.Rates.{Says}
 use Rattle.cf_apci.specs.Apdu.{Ack, ApduValue, Control, Info}
 use Rattle.cf_asdu.specs.Asdu.{AsduValue, refusal_reason, station_of}

@@ -1,4 +1,4 @@
--- What completes in the two streams of a session, in the order in which it completes. This project's own.
+-- What completes in the two streams of a session, in the order in which it completes: `AreItems`.
 use Rattle.cf_lane.specs.History.{Element, bytes_of}
 use Rattle.cf_lane.specs.Unit.{AreUnits, Left, Tail, UnitValue, Wrong}
 use Rattle.cf_policy.specs.declared.Protocol.{Protocol}

@@ -1,4 +1,4 @@
--- Items with their moments and fates, and what is counted of them. This project's own.
+-- Items with their moments and fates, `Judged`, and what is counted of them.
 use Rattle.cf_audit.specs.declared.line.CutReason.{CutReason}
 use Rattle.cf_lane.specs.History.{is_side}
 use Rattle.cf_lane.specs.Item.{Broke, Ended, Item, Placed, Took}

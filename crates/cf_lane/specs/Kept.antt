@@ -1,4 +1,4 @@
--- What a lane keeps for its protocol, and how it stands for the earlier items. This project's own.
+-- Steps of the proof: what a lane keeps for its protocol, `KnowsWire`, and how it stands for the earlier items, `IsWireOf`.
 use Rattle.cf_dnptrans.specs.AssemblyValue.{AssemblyValue, IsAssemblyOf}
 use Rattle.cf_lane.specs.Dnp3.{segments_into, segments_of}
 use Rattle.cf_lane.specs.Judged.{Judged}

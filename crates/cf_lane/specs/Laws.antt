@@ -1,4 +1,4 @@
--- What holds of every history. This project's own.
+-- Steps of the proof: what holds of every history: `HasOneJudgement`, `LanePassesAllowed` and `RatesHold`, and how a history goes on.
 use Rattle.cf_audit.specs.declared.line.CutReason.{CutReason}
 use Rattle.cf_lane.specs.Follows.{AreJudged, Follows, Rests}
 use Rattle.cf_lane.specs.Handled.{State}

@@ -1,4 +1,4 @@
--- The lines of the log: one for each refused command, each stray frame, and bytes that are left at an end. This project's own.
+-- The lines of the log, `lines`: one for each refused command, each stray frame, and bytes that are left at an end.
 use Rattle.cf_audit.specs.Line.{Begun, Close, Cut, Full, LineValue, Listen, Lost, NoMemory, Partial, Refuse, Silent, Stray, Unreached, WhatValue}
 use Rattle.cf_audit.specs.Text.{line_text}
 use Rattle.cf_lane.specs.Dnp3.{frame_octets, is_fragment_unfinished}

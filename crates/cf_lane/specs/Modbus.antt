@@ -1,5 +1,5 @@
--- Modbus in the lane: the fate of an ADU, what it puts into the stream to each side, and what its line shows.
--- Modbus Application Protocol V1.1b3; fates are this project's own.
+-- Modbus in the lane: the fate of an ADU (`HasAduFate`), what it puts into the stream to each side, and what its line shows. Modbus
+-- Application Protocol V1.1b3; fates are this project's own.
 use Rattle.cf_lane.specs.Rates.{Says}
 use Rattle.cf_lane.specs.Acts.{fate_of_acts}
 use Rattle.cf_lane.specs.Judged.{goes_on}

@@ -1,4 +1,4 @@
--- The stream to each side: the spellings of what goes there, in order. This project's own.
+-- The stream to each side, `outputs`: the spellings of what goes there, in order.
 use Rattle.cf_lane.specs.Dnp3.{frame_output}
 use Rattle.cf_lane.specs.Iec104.{apdu_output}
 use Rattle.cf_lane.specs.Item.{Broke, Ended, Item, Took}

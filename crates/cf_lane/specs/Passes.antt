@@ -1,5 +1,5 @@
--- What of a history goes to the controller, in the policy's words: of the client's commands those that are allowed, and what is
--- no command. This project's own.
+-- What of a history goes to the controller, in the policy's words, `Passes`: of the client's commands those that are allowed, and what
+-- is no command.
 use Rattle.cf_apci.specs.Apdu.{Ack, ApduValue, Control, Info}
 use Rattle.cf_asdu.specs.Asdu.{first_refusal, station_of}
 use Rattle.cf_audit.specs.declared.line.CutReason.{CutReason}

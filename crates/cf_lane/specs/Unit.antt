@@ -1,4 +1,4 @@
--- The units of the three protocols: one line a protocol in each definition. This project's own.
+-- The units of the three protocols, `UnitValue`: one line a protocol in each definition.
 use Rattle.cf_apci.specs.Apdu.{ApduValue, SpellsApdu, apdu_break}
 use Rattle.cf_dnplink.specs.LinkFrame.{FrameValue, SpellsFrame, frame_break}
 use Rattle.cf_dnplink.specs.UserOctets.{user_of}

@@ -1,5 +1,5 @@
 -- What flows show of an asset: IsSeen. The commands are those that the readers of the protocols read, with the asset's station; the
--- frames, segments and fragments of DNP3 are put together as the filter does it. This project's own. Read from the end.
+-- frames, segments and fragments of DNP3 are put together as the filter does it. Read from the end.
 use Rattle.std.specs.Prelude.{◌≡◌, ◌≢◌, ℕ, Bool, ◌&&◌, List, [], ◌∷◌, ◌++◌, map, Ok, Contains}
 use Rattle.std.specs.List.{flat_map}
 use Rattle.cf_apci.specs.Apdu.{Ack, ApduValue, Control, Info}

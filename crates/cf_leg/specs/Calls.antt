@@ -1,4 +1,5 @@
--- What the calls of a leg do.
+-- Steps of the proof: what the calls of a leg do: `Clocked`, `Heard`, `Spoken`, `Greeted` and `CutOff`, and what stands where the desk
+-- broke one off.
 use Rattle.std.specs.Prelude.{◌≡◌, ℕ, ◌+◌, ◌%◌, ◌^◌, ◌-◌, ◌<◌, nat_lt, nat_le, ◌≤◌, min, max, not, ◌&&◌, ◌||◌, if◌then◌else◌, Bool, true, false, List, [], ◌∷◌, ◌++◌, length, Option, Some, None, ℤ, pos, ◌+ℤ◌}
 use Rattle.cf_outside.specs.Desk.{DeskValue, SentValue}
 use Rattle.cf_outq.specs.SendQueue.{Queue, carried, queue_length, after_acked, after_shown}

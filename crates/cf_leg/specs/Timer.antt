@@ -1,5 +1,5 @@
--- The retransmission timer of a TCP end. RFC 9293, section 3.8.1, and RFC 6298, section 5, without a measured round trip:
--- one second, doubled up to 32; this is this project's own choice. Moments are in microseconds.
+-- The retransmission timer of a TCP end: `due` and `fires`. RFC 9293, section 3.8.1, and RFC 6298, section 5, without a measured round
+-- trip: one second, doubled up to 32; this is this project's own choice. Moments are in microseconds.
 use Rattle.std.specs.Prelude.{ℕ, ◌+◌, ◌*◌, ◌^◌, min, nat_lt, nat_le, not, Bool, ◌&&◌, ◌||◌, if◌then◌else◌, List, [], ◌∷◌, length}
 use Rattle.cf_stream.specs.Stream.{letter_count}
 use Rattle.cf_leg.specs.Event.{LegEvent, moment, stream_after}

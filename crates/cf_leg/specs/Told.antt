@@ -1,4 +1,4 @@
--- What the peer of an end was told and sent, read from the segments that went out.
+-- What the peer of an end was told, `told`, and how far it was sent to, `letters_sent`, read from the segments that went out.
 use Rattle.std.specs.Prelude.{ℕ, ◌+◌, ◌==◌, max, not, Bool, ◌&&◌, if◌then◌else◌, List, [], ◌∷◌, Option, Some, None, pos, ◌+ℤ◌}
 use Rattle.std.specs.Option.{option_or, is_some}
 use Rattle.cf_packet.specs.Packet.{PacketValue}

@@ -1,5 +1,4 @@
--- The lines of a text: each ends with the line feed that is its last octet and its only one. The main definitions are
--- `is_line` and `file_lines`.
+-- Steps of the proof: the lines of a text, each of which ends with its only line feed: `is_line` and `file_lines`.
 use Rattle.std.specs.Prelude.{ℕ, ◌==◌, Bool, true, false, Option, None, Some, List, [], ◌∷◌, ◌++◌, if◌then◌else◌}
 use Rattle.cf_outside.specs.Files.{Content, untold, absent, holds}
 

@@ -1,5 +1,5 @@
--- What a desk in memory holds, and what its calls do to it. The main definitions are `MemoryDeskValue`, `desk_in_memory`, and
--- `MemoryEmits` and `MemoryPutsLine`, one for each call.
+-- Beside the proof: what a desk in memory holds, `MemoryDeskValue`, and what its calls do to it. The main definitions are that,
+-- `desk_in_memory`, and `MemoryEmits` and `MemoryPutsLine`, one for each call.
 use Rattle.std.specs.Prelude.{◌≡◌, ◌≢◌, ◌⊎◌, ℕ, ◌==◌, if◌then◌else◌, None, Some}
 use Rattle.std.specs.Prelude.{List, [], ◌∷◌, ◌++◌, map, string_bytes}
 use Rattle.cf_outside.specs.Desk.{SentValue, DeskValue}

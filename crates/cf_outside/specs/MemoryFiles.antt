@@ -1,5 +1,5 @@
--- What files in memory hold, and what the calls do to them. The main definitions are `MemoryFilesValue`, and `MemoryReads`,
--- `MemoryCreates`, `MemoryAppends` and `MemoryGoesOn`, one for each call.
+-- Beside the proof: what files in memory hold, `MemoryFilesValue`, and what the calls do to them: `MemoryReads`, `MemoryCreates`,
+-- `MemoryAppends` and `MemoryGoesOn`, one for each call.
 use Rattle.std.specs.Prelude.{◌≡◌, ◌≢◌, ◌⊎◌, ◌≤◌, ℕ, min, Option, None, Some, IsSome, List, [], ◌++◌, length, take, drop}
 use Rattle.std.specs.declared.alloc.Global.{Global}
 use Rattle.std.specs.declared.vec.Vec.{Vec}

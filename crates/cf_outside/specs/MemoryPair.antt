@@ -1,5 +1,5 @@
--- What a pair in memory holds, and what the calls do to it. The main definitions are `MemoryPairValue`, and `MemoryMeets`,
--- `MemoryTellsMoment`, `MemoryTakes`, `MemoryGives` and `MemoryFinishes`, one for each call.
+-- Beside the proof: what a pair in memory holds, `MemoryPairValue`, and what the calls do to it: `MemoryMeets`, `MemoryTellsMoment`,
+-- `MemoryTakes`, `MemoryGives` and `MemoryFinishes`, one for each call.
 use Rattle.std.specs.Prelude.{◌≡◌, ◌⊎◌, ◌≤◌, ℕ, ◌+◌, min, Bool, false, IsTrue, None, IsSome}
 use Rattle.std.specs.Prelude.{List, [], ◌∷◌, ◌++◌, length, take, drop, map}
 use Rattle.cf_view.specs.declared.Endpoint.{Endpoint}

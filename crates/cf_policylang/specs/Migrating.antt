@@ -1,4 +1,4 @@
--- A policy as a document of version 2: migrated.
+-- Steps of the proof: a policy as a document of version 2: `migrated`.
 use Rattle.std.specs.Prelude.{pos, Bool, not, ◌&&◌, nat_lt, if◌then◌else◌, List, [], ◌∷◌, ◌++◌, length, map, flat_map}
 use Rattle.std.specs.List.{list_any}
 use Rattle.toml.specs.Data.{integer, array, Items, Members, no_members}

@@ -1,5 +1,5 @@
--- What the list of a pair's answers says, oldest first: the client, the moments, the history, what was given to a side,
--- which sides were closed, and how many answers Idle stand at its end. The main definition is `history_of`. This project's own.
+-- What the list of a pair's answers says, oldest first: the history, `history_of`; the client, the moments, what was given to a side,
+-- which sides were closed, and how many answers Idle stand at its end.
 use Rattle.cf_lane.specs.History.{Element, bytes_at, end_at, is_side}
 use Rattle.cf_outside.specs.Pair.{Ended, Entry, Finished, Got, Idle, Met, Moment, Took}
 use Rattle.cf_view.specs.declared.Endpoint.{Endpoint}

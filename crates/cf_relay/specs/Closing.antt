@@ -1,4 +1,4 @@
--- What the last line of a relay does to its desk, and what it answers. This project's own.
+-- Steps of the proof: what the last line of a relay does to its desk, and what it answers: `ClosesWith` and `StopsWith`.
 use Rattle.cf_audit.specs.Line.{Close, Cut}
 use Rattle.cf_lane.specs.Handled.{HasAdded, MayHaveAdded}
 use Rattle.cf_lane.specs.Log.{line_about, with_lines}

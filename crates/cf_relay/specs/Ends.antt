@@ -1,4 +1,4 @@
--- What the answers of a relay mean, and what then stands in its log. The main definition is `RelayEnds`. This project's own.
+-- What the answers of a relay mean, and what then stands in its log. The main definition is `RelayEnds`.
 use Rattle.cf_audit.specs.Line.{Begun, Close, Cut}
 use Rattle.cf_audit.specs.declared.line.CutReason.{CutReason}
 use Rattle.cf_lane.specs.Follows.{AreJudged}

@@ -1,5 +1,4 @@
--- What a relay keeps between two stages stands for the list of answers: StandsFor; and what it stands for as it stops. This
--- project's own.
+-- What a relay keeps between two stages stands for the list of answers: StandsFor; and what it stands for as it stops.
 use Rattle.cf_audit.specs.declared.line.CutReason.{CutReason}
 use Rattle.cf_lane.specs.Follows.{Began, Follows}
 use Rattle.cf_lane.specs.History.{Element, bytes_at, ended_of, taken}

@@ -1,4 +1,4 @@
--- What taking does to a lane, its queues and its log. This project's own.
+-- Steps of the proof: what taking does to a lane, its queues and its log: `TakesBy`.
 use Rattle.cf_audit.specs.declared.line.CutReason.{CutReason}
 use Rattle.cf_lane.specs.Follows.{Began, BeganWithin, Follows, Rests, rest_of, with_rest}
 use Rattle.cf_lane.specs.Handled.{IsLaneOf, IsOpen, State, debt}

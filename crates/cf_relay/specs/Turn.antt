@@ -1,5 +1,4 @@
--- The turns of a relay, as what its pair's list may say. The main definitions are `turn`, `IsStage`, `DoesStages` and
--- `IsRelayed`. This project's own.
+-- The turns of a relay, as what its pair's list may say. The main definitions are `turn`, `IsStage`, `DoesStages` and `IsRelayed`.
 --
 -- The list is the meeting, one moment, and then turns of seven stages. Each stage adds answers to the list under conditions
 -- on the list so far alone. The list may break off before a stage, or within the gives of one. (The code keeps two queues,

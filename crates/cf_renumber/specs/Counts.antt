@@ -1,5 +1,5 @@
--- Counts of the I frames of an IEC 60870-5-104 session, and what a number of 15 bits stands for: the main definitions are the
--- stamps and the refusals, which stand last. IEC 60870-5-104, section 5.1: N(S) counts the frames that were sent, N(R) those that
+-- Counts of the I frames of an IEC 60870-5-104 session, and what a number of 15 bits stands for: stamps, as `admitted_stamp`, and
+-- refusals, as `client_refusal`, which stand last. IEC 60870-5-104, section 5.1: N(S) counts the frames that were sent, N(R) those that
 -- were received, both modulo 32768. That a firewall between the two sides renumbers both is this project's own.
 --
 -- What went on so far is a list of events, the newest first, so that what was before an event is the list after it. The

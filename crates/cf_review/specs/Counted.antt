@@ -1,4 +1,4 @@
--- How much there is in a review: counts_of. This project's own.
+-- How much there is in a review: counts_of.
 use Rattle.std.specs.Prelude.{◌==◌, ◌+◌, ◌-◌, ◌^◌, ℕ, Bool, List, count_by, map, min}
 use Rattle.cf_policy.specs.declared.Decider.{Decider}
 use Rattle.cf_policy.specs.declared.Decider.TheVariants as decider

@@ -1,4 +1,4 @@
--- What a review has to do with the judge: JudgeTellsTheFirst. This project's own.
+-- What a review has to do with the judge: JudgeTellsTheFirst.
 use Rattle.std.specs.Prelude.{◌≡◌, List, [], ◌∷◌, length, Option, None, Some, option_map}
 use Rattle.std.specs.List.{AllByRecursion}
 use Rattle.std.specs.List.Sorted.{IsNonDecreasingBy}

@@ -1,4 +1,4 @@
--- The lines of a review: review_text. The words are those of the log of a session, and of the judge. This project's own.
+-- The lines of a review: review_text. The words are those of the log of a session, and of the judge.
 use Rattle.std.specs.Prelude.{◌≡◌, ◌-◌, ℕ, List, [], ◌++◌, codes, false, get_or, slice_get, Option, Some, None}
 use Rattle.std.specs.Fmt.{signed_decimal}
 use Rattle.std.specs.List.{flat_map}

@@ -1,4 +1,4 @@
--- What a contract sees of a `Remark`: RemarkValue. This project's own.
+-- What a contract sees of a `Remark`: RemarkValue.
 use Rattle.std.specs.Prelude.{ℕ, ℤ, List}
 use Rattle.cf_audit.specs.declared.line.Why.{Why}
 use Rattle.cf_lane.specs.declared.fate.Refusal.{Refusal}

@@ -1,5 +1,5 @@
 -- All that is objected to in flows, in the order of the records: IsReviewOf. In one record a conflict comes before the items of its
--- flow, these in the order of the bytes, and flows in their order. This project's own.
+-- flow, these in the order of the bytes, and flows in their order.
 use Rattle.std.specs.Prelude.{◌≡◌, ◌==◌, ℕ, Bool, List, [], ◌∷◌, ◌++◌, length, map, take, slice_get, Option, Some, None}
 use Rattle.std.specs.List.{filter, flat_map}
 use Rattle.std.specs.List.Sorted.{IsNonDecreasingBy}

@@ -1,4 +1,4 @@
--- A half of an event, and what the desk has that failed amid it: IsHalfOf and BreaksHalf. This project's own.
+-- A half of an event, and what the desk has that failed amid it: IsHalfOf and BreaksHalf.
 use Rattle.std.specs.Prelude.{◌≡◌, ◌⊎◌, ◌-◌, ℕ, List, [], ◌++◌, slice_get, Result, Ok, Err}
 use Rattle.std.specs.List.{concat, flat_map}
 use Rattle.cf_outside.specs.Desk.{DeskValue}

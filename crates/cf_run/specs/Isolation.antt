@@ -1,5 +1,5 @@
--- Isolation: what is matched to a session fixes all that it sends and logs, whatever else the capture holds. The main definition
--- is RunsIsolateSessions, read from the end. This project's own.
+-- Isolation, `RunsIsolateSessions`, read from the end: what is matched to a session fixes all that it sends and logs, whatever else the
+-- capture holds.
 --
 -- A session is named by its client and its asset's endpoint: a table has at most one of them. Lists of events have the newest one
 -- first.

@@ -1,5 +1,4 @@
--- Items that follow each other in octets, each spelled by octets of which no beginning spells one: items_from. This project's
--- own.
+-- Steps of the proof: items that follow each other in octets, each spelled by octets of which no beginning spells one: `items_from`.
 use Rattle.std.specs.Prelude.{ℕ, Option, None, Some, List, [], ◌∷◌, ◌++◌}
 
 -- the items, by what the octets since the last item are

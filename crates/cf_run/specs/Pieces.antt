@@ -1,4 +1,4 @@
--- What is read at one place of a file: FindsPiece.
+-- Steps of the proof: what is read at one place of a file: `FindsPiece`.
 use Rattle.std.specs.Prelude.{◌≡◌, ℕ, ◌+◌, ◌^◌, ◌<◌, ◌≤◌, false, List, drop, length, slice_range, Result, Ok, Err}
 use Rattle.cf_outside.specs.Files.{Content, untold, absent, holds}
 use Rattle.cf_pcap.specs.Record.{captured_at}

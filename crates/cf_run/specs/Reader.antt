@@ -1,4 +1,4 @@
--- What a reader of a capture file finds: OpensAs and FindsRecord. This project's own.
+-- What a reader of a capture file finds: OpensAs and FindsRecord.
 use Rattle.std.specs.Prelude.{◌≡◌, ℕ, zero, suc, ◌+◌, List, drop, Result, Ok, Err}
 use Rattle.cf_outside.specs.Files.{Content, untold, absent, holds}
 use Rattle.cf_view.specs.declared.LinkKind.{LinkKind}

@@ -1,4 +1,4 @@
--- Laws of the records of a capture file and of their moments, of either form.
+-- Laws of the records of a capture file, `HaveOneList`, and of their moments, `HaveOneTimedList`, of either form.
 use Rattle.std.specs.Prelude.{◌≡◌, ℕ, ◌+◌, ◌*◌, ◌^◌, ◌<◌, max, List, [], ◌∷◌, slice_get, Some}
 use Rattle.cf_run.specs.Capture.{AreRecords, LastPlace, Record}
 use Rattle.cf_run.specs.Moments.{AreTimed, first_moment, moments}

@@ -1,4 +1,4 @@
--- A run over a capture file: RunsAs says what its answer means, and what then stands in the files. This project's own.
+-- A run over a capture file: RunsAs says what its answer means, and what then stands in the files.
 use Rattle.std.specs.Prelude.{◌≡◌, ◌≢◌, ◌⊎◌, ℕ, List, [], ◌∷◌, ◌++◌, drop, take, Result, Ok, Err}
 use Rattle.std.specs.List.{concat}
 use Rattle.cf_outside.specs.Desk.{IsNoneOf}

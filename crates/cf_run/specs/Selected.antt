@@ -1,5 +1,5 @@
--- The output of an event, selected by its moments: IsSelected. So the file of what was sent, read by moments alone, is the list
--- of what the events sent. This project's own.
+-- The output of an event, selected by its moments: IsSelected. So the file of what was sent, read by moments alone, is the list of what
+-- the events sent.
 use Rattle.std.specs.Prelude.{◌≡◌, ℕ, ◌+◌, ◌≤◌, ◌==◌, List, [], ◌∷◌, filter}
 use Rattle.cf_policy.specs.declared.Asset.{Asset}
 use Rattle.cf_session.specs.Sent.{Sent}

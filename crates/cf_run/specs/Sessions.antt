@@ -1,5 +1,4 @@
--- All sessions of a run, and what holds of each: SessionsAreRight, SessionsHaveOneStream and SessionsAreIsolated. This project's
--- own.
+-- All sessions of a run, and what holds of each: SessionsAreRight, SessionsHaveOneStream and SessionsAreIsolated.
 use Rattle.std.specs.Prelude.{◌≡◌, ℕ, ◌^◌, ◌≤◌, Bool, not, List, [], ◌∷◌, ◌++◌, filter, map, slice_get, Option, None, Some}
 use Rattle.cf_policy.specs.declared.Asset.{Asset}
 use Rattle.cf_session.specs.Event.{AreEvents as AreSessionEvents}

@@ -1,4 +1,4 @@
--- What is counted over events: summary_of. This project's own.
+-- What is counted over events: summary_of.
 use Rattle.std.specs.Prelude.{ℕ, ◌+◌, ◌-◌, ◌^◌, min, Bool, true, false, if◌then◌else◌, List, [], ◌∷◌, length, count_by, Option, Some, None, slice_get}
 use Rattle.cf_session.specs.Session.{work_of}
 use Rattle.cf_session.specs.Work.{Work, no_work}

@@ -1,5 +1,5 @@
--- What happens, record by record: each record of a capture is one event, which fires the timers that are due and then handles
--- the packet. The main definitions are `Event` and `AreEvents`, and `sent` and `logged`. This project's own.
+-- What happens, record by record: `Event` and `AreEvents`, and what is `sent` and `logged`. Each record of a capture is one event,
+-- which fires the timers that are due and then handles the packet.
 --
 -- Lists of events have the newest one first, so that what was before an event is the list after it.
 use Rattle.std.specs.Prelude.{◌≡◌, ℕ, zero, suc, ◌-◌, not, Bool, true, false, List, [], ◌∷◌, ◌++◌, filter, slice_get, Option, Some, None, Result, Ok, Err}

@@ -1,5 +1,5 @@
--- What stands on a desk that failed amid a call of a session: a beginning of what the right event sends and logs in that half.
--- The main definition is `BreaksAmid`, and below it stands one for each call. This project's own.
+-- What stands on a desk that failed amid a call of a session, `BreaksAmid`: a beginning of what the right event sends and logs in that
+-- half. Below it stands one for each call.
 use Rattle.std.specs.Prelude.{◌≡◌, ◌⊎◌, ℕ, false, List, [], ◌++◌, take}
 use Rattle.std.specs.List.{concat, flat_map}
 use Rattle.cf_outside.specs.Desk.{DeskValue, SentValue}

@@ -1,5 +1,5 @@
--- Why an event cuts a session. Places of one event stand in the order tick, packet, items, limit, and in a tick the
--- controller's leg stands before the client's. The main definitions are `clock_cut` and `packet_cut`. This project's own.
+-- Why an event cuts a session: `clock_cut` and `packet_cut`. Places of one event stand in the order tick, packet, items, limit, and in
+-- a tick the controller's leg stands before the client's.
 use Rattle.std.specs.Prelude.{ℕ, nat_lt, not, Bool, true, false, ◌&&◌, if◌then◌else◌, List, ◌∷◌, Option, None, Some}
 use Rattle.std.specs.Option.{option_or}
 use Rattle.cf_audit.specs.declared.CutReason.{CutReason}

@@ -1,6 +1,5 @@
--- What each event of a session must be, given those before it. Nothing here speaks of another session: each definition reads
--- the flow, the limit of letters, the session's earlier events and the event. The main definition is `AreEvents`, read from
--- the end. This project's own.
+-- What each event of a session must be, given those before it: `AreEvents`, read from the end. Nothing here speaks of another session:
+-- each definition reads the flow, the limit of letters, the session's earlier events and the event.
 use Rattle.std.specs.Prelude.{◌≡◌, ℕ, ◌⊎◌, not, Bool, true, false, ◌&&◌, if◌then◌else◌, List, [], ◌∷◌, Option, None, Some}
 use Rattle.cf_audit.specs.declared.CutReason.{CutReason}
 use Rattle.cf_lane.specs.History.{Element, ended_of, taken}

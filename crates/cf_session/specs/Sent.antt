@@ -1,5 +1,5 @@
--- What the events of a session send and log, half by half. The main definitions are `sent_first`, `sent_second`,
--- `logged_first` and `logged_second`. This project's own.
+-- What the events of a session send and log, half by half. The main definitions are `sent_first`, `sent_second`, `logged_first` and
+-- `logged_second`.
 use Rattle.std.specs.Prelude.{ℕ, Bool, not, ◌&&◌, if◌then◌else◌, List, [], ◌∷◌, ◌++◌, length, drop, map, Option, None, Some}
 use Rattle.cf_audit.specs.Line.{Begun, Close, Cut as CutLine, WhatValue}
 use Rattle.cf_audit.specs.declared.CutReason.{CutReason}

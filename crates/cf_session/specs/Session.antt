@@ -1,5 +1,5 @@
--- A session: a client, an asset, and what happened, event by event. The main definitions are `Flow` and `SessionEvent`, and
--- `has_room`, `is_closed` and `is_expired`, which read a session's events alone. This project's own.
+-- A session: a client, an asset, and what happened, event by event. The main definitions are `Flow` and `SessionEvent`, and `has_room`,
+-- `is_closed` and `is_expired`, which read a session's events alone.
 --
 -- Lists of events have the newest one first, so that what was before an event is the list after it.
 use Rattle.std.specs.Prelude.{ℕ, ◌+◌, ◌-◌, ◌==◌, nat_le, Bool, false, ◌&&◌, if◌then◌else◌, List, [], ◌∷◌, ◌++◌, map, Option, None, Some}

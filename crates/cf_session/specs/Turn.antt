@@ -1,4 +1,4 @@
--- What the steps of a call do, over the parts of a session. This project's own.
+-- Steps of the proof: what the steps of a call do, over the parts of a session: `Hearing`, `GreetsClient`, `SaysBoth` and `CutsBoth`.
 use Rattle.std.specs.Prelude.{◌≡◌, ◌≢◌, ℕ, ◌+◌, ◌*◌, ◌^◌, ◌<◌, ◌≤◌, Bool, true, false, List, [], ◌∷◌, ◌++◌, length, nat_le, ◌-◌, ◌&&◌, ◌==◌, not, if◌then◌else◌, Option, None, Some}
 use Rattle.std.specs.Option.{is_some}
 use Rattle.cf_audit.specs.Line.{Close, Cut as CutLine}

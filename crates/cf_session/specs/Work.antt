@@ -1,5 +1,4 @@
--- What a lane makes of all that was taken of two sides. The main definition is `Works`, read from the end. This project's
--- own.
+-- What a lane makes of all that was taken of two sides. The main definition is `Works`, read from the end.
 use Rattle.std.specs.Prelude.{◌≡◌, ℕ, ◌==◌, count_by, if◌then◌else◌, List, [], ◌∷◌, Option, None}
 use Rattle.cf_audit.specs.declared.CutReason.{CutReason}
 use Rattle.cf_lane.specs.Follows.{AreJudged}

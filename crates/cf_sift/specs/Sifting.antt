@@ -1,4 +1,4 @@
--- What is kept between two elements of a stored stream, and what it stands for: IsSiftingOf.
+-- Steps of the proof: what is kept between two elements of a stored stream, and what it stands for: `IsSiftingOf`.
 use Rattle.std.specs.Prelude.{◌≡◌, ◌⊎◌, ◌++◌, ◌∷◌, ℕ, ◌+◌, ◌^◌, ◌<◌, ◌≤◌, true, false, List, [], length, Option, None}
 use Rattle.cf_audit.specs.declared.line.CutReason.{CutReason}
 use Rattle.cf_lane.specs.Follows.{Began, BeganWithin, Follows, Rests, rest_of}

@@ -1,4 +1,4 @@
--- The history of a stored stream, stored_history, and how far a history goes: GoesUpTo. This project's own.
+-- The history of a stored stream, stored_history, and how far a history goes: GoesUpTo.
 use Rattle.std.specs.Prelude.{◌≡◌, ℕ, zero, suc, List, [], ◌∷◌, ◌++◌, length, take, drop, Option, None}
 use Rattle.std.specs.Option.{option_or}
 use Rattle.cf_audit.specs.declared.line.CutReason.{CutReason}

@@ -1,5 +1,5 @@
--- What the packets of one flow carried, and what a watcher knows of it: the bytes, the record with which each came, and the first
--- conflict. The newest packet stands first. This project's own; positions are those of RFC 9293, section 3.4.
+-- What the packets of one flow carried, and what a watcher knows of it: the bytes, `HasBytes`, the record with which each came,
+-- `AreBorn`, and the first conflict, `HasConflict`. The newest packet stands first. Positions are those of RFC 9293, section 3.4.
 use Rattle.std.specs.Prelude.{◌≡◌, ◌≢◌, ◌==◌, ◌<◌, ◌≤◌, ◌+ℤ◌, ℕ, ℤ, pos, max, List, [], ◌∷◌, ◌++◌, length, map, slice_get, if◌then◌else◌, Option, Some, None}
 use Rattle.cf_stream.specs.FirstCopy.{IsTaken, Offer, first_copy}
 use Rattle.cf_stream.specs.Position.{place_or_zero}

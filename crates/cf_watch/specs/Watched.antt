@@ -1,5 +1,5 @@
 -- The watched flows of a capture: watched. A flow is a client endpoint and an asset; each SYN that begins it anew begins another.
--- Packets of a flow before its first SYN are not used, nor are packets to no asset. This project's own.
+-- Packets of a flow before its first SYN are not used, nor are packets to no asset.
 use Rattle.std.specs.Prelude.{◌==◌, ◌+◌, ◌+ℤ◌, ℕ, ℤ, suc, pos, zero, Bool, true, false, not, ◌&&◌, ◌||◌, if◌then◌else◌, List, [], ◌∷◌, ◌++◌, length, set, slice_get, Option, Some, None, Result, Ok, Err}
 use Rattle.cf_packet.specs.Packet.{PacketValue, read_record}
 use Rattle.cf_packet.specs.declared.packet.PacketRefusal.{PacketRefusal}

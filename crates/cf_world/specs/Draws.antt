@@ -1,5 +1,5 @@
--- The draws of a seed: draw_at. The generator is PCG32 (O'Neill, XSH RR 64/32), which the seed is spread over as `rand_core`
--- does it; that eight draws are told apart is this project's own.
+-- Steps of the proof: the draws of a seed: `draw_at`. The generator is PCG32 (O'Neill, XSH RR 64/32), which the seed is spread over as
+-- `rand_core` does it; that eight draws are told apart is this project's own.
 use Rattle.std.specs.Prelude.{ℕ, zero, suc, ◌%◌}
 use Rattle.rand_core.specs.Pcg32Seed.{pcg32_seed}
 use Rattle.rand_pcg.specs.Lcg.{Lcg}

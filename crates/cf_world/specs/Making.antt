@@ -1,4 +1,4 @@
--- The making of a capture, record by record: AppendsRecords says what the records append to its file. This project's own.
+-- Steps of the proof: the making of a capture, record by record: `AppendsRecords` says what the records append to its file.
 use Rattle.std.specs.Prelude.{◌≡◌, ◌≤◌, ◌<◌, ◌⊎◌, ℕ, ◌+◌, ◌*◌, List, [], ◌∷◌, ◌++◌, Result, Ok, Err, length, take}
 use Rattle.std.specs.List.{flat_map}
 use Rattle.cf_outside.specs.Files.{Content, with_appended}
