@@ -31,7 +31,7 @@ policy_file (Relay policy asset port idles log) = Some policy
 policy_file (World seed sessions policy names) = None
 policy_file (Sift policy asset client names) = Some policy
 
--- the file from which it reads a second policy, behind the first
+-- the file from which it reads a second policy, after the first
 abbrev pub other_file : Command → Option (List ℕ)
 other_file (Compare policy other) = Some other
 other_file _ = None

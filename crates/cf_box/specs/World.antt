@@ -42,7 +42,7 @@ world_stop fault.NoMemory = stop.NoMemory
 world_stop fault.Write = stop.WriteFault
 
 module _ (sessions : ℕ) (policy : List ℕ) (names : RunNamesValue) (before after : Outside) where
-  -- the world was made, this stood between, and behind it the two files stayed as they were made
+  -- the world was made, this stood between, and after it the two files stayed as they were made
   pub record HasMade (between : Outside) : Type 0 where
     pub leaves : LeavesWorld sessions (made_names policy names) before.files.content after.files.content
     pub same_policy : after.files.content policy ≡ between.files.content policy

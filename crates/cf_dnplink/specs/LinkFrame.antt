@@ -8,7 +8,7 @@ use Rattle.cf_view.specs.declared.Break.TheVariants as break_
 use Rattle.cf_dnplink.specs.Crc.{crc_of}
 use Rattle.cf_dnplink.specs.declared.frame.Frame.{Frame}
 
--- octets and behind them their CRC, its low octet first
+-- octets and after them their CRC, its low octet first
 abbrev pub with_crc : List ℕ → List ℕ
 with_crc octets = octets ++ u16_le_octets (crc_of octets)
 

@@ -22,7 +22,7 @@ is_write code = code == 2
 abbrev pub is_object : ℕ → ℕ → ℕ → ℕ → Bool
 is_object group variation g v = (group == g) && (variation == v)
 
--- The table: the objects that a code takes, and how they lie. Controls have their octets behind an index, written objects have
+-- The table: the objects that a code takes, and how they lie. Controls have their octets after an index, written objects have
 -- theirs one after the other or are bits, and the objects of every other code are only named.
 abbrev pub layout_of : ℕ → ℕ → ℕ → Option Layout
 layout_of code group variation =

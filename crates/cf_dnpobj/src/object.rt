@@ -5,7 +5,7 @@ ghost use Rattle.cf_dnpobj.specs.Objects.{is_function, is_command, is_write, is_
 /// How the objects of a header lie.
 #[derive(Clone, Copy)]
 pub enum Layout {
-    /// Each has so many octets behind its index. Qualifiers 17 and 28.
+    /// Each has so many octets after its index. Qualifiers 17 and 28.
     Indexed(usize),
     /// Each has so many octets. Qualifiers 07 and 08.
     Listed(usize),

@@ -128,7 +128,7 @@ impl Assembly {
         self.add(self.len, user)
     }
 
-    /// Puts the octets of a segment behind the first `len`.
+    /// Puts the octets of a segment after the first `len`.
     fn add(&mut self, len: usize, user: &View<'_>) -> SegmentAnswer
         requires len { len ≤ length self.old.octets }
         requires user { 0 < length user.now.bytes }

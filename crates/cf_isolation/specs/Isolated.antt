@@ -31,7 +31,7 @@ began_at has = has.first.input.moment
 abbrev pub seen_until : {flow : Flow} → {events : List Event} → HasSession flow events → ℕ
 seen_until has = last_moment (has.later ++ has.first ∷ has.earlier)
 
--- the event behind those that are considered. Where the next session of the same client and asset begins in it, its first half is the
+-- the event after those that are considered. Where the next session of the same client and asset begins in it, its first half is the
 -- last that this session has
 pub record NextEvent {flow : Flow} {events : List Event} (has : HasSession flow events) : Type 0 where
   pub after : List Event

@@ -7,7 +7,7 @@ use Rattle.cf_view.specs.Text.{endpoint_text}
 use Rattle.cf_view.specs.declared.Endpoint.{Endpoint}
 use Rattle.cf_isolation.specs.Records.{is_during}
 
--- the octets before the first space, and those behind it
+-- the octets before the first space, and those after it
 abbrev pub first_word : List ℕ → List ℕ
 first_word [] = []
 first_word (octet ∷ octets) = if octet == 32 then [] else octet ∷ first_word octets

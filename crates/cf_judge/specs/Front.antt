@@ -29,7 +29,7 @@ pub record IsReaderOf (asset : Asset) (client : ℕ) (earlier : List Judged) (r 
 abbrev pub HasWhole : Asset → Reader → Type 0
 HasWhole asset r = asset.protocol ≡ protocol.Dnp3 → r.assembly.whole ≡ true
 
--- a unit that counts for this, behind which the reader goes on
+-- a unit that counts for this, after which the reader goes on
 pub record TakesUnit
     (asset : Asset) (client : ℕ) (earlier : List Judged) (bytes : List ℕ) (found : Ruling) (used : ℕ) (new : Reader) : Type 0 where
   pub unit : UnitValue

@@ -53,7 +53,7 @@ HasEnding asset bytes born (Breaks number reason) =
     (place : ℕ) × BreaksAt (SpellsUnit asset.protocol) bytes place × (reason ≡ unit_break asset.protocol place)
     × (number ≡ slice_index born place)
 
--- the units that follow each other in a client's bytes, behind earlier ones, and what follows them; each byte came with the record at its
+-- the units that follow each other in a client's bytes, after earlier ones, and what follows them; each byte came with the record at its
 -- place
 abbrev pub AreRead : Asset → ℕ → (earlier : List Judged) → (bytes born : List ℕ) → List Judged → Ending → Type 0
 AreRead asset client earlier bytes born [] ending = HasEnding asset bytes born ending

@@ -164,7 +164,7 @@ MayEnd side.Controller c k = c.pushed < 2 ^ 31
 abbrev pub HasAdded : List (List ℕ) → DeskValue → DeskValue → Type 0
 HasAdded more old new = new.lines ≡ with_lines old.lines more
 
--- a log has these lines; or it has none of them, and the octets behind its last line are a beginning of theirs
+-- a log has these lines; or it has none of them, and the octets after its last line are a beginning of theirs
 abbrev pub MayHaveMore : List (List ℕ) → (old log : Option (List (List ℕ))) → (part : List ℕ) → Type 0
 MayHaveMore more old log part = ((log ≡ old) × ((k : ℕ) × (part ≡ take k (concat more)))) ⊎ ((log ≡ with_lines old more) × (part ≡ []))
 

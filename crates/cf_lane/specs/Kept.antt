@@ -14,7 +14,7 @@ use Rattle.cf_policy.specs.declared.Protocol.TheVariants as protocol
 use Rattle.cf_view.specs.declared.Side.TheVariants as side
 use Rattle.cf_lane.specs.declared.wire.Wire.TheVariants as wire
 
--- the fragments are put together from the segments of their sides, and the sequences go on behind the segments that were sent
+-- the fragments are put together from the segments of their sides, and the sequences go on after the segments that were sent
 pub record KnowsFragments (asset : Asset) (f : Fragments) (earlier : List Judged) : Type 0 where
   pub client : IsAssemblyOf f.client (segments_of asset side.Client earlier)
   pub controller : IsAssemblyOf f.controller (segments_of asset side.Controller earlier)

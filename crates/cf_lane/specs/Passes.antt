@@ -113,7 +113,7 @@ ItemGoes asset says earlier (Took side.Controller u) Rest out = Leaves [] Rest o
 ItemGoes asset says earlier (Ended s n) Rest out = Leaves [] Rest out
 ItemGoes asset says earlier (Broke s b) Rest out = Leaves [] Rest out
 
--- what items put there one after the other, behind the earlier ones
+-- what items put there one after the other, after the earlier ones
 abbrev pub Passes : Asset → ℕ → (earlier js : List Judged) → List ℕ → Type 0
 Passes asset client earlier [] out = out ≡ []
 Passes asset client earlier (j ∷ js) out = ItemGoes asset (says_at asset client earlier j.moment) earlier j.item (Passes asset client (earlier ++ j ∷ []) js) out

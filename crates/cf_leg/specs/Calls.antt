@@ -283,7 +283,7 @@ pub record Widens (roomy : Bool) (old new : Window) : Type 0 where
   pub near : new.edge ≤ base_of old + 16384
 
 -- ---- calls that the desk broke off: each sent the first segments of a list that it may send, of which a beginning of the
--- next one stands behind them
+-- next one stands after them
 
 -- the segment with the letters of a piece
 pub record PieceBreaks (way : Way) (t : Told) (queue : Queue) (piece : Piece) (now : ℕ) (before after : DeskValue) : Type 0 where

@@ -17,7 +17,7 @@ abbrev pub lines_from : List ℕ → List ℕ → List (List ℕ)
 lines_from part [] = []
 lines_from part (byte ∷ bytes) = if byte == 10 then (part ++ byte ∷ []) ∷ lines_from [] bytes else lines_from (part ++ byte ∷ []) bytes
 
--- what stands behind its last line feed
+-- what stands after its last line feed
 abbrev pub rest_from : List ℕ → List ℕ → List ℕ
 rest_from part [] = part
 rest_from part (byte ∷ bytes) = if byte == 10 then rest_from [] bytes else rest_from (part ++ byte ∷ []) bytes
@@ -28,7 +28,7 @@ file_lines untold = None
 file_lines absent = None
 file_lines (holds all) = Some (lines_from [] all)
 
--- what stands behind the last line feed of a file, as far as it is told
+-- what stands after the last line feed of a file, as far as it is told
 abbrev pub file_part : Content → List ℕ
 file_part untold = []
 file_part absent = []

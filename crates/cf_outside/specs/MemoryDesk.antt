@@ -47,7 +47,7 @@ desk_in_memory desk = record {
   content = λ _. untold;
 }
 
--- a list behind a failure by the script, which adds the item all the same where it leaves more than 0
+-- a list after a failure by the script, which adds the item all the same where it leaves more than 0
 abbrev pub with_left : {A : Type 0} → ℕ → A → List A → List A
 with_left left item items = if left == 0 then items else items ++ item ∷ []
 

@@ -7,7 +7,7 @@ use Rattle.cf_packet.specs.Checksum.{is_right}
 use Rattle.cf_packet.specs.declared.packet.PacketRefusal.{PacketRefusal}
 use Rattle.cf_packet.specs.declared.packet.PacketRefusal.TheVariants as refusal
 
--- what stands behind the Ethernet header of 14 octets, if its type is that of IPv4. RFC 894
+-- what stands after the Ethernet header of 14 octets, if its type is that of IPv4. RFC 894
 abbrev pub ethernet_payload : List ℕ → Option (List ℕ)
 ethernet_payload octets =
     if nat_lt (length octets) 14 then None
@@ -35,7 +35,7 @@ header_length packet = ihl packet * 4
 abbrev pub total_length : List ℕ → ℕ
 total_length packet = u16_be_at packet 2
 
--- the third of the three flags, and the 13 bits behind them
+-- the third of the three flags, and the 13 bits after them
 abbrev pub more_fragments : List ℕ → ℕ
 more_fragments packet = u16_be_at packet 6 / 8192 % 2
 

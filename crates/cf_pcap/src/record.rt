@@ -20,7 +20,7 @@ pub enum RecordAnswer<'a> {
         /// How many octets it takes, its head included.
         used: usize,
     },
-    /// The record goes on behind the octets. It takes so many in all: 16 while its head is not whole.
+    /// The record goes on after the octets. It takes so many in all: 16 while its head is not whole.
     Need(usize),
     /// The captured length is above `CAPTURED_LIMIT`.
     TooLong,

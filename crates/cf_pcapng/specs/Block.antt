@@ -71,7 +71,7 @@ module _ (big_endian : Bool) (octets : List ℕ) where
   unfoldable pub is_wrong_section : Bool
   is_wrong_section = is_section octets && not ((u32_at big_endian octets 8 == BYTE_ORDER) && (u16_at big_endian octets 12 == 1))
 
-  -- an interface description: its link type, and its options behind octet 16
+  -- an interface description: its link type, and its options after octet 16
   unfoldable pub interface_at : Interface
   interface_at = record {
     link = u16_at big_endian octets 8;

@@ -30,7 +30,7 @@ pub enum BlockAnswer<'a> {
     },
     /// Any other block, of so many octets.
     Passed(usize),
-    /// The block goes on behind the octets. It takes so many in all: 12, or 28 of a section header, while its length is not told.
+    /// The block goes on after the octets. It takes so many in all: 12, or 28 of a section header, while its length is not told.
     Need(usize),
     /// The block is refused, by this number.
     Refused(u8),

@@ -37,7 +37,7 @@ abbrev pub IsDecidedByRule : Verdict → Type 0
 IsDecidedByRule (verdict.Refuse decider.Default why) = ⊥
 IsDecidedByRule _ = Unit {0}
 
--- the asset with one more rule behind the others
+-- the asset with one more rule after the others
 abbrev pub with_rule : Asset → Rule → Asset
 with_rule asset rule = record asset { rules = asset.rules ++ rule ∷ [] }
 

@@ -82,7 +82,7 @@ abbrev pub master : Protocol → Place → Members → Tested ℕ
 master Dnp3 place members = number_at key.Master 0 (highest_master Dnp3) place members
 master _ place members = no_master place members
 
--- the asset of this number, from 1, behind those that were read
+-- the asset of this number, from 1, after those that were read
 abbrev pub asset : Named → ℕ → List Asset → Members → Tested Asset
 asset named n seen members =
     let place = at_asset n in
@@ -102,6 +102,6 @@ asset named n seen members =
       rules = own_rules;
     })))))))
 
--- the assets in their order, behind n that were read
+-- the assets in their order, after n that were read
 abbrev pub assets_from : Named → ℕ → Items → List Asset → Tested (List Asset)
 assets_from named n items seen = tables_from key.Asset at_document (asset named) n items seen

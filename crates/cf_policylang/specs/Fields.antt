@@ -79,7 +79,7 @@ abbrev pub number_in : ℕ → ℕ → ℤ → Option ℕ
 number_in low high (pos n) = if nat_le low n && nat_le n high then Some n else None
 number_in low high (negsuc n) = None
 
--- the tables of an array in their order, behind n that were read: read gets the number of each, from 1, and what was
+-- the tables of an array in their order, after n that were read: read gets the number of each, from 1, and what was
 -- read before it
 abbrev pub tables_from : {X : Type 0} → Key → Place → (ℕ → List X → Members → Tested X) → ℕ → Items → List X → Tested (List X)
 tables_from key place read n no_items seen = Ok seen

@@ -40,7 +40,7 @@ entry entries.Codes key place value = and_then (as_number key place value) (λ z
 entry (entries.Numbers low high) key place value =
     and_then (as_text key place value) (λ text. or_refused cause.BadRange key place (number_span low high text))
 
--- the entries in their order, behind those before them
+-- the entries in their order, after those before them
 abbrev pub entries_from : Entries → Key → Place → Items → List Span → Tested (List Span)
 entries_from entries key place no_items seen = Ok seen
 entries_from entries key place (item value items) seen =

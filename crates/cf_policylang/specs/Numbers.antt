@@ -6,11 +6,11 @@ use Rattle.std.specs.Str.Parse.{signed_digits_value}
 use Rattle.cf_policy.specs.declared.policy.Span.{Span}
 
 -- the number that the text's digits write, if the text is how that number is printed: decimal digits without leading
--- zeros, behind a `-` if it is below zero
+-- zeros, after a `-` if it is below zero
 abbrev pub printed_number : List ℕ → Option ℤ
 printed_number text = let z = signed_digits_value 10 text in if bytes_eq text (signed_decimal z) then Some z else None
 
--- a `+`, or a zero before another digit or behind `-`, which no number has as it is printed
+-- a `+`, or a zero before another digit or after `-`, which no number has as it is printed
 abbrev pub has_spare : List ℕ → Bool
 has_spare text =
     starts_with nat_eq text (codes "+")
@@ -24,7 +24,7 @@ within low high z = if int_le low z && int_le z high then Some z else None
 abbrev pub printed_number_in : ℤ → ℤ → List ℕ → Option ℤ
 printed_number_in low high text = option_and_then (within low high) (printed_number text)
 
--- what stands before and what stands behind the first place at which the mark stands
+-- what stands before and what stands after the first place at which the mark stands
 abbrev pub split_at_mark : List ℕ → List ℕ → Option (List ℕ × List ℕ)
 split_at_mark mark [] = None
 split_at_mark mark (b ∷ bs) =

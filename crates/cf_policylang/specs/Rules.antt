@@ -64,7 +64,7 @@ group_spans place members = optional_spans (entries.Numbers (pos 0) highest_grou
 abbrev pub value_spans : Place → Members → Tested (List Span)
 value_spans place members = optional_spans (entries.Numbers lowest_value highest_value) key.Values place members
 
--- a rule behind those of its asset that were read
+-- a rule after those of its asset that were read
 abbrev pub rule : Named → Place → List Rule → Members → Tested Rule
 rule named place seen members =
     if has_other rule_keys members then refused cause.UnknownKey key.Nothing place else
@@ -87,7 +87,7 @@ rule named place seen members =
       rate = own_rate;
     })))))))))
 
--- the rules of the asset of this number in their order, behind n that were read
+-- the rules of the asset of this number in their order, after n that were read
 abbrev pub rules_from : Named → ℕ → ℕ → Items → List Rule → Tested (List Rule)
 rules_from named a n items seen = tables_from key.Rule (at_asset a) (λ m. rule named (at_rule a m)) n items seen
 

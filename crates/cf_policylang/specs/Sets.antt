@@ -41,7 +41,7 @@ abbrev pub set_points : Place → Members → Tested (List Span)
 set_points place members =
     and_then (required key.Points place members) (λ value. spans (entries.Numbers (pos 0) highest_point) key.Points place value)
 
--- a set behind those that were read
+-- a set after those that were read
 abbrev pub set : Place → List PointSet → Members → Tested PointSet
 set place seen members =
     if has_other set_keys members then refused cause.UnknownKey key.Nothing place else
@@ -49,7 +49,7 @@ set place seen members =
     and_then (set_points place members) (λ own_points.
     Ok (record { name = own_name; points = own_points })))
 
--- the sets in their order, behind n that were read
+-- the sets in their order, after n that were read
 abbrev pub sets_from : ℕ → Items → List PointSet → Tested (List PointSet)
 sets_from n items seen = tables_from key.Set at_document (λ m. set (at_set m)) n items seen
 
@@ -66,7 +66,7 @@ sets members = and_then (set_items (stated key.Set members)) (λ items. sets_fro
 
 -- ---- the points of a rule
 
--- the name behind the mark of an entry that names a set, which version 2 alone has
+-- the name after the mark of an entry that names a set, which version 2 alone has
 abbrev pub named_in : Edition → List ℕ → Option (List ℕ)
 named_in edition.First text = None
 named_in edition.Second text = if starts_with nat_eq text (codes "@") then Some (drop 1 text) else None
@@ -95,7 +95,7 @@ abbrev pub point_entry : Named → Place → Data → Tested (List Span)
 point_entry named place value =
     and_then (as_text key.Points place value) (λ text. entry_spans named.sets place text (named_in named.edition text))
 
--- the spans of the entries in their order, behind those before them
+-- the spans of the entries in their order, after those before them
 abbrev pub points_from : Named → Place → Items → List Span → Tested (List Span)
 points_from named place no_items seen = Ok seen
 points_from named place (item value items) seen =

@@ -12,7 +12,7 @@ use Rattle.cf_policylang.specs.Keys.{cause_number}
 abbrev pub Tested : Type 0 → Type 0
 Tested A = Result A PolicyRefusal
 
--- the tests of next come behind those before, of which a refusal decides
+-- the tests of next come after those before, of which a refusal decides
 abbrev pub and_then : {A B : Type 0} → Tested A → (A → Tested B) → Tested B
 and_then (Ok x) next = next x
 and_then (Err r) next = Err r

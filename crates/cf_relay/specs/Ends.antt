@@ -107,7 +107,7 @@ pub record IsWriteEnd (asset : Asset) (listen most : ℕ) (log : LogContents) (e
   pub is_last : IsLastLine asset es judged last
   pub begins : log.Begins (log_of asset es judged ++ last)
 
--- memory was wanting: before the log was created, or behind the meeting, where the log is empty
+-- memory was wanting: before the log was created, or after the meeting, where the log is empty
 abbrev pub IsMemoryEnd : Asset → (listen : ℕ) → (created same : Type 0) → List Entry → Type 0
 IsMemoryEnd asset listen created same es =
     ((es ≡ []) × same) ⊎ (((client : Endpoint) × (es ≡ met_at listen asset.endpoint client ∷ [])) × created)

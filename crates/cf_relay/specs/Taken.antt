@@ -43,7 +43,7 @@ pub record OnlyPushed (old new : Queue) : Type 0 where
   pub sent : new.sent ≡ old.sent
   pub shown : new.shown ≡ old.shown
 
--- whether a side has ended, behind an answer
+-- whether a side has ended, after an answer
 abbrev pub ended_after : Side → Entry → Bool → Bool
 ended_after s (Met meeting) ended = ended
 ended_after s (Moment moment) ended = ended

@@ -149,7 +149,7 @@ DoesStages asset most (stage ∷ later) before answers =
     (now next : List Entry) × (answers ≡ now ++ next) × IsStage asset most stage before now × DoesStages asset most later
     (before ++ now) next
 
--- the stages, broken off before one of them, within one, or behind the last
+-- the stages, broken off before one of them, within one, or after the last
 abbrev pub BeginsStages : Asset → (most : ℕ) → List Stage → (before answers : List Entry) → Type 0
 BeginsStages asset most [] before answers = answers ≡ []
 BeginsStages asset most (stage ∷ later) before answers =

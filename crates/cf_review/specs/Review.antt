@@ -54,7 +54,7 @@ conflict_remarks f (Some c) = remark_on f c.at_record (Conflict c.position) ∷ 
 abbrev pub flow_remarks : Asset → FlowValue → List Judged → Ending → List RemarkValue
 flow_remarks asset f js ending = conflict_remarks f f.conflict ++ (in_turn (unit_remarks asset f) [] js ++ end_remarks f ending)
 
--- the bytes of a flow are some units and an ending, and these are the remarks behind others on it, with so many commands allowed
+-- the bytes of a flow are some units and an ending, and these are the remarks after others on it, with so many commands allowed
 pub record AddsReview (asset : Asset) (f : FlowValue) (old new : List RemarkValue) (admitted : ℕ) : Type 0 where
   pub judged : List Judged
   pub ending : Ending

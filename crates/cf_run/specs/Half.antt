@@ -45,7 +45,7 @@ abbrev pub BeginsSession : List Asset → List Session → Result PacketValue Pa
 BeginsSession assets table (Err refusal) = ⊥
 BeginsSession assets table (Ok packet) = (flow : Flow) × (match_of assets table packet ≡ Begins flow)
 
--- that first half, where the packet behind it begins a session
+-- that first half, where the packet after it begins a session
 pub record IsHalfBeforeBeginning (assets : List Asset) (before : List Session) (input : Input) (half : Half) : Type 0 where
   pub ticks : List SessionEvent
   pub are : AreTicks (tick_of input) (kept (tick_of input) before) ticks

@@ -87,7 +87,7 @@ NoneBegins client asset (event ∷ earlier) = (begins_theirs client asset event.
 pub record HasSession (flow : Flow) (events : List Event) : Type 0 where
   -- the events after those that are considered
   pub after : List Event
-  -- those that are considered, behind the one in which it begins
+  -- those that are considered, after the one in which it begins
   pub later : List Event
   pub first : Event
   -- the events before it begins
@@ -119,7 +119,7 @@ session_logged flow has = logged_over (client_of flow) flow.asset.endpoint has.f
 
 -- ---- two runs
 
--- at each of the events behind the beginning the same packet is matched to both sessions, or none to either
+-- at each of the events after the beginning the same packet is matched to both sessions, or none to either
 abbrev pub AreMatched : List Asset → (client asset : Endpoint) → (here there : List Event) → (events others : List Event) → Type 0
 AreMatched assets client asset here there [] [] = Unit {0}
 AreMatched assets client asset here there [] (other ∷ others) = ⊥

@@ -44,7 +44,7 @@ module _ (all : List ℕ) where
   StopsAt old new found =
       (count : ℕ) × PassesTo count old.form old.place new.form new.place × (at_place new.form new.place (drop new.place all) ≡ found)
 
-  -- what it finds is what stands there; behind a record it goes on
+  -- what it finds is what stands there; after a record it goes on
   abbrev pub Finds : (old new : ReaderValue) → NextRecord → Type 0
   Finds old new (next.Whole stamp) =
       (count : ℕ) × (file_form : Form) × (place : ℕ) × (used : ℕ) × PassesTo count old.form old.place file_form place

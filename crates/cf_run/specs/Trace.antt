@@ -84,7 +84,7 @@ with_event_at place event [] = []
 with_event_at zero event (session ∷ table) = record session { events = replaced event session.events } ∷ table
 with_event_at (suc place) event (session ∷ table) = session ∷ with_event_at place event table
 
--- the table behind the packet: a new session stands last, and the closed one of its flow is gone; a session that was cut is gone
+-- the table after the packet: a new session stands last, and the closed one of its flow is gone; a session that was cut is gone
 abbrev pub after_received : Received → List Session → List Session
 after_received (Begun flow event) table = without (client_of flow) flow.asset.endpoint table ++ record { flow = flow; events = event ∷ [] } ∷ []
 after_received (Went place event) table = filter stays (with_event_at place event table)

@@ -14,7 +14,7 @@ use Rattle.cf_session.specs.Told.{emitted, told, with_both}
 abbrev pub octets_of : (SentValue → List ℕ) → List Sent → List ℕ
 octets_of octets sent = flat_map (λ s. octets (emitted s)) sent
 
--- behind what stands whole there stands what stood there before, or a beginning of the octets that come next
+-- after what stands whole there stands what stood there before, or a beginning of the octets that come next
 abbrev pub IsPartOf : (next was now : List ℕ) → Type 0
 IsPartOf next was now = (now ≡ was) ⊎ ((some : ℕ) × (now ≡ take some next))
 
@@ -30,7 +30,7 @@ pub record BreaksAmid (sent : List Sent) (lines : List (List ℕ)) (old new : De
   pub packet_part : IsPartOf (octets_of old.octets left) old.packet_part new.packet_part
   pub line_part : IsPartOf (concat missing) old.line_part new.line_part
 
--- what stands behind the last whole packet and the last whole line is as it was, as after each call that did not fail
+-- what stands after the last whole packet and the last whole line is as it was, as after each call that did not fail
 pub record KeepsParts (old new : DeskValue) : Type 0 where
   pub packet_part : new.packet_part ≡ old.packet_part
   pub line_part : new.line_part ≡ old.line_part

@@ -15,7 +15,7 @@ use Rattle.cf_session.specs.Cuts.{clock_cut, gives_up, packet_cut}
 use Rattle.cf_session.specs.Session.{Flow, SessionEvent, client_ends, client_of, clients, controller_ends, controllers, has_room, history, work_of}
 use Rattle.cf_session.specs.Work.{Works, fed_at, no_work}
 
--- the event of each leg is right after that leg's earlier ones. None is behind an event that a cut broke off
+-- the event of each leg is right after that leg's earlier ones. None is after an event that a cut broke off
 pub record AreRight (flow : Flow) (earlier : List SessionEvent) (event : SessionEvent) : Type 0 where
   pub controller : IsRight (controller_ends flow) (controllers earlier) event.controller
   pub client : IsRight (client_ends flow) (clients earlier) event.client
@@ -107,7 +107,7 @@ pub record IsPacket (flow : Flow) (limit : ℕ) (earlier : List SessionEvent) (h
   pub controller_came : event.controller.came ≡ came_controller from packet
   pub client_came : event.client.came ≡ came_client flow from packet (opening (controller_ends flow).role (controllers earlier) event.controller && is_none event.cut)
   pub fed : AreFed (moment event.client) from event.fed
-  -- nothing is taken behind an End
+  -- nothing is taken after an End
   pub unended : ended_of from (history earlier) ≡ true → event.fed ≡ []
   pub taken : AreTaken flow (event ∷ earlier)
   pub work : Works flow.asset (client_of flow) (history (event ∷ earlier)) event.work

@@ -71,7 +71,7 @@ fn feed_lane<D: Desk>(
     Ok(fed)
 }
 
-/// Hands the End of a side to the lane, behind bytes that were handed over at the same moment, perhaps none.
+/// Hands the End of a side to the lane, after bytes that were handed over at the same moment, perhaps none.
 fn end_lane<D: Desk>(
     lane: &mut Lane,
     asset: &Asset,

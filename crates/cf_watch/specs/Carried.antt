@@ -12,7 +12,7 @@ pub record Carried : Type 0 where
   pub at : ℤ
   pub text : Stream
 
--- the place behind the last of so many letters from a place on; 0 where none stands from place 0 on
+-- the place after the last of so many letters from a place on; 0 where none stands from place 0 on
 abbrev pub end_after : (at : ℤ) (count : ℕ) → ℕ
 end_after at count = if count == 0 then 0 else place_or_zero (at +ℤ pos count)
 

@@ -9,11 +9,11 @@ use Rattle.rand_pcg.specs.Pcg.{pcg32, pcg32_of_seed}
 abbrev pub seeded : (seed : ℕ) → Lcg
 seeded seed = pcg32_of_seed (pcg32_seed 16 seed)
 
--- the generator of a seed behind its first words, of which there were so many
+-- the generator of a seed after its first words, of which there were so many
 unfoldable pub drawn : (seed count : ℕ) → Lcg
 drawn seed zero = seeded seed
 drawn seed (suc count) = (pcg32 (drawn seed count)).1
 
--- the word of a seed behind so many others, modulo 8
+-- the word of a seed after so many others, modulo 8
 abbrev pub draw_at : (seed count : ℕ) → ℕ
 draw_at seed count = (pcg32 (drawn seed count)).0 % 8

@@ -63,7 +63,7 @@ impl From<WriteFault> for WorldFault {
 
 /// Makes a policy of three assets, one of each protocol, and a capture of so many sessions, from 1 to 200, which hosts made
 /// against the engine under that policy. Session i, from 0, is between the client 10.1.0.(i+1), port 40,000 + i, and asset i
-/// mod 3. The same seed and number give the same two files. The policy is created first, and nothing is written behind a
+/// mod 3. The same seed and number give the same two files. The policy is created first, and nothing is written after a
 /// fault. This project's own.
 pub fn make_world<F: Files>(
     alloc: Global,
