@@ -90,8 +90,8 @@ impl Reader {
         size_in(order_in(self.big_endian, bytes), bytes)
     }
 
-    /// The block that begins these octets, which follow the blocks that were read; a file's first block is a section header. draft-ietf-opsawg-pcapng,
-    /// section 3.1. Takes no memory. A refusal and `Need` change nothing.
+    /// The block that begins these octets, which follow the blocks that were read; a file's first block is a section header.
+    /// draft-ietf-opsawg-pcapng, section 3.1. Takes no memory. A refusal and `Need` change nothing.
     pub fn next_block<'a>(&mut self, bytes: &'a [u8]) -> BlockAnswer<'a>
         ensures found { block_answer_value result ≡ answer_of (block_at self.old bytes.now) }
         ensures section { self.new ≡ after_found self.old (block_at self.old bytes.now) }

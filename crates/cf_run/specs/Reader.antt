@@ -11,8 +11,8 @@ use Rattle.cf_run.specs.declared.record_reader.NextRecord.TheVariants as next
 use Rattle.cf_run.specs.declared.record_reader.OpenFault.{OpenFault}
 use Rattle.cf_run.specs.declared.record_reader.OpenFault.TheVariants as fault
 
--- what a contract sees of a `RecordReader`: the form of its file as its octets so far tell it, where the next record or block begins, and the
--- link kind and the captured octets of the last record
+-- what a contract sees of a `RecordReader`: the form of its file as its octets so far tell it, where the next record or block begins,
+-- and the link kind and the captured octets of the last record
 pub record ReaderValue : Type 0 where
   pub form : Form
   pub place : ℕ
