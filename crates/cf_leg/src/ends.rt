@@ -12,7 +12,7 @@ pub enum Role {
     Passive(u32, Option<u16>),
 }
 
-/// The two ends of the connection, seen from the one that sends.
+/// The two ends of the connection, seen from the one that sends. This project's own.
 #[derive(Clone, Copy)]
 pub struct Ends {
     /// The endpoint of the end.
@@ -50,7 +50,7 @@ pub enum Phase {
     Open,
 }
 
-/// What became of a packet.
+/// What became of a packet. RFC 9293, section 3.10.7, and RFC 5961; the names are this project's own.
 #[derive(Clone, Copy)]
 pub enum LegAnswer {
     /// It counts: it acknowledges letters, shows an edge, and offers its letters.
@@ -65,7 +65,7 @@ pub enum LegAnswer {
     Reset,
 }
 
-/// What a clock call did.
+/// What a clock call did. RFC 9293, section 3.8.1; how often is this project's own.
 #[derive(Clone, Copy)]
 pub enum ClockAnswer {
     /// Nothing was due.
@@ -88,7 +88,7 @@ pub struct Told {
     pub edge: u64,
 }
 
-/// Between whom segments go, and the sequence numbers of the two SYNs.
+/// Between whom segments go, and the sequence numbers of the two SYNs. RFC 9293, section 3.3.1.
 #[derive(Clone, Copy)]
 pub struct Way {
     /// The source of the segments.
@@ -101,7 +101,7 @@ pub struct Way {
     pub other: u32,
 }
 
-/// An end as a packet finds it.
+/// An end as a packet finds it. RFC 9293, section 3.3.1.
 #[derive(Clone, Copy)]
 pub struct EndState {
     /// Which of the two ends sent the SYN.

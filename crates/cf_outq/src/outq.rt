@@ -16,6 +16,7 @@ const CAPACITY: usize = 131_072;
 /// The letters that one TCP end has to send: bytes, and then End once it is closed. It keeps what was not acknowledged.
 ///
 /// Places count letters from 0, in the order in which they were pushed. No call but `new` takes memory.
+/// RFC 9293, sections 3.3.1 and 3.8; its room is this project's own.
 #[derive(Drop)]
 pub struct Outq {
     /// The bytes from SND.UNA on: those that were pushed and not acknowledged.

@@ -8,7 +8,7 @@ use cf_view::View;
 /// The captured octets that a record has at most. This project's own.
 pub const CAPTURED_LIMIT: u32 = 262_144;
 
-/// What octets of a file say about the record that they begin.
+/// What octets of a file say about the record that they begin. draft-ietf-opsawg-pcap, section 5.
 #[derive(Drop)]
 pub enum RecordAnswer<'a> {
     /// A record.

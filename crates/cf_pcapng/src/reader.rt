@@ -14,7 +14,7 @@ use cf_view::{LinkKind, NoMemory};
 use std::alloc::Global;
 use std::marker::Model;
 
-/// What octets of a file say about the block that they begin.
+/// What octets of a file say about the block that they begin. draft-ietf-opsawg-pcapng, section 4.
 #[derive(Drop)]
 pub enum BlockAnswer<'a> {
     /// An enhanced packet.
@@ -37,6 +37,7 @@ pub enum BlockAnswer<'a> {
 }
 
 /// Reads a file block by block, and keeps the byte order and the interfaces of a section.
+/// draft-ietf-opsawg-pcapng, section 3.
 #[derive(Drop)]
 pub struct Reader {
     big_endian: bool,

@@ -17,7 +17,7 @@ use std::alloc::Global;
 use toml::value::Array;
 use toml::{Table, Value};
 
-/// The most sets of a document.
+/// The most sets of a document. This project's own limit.
 pub const MOST_SETS: usize = 64;
 
 /// The version of a document.

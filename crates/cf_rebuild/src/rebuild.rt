@@ -14,6 +14,7 @@ use std::marker::Model;
 ///
 /// Places count letters from 0, the one after the peer's SYN. No call but `new` takes memory, and none moves a byte that
 /// it keeps: the letter at place p has slot p mod 32,768.
+/// RFC 9293, sections 3.3.1 and 3.10.7.4; that a letter which came ahead of its turn stays is this project's own.
 #[derive(Drop)]
 pub struct Rebuild {
     /// A bit for each slot, 64 a word, low bits first: a byte is kept there.

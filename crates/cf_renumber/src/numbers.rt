@@ -19,6 +19,7 @@ use std::marker::Model;
 const CAPACITY: usize = 4_096;
 
 /// The numbers of the I frames of one session, on both legs. It keeps a mark of each frame that is not acknowledged.
+/// IEC 60870-5-104, section 5.1; that both legs are numbered apart is this project's own.
 #[derive(Drop)]
 pub struct Numbers {
     /// The client's STARTDT act has come: the controller may send I frames.

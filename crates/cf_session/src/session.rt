@@ -27,7 +27,7 @@ use cf_view::{Endpoint, NoMemory, WriteFault};
 use std::alloc::Global;
 use std::marker::Model;
 
-/// One session. All its memory is taken as it begins.
+/// One session. All its memory is taken as it begins. This project's own.
 #[derive(Drop)]
 pub struct Session {
     /// The end towards the client, a passive one. It has the endpoint of the controller.
@@ -56,7 +56,7 @@ impl Model for Session {
     ghost view = { λ a. record { client = a.client; controller = a.controller; lane = a.lane; to_client = a.to_client; to_controller = a.to_controller; closed = a.closed; limit = a.limit; source = a.source } };
 }
 
-/// Why no session began.
+/// Why no session began. This project's own.
 #[derive(Clone, Copy)]
 pub enum BeginFault {
     /// Nothing was sent or logged.

@@ -19,7 +19,7 @@ use thiserror::Error;
 /// How many records a capture has at most. This project's own.
 pub const RECORD_LIMIT: u32 = 1_000_000;
 
-/// The files of a world, both written. The two names differ.
+/// The files of a world, both written. The two names differ. This project's own.
 #[derive(Clone, Copy, Debug)]
 pub struct WorldNames<'a> {
     /// The text of the policy.
@@ -28,7 +28,7 @@ pub struct WorldNames<'a> {
     pub capture: &'a str,
 }
 
-/// Why a world was not made.
+/// Why a world was not made. This project's own.
 #[derive(Clone, Copy, PartialEq, Eq, Debug, Error)]
 pub enum WorldFault {
     /// Memory ran out.
