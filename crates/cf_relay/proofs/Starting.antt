@@ -35,7 +35,7 @@ drop_all : {A : Type 0} (xs ys : List A) → drop (length xs) (xs ++ ys) ≡ ys
 drop_all [] ys = refl
 drop_all (x ∷ xs) ys = drop_all xs ys
 
--- a last line failed behind lines that stand there
+-- a last line failed after lines that stand there
 pub begins_last : (base log : Option (List (List ℕ))) (part : List ℕ) (xs : List (List ℕ)) (line : List ℕ) → MayHaveMore (line ∷ []) (with_lines base xs) log part → BeginsLines base log part (xs ++ line ∷ [])
 begins_last base log part xs line (inl (same, (k, some))) =
     (length xs, k, same ∙ ap (with_lines base) (sym (take_all xs (line ∷ []))), some ∙ ap (λ ls. take k (concat ls)) (sym (drop_all xs (line ∷ []))))

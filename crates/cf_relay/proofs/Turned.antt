@@ -100,14 +100,14 @@ module _ (asset : Asset) (listen most : ℕ) (client : Endpoint) (m : ℕ) (base
   breaks_all : 0 < most → (n : ℕ) → BeginsStages asset most (turns n) (begun_list asset listen client m []) answers → IsRelayed asset listen most (begun_list asset listen client m answers)
   breaks_all few n b = (n, does_broken asset most (Meeting listen ∷ Telling ∷ []) (turns n) [] (begun_list asset listen client m []) answers (start_does asset listen most few client m) b)
 
-  -- stages that are done break off behind the last
+  -- stages that are done break off after the last
   breaks_of : (n : ℕ) → DoesStages asset most (turns n) (begun_list asset listen client m []) answers → BeginsStages asset most (turns n) (begun_list asset listen client m []) answers
   breaks_of n does =
       subst (λ ps. BeginsStages asset most ps (begun_list asset listen client m []) answers) (append-nil (turns n))
       (subst (λ (xs : List Entry). BeginsStages asset most (turns n ++ []) (begun_list asset listen client m []) xs) (append-nil answers)
       (does_broken asset most (turns n) [] (begun_list asset listen client m []) answers [] does refl))
 
-  -- the lines behind the open line
+  -- the lines after the open line
   lines_all : (own : Option (List (List ℕ))) (js : List Judged) → own ≡ with_lines (begun_lines asset client m base) (lines asset client [] js) → own ≡ with_lines base (log_of asset (begun_list asset listen client m answers) js)
   lines_all own js e = e ∙ lines_both base (line_about asset client m Begun ∷ []) (lines asset client [] js)
 

@@ -1,4 +1,5 @@
--- A relay between two turns, HasTurned, and one that stopped within a turn, HasStopped, each over lines of its own. This project's own.
+-- Steps of the proof: a relay between two turns, `HasTurned`, and one that stopped within a turn, `HasStopped`, each over lines
+-- of its own.
 use Rattle.cf_audit.specs.Line.{Begun}
 use Rattle.cf_lane.specs.Log.{line_about, with_lines}
 use Rattle.cf_outside.specs.Pair.{Entry, Moment, met_at}
@@ -26,7 +27,7 @@ pub record HasTurned (asset : Asset) (listen most : ℕ) (client : Endpoint) (mo
   pub stands : StandsFor asset (begun_lines asset client moment base) (begun_list asset listen client moment answers) now own
   pub few : now.idle < most
 
--- it stopped within a turn; a line that failed left a part behind its own lines
+-- it stopped within a turn; a line that failed left a part after its own lines
 pub record HasStopped (asset : Asset) (listen most : ℕ) (client : Endpoint) (moment : ℕ) (base : Option (List (List ℕ)))
     (answers : List Entry) (why : Stop) (now : RelayingValue) (own : Option (List (List ℕ))) (part : List ℕ) : Type 0 where
   pub count : ℕ
