@@ -1,4 +1,4 @@
--- The interface of lemmas for the crates above: Lined, Starting and Turned.
+-- The interface of lemmas for the crates above: Lined, Stages, Starting and Turned.
 mod Asked
 mod Asking
 mod Doing
@@ -13,7 +13,7 @@ mod Moving
 mod OnePair
 mod Scenes
 mod Serving
-mod Stages
+pub mod Stages
 mod Standing
 pub mod Starting
 mod Taking
