@@ -52,6 +52,8 @@ pub struct RealFiles<'a, R: FileSystem> {
     gather: Gather,
     reader: Option<Reader<R::File>>,
     writers: Vec<Writer<R::File>>,
+    /// The place of the file that was appended to last among those that are open. What stands there may be another by now.
+    latest: usize,
     /// Which files the command's names stand for.
     places: Vec<Place>,
     fault: Option<Fault>,
@@ -74,6 +76,7 @@ impl<'a, R: FileSystem> RealFiles<'a, R> {
             gather,
             reader: None,
             writers: Vec::new(alloc),
+            latest: 0,
             places: Vec::new(alloc),
             fault: None,
             withheld: None,
@@ -284,6 +287,7 @@ impl<R: FileSystem> Files for RealFiles<'_, R> {
             self.alloc,
             self.gather,
             &mut self.writers,
+            &mut self.latest,
             name,
             bytes,
         ) {
