@@ -75,10 +75,7 @@ pub(crate) fn open_at_end<R: FileSystem>(
     if let Some(place) = find_writer(writers, name) {
         writers.remove(place);
     }
-    let mut file = OpenOptions::new()
-        .append(true)
-        .create(true)
-        .open(rt, name)?;
+    let mut file = OpenOptions::new().append(true).create(true).open(rt, name)?;
     if file.metadata()?.is_file() && lacks_feed(rt, name)? {
         file.write_all(b"\n")?;
     }
