@@ -46,8 +46,7 @@ pub enum Fate {
 }
 
 /// The fate of an ADU of the client of the rules, at a moment in microseconds. The station is compared first, then the form is
-/// read, then each act is judged in its order; the first that is not allowed decides. This project's own order. Requests that
-/// write one point are read in one step.
+/// read, then each act is judged in its order; the first that is not allowed decides. This project's own order.
 pub(crate) fn judge(asset: &Asset, rules: &Rules, moment: u64, adu: &Adu<'_>) -> Fate
     requires at_least { 1 ≤ length adu.now.pdu.bytes }
     requires at_most { length adu.now.pdu.bytes ≤ 253 }
@@ -59,9 +58,6 @@ pub(crate) fn judge(asset: &Asset, rules: &Rules, moment: u64, adu: &Adu<'_>) ->
     let code = u16::from(adu.pdu.at(0));
     if u16::from(adu.unit) != asset.station {
         return refused(Decider::Station, Reason::Station, code, u32::from(adu.unit));
-    }
-    if let Some(act) = single_write(adu) {
-        return judge_acts(asset, rules, moment, 1, |_| act);
     }
     match read_request(adu) {
         Err(refusal) => refused(Decider::Form, refusal.reason(), code, 0),

@@ -221,6 +221,7 @@ impl Lane {
 }
 
 /// Puts octets into a queue as they came.
+#[inline(always)]
 fn push_octets(octets: &View<'_>, queue: &mut Outq)
     requires open { queue.old.ended ≡ false }
     requires room { HasRoom (length octets.now.bytes) queue.old }

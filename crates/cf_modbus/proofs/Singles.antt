@@ -42,12 +42,15 @@ pub register_written : (xs : List ℕ) (act : Act) → IsOctets xs → length xs
     → act ≡ record { code = 6; group = 0; point = u16_be_at xs 1; value = Some (pos (u16_be_at xs 3)) } → IsRequestOf xs act
 register_written xs act o size is e =
     let r = written 6 xs in
-    let fits = start_fits xs o in
-    (r,
-    (spells_by form.WriteRegister r xs refl (refl, (refl, refl), omega (arith, length-drop 3 xs, size)) fits (omega arith) (IsOctets-drop xs 3 o) (parts 6 xs o size is),
-    (omega (arith, fits), omega arith)),
-    register_act xs ∙ ap (λ n. record { code = 6; group = 0; point = n; value = Some (pos (u16_be_at (drop 3 xs) 0)) } ∷ []) (first_point (u16_be_at xs 1))
-    ∙ ap (λ v. record { code = 6; group = 0; point = u16_be_at xs 1; value = Some (pos v) } ∷ []) (register_value xs) ∙ ap (λ a. a ∷ []) (sym e))
+    let fits = start_fits xs o in (
+      r,
+      (
+        spells_by form.WriteRegister r xs refl (refl, (refl, refl), omega (arith, length-drop 3 xs, size)) fits (omega arith) (IsOctets-drop xs 3 o) (parts 6 xs o size is),
+        (omega (arith, fits), omega arith),
+      ),
+      register_act xs ∙ ap (λ n. record { code = 6; group = 0; point = n; value = Some (pos (u16_be_at (drop 3 xs) 0)) } ∷ []) (first_point (u16_be_at xs 1))
+          ∙ ap (λ v. record { code = 6; group = 0; point = u16_be_at xs 1; value = Some (pos v) } ∷ []) (register_value xs) ∙ ap (λ a. a ∷ []) (sym e),
+    )
 
 -- the act of a coil
 coil_act : (xs : List ℕ) → acts (written 5 xs) ≡ record { code = 5; group = 0; point = u16_be_at xs 1 + 0; value = Some (pos (coil_of (drop 3 xs))) } ∷ []
@@ -59,12 +62,15 @@ coil_by : (xs : List ℕ) (act : Act) (on : ℕ) → IsOctets xs → length xs �
     → act ≡ record { code = 5; group = 0; point = u16_be_at xs 1; value = Some (pos on) } → IsRequestOf xs act
 coil_by xs act on o size is has coil e =
     let r = written 5 xs in
-    let fits = start_fits xs o in
-    (r,
-    (spells_by form.WriteCoil r xs refl has fits (omega arith) (IsOctets-drop xs 3 o) (parts 5 xs o size is),
-    (omega (arith, fits), omega arith)),
-    coil_act xs ∙ ap (λ n. record { code = 5; group = 0; point = n; value = Some (pos (coil_of (drop 3 xs))) } ∷ []) (first_point (u16_be_at xs 1))
-    ∙ ap (λ v. record { code = 5; group = 0; point = u16_be_at xs 1; value = Some (pos v) } ∷ []) coil ∙ ap (λ a. a ∷ []) (sym e))
+    let fits = start_fits xs o in (
+      r,
+      (
+        spells_by form.WriteCoil r xs refl has fits (omega arith) (IsOctets-drop xs 3 o) (parts 5 xs o size is),
+        (omega (arith, fits), omega arith),
+      ),
+      coil_act xs ∙ ap (λ n. record { code = 5; group = 0; point = n; value = Some (pos (coil_of (drop 3 xs))) } ∷ []) (first_point (u16_be_at xs 1))
+          ∙ ap (λ v. record { code = 5; group = 0; point = u16_be_at xs 1; value = Some (pos v) } ∷ []) coil ∙ ap (λ a. a ∷ []) (sym e),
+    )
 
 pub coil_off : (xs : List ℕ) (act : Act) → IsOctets xs → length xs ≡ 5 → get_or xs 0 0 ≡ 5 → u16_be_at xs 3 ≡ 0
     → act ≡ record { code = 5; group = 0; point = u16_be_at xs 1; value = Some (pos 0) } → IsRequestOf xs act

@@ -5,5 +5,6 @@ use Rattle.cf_modbus.proofs.single.coil_act.Goals as goal
 
 pub returns : goal.returns
 returns c = elim c.match-u16_be.branch [
-    in-0 w ↦ coil_off c.args.pdu.now.bytes _ c.requires.octets c.requires.size c.requires.code (search rules) (search rules)
-    | in-65280 w ↦ coil_on c.args.pdu.now.bytes _ c.requires.octets c.requires.size c.requires.code (search rules) (search rules) ]
+  | in-0 w ↦ coil_off c.args.pdu.now.bytes _ c.requires.octets c.requires.size c.requires.code (search rules) (search rules)
+  | in-65280 w ↦ coil_on c.args.pdu.now.bytes _ c.requires.octets c.requires.size c.requires.code (search rules) (search rules)
+]

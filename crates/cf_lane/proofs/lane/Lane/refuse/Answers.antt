@@ -33,7 +33,7 @@ returns-in_err-log_refusal-clause-misses g c =
     let asset = c.args.asset.now in
     let reply = adu_reply c.args.to_client.now.ended (fate.Refused r) a in
     let misses : (to_controller : Queue) → MissesCommand asset c.args.moment a (state c.args.self.now c.args.to_client.now to_controller (DeskValue.lines (g.D.Desk.value c.args.desk.now)))
-        (DeskValue.lines (g.D.Desk.value c.log_refusal.new.desk)) (DeskValue.line_part (g.D.Desk.value c.log_refusal.new.desk)) =
+    (DeskValue.lines (g.D.Desk.value c.log_refusal.new.desk)) (DeskValue.line_part (g.D.Desk.value c.log_refusal.new.desk)) =
     λ to_controller. misses_refused asset c.args.moment a r _
     (record { client = c.self.inside.client; admitted = c.self.inside.admitted; refused = c.self.inside.refused + 1; rules = c.self.inside.rules; wire = c.self.inside.wire }) _ to_controller _ _
     (ap (λ (l : LaneValue). l.client) c.self.view_is) (ap (λ (l : LaneValue). l.wire) c.self.view_is) c.requires.of_asset.rules
