@@ -57,7 +57,7 @@ drop_all : {A : Type 0} (xs ys : List A) → drop (length xs) (xs ++ ys) ≡ ys
 drop_all [] ys = refl
 drop_all (x ∷ xs) ys = drop_all xs ys
 
--- a last line failed behind lines that stand there
+-- a last line failed after lines that stand there
 pub begins_last : (base log : Option (List (List ℕ))) (part : List ℕ) (xs : List (List ℕ)) (line : List ℕ) → MayHaveMore (line ∷ []) (with_lines base xs) log part → BeginsLines base log part (xs ++ line ∷ [])
 begins_last base log part xs line (inl (same, (k, some))) =
     (length xs, k, same ∙ ap (with_lines base) (sym (take_all xs (line ∷ []))), some ∙ ap (λ ls. take k (concat ls)) (sym (drop_all xs (line ∷ []))))
@@ -135,7 +135,7 @@ module _ (asset : Asset) (listen most : ℕ) (few : 0 < most) (client : Endpoint
   breaks_all : (n : ℕ) (answers : List Entry) → BeginsStages asset most (turns n) (met_at listen asset.endpoint client ∷ Moment m ∷ []) answers → IsRelayed asset listen most (met_at listen asset.endpoint client ∷ Moment m ∷ answers)
   breaks_all n answers b = (n, does_broken asset most (Meeting listen ∷ Telling ∷ []) (turns n) [] (met_at listen asset.endpoint client ∷ Moment m ∷ []) answers (start_does asset listen most few client m) b)
 
-  -- the lines behind the open line
+  -- the lines after the open line
   lines_all : (log : Option (List (List ℕ))) (answers : List Entry) (js : List Judged) → log ≡ with_lines (with_lines base (line_about asset client m Begun ∷ [])) (lines asset client [] js) →
       log ≡ with_lines base (log_of asset (met_at listen asset.endpoint client ∷ Moment m ∷ answers) js)
   lines_all log answers js e = e ∙ with_both base (line_about asset client m Begun ∷ []) (lines asset client [] js)
@@ -167,7 +167,7 @@ module _ (asset : Asset) (listen most : ℕ) (few : 0 < most) (client : Endpoint
 
   module _ (answers : List Entry) (now : RelayingValue) (d1 d2 : DeskValue)
       (s2 : StandsFor asset (with_lines base (line_about asset client m Begun ∷ [])) (met_at listen asset.endpoint client ∷ Moment m ∷ answers) now d1.lines) where
-    -- stages that are done break off behind the last
+    -- stages that are done break off after the last
     breaks_of : (n : ℕ) → DoesStages asset most (turns n) (met_at listen asset.endpoint client ∷ Moment m ∷ []) answers → BeginsStages asset most (turns n) (met_at listen asset.endpoint client ∷ Moment m ∷ []) answers
     breaks_of n does =
         subst (λ ps. BeginsStages asset most ps (met_at listen asset.endpoint client ∷ Moment m ∷ []) answers) (append-nil (turns n))

@@ -116,7 +116,7 @@ both_true false b e = e
 cons_head : (x y : List ℕ) → (let l : List (List ℕ) = x ∷ [] in l) ≡ y ∷ [] → x ≡ y
 cons_head x y e = cc
 
--- what stands in a file behind the last write through a lent reference
+-- what stands in a file after the last write through a lent reference
 pub last_content : {F : Type 0} (content : F → List ℕ → Content) (x now : F) (log log' : List ℕ) (P : Content → Type 0) → x ≡ now → (let l : List (List ℕ) = log' ∷ [] in l) ≡ log ∷ [] → P (content now log') → P (content x log)
 last_content content x now log log' P last name p =
     subst (λ z. P (content z log)) (sym last) (subst (λ n. P (content now n)) (cons_head log' log name) p)
