@@ -8,7 +8,7 @@ use Rattle.std.specs.List.{list_any, range_with_len}
 use Rattle.cf_policy.specs.declared.Asset.{Asset}
 use Rattle.cf_policy.specs.declared.Verdict.{Verdict}
 use Rattle.cf_view.specs.declared.Act.{Act}
-use Rattle.std.specs.Prelude.{Bool, List, None, Option, Some, [], false, length, map, replicate, slice_get, ℕ, ◌<◌, ◌∷◌, ◌≡◌}
+use Rattle.std.specs.Prelude.{Bool, List, None, Option, Some, [], false, length, map, slice_get, ℕ, ◌<◌, ◌∷◌, ◌≡◌}
 use Rattle.cf_lane.specs.declared.fate.Fate.TheVariants as fate
 use Rattle.cf_policy.specs.declared.Verdict.TheVariants as verdict
 
@@ -47,7 +47,3 @@ fate_of_acts asset says acts = by_refusal (used_by (rated asset.rules) says acts
 -- a code alone, with a point
 abbrev pub act_of_code : ℕ → ℕ → Act
 act_of_code code point = record { code = code; group = 0; point = point; value = None }
-
--- the fate of a command of one act, where no rule has a rate
-abbrev pub fate_of_one : Verdict → Act → Fate
-fate_of_one verdict act = by_refusal (replicate most_rated false) (refusal_or act verdict None)

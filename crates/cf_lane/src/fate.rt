@@ -1,13 +1,13 @@
 //! The fate of a command.
-ghost use Rattle.std.specs.Prelude.{◌≡◌, ◌<◌, ◌≤◌, IfSome, Bool, List, ℕ, length, replicate};
+ghost use Rattle.std.specs.Prelude.{◌≡◌, ◌<◌, ◌≤◌, Bool, List, ℕ, length, replicate};
 ghost use Rattle.cf_modbus.specs.Acts.{acts};
 ghost use Rattle.cf_modbus.specs.Adu.{adu_value};
 ghost use Rattle.cf_modbus.specs.Request.{IsRead, request_value};
 ghost use Rattle.cf_policy.specs.Index.{IsIndexOf};
-ghost use Rattle.cf_policy.specs.Verdict.{IsInside, verdict_of};
+ghost use Rattle.cf_policy.specs.Verdict.{verdict_of};
 ghost use Rattle.cf_policy.specs.Within.{most_rated};
 ghost use Rattle.cf_lane.specs.Rings.{IsRulesOf, says_by};
-ghost use Rattle.cf_lane.specs.Acts.{GivesActs, by_refusal, fate_of_acts, fate_of_one, first_refusal};
+ghost use Rattle.cf_lane.specs.Acts.{GivesActs, by_refusal, fate_of_acts, first_refusal};
 ghost use Rattle.cf_lane.specs.Fate.{HasOwnDecider, IsOfCommand};
 ghost use Rattle.cf_lane.specs.Modbus.{HasCommandFate};
 
@@ -46,7 +46,8 @@ pub enum Fate {
 }
 
 /// The fate of an ADU of the client of the rules, at a moment in microseconds. The station is compared first, then the form is
-/// read, then each act is judged in its order; the first that is not allowed decides. This project's own order.
+/// read, then each act is judged in its order; the first that is not allowed decides. This project's own order. Requests that
+/// write one point are read in one step.
 pub(crate) fn judge(asset: &Asset, rules: &Rules, moment: u64, adu: &Adu<'_>) -> Fate
     requires at_least { 1 ≤ length adu.now.pdu.bytes }
     requires at_most { length adu.now.pdu.bytes ≤ 253 }
@@ -59,26 +60,13 @@ pub(crate) fn judge(asset: &Asset, rules: &Rules, moment: u64, adu: &Adu<'_>) ->
     if u16::from(adu.unit) != asset.station {
         return refused(Decider::Station, Reason::Station, code, u32::from(adu.unit));
     }
+    if let Some(act) = single_write(adu) {
+        return judge_acts(asset, rules, moment, 1, |_| act);
+    }
     match read_request(adu) {
         Err(refusal) => refused(Decider::Form, refusal.reason(), code, 0),
         Ok(request) => judge_request(asset, rules, moment, &request),
     }
-}
-
-/// The verdict about the one act of an ADU for the asset's station that writes one point, where no rule has a rate: what plants
-/// send most.
-pub(crate) fn plain_verdict(asset: &Asset, rules: &Rules, adu: &Adu<'_>) -> Option<(Verdict, Act)>
-    requires { 1 ≤ length adu.now.pdu.bytes }
-    ensures fate { IfSome result (λ p. (client moment : ℕ) → IsRulesOf asset.now client rules.now
-        → HasCommandFate asset.now (says_by asset.now client rules.now moment) (adu_value adu.now) (fate_of_one p.0 p.1)) }
-    ensures inside { IfSome result (λ p. IsInside asset.now.rules p.0) }
-{
-    if !rules.rings.is_empty() || u16::from(adu.unit) != asset.station {
-        return None;
-    }
-    let act = single_write(adu)?;
-    let verdict = rules.index.verdict(asset, &act);
-    Some((verdict, act))
 }
 
 /// The fate of a request. Where some of its acts are known to differ in nothing that rules of its code state but the point, they

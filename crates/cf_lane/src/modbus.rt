@@ -1,24 +1,22 @@
 //! Modbus in the lane: what becomes of an ADU.
-ghost use Rattle.std.specs.Prelude.{◌≡◌, ℕ, ◌+◌, ◌*◌, ◌^◌, ◌<◌, ◌≤◌, false, true, IfOk, OnOk, OnErr, IsErr, length};
+ghost use Rattle.std.specs.Prelude.{◌≡◌, ◌+◌, ◌*◌, ◌^◌, ◌<◌, ◌≤◌, false, true, IfOk, OnOk, OnErr, IsErr, length};
 ghost use Rattle.cf_modbus.specs.Adu.{adu_value, spelling};
-ghost use Rattle.cf_outq.specs.SendQueue.{Queue, after_push};
+ghost use Rattle.cf_outq.specs.SendQueue.{after_push};
 ghost use Rattle.cf_outside.specs.Faults.{HasCause};
 ghost use Rattle.cf_outside.specs.Desk.{DeskValue};
 ghost use Rattle.cf_policy.specs.Within.{IsAssetWithin};
 ghost use Rattle.cf_lane.specs.Handled.{IsLaneOf, Steps, Misses, TakesCommand, MissesCommand, Grows, CountsBy, HasRoom, IsOpen, WritesLog, debt, letters_in, state};
 ghost use Rattle.cf_lane.specs.Log.{is_some_bytes};
-ghost use Rattle.cf_lane.specs.Modbus.{HasCommandFate, adu_reply};
-ghost use Rattle.cf_lane.specs.Rings.{IsRulesOf, says_by};
-ghost use Rattle.cf_policy.specs.Verdict.{IsOneOf};
+ghost use Rattle.cf_lane.specs.Modbus.{adu_reply};
 
-use crate::fate::{Fate, Refusal, judge, plain_verdict};
+use crate::fate::{Fate, Refusal, judge};
 use crate::lane::{Lane, Step, after};
 use crate::log::log_refusal;
 use cf_audit::CutReason;
 use cf_modbus::{Adu, exception_octets, next_adu};
 use cf_outq::Outq;
 use cf_outside::Desk;
-use cf_policy::{Asset, MOST_RATED, Protocol, Verdict};
+use cf_policy::{Asset, Protocol};
 use cf_view::{Framed, Side, View, WriteFault};
 
 impl Lane {
@@ -79,61 +77,8 @@ impl Lane {
         }
     }
 
-    /// Takes a client's command. One that writes one point, where no rule has a rate, is judged by itself.
-    fn take_command<D: Desk>(
-        &mut self,
-        asset: &Asset,
-        moment: u64,
-        adu: &Adu<'_>,
-        octets: View<'_>,
-        to_client: &mut Outq,
-        to_controller: &mut Outq,
-        desk: &mut D,
-    ) -> Result<(), WriteFault>
-        requires of_asset { IsLaneOf asset.now self.old }
-        requires within { IsAssetWithin asset.now }
-        requires whole { DeskValue.whole (D.value desk.old) ≡ true }
-        requires at_least { 1 ≤ length adu.now.pdu.bytes }
-        requires at_most { length adu.now.pdu.bytes ≤ 253 }
-        requires octets { octets.bytes ≡ spelling (adu_value adu.now) }
-        requires open { to_controller.old.ended ≡ false }
-        requires client_room { HasRoom (length (spelling (adu_value adu.now)) + 8) to_client.old }
-        requires controller_room { HasRoom (length (spelling (adu_value adu.now))) to_controller.old }
-        requires counts { self.old.admitted + self.old.refused + 1 < 2 ^ 64 }
-        ensures takes { OnOk result (TakesCommand asset.now moment (adu_value adu.now) (state self.old to_client.old to_controller.old (DeskValue.lines (D.value desk.old)))
-            (state self.new to_client.new to_controller.new (DeskValue.lines (D.value desk.new)))) }
-        ensures misses { OnErr result (MissesCommand asset.now moment (adu_value adu.now) (state self.old to_client.old to_controller.old (DeskValue.lines (D.value desk.old)))
-            (DeskValue.lines (D.value desk.new)) (DeskValue.line_part (D.value desk.new))) }
-        ensures of_asset { OnOk result (IsLaneOf asset.now self.new) }
-        ensures client_grows { OnOk result (Grows 9 0 0 to_client.old to_client.new) }
-        ensures controller_grows { OnOk result (Grows (length (spelling (adu_value adu.now))) 0 0 to_controller.old to_controller.new) }
-        ensures counts { OnOk result (CountsBy 1 self.old self.new) }
-        ensures whole { OnOk result (DeskValue.whole (D.value desk.new) ≡ true) }
-        ensures log { WritesLog (D.value desk.old) (D.value desk.new) }
-        ensures cause { HasCause (DeskValue.faults (D.value desk.old)) (DeskValue.faults (D.value desk.new)) (IsErr result) }
-    {
-        match plain_verdict(asset, &self.rules, adu) {
-            Some((Verdict::Allow(_), _)) => {
-                push_octets(&octets, to_controller);
-                self.admitted += 1;
-                self.rules
-                    .note(&Fate::Admitted([false; MOST_RATED]), moment);
-                Ok(())
-            }
-            Some((Verdict::Refuse(decider, reason), act)) => {
-                let refusal = Refusal {
-                    decider,
-                    reason,
-                    act,
-                };
-                self.refuse(asset, moment, adu, &refusal, octets, to_client, desk)
-            }
-            None => { self.take_judged(asset, moment, adu, octets, to_client, to_controller, desk) }
-        }
-    }
-
     /// Takes a client's command by its fate.
-    fn take_judged<D: Desk>(
+    fn take_command<D: Desk>(
         &mut self,
         asset: &Asset,
         moment: u64,
@@ -174,54 +119,17 @@ impl Lane {
                 Ok(())
             }
             Fate::Refused(refusal) => {
-                self.refuse(asset, moment, adu, refusal, octets, to_client, desk)
+                let replied = reply(adu, refusal, to_client);
+                self.refused += 1;
+                log_refusal(asset, &self.client, moment, refusal, replied, octets, desk)?;
+                Ok(())
             }
             Fate::Carried | Fate::Stray(_) | Fate::Lengthens | Fate::Cuts(_) => Ok(()),
         }
     }
-
-    /// Answers a refused command, counts it, and writes its line.
-    fn refuse<D: Desk>(
-        &mut self,
-        asset: &Asset,
-        moment: u64,
-        adu: &Adu<'_>,
-        refusal: &Refusal,
-        octets: View<'_>,
-        to_client: &mut Outq,
-        desk: &mut D,
-    ) -> Result<(), WriteFault>
-        requires of_asset { IsLaneOf asset.now self.old }
-        requires within { IsAssetWithin asset.now }
-        requires whole { DeskValue.whole (D.value desk.old) ≡ true }
-        requires at_least { 1 ≤ length adu.now.pdu.bytes }
-        requires at_most { length adu.now.pdu.bytes ≤ 253 }
-        requires octets { octets.bytes ≡ spelling (adu_value adu.now) }
-        requires decider { IsOneOf asset.now.rules refusal.now.decider }
-        requires fate { (client : ℕ) → IsRulesOf asset.now client self.old.rules
-            → HasCommandFate asset.now (says_by asset.now client self.old.rules moment) (adu_value adu.now) (Fate.Refused refusal.now) }
-        requires client_room { HasRoom (length (spelling (adu_value adu.now)) + 8) to_client.old }
-        requires counts { self.old.admitted + self.old.refused + 1 < 2 ^ 64 }
-        ensures takes { OnOk result ((to_controller : Queue) → TakesCommand asset.now moment (adu_value adu.now) (state self.old to_client.old to_controller (DeskValue.lines (D.value desk.old)))
-            (state self.new to_client.new to_controller (DeskValue.lines (D.value desk.new)))) }
-        ensures misses { OnErr result ((to_controller : Queue) → MissesCommand asset.now moment (adu_value adu.now) (state self.old to_client.old to_controller (DeskValue.lines (D.value desk.old)))
-            (DeskValue.lines (D.value desk.new)) (DeskValue.line_part (D.value desk.new))) }
-        ensures of_asset { OnOk result (IsLaneOf asset.now self.new) }
-        ensures client_grows { OnOk result (Grows 9 0 0 to_client.old to_client.new) }
-        ensures counts { OnOk result (CountsBy 1 self.old self.new) }
-        ensures whole { OnOk result (DeskValue.whole (D.value desk.new) ≡ true) }
-        ensures log { WritesLog (D.value desk.old) (D.value desk.new) }
-        ensures cause { HasCause (DeskValue.faults (D.value desk.old)) (DeskValue.faults (D.value desk.new)) (IsErr result) }
-    {
-        let replied = reply(adu, refusal, to_client);
-        self.refused += 1;
-        log_refusal(asset, &self.client, moment, refusal, replied, octets, desk)?;
-        Ok(())
-    }
 }
 
 /// Puts octets into a queue as they came.
-#[inline(always)]
 fn push_octets(octets: &View<'_>, queue: &mut Outq)
     requires open { queue.old.ended ≡ false }
     requires room { HasRoom (length octets.now.bytes) queue.old }

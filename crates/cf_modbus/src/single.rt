@@ -15,7 +15,6 @@ const WRITE_REGISTER: u8 = 6;
 
 /// The one act of an ADU whose PDU, which is not empty, is a request of function code 5 or 6. It is what `read_request` and
 /// `act_at` tell, in one step, as plants send nothing else so often. Nothing for other codes and where the PDU is no request.
-#[inline(always)]
 pub fn single_write(adu: &Adu<'_>) -> Option<Act>
     requires { 1 ≤ length adu.now.pdu.bytes }
     ensures { IfSome result (λ act. IsRequestOf adu.now.pdu.bytes act) }

@@ -57,7 +57,6 @@ impl CodeIndex {
     }
 
     /// What the asset's rules say about an act of the client: what `verdict` says. The index is that of the asset.
-    #[inline(always)]
     pub fn verdict(&self, asset: &Asset, act: &Act) -> Verdict
         ensures decides { (client : ℕ) → IsIndexOf asset.now client self.now → result ≡ verdict_of asset.now client act.now }
         ensures inside { IsInside asset.now.rules result }

@@ -1,39 +1,72 @@
-use Rattle.std.proofs.Common.{◌≡◌, ◌+◌, refl, replicate, false, sym, ap, ◌∙◌, subst}
-use Rattle.cf_modbus.specs.Adu.{adu_value}
+use Rattle.std.proofs.Common.{◌≡◌, ◌∷◌, [], ◌+◌, refl, sym, ap, ◌∙◌, subst}
+use Rattle.cf_modbus.specs.Adu.{adu_value, spelling}
 use Rattle.cf_outq.specs.SendQueue.{after_push}
-use Rattle.cf_lane.specs.Acts.{fate_of_one}
-use Rattle.cf_lane.specs.Modbus.{HasCommandFate}
+use Rattle.cf_outside.specs.Desk.{DeskValue}
+use Rattle.cf_lane.specs.Log.{line_about, refusal_line, is_some_bytes, with_lines}
+use Rattle.cf_lane.specs.Modbus.{adu_reply, HasCommandFate}
 use Rattle.cf_lane.specs.Rings.{IsRulesOf, RulesGoOn, says_by}
-use Rattle.cf_lane.specs.declared.rules.Rules.{Rules}
-use Rattle.cf_policy.specs.declared.Verdict.{Verdict}
-use Rattle.cf_lane.specs.Handled.{LaneValue}
+use Rattle.cf_lane.specs.declared.fate.Fate.{Fate}
+use Rattle.cf_policy.specs.declared.Asset.{Asset}
+use Rattle.cf_lane.specs.Handled.{IsLaneOf, LaneValue}
 use Rattle.cf_lane.specs.declared.fate.Fate.TheVariants as fate
-use Rattle.cf_lane.proofs.Taking.{takes_admitted}
+use Rattle.cf_lane.proofs.Failing.{on_err, misses_refused}
+use Rattle.cf_lane.proofs.Taking.{takes_admitted, takes_refused}
 use Rattle.cf_lane.proofs.lane.Lane.take_command.Goals as goal
 
-pub returns-in-Some-Allow-default-clause-takes : goal.returns-in-Some-Allow-default-clause-takes
-returns-in-Some-Allow-default-clause-takes g c =
+-- the rules are those of the client
+of_inside : (asset : Asset) (lane same : LaneValue) → lane ≡ same → IsLaneOf asset lane → IsRulesOf asset same.client.address same.rules
+of_inside asset lane same is of = subst (λ (l : LaneValue). IsRulesOf asset l.client.address l.rules) is of.rules
+
+pub returns-in-Admitted-clause-takes : goal.returns-in-Admitted-clause-takes
+returns-in-Admitted-clause-takes g c =
     let asset = c.args.asset.now in
-    let moment = c.args.moment in
-    let a = adu_value c.args.adu.now in
-    let used = replicate 16 false in
-    let client = c.args.self.now.client.address in
-    let own : c.self.inside.rules ≡ c.args.self.now.rules = ap (λ (l : LaneValue). l.rules) c.self.view_is in
-    let has = subst (λ (rules : Rules). HasCommandFate asset (says_by asset client rules moment) a (fate.Admitted used)) own
-    (subst (λ (v : Verdict). HasCommandFate asset (says_by asset client c.self.inside.rules moment) a (fate_of_one v c.in-Some-Allow-default.field-0-1)) c.in-Some-Allow-default.field-0-0-is
-    (c.in-Some-Allow-default.ensures.fate client moment (subst (IsRulesOf asset client) (sym own) c.requires.of_asset.rules))) in
-    takes_admitted asset moment a _ _ (ap (λ (l : LaneValue). l.client) c.self.view_is) (ap (λ (l : LaneValue). l.wire) c.self.view_is) c.requires.of_asset.rules
-    used c.requires.«open» has
-    (subst (λ (l : LaneValue). RulesGoOn (fate.Admitted used) moment l.rules c.note.new.self) c.self.view_is c.note.ensures)
+    let used = c.in-Admitted.field-0 in
+    let f = c.judge-fate.result in
+    let P : LaneValue → Type 0 = λ l. HasCommandFate asset (says_by asset l.client.address l.rules c.args.moment) (adu_value c.args.adu.now) (fate.Admitted used) in
+    let has = subst (λ (x : Fate). HasCommandFate asset (says_by asset c.self.inside.client.address c.self.inside.rules c.args.moment) (adu_value c.args.adu.now) x) c.in-Admitted.is
+    (c.judge-fate.ensures.fate c.self.inside.client.address (of_inside asset _ _ (sym c.self.view_is) c.requires.of_asset)) in
+    takes_admitted asset c.args.moment (adu_value c.args.adu.now) _ _ (ap (λ (l : LaneValue). l.client) c.self.view_is) (ap (λ (l : LaneValue). l.wire) c.self.view_is) c.requires.of_asset.rules
+    used c.requires.«open» (subst P c.self.view_is has)
+    (subst (λ (x : Fate). RulesGoOn x c.args.moment c.args.self.now.rules c.note.new.self) c.in-Admitted.is
+    (subst (λ (l : LaneValue). RulesGoOn f c.args.moment l.rules c.note.new.self) c.self.view_is c.note.ensures))
     (ap (λ (l : LaneValue). l.admitted + 1) c.self.view_is) (ap (λ (l : LaneValue). l.refused) c.self.view_is) refl (c.push_octets.ensures.queue ∙ ap (after_push c.args.to_controller.now) c.requires.octets) refl
 
-pub refuse-requires-clause-fate : goal.refuse-requires-clause-fate
-refuse-requires-clause-fate g c = λ client is.
+pub returns-in_ok-log_refusal-in-Refused-clause-takes : goal.returns-in_ok-log_refusal-in-Refused-clause-takes
+returns-in_ok-log_refusal-in-Refused-clause-takes g c =
+    let a = adu_value c.args.adu.now in
+    let r = c.in-Refused.refusal in
     let asset = c.args.asset.now in
     let moment = c.args.moment in
+    let text = DeskValue.lines (g.D.Desk.value c.args.desk.now) in
+    let P : LaneValue → Type 0 = λ l. HasCommandFate asset (says_by asset l.client.address l.rules moment) a (fate.Refused r) in
+    let has = subst (λ (x : Fate). HasCommandFate asset (says_by asset c.self.inside.client.address c.self.inside.rules moment) a x) c.in-Refused.is
+    (c.judge-fate.ensures.fate c.self.inside.client.address (of_inside asset _ _ (sym c.self.view_is) c.requires.of_asset)) in
+    takes_refused asset moment a _ _ (ap (λ (l : LaneValue). l.client) c.self.view_is) (ap (λ (l : LaneValue). l.wire) c.self.view_is) c.requires.of_asset.rules r
+    (subst P c.self.view_is has) (ap (λ (l : LaneValue). l.rules) c.self.view_is)
+    (ap (λ (l : LaneValue). l.admitted) c.self.view_is) (ap (λ (l : LaneValue). l.refused + 1) c.self.view_is)
+    c.reply-replied.ensures.queue refl
+    (c.in_ok-log_refusal-in-Refused.ensures.lines
+    ∙ ap (λ b. with_lines text (line_about asset c.self.inside.client moment (refusal_line asset r b c.args.octets.bytes) ∷ [])) c.reply-replied.ensures.replied
+    ∙ ap (λ o. with_lines text (line_about asset c.self.inside.client moment (refusal_line asset r (is_some_bytes (adu_reply c.args.to_client.now.ended (fate.Refused r) a)) o) ∷ [])) c.requires.octets
+    ∙ ap (λ (l : LaneValue). with_lines text (line_about asset l.client moment (refusal_line asset r (is_some_bytes (adu_reply c.args.to_client.now.ended (fate.Refused r) a)) (spelling a)) ∷ [])) c.self.view_is)
+
+pub returns-in_err-log_refusal-in-Refused-clause-misses : goal.returns-in_err-log_refusal-in-Refused-clause-misses
+returns-in_err-log_refusal-in-Refused-clause-misses g c =
     let a = adu_value c.args.adu.now in
-    let own : c.self.inside.rules ≡ c.args.self.now.rules = ap (λ (l : LaneValue). l.rules) c.self.view_is in
-    let act = c.in-Some-Refuse-default.act in
-    subst (λ (rules : Rules). HasCommandFate asset (says_by asset client rules moment) a (fate.Refused (record { decider = c.in-Some-Refuse-default.decider; reason = c.in-Some-Refuse-default.reason; act = act }))) own
-    (subst (λ (v : Verdict). HasCommandFate asset (says_by asset client c.self.inside.rules moment) a (fate_of_one v act)) c.in-Some-Refuse-default.field-0-0-is
-    (c.in-Some-Refuse-default.ensures.fate client moment (subst (IsRulesOf asset client) (sym own) is)))
+    let r = c.in-Refused.refusal in
+    let asset = c.args.asset.now in
+    let P : LaneValue → Type 0 = λ l. HasCommandFate asset (says_by asset l.client.address l.rules c.args.moment) a (fate.Refused r) in
+    let has = subst (λ (x : Fate). HasCommandFate asset (says_by asset c.self.inside.client.address c.self.inside.rules c.args.moment) a x) c.in-Refused.is
+    (c.judge-fate.ensures.fate c.self.inside.client.address (of_inside asset _ _ (sym c.self.view_is) c.requires.of_asset)) in
+    let reply = adu_reply c.args.to_client.now.ended (fate.Refused r) a in
+    on_err _ _ (misses_refused asset c.args.moment a r _
+    (record { client = c.self.inside.client; admitted = c.self.inside.admitted; refused = c.self.inside.refused + 1; rules = c.self.inside.rules; wire = c.self.inside.wire }) _ c.args.to_controller.now _ _
+    (ap (λ (l : LaneValue). l.client) c.self.view_is) (ap (λ (l : LaneValue). l.wire) c.self.view_is) c.requires.of_asset.rules
+    (subst P c.self.view_is has) (ap (λ (l : LaneValue). l.rules) c.self.view_is)
+    (ap (λ (l : LaneValue). l.admitted) c.self.view_is) (ap (λ (l : LaneValue). l.refused + 1) c.self.view_is)
+    c.reply-replied.ensures.queue refl
+    (line_about asset c.self.inside.client c.args.moment (refusal_line asset r c.reply-replied.result c.args.octets.bytes))
+    (ap (λ b. line_about asset c.self.inside.client c.args.moment (refusal_line asset r b c.args.octets.bytes)) c.reply-replied.ensures.replied
+    ∙ ap (λ o. line_about asset c.self.inside.client c.args.moment (refusal_line asset r (is_some_bytes reply) o)) c.requires.octets
+    ∙ ap (λ (l : LaneValue). line_about asset l.client c.args.moment (refusal_line asset r (is_some_bytes reply) (spelling a))) c.self.view_is)
+    c.in_err-log_refusal-in-Refused.ensures.fails)
