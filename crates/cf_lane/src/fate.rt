@@ -14,7 +14,7 @@ ghost use Rattle.cf_lane.specs.Modbus.{HasCommandFate};
 use crate::rules::Rules;
 use crate::run::{judge_runs, takes_any_value};
 use cf_audit::{CutReason, Why};
-use cf_modbus::{Adu, Request, act_at, act_count, read_request};
+use cf_modbus::{Adu, Request, act_at, act_count, read_request, single_write};
 use cf_policy::{Asset, CodeIndex, Decider, MOST_RATED, Verdict};
 use cf_view::{Act, Reason};
 
@@ -46,7 +46,8 @@ pub enum Fate {
 }
 
 /// The fate of an ADU of the client of the rules, at a moment in microseconds. The station is compared first, then the form is
-/// read, then each act is judged in its order; the first that is not allowed decides. This project's own order.
+/// read, then each act is judged in its order; the first that is not allowed decides. This project's own order. Requests that
+/// write one point are read in one step.
 pub(crate) fn judge(asset: &Asset, rules: &Rules, moment: u64, adu: &Adu<'_>) -> Fate
     requires at_least { 1 ≤ length adu.now.pdu.bytes }
     requires at_most { length adu.now.pdu.bytes ≤ 253 }
@@ -58,6 +59,9 @@ pub(crate) fn judge(asset: &Asset, rules: &Rules, moment: u64, adu: &Adu<'_>) ->
     let code = u16::from(adu.pdu.at(0));
     if u16::from(adu.unit) != asset.station {
         return refused(Decider::Station, Reason::Station, code, u32::from(adu.unit));
+    }
+    if let Some(act) = single_write(adu) {
+        return judge_acts(asset, rules, moment, 1, |_| act);
     }
     match read_request(adu) {
         Err(refusal) => refused(Decider::Form, refusal.reason(), code, 0),

@@ -12,9 +12,8 @@ ghost use Rattle.cf_lane.specs.Modbus.{adu_reply};
 use crate::fate::{Fate, Refusal, judge};
 use crate::lane::{Lane, Step, after};
 use crate::log::log_refusal;
-use arrayvec::ArrayVec;
 use cf_audit::CutReason;
-use cf_modbus::{Adu, exception, next_adu};
+use cf_modbus::{Adu, exception_octets, next_adu};
 use cf_outq::Outq;
 use cf_outside::Desk;
 use cf_policy::{Asset, Protocol};
@@ -137,7 +136,9 @@ fn push_octets(octets: &View<'_>, queue: &mut Outq)
     ensures queue { queue.new ≡ after_push queue.old octets.now.bytes }
 {
     let (first, second) = octets.pieces();
-    queue.push(first);
+    if !first.is_empty() {
+        queue.push(first);
+    }
     if !second.is_empty() {
         queue.push(second);
     }
@@ -155,8 +156,6 @@ fn reply(adu: &Adu<'_>, refusal: &Refusal, to_client: &mut Outq) -> bool
     if to_client.is_ended() {
         return false;
     }
-    let mut octets = ArrayVec::<u8, 260>::new();
-    exception(adu, &refusal.reason, &mut octets);
-    to_client.push(octets.as_slice());
+    to_client.push(&exception_octets(adu, &refusal.reason));
     true
 }

@@ -52,6 +52,8 @@ pub struct RealFiles<'a, R: FileSystem> {
     gather: Gather,
     reader: Option<Reader<R::File>>,
     writers: Vec<Writer<R::File>>,
+    /// The place of the file that was appended to last among those that are open. What stands there may be another by now.
+    latest: usize,
     /// Which files the command's names stand for.
     places: Vec<Place>,
     fault: Option<Fault>,
@@ -74,6 +76,7 @@ impl<'a, R: FileSystem> RealFiles<'a, R> {
             gather,
             reader: None,
             writers: Vec::new(alloc),
+            latest: 0,
             places: Vec::new(alloc),
             fault: None,
             withheld: None,
@@ -139,12 +142,18 @@ impl<'a, R: FileSystem> RealFiles<'a, R> {
     }
 
     /// Reads at a place, once what was gathered for the file is written; and all that was gathered, where the read may have to wait.
+    /// Octets that were read ahead are given at once: nothing was gathered for their file since, as that would have closed it.
     fn read(&mut self, name: &str, at: u64, buf: &mut [u8]) -> io::Result<usize>
         ensures inside { IfOk result (λ n. n ≤ length buf.new) }
         ensures reads { self.new.read_faults ≡ self.old.read_faults }
         ensures writes { self.new.write_faults ≡ self.old.write_faults }
         ensures short { self.old.is_short ≡ true → self.new.is_short ≡ true }
     {
+        if let Some(reader) = &mut self.reader
+            && reader.is_ahead(name, at)
+        {
+            return reader.read_on(buf);
+        }
         self.write_before_read(name)?;
         let (mut reader, may_wait) = opened(self.rt, self.alloc, &mut self.reader, name)?;
         if may_wait {
@@ -284,6 +293,7 @@ impl<R: FileSystem> Files for RealFiles<'_, R> {
             self.alloc,
             self.gather,
             &mut self.writers,
+            &mut self.latest,
             name,
             bytes,
         ) {

@@ -4,3 +4,4 @@ pub mod Framing
 pub mod Fronts
 mod Layouts
 pub mod Reading
+mod Singles

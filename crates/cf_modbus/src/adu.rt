@@ -1,5 +1,5 @@
 //! Application data units: their framing in a stream, by the MBAP header.
-ghost use Rattle.std.specs.Prelude.{◌≡◌, ℕ, ◌↔◌, IsTrue, List};
+ghost use Rattle.std.specs.Prelude.{◌≡◌, ℕ, ◌<◌, ◌≤◌, ◌↔◌, ◌++◌, IfSome, IsTrue, List, length, slice_index};
 ghost use Rattle.cf_view.specs.Octets.{IsOctets};
 ghost use Rattle.cf_view.specs.Units.{HasUnits, IsUnitsThenBreak, IsUnitsThenRest};
 ghost use Rattle.cf_view.specs.Framing.{Begins, IsPartial, BreaksAt, Frames, HasFront, framed_value, IsPrefixFree};
@@ -56,9 +56,54 @@ pub fn each_stream_has_adus()
         → IsUnitsThenRest SpellsAdu adus stream rest → IsUnitsThenBreak SpellsAdu others stream place → ⊥ }
 {}
 
-/// What `next_adu` answers.
-#[tactic(auto, using(crate::proofs::Framing::short_header, crate::proofs::Framing::short_pdu, crate::proofs::Framing::whole_adu))]
+/// What `next_adu` answers. Most ADUs stand whole in one piece, and are read there.
 fn framed_adu<'a>(bytes: View<'a>) -> Framed<Adu<'a>>
+    ensures { Frames SpellsAdu mbap_break adu_value result bytes.entry.bytes }
+{
+    match adu_in(front_piece(&bytes)) {
+        Some((unit, used)) => Framed::Unit { unit, used },
+        None => framed_by_octet(bytes),
+    }
+}
+
+/// The first piece that has octets, if one has.
+fn front_piece<'a>(bytes: &View<'a>) -> &'a [u8]
+    ensures { (rest : List ℕ) × (bytes.now.bytes ≡ result.now ++ rest) }
+{
+    let (first, second) = bytes.pieces();
+    if first.is_empty() { second } else { first }
+}
+
+/// The ADU at the front of these octets with its length, if it stands there whole.
+fn adu_in<'a>(octets: &'a [u8]) -> Option<(Adu<'a>, usize)>
+    ensures { IfSome result (λ p. Begins SpellsAdu octets.now (adu_value p.0) p.1) }
+{
+    if octets.len() < AFTER_LENGTH || !has_header(octets) {
+        return None;
+    }
+    let used = AFTER_LENGTH + usize::from(octets[5]);
+    if octets.len() < used {
+        return None;
+    }
+    let unit = Adu {
+        transaction: u16::from(octets[0]) * 256 + u16::from(octets[1]),
+        unit: octets[6],
+        pdu: View::one(&octets[7..used]),
+    };
+    Some((unit, used))
+}
+
+/// Whether each of the first six octets is one that some ADU has in its place.
+fn has_header(octets: &[u8]) -> bool
+    requires { 6 ≤ length octets.now }
+    ensures { IsTrue result → (k : ℕ) → k < 6 → IsHeaderOctet k (slice_index octets.now k) }
+{
+    octets[2] == 0 && octets[3] == 0 && octets[4] == 0 && 2 <= octets[5] && octets[5] <= 254
+}
+
+/// What `next_adu` answers, found octet by octet.
+#[tactic(auto, using(crate::proofs::Framing::short_header, crate::proofs::Framing::short_pdu, crate::proofs::Framing::whole_adu))]
+fn framed_by_octet<'a>(bytes: View<'a>) -> Framed<Adu<'a>>
     ensures { Frames SpellsAdu mbap_break adu_value result bytes.entry.bytes }
 {
     let len = bytes.len();

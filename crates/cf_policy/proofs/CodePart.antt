@@ -1,13 +1,14 @@
 -- The pairs of one code stand together in pairs that ascend.
 use Rattle.std.proofs.Common.{◌≡◌, ℕ, ◌+◌, ◌-◌, ◌<◌, ◌≤◌, true, false, List, length, take, drop, get_or, refl, sym, ap, subst, ◌∙◌, arith, ltb, leb, ltb-true, ltb-false, leb-true, leb-false}
-use Rattle.std.specs.Prelude.{AllPairs, Contains}
+use Rattle.std.specs.Prelude.{◌≢◌, AllPairs, Contains, Some, slice_get}
+use Rattle.std.proofs.lemmas.Option.{slice_get-get_or}
 use Rattle.std.specs.List.{Any}
 use Rattle.std.specs.List.Sorted.{IsPartitionPoint, IsNonDecreasingBy}
 use Rattle.std.proofs.lemmas.Bool.{cases_lt}
 use Rattle.std.proofs.lemmas.List.{get_or-take, get_or-drop, length-drop, length-take-le}
 use mathlib.Core.Logic.{⊎_elim}
 use Rattle.cf_policy.specs.declared.index.CodePair.{CodePair}
-use Rattle.cf_policy.specs.Index.{IsPairBefore, IsPartOfCode}
+use Rattle.cf_policy.specs.Index.{IsFrontOf, IsPairBefore, IsPartOfCode}
 
 pub codes_rise : (pairs : List CodePair) → AllPairs IsPairBefore pairs → IsNonDecreasingBy (λ p. p.code) pairs
 codes_rise pairs up i j d le inside =
@@ -76,3 +77,27 @@ halved pairs code first count up inside room low high =
     let below : (get_or pairs k d).code ≤ code = leb-true (get_or pairs k d).code code (subst (λ p. leb p.code code ≡ true) (moved k d from) (high.0 (k - first) d (omega arith) (omega (arith, from, lt)))) in
     omega (arith, above, below))
     (λ k d from lt. leb-false (get_or pairs k d).code code (subst (λ p. leb p.code code ≡ false) (moved k d (omega (arith, from))) (high.1 (k - first) d (omega (arith, from)) (omega (arith, lt, length-drop first pairs, from)))))
+
+-- what halving once and the front of the rest find
+pub front_is_part : (pairs : List CodePair) (code first count : ℕ) → AllPairs IsPairBefore pairs → first ≤ length pairs
+    → IsPartitionPoint (λ p. ltb p.code code ≡ true) (λ p. ltb p.code code ≡ false) pairs first
+    → IsFrontOf code (drop first pairs) count → IsPartOfCode code pairs (take count (drop first pairs))
+front_is_part pairs code first count up inside low front =
+    let fits : first + count ≤ length pairs = omega (arith, length-drop first pairs, front.inside, inside) in
+    let moved : (k : ℕ) (d : CodePair) → first ≤ k → get_or (drop first pairs) (k - first) d ≡ get_or pairs k d =
+    λ k d from. get_or-drop first pairs (k - first) d ∙ ap (λ n. get_or pairs n d) (let e : first + (k - first) ≡ k = omega (arith, from) in e) in
+    let at : (k : ℕ) (d : CodePair) → first ≤ k → k < length pairs → slice_get (drop first pairs) (k - first) ≡ Some (get_or pairs k d) =
+    λ k d from lt. slice_get-get_or (drop first pairs) (k - first) d (omega (arith, length-drop first pairs, from, lt)) ∙ ap Some (moved k d from) in
+    let above : (k : ℕ) (d : CodePair) → first ≤ k → k < length pairs → code ≤ (get_or pairs k d).code =
+    λ k d from lt. ltb-false (get_or pairs k d).code code (low.1 k d from lt) in
+    part_is pairs code first count up fits
+    (λ k d lt. ltb-true (get_or pairs k d).code code (low.0 k d (omega arith) lt))
+    (λ k d from lt. front.same (k - first) (get_or pairs k d) (omega (arith, from, lt)) (at k d from (omega (arith, lt, fits))))
+    (λ k d from lt.
+    let end : ℕ = first + count in
+    let within : end < length pairs = omega (arith, from, lt) in
+    let back : end - first ≡ count = omega arith in
+    let other : (get_or pairs end d).code ≢ code = front.ends (get_or pairs end d) (ap (slice_get (drop first pairs)) (sym back) ∙ at end d (omega arith) within) in
+    let least = above end d (omega arith) within in
+    let rise : (get_or pairs end d).code ≤ (get_or pairs k d).code = codes_rise pairs up end k d from lt in
+    ⊎_elim (λ less. omega (arith, less, rise)) (λ level. absurd (other (omega (arith, level, least)))) (cases_lt code (get_or pairs end d).code))

@@ -3,4 +3,5 @@ pub mod ByCode
 pub mod CodePart
 pub mod Pairs
 pub mod FirstRule
+mod Fronts
 pub mod Runs

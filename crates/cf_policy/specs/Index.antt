@@ -1,5 +1,5 @@
 -- Steps of the proof: the rules of an asset by the codes that they name for one client: `IsIndexOf`.
-use Rattle.std.specs.Prelude.{◌≡◌, ℕ, ◌+◌, ◌<◌, ◌⊎◌, ◌↔◌, pos, Bool, true, false, not, ◌&&◌, if◌then◌else◌, List, Option, None, Some, take, slice_get, option_and_then, AllPairs, Contains}
+use Rattle.std.specs.Prelude.{◌≡◌, ◌≢◌, ℕ, ◌+◌, ◌<◌, ◌≤◌, ◌⊎◌, ◌↔◌, pos, Bool, true, false, not, ◌&&◌, if◌then◌else◌, List, length, Option, None, Some, take, slice_get, option_and_then, AllPairs, Contains}
 use Rattle.std.specs.List.{Any, list_any, position}
 use Rattle.std.specs.Option.{option_map_or}
 use Rattle.cf_view.specs.declared.base.Act.{Act}
@@ -56,6 +56,12 @@ has_group_to_value r act = has_group_and_point r act && takes_value r.values act
 pub record IsPartOfCode (code : ℕ) (pairs part : List CodePair) : Type 0 where
   pub ascending : AllPairs (λ p q. p.rule < q.rule) part
   pub exact : (rule : ℕ) → Any (λ p. p.rule ≡ rule) part ↔ Contains pairs (record { code = code; rule = rule })
+
+-- so many pairs of this code stand at the front, and then one of another code or none
+pub record IsFrontOf (code : ℕ) (pairs : List CodePair) (count : ℕ) : Type 0 where
+  pub inside : count ≤ length pairs
+  pub same : (k : ℕ) (pair : CodePair) → k < count → slice_get pairs k ≡ Some pair → pair.code ≡ code
+  pub ends : (pair : CodePair) → slice_get pairs count ≡ Some pair → pair.code ≢ code
 
 -- the first rule of these pairs that has the act but for its client and code
 abbrev pub first_of_pairs : List CodePair → List Rule → Act → Option (ℕ × Rule)

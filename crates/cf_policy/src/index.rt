@@ -1,9 +1,9 @@
 //! The rules of an asset by code: for each code the rules that have it and one client, found without looking at the
 //! others.
-ghost use Rattle.std.specs.Prelude.{◌≡◌, ℕ, ◌<◌, ◌≤◌, ◌&&◌, pos, Bool, List, length, All, AllPairs, option_and_then, option_map, position, slice_get, IfOk, IfSome, OnOk};
+ghost use Rattle.std.specs.Prelude.{◌≡◌, ℕ, ◌<◌, ◌≤◌, ◌&&◌, pos, Bool, List, Some, false, true, take, length, All, AllPairs, option_and_then, option_map, position, slice_get, IfOk, IfSome, OnOk};
 ghost use Rattle.std.specs.List.{list_any};
-ghost use Rattle.cf_policy.specs.Index.{IsIndexOf, AddsCodes, HasPairsBelow, IsPairBefore, IsPartOfCode, rule_at, has_group, has_group_and_point, has_group_to_value, reason_of_pairs, verdict_by};
-ghost use Rattle.cf_policy.specs.Verdict.{verdict_of, is_allow, numbered, IsInside};
+ghost use Rattle.cf_policy.specs.Index.{IsIndexOf, IsFrontOf, AddsCodes, HasPairsBelow, IsPairBefore, IsPartOfCode, rule_at, has_group, has_group_and_point, has_group_to_value, reason_of_pairs, verdict_by};
+ghost use Rattle.cf_policy.specs.Verdict.{verdict_of, decided, is_allow, numbered, IsInside};
 ghost use Rattle.cf_policy.specs.Within.{IsAssetWithin, IsRuleWithin};
 
 use crate::judge::{rule_reason, takes, takes_value};
@@ -61,17 +61,58 @@ impl CodeIndex {
         ensures decides { (client : ℕ) → IsIndexOf asset.now client self.now → result ≡ verdict_of asset.now client act.now }
         ensures inside { IsInside asset.now.rules result }
     {
-        let pairs = pairs_of(self.pairs.as_slice(), act.code);
-        verdict_by(pairs, asset.rules.as_slice(), act)
+        let pairs = pairs_from(self.pairs.as_slice(), act.code);
+        verdict_of_front(pairs, asset.rules.as_slice(), act)
     }
 }
 
-/// What these rules say about an act of their client and code.
-pub(crate) fn verdict_by(pairs: &[CodePair], rules: &[Rule], act: &Act) -> Verdict
-    ensures decides { result ≡ verdict_by pairs.now rules.now act.now }
+/// What the rules of the pairs of the act's code say that stand at the front. They are looked at until one has the act.
+fn verdict_of_front(pairs: &[CodePair], rules: &[Rule], act: &Act) -> Verdict
+    ensures decides { (count : ℕ) → IsFrontOf act.now.code pairs.now count → result ≡ verdict_by (take count pairs.now) rules.now act.now }
     ensures inside { IsInside rules.now result }
 {
-    verdict_at(pairs, rules, act, first_place(pairs, rules, act))
+    let place = first_or_end(pairs, rules, act);
+    if let Some(pair) = pair_at(pairs, place) {
+        if pair.code == act.code {
+            return verdict_of_rule(rules, pair.rule);
+        }
+    }
+    let (front, _) = pairs.split_at(place);
+    Verdict::Refuse(Decider::Default, default_reason(front, rules, act))
+}
+
+/// The place of the first pair of the act's code whose rule has the act, or else the place at which the pairs of its code at
+/// the front end.
+fn first_or_end(pairs: &[CodePair], rules: &[Rule], act: &Act) -> usize
+    ensures inside { result ≤ length pairs.now }
+    ensures before { (k : ℕ) (pair : CodePair) → k < result → slice_get pairs.now k ≡ Some pair
+        → (pair.code ≡ act.now.code) × (rule_at rules.now pair.rule (λ r. has_group_to_value r act.now) ≡ false) }
+    ensures here { (pair : CodePair) → slice_get pairs.now result ≡ Some pair → pair.code ≡ act.now.code
+        → rule_at rules.now pair.rule (λ r. has_group_to_value r act.now) ≡ true }
+{
+    pairs
+        .iter()
+        .position(|pair| pair.code != act.code || rule_has(rules, pair.rule, act))
+        .unwrap_or(pairs.len())
+}
+
+fn pair_at(pairs: &[CodePair], place: usize) -> Option<CodePair>
+    ensures { result ≡ slice_get pairs.now place }
+{
+    pairs.get(place).copied()
+}
+
+/// What the rule of this place says of the acts that it has.
+fn verdict_of_rule(rules: &[Rule], number: usize) -> Verdict
+    requires { number < length rules.now }
+    ensures decides { (otherwise : Reason) → result ≡ decided (numbered rules.now number) otherwise }
+    ensures inside { IsInside rules.now result }
+{
+    let rule = &rules[number];
+    match rule.action {
+        Action::Allow => Verdict::Allow(number),
+        Action::Refuse => Verdict::Refuse(Decider::Rule(number), rule_reason(rule)),
+    }
 }
 
 /// What these rules say about the act, of whose pairs this one is the first whose rule has it.
@@ -92,6 +133,14 @@ pub(crate) fn verdict_at(
         },
         None => Verdict::Refuse(Decider::Default, default_reason(pairs, rules, act)),
     }
+}
+
+/// The pairs from the first of a code on, of pairs that ascend by code.
+fn pairs_from(pairs: &[CodePair], code: u16) -> &[CodePair]
+    ensures { AllPairs IsPairBefore pairs.now → (count : ℕ) → IsFrontOf code result.now count → IsPartOfCode code pairs.now (take count result.now) }
+{
+    let (_, rest) = pairs.split_at(pairs.partition_point(|pair| pair.code < code));
+    rest
 }
 
 /// The pairs of a code, of pairs that ascend by code.

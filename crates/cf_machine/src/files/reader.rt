@@ -21,6 +21,20 @@ pub(crate) struct Reader<F: Drop> {
 }
 
 impl<F: Read + Drop> Reader<F> {
+    /// Whether it is the file of this name, stands at this place, and has octets that were read ahead.
+    pub(crate) fn is_ahead(&self, name: &str, at: u64) -> bool {
+        self.at == at && !self.file.buffer().is_empty() && self.name.as_str() == name
+    }
+
+    /// Reads on from where it stands.
+    pub(crate) fn read_on(&mut self, buf: &mut [u8]) -> io::Result<usize>
+        ensures { IfOk result (λ n. n ≤ length buf.new) }
+    {
+        let count = self.file.read(buf)?;
+        self.at = self.at.saturating_add(count as u64);
+        Ok(count)
+    }
+
     /// Whether the next read may wait for octets that are not there yet.
     fn may_wait(&self) -> bool {
         self.is_live && self.file.buffer().is_empty()
@@ -67,9 +81,7 @@ pub(crate) fn read_from<F: Read + Seek + Drop>(
         reader.file.seek(SeekFrom::Start(at))?;
     }
     reader.at = at;
-    let count = reader.file.read(buf)?;
-    reader.at = at.saturating_add(count as u64);
-    Ok(count)
+    reader.read_on(buf)
 }
 
 /// Closes the file if it has this name, so that nothing that was read ahead is told once other bytes stand in it.

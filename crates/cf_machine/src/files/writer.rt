@@ -75,10 +75,7 @@ pub(crate) fn open_at_end<R: FileSystem>(
     if let Some(place) = find_writer(writers, name) {
         writers.remove(place);
     }
-    let mut file = OpenOptions::new()
-        .append(true)
-        .create(true)
-        .open(rt, name)?;
+    let mut file = OpenOptions::new().append(true).create(true).open(rt, name)?;
     if file.metadata()?.is_file() && lacks_feed(rt, name)? {
         file.write_all(b"\n")?;
     }
@@ -97,21 +94,31 @@ fn lacks_feed<R: FileSystem>(rt: &R, name: &str) -> io::Result<bool> {
     Ok(last[0] != b'\n')
 }
 
-/// Puts bytes at the end of a file that is there.
+/// Puts bytes at the end of a file that is there. The file that was appended to last is looked at first, as most bytes go where
+/// those before them went.
 pub(crate) fn append_to<R: FileSystem>(
     rt: &R,
     alloc: Global,
     gather: Gather,
     writers: &mut Vec<Writer<R::File>>,
+    latest: &mut usize,
     name: &str,
     bytes: &[u8],
 ) -> io::Result<()> {
+    if let Some(writer) = writers.get_mut(*latest) {
+        if writer.name.as_str() == name {
+            return writer.append(gather, bytes);
+        }
+    }
     if find_writer(writers, name).is_none() {
         let file = OpenOptions::new().append(true).open(rt, name)?;
         keep_open(alloc, writers, name, file)?;
     }
     match find_writer(writers, name) {
-        Some(place) => writers[place].append(gather, bytes),
+        Some(place) => {
+            *latest = place;
+            writers[place].append(gather, bytes)
+        }
         None => Err(io::Error::from(io::ErrorKind::NotFound)),
     }
 }

@@ -1,4 +1,4 @@
-use Rattle.std.proofs.Common.{sym, subst, arith, ◌+◌, ◌-◌}
+use Rattle.std.proofs.Common.{sym, subst, arith}
 use Rattle.cf_modbus.proofs.ActLists.{count_of_acts, count_limits}
 use Rattle.cf_modbus.specs.Acts.{acts}
 use Rattle.cf_modbus.specs.Request.{request_value}

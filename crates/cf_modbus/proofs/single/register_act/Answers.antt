@@ -1,0 +1,6 @@
+use Rattle.std.proofs.Common.{rules}
+use Rattle.cf_modbus.proofs.Singles.{register_written}
+use Rattle.cf_modbus.proofs.single.register_act.Goals as goal
+
+pub returns : goal.returns
+returns c = register_written c.args.pdu.now.bytes _ c.requires.octets c.requires.size c.requires.code (search rules)
