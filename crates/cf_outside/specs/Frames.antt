@@ -1,0 +1,32 @@
+-- What a call that writes leaves of a desk beside what it puts there. The main definitions are `OnlyEmits`, `OnlyLogs` and
+-- `EmitsAndLogs`. This project's own.
+use Rattle.std.specs.Prelude.{◌≡◌, Bool, true, false}
+use Rattle.cf_outside.specs.Desk.{DeskValue, KeepsDesk}
+use Rattle.cf_outside.specs.Faults.{HasCause}
+
+-- packets alone were emitted: the lines stay, whole and in part; once it is done the desk is whole and nothing new stands behind
+-- its last whole packet; and it fails with a cause
+pub record OnlyEmits (old new : DeskValue) (failed : Bool) : Type 0 where
+  pub lines : new.lines ≡ old.lines
+  pub line_part : new.line_part ≡ old.line_part
+  pub packet_part : failed ≡ false → new.packet_part ≡ old.packet_part
+  pub whole : failed ≡ false → new.whole ≡ true
+  pub keeps : KeepsDesk old new
+  pub cause : HasCause old.faults new.faults (failed ≡ true)
+
+-- lines alone were put: the packets stay
+pub record OnlyLogs (old new : DeskValue) (failed : Bool) : Type 0 where
+  pub packets : new.packets ≡ old.packets
+  pub packet_part : new.packet_part ≡ old.packet_part
+  pub line_part : failed ≡ false → new.line_part ≡ old.line_part
+  pub whole : failed ≡ false → new.whole ≡ true
+  pub keeps : KeepsDesk old new
+  pub cause : HasCause old.faults new.faults (failed ≡ true)
+
+-- packets were emitted and lines put
+pub record EmitsAndLogs (old new : DeskValue) (failed : Bool) : Type 0 where
+  pub packet_part : failed ≡ false → new.packet_part ≡ old.packet_part
+  pub line_part : failed ≡ false → new.line_part ≡ old.line_part
+  pub whole : failed ≡ false → new.whole ≡ true
+  pub keeps : KeepsDesk old new
+  pub cause : HasCause old.faults new.faults (failed ≡ true)
