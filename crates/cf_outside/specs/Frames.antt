@@ -4,29 +4,23 @@ use Rattle.std.specs.Prelude.{◌≡◌, Bool, true, false}
 use Rattle.cf_outside.specs.Desk.{DeskValue, KeepsDesk}
 use Rattle.cf_outside.specs.Faults.{HasCause}
 
--- packets alone were emitted: the lines stay, whole and in part; once it is done the desk is whole and nothing new stands behind
--- its last whole packet; and it fails with a cause
-pub record OnlyEmits (old new : DeskValue) (failed : Bool) : Type 0 where
-  pub lines : new.lines ≡ old.lines
-  pub line_part : new.line_part ≡ old.line_part
-  pub packet_part : failed ≡ false → new.packet_part ≡ old.packet_part
-  pub whole : failed ≡ false → new.whole ≡ true
-  pub keeps : KeepsDesk old new
-  pub cause : HasCause old.faults new.faults (failed ≡ true)
-
--- lines alone were put: the packets stay
-pub record OnlyLogs (old new : DeskValue) (failed : Bool) : Type 0 where
-  pub packets : new.packets ≡ old.packets
-  pub packet_part : new.packet_part ≡ old.packet_part
-  pub line_part : failed ≡ false → new.line_part ≡ old.line_part
-  pub whole : failed ≡ false → new.whole ≡ true
-  pub keeps : KeepsDesk old new
-  pub cause : HasCause old.faults new.faults (failed ≡ true)
-
--- packets were emitted and lines put
+-- packets were emitted and lines put, perhaps none: where the desk did not fail it is whole, and behind its last whole packet and
+-- its last whole line nothing new stands; a failure has its cause
 pub record EmitsAndLogs (old new : DeskValue) (failed : Bool) : Type 0 where
   pub packet_part : failed ≡ false → new.packet_part ≡ old.packet_part
   pub line_part : failed ≡ false → new.line_part ≡ old.line_part
   pub whole : failed ≡ false → new.whole ≡ true
   pub keeps : KeepsDesk old new
   pub cause : HasCause old.faults new.faults (failed ≡ true)
+
+-- packets alone were emitted: no line was put, not even in part
+pub record OnlyEmits (old new : DeskValue) (failed : Bool) : Type 0 where
+  pub lines : new.lines ≡ old.lines
+  pub line_part : new.line_part ≡ old.line_part
+  pub rest : EmitsAndLogs old new failed
+
+-- lines alone were put: no packet was emitted, not even in part
+pub record OnlyLogs (old new : DeskValue) (failed : Bool) : Type 0 where
+  pub packets : new.packets ≡ old.packets
+  pub packet_part : new.packet_part ≡ old.packet_part
+  pub rest : EmitsAndLogs old new failed

@@ -40,5 +40,5 @@ returns-in_err-send_piece-clause-broken g c =
     let left = left_of c.loop-piece.queue c.args.mss c.in-Some.piece c.in-Some.ensures.answer in
     on_err _ (new_breaks c.args.way c.args.told c.args.mss c.requires.mss.0 c.args.queue.now c.loop-piece.queue c.next_piece.new.self c.args.now
     (g.D.Desk.value c.args.desk.now) (g.D.Desk.value c.loop-piece.desk) (g.D.Desk.value c.send_piece.new.desk) c.in-Some.piece
-    i.sends i.frame.keeps.octets shown i.low (omega (arith, i.low, left, length, shown)) c.in-Some.ensures.letters c.in-Some.ensures.answer c.in_err-send_piece.ensures.broken
+    i.sends i.frame.rest.keeps.octets shown i.low (omega (arith, i.low, left, length, shown)) c.in-Some.ensures.letters c.in-Some.ensures.answer c.in_err-send_piece.ensures.broken
     i.stands (λ whole s. c.in-Some.ensures.stands whole (i.stands whole s)))
