@@ -1,5 +1,6 @@
 -- A desk that is kept by one call after another.
-use Rattle.std.proofs.Common.{◌≡◌, ℕ, Bool, true, false, List, refl, sym, ◌∙◌, subst, arith}
+use Rattle.std.specs.Prelude.{IsErrAnd, is_err}
+use Rattle.std.proofs.Common.{◌≡◌, ℕ, Bool, true, false, Result, Ok, Err, List, refl, sym, ◌∙◌, subst, arith}
 use Rattle.cf_outside.specs.Desk.{DeskValue, IsNoneOf, KeepsDesk}
 use Rattle.cf_outside.specs.Frames.{EmitsAndLogs, OnlyEmits}
 use Rattle.std.proofs.lemmas.Bool.{false≢true}
@@ -38,3 +39,8 @@ puts_both d e f h g = record {
 
 pub emits_both : {failed : Bool} (d e f : DeskValue) → OnlyEmits d e false → OnlyEmits e f failed → OnlyEmits d f failed
 emits_both d e f h g = record { lines = g.lines ∙ h.lines; line_part = g.line_part ∙ h.line_part; rest = puts_both d e f h.rest g.rest }
+
+-- a failure that is handed on
+pub puts_failed : {T E : Type 0} (Q : E → Type 0) (r : Result T E) (d e : DeskValue) → IsErrAnd r Q → EmitsAndLogs d e true → EmitsAndLogs d e (is_err r)
+puts_failed Q (Ok x) d e is h = absurd is
+puts_failed Q (Err error) d e is h = h

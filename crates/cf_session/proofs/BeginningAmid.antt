@@ -1,7 +1,7 @@
 -- The beginning of a session, where the desk failed amid it.
-use Rattle.std.proofs.Common.{◌≡◌, ℕ, ◌+◌, true, List, [], ◌∷◌, Option, refl, ap, ◌∙◌, subst, inl, inr}
+use Rattle.std.proofs.Common.{◌≡◌, ℕ, ◌+◌, Bool, true, false, List, [], ◌∷◌, Option, refl, ap, ◌∙◌, subst, inl, inr}
 use Rattle.cf_audit.specs.Line.{Begun}
-use Rattle.cf_lane.specs.Handled.{MayHaveAdded, WritesLog}
+use Rattle.cf_lane.specs.Handled.{MayHaveAdded}
 use Rattle.cf_leg.specs.Calls.{Greeted, GreetingBreaks, SpeakingBreaks, greeting_as}
 use Rattle.cf_leg.specs.Emits.{IsGreeting, syn}
 use Rattle.cf_leg.specs.Emitted.{BreaksOff, with_segments}
@@ -16,7 +16,8 @@ use Rattle.cf_stream.specs.Stream.{no_letters}
 use Rattle.cf_session.proofs.Amid.{amid_after, amid_before, amid_lines, amid_sent, lines_leave_none}
 use Rattle.cf_session.proofs.Beginning.{is_first, the_first}
 use Rattle.cf_session.proofs.Legs.{EventsBegin}
-use Rattle.cf_session.specs.Broken.{BreaksBeginning, KeepsLines, KeepsParts}
+use Rattle.cf_outside.specs.Frames.{EmitsAndLogs, OnlyEmits, OnlyLogs}
+use Rattle.cf_session.specs.Broken.{BreaksBeginning, KeepsLines}
 use Rattle.cf_session.specs.Parts.{IsLegBetween}
 use Rattle.cf_session.specs.Sent.{at, line}
 use Rattle.cf_session.specs.Session.{Flow, controller_ends}
@@ -58,27 +59,27 @@ module _ (f : Flow) (tick : ℕ) where
   begun_line = line f (tick + 1) Begun ∷ []
 
   module _ (old mid new : DeskValue) where
-    pub syn_failed : BreaksOff (tick + 1) syns old new → new.lines ≡ old.lines → new.line_part ≡ old.line_part → BreaksBeginning f tick old new
-    syn_failed h lines part = record {
+    pub syn_failed : {failed : Bool} → BreaksOff (tick + 1) syns old new → OnlyEmits old new failed → BreaksBeginning f tick old new
+    syn_failed h sends = record {
       event = the_first f tick;
       is_beginning = is_first f tick;
-      amid = amid_before (at (tick + 1) syns) [] [] begun_line old new (amid_sent (tick + 1) syns old new h lines part);
-      order = inr (record { lines = lines; line_part = part });
+      amid = amid_before (at (tick + 1) syns) [] [] begun_line old new (amid_sent (tick + 1) syns old new h sends);
+      order = inr (record { lines = sends.lines; line_part = sends.line_part });
     }
 
-    module _ (sent : told mid ≡ with_both (told old) (at (tick + 1) syns) []) (parts : KeepsParts old mid) (octets : mid.octets ≡ old.octets) where
-      pub speech_failed : BreaksOff (tick + 1) [] mid new → new.lines ≡ mid.lines → new.line_part ≡ mid.line_part → KeepsLines old new → BreaksBeginning f tick old new
-      speech_failed h lines part keeps = record {
+    module _ (sent : told mid ≡ with_both (told old) (at (tick + 1) syns) []) (frame : EmitsAndLogs old mid false) where
+      pub speech_failed : {failed : Bool} → BreaksOff (tick + 1) [] mid new → OnlyEmits mid new failed → KeepsLines old new → BreaksBeginning f tick old new
+      speech_failed h sends keeps = record {
         event = the_first f tick;
         is_beginning = is_first f tick;
-        amid = amid_before (at (tick + 1) syns) [] [] begun_line old new (amid_after (at (tick + 1) syns) [] [] [] old mid new sent parts octets (amid_sent (tick + 1) [] mid new h lines part));
+        amid = amid_before (at (tick + 1) syns) [] [] begun_line old new (amid_after (at (tick + 1) syns) [] [] [] old mid new sent frame (amid_sent (tick + 1) [] mid new h sends));
         order = inr keeps;
       }
 
-      pub line_failed : MayHaveAdded begun_line mid new → WritesLog mid new → BreaksBeginning f tick old new
+      pub line_failed : {failed : Bool} → MayHaveAdded begun_line mid new → OnlyLogs mid new failed → BreaksBeginning f tick old new
       line_failed h log = record {
         event = the_first f tick;
         is_beginning = is_first f tick;
-        amid = amid_after (at (tick + 1) syns) [] [] begun_line old mid new sent parts octets (amid_lines begun_line mid new h log);
-        order = inl (lines_leave_none (at (tick + 1) syns) [] begun_line old mid new sent parts octets h log);
+        amid = amid_after (at (tick + 1) syns) [] [] begun_line old mid new sent frame (amid_lines begun_line mid new h log);
+        order = inl (lines_leave_none (at (tick + 1) syns) [] begun_line old mid new sent frame h log);
       }

@@ -1,11 +1,11 @@
 -- A session whose events did not cut it, between two of them, read from its events alone.
-use Rattle.std.proofs.Common.{◌≡◌, ℕ, ◌^◌, ◌≤◌, min, ◌&&◌, ◌||◌, Bool, true, false, inl, inr, List, [], ◌∷◌, ◌++◌, Option, Some, None, refl, sym, ap, ◌∙◌, subst, arith}
+use Rattle.std.proofs.Common.{◌≡◌, ℕ, ◌^◌, ◌≤◌, min, ◌&&◌, ◌||◌, Bool, true, inl, inr, List, [], ◌∷◌, ◌++◌, Option, Some, None, refl, sym, ap, ◌∙◌, subst, arith}
 use Rattle.std.proofs.lemmas.Bool.{false≢true}
 use Rattle.std.proofs.lemmas.List.{append-nil}
 use Rattle.cf_audit.specs.declared.CutReason.{CutReason}
 use Rattle.cf_lane.specs.History.{taken}
 use Rattle.cf_lane.specs.Laws.{QuietBehindEnd, StreamsGoOn}
-use Rattle.cf_leg.specs.Event.{Came, Ending, LegEvent, Nothing, Spoke, Unspoken, is_idle, is_settled, is_spoken, is_unspoken, stream_after, stream_at}
+use Rattle.cf_leg.specs.Event.{Came, Ending, LegEvent, Nothing, Unspoken, is_idle, is_settled, is_spoken, is_unspoken, stream_after, stream_at}
 use Rattle.cf_leg.specs.Heard.{end_state, offers, offers_by, opened, shown}
 use Rattle.cf_leg.specs.OneStream.{IsRightRun}
 use Rattle.cf_leg.specs.Told.{letters_sent}
@@ -14,11 +14,10 @@ use Rattle.cf_leg.specs.declared.Role.{Role}
 use Rattle.cf_stream.proofs.Extends.{extends_none}
 use Rattle.cf_stream.specs.FirstCopy.{IsTaken, first_copy}
 use Rattle.cf_stream.specs.Stream.{Stream, letter_count, no_letters}
-use Rattle.cf_view.specs.declared.Side.{Side}
 use Rattle.cf_view.specs.declared.Side.TheVariants as side
-use Rattle.cf_session.specs.Event.{AreEvents, AreRight, AreTaken, EndsPacket, EndsTick, IsBeginning, IsEvent, IsPacket, IsTick}
+use Rattle.cf_session.specs.Event.{AreEvents, AreRight, AreTaken, EndsPacket, EndsTick, IsEvent}
 use Rattle.cf_session.specs.Laws.{AreUncut, IsSentUpTo}
-use Rattle.cf_session.specs.Session.{Flow, SessionEvent, client_ends, clients, controller_ends, controllers, history, work_of}
+use Rattle.cf_session.specs.Session.{Flow, SessionEvent, client_ends, clients, controller_ends, controllers, history}
 use Rattle.cf_session.specs.Stands.{AreOver}
 use Rattle.cf_session.proofs.Beginning.{none_taken}
 use Rattle.cf_session.proofs.Fixed.{WorkIsOne, clients_right, controllers_right}

@@ -18,7 +18,8 @@ use Rattle.cf_session.proofs.Able.{can_cut, can_fire}
 use Rattle.cf_session.proofs.Amid.{amid_after, amid_as, amid_before, amid_sent}
 use Rattle.cf_session.proofs.Telling.{at-append}
 use Rattle.cf_session.proofs.Ticks.{client_silent, client_silent_ticks, controller_silent, live_tick, open_tick, silent_fires, silent_tick, ticking_at}
-use Rattle.cf_session.specs.Broken.{BreaksTick, KeepsParts}
+use Rattle.cf_outside.specs.Frames.{EmitsAndLogs, OnlyEmits}
+use Rattle.cf_session.specs.Broken.{BreaksTick}
 use Rattle.cf_session.specs.Cuts.{gives_up}
 use Rattle.cf_session.specs.Event.{AreTaken, IsTick}
 use Rattle.cf_session.specs.Parts.{SessionValue}
@@ -135,8 +136,8 @@ module _ (f : Flow) (es : List SessionEvent) (e : SessionEvent) (s : SessionValu
 
     module _ (old mid new : DeskValue) where
       -- the clock call of the controller's leg failed
-      pub controller_failed : ClockBreaks now s.controller s.to_controller old new → new.lines ≡ old.lines → new.line_part ≡ old.line_part → BreaksTick f (e ∷ es) now old new
-      controller_failed h lines part =
+      pub controller_failed : {failed : Bool} → ClockBreaks now s.controller s.to_controller old new → OnlyEmits old new failed → BreaksTick f (e ∷ es) now old new
+      controller_failed h sends =
           let t = first_half in
           let queue = subst (IsQueueOf s.to_controller) (sym stands.over.to_controller) stands.parts.to_controller in
           let right = subst (λ n. IsRight n cs (clocked now (h.out ∷ []))) stands.parts.controller.is (h.right cs stands.over.controller stands.parts.controller.stands queue) in
@@ -147,10 +148,10 @@ module _ (f : Flow) (es : List SessionEvent) (e : SessionEvent) (s : SessionValu
             is_tick = t.1;
             amid = amid_as (at now (h.out ∷ []) ++ rest) (sent_first t.0) ([] ++ logged_first f t.0) (logged_first f t.0) old new
                 (ap (λ ps. at now ps ++ rest) right.fired ∙ sym (sends_first t.0 t.1)) refl
-                (amid_before (at now (h.out ∷ [])) rest [] (logged_first f t.0) old new (amid_sent now (h.out ∷ []) old new h.breaks lines part));
+                (amid_before (at now (h.out ∷ [])) rest [] (logged_first f t.0) old new (amid_sent now (h.out ∷ []) old new h.breaks sends));
           }
 
-      module _ (first : told mid ≡ with_both (told old) (at now fc) []) (parts : KeepsParts old mid) (octets : mid.octets ≡ old.octets) where
+      module _ (first : told mid ≡ with_both (told old) (at now fc) []) (frame : EmitsAndLogs old mid false) where
         -- the controller was silent for too long, and the cut failed
         pub controller_cut_failed : gives_up (controller_ends f).role cs (clocked now []) ≡ true →
             CutsAmid f cs ds (clocked now fc) (begun now) now (reason.NoAnswer side.Controller) mid new → BreaksTick f (e ∷ es) now old new
@@ -163,13 +164,13 @@ module _ (f : Flow) (es : List SessionEvent) (e : SessionEvent) (s : SessionValu
               is_tick = silent_tick f es e now unexpired fc refl silent (told old) _ _ refl cuts;
               amid = amid_as (at now fc ++ at now (h.to_controller ∷ h.to_client ∷ [])) _ _ _ old new
                   (sym (at-append now fc (h.to_controller ∷ h.to_client ∷ [])) ∙ ap (at now) (sym (append_assoc fc (h.to_controller ∷ []) (h.to_client ∷ [])))) refl
-                  (amid_after (at now fc) (at now (h.to_controller ∷ h.to_client ∷ [])) [] _ old mid new first parts octets h.amid);
+                  (amid_after (at now fc) (at now (h.to_controller ∷ h.to_client ∷ [])) [] _ old mid new first frame h.amid);
             }
 
         -- the clock call of the client's leg failed
-        pub client_failed : gives_up (controller_ends f).role cs (clocked now []) ≡ false → ClockBreaks now s.client s.to_client mid new → new.lines ≡ mid.lines → new.line_part ≡ mid.line_part →
+        pub client_failed : {failed : Bool} → gives_up (controller_ends f).role cs (clocked now []) ≡ false → ClockBreaks now s.client s.to_client mid new → OnlyEmits mid new failed →
             BreaksTick f (e ∷ es) now old new
-        client_failed quiet h lines part =
+        client_failed quiet h sends =
             let queue = subst (IsQueueOf s.to_client) (sym stands.over.to_client) stands.parts.to_client in
             let right = subst (λ n. IsRight n ds (clocked now (h.out ∷ []))) stands.parts.client.is (h.right ds stands.over.client stands.parts.client.stands queue) in
             let silent = sends_on (client_ends f) ds now h.out right.fired in
@@ -179,14 +180,14 @@ module _ (f : Flow) (es : List SessionEvent) (e : SessionEvent) (s : SessionValu
               is_tick = live_tick f es e now s stands unexpired quiet silent right_c right_d;
               amid = amid_as (at now fc ++ at now (h.out ∷ [])) (sent_first (ticking_at f es e now fc fd)) _ _ old new
                   (sym (at-append now fc (h.out ∷ [])) ∙ ap (λ ps. at now (fc ++ ps)) right.fired ∙ ap (λ ps. at now (ps ++ fd)) (sym (append-nil fc)) ∙ ap (λ ps. at now ((fc ++ []) ++ ps)) (sym (append-nil fd))) refl
-                  (amid_after (at now fc) (at now (h.out ∷ [])) [] [] old mid new first parts octets (amid_sent now (h.out ∷ []) mid new h.breaks lines part));
+                  (amid_after (at now fc) (at now (h.out ∷ [])) [] [] old mid new first frame (amid_sent now (h.out ∷ []) mid new h.breaks sends));
             }
 
       -- the client was silent for too long, and the cut failed
       pub client_cut_failed : gives_up (controller_ends f).role cs (clocked now []) ≡ false → gives_up (client_ends f).role ds (clocked now []) ≡ true →
-          told mid ≡ with_both (told old) (at now (fc ++ fd)) [] → KeepsParts old mid → mid.octets ≡ old.octets →
+          told mid ≡ with_both (told old) (at now (fc ++ fd)) [] → EmitsAndLogs old mid false →
           CutsAmid f cs ds (clocked now fc) (clocked now fd) now (reason.NoAnswer side.Client) mid new → BreaksTick f (e ∷ es) now old new
-      client_cut_failed quiet silent both parts octets h =
+      client_cut_failed quiet silent both frame h =
           let cuts : CutsBoth f cs ds (clocked now fc) (clocked now fd) now (reason.NoAnswer side.Client) (with_both (with_both (told old) (at now fc) []) (at now fd) []) _ =
           record { to_controller = h.to_controller; controller_right = h.controller_right; to_client = h.to_client; client_right = h.client_right; told = refl } in
           let t = client_silent f es e now unexpired fc fd refl refl quiet silent (told old) _ _ _ refl refl cuts in
@@ -199,5 +200,5 @@ module _ (f : Flow) (es : List SessionEvent) (e : SessionEvent) (s : SessionValu
                 (sym (at-append now (fc ++ fd) (h.to_controller ∷ h.to_client ∷ []))
                 ∙ ap (λ d. at now ((fc ++ d) ++ h.to_controller ∷ h.to_client ∷ [])) none ∙ ap (λ xs. at now (xs ++ h.to_controller ∷ h.to_client ∷ [])) (append-nil fc)
                 ∙ ap (at now) (sym (append_assoc fc (h.to_controller ∷ []) (h.to_client ∷ []))) ∙ ap (λ d. at now ((fc ++ h.to_controller ∷ []) ++ (d ++ h.to_client ∷ []))) (sym none)) refl
-                (amid_after (at now (fc ++ fd)) (at now (h.to_controller ∷ h.to_client ∷ [])) [] _ old mid new both parts octets h.amid);
+                (amid_after (at now (fc ++ fd)) (at now (h.to_controller ∷ h.to_client ∷ [])) [] _ old mid new both frame h.amid);
           }

@@ -1,6 +1,6 @@
 -- What stands on a desk that failed amid a call of a session: a beginning of what the right event sends and logs in that half.
 -- The main definition is `BreaksAmid`, and below it stands one for each call. This project's own.
-use Rattle.std.specs.Prelude.{◌≡◌, ◌⊎◌, ℕ, false, List, [], ◌++◌, take}
+use Rattle.std.specs.Prelude.{◌≡◌, ◌⊎◌, ℕ, Bool, true, false, Result, Ok, Err, List, [], ◌++◌, take}
 use Rattle.std.specs.List.{concat, flat_map}
 use Rattle.cf_outside.specs.Desk.{DeskValue, SentValue}
 use Rattle.cf_packet.specs.Packet.{PacketValue}
@@ -8,6 +8,8 @@ use Rattle.cf_view.specs.declared.Side.{Side}
 use Rattle.cf_session.specs.Event.{IsBeginning, IsPacket, IsTick}
 use Rattle.cf_session.specs.Sent.{Sent, logged_first, logged_second, sent_first, sent_second}
 use Rattle.cf_session.specs.Session.{Flow, SessionEvent, is_expired}
+use Rattle.cf_session.specs.declared.session.BeginFault.{BeginFault}
+use Rattle.cf_session.specs.declared.session.BeginFault.TheVariants as fault
 use Rattle.cf_session.specs.Told.{emitted, told, with_both}
 
 -- the octets of packets, one after the other, as a desk spells them
@@ -36,6 +38,12 @@ pub record KeepsParts (old new : DeskValue) : Type 0 where
   pub line_part : new.line_part ≡ old.line_part
 
 -- ---- each call
+
+-- no session began, since the desk failed
+abbrev pub has_failed : {A : Type 0} → Result A BeginFault → Bool
+has_failed (Ok session) = false
+has_failed (Err fault.NoMemory) = false
+has_failed (Err fault.Write) = true
 
 -- no line was written, not even in part
 pub record KeepsLines (old new : DeskValue) : Type 0 where

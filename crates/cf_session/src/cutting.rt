@@ -1,14 +1,14 @@
 //! How a session is cut, and the lines that it writes.
-ghost use Rattle.std.specs.Prelude.{◌≡◌, ◌+◌, ◌*◌, ◌^◌, ◌<◌, ◌≤◌, true, List, [], ◌∷◌, IfOk, IsErr, OnErr, OnOk};
+ghost use Rattle.std.specs.Prelude.{◌≡◌, ◌+◌, ◌*◌, ◌^◌, ◌<◌, ◌≤◌, true, List, [], ◌∷◌, IfOk, OnErr, OnOk};
+ghost use Rattle.std.specs.Result.{is_err};
 ghost use Rattle.cf_audit.specs.Line.{HasShortRule, what_value};
-ghost use Rattle.cf_lane.specs.Handled.{HasAdded, MayHaveAdded, WritesLog};
+ghost use Rattle.cf_lane.specs.Handled.{HasAdded, MayHaveAdded};
 ghost use Rattle.cf_lane.specs.Log.{HasPlainRule, line_about};
 ghost use Rattle.cf_leg.specs.Event.{LegEvent, Unspoken};
-ghost use Rattle.cf_outside.specs.Desk.{DeskValue, KeepsDesk};
-ghost use Rattle.cf_outside.specs.Faults.{HasCause};
+ghost use Rattle.cf_outside.specs.Desk.{DeskValue};
+ghost use Rattle.cf_outside.specs.Frames.{EmitsAndLogs, OnlyLogs};
 ghost use Rattle.cf_policy.specs.Within.{IsAssetWithin};
 ghost use Rattle.cf_rebuild.specs.ReceiveWindow.{base_of};
-ghost use Rattle.cf_session.specs.Broken.{KeepsParts};
 ghost use Rattle.cf_session.specs.Parts.{IsLegBetween, SessionValue};
 ghost use Rattle.cf_session.specs.Session.{Flow, client_ends, client_of, controller_ends};
 ghost use Rattle.cf_session.specs.Told.{told};
@@ -36,9 +36,7 @@ pub(crate) fn log_line<D: Desk>(
     requires whole { DeskValue.whole (D.value desk.old) ≡ true }
     ensures lines { OnOk result (HasAdded (line_about asset.now client now (what_value what.entry) ∷ []) (D.value desk.old) (D.value desk.new)) }
     ensures fails { OnErr result (MayHaveAdded (line_about asset.now client now (what_value what.entry) ∷ []) (D.value desk.old) (D.value desk.new)) }
-    ensures whole { OnOk result (DeskValue.whole (D.value desk.new) ≡ true) }
-    ensures log { WritesLog (D.value desk.old) (D.value desk.new) }
-    ensures cause { HasCause (DeskValue.faults (D.value desk.old)) (DeskValue.faults (D.value desk.new)) (IsErr result) }
+    ensures frame { OnlyLogs (D.value desk.old) (D.value desk.new) (is_err result) }
 {
     let line = Line {
         moment: now,
@@ -72,10 +70,7 @@ impl Session {
             → IsLegBetween (client_ends flow) (SessionValue.client self.old) (SessionValue.to_client self.old) (record d { ending = Unspoken } ∷ ds)
             → CutsAmid flow cs ds c d now reason (D.value desk.old) (D.value desk.new)) }
         ensures same { (SessionValue.limit self.new ≡ SessionValue.limit self.old) × (SessionValue.source self.new ≡ SessionValue.source self.old) × (SessionValue.lane self.new ≡ SessionValue.lane self.old) }
-        ensures parts { OnOk result (KeepsParts (D.value desk.old) (D.value desk.new)) }
-        ensures keeps { KeepsDesk (D.value desk.old) (D.value desk.new) }
-        ensures whole { OnOk result (DeskValue.whole (D.value desk.new) ≡ true) }
-        ensures cause { HasCause (DeskValue.faults (D.value desk.old)) (DeskValue.faults (D.value desk.new)) (IsErr result) }
+        ensures frame { EmitsAndLogs (D.value desk.old) (D.value desk.new) (is_err result) }
     {
         self.controller.cut(now, &self.to_controller, desk)?;
         self.client.cut(now, &self.to_client, desk)?;

@@ -45,7 +45,7 @@ returns-clause-greets g c = λ flow d ds at may legs.
     (record {
       stands = greeted_stands law (client_ends flow) c.self.inside.client c.self.inside.to_client d ds may'.0 may'.1 s flow refl n now c.greet.new.self _ _ e.greeted e.ends e.number at;
       told = told_sent d0 d1 now (syn_ack_for (client_ends flow) flow.syn.seq n ∷ [])
-          (greeted_packets law (client_ends flow) c.self.inside.client c.self.inside.to_client d ds may'.0 may'.1 s flow refl n now c.greet.new.self _ _ e.greeted e.ends e.number at) e.lines;
+          (greeted_packets law (client_ends flow) c.self.inside.client c.self.inside.to_client d ds may'.0 may'.1 s flow refl n now c.greet.new.self _ _ e.greeted e.ends e.number at) e.frame.lines;
     })
 
 pub returns-in_err-greet-clause-broken : goal.returns-in_err-greet-clause-broken
@@ -64,4 +64,4 @@ returns-in_err-greet-clause-broken g c =
     let out = subst (λ (e : Ends). IsGreeting e e.role (greeting_as e n leg.other e.role)) s.is right.came.0 in
     let breaks = subst (λ p. BreaksOff now (p ∷ []) d0 d1) (ap (λ (e : Ends). greeting_as e n leg.other e.role) s.is ∙ out) h.breaks in
     subst (λ x. BreaksAmid (at now (greetings flow x)) [] d0 d1) (sym c.in-Some.is)
-    (amid_sent now (syn_ack_for (client_ends flow) flow.syn.seq n ∷ []) d0 d1 breaks c.greet.ensures.lines c.greet.ensures.line_part))
+    (amid_sent now (syn_ack_for (client_ends flow) flow.syn.seq n ∷ []) d0 d1 breaks c.greet.ensures.frame))
