@@ -15,9 +15,8 @@ use Rattle.cf_lane.specs.Laws.{GoOn, QuietBehindEnd, StreamsGoOn}
 use Rattle.cf_lane.specs.Output.{other, outputs, stream_to}
 use Rattle.cf_lane.specs.Unit.{Left, Tail, UnitValue, Wrong}
 use Rattle.cf_leg.specs.Event.{Ending, LegEvent, sent_in, stream_after, stream_at}
-use Rattle.cf_leg.specs.OneStream.{CarryAll, Grows, IsOneStream, IsRightRun}
+use Rattle.cf_leg.specs.OneStream.{CarryAll, Grows, IsOneStream}
 use Rattle.cf_leg.specs.Told.{letters_sent, letters_sent_by, own_number}
-use Rattle.cf_leg.specs.declared.Ends.{Ends}
 use Rattle.cf_leg.specs.declared.Role.{Role}
 use Rattle.cf_packet.specs.Packet.{PacketValue}
 use Rattle.cf_policy.specs.declared.Asset.{Asset}
@@ -250,6 +249,3 @@ pub front : (whole : Stream) (parts : List Part) (r : List Letter) → AreOf who
 front whole parts r of re =
     let b = begins_by_place r (letters whole) (λ p l e. place whole.bytes whole.ended p ∙ (let x = re.each p l e in of x.index x.part x.is p l x.has)) in
     record { more = b.0; is = b.1 }
-
-abbrev pub Carried : Type 0
-Carried = (ends : Ends) (es : List LegEvent) (whole : Stream) → IsRightRun ends es whole → IsOneStream whole ends.role es
