@@ -19,7 +19,7 @@ use Rattle.cf_leg.specs.declared.ends.LegAnswer.{LegAnswer}
 use Rattle.cf_leg.specs.declared.ends.Phase.{Phase}
 use Rattle.cf_leg.specs.declared.ends.Phase.TheVariants as phase
 use Rattle.cf_leg.specs.declared.ends.EndState.{EndState}
-use Rattle.cf_leg.specs.Emitted.{BreaksOff, with_segment, with_segments}
+use Rattle.cf_leg.specs.Emitted.{BreaksOff, GetsSegments, with_segment, with_segments}
 use Rattle.cf_leg.specs.Segment.{letters_in, segment}
 use Rattle.cf_leg.specs.declared.ends.ClockAnswer.{ClockAnswer}
 use Rattle.cf_leg.specs.declared.ends.ClockAnswer.TheVariants as answers
@@ -251,11 +251,10 @@ rst_as leg q (role.Passive n mss) =
 abbrev pub rst_of : LegValue → Queue → PacketValue
 rst_of leg q = rst_as leg q leg.ends.role
 
--- the leg was cut: its RST is right after the events
-pub record CutOff (now : ℕ) (leg : LegValue) (queue : Queue) (before after : Option (List SentValue)) : Type 0 where
-  pub out : PacketValue
-  pub packets : after ≡ with_segment before now out
-  pub right : (e : LegEvent) (es : List LegEvent) → IsLegOf leg (marks queue) (record e { ending = Unspoken } ∷ es) → IsRight leg.ends es (record e { ending = Cut out })
+-- the leg was cut, or the desk failed amid that: the RST is right after the events
+pub record CutOff (now : ℕ) (leg : LegValue) (queue : Queue) (old new : DeskValue) (failed : Bool) : Type 0 where
+  pub gets : GetsSegments failed now (rst_of leg queue ∷ []) old new
+  pub right : (e : LegEvent) (es : List LegEvent) → IsLegOf leg (marks queue) (record e { ending = Unspoken } ∷ es) → IsRight leg.ends es (record e { ending = Cut (rst_of leg queue) })
 
 -- the number of the peer's SYN, where it was seen
 abbrev pub origin_as : Role → Phase → ℕ → Option ℕ
@@ -341,9 +340,3 @@ pub record GreetingBreaks (now number : ℕ) (leg : LegValue) (before after : De
   pub breaks : BreaksOff now (greeting_as leg.ends number leg.other leg.ends.role ∷ []) before after
   pub right : (m : Marks) (e : LegEvent) (es : List LegEvent) → now ≡ moment e → IsLegOf leg m (record e { came = Nothing; ending = Unspoken } ∷ es)
       → IsRight leg.ends es (record e { came = Greeting (greeting_as leg.ends number leg.other leg.ends.role); ending = Unspoken })
-
--- the RST of a cut
-pub record CutBreaks (now : ℕ) (leg : LegValue) (queue : Queue) (before after : DeskValue) : Type 0 where
-  pub out : PacketValue
-  pub breaks : BreaksOff now (out ∷ []) before after
-  pub right : (e : LegEvent) (es : List LegEvent) → IsLegOf leg (marks queue) (record e { ending = Unspoken } ∷ es) → IsRight leg.ends es (record e { ending = Cut out })

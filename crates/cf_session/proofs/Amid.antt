@@ -1,5 +1,5 @@
 -- A desk that failed amid packets and lines.
-use Rattle.std.proofs.Common.{◌≡◌, ℕ, Bool, false, List, [], ◌∷◌, ◌++◌, length, refl, sym, ap, ◌∙◌, subst, append_assoc, arith, inl, inr, Result, Ok, Err}
+use Rattle.std.proofs.Common.{◌≡◌, ℕ, Bool, true, false, List, [], ◌∷◌, ◌++◌, length, refl, sym, ap, ◌∙◌, subst, append_assoc, arith, inl, inr, Result, Ok, Err}
 use Rattle.std.specs.Prelude.{OnErr}
 use Rattle.std.specs.List.{concat}
 use Rattle.std.proofs.Math.Seq.{take-append_seam}
@@ -9,12 +9,12 @@ use Rattle.std.proofs.lemmas.List.{append-nil, take-append-le, take_all}
 use Rattle.std.proofs.lemmas.List.Concat.{flat_map-cons}
 use Rattle.std.proofs.lemmas.List.Folds.{concat-append}
 use Rattle.cf_lane.specs.Handled.{MayHaveAdded}
-use Rattle.cf_leg.specs.Emitted.{BeginsNext, BreaksOff, spelled}
+use Rattle.cf_leg.specs.Emitted.{BeginsNext, BreaksOff, GetsSegments, spelled}
 use Rattle.cf_outside.specs.Desk.{DeskValue, SentValue}
 use Rattle.cf_outside.specs.Frames.{EmitsAndLogs, OnlyEmits, OnlyLogs}
 use Rattle.cf_packet.specs.Packet.{PacketValue}
 use Rattle.cf_session.proofs.Telling.{at-append, more-none, then_told, told_lines, told_sent}
-use Rattle.cf_session.specs.Broken.{BreaksAmid, IsPartOf, octets_of}
+use Rattle.cf_session.specs.Broken.{BreaksAmid, Gets, IsPartOf, octets_of}
 use Rattle.cf_session.specs.Sent.{Sent, at}
 use Rattle.cf_session.specs.Told.{emitted, told, with_both}
 
@@ -126,3 +126,13 @@ pub lines_leave_none : {failed : Bool} (a : List Sent) (x lines : List (List ℕ
 unfolding amid_after amid_lines
 lines_leave_none a x lines old mid new first frame (inl h) logs = refl
 lines_leave_none a x lines old mid new first frame (inr h) logs = refl
+
+-- ---- as much of packets and lines as the desk got
+
+pub gets_sent : (failed : Bool) (now : ℕ) (outs : List PacketValue) (old new : DeskValue) → GetsSegments failed now outs old new → OnlyEmits old new failed → Gets failed (at now outs) [] old new
+gets_sent false now outs old new h frame = told_sent old new now outs h frame.lines
+gets_sent true now outs old new h frame = amid_sent now outs old new h frame
+
+pub gets_after : (failed : Bool) (a b : List Sent) (x y : List (List ℕ)) (old mid new : DeskValue) → Gets false a x old mid → EmitsAndLogs old mid false → Gets failed b y mid new → Gets failed (a ++ b) (x ++ y) old new
+gets_after false a b x y old mid new first frame h = then_told (told old) (told mid) (told new) a b x y first h
+gets_after true a b x y old mid new first frame h = amid_after a b x y old mid new first frame h

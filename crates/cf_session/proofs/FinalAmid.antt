@@ -1,5 +1,5 @@
 -- The second half of an event of a session, where the desk failed amid it.
-use Rattle.std.proofs.Common.{◌≡◌, ℕ, Bool, false, cond, List, [], ◌∷◌, ◌++◌, length, drop, inl, inr, Option, Some, None, refl, sym, ap, ◌∙◌, subst}
+use Rattle.std.proofs.Common.{◌≡◌, ℕ, Bool, false, cond, List, [], ◌∷◌, ◌++◌, length, drop, inl, inr, Option, Some, None, refl, sym, ap, ◌∙◌, subst, true}
 use Rattle.std.specs.Option.{is_some, option_or}
 use Rattle.std.proofs.lemmas.List.{append-nil}
 use Rattle.cf_audit.specs.Line.{Cut as CutLine}
@@ -32,7 +32,7 @@ use Rattle.cf_session.specs.Sent.{at, first_line, last_line, late, line, new_lin
 use Rattle.cf_session.specs.Session.{Flow, SessionEvent, client_ends, client_of, clients, controller_ends, controllers, has_room, history, was_closed, work_of}
 use Rattle.cf_session.specs.Stands.{IsSessionOf}
 use Rattle.cf_session.specs.Told.{Told, told, with_both}
-use Rattle.cf_session.specs.Turn.{CutsAmid, CutsBoth, HeardAmid, OnlySpeaks, SaysAmid, SaysBoth, came_first, came_greeted, closing_lines, ends_of, greetings, heard_event, heard_half, is_done_now, leg_in, legs_of, number_by, roomy_by}
+use Rattle.cf_session.specs.Turn.{CutsBoth, HeardAmid, OnlySpeaks, SaysAmid, SaysBoth, came_first, came_greeted, closing_lines, ends_of, greetings, heard_event, heard_half, is_done_now, leg_in, legs_of, number_by, roomy_by}
 use Rattle.cf_session.specs.Work.{Work}
 
 module _ (f : Flow) (es : List SessionEvent) (t : SessionEvent) (s0 : SessionValue) (stands : IsSessionOf f es t s0) (tick : IsTick f es t.client.tick t) (s : Side) (p : PacketValue) where
@@ -118,23 +118,20 @@ module _ {f : Flow} {es : List SessionEvent} {t : SessionEvent} {s0 : SessionVal
 
   -- amid the RSTs and the line of a cut
   module _ (r : CutReason) (because : Some r ≡ cut_by (is_some s1.closed) (is_reset given) s cut (full_of s1))
-      (d2 : DeskValue) (x : CutsAmid f (controllers es) (clients es) (half_heard heard).controller (half_heard heard).client now r d1 d2) where
+      (d2 : DeskValue) (x : CutsBoth f (controllers es) (clients es) (half_heard heard).controller (half_heard heard).client now r d1 d2 true) where
     pub cut_failed : BreaksPacket f s0.limit es t s p d0 d2
     cut_failed =
-        let rsts = at now (x.to_controller ∷ x.to_client ∷ []) in
+        let rsts = at now (x.rsts.to_controller ∷ x.rsts.to_client ∷ []) in
         let put = line f now (CutLine r) ∷ [] in
-        let t2 = with_both (told d1) rsts put in
-        let cuts : CutsBoth f (controllers es) (clients es) (half_heard heard).controller (half_heard heard).client now r (told d1) t2 =
-        record { to_controller = x.to_controller; controller_right = x.controller_right; to_client = x.to_client; client_right = x.client_right; told = refl } in
-        let e = cut_event heard r because t2 cuts in
+        let e = cut_event heard r because x.rsts in
         record {
           event = e;
-          is_packet = cut_packet heard r because t2 cuts;
+          is_packet = cut_packet heard r because x.rsts;
           amid = amid_as rsts (sent_second e) (h.lines ++ put) _ d0 d2
-              (sent_cut heard r because t2 cuts)
+              (sent_cut heard r because x.rsts)
               (ap (λ xs. xs ++ put) (sym (lines_are heard e refl))
-              ∙ ap (λ xs. (first_line f es e ++ new_lines es e) ++ xs) (sym (last_cut heard r because t2 cuts)))
-              (amid_after [] rsts h.lines put d0 d1 d2 h.told frame x.amid);
+              ∙ ap (λ xs. (first_line f es e ++ new_lines es e) ++ xs) (sym (last_cut heard r because x.rsts)))
+              (amid_after [] rsts h.lines put d0 d1 d2 h.told frame x.gets);
         }
 
   module _ (because : None ≡ cut_by (is_some s1.closed) (is_reset given) s cut (full_of s1)) (uncut : cut ≡ None) where

@@ -32,6 +32,11 @@ pub record BreaksAmid (sent : List Sent) (lines : List (List ℕ)) (old new : De
   pub packet_part : IsPartOf (octets_of old.octets left) old.packet_part new.packet_part
   pub line_part : IsPartOf (concat missing) old.line_part new.line_part
 
+-- the desk got these packets and these lines: all of them, or, where it failed, a beginning
+abbrev pub Gets : (failed : Bool) → List Sent → (lines : List (List ℕ)) → (old new : DeskValue) → Type 0
+Gets false sent lines old new = told new ≡ with_both (told old) sent lines
+Gets true sent lines old new = BreaksAmid sent lines old new
+
 -- what stands behind the last whole packet and the last whole line is as it was, as after each call that did not fail
 pub record KeepsParts (old new : DeskValue) : Type 0 where
   pub packet_part : new.packet_part ≡ old.packet_part

@@ -1,5 +1,5 @@
 //! How a session is cut, and the lines that it writes.
-ghost use Rattle.std.specs.Prelude.{◌≡◌, ◌+◌, ◌*◌, ◌^◌, ◌<◌, ◌≤◌, true, List, [], ◌∷◌, IfOk, OnErr, OnOk};
+ghost use Rattle.std.specs.Prelude.{false, ◌≡◌, ◌+◌, ◌*◌, ◌^◌, ◌<◌, ◌≤◌, true, List, [], ◌∷◌, IfOk, OnErr, OnOk};
 ghost use Rattle.std.specs.Result.{is_err};
 ghost use Rattle.cf_audit.specs.Line.{HasShortRule, what_value};
 ghost use Rattle.cf_lane.specs.Handled.{HasAdded, MayHaveAdded};
@@ -11,8 +11,7 @@ ghost use Rattle.cf_policy.specs.Within.{IsAssetWithin};
 ghost use Rattle.cf_rebuild.specs.ReceiveWindow.{base_of};
 ghost use Rattle.cf_session.specs.Parts.{IsLegBetween, SessionValue};
 ghost use Rattle.cf_session.specs.Session.{Flow, client_ends, client_of, controller_ends};
-ghost use Rattle.cf_session.specs.Told.{told};
-ghost use Rattle.cf_session.specs.Turn.{CutsAmid, CutsBoth};
+ghost use Rattle.cf_session.specs.Turn.{CutsBoth};
 
 use crate::life::Life;
 use crate::session::Session;
@@ -64,11 +63,11 @@ impl Session {
         ensures cuts { IfOk result (λ life. (life ≡ Life.Cut reason) × ((flow : Flow) (cs ds : List LegEvent) (c d : LegEvent) → flow.asset ≡ asset.now → SessionValue.source self.old ≡ client_of flow
             → IsLegBetween (controller_ends flow) (SessionValue.controller self.old) (SessionValue.to_controller self.old) (record c { ending = Unspoken } ∷ cs)
             → IsLegBetween (client_ends flow) (SessionValue.client self.old) (SessionValue.to_client self.old) (record d { ending = Unspoken } ∷ ds)
-            → CutsBoth flow cs ds c d now reason (told (D.value desk.old)) (told (D.value desk.new)))) }
+            → CutsBoth flow cs ds c d now reason (D.value desk.old) (D.value desk.new) false)) }
         ensures broken { OnErr result ((flow : Flow) (cs ds : List LegEvent) (c d : LegEvent) → flow.asset ≡ asset.now → SessionValue.source self.old ≡ client_of flow
             → IsLegBetween (controller_ends flow) (SessionValue.controller self.old) (SessionValue.to_controller self.old) (record c { ending = Unspoken } ∷ cs)
             → IsLegBetween (client_ends flow) (SessionValue.client self.old) (SessionValue.to_client self.old) (record d { ending = Unspoken } ∷ ds)
-            → CutsAmid flow cs ds c d now reason (D.value desk.old) (D.value desk.new)) }
+            → CutsBoth flow cs ds c d now reason (D.value desk.old) (D.value desk.new) true) }
         ensures same { (SessionValue.limit self.new ≡ SessionValue.limit self.old) × (SessionValue.source self.new ≡ SessionValue.source self.old) × (SessionValue.lane self.new ≡ SessionValue.lane self.old) }
         ensures frame { EmitsAndLogs (D.value desk.old) (D.value desk.new) (is_err result) }
     {

@@ -2,7 +2,7 @@
 ghost use Rattle.std.specs.Prelude.{◌≡◌, ◌+◌, ◌-◌, ◌*◌, ◌%◌, ◌^◌, ◌<◌, ◌≤◌, ◌==◌, ◌&&◌, ◌||◌, if◌then◌else◌, true, [], ◌∷◌, None, Ok, OnErr, OnOk, ◌≤ℤ◌, ◌+ℤ◌};
 ghost use Rattle.cf_packet.specs.Packet.{packet_value};
 ghost use Rattle.cf_rebuild.specs.ReceiveWindow.{base_of};
-ghost use Rattle.cf_leg.specs.Calls.{CutBreaks, CutOff, rst_of};
+ghost use Rattle.cf_leg.specs.Calls.{CutOff, rst_of};
 ghost use Rattle.cf_leg.specs.Emits.{rst};
 ghost use Rattle.cf_stream.specs.Position.{place_or_zero};
 ghost use Rattle.cf_leg.specs.Emitted.{BreaksOff, with_segment};
@@ -61,12 +61,10 @@ impl Leg {
         requires base { base_of self.now.window ≤ 2 ^ 30 + 16384 }
         requires whole { DeskValue.whole (D.value desk.old) ≡ true }
         requires moment { now < 2 ^ 32 * 1000000 }
-        ensures cut { OnOk result (CutOff now self.now queue.now (DeskValue.packets (D.value desk.old)) (DeskValue.packets (D.value desk.new))) }
-        ensures broken { OnErr result (CutBreaks now self.now queue.now (D.value desk.old) (D.value desk.new)) }
+        ensures cut { CutOff now self.now queue.now (D.value desk.old) (D.value desk.new) (is_err result) }
         ensures frame { OnlyEmits (D.value desk.old) (D.value desk.new) (is_err result) }
     {
-        self.send_rst(now, queue, desk)?;
-        Ok(())
+        self.send_rst(now, queue, desk)
     }
 }
 

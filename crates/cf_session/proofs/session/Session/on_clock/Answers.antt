@@ -22,7 +22,7 @@ returns-then-is_silent-clause-ticks g c =
     let a = controller_ticks s (told (g.D.Desk.value c.args.desk.now)) (told (g.D.Desk.value c.on_clock.new.desk)) c.in_ok-on_clock.ensures.clocked c.on_clock.ensures.ends c.on_clock.ensures.queue c.on_clock.ensures.frame.lines in
     let silent = sym a.answer ∙ sym c.is_silent.ensures ∙ c.if-is_silent.true in
     let cuts = h.1 f (controllers (e ∷ es)) (clients (e ∷ es)) (clocked now (controller_fires f es e now)) (begun now) is s.source a.stands (client_begins s c.events_begin.ensures now) in
-    let ticks = silent_ticks f es e now early (controller_fires f es e now) refl silent _ _ _ a.told cuts in
+    let ticks = silent_ticks f es e now early (controller_fires f es e now) refl silent cuts.rsts _ _ _ a.told cuts.gets in
     subst (TicksBy f (e ∷ es) now _ _ _) (sym h.0) (_, ticks, refl)) c.cut_at.ensures.cuts
 
 pub returns-then-is_silent-2-clause-ticks : goal.returns-then-is_silent-2-clause-ticks
@@ -39,7 +39,7 @@ returns-then-is_silent-2-clause-ticks g c =
     let fc = controller_fires f es e now in
     let fd = client_fires f es e now in
     let cuts = h.1 f (controllers (e ∷ es)) (clients (e ∷ es)) (clocked now fc) (clocked now fd) is s.source a.stands b.stands in
-    let ticks = client_silent_ticks f es e now early fc fd refl refl quiet silent _ _ _ _ a.told b.told cuts in
+    let ticks = client_silent_ticks f es e now early fc fd refl refl quiet silent cuts.rsts _ _ _ _ a.told b.told cuts.gets in
     subst (TicksBy f (e ∷ es) now _ _ _) (sym h.0) (_, ticks, refl)) c.cut_at-then-is_silent-2.ensures.cuts
 
 pub returns-clause-ticks : goal.returns-clause-ticks

@@ -23,7 +23,7 @@ returns-in-Some-clause-hears g c =
     let because = reason_is c.args.side c.in_ok-heard.heard.answer c.in_ok-heard.heard.cut c.self.view_is c.is_some.ensures c.is_reset.ensures c.full-full.ensures (sym c.in-Some.is ∙ c.why.ensures) in
     let cuts = x.1 flow (controllers es) (clients es) (half_heard heard).controller (half_heard heard).client is (c.hear.ensures.same.1 ∙ stands.source) heard.by.parts.controller heard.by.parts.client in
     subst (HearsBy flow (SessionValue.limit c.args.self.now) es t c.args.side (packet_value c.args.packet.now) c.cut_at.new.self (told (g.D.Desk.value c.args.desk.now)) t2) (sym x.0)
-    (_, hears_cut heard r because t2 cuts, refl, counts_cut heard r because t2 cuts c.cut_at.new.self c.cut_at.ensures.same.2)) c.cut_at.ensures.cuts
+    (_, hears_cut heard r because cuts.rsts t2 cuts.gets, refl, counts_cut heard r because cuts.rsts c.cut_at.new.self c.cut_at.ensures.same.2)) c.cut_at.ensures.cuts
 
 pub returns-clause-hears : goal.returns-clause-hears
 returns-clause-hears g c = λ flow es t is stands tick at.
