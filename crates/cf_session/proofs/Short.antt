@@ -1,5 +1,5 @@
 -- What a leg was to say in a session is below the limit, so what it sent is one stream.
-use Rattle.std.proofs.Common.{◌≡◌, ℕ, ◌≤◌, Bool, true, false, ◌&&◌, if◌then◌else◌, cond, inl, inr, List, [], ◌∷◌, ◌++◌, map, Option, Some, None, refl, sym, ap, ◌∙◌, subst, append_assoc, arith}
+use Rattle.std.proofs.Common.{◌≡◌, ℕ, ◌^◌, ◌≤◌, Bool, true, false, ◌&&◌, if◌then◌else◌, cond, inl, inr, List, [], ◌∷◌, ◌++◌, map, Option, Some, None, refl, sym, ap, ◌∙◌, subst, append_assoc, arith}
 use Rattle.std.specs.Option.{is_some, option_or}
 use Rattle.std.proofs.lemmas.Bool.{cases_Bool, false≢true, true≢false}
 use Rattle.std.proofs.lemmas.List.{append-nil, map-append}
@@ -145,19 +145,25 @@ front_extends w v r e h = elim (cases_Bool w.ended) [ inl ended ↦ subst (λ x.
 
 -- ---- one stream
 
+-- what a leg said is one stream that its events carry
+run_of : (ends : Ends) (ls : List LegEvent) (whole : Stream) (limit : ℕ) → limit ≤ 2 ^ 30 → AllRight ends ls → Grown ls whole → letter_count (stream_after ls) ≤ limit → IsRightRun ends ls (stream_after ls)
+run_of ends ls whole limit small right g short = record { right = right; grows = g.grows; on = extends_none (stream_after ls); limit = omega (arith, small, short) }
+
+module _ (go : StreamsGoOn) (quiet : QuietBehindEnd) (one : WorkIsOne) (f : Flow) (limit : ℕ) (es : List SessionEvent) (small : limit ≤ 2 ^ 30) (are : AreEvents f limit es) (uncut : AreUncutBefore es) where
+  pub controller_run : IsRightRun (controller_ends f) (controllers es) (stream_after (controllers es))
+  controller_run = run_of (controller_ends f) (controllers es) _ limit small (controllers_right f limit es are) (controller_grown go quiet f limit es are) (controller_short one f limit es are uncut)
+
+  pub client_run : IsRightRun (client_ends f) (clients es) (stream_after (clients es))
+  client_run = run_of (client_ends f) (clients es) _ limit small (clients_right f limit es are) (client_grown go quiet f limit es are) (client_short one f limit es are uncut)
+
 abbrev pub LegLaw : Type 0
 LegLaw = (ends : Ends) (es : List LegEvent) (whole : Stream) → IsRightRun ends es whole → IsOneStream whole ends.role es
 
 pub carries_one : LegLaw → StreamsGoOn → QuietBehindEnd → WorkIsOne → SegmentsCarryOneStream
 carries_one law go quiet one f limit es small are uncut = (
-  by (controller_ends f) (controllers es) _ (controllers_right f limit es are) (controller_grown go quiet f limit es are) (controller_short one f limit es are uncut),
-  by (client_ends f) (clients es) _ (clients_right f limit es are) (client_grown go quiet f limit es are) (client_short one f limit es are uncut),
+  record { said = _; goes_on = (controller_grown go quiet f limit es are).on; one = law _ _ _ (controller_run go quiet one f limit es small are uncut) },
+  record { said = _; goes_on = (client_grown go quiet f limit es are).on; one = law _ _ _ (client_run go quiet one f limit es small are uncut) },
 )
-  where
-    by : (ends : Ends) (ls : List LegEvent) (whole : Stream) → AllRight ends ls → Grown ls whole → letter_count (stream_after ls) ≤ limit → CarriesOneStream ends.role ls whole
-    by ends ls whole right g short =
-        let run : IsRightRun ends ls (stream_after ls) = record { right = right; grows = g.grows; on = extends_none (stream_after ls); limit = omega (arith, small, short) } in
-        record { said = stream_after ls; goes_on = g.on; one = law ends ls (stream_after ls) run }
 
 pub carried_front : (r : Role) (ls : List LegEvent) (whole : Stream) (taken : List Letter) → CarriesOneStream r ls whole → IsReassembly (parts_of r ls) taken → IsFront whole taken
 carried_front r ls whole taken c re = front_extends c.said whole taken c.goes_on (front c.said _ taken (all_parts c.said r ls c.one) re)
