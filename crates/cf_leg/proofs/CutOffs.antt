@@ -1,17 +1,18 @@
 -- A leg that was cut.
 use Rattle.std.specs.Prelude.{OnErr, OnOk, is_err}
-use Rattle.std.proofs.Common.{◌≡◌, ℕ, ◌+◌, Bool, cond, List, [], ◌∷◌, ◌++◌, length, Result, Ok, Err, refl, sym, ◌∙◌, ap, subst}
+use Rattle.std.proofs.Common.{◌≡◌, ℕ, ◌+◌, Bool, cond, List, [], ◌∷◌, ◌++◌, length, Result, refl, sym, ◌∙◌, ap, subst}
 use Rattle.cf_outside.specs.Desk.{DeskValue}
 use Rattle.cf_outq.specs.SendQueue.{Queue}
 use Rattle.cf_packet.specs.Packet.{PacketValue}
 use Rattle.cf_rebuild.specs.ReceiveWindow.{base_of}
 use Rattle.cf_stream.specs.Position.{sequence_number}
 use Rattle.cf_stream.specs.Stream.{letter_count}
+use Rattle.cf_leg.proofs.Broken.{gets_by}
 use Rattle.cf_leg.proofs.Events.{open_is_greeted, own_same, peer_same}
 use Rattle.cf_leg.proofs.Hears.{phase_greeted, phase_is_open}
 use Rattle.cf_leg.specs.Calls.{CutOff, is_greeted_phase, rst_as, rst_of}
 use Rattle.cf_leg.specs.Emits.{Greets, IsGreeting, IsRight, cut_by, rst}
-use Rattle.cf_leg.specs.Emitted.{BreaksOff, GetsSegments, with_segment}
+use Rattle.cf_leg.specs.Emitted.{BreaksOff, with_segment}
 use Rattle.cf_leg.specs.Event.{Came, Nothing, Greeting, Packet, Unspoken, Cut, LegEvent, greeted_by}
 use Rattle.cf_leg.specs.Heard.{opened}
 use Rattle.cf_leg.specs.LegValue.{LegValue, IsLegOf, is_open, marks}
@@ -68,11 +69,6 @@ cut_right leg q e es h = record {
   came = h.of_right.0.came;
   ending = record { taken = h.of_window.taken; is_taken = h.of_window.is_taken; rst = rst_is leg q e es h (rst_of leg q) };
 }
-
--- as much of one segment as a call says
-gets_by : {T E : Type 0} (r : Result T E) (now : ℕ) (p : PacketValue) (old new : DeskValue) → OnOk r (new.packets ≡ with_segment old.packets now p) → OnErr r (BreaksOff now (p ∷ []) old new) → GetsSegments (is_err r) now (p ∷ []) old new
-gets_by (Ok x) now p old new all broken = all
-gets_by (Err e) now p old new all broken = broken
 
 pub cut_of : {T E : Type 0} (r : Result T E) (now : ℕ) (leg : LegValue) (q : Queue) (old new : DeskValue) → OnOk r (new.packets ≡ with_segment old.packets now (rst_of leg q)) → OnErr r (BreaksOff now (rst_of leg q ∷ []) old new) →
     CutOff now leg q old new (is_err r)

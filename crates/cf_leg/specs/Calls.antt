@@ -216,12 +216,15 @@ window_by (role.Passive other mss) w = record w { edge = 16384 }
 abbrev pub greeted_as : LegValue → ℕ → ℕ → LegValue
 greeted_as leg number now = record leg { own = number; phase = phase.Greeted; deadline = now + second; window = window_by leg.ends.role leg.window }
 
--- the leg greeted: it stands for the events with the greeting
-pub record Greeted (now : ℕ) (old new : LegValue) (before after : Option (List SentValue)) : Type 0 where
-  pub out : PacketValue
-  pub packets : after ≡ with_segment before now out
+-- the SYN or the SYN ACK with a number
+abbrev pub greeting_by : LegValue → ℕ → PacketValue
+greeting_by leg number = greeting_as leg.ends number leg.other leg.ends.role
+
+-- the leg greeted with a number, or the desk failed amid that: it stands for the events with the greeting
+pub record Greeted (now number : ℕ) (old new : LegValue) (before after : DeskValue) (failed : Bool) : Type 0 where
+  pub gets : GetsSegments failed now (greeting_by old number ∷ []) before after
   pub stands : (m : Marks) (e : LegEvent) (es : List LegEvent) → now ≡ moment e → IsLegOf old m (record e { came = Nothing; ending = Unspoken } ∷ es)
-      → IsLegOf new m (record e { came = Greeting out; ending = Unspoken } ∷ es)
+      → IsLegOf new m (record e { came = Greeting (greeting_by old number); ending = Unspoken } ∷ es)
 
 -- a number that an end may greet with
 abbrev pub IsOwn : Role → ℕ → Type 0
@@ -334,9 +337,3 @@ pub record ClockBreaks (now : ℕ) (leg : LegValue) (queue : Queue) (before afte
   pub breaks : BreaksOff now (out ∷ []) before after
   pub right : (es : List LegEvent) → is_settled es ≡ true → IsLegOf leg (marks queue) es → IsQueueOf queue (stream_after es)
       → IsRight leg.ends es (clocked now (out ∷ []))
-
--- the greeting with a number
-pub record GreetingBreaks (now number : ℕ) (leg : LegValue) (before after : DeskValue) : Type 0 where
-  pub breaks : BreaksOff now (greeting_as leg.ends number leg.other leg.ends.role ∷ []) before after
-  pub right : (m : Marks) (e : LegEvent) (es : List LegEvent) → now ≡ moment e → IsLegOf leg m (record e { came = Nothing; ending = Unspoken } ∷ es)
-      → IsRight leg.ends es (record e { came = Greeting (greeting_as leg.ends number leg.other leg.ends.role); ending = Unspoken })

@@ -4,7 +4,7 @@ ghost use Rattle.cf_outq.specs.SendQueue.{IsQueueOf};
 ghost use Rattle.cf_packet.specs.Packet.{packet_value};
 ghost use Rattle.cf_rebuild.specs.ReceiveWindow.{IsWindow};
 ghost use Rattle.cf_stream.specs.Stream.{Stream};
-ghost use Rattle.cf_leg.specs.Calls.{GreetingBreaks, window_by, Greeted, IsOwn, greeted_as, greeting_of, leg_opened, queue_opened};
+ghost use Rattle.cf_leg.specs.Calls.{window_by, Greeted, IsOwn, greeted_as, greeting_of, leg_opened, queue_opened};
 ghost use Rattle.cf_leg.specs.Emits.{send_mss};
 ghost use Rattle.cf_leg.specs.Emitted.{BreaksOff, with_segment};
 ghost use Rattle.cf_leg.specs.LegValue.{IsLeg};
@@ -45,16 +45,14 @@ impl Leg {
         requires number { IsOwn self.old.ends.role own_seq }
         requires whole { DeskValue.whole (D.value desk.old) ≡ true }
         requires moment { now < 2 ^ 32 * 1000000 }
-        ensures ends { OnOk result (self.new.ends ≡ self.old.ends) }
-        ensures number { OnOk result (self.new.own ≡ own_seq) }
-        ensures window { OnOk result (self.new.window ≡ window_by self.old.ends.role self.old.window) }
-        ensures greeted { OnOk result (Greeted now self.old self.new (DeskValue.packets (D.value desk.old)) (DeskValue.packets (D.value desk.new))) }
-        ensures broken { OnErr result (GreetingBreaks now own_seq self.old (D.value desk.old) (D.value desk.new)) }
+        ensures ends { self.new.ends ≡ self.old.ends }
+        ensures number { self.new.own ≡ own_seq }
+        ensures window { self.new.window ≡ window_by self.old.ends.role self.old.window }
+        ensures greeted { Greeted now own_seq self.old self.new (D.value desk.old) (D.value desk.new) (is_err result) }
         ensures frame { OnlyEmits (D.value desk.old) (D.value desk.new) (is_err result) }
     {
         self.begin(now, own_seq);
-        self.send_greeting(now, desk)?;
-        Ok(())
+        self.send_greeting(now, desk)
     }
 
     /// Sends the SYN or the SYN ACK.
