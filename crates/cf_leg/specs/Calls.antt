@@ -96,20 +96,24 @@ oldest leg q whole =
     then segment (way_at leg) (told_of leg) (sequence_number leg.own q.acked) (piece whole leg.mss q.sent q.acked)
     else segment (way_at leg) (told_of leg) ((leg.own + q.acked) % 2 ^ 32) no_letters
 
-pub record SendsOldest (leg : LegValue) (queue : Queue) (now : ℕ) (given : ClockAnswer) (before after : Option (List SentValue)) : Type 0 where
+-- that went out, or the desk failed amid it
+pub record SendsOldest (leg : LegValue) (queue : Queue) (now : ℕ) (before after : DeskValue) (failed : Bool) : Type 0 where
   pub out : PacketValue
-  pub packets : after ≡ with_segment before now out
+  pub gets : GetsSegments failed now (out ∷ []) before after
   pub is : (whole : Stream) → IsQueueOf queue whole → out ≡ oldest leg queue whole
-  pub answer : given ≡ (if nat_lt queue.acked queue.sent then answers.Repeated else answers.Probed)
 
--- what was sent last went out again
-pub record SendsAgain (leg : LegValue) (queue : Queue) (now : ℕ) (given : ClockAnswer) (before after : Option (List SentValue)) : Type 0 where
+abbrev pub answer_oldest : Queue → ClockAnswer
+answer_oldest queue = if nat_lt queue.acked queue.sent then answers.Repeated else answers.Probed
+
+-- what was sent last went out again, or the desk failed amid it
+pub record SendsAgain (leg : LegValue) (queue : Queue) (now : ℕ) (before after : DeskValue) (failed : Bool) : Type 0 where
   pub out : PacketValue
-  pub packets : after ≡ with_segment before now out
+  pub gets : GetsSegments failed now (out ∷ []) before after
   pub open_is : is_open leg.phase ≡ true → (whole : Stream) → IsQueueOf queue whole → out ≡ oldest leg queue whole
-  pub open_answer : is_open leg.phase ≡ true → given ≡ (if nat_lt queue.acked queue.sent then answers.Repeated else answers.Probed)
   pub first_is : is_open leg.phase ≡ false → out ≡ greeting_of leg
-  pub first_answer : is_open leg.phase ≡ false → given ≡ answers.Repeated
+
+abbrev pub answer_again : LegValue → Queue → ClockAnswer
+answer_again leg queue = if is_open leg.phase then answer_oldest queue else answers.Repeated
 
 -- the leg fires
 abbrev pub is_due : LegValue → ℕ → Bool
@@ -318,18 +322,6 @@ pub record SpeechBreaks (roomy : Bool) (now : ℕ) (ends : Ends) (e : LegEvent) 
 abbrev pub SpeakingBreaks : Bool → ℕ → LegValue → Queue → DeskValue → DeskValue → Type 0
 SpeakingBreaks roomy now old queue before after = (e : LegEvent) (es : List LegEvent) (whole : Stream) → now ≡ moment e
     → IsLegOf old (marks queue) (record e { ending = Unspoken } ∷ es) → IsQueueOf queue whole → SpeechBreaks roomy now old.ends e es whole before after
-
--- the oldest letters or a probe; what was sent last
-pub record OldestBreaks (leg : LegValue) (queue : Queue) (now : ℕ) (before after : DeskValue) : Type 0 where
-  pub out : PacketValue
-  pub breaks : BreaksOff now (out ∷ []) before after
-  pub is : (whole : Stream) → IsQueueOf queue whole → out ≡ oldest leg queue whole
-
-pub record AgainBreaks (leg : LegValue) (queue : Queue) (now : ℕ) (before after : DeskValue) : Type 0 where
-  pub out : PacketValue
-  pub breaks : BreaksOff now (out ∷ []) before after
-  pub open_is : is_open leg.phase ≡ true → (whole : Stream) → IsQueueOf queue whole → out ≡ oldest leg queue whole
-  pub first_is : is_open leg.phase ≡ false → out ≡ greeting_of leg
 
 -- the repeat or the probe of a clock call
 pub record ClockBreaks (now : ℕ) (leg : LegValue) (queue : Queue) (before after : DeskValue) : Type 0 where

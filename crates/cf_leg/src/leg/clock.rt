@@ -1,7 +1,7 @@
 //! The retransmission timer of an end.
-ghost use Rattle.std.specs.Prelude.{◌≡◌, ◌+◌, ◌-◌, ◌*◌, ◌%◌, ◌^◌, ◌<◌, ◌≤◌, ◌==◌, min, not, nat_lt, ◌&&◌, ◌||◌, if◌then◌else◌, true, [], ◌∷◌, None, Some, Ok, IfOk, OnErr, OnOk, ◌≤ℤ◌, ◌+ℤ◌};
+ghost use Rattle.std.specs.Prelude.{◌≡◌, ◌+◌, ◌-◌, ◌*◌, ◌%◌, ◌^◌, ◌<◌, ◌≤◌, ◌==◌, min, not, nat_lt, ◌&&◌, ◌||◌, if◌then◌else◌, true, [], ◌∷◌, None, Some, Ok, IfOk, OnErr, OnOk, ◌≤ℤ◌, ◌+ℤ◌, false};
 ghost use Rattle.cf_rebuild.specs.ReceiveWindow.{IsWindow, base_of};
-ghost use Rattle.cf_leg.specs.Calls.{AgainBreaks, ClockBreaks, OldestBreaks, Clocked, SendsAgain, SendsOldest, due_of, is_due};
+ghost use Rattle.cf_leg.specs.Calls.{ClockBreaks, Clocked, SendsAgain, SendsOldest, answer_again, answer_oldest, due_of, is_due};
 ghost use Rattle.cf_leg.specs.Timer.{backoff};
 ghost use Rattle.cf_leg.specs.LegValue.{IsLeg, is_open};
 ghost use Rattle.cf_outside.specs.Desk.{DeskValue};
@@ -29,8 +29,8 @@ impl Leg {
         requires base { base_of self.now.window ≤ 2 ^ 30 + 16384 }
         requires whole { DeskValue.whole (D.value desk.old) ≡ true }
         requires moment { now < 2 ^ 32 * 1000000 }
-        ensures sends { IfOk result (λ answer. SendsOldest self.now queue.now now answer (DeskValue.packets (D.value desk.old)) (DeskValue.packets (D.value desk.new))) }
-        ensures broken { OnErr result (OldestBreaks self.now queue.now now (D.value desk.old) (D.value desk.new)) }
+        ensures sends { IfOk result (λ answer. SendsOldest self.now queue.now now (D.value desk.old) (D.value desk.new) false × (answer ≡ answer_oldest queue.now)) }
+        ensures broken { OnErr result (SendsOldest self.now queue.now now (D.value desk.old) (D.value desk.new) true) }
         ensures frame { OnlyEmits (D.value desk.old) (D.value desk.new) (is_err result) }
     {
         let told = self.told();
@@ -60,8 +60,8 @@ impl Leg {
         requires moment { now < 2 ^ 32 * 1000000 }
         ensures bounds { IsLeg self.now }
         ensures window { IsWindow self.now.window }
-        ensures sends { IfOk result (λ answer. SendsAgain self.now queue.now now answer (DeskValue.packets (D.value desk.old)) (DeskValue.packets (D.value desk.new))) }
-        ensures broken { OnErr result (AgainBreaks self.now queue.now now (D.value desk.old) (D.value desk.new)) }
+        ensures sends { IfOk result (λ answer. SendsAgain self.now queue.now now (D.value desk.old) (D.value desk.new) false × (answer ≡ answer_again self.now queue.now)) }
+        ensures broken { OnErr result (SendsAgain self.now queue.now now (D.value desk.old) (D.value desk.new) true) }
         ensures frame { OnlyEmits (D.value desk.old) (D.value desk.new) (is_err result) }
     {
         let _told = self.told();
