@@ -33,7 +33,7 @@ one_passes p xs y h = passing p xs y [] h
 -- ---- an element at a place, among those that pass
 
 module _ (p : Session → Bool) (keeps : (s : Session) (es : List SessionEvent) → p (record s { events = es }) ≡ p s) where
-  -- those that pass before it and behind it
+  -- those that pass before it and after it
   pub record Around (xs : List Session) (i : ℕ) (y : Session) : Type 0 where
     pub front : List Session
     pub back : List Session

@@ -1,11 +1,11 @@
--- What a call that writes leaves of a desk beside what it puts there. The main definitions are `OnlyEmits`, `OnlyLogs` and
--- `EmitsAndLogs`. This project's own.
+-- Steps of the proof: what a call that writes leaves of a desk beside what it puts there: `OnlyEmits`, `OnlyLogs` and
+-- `EmitsAndLogs`.
 use Rattle.std.specs.Prelude.{◌≡◌, Bool, true, false}
 use Rattle.cf_outside.specs.Desk.{DeskValue, KeepsDesk}
 use Rattle.cf_outside.specs.Faults.{HasCause}
 
--- packets were emitted and lines put, perhaps none: where the desk did not fail it is whole, and behind its last whole packet and
--- its last whole line nothing new stands; a failure has its cause
+-- packets were emitted and lines put, perhaps none: where the desk did not fail it is whole, and nothing new stands after its last
+-- whole packet and its last whole line; a failure has its cause
 pub record EmitsAndLogs (old new : DeskValue) (failed : Bool) : Type 0 where
   pub packet_part : failed ≡ false → new.packet_part ≡ old.packet_part
   pub line_part : failed ≡ false → new.line_part ≡ old.line_part

@@ -110,7 +110,7 @@ taken_of : (ends : Ends) (leg : LegValue) (q : Queue) (events : List LegEvent) �
 taken_of ends leg q events s =
     (s.stands.of_window.taken, subst (λ (n : Ends). IsTaken (first_copy (offers n.role events)) s.stands.of_window.taken) s.is s.stands.of_window.is_taken)
 
--- where the client may be greeted, it can speak behind that
+-- where the client may be greeted, it can speak after that
 pub can_answer : (f : Flow) (number : Option ℕ) (leg : LegValue) (q : Queue) (e : LegEvent) (es : List LegEvent) (whole : Stream) (roomy : Bool) → MayGreet number e es → IsLegBetween (client_ends f) leg q (record e { ending = Unspoken } ∷ es) →
     (outs : List PacketValue) × IsRight (client_ends f) es (record e { came = came_greeted f number e.came; ending = Spoke whole roomy outs })
 can_answer f number leg q e es whole roomy may s =

@@ -23,7 +23,7 @@ pub on_err : {T E : Type 0} (r : Result T E) {P : Type 0} → P → OnErr r P
 on_err (Ok x) h = tt
 on_err (Err e) h = h
 
--- ---- what stands behind the last whole packet or line
+-- ---- what stands after the last whole packet or line
 
 -- a beginning of octets is one of more octets
 pub part_longer : (next more was now : List ℕ) → IsPartOf next was now → IsPartOf (next ++ more) was now
@@ -37,7 +37,7 @@ part_longer next more was now (inr (some, is)) =
 octets-append : (octets : SentValue → List ℕ) (a b : List Sent) → octets_of octets (a ++ b) ≡ octets_of octets a ++ octets_of octets b
 octets-append octets a b = flat_map-append (λ (s : Sent). octets (emitted s)) a b
 
--- ---- amid packets and lines, and others behind and before them
+-- ---- amid packets and lines, and others after and before them
 
 pub amid_before : (a b : List Sent) (x y : List (List ℕ)) (old new : DeskValue) → BreaksAmid a x old new → BreaksAmid (a ++ b) (x ++ y) old new
 amid_before a b x y old new h = record {

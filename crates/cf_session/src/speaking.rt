@@ -95,6 +95,7 @@ impl Session {
         ensures same { (SessionValue.limit self.new ≡ SessionValue.limit self.old) × (SessionValue.source self.new ≡ SessionValue.source self.old) }
         ensures frame { EmitsAndLogs (D.value desk.old) (D.value desk.new) (is_err result) }
     {
+        // The fact: both windows keep their bounds.
         let _ended = (has_ended(&self.client), has_ended(&self.controller));
         let roomy = is_roomy(&self.to_client, &self.to_controller);
         self.controller

@@ -64,6 +64,7 @@ impl Leg {
         ensures broken { OnErr result (SendsAgain self.now queue.now now (D.value desk.old) (D.value desk.new) true) }
         ensures frame { OnlyEmits (D.value desk.old) (D.value desk.new) (is_err result) }
     {
+        // The fact: the window and what was told keep their bounds.
         let _told = self.told();
         if self.is_open() {
             return self.send_oldest(now, queue, desk);
@@ -132,6 +133,7 @@ impl Leg {
         if self.is_spent() {
             return Ok(ClockAnswer::NoAnswer);
         }
+        // The fact: the marks of the queue stand in their order.
         let _acked = acked_of(queue);
         let answer = self.send_again(now, queue, desk)?;
         self.fire(now);
