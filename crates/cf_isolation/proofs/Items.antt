@@ -1,55 +1,25 @@
 -- The moments of the items by which a history goes on.
 use Rattle.std.proofs.Common.{◌≡◌, ℕ, zero, suc, Bool, true, false, List, [], ◌∷◌, ◌++◌, map, refl, sym, ap, ◌∙◌, subst}
 use Rattle.std.specs.List.{AllByRecursion}
-use Rattle.std.proofs.lemmas.List.{append_cancel_left}
 use Rattle.cf_lane.proofs.Earlier.{in_turn-append}
 use Rattle.cf_lane.proofs.Growth.{further, items_split}
+use Rattle.cf_lane.proofs.Judgements.{one_items}
 use Rattle.cf_lane.proofs.Units.{free_unit}
 use Rattle.cf_lane.specs.Follows.{AreJudged}
-use Rattle.cf_lane.specs.History.{Element, bytes_of}
-use Rattle.cf_lane.specs.Item.{AreItems, Broke, Completes, Ended, Item, Placed, Took, last_after, placed}
+use Rattle.cf_lane.specs.History.{Element}
+use Rattle.cf_lane.specs.Item.{AreItems, Broke, Ended, Item, Placed, Took, placed}
 use Rattle.cf_lane.specs.Judged.{Judged, place_of}
 use Rattle.cf_lane.specs.Log.{command_octets, end_lines, has_unfinished, is_some_bytes, item_lines, line_about, lines, refusal_line, unit_lines}
 use Rattle.cf_lane.specs.Output.{output}
-use Rattle.cf_lane.specs.Unit.{AreUnits, Left, SpellsUnit, Tail, UnitValue, Wrong, unit_break}
 use Rattle.cf_lane.specs.declared.fate.Fate.{Fate}
 use Rattle.cf_lane.specs.declared.fate.Fate.TheVariants as fate
 use Rattle.cf_audit.specs.Line.{Partial, Stray, WhatValue}
 use Rattle.cf_policy.specs.declared.Asset.{Asset}
 use Rattle.cf_policy.specs.declared.Protocol.{Protocol}
-use Rattle.cf_view.proofs.Units.{one_units_then_break, one_units_then_rest, rest_not_break}
-use Rattle.cf_view.specs.Framing.{IsPrefixFree}
 use Rattle.cf_view.specs.declared.Endpoint.{Endpoint}
 use Rattle.cf_view.specs.declared.Side.{Side}
 use Rattle.cf_view.specs.declared.Side.TheVariants as side
 use Rattle.cf_isolation.proofs.Lists.{all_both, all_front}
-
--- ---- a history has one list of items
-
-module _ (p : Protocol) (free : IsPrefixFree (SpellsUnit p)) where
-  one_units : (us vs : List UnitValue) (xs : List ℕ) (t u : Tail) → AreUnits p xs us t → AreUnits p xs vs u → (us ≡ vs) × (t ≡ u)
-  one_units us vs xs (Left a) (Left b) x y = let same = one_units_then_rest (SpellsUnit p) free us vs xs a b x y in (same.0, ap Left same.1)
-  one_units us vs xs (Left a) (Wrong b) x y = absurd (rest_not_break (SpellsUnit p) free us vs xs a y.0 x y.1)
-  one_units us vs xs (Wrong a) (Left b) x y = absurd (rest_not_break (SpellsUnit p) free vs us xs b x.0 y x.1)
-  one_units us vs xs (Wrong a) (Wrong b) x y =
-      let same = one_units_then_break (SpellsUnit p) free us vs xs x.0 y.0 x.1 y.1 in
-      (same.0, ap Wrong (x.2 ∙ ap (unit_break p) same.1 ∙ sym y.2))
-
-  one_completes : (earlier : List Element) (e : Element) (is ks : List Placed) → Completes p earlier e is → Completes p earlier e ks → is ≡ ks
-  one_completes earlier e is ks c d =
-      let were = one_units c.before d.before (bytes_of e.side earlier) c.was d.was c.were d.were in
-      let are = one_units (c.before ++ c.more) (d.before ++ d.more) (bytes_of e.side (earlier ++ e ∷ [])) c.tail d.tail c.are d.are in
-      let more : c.more ≡ d.more = append_cancel_left d.before c.more d.more (ap (λ us. us ++ c.more) (sym were.0) ∙ are.0) in
-      c.is_items ∙ ap (λ us. map (placed e.moment) (map (Took e.side) us ++ last_after c.was e.side e.letters.ended c.tail)) more
-      ∙ ap (λ t. map (placed e.moment) (map (Took e.side) d.more ++ last_after c.was e.side e.letters.ended t)) are.1
-      ∙ ap (λ t. map (placed e.moment) (map (Took e.side) d.more ++ last_after t e.side e.letters.ended d.tail)) were.1 ∙ sym d.is_items
-
-  one_items : (earlier later : List Element) (is ks : List Placed) → AreItems p earlier later is → AreItems p earlier later ks → is ≡ ks
-  one_items earlier [] is ks a b = a ∙ sym b
-  one_items earlier (e ∷ later) is ks a b =
-      let now = one_completes earlier e a.0 b.0 a.2 b.2 in
-      let next = one_items (earlier ++ e ∷ []) later a.1 b.1 a.3 b.3 in
-      a.4 ∙ ap (λ xs. xs ++ a.1) now ∙ ap (λ xs. b.0 ++ xs) next ∙ sym b.4
 
 -- ---- moments
 

@@ -11,23 +11,9 @@ use Rattle.cf_run.specs.Isolation.{ticks_of}
 use Rattle.cf_run.specs.Sessions.{session_at}
 use Rattle.cf_run.specs.Table.{Session, is_between, place_of}
 use Rattle.cf_run.specs.Trace.{AreTicks, replaced, with_event_at, with_events}
-use Rattle.cf_isolation.proofs.Lists.{filter_both}
+use Rattle.cf_run.proofs.Pairs.{none_there}
 
 -- ---- filters
-
-filter_same : {A : Type 0} (p q : A → Bool) → ((x : A) → p x ≡ q x) → (xs : List A) → filter p xs ≡ filter q xs
-filter_same p q h [] = refl
-filter_same p q h (x ∷ xs) = ap (λ b. cond b (x ∷ filter p xs) (filter p xs)) (h x) ∙ ap (λ l. cond (q x) (x ∷ l) l) (filter_same p q h xs)
-
-and_swap : (a b : Bool) → (a && b) ≡ (b && a)
-and_swap true true = refl
-and_swap true false = refl
-and_swap false true = refl
-and_swap false false = refl
-
--- two filters in either order
-pub filter_swap : {A : Type 0} (p q : A → Bool) (xs : List A) → filter p (filter q xs) ≡ filter q (filter p xs)
-filter_swap p q xs = sym (filter_both q p xs) ∙ filter_same (λ x. q x && p x) (λ x. p x && q x) (λ x. and_swap (q x) (p x)) xs ∙ filter_both p q xs
 
 pub filter_one : {A : Type 0} (p : A → Bool) (b : Bool) (x : A) → p x ≡ b → filter p (x ∷ []) ≡ cond b (x ∷ []) []
 filter_one p b x e = ap (λ c. cond c (x ∷ []) []) e
@@ -43,27 +29,6 @@ passing p (x ∷ xs) y ys h = by (λ e. passing p xs y ys e) (p x) refl h
 
 pub one_passes : {A : Type 0} (p : A → Bool) (xs : List A) (y : A) → filter p xs ≡ y ∷ [] → p y ≡ true
 one_passes p xs y h = passing p xs y [] h
-
--- none passes where none is first
-past_none : {A : Type 0} (p : A → Bool) (xs : List A) → nat_lt (position_or_len p xs) (length xs) ≡ false → filter p xs ≡ []
-past_none p [] h = refl
-past_none p (x ∷ xs) h = by (λ e. past_none p xs e) (p x) refl h
-  where
-    by : (nat_lt (position_or_len p xs) (length xs) ≡ false → filter p xs ≡ []) → (b : Bool) → p x ≡ b → nat_lt (position_or_len p (x ∷ xs)) (length (x ∷ xs)) ≡ false → filter p (x ∷ xs) ≡ []
-    by more true e g =
-        let first : nat_lt (cond (not true) (1 + position_or_len p xs) 0) (length (x ∷ xs)) ≡ false = subst (λ b. nat_lt (cond (not b) (1 + position_or_len p xs) 0) (length (x ∷ xs)) ≡ false) e g in
-        let yes : nat_lt 0 (length (x ∷ xs)) ≡ true = grind (arith, nat_tests) in
-        absurd (true≢false (sym yes ∙ first))
-    by more false e g =
-        let rest : nat_lt (1 + position_or_len p xs) (length (x ∷ xs)) ≡ false = subst (λ b. nat_lt (cond (not b) (1 + position_or_len p xs) 0) (length (x ∷ xs)) ≡ false) e g in
-        ap (λ b. cond b (x ∷ filter p xs) (filter p xs)) e ∙ more (grind (arith, nat_tests, rest))
-
-pub none_first : {A : Type 0} (p : A → Bool) (xs : List A) → position p xs ≡ None → filter p xs ≡ []
-none_first p xs h = past_none p xs (by _ refl h)
-  where
-    by : (b : Bool) → nat_lt (position_or_len p xs) (length xs) ≡ b → cond b (Some (position_or_len p xs)) None ≡ None → nat_lt (position_or_len p xs) (length xs) ≡ false
-    by true e g = cc
-    by false e g = e
 
 -- ---- an element at a place, among those that pass
 
@@ -115,26 +80,6 @@ module _ (client asset : Endpoint) where
   pub around_theirs : (xs : List Session) (i : ℕ) (y : Session) → slice_get xs i ≡ Some y → Around (is_between client asset) (λ s es. refl) xs i y
   around_theirs xs i y h = around (is_between client asset) (λ s es. refl) xs i y h
 
-  pub ticks_are : (tick : ℕ) (ss : List Session) (ts : List SessionEvent) → AreTicks tick ss ts → AreTicks tick (theirs ss) (ticks_of client asset ss ts)
-  ticks_are tick [] ts are = refl
-  ticks_are tick (s ∷ ss) [] are = absurd are
-  ticks_are tick (s ∷ ss) (t ∷ ts) are =
-      let more = ticks_are tick ss ts are.1 in
-      let F = theirs ss in
-      let T = ticks_of client asset ss ts in
-      elim (is_between client asset s) as (λ b. AreTicks tick (cond b (s ∷ F) F) (cond b (t ∷ T) T)) [ true ↦ (are.0, more) | false ↦ more ]
-
-  pub next_are : (tick : ℕ) (ss : List Session) (ts : List SessionEvent) → AreTicks tick ss ts → theirs (with_events ss ts) ≡ with_events (theirs ss) (ticks_of client asset ss ts)
-  next_are tick [] ts are = refl
-  next_are tick (s ∷ ss) [] are = absurd are
-  next_are tick (s ∷ ss) (t ∷ ts) are =
-      let more = next_are tick ss ts are.1 in
-      let new : Session = record s { events = t ∷ s.events } in
-      let N = theirs (with_events ss ts) in
-      let F = theirs ss in
-      let T = ticks_of client asset ss ts in
-      elim (is_between client asset s) as (λ b. cond b (new ∷ N) N ≡ with_events (cond b (s ∷ F) F) (cond b (t ∷ T) T)) [ true ↦ ap (λ l. new ∷ l) more | false ↦ more ]
-
   -- ---- the session that gives way to a new one
 
   -- at a place of the table, what stands there and what is left without it
@@ -156,7 +101,7 @@ module _ (client asset : Endpoint) where
 
   -- the one of theirs, where there is one at most
   gives_theirs : (table : List Session) (y : Session) (place : Option ℕ) → position (is_between client asset) table ≡ place → theirs table ≡ y ∷ [] → GivesWay table place (y ∷ []) []
-  gives_theirs table y None e h = let none = none_first (is_between client asset) table e in absurd (never (sym h ∙ none))
+  gives_theirs table y None e h = let none = none_there (is_between client asset) table e in absurd (never (sym h ∙ none))
     where
       never : y ∷ [] ≡ [] → ⊥
       never k = cc

@@ -19,7 +19,8 @@ use Rattle.cf_isolation.specs.Lives.{born_at}
 use Rattle.cf_isolation.proofs.Lists.{all_map}
 use Rattle.cf_isolation.proofs.Order.{IsWithin, Moves, born, comes, grows, stays_so}
 use Rattle.cf_isolation.proofs.Tables.{same_is}
-use Rattle.cf_isolation.proofs.Theirs.{filter_one, filter_swap, next_are, none_changes, none_gives, other_changes, other_gives, own_changes, own_gives, ticks_are}
+use Rattle.cf_run.proofs.Pairs.{filter_swap, next_are, ticks_are}
+use Rattle.cf_isolation.proofs.Theirs.{filter_one, none_changes, none_gives, other_changes, other_gives, own_changes, own_gives}
 
 pub data AtMostOne (ss : List Session) : Type 0 where
   none_there : ss ≡ [] → AtMostOne ss

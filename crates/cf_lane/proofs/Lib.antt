@@ -18,7 +18,7 @@ pub mod Growth
 mod Handling
 mod Histories
 mod Holding
-mod Judgements
+pub mod Judgements
 mod LineFeeds
 mod Moments
 mod Pieces

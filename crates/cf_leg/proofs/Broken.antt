@@ -1,6 +1,6 @@
 -- Calls that the desk broke off.
 use Rattle.std.proofs.Common.{◌≡◌, ℕ, ◌+◌, ◌<◌, ◌≤◌, min, Bool, true, false, cond, not, ◌&&◌, List, [], ◌∷◌, ◌++◌, Option, Some, Result, Ok, Err, refl, sym, ◌∙◌, ap, subst, arith, append_assoc, lt-ltb, inl, inr}
-use Rattle.std.specs.Prelude.{MatchBool, OnErr, nat_lt}
+use Rattle.std.specs.Prelude.{MatchBool, OnErr, OnOk, is_err, nat_lt}
 use Rattle.std.proofs.lemmas.Bool.{false≢true, ltb-false}
 use Rattle.cf_outside.specs.Desk.{Adds, DeskValue, SentValue}
 use Rattle.cf_outside.specs.declared.files.WriteAnswer.TheVariants as write
@@ -11,7 +11,7 @@ use Rattle.cf_stream.specs.Position.{place_or_zero, sequence_number}
 use Rattle.cf_stream.specs.Stream.{Stream, letter_count, no_letters}
 use Rattle.cf_leg.specs.Calls.{NewBreaks, PieceBreaks, SayingBreaks, SendsNew, SendsSome}
 use Rattle.cf_leg.specs.Emits.{Pieces}
-use Rattle.cf_leg.specs.Emitted.{BeginsNext, BreaksOff, spelled, with_segment, with_segments}
+use Rattle.cf_leg.specs.Emitted.{BeginsNext, BreaksOff, GetsSegments, spelled, with_segment, with_segments}
 use Rattle.cf_leg.specs.Segment.{segment}
 use Rattle.cf_leg.specs.declared.ends.Told.{Told}
 use Rattle.cf_leg.specs.declared.ends.Way.{Way}
@@ -22,6 +22,11 @@ use Rattle.cf_leg.proofs.Pieces.{count_is, goes_on}
 pub on_err : {T E : Type 0} (r : Result T E) {P : Type 0} → P → OnErr r P
 on_err (Ok x) h = tt
 on_err (Err e) h = h
+
+-- as much of one segment as a call says
+pub gets_by : {T E : Type 0} (r : Result T E) (now : ℕ) (p : PacketValue) (old new : DeskValue) → OnOk r (new.packets ≡ with_segment old.packets now p) → OnErr r (BreaksOff now (p ∷ []) old new) → GetsSegments (is_err r) now (p ∷ []) old new
+gets_by (Ok x) now p old new all broken = all
+gets_by (Err e) now p old new all broken = broken
 
 -- one segment
 pub broken_one : (now : ℕ) (p : PacketValue) (old new : DeskValue)

@@ -13,9 +13,8 @@ use Rattle.cf_stream.specs.Stream.{Stream, letter_count, no_letters}
 use Rattle.cf_leg.proofs.Speech.{told_segment, segment_letters, position_ahead, position_behind, piece_short}
 use Rattle.cf_leg.proofs.Spoken.{parts_told}
 use Rattle.cf_outside.specs.Desk.{DeskValue, SentValue}
-use Rattle.cf_leg.specs.Calls.{AgainBreaks, AreQuietBeforeDue, ClockBreaks, Clocked, SendsAgain, greeting_as, greeting_of, oldest, is_due}
+use Rattle.cf_leg.specs.Calls.{AreQuietBeforeDue, ClockBreaks, Clocked, SendsAgain, answer_again, answer_oldest, greeting_as, greeting_of, oldest, is_due}
 use Rattle.cf_leg.specs.Emits.{AllRight, Greets, IsGreeting, fired_at, again, repeats, repeat_open, piece, way_of, send_mss, peer_mss, mss_in, syn, syn_ack_for}
-use Rattle.cf_leg.specs.Emitted.{with_segment}
 use Rattle.cf_leg.specs.Event.{Came, Nothing, Greeting, Packet, Ending, Unspoken, Spoke, Cut, LegEvent, clocked, stream_after, is_settled}
 use Rattle.cf_leg.specs.Heard.{opened, acked}
 use Rattle.cf_leg.specs.Segment.{segment}
@@ -253,8 +252,8 @@ spent_of leg q now before k m = record {
       ∙ ap (λ (b : Bool). cond (not b) answers.NoAnswer (cond (opened leg.ends.role es && not (nat_lt (acked leg.ends.role es) (letters_sent leg.ends.role es))) answers.Probed answers.Repeated)) m);
 }
 
-module _ (leg : LegValue) (i : IsLeg leg) (w : IsWindow leg.window) (q : Queue) (iq : IsQueue q) (now : ℕ) (given : ClockAnswer) (before after : Option (List SentValue))
-    (k : is_due leg now ≡ true) (m : nat_lt leg.fired 6 ≡ true) (a : SendsAgain leg q now given before after)
+module _ (leg : LegValue) (i : IsLeg leg) (w : IsWindow leg.window) (q : Queue) (iq : IsQueue q) (now : ℕ) (before after : DeskValue) (failed : Bool)
+    (k : is_due leg now ≡ true) (m : nat_lt leg.fired 6 ≡ true) (a : SendsAgain leg q now before after failed)
     (es : List LegEvent) (st : is_settled es ≡ true) (h : IsLegOf leg (marks q) es) (s : IsQueueOf q (stream_after es)) where
   fires_now : fires leg.ends.role es (clocked now (a.out ∷ [])) ≡ true
   fires_now = fires_is leg q now es st h (a.out ∷ []) ∙ k
@@ -311,55 +310,42 @@ module _ (leg : LegValue) (i : IsLeg leg) (w : IsWindow leg.window) (q : Queue) 
       (again_is ∙ sym (ap (λ (b : Bool). cond (b && nat_lt (tries leg.ends.role es) 6) (repeats leg.ends es) []) fires_now ∙ ap (λ (b : Bool). cond b (repeats leg.ends es) []) few))
       out_tells out_carries (ap (λ (n : ℕ). now + backoff (n + 1)) h.of_fired) (ap (λ (n : ℕ). n + 1) h.of_fired)
 
-  given_is : given ≡ cond (opened leg.ends.role es && not (nat_lt (acked leg.ends.role es) (letters_sent leg.ends.role es))) answers.Probed answers.Repeated
+  given_is : answer_again leg q ≡ cond (opened leg.ends.role es && not (nat_lt (acked leg.ends.role es) (letters_sent leg.ends.role es))) answers.Probed answers.Repeated
   given_is =
       elim (cases_Bool (is_open leg.phase)) [
-        | inl o ↦ a.open_answer o ∙ ap (λ (n : ℕ). cond (nat_lt n q.sent) answers.Repeated answers.Probed) h.of_acked ∙ ap (λ (n : ℕ). cond (nat_lt (acked leg.ends.role es) n) answers.Repeated answers.Probed) h.of_sent
+        | inl o ↦ ap (λ (b : Bool). cond b (answer_oldest q) answers.Repeated) o ∙ ap (λ (n : ℕ). cond (nat_lt n q.sent) answers.Repeated answers.Probed) h.of_acked ∙ ap (λ (n : ℕ). cond (nat_lt (acked leg.ends.role es) n) answers.Repeated answers.Probed) h.of_sent
             ∙ turn (nat_lt (acked leg.ends.role es) (letters_sent leg.ends.role es))
             ∙ sym (ap (λ (b : Bool). cond (b && not (nat_lt (acked leg.ends.role es) (letters_sent leg.ends.role es))) answers.Probed answers.Repeated) (sym opened_is ∙ o))
-        | inr o ↦ a.first_answer o ∙ sym (ap (λ (b : Bool). cond (b && not (nat_lt (acked leg.ends.role es) (letters_sent leg.ends.role es))) answers.Probed answers.Repeated) (sym opened_is ∙ o))
+        | inr o ↦ ap (λ (b : Bool). cond b (answer_oldest q) answers.Repeated) o ∙ sym (ap (λ (b : Bool). cond (b && not (nat_lt (acked leg.ends.role es) (letters_sent leg.ends.role es))) answers.Probed answers.Repeated) (sym opened_is ∙ o))
       ]
     where
       turn : (b : Bool) → cond b answers.Repeated answers.Probed ≡ cond (not b) answers.Probed answers.Repeated
       turn true = refl
       turn false = refl
 
-  pub again_answer : given ≡ clock_answer leg.ends.role es (clocked now (a.out ∷ []))
+  pub again_answer : answer_again leg q ≡ clock_answer leg.ends.role es (clocked now (a.out ∷ []))
   again_answer = given_is
       ∙ sym (ap (λ (b : Bool). cond (not b) answers.Quiet (cond (not (nat_lt (tries leg.ends.role es) 6)) answers.NoAnswer (cond (opened leg.ends.role es && not (nat_lt (acked leg.ends.role es) (letters_sent leg.ends.role es))) answers.Probed answers.Repeated))) fires_now
       ∙ ap (λ (b : Bool). cond (not b) answers.NoAnswer (cond (opened leg.ends.role es && not (nat_lt (acked leg.ends.role es) (letters_sent leg.ends.role es))) answers.Probed answers.Repeated)) few)
 
-pub again_of : (leg new : LegValue) (q : Queue) (now : ℕ) (given : ClockAnswer) (before after : Option (List SentValue)) → IsLeg leg → IsWindow leg.window → IsQueue q
-    → is_due leg now ≡ true → nat_lt leg.fired 6 ≡ true → SendsAgain leg q now given before after
-    → new ≡ record leg { fired = leg.fired + 1; deadline = now + backoff (leg.fired + 1) } → Clocked now leg new q given before after
-again_of leg new q now given before after i w iq k m a is = record {
+pub again_of : (leg new : LegValue) (q : Queue) (now : ℕ) (given : ClockAnswer) (before after : DeskValue) → IsLeg leg → IsWindow leg.window → IsQueue q
+    → is_due leg now ≡ true → nat_lt leg.fired 6 ≡ true → SendsAgain leg q now before after false → given ≡ answer_again leg q
+    → new ≡ record leg { fired = leg.fired + 1; deadline = now + backoff (leg.fired + 1) } → Clocked now leg new q given before.packets after.packets
+again_of leg new q now given before after i w iq k m a answer is = record {
   outs = a.out ∷ [];
-  packets = a.packets;
-  stands = λ es st h s. subst (λ (l : LegValue). IsLegOf l (marks q) (clocked now (a.out ∷ []) ∷ es)) (sym is) (again_stands leg i w q iq now given before after k m a es st h s);
-  answer = λ es st h s. again_answer leg i w q iq now given before after k m a es st h s;
+  packets = a.gets;
+  stands = λ es st h s. subst (λ (l : LegValue). IsLegOf l (marks q) (clocked now (a.out ∷ []) ∷ es)) (sym is) (again_stands leg i w q iq now before after false k m a es st h s);
+  answer = λ es st h s. answer ∙ again_answer leg i w q iq now before after false k m a es st h s;
 }
 
 -- the repeat of an end whose desk broke it off is right all the same
 pub clock_breaks : (leg : LegValue) (q : Queue) (now : ℕ) (before after : DeskValue) → IsLeg leg → IsWindow leg.window → IsQueue q
-    → is_due leg now ≡ true → nat_lt leg.fired 6 ≡ true → AgainBreaks leg q now before after → ClockBreaks now leg q before after
+    → is_due leg now ≡ true → nat_lt leg.fired 6 ≡ true → SendsAgain leg q now before after true → ClockBreaks now leg q before after
 clock_breaks leg q now before after i w iq k m a = record {
   out = a.out;
-  breaks = a.breaks;
-  right = λ es st h s. (again_stands leg i w q iq now given before.packets (with_segment before.packets now a.out) k m sends es st h s).of_right.0;
+  breaks = a.gets;
+  right = λ es st h s. (again_stands leg i w q iq now before after true k m a es st h s).of_right.0;
 }
-  where
-    given : ClockAnswer
-    given = cond (is_open leg.phase) (cond (nat_lt q.acked q.sent) answers.Repeated answers.Probed) answers.Repeated
-
-    sends : SendsAgain leg q now given before.packets (with_segment before.packets now a.out)
-    sends = record {
-      out = a.out;
-      packets = refl;
-      open_is = a.open_is;
-      open_answer = λ o. ap (λ (b : Bool). cond b (cond (nat_lt q.acked q.sent) answers.Repeated answers.Probed) answers.Repeated) o;
-      first_is = a.first_is;
-      first_answer = λ o. ap (λ (b : Bool). cond b (cond (nat_lt q.acked q.sent) answers.Repeated answers.Probed) answers.Repeated) o;
-    }
 
 pub not_true : (b : Bool) → not b ≡ true → b ≡ false
 not_true true h = absurd (false≢true h)

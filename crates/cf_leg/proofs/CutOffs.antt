@@ -1,14 +1,16 @@
 -- A leg that was cut.
-use Rattle.std.proofs.Common.{◌≡◌, ℕ, ◌+◌, Bool, cond, List, [], ◌∷◌, ◌++◌, length, Option, refl, sym, ◌∙◌, ap, subst}
-use Rattle.cf_outside.specs.Desk.{DeskValue, SentValue}
+use Rattle.std.specs.Prelude.{OnErr, OnOk, is_err}
+use Rattle.std.proofs.Common.{◌≡◌, ℕ, ◌+◌, Bool, cond, List, [], ◌∷◌, ◌++◌, length, Result, refl, sym, ◌∙◌, ap, subst}
+use Rattle.cf_outside.specs.Desk.{DeskValue}
 use Rattle.cf_outq.specs.SendQueue.{Queue}
 use Rattle.cf_packet.specs.Packet.{PacketValue}
 use Rattle.cf_rebuild.specs.ReceiveWindow.{base_of}
 use Rattle.cf_stream.specs.Position.{sequence_number}
 use Rattle.cf_stream.specs.Stream.{letter_count}
+use Rattle.cf_leg.proofs.Broken.{gets_by}
 use Rattle.cf_leg.proofs.Events.{open_is_greeted, own_same, peer_same}
 use Rattle.cf_leg.proofs.Hears.{phase_greeted, phase_is_open}
-use Rattle.cf_leg.specs.Calls.{CutBreaks, CutOff, is_greeted_phase, rst_as, rst_of}
+use Rattle.cf_leg.specs.Calls.{CutOff, is_greeted_phase, rst_as, rst_of}
 use Rattle.cf_leg.specs.Emits.{Greets, IsGreeting, IsRight, cut_by, rst}
 use Rattle.cf_leg.specs.Emitted.{BreaksOff, with_segment}
 use Rattle.cf_leg.specs.Event.{Came, Nothing, Greeting, Packet, Unspoken, Cut, LegEvent, greeted_by}
@@ -60,7 +62,7 @@ module _ (leg : LegValue) (q : Queue) (e : LegEvent) (es : List LegEvent) (h : I
           ∙ ap (λ (x : ℕ). cond (is_greeted (record e { ending = Unspoken } ∷ es)) (rst leg.ends (sequence_number (own_number leg.ends.role (record e { ending = Cut out } ∷ es)) (letters_sent_at leg.ends.role es e)) (sequence_number leg.other x) 20) (rst leg.ends 0 (sequence_number leg.other 0) 20)) taken_is
           ∙ ap (λ (x : ℕ). cond (is_greeted (record e { ending = Unspoken } ∷ es)) (rst leg.ends (sequence_number (own_number leg.ends.role (record e { ending = Cut out } ∷ es)) (letters_sent_at leg.ends.role es e)) (sequence_number x (letter_count h.of_window.taken)) 20) (rst leg.ends 0 (sequence_number x 0) 20)) p
 
-cut_right : (leg : LegValue) (q : Queue) (e : LegEvent) (es : List LegEvent) → IsLegOf leg (marks q) (record e { ending = Unspoken } ∷ es) → IsRight leg.ends es (record e { ending = Cut (rst_of leg q) })
+pub cut_right : (leg : LegValue) (q : Queue) (e : LegEvent) (es : List LegEvent) → IsLegOf leg (marks q) (record e { ending = Unspoken } ∷ es) → IsRight leg.ends es (record e { ending = Cut (rst_of leg q) })
 cut_right leg q e es h = record {
   over = h.of_right.0.over;
   fired = h.of_right.0.fired;
@@ -68,8 +70,6 @@ cut_right leg q e es h = record {
   ending = record { taken = h.of_window.taken; is_taken = h.of_window.is_taken; rst = rst_is leg q e es h (rst_of leg q) };
 }
 
-pub cut_of : (now : ℕ) (leg : LegValue) (q : Queue) (before after : Option (List SentValue)) → after ≡ with_segment before now (rst_of leg q) → CutOff now leg q before after
-cut_of now leg q before after is = record { out = rst_of leg q; packets = is; right = cut_right leg q }
-
-pub cut_breaks : (now : ℕ) (leg : LegValue) (q : Queue) (before after : DeskValue) → BreaksOff now (rst_of leg q ∷ []) before after → CutBreaks now leg q before after
-cut_breaks now leg q before after b = record { out = rst_of leg q; breaks = b; right = cut_right leg q }
+pub cut_of : {T E : Type 0} (r : Result T E) (now : ℕ) (leg : LegValue) (q : Queue) (old new : DeskValue) → OnOk r (new.packets ≡ with_segment old.packets now (rst_of leg q)) → OnErr r (BreaksOff now (rst_of leg q ∷ []) old new) →
+    CutOff now leg q old new (is_err r)
+cut_of r now leg q old new all broken = record { gets = gets_by r now (rst_of leg q) old new all broken; right = cut_right leg q }

@@ -1,21 +1,22 @@
 -- A new leg, and one that greeted.
-use Rattle.std.proofs.Common.{◌≡◌, ℕ, ◌+◌, Bool, true, false, cond, not, ◌&&◌, ◌||◌, List, [], ◌∷◌, Option, Some, None, refl, sym, ◌∙◌, ap, subst, arith}
-use Rattle.std.specs.Prelude.{nat_lt}
+use Rattle.std.proofs.Common.{◌≡◌, ℕ, ◌+◌, Bool, true, false, cond, not, ◌&&◌, ◌||◌, List, [], ◌∷◌, Result, Option, Some, None, refl, sym, ◌∙◌, ap, subst, arith}
+use Rattle.std.specs.Prelude.{OnErr, OnOk, is_err, nat_lt}
 use Rattle.std.specs.Option.{option_or, is_some}
 use Rattle.std.proofs.lemmas.Bool.{true≢false, false≢true}
-use Rattle.cf_outside.specs.Desk.{DeskValue, SentValue}
+use Rattle.cf_outside.specs.Desk.{DeskValue}
 use Rattle.cf_packet.specs.Packet.{PacketValue}
 use Rattle.cf_rebuild.specs.ReceiveWindow.{IsWindow}
 use Rattle.cf_rebuild.specs.ReceiveWindow.{IsWindowOf}
 use Rattle.cf_stream.specs.FirstCopy.{Offer}
 use Rattle.cf_stream.specs.Position.{place_or_zero, position, sequence_number}
 use Rattle.cf_stream.specs.Stream.{letter_count}
+use Rattle.cf_leg.proofs.Broken.{gets_by}
 use Rattle.cf_leg.proofs.Clocked.{greeted_idle, peer_idle, or_none}
 use Rattle.cf_leg.proofs.Speech.{position_ahead}
 use Rattle.cf_leg.proofs.Spoken.{parts_told}
-use Rattle.cf_leg.specs.Calls.{GreetingBreaks, Greeted, IsMade, IsOwn, greeted_as, greeting_as, greeting_of, is_greeted_phase, no_marks, window_by}
+use Rattle.cf_leg.specs.Calls.{Greeted, IsMade, IsOwn, greeted_as, greeting_as, greeting_by, greeting_of, is_greeted_phase, no_marks, window_by}
 use Rattle.cf_leg.specs.Emits.{IsGreeting, peer_mss, send_mss, syn, syn_ack_for}
-use Rattle.cf_leg.specs.Emitted.{BreaksOff, with_segment}
+use Rattle.cf_leg.specs.Emitted.{BreaksOff, GetsSegments, with_segment}
 use Rattle.cf_leg.specs.Event.{Greeting, Nothing, Unspoken, LegEvent, moment, stream_after}
 use Rattle.cf_leg.specs.Heard.{opened, acked, offers}
 use Rattle.cf_leg.specs.LegValue.{Marks, LegValue, IsLeg, IsLegOf, first_told, phase_of}
@@ -160,19 +161,11 @@ module _ (leg : LegValue) (i : IsLeg leg) (w : IsWindow leg.window) (m : Marks) 
           ∙ ap (λ (b : Bool). not (cond b (nat_lt (acked leg.ends.role es) (letter_count (stream_after es))) (is_greeted es))) closed
           ∙ ap not ungreeted
 
-pub greeted_of : (leg mid : LegValue) (now number : ℕ) (before after : Option (List SentValue)) → IsLeg leg → IsWindow leg.window → leg.phase ≡ phase.Made → IsOwn leg.ends.role number
-    → mid ≡ greeted_as leg number now → after ≡ with_segment before now (greeting_of mid) → Greeted now leg mid before after
-greeted_of leg mid now number before after i w made own is sent = record {
-  out = greeting_as leg.ends number leg.other leg.ends.role;
-  packets = sent ∙ ap (λ (l : LegValue). with_segment before now (greeting_of l)) is;
-  stands = λ m e es at h. subst (λ (l : LegValue). IsLegOf l m (record e { came = Greeting (greeting_as leg.ends number leg.other leg.ends.role); ending = Unspoken } ∷ es)) (sym is) (greeted_stands leg i w m now number e es made own at h);
-}
-
-pub greeting_breaks : (leg mid : LegValue) (now number : ℕ) (before after : DeskValue) → IsLeg leg → IsWindow leg.window → leg.phase ≡ phase.Made → IsOwn leg.ends.role number
-    → mid ≡ greeted_as leg number now → BreaksOff now (greeting_of mid ∷ []) before after → GreetingBreaks now number leg before after
-greeting_breaks leg mid now number before after i w made own is b = record {
-  breaks = subst (λ (l : LegValue). BreaksOff now (greeting_of l ∷ []) before after) is b;
-  right = λ m e es at h. (greeted_stands leg i w m now number e es made own at h).of_right.0;
+pub greeted_of : {T E : Type 0} (r : Result T E) (leg mid : LegValue) (now number : ℕ) (old new : DeskValue) → IsLeg leg → IsWindow leg.window → leg.phase ≡ phase.Made → IsOwn leg.ends.role number
+    → mid ≡ greeted_as leg number now → OnOk r (new.packets ≡ with_segment old.packets now (greeting_of mid)) → OnErr r (BreaksOff now (greeting_of mid ∷ []) old new) → Greeted now number leg mid old new (is_err r)
+greeted_of r leg mid now number old new i w made own is all broken = record {
+  gets = subst (λ (l : LegValue). GetsSegments (is_err r) now (greeting_of l ∷ []) old new) is (gets_by r now (greeting_of mid) old new all broken);
+  stands = λ m e es at h. subst (λ (l : LegValue). IsLegOf l m (record e { came = Greeting (greeting_by leg number); ending = Unspoken } ∷ es)) (sym is) (greeted_stands leg i w m now number e es made own at h);
 }
 
 -- ---- a leg whose bytes were consumed

@@ -4,7 +4,7 @@ mod Broken
 mod Carried
 mod Clocked
 mod Counts
-mod CutOffs
+pub mod CutOffs
 mod Edges
 mod Events
 mod Fixed

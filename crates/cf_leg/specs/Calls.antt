@@ -20,7 +20,7 @@ use Rattle.cf_leg.specs.declared.ends.LegAnswer.{LegAnswer}
 use Rattle.cf_leg.specs.declared.ends.Phase.{Phase}
 use Rattle.cf_leg.specs.declared.ends.Phase.TheVariants as phase
 use Rattle.cf_leg.specs.declared.ends.EndState.{EndState}
-use Rattle.cf_leg.specs.Emitted.{BreaksOff, with_segment, with_segments}
+use Rattle.cf_leg.specs.Emitted.{BreaksOff, GetsSegments, with_segment, with_segments}
 use Rattle.cf_leg.specs.Segment.{letters_in, segment}
 use Rattle.cf_leg.specs.declared.ends.ClockAnswer.{ClockAnswer}
 use Rattle.cf_leg.specs.declared.ends.ClockAnswer.TheVariants as answers
@@ -97,20 +97,24 @@ oldest leg q whole =
     then segment (way_at leg) (told_of leg) (sequence_number leg.own q.acked) (piece whole leg.mss q.sent q.acked)
     else segment (way_at leg) (told_of leg) ((leg.own + q.acked) % 2 ^ 32) no_letters
 
-pub record SendsOldest (leg : LegValue) (queue : Queue) (now : ℕ) (given : ClockAnswer) (before after : Option (List SentValue)) : Type 0 where
+-- that went out, or the desk failed amid it
+pub record SendsOldest (leg : LegValue) (queue : Queue) (now : ℕ) (before after : DeskValue) (failed : Bool) : Type 0 where
   pub out : PacketValue
-  pub packets : after ≡ with_segment before now out
+  pub gets : GetsSegments failed now (out ∷ []) before after
   pub is : (whole : Stream) → IsQueueOf queue whole → out ≡ oldest leg queue whole
-  pub answer : given ≡ (if nat_lt queue.acked queue.sent then answers.Repeated else answers.Probed)
 
--- what was sent last went out again
-pub record SendsAgain (leg : LegValue) (queue : Queue) (now : ℕ) (given : ClockAnswer) (before after : Option (List SentValue)) : Type 0 where
+abbrev pub answer_oldest : Queue → ClockAnswer
+answer_oldest queue = if nat_lt queue.acked queue.sent then answers.Repeated else answers.Probed
+
+-- what was sent last went out again, or the desk failed amid it
+pub record SendsAgain (leg : LegValue) (queue : Queue) (now : ℕ) (before after : DeskValue) (failed : Bool) : Type 0 where
   pub out : PacketValue
-  pub packets : after ≡ with_segment before now out
+  pub gets : GetsSegments failed now (out ∷ []) before after
   pub open_is : is_open leg.phase ≡ true → (whole : Stream) → IsQueueOf queue whole → out ≡ oldest leg queue whole
-  pub open_answer : is_open leg.phase ≡ true → given ≡ (if nat_lt queue.acked queue.sent then answers.Repeated else answers.Probed)
   pub first_is : is_open leg.phase ≡ false → out ≡ greeting_of leg
-  pub first_answer : is_open leg.phase ≡ false → given ≡ answers.Repeated
+
+abbrev pub answer_again : LegValue → Queue → ClockAnswer
+answer_again leg queue = if is_open leg.phase then answer_oldest queue else answers.Repeated
 
 -- the leg fires
 abbrev pub is_due : LegValue → ℕ → Bool
@@ -217,12 +221,15 @@ window_by (role.Passive other mss) w = record w { edge = 16384 }
 abbrev pub greeted_as : LegValue → ℕ → ℕ → LegValue
 greeted_as leg number now = record leg { own = number; phase = phase.Greeted; deadline = now + second; window = window_by leg.ends.role leg.window }
 
--- the leg greeted: it stands for the events with the greeting
-pub record Greeted (now : ℕ) (old new : LegValue) (before after : Option (List SentValue)) : Type 0 where
-  pub out : PacketValue
-  pub packets : after ≡ with_segment before now out
+-- the SYN or the SYN ACK with a number
+abbrev pub greeting_by : LegValue → ℕ → PacketValue
+greeting_by leg number = greeting_as leg.ends number leg.other leg.ends.role
+
+-- the leg greeted with a number, or the desk failed amid that: it stands for the events with the greeting
+pub record Greeted (now number : ℕ) (old new : LegValue) (before after : DeskValue) (failed : Bool) : Type 0 where
+  pub gets : GetsSegments failed now (greeting_by old number ∷ []) before after
   pub stands : (m : Marks) (e : LegEvent) (es : List LegEvent) → now ≡ moment e → IsLegOf old m (record e { came = Nothing; ending = Unspoken } ∷ es)
-      → IsLegOf new m (record e { came = Greeting out; ending = Unspoken } ∷ es)
+      → IsLegOf new m (record e { came = Greeting (greeting_by old number); ending = Unspoken } ∷ es)
 
 -- a number that an end may greet with
 abbrev pub IsOwn : Role → ℕ → Type 0
@@ -252,11 +259,10 @@ rst_as leg q (role.Passive n mss) =
 abbrev pub rst_of : LegValue → Queue → PacketValue
 rst_of leg q = rst_as leg q leg.ends.role
 
--- the leg was cut: its RST is right after the events
-pub record CutOff (now : ℕ) (leg : LegValue) (queue : Queue) (before after : Option (List SentValue)) : Type 0 where
-  pub out : PacketValue
-  pub packets : after ≡ with_segment before now out
-  pub right : (e : LegEvent) (es : List LegEvent) → IsLegOf leg (marks queue) (record e { ending = Unspoken } ∷ es) → IsRight leg.ends es (record e { ending = Cut out })
+-- the leg was cut, or the desk failed amid that: the RST is right after the events
+pub record CutOff (now : ℕ) (leg : LegValue) (queue : Queue) (old new : DeskValue) (failed : Bool) : Type 0 where
+  pub gets : GetsSegments failed now (rst_of leg queue ∷ []) old new
+  pub right : (e : LegEvent) (es : List LegEvent) → IsLegOf leg (marks queue) (record e { ending = Unspoken } ∷ es) → IsRight leg.ends es (record e { ending = Cut (rst_of leg queue) })
 
 -- the number of the peer's SYN, where it was seen
 abbrev pub origin_as : Role → Phase → ℕ → Option ℕ
@@ -318,33 +324,9 @@ abbrev pub SpeakingBreaks : Bool → ℕ → LegValue → Queue → DeskValue �
 SpeakingBreaks roomy now old queue before after = (e : LegEvent) (es : List LegEvent) (whole : Stream) → now ≡ moment e
     → IsLegOf old (marks queue) (record e { ending = Unspoken } ∷ es) → IsQueueOf queue whole → SpeechBreaks roomy now old.ends e es whole before after
 
--- the oldest letters or a probe; what was sent last
-pub record OldestBreaks (leg : LegValue) (queue : Queue) (now : ℕ) (before after : DeskValue) : Type 0 where
-  pub out : PacketValue
-  pub breaks : BreaksOff now (out ∷ []) before after
-  pub is : (whole : Stream) → IsQueueOf queue whole → out ≡ oldest leg queue whole
-
-pub record AgainBreaks (leg : LegValue) (queue : Queue) (now : ℕ) (before after : DeskValue) : Type 0 where
-  pub out : PacketValue
-  pub breaks : BreaksOff now (out ∷ []) before after
-  pub open_is : is_open leg.phase ≡ true → (whole : Stream) → IsQueueOf queue whole → out ≡ oldest leg queue whole
-  pub first_is : is_open leg.phase ≡ false → out ≡ greeting_of leg
-
 -- the repeat or the probe of a clock call
 pub record ClockBreaks (now : ℕ) (leg : LegValue) (queue : Queue) (before after : DeskValue) : Type 0 where
   pub out : PacketValue
   pub breaks : BreaksOff now (out ∷ []) before after
   pub right : (es : List LegEvent) → is_settled es ≡ true → IsLegOf leg (marks queue) es → IsQueueOf queue (stream_after es)
       → IsRight leg.ends es (clocked now (out ∷ []))
-
--- the greeting with a number
-pub record GreetingBreaks (now number : ℕ) (leg : LegValue) (before after : DeskValue) : Type 0 where
-  pub breaks : BreaksOff now (greeting_as leg.ends number leg.other leg.ends.role ∷ []) before after
-  pub right : (m : Marks) (e : LegEvent) (es : List LegEvent) → now ≡ moment e → IsLegOf leg m (record e { came = Nothing; ending = Unspoken } ∷ es)
-      → IsRight leg.ends es (record e { came = Greeting (greeting_as leg.ends number leg.other leg.ends.role); ending = Unspoken })
-
--- the RST of a cut
-pub record CutBreaks (now : ℕ) (leg : LegValue) (queue : Queue) (before after : DeskValue) : Type 0 where
-  pub out : PacketValue
-  pub breaks : BreaksOff now (out ∷ []) before after
-  pub right : (e : LegEvent) (es : List LegEvent) → IsLegOf leg (marks queue) (record e { ending = Unspoken } ∷ es) → IsRight leg.ends es (record e { ending = Cut out })

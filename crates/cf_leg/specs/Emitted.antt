@@ -1,5 +1,5 @@
 -- The packets that a desk got: `with_segments`, and `BreaksOff` where it failed amid them.
-use Rattle.std.specs.Prelude.{◌≡◌, ℕ, List, [], ◌∷◌, ◌++◌, take, Option}
+use Rattle.std.specs.Prelude.{◌≡◌, ℕ, Bool, true, false, List, [], ◌∷◌, ◌++◌, take, Option}
 use Rattle.cf_outside.specs.Desk.{DeskValue, SentValue, with_item}
 use Rattle.cf_packet.specs.Packet.{PacketValue}
 use Rattle.cf_packet.specs.Written.{packet_octets}
@@ -28,3 +28,8 @@ pub record BreaksOff (moment : ℕ) (outs : List PacketValue) (old new : DeskVal
   pub all : outs ≡ gone ++ left
   pub packets : new.packets ≡ with_segments old.packets moment gone
   pub part : BeginsNext old.octets moment left new.packet_part
+
+-- the desk got these segments: all of them, or, where it failed, a beginning
+abbrev pub GetsSegments : (failed : Bool) → (moment : ℕ) → List PacketValue → (old new : DeskValue) → Type 0
+GetsSegments false moment outs old new = new.packets ≡ with_segments old.packets moment outs
+GetsSegments true moment outs old new = BreaksOff moment outs old new

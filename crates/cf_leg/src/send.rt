@@ -1,7 +1,8 @@
 //! Segments that go out.
-ghost use Rattle.std.specs.Prelude.{◌≡◌, ◌+◌, ◌-◌, ◌*◌, ◌%◌, ◌^◌, ◌<◌, ◌≤◌, ◌==◌, ◌↔◌, min, max, not, nat_lt, ◌&&◌, ◌||◌, if◌then◌else◌, true, false, [], ◌∷◌, length, None, Some, Ok, Err, IsErr, IfOk, OnErr, OnOk, pos, ◌≤ℤ◌};
-ghost use Rattle.cf_outside.specs.Desk.{DeskValue, KeepsDesk};
-ghost use Rattle.cf_outside.specs.Faults.{HasCause};
+ghost use Rattle.std.specs.Prelude.{◌≡◌, ◌+◌, ◌-◌, ◌*◌, ◌%◌, ◌^◌, ◌<◌, ◌≤◌, ◌==◌, ◌↔◌, min, max, not, nat_lt, ◌&&◌, ◌||◌, if◌then◌else◌, true, false, [], ◌∷◌, length, None, Some, Ok, Err, IfOk, OnErr, OnOk, pos, ◌≤ℤ◌};
+ghost use Rattle.cf_outside.specs.Desk.{DeskValue};
+ghost use Rattle.cf_outside.specs.Frames.{OnlyEmits};
+ghost use Rattle.std.specs.Result.{is_err};
 ghost use Rattle.cf_outq.specs.SendQueue.{IsQueue, IsUnacked, carried, queue_length};
 ghost use Rattle.cf_outq.specs.SendQueue.{IsQueueOf};
 ghost use Rattle.cf_packet.specs.Packet.{packet_value};
@@ -28,12 +29,7 @@ pub(crate) fn send<D: Desk>(desk: &mut D, now: u64, packet: &Packet<'_>) -> Resu
     requires writable { IsWritable (packet_value packet.now) }
     ensures packets { OnOk result (DeskValue.packets (D.value desk.new) ≡ with_segment (DeskValue.packets (D.value desk.old)) now (packet_value packet.now)) }
     ensures broken { OnErr result (BreaksOff now (packet_value packet.now ∷ []) (D.value desk.old) (D.value desk.new)) }
-    ensures lines { DeskValue.lines (D.value desk.new) ≡ DeskValue.lines (D.value desk.old) }
-    ensures packet_part { OnOk result (DeskValue.packet_part (D.value desk.new) ≡ DeskValue.packet_part (D.value desk.old)) }
-    ensures line_part { DeskValue.line_part (D.value desk.new) ≡ DeskValue.line_part (D.value desk.old) }
-    ensures keeps { KeepsDesk (D.value desk.old) (D.value desk.new) }
-    ensures whole { OnOk result (DeskValue.whole (D.value desk.new) ≡ true) }
-    ensures cause { HasCause (DeskValue.faults (D.value desk.old)) (DeskValue.faults (D.value desk.new)) (IsErr result) }
+    ensures frame { OnlyEmits (D.value desk.old) (D.value desk.new) (is_err result) }
 {
     let mut octets = ArrayVec::new();
     write_packet(packet, &mut octets);
@@ -83,12 +79,7 @@ pub(crate) fn send_empty<D: Desk>(
     requires moment { now < 2 ^ 32 * 1000000 }
     ensures packets { OnOk result (DeskValue.packets (D.value desk.new) ≡ with_segment (DeskValue.packets (D.value desk.old)) now (segment way told number no_letters)) }
     ensures broken { OnErr result (BreaksOff now (segment way told number no_letters ∷ []) (D.value desk.old) (D.value desk.new)) }
-    ensures lines { DeskValue.lines (D.value desk.new) ≡ DeskValue.lines (D.value desk.old) }
-    ensures packet_part { OnOk result (DeskValue.packet_part (D.value desk.new) ≡ DeskValue.packet_part (D.value desk.old)) }
-    ensures line_part { DeskValue.line_part (D.value desk.new) ≡ DeskValue.line_part (D.value desk.old) }
-    ensures keeps { KeepsDesk (D.value desk.old) (D.value desk.new) }
-    ensures whole { OnOk result (DeskValue.whole (D.value desk.new) ≡ true) }
-    ensures cause { HasCause (DeskValue.faults (D.value desk.old)) (DeskValue.faults (D.value desk.new)) (IsErr result) }
+    ensures frame { OnlyEmits (D.value desk.old) (D.value desk.new) (is_err result) }
 {
     send(desk, now, &segment(way, told, number, &[], false))
 }
@@ -126,12 +117,7 @@ pub(crate) fn send_piece<D: Desk>(
     requires moment { now < 2 ^ 32 * 1000000 }
     ensures packets { OnOk result (SendsPiece way told queue.now piece now (DeskValue.packets (D.value desk.old)) (DeskValue.packets (D.value desk.new))) }
     ensures broken { OnErr result (PieceBreaks way told queue.now piece now (D.value desk.old) (D.value desk.new)) }
-    ensures lines { DeskValue.lines (D.value desk.new) ≡ DeskValue.lines (D.value desk.old) }
-    ensures packet_part { OnOk result (DeskValue.packet_part (D.value desk.new) ≡ DeskValue.packet_part (D.value desk.old)) }
-    ensures line_part { DeskValue.line_part (D.value desk.new) ≡ DeskValue.line_part (D.value desk.old) }
-    ensures keeps { KeepsDesk (D.value desk.old) (D.value desk.new) }
-    ensures whole { OnOk result (DeskValue.whole (D.value desk.new) ≡ true) }
-    ensures cause { HasCause (DeskValue.faults (D.value desk.old)) (DeskValue.faults (D.value desk.new)) (IsErr result) }
+    ensures frame { OnlyEmits (D.value desk.old) (D.value desk.new) (is_err result) }
 {
     let mut buffer = [0; 1460];
     let text = &mut buffer[..piece.len];
@@ -158,12 +144,7 @@ pub(crate) fn send_new<D: Desk>(
     ensures new { OnOk result (queue.new ≡ record queue.old { sent = max queue.old.sent (min queue.old.shown (queue_length queue.old)) }) }
     ensures stands { (whole : Stream) → IsQueueOf queue.old whole → IsQueueOf queue.new whole }
     ensures broken { OnErr result (NewBreaks way told mss queue.old now (D.value desk.old) (D.value desk.new)) }
-    ensures lines { DeskValue.lines (D.value desk.new) ≡ DeskValue.lines (D.value desk.old) }
-    ensures packet_part { OnOk result (DeskValue.packet_part (D.value desk.new) ≡ DeskValue.packet_part (D.value desk.old)) }
-    ensures line_part { DeskValue.line_part (D.value desk.new) ≡ DeskValue.line_part (D.value desk.old) }
-    ensures keeps { KeepsDesk (D.value desk.old) (D.value desk.new) }
-    ensures whole { OnOk result (DeskValue.whole (D.value desk.new) ≡ true) }
-    ensures cause { HasCause (DeskValue.faults (D.value desk.old)) (DeskValue.faults (D.value desk.new)) (IsErr result) }
+    ensures frame { OnlyEmits (D.value desk.old) (D.value desk.new) (is_err result) }
 {
     let mut some = false;
     // The fact: the place of a piece is one of the queue's, which are at most 2^31.
@@ -189,12 +170,7 @@ fn acknowledge<D: Desk>(
     requires moment { now < 2 ^ 32 * 1000000 }
     ensures packets { OnOk result (DeskValue.packets (D.value desk.new) ≡ with_segments (DeskValue.packets (D.value desk.old)) now (if is_due then segment way told number no_letters ∷ [] else [])) }
     ensures broken { OnErr result ((is_due ≡ true) × BreaksOff now (segment way told number no_letters ∷ []) (D.value desk.old) (D.value desk.new)) }
-    ensures lines { DeskValue.lines (D.value desk.new) ≡ DeskValue.lines (D.value desk.old) }
-    ensures packet_part { OnOk result (DeskValue.packet_part (D.value desk.new) ≡ DeskValue.packet_part (D.value desk.old)) }
-    ensures line_part { DeskValue.line_part (D.value desk.new) ≡ DeskValue.line_part (D.value desk.old) }
-    ensures keeps { KeepsDesk (D.value desk.old) (D.value desk.new) }
-    ensures whole { OnOk result (DeskValue.whole (D.value desk.new) ≡ true) }
-    ensures cause { HasCause (DeskValue.faults (D.value desk.old)) (DeskValue.faults (D.value desk.new)) (IsErr result) }
+    ensures frame { OnlyEmits (D.value desk.old) (D.value desk.new) (is_err result) }
 {
     if is_due {
         send_empty(way, told, number, now, desk)
@@ -244,12 +220,7 @@ pub(crate) fn say<D: Desk>(
     ensures new { OnOk result (queue.new ≡ record queue.old { sent = max queue.old.sent (min queue.old.shown (queue_length queue.old)) }) }
     ensures stands { (whole : Stream) → IsQueueOf queue.old whole → IsQueueOf queue.new whole }
     ensures broken { OnErr result (SayingBreaks way told mss is_due queue.old now (D.value desk.old) (D.value desk.new)) }
-    ensures lines { DeskValue.lines (D.value desk.new) ≡ DeskValue.lines (D.value desk.old) }
-    ensures packet_part { OnOk result (DeskValue.packet_part (D.value desk.new) ≡ DeskValue.packet_part (D.value desk.old)) }
-    ensures line_part { DeskValue.line_part (D.value desk.new) ≡ DeskValue.line_part (D.value desk.old) }
-    ensures keeps { KeepsDesk (D.value desk.old) (D.value desk.new) }
-    ensures whole { OnOk result (DeskValue.whole (D.value desk.new) ≡ true) }
-    ensures cause { HasCause (DeskValue.faults (D.value desk.old)) (DeskValue.faults (D.value desk.new)) (IsErr result) }
+    ensures frame { OnlyEmits (D.value desk.old) (D.value desk.new) (is_err result) }
 {
     let number = next_number(way.own, queue);
     let some = send_new(way, told, mss, queue, now, desk)?;

@@ -1,6 +1,7 @@
 pub mod Desk
 pub mod Faults
 pub mod Files
+pub mod Frames
 pub mod Lines
 pub mod Memory
 pub mod MemoryDesk

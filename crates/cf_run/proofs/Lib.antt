@@ -16,10 +16,10 @@ mod Headline
 mod Isolating
 mod Isolation
 mod Items
-mod Matched
+pub mod Matched
 mod OutputFiles
 mod Packets
-mod Pairs
+pub mod Pairs
 mod Passing
 mod Received
 mod ReceivedAmid

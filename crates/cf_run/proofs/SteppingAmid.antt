@@ -1,12 +1,13 @@
 -- One event that was broken off in one of its halves.
-use Rattle.std.proofs.Common.{◌≡◌, ℕ, ◌+◌, ◌-◌, ◌≤◌, List, [], ◌∷◌, Result, refl, ap, ◌∙◌, subst, arith, inl, inr}
+use Rattle.std.proofs.Common.{false, ◌≡◌, ℕ, ◌+◌, ◌-◌, ◌≤◌, List, [], ◌∷◌, Result, refl, ap, ◌∙◌, subst, arith, inl, inr}
 use Rattle.std.specs.List.{concat, flat_map}
 use Rattle.cf_outside.specs.Desk.{DeskValue, SentValue}
 use Rattle.cf_outside.specs.Files.{Content}
 use Rattle.cf_packet.specs.Packet.{PacketValue}
 use Rattle.cf_packet.specs.declared.packet.PacketRefusal.{PacketRefusal}
 use Rattle.cf_policy.specs.declared.Asset.{Asset}
-use Rattle.cf_session.specs.Broken.{IsPartOf, KeepsParts, octets_of}
+use Rattle.cf_outside.specs.Frames.{EmitsAndLogs}
+use Rattle.cf_session.specs.Broken.{IsPartOf, octets_of}
 use Rattle.cf_session.specs.Sent.{sent_first}
 use Rattle.cf_session.specs.Told.{Told, told, with_both}
 use Rattle.cf_run.specs.Engine.{AreAll, TickAll}
@@ -55,8 +56,8 @@ module _ (assets : List Asset) (limit now : ℕ) (packet : Result PacketValue Pa
       (first_half (now - 1) before t.ticks, record { ticks = t.ticks; are = t.are; is = refl; begins = begun }, same ∙ t.told)
 
   pub second_breaks : 1 ≤ now → (middle : List Entry) (d0 d1 d2 : DeskValue) (cuts : ℕ) → ((known : List Session) → AreAll assets (now - 1) entries known → TickAll assets (now - 1) known middle (told d0) (told d1) cuts) →
-      KeepsParts d0 d1 → d1.octets ≡ d0.octets → ReceiveRecordBreaks assets limit now packet middle d1 d2 → StepBreaks assets limit before input d0 d2
-  second_breaks some middle d0 d1 d2 cuts ticks parts octets receives =
+      EmitsAndLogs d0 d1 false → ReceiveRecordBreaks assets limit now packet middle d1 d2 → StepBreaks assets limit before input d0 d2
+  second_breaks some middle d0 d1 d2 cuts ticks frame receives =
       let t = ticks before ready in
       let table : List Session = ticked t.ticks (now - 1) before in
       let on : AreTicked (now - 1) table = have_ticked (now - 1) (kept (now - 1) before) t.ticks t.are in
@@ -74,9 +75,9 @@ module _ (assets : List Asset) (limit now : ℕ) (packet : Result PacketValue Pa
           are_lines = r.amid.are_lines;
           is_told = r.amid.is_told ∙ ap (λ m. with_both m r.amid.gone r.amid.put) t.told
               ∙ both_both (told d0) (flat_map sent_first t.ticks) r.amid.gone (logged_ticks (kept (now - 1) before) t.ticks) r.amid.put;
-          packet_part = subst (λ (f : SentValue → List ℕ). IsPartOf (octets_of f r.amid.left) d0.packet_part d2.packet_part) octets
-              (subst (λ (was : List ℕ). IsPartOf (octets_of d1.octets r.amid.left) was d2.packet_part) parts.packet_part r.amid.packet_part);
-          line_part = subst (λ (was : List ℕ). IsPartOf (concat r.amid.missing) was d2.line_part) parts.line_part r.amid.line_part;
+          packet_part = subst (λ (f : SentValue → List ℕ). IsPartOf (octets_of f r.amid.left) d0.packet_part d2.packet_part) frame.keeps.octets
+              (subst (λ (was : List ℕ). IsPartOf (octets_of d1.octets r.amid.left) was d2.packet_part) (frame.packet_part refl) r.amid.packet_part);
+          line_part = subst (λ (was : List ℕ). IsPartOf (concat r.amid.missing) was d2.line_part) (frame.line_part refl) r.amid.line_part;
         },
       )
 

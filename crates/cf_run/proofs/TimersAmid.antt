@@ -9,7 +9,8 @@ use Rattle.std.proofs.lemmas.List.Elements.{filter-append}
 use Rattle.cf_outside.specs.Desk.{DeskValue}
 use Rattle.cf_policy.specs.declared.Asset.{Asset}
 use Rattle.cf_session.proofs.Amid.{amid_after, amid_as, amid_before}
-use Rattle.cf_session.specs.Broken.{BreaksTick, KeepsParts}
+use Rattle.cf_outside.specs.Frames.{EmitsAndLogs}
+use Rattle.cf_session.specs.Broken.{BreaksTick}
 use Rattle.cf_session.specs.Laws.{EachSessionHasATick}
 use Rattle.cf_session.specs.Sent.{logged_first, sent_first}
 use Rattle.cf_session.specs.Session.{Flow, SessionEvent, is_expired}
@@ -62,7 +63,7 @@ module _ (law : EachSessionHasATick) (assets : List Asset) (last tick : ℕ) whe
   have_ticks (x ∷ entries) (s ∷ table) all = one_more x s.flow s.events table all.0 (have_ticks entries table all.1)
 
 module _ (law : EachSessionHasATick) (assets : List Asset) (tick : ℕ) (known : List Session) (entries : List Entry) (place : ℕ) (d0 d1 d2 : DeskValue) (n : ℕ)
-    (a : TickSome assets tick known entries place (told d0) (told d1) n) (parts : KeepsParts d0 d1) (octets : d1.octets ≡ d0.octets) (x : Entry) (xs : List Entry)
+    (a : TickSome assets tick known entries place (told d0) (told d1) n) (frame : EmitsAndLogs d0 d1 false) (x : Entry) (xs : List Entry)
     (broken : (flow : Flow) (earlier : List SessionEvent) (event : SessionEvent) → IsSessionOf flow earlier event x.session → slice_get assets x.asset ≡ Some flow.asset → BreaksTick flow (event ∷ earlier) tick d1 d2) where
   breaks_one : (flow : Flow) (events : List SessionEvent) (rest : List Session) → a.rest ≡ record { flow = flow; events = events } ∷ rest → IsOne assets tick x (record { flow = flow; events = events }) → AreAll assets tick xs rest →
       TicksBreak tick known d0 d2
@@ -81,7 +82,7 @@ module _ (law : EachSessionHasATick) (assets : List Asset) (tick : ℕ) (known :
         amid = amid_as (flat_map sent_first done.ticks ++ (sent_first b.event ++ flat_map sent_first r.0)) _ (logged_ticks (kept tick a.done) done.ticks ++ (logged_first flow b.event ++ logged_ticks (kept tick rest) r.0)) _ d0 d2
             (ap (λ zs. flat_map sent_first done.ticks ++ zs) (sym (flat_map-cons sent_first b.event r.0)) ∙ sym (flat_map-append sent_first done.ticks us))
             (sym (logged-append tick (kept tick a.done) (s ∷ kept tick rest) done.ticks us done.are) ∙ ap (λ table. logged_ticks table (done.ticks ++ us)) (sym all))
-            (amid_after (flat_map sent_first done.ticks) (sent_first b.event ++ flat_map sent_first r.0) (logged_ticks (kept tick a.done) done.ticks) (logged_first flow b.event ++ logged_ticks (kept tick rest) r.0) d0 d1 d2 done.told parts octets
+            (amid_after (flat_map sent_first done.ticks) (sent_first b.event ++ flat_map sent_first r.0) (logged_ticks (kept tick a.done) done.ticks) (logged_first flow b.event ++ logged_ticks (kept tick rest) r.0) d0 d1 d2 done.told frame
             (amid_before (sent_first b.event) (flat_map sent_first r.0) (logged_first flow b.event) (logged_ticks (kept tick rest) r.0) d1 d2 b.amid));
       }
 

@@ -1,5 +1,5 @@
 -- A half of an event, and what the desk has that failed amid it: IsHalfOf and BreaksHalf.
-use Rattle.std.specs.Prelude.{◌≡◌, ◌⊎◌, ◌-◌, ℕ, List, [], ◌++◌, slice_get, Result, Ok, Err}
+use Rattle.std.specs.Prelude.{◌≡◌, ◌⊎◌, ◌-◌, ℕ, Bool, true, false, List, [], ◌++◌, slice_get, Result, Ok, Err}
 use Rattle.std.specs.List.{concat, flat_map}
 use Rattle.cf_outside.specs.Desk.{DeskValue}
 use Rattle.cf_packet.specs.Packet.{PacketValue}
@@ -14,6 +14,8 @@ use Rattle.cf_run.specs.Engine.{AreAll}
 use Rattle.cf_run.specs.Receiving.{AreTicked}
 use Rattle.cf_run.specs.Table.{Begins, Session, match_of}
 use Rattle.cf_run.specs.Trace.{AreTicks, Event, GoesOnAt, Input, IsEvent, Received, Receives, ReceivesRecord, kept, logged_at, logged_in_first, logged_in_second, logged_received, logged_ticks, sent_in_first, sent_in_second, sent_received, tick_of, ticked}
+use Rattle.cf_run.specs.declared.engine.StepFault.{StepFault}
+use Rattle.cf_run.specs.declared.engine.StepFault.TheVariants as stepped
 use Rattle.cf_run.specs.declared.entry.Entry.{Entry}
 
 -- what an event sent and logged before one of its halves, and what it sends and logs in it
@@ -81,6 +83,16 @@ StepBreaks assets limit before input old new = (half : Half) × IsHalfOf assets 
 -- second
 abbrev pub StepStops : List Asset → List Session → Input → (old new : Told) → Type 0
 StepStops assets before input old new = (half : Half) × IsHalfBeforeBeginning assets before input half × (new ≡ with_both old half.sent half.logged)
+
+-- no memory was left, or the desk failed
+abbrev pub is_write : StepFault → Bool
+is_write stepped.NoMemory = false
+is_write stepped.Write = true
+
+-- an event was not handled to its end, since the desk failed
+abbrev pub has_failed : {A : Type 0} → Result A StepFault → Bool
+has_failed (Ok value) = false
+has_failed (Err fault) = is_write fault
 
 -- ---- the parts of a step
 

@@ -3,12 +3,13 @@ ghost use Rattle.std.specs.Prelude.{◌≡◌, ℕ, ◌+◌, ◌-◌, ◌*◌, �
 ghost use Rattle.std.specs.Prelude.{◌≤ℤ◌};
 ghost use Rattle.cf_outside.specs.Desk.{DeskValue, KeepsDesk};
 ghost use Rattle.cf_outside.specs.Faults.{HasCause};
+ghost use Rattle.cf_outside.specs.Frames.{EmitsAndLogs};
 ghost use Rattle.cf_packet.specs.Packet.{read_record};
 ghost use Rattle.cf_policy.specs.Within.{AreAssetsWithin};
 ghost use Rattle.cf_session.specs.Broken.{KeepsParts};
 ghost use Rattle.cf_session.specs.Told.{told};
 ghost use Rattle.cf_run.specs.Engine.{AreAll, AreDueFrom, AreSound};
-ghost use Rattle.cf_run.specs.Half.{ReceiveRecordBreaks, StepBreaks, StepStops, StopsBeginning};
+ghost use Rattle.cf_run.specs.Half.{has_failed, ReceiveRecordBreaks, StepBreaks, StepStops, StopsBeginning};
 ghost use Rattle.cf_run.specs.Receiving.{IsSized, MayBegin};
 ghost use Rattle.cf_run.specs.Step.{EngineValue, IsEngineOf, IsSoundEngine, ReceivesRecordOne, Steps, StepsOn};
 ghost use Rattle.cf_run.specs.Table.{Session as Known};
@@ -167,15 +168,11 @@ fn step_table<D: Desk>(
         → StepBreaks assets.now limit before (record { moment = now; packet = read_record link.now bytes.now }) (D.value desk.old) (D.value desk.new) }
     ensures stops { IsErrOf result StepFault.NoMemory → (before : List Known) (last : ℕ) → last + 1 ≤ now → AreAll assets.now last table.old.sessions.items before
         → StepStops assets.now before (record { moment = now; packet = read_record link.now bytes.now }) (told (D.value desk.old)) (told (D.value desk.new)) }
-    ensures stops_whole { IsErrOf result StepFault.NoMemory → DeskValue.whole (D.value desk.new) ≡ true }
-    ensures parts { OnOk result (KeepsParts (D.value desk.old) (D.value desk.new)) }
     ensures sound { OnOk result (AreSound assets.now limit table.new.sessions.items) }
     ensures due { OnOk result (AreDueFrom table.new.due table.new.sessions.items) }
     ensures size { OnOk result (length table.new.sessions.items ≤ 256) }
     ensures memory { IsErrOf result StepFault.NoMemory → MayBegin assets.now (read_record link.now bytes.now) }
-    ensures keeps { KeepsDesk (D.value desk.old) (D.value desk.new) }
-    ensures whole { OnOk result (DeskValue.whole (D.value desk.new) ≡ true) }
-    ensures cause { HasCause (DeskValue.faults (D.value desk.old)) (DeskValue.faults (D.value desk.new)) (IsErrOf result StepFault.Write) }
+    ensures frame { EmitsAndLogs (D.value desk.old) (D.value desk.new) (has_failed result) }
 {
     let cuts = match tick_all(table, assets, limit, now - 1, desk) {
         Ok(cuts) => cuts,
@@ -211,14 +208,11 @@ fn receive_record<D: Desk>(
         → ReceiveRecordBreaks assets.now limit now (read_record link.now bytes.now) table.old.sessions.items (D.value desk.old) (D.value desk.new) }
     ensures nothing { IsErrOf result StepFault.NoMemory → desk.new ≡ desk.old }
     ensures beginning { IsErrOf result StepFault.NoMemory → StopsBeginning assets.now now (read_record link.now bytes.now) table.old.sessions.items }
-    ensures parts { OnOk result (KeepsParts (D.value desk.old) (D.value desk.new)) }
     ensures sound { OnOk result (AreSound assets.now limit table.new.sessions.items) }
     ensures due { OnOk result (AreDueFrom table.new.due table.new.sessions.items) }
     ensures size { IfOk result (λ outcome. IsSized outcome (length table.old.sessions.items) (length table.new.sessions.items)) }
     ensures memory { IsErrOf result StepFault.NoMemory → MayBegin assets.now (read_record link.now bytes.now) }
-    ensures keeps { KeepsDesk (D.value desk.old) (D.value desk.new) }
-    ensures whole { OnOk result (DeskValue.whole (D.value desk.new) ≡ true) }
-    ensures cause { HasCause (DeskValue.faults (D.value desk.old)) (DeskValue.faults (D.value desk.new)) (IsErrOf result StepFault.Write) }
+    ensures frame { EmitsAndLogs (D.value desk.old) (D.value desk.new) (has_failed result) }
 {
     match read_packet(link, bytes) {
         Ok(packet) => receive(table, alloc, assets, limit, now, &packet, desk),

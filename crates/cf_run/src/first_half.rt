@@ -1,8 +1,9 @@
 //! The first half of an event: the clock calls of all sessions.
-ghost use Rattle.std.specs.Prelude.{◌≡◌, ◌+◌, ◌*◌, ◌^◌, ◌<◌, ◌≤◌, List, Some, true, IfOk, IsErr, OnErr, OnOk, ◌∷◌, drop, length, slice_get, take};
-ghost use Rattle.cf_outside.specs.Desk.{DeskValue, KeepsDesk};
-ghost use Rattle.cf_outside.specs.Faults.{HasCause};
-ghost use Rattle.cf_session.specs.Broken.{BreaksTick, KeepsParts};
+ghost use Rattle.std.specs.Prelude.{◌≡◌, ◌+◌, ◌*◌, ◌^◌, ◌<◌, ◌≤◌, List, Some, true, IfOk, OnErr, OnOk, ◌∷◌, drop, length, slice_get, take};
+ghost use Rattle.std.specs.Result.{is_err};
+ghost use Rattle.cf_outside.specs.Desk.{DeskValue};
+ghost use Rattle.cf_outside.specs.Frames.{EmitsAndLogs};
+ghost use Rattle.cf_session.specs.Broken.{BreaksTick};
 ghost use Rattle.cf_session.specs.Session.{Flow, SessionEvent};
 ghost use Rattle.cf_session.specs.Stands.{IsSessionOf};
 ghost use Rattle.cf_session.specs.Told.{told};
@@ -41,10 +42,7 @@ fn tick_at<D: Desk>(
     ensures broken { OnErr result ((before : KnownEntry) → slice_get table.old.items place ≡ Some before
         → (flow : Flow) (earlier : List SessionEvent) (event : SessionEvent) → IsSessionOf flow earlier event before.session
         → slice_get assets.now before.asset ≡ Some flow.asset → BreaksTick flow (event ∷ earlier) now (D.value desk.old) (D.value desk.new)) }
-    ensures parts { OnOk result (KeepsParts (D.value desk.old) (D.value desk.new)) }
-    ensures keeps { KeepsDesk (D.value desk.old) (D.value desk.new) }
-    ensures whole { OnOk result (DeskValue.whole (D.value desk.new) ≡ true) }
-    ensures cause { HasCause (DeskValue.faults (D.value desk.old)) (DeskValue.faults (D.value desk.new)) (IsErr result) }
+    ensures frame { EmitsAndLogs (D.value desk.old) (D.value desk.new) (is_err result) }
 {
     let entry = &mut table[place];
     let asset = asset_of(assets, entry.asset);
@@ -71,13 +69,10 @@ pub fn tick_all<D: Desk>(
         TickAll assets.now now known table.new.sessions.items (told (D.value desk.old)) (told (D.value desk.new)) cuts) }
     ensures broken { OnErr result ((known : List Known) → AreAll assets.now now table.old.sessions.items known
         → TicksBreak now known (D.value desk.old) (D.value desk.new)) }
-    ensures parts { OnOk result (KeepsParts (D.value desk.old) (D.value desk.new)) }
     ensures sound { OnOk result (AreSound assets.now limit table.new.sessions.items) }
     ensures due { OnOk result (AreDueFrom table.new.due table.new.sessions.items) }
     ensures fewer { IfOk result (λ cuts. cuts + length table.new.sessions.items ≤ length table.old.sessions.items) }
-    ensures keeps { KeepsDesk (D.value desk.old) (D.value desk.new) }
-    ensures whole { OnOk result (DeskValue.whole (D.value desk.new) ≡ true) }
-    ensures cause { HasCause (DeskValue.faults (D.value desk.old)) (DeskValue.faults (D.value desk.new)) (IsErr result) }
+    ensures frame { EmitsAndLogs (D.value desk.old) (D.value desk.new) (is_err result) }
 {
     sessions_are_quiet_before_due();
     if now < table.due {

@@ -1,15 +1,15 @@
 //! The second half of an event: the packet.
 ghost use Rattle.std.specs.Prelude.{◌≡◌, ◌+◌, ◌-◌, ◌*◌, ◌^◌, ◌<◌, ◌≤◌, true, IfOk, IfSome, IsErrOf, Ok, OnErr, OnOk, Some, length, pos, slice_get, vec_capacity, vec_len};
-ghost use Rattle.cf_outside.specs.Desk.{DeskValue, KeepsDesk};
-ghost use Rattle.cf_outside.specs.Faults.{HasCause};
+ghost use Rattle.cf_outside.specs.Desk.{DeskValue};
+ghost use Rattle.cf_outside.specs.Frames.{EmitsAndLogs};
 ghost use Rattle.cf_packet.specs.Packet.{packet_value};
 ghost use Rattle.cf_policy.specs.Within.{AreAssetsWithin};
-ghost use Rattle.cf_session.specs.Broken.{BreaksBeginning, KeepsParts};
+ghost use Rattle.cf_session.specs.Broken.{BreaksBeginning};
 ghost use Rattle.cf_session.specs.Session.{Flow};
 ghost use Rattle.cf_session.specs.Told.{told};
 ghost use Rattle.cf_run.specs.Engine.{AreDueFrom, AreSound};
 ghost use Rattle.cf_run.specs.Entries.{others, without_at};
-ghost use Rattle.cf_run.specs.Half.{GoBreaks, ReceiveBreaks, StopsBeginning};
+ghost use Rattle.cf_run.specs.Half.{has_failed, GoBreaks, ReceiveBreaks, StopsBeginning};
 ghost use Rattle.cf_run.specs.Receiving.{BeginsOne, GoesOne, IsSized, ReceivesOne, may_begin_one};
 
 use crate::engine::StepFault;
@@ -66,15 +66,12 @@ pub fn receive<D: Desk>(
         (told (D.value desk.old)) (told (D.value desk.new)) outcome) }
     ensures broken { IsErrOf result StepFault.Write → ReceiveBreaks assets.now limit now (packet_value packet.now) table.old.sessions.items (D.value desk.old) (D.value desk.new) }
     ensures nothing { IsErrOf result StepFault.NoMemory → desk.new ≡ desk.old }
-    ensures parts { OnOk result (KeepsParts (D.value desk.old) (D.value desk.new)) }
     ensures sound { OnOk result (AreSound assets.now limit table.new.sessions.items) }
     ensures due { OnOk result (AreDueFrom table.new.due table.new.sessions.items) }
     ensures size { IfOk result (λ outcome. IsSized outcome (length table.old.sessions.items) (length table.new.sessions.items)) }
     ensures memory { IsErrOf result StepFault.NoMemory → may_begin_one assets.now (packet_value packet.now) ≡ true }
     ensures beginning { IsErrOf result StepFault.NoMemory → StopsBeginning assets.now now (Ok (packet_value packet.now)) table.old.sessions.items }
-    ensures keeps { KeepsDesk (D.value desk.old) (D.value desk.new) }
-    ensures whole { OnOk result (DeskValue.whole (D.value desk.new) ≡ true) }
-    ensures cause { HasCause (DeskValue.faults (D.value desk.old)) (DeskValue.faults (D.value desk.new)) (IsErrOf result StepFault.Write) }
+    ensures frame { EmitsAndLogs (D.value desk.old) (D.value desk.new) (has_failed result) }
 {
     match match_packet(&table.sessions, assets, packet) {
         Match::Begins { asset, closed } => {
@@ -122,13 +119,10 @@ fn begin<D: Desk>(
     ensures broken { IsErrOf result StepFault.Write → (flow : Flow) → slice_get assets.now asset ≡ Some flow.asset
         → flow.syn ≡ packet_value packet.now → BreaksBeginning flow (now - 1) (D.value desk.old) (D.value desk.new) }
     ensures nothing { IsErrOf result StepFault.NoMemory → desk.new ≡ desk.old }
-    ensures parts { OnOk result (KeepsParts (D.value desk.old) (D.value desk.new)) }
     ensures sound { OnOk result (AreSound assets.now limit table.new.sessions.items) }
     ensures due { OnOk result (AreDueFrom table.new.due table.new.sessions.items) }
     ensures size { OnOk result ((length table.new.sessions.items ≤ length table.old.sessions.items + 1) × (length table.new.sessions.items ≤ 256)) }
-    ensures keeps { KeepsDesk (D.value desk.old) (D.value desk.new) }
-    ensures whole { OnOk result (DeskValue.whole (D.value desk.new) ≡ true) }
-    ensures cause { HasCause (DeskValue.faults (D.value desk.old)) (DeskValue.faults (D.value desk.new)) (IsErrOf result StepFault.Write) }
+    ensures frame { EmitsAndLogs (D.value desk.old) (D.value desk.new) (has_failed result) }
 {
     make_way(&mut table.sessions, closed);
     make_room(&mut table.sessions)?;
@@ -204,14 +198,11 @@ fn go_on<D: Desk>(
     ensures goes { IfOk result (λ outcome. GoesOne assets.now limit now place side (packet_value packet.now) table.old.sessions.items table.new.sessions.items
         (told (D.value desk.old)) (told (D.value desk.new)) outcome) }
     ensures broken { IsErrOf result StepFault.Write → GoBreaks assets.now limit now place side (packet_value packet.now) table.old.sessions.items (D.value desk.old) (D.value desk.new) }
-    ensures parts { OnOk result (KeepsParts (D.value desk.old) (D.value desk.new)) }
     ensures sound { OnOk result (AreSound assets.now limit table.new.sessions.items) }
     ensures due { OnOk result (AreDueFrom table.new.due table.new.sessions.items) }
     ensures size { IfOk result (λ outcome. IsSized outcome (length table.old.sessions.items) (length table.new.sessions.items)) }
     ensures memory { IsErrOf result StepFault.NoMemory → ⊥ }
-    ensures keeps { KeepsDesk (D.value desk.old) (D.value desk.new) }
-    ensures whole { OnOk result (DeskValue.whole (D.value desk.new) ≡ true) }
-    ensures cause { HasCause (DeskValue.faults (D.value desk.old)) (DeskValue.faults (D.value desk.new)) (IsErrOf result StepFault.Write) }
+    ensures frame { EmitsAndLogs (D.value desk.old) (D.value desk.new) (has_failed result) }
 {
     let entry = &mut table.sessions[place];
     let asset = asset_of(assets, entry.asset);

@@ -1,9 +1,7 @@
 mod Built
 mod Carrying
-mod GoingOn
 mod Halves
 mod Heard
-mod Letterwise
 mod OfPackets
 mod OneFlow
 mod Onward

@@ -4,10 +4,9 @@ use Rattle.std.specs.List.{AllByRecursion}
 use Rattle.std.proofs.lemmas.Option.{none-some}
 use Rattle.cf_lane.specs.Output.{outputs}
 use Rattle.cf_packet.specs.Packet.{PacketValue}
-use Rattle.cf_selfjudged.specs.Carried.{CarriesOneStream, SegmentsCarryOneStream}
 use Rattle.cf_session.specs.Event.{AreEvents}
-use Rattle.cf_session.specs.Laws.{AreUncutBefore, WorkIsOfTheTaken}
-use Rattle.cf_session.specs.Session.{Flow, SessionEvent, client_of, controllers, history, work_of}
+use Rattle.cf_session.specs.Laws.{AreUncutBefore, CarriesOneStream, SegmentsCarryOneStream, WorkIsOfTheTaken}
+use Rattle.cf_session.specs.Session.{Flow, SessionEvent, client_of, controller_ends, controllers, history, work_of}
 use Rattle.cf_session.specs.Work.{Work, Works}
 use Rattle.cf_leg.specs.OneStream.{CarryAll}
 use Rattle.cf_view.specs.declared.Side.TheVariants as side
@@ -48,8 +47,8 @@ plain_by f (p ∷ ps) h = ((λ syn. subst (λ (q : PacketValue). IsPlain q) (sym
 module _ (carry : SegmentsCarryOneStream) (works : WorkIsOfTheTaken) (sees : CarryOneStream) (judges : BeginningsAreUnobjected)
     (f : Flow) (limit : ℕ) (es : List SessionEvent) (carried : List Carried) (small : limit ≤ 2 ^ 30) (are : AreEvents f limit es) (uncut : AreUncutBefore es)
     (h : CarriedSession f es carried) where
-  said : CarriesOneStream f es
-  said = carry f limit es small are uncut
+  said : CarriesOneStream (controller_ends f).role (controllers es) (work_of es).to_controller
+  said = (carry f limit es small are uncut).0
 
   all_carry : CarryOne said.said carried
   all_carry =

@@ -23,7 +23,8 @@ use Rattle.cf_selfjudged.specs.OneFlow.{packets_of}
 use Rattle.cf_selfjudged.specs.Separate.{is_to_place}
 use Rattle.cf_selfjudged.proofs.Halves.{is_theirs, picked, picked_append, second_picked}
 use Rattle.cf_selfjudged.proofs.Others.{and_left, and_right, number_is}
-use Rattle.cf_selfjudged.proofs.Places.{one_place, place_by}
+use Rattle.cf_run.proofs.Matched.{place_by}
+use Rattle.cf_selfjudged.proofs.Places.{one_place}
 use Rattle.cf_selfjudged.proofs.Stepping.{IsReady, all_ready, ticks_told, went_told}
 use Rattle.cf_selfjudged.proofs.Theirs.{count, count_append, fewer, fewer_out, one_of, parts, same_count, same_count_at, taken_out, told, told_append}
 

@@ -6,30 +6,11 @@ use Rattle.std.proofs.lemmas.Bool.{cases_Bool, true≢false}
 use Rattle.std.proofs.lemmas.Bool.Decides.{nat_tests}
 use Rattle.std.proofs.lemmas.Option.{none-some, same_Some}
 use Rattle.cf_isolation.proofs.Tables.{found_there}
+use Rattle.cf_run.proofs.Matched.{place_by}
 use Rattle.cf_policy.specs.declared.Asset.{Asset}
 use Rattle.cf_run.specs.Entries.{asset_place}
 use Rattle.cf_run.specs.Table.{asset_at, has_asset_at, same_endpoint}
 use Rattle.cf_view.specs.declared.Endpoint.{Endpoint}
-
-prefix_by : {A : Type 0} (p : A → Bool) (x : A) (xs : List A) (b : Bool) → p x ≡ b → position_or_len p (x ∷ xs) ≡ cond b 0 (1 + position_or_len p xs)
-prefix_by p x xs true e = rw e refl
-prefix_by p x xs false e = rw e refl
-
-pub place_by : {A : Type 0} (p : A → Bool) (x : A) (xs : List A) (b : Bool) → p x ≡ b → position p (x ∷ xs) ≡ cond b (Some 0) (option_map suc (position p xs))
-place_by p x xs true e =
-    let inside : nat_lt 0 (length (x ∷ xs)) ≡ true = grind (arith, nat_tests) in
-    rw (prefix_by p x xs true e, inside) refl
-place_by p x xs false e =
-    let n = position_or_len p xs in
-    let one_more : 1 + n ≡ suc n = omega arith in
-    elim (cases_Bool (nat_lt n (length xs))) [
-      | inl here ↦
-          let inside : nat_lt (1 + n) (length (x ∷ xs)) ≡ true = grind (arith, nat_tests, here) in
-          rw (prefix_by p x xs false e, inside, here) (ap Some one_more)
-      | inr gone ↦
-          let past : nat_lt (1 + n) (length (x ∷ xs)) ≡ false = grind (arith, nat_tests, gone) in
-          rw (prefix_by p x xs false e, past, gone) refl
-    ]
 
 has_by : (assets : List Asset) (a : Asset) (e : Endpoint) (k : ℕ) (b : Bool) (o : Option ℕ) → ((i : ℕ) → o ≡ Some i → slice_get assets i ≡ asset_at assets e) → same_endpoint a.endpoint e ≡ b →
     cond b (Some 0) (option_map suc o) ≡ Some k → slice_get (a ∷ assets) k ≡ asset_at (a ∷ assets) e

@@ -1,4 +1,3 @@
-pub mod Carried
 pub mod Heard
 pub mod OneFlow
 pub mod Order

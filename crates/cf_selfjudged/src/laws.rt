@@ -1,35 +1,22 @@
 //! Laws of what a run sends, as a judge reads it: each is the contract of a function that does nothing.
-ghost use Rattle.cf_selfjudged.specs.Carried.{SegmentsCarryOneStream};
 ghost use Rattle.cf_selfjudged.specs.Heard.{WatchedAreHeard};
 ghost use Rattle.cf_selfjudged.specs.OneFlow.{OneFlowIsUnobjected};
 ghost use Rattle.cf_selfjudged.specs.SelfJudged.{RunsAreUnobjected, WatchedRunsAreUnobjected};
 ghost use Rattle.cf_selfjudged.specs.Separate.{FlowsAreOfTheirPackets};
 ghost use Rattle.cf_selfjudged.specs.Speaks.{SessionsSpeak};
 
-use cf_lane::{has_one_judgement, streams_go_on};
-use cf_leg::segments_carry_one_stream;
 use cf_readback::runs_are_read_back;
 use cf_run::{octets_have_one_list_of_records, sessions_are_right};
-use cf_session::work_is_of_what_was_taken;
+use cf_session::{segments_carry_to_both_sides, work_is_of_what_was_taken};
 use cf_unobjected::{beginnings_are_unobjected, readings_are_one};
 use cf_watch::one_stream_is_seen;
-
-/// Letter by letter: each segment of a session to the controller has at each of its places the letter of one stream, which the
-/// session's stream to it begins with.
-fn segments_carry_to_controller()
-    ensures { SegmentsCarryOneStream }
-{
-    has_one_judgement();
-    segments_carry_one_stream();
-    streams_go_on();
-}
 
 /// A watched flow that carried the segments of a session to its controller, and nothing else with letters, has no conflict, and a judge
 /// objects to none of its bytes.
 fn one_flow_is_unobjected()
     ensures { OneFlowIsUnobjected }
 {
-    segments_carry_to_controller();
+    segments_carry_to_both_sides();
     work_is_of_what_was_taken();
     one_stream_is_seen();
     beginnings_are_unobjected();

@@ -110,12 +110,6 @@ taken_of : (ends : Ends) (leg : LegValue) (q : Queue) (events : List LegEvent) �
 taken_of ends leg q events s =
     (s.stands.of_window.taken, subst (λ (n : Ends). IsTaken (first_copy (offers n.role events)) s.stands.of_window.taken) s.is s.stands.of_window.is_taken)
 
-pub cut_next : (own peer : Endpoint) (r : Role) (leg : LegValue) (q : Queue) (e : LegEvent) (es : List LegEvent) → IsLegBetween (ends_by own peer r) leg q (record e { ending = Unspoken } ∷ es) →
-    (rst : PacketValue) × IsRight (ends_by own peer r) es (record e { ending = Cut rst })
-cut_next own peer r leg q e es s =
-    let t = taken_of (ends_by own peer r) leg q (record e { ending = Unspoken } ∷ es) s in
-    can_cut own peer r es e t.0 (right_of (ends_by own peer r) leg q (record e { ending = Unspoken }) es s) t.1
-
 -- where the client may be greeted, it can speak after that
 pub can_answer : (f : Flow) (number : Option ℕ) (leg : LegValue) (q : Queue) (e : LegEvent) (es : List LegEvent) (whole : Stream) (roomy : Bool) → MayGreet number e es → IsLegBetween (client_ends f) leg q (record e { ending = Unspoken } ∷ es) →
     (outs : List PacketValue) × IsRight (client_ends f) es (record e { came = came_greeted f number e.came; ending = Spoke whole roomy outs })

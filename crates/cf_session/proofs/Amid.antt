@@ -1,5 +1,5 @@
 -- A desk that failed amid packets and lines.
-use Rattle.std.proofs.Common.{◌≡◌, ℕ, List, [], ◌∷◌, ◌++◌, length, refl, sym, ap, ◌∙◌, subst, append_assoc, arith, inl, inr, Result, Ok, Err}
+use Rattle.std.proofs.Common.{◌≡◌, ℕ, Bool, true, false, List, [], ◌∷◌, ◌++◌, length, refl, sym, ap, ◌∙◌, subst, append_assoc, arith, inl, inr, Result, Ok, Err}
 use Rattle.std.specs.Prelude.{OnErr}
 use Rattle.std.specs.List.{concat}
 use Rattle.std.proofs.Math.Seq.{take-append_seam}
@@ -8,12 +8,13 @@ use Rattle.std.proofs.lemmas.Grind.{flat_map-append}
 use Rattle.std.proofs.lemmas.List.{append-nil, take-append-le, take_all}
 use Rattle.std.proofs.lemmas.List.Concat.{flat_map-cons}
 use Rattle.std.proofs.lemmas.List.Folds.{concat-append}
-use Rattle.cf_lane.specs.Handled.{MayHaveAdded, WritesLog}
-use Rattle.cf_leg.specs.Emitted.{BeginsNext, BreaksOff, spelled}
+use Rattle.cf_lane.specs.Handled.{MayHaveAdded}
+use Rattle.cf_leg.specs.Emitted.{BeginsNext, BreaksOff, GetsSegments, spelled}
 use Rattle.cf_outside.specs.Desk.{DeskValue, SentValue}
+use Rattle.cf_outside.specs.Frames.{EmitsAndLogs, OnlyEmits, OnlyLogs}
 use Rattle.cf_packet.specs.Packet.{PacketValue}
 use Rattle.cf_session.proofs.Telling.{at-append, more-none, then_told, told_lines, told_sent}
-use Rattle.cf_session.specs.Broken.{BreaksAmid, IsPartOf, KeepsParts, octets_of}
+use Rattle.cf_session.specs.Broken.{BreaksAmid, Gets, IsPartOf, octets_of}
 use Rattle.cf_session.specs.Sent.{Sent, at}
 use Rattle.cf_session.specs.Told.{emitted, told, with_both}
 
@@ -36,12 +37,6 @@ part_longer next more was now (inr (some, is)) =
 octets-append : (octets : SentValue → List ℕ) (a b : List Sent) → octets_of octets (a ++ b) ≡ octets_of octets a ++ octets_of octets b
 octets-append octets a b = flat_map-append (λ (s : Sent). octets (emitted s)) a b
 
-pub parts_none : (a : DeskValue) → KeepsParts a a
-parts_none a = record { packet_part = refl; line_part = refl }
-
-pub parts_both : (a b c : DeskValue) → KeepsParts a b → KeepsParts b c → KeepsParts a c
-parts_both a b c x y = record { packet_part = y.packet_part ∙ x.packet_part; line_part = y.line_part ∙ x.line_part }
-
 -- ---- amid packets and lines, and others after and before them
 
 pub amid_before : (a b : List Sent) (x y : List (List ℕ)) (old new : DeskValue) → BreaksAmid a x old new → BreaksAmid (a ++ b) (x ++ y) old new
@@ -59,9 +54,9 @@ amid_before a b x y old new h = record {
       (part_longer (concat h.missing) (concat y) old.line_part new.line_part h.line_part);
 }
 
-pub amid_after : (a b : List Sent) (x y : List (List ℕ)) (old mid new : DeskValue) → told mid ≡ with_both (told old) a x → KeepsParts old mid → mid.octets ≡ old.octets →
+pub amid_after : (a b : List Sent) (x y : List (List ℕ)) (old mid new : DeskValue) → told mid ≡ with_both (told old) a x → EmitsAndLogs old mid false →
     BreaksAmid b y mid new → BreaksAmid (a ++ b) (x ++ y) old new
-amid_after a b x y old mid new first parts octets h = record {
+amid_after a b x y old mid new first frame h = record {
   gone = a ++ h.gone;
   left = h.left;
   are_sent = ap (λ (s : List Sent). a ++ s) h.are_sent ∙ sym (append_assoc a h.gone h.left);
@@ -69,9 +64,9 @@ amid_after a b x y old mid new first parts octets h = record {
   missing = h.missing;
   are_lines = ap (λ (l : List (List ℕ)). x ++ l) h.are_lines ∙ sym (append_assoc x h.put h.missing);
   is_told = then_told (told old) (told mid) (told new) a h.gone x h.put first h.is_told;
-  packet_part = subst (λ (f : SentValue → List ℕ). IsPartOf (octets_of f h.left) old.packet_part new.packet_part) octets
-      (subst (λ (was : List ℕ). IsPartOf (octets_of mid.octets h.left) was new.packet_part) parts.packet_part h.packet_part);
-  line_part = subst (λ (was : List ℕ). IsPartOf (concat h.missing) was new.line_part) parts.line_part h.line_part;
+  packet_part = subst (λ (f : SentValue → List ℕ). IsPartOf (octets_of f h.left) old.packet_part new.packet_part) frame.keeps.octets
+      (subst (λ (was : List ℕ). IsPartOf (octets_of mid.octets h.left) was new.packet_part) (frame.packet_part refl) h.packet_part);
+  line_part = subst (λ (was : List ℕ). IsPartOf (concat h.missing) was new.line_part) (frame.line_part refl) h.line_part;
 }
 
 pub amid_as : (a b : List Sent) (x y : List (List ℕ)) (old new : DeskValue) → a ≡ b → x ≡ y → BreaksAmid a x old new → BreaksAmid b y old new
@@ -87,47 +82,57 @@ next_part octets now (p ∷ ps) part was (some, is) =
     (part_longer (octets (record { moment = now; bytes = spelled p })) (octets_of octets (at now ps)) was part (inr (some, is)))
 
 -- amid segments
-pub amid_sent : (now : ℕ) (outs : List PacketValue) (old new : DeskValue) → BreaksOff now outs old new → new.lines ≡ old.lines → new.line_part ≡ old.line_part → BreaksAmid (at now outs) [] old new
-amid_sent now outs old new h lines part = record {
+pub amid_sent : {failed : Bool} (now : ℕ) (outs : List PacketValue) (old new : DeskValue) → BreaksOff now outs old new → OnlyEmits old new failed → BreaksAmid (at now outs) [] old new
+amid_sent now outs old new h frame = record {
   gone = at now h.gone;
   left = at now h.left;
   are_sent = ap (at now) h.all ∙ at-append now h.gone h.left;
   put = [];
   missing = [];
   are_lines = refl;
-  is_told = told_sent old new now h.gone h.packets lines;
+  is_told = told_sent old new now h.gone h.packets frame.lines;
   packet_part = next_part old.octets now h.left new.packet_part old.packet_part h.part;
-  line_part = inl part;
+  line_part = inl frame.line_part;
 }
 
 -- amid lines
-pub amid_lines : (lines : List (List ℕ)) (old new : DeskValue) → MayHaveAdded lines old new → WritesLog old new → BreaksAmid [] lines old new
-amid_lines lines old new (inl (same, part)) log = record {
+pub amid_lines : {failed : Bool} (lines : List (List ℕ)) (old new : DeskValue) → MayHaveAdded lines old new → OnlyLogs old new failed → BreaksAmid [] lines old new
+amid_lines lines old new (inl (same, part)) frame = record {
   gone = [];
   left = [];
   are_sent = refl;
   put = [];
   missing = lines;
   are_lines = refl;
-  is_told = told_lines old new [] log.packets (same ∙ more-none old.lines);
-  packet_part = inl log.packet_part;
+  is_told = told_lines old new [] frame.packets (same ∙ more-none old.lines);
+  packet_part = inl frame.packet_part;
   line_part = inr part;
 }
-amid_lines lines old new (inr (added, none)) log = record {
+amid_lines lines old new (inr (added, none)) frame = record {
   gone = [];
   left = [];
   are_sent = refl;
   put = lines;
   missing = [];
   are_lines = sym (append-nil lines);
-  is_told = told_lines old new lines log.packets added;
-  packet_part = inl log.packet_part;
+  is_told = told_lines old new lines frame.packets added;
+  packet_part = inl frame.packet_part;
   line_part = inr (0, none);
 }
 
 -- and they leave none of the packets that went before them
-pub lines_leave_none : (a : List Sent) (x lines : List (List ℕ)) (old mid new : DeskValue) (first : told mid ≡ with_both (told old) a x) (parts : KeepsParts old mid) (octets : mid.octets ≡ old.octets)
-    (h : MayHaveAdded lines mid new) (log : WritesLog mid new) → (amid_after a [] x lines old mid new first parts octets (amid_lines lines mid new h log)).left ≡ []
+pub lines_leave_none : {failed : Bool} (a : List Sent) (x lines : List (List ℕ)) (old mid new : DeskValue) (first : told mid ≡ with_both (told old) a x) (frame : EmitsAndLogs old mid false)
+    (h : MayHaveAdded lines mid new) (logs : OnlyLogs mid new failed) → (amid_after a [] x lines old mid new first frame (amid_lines lines mid new h logs)).left ≡ []
 unfolding amid_after amid_lines
-lines_leave_none a x lines old mid new first parts octets (inl h) log = refl
-lines_leave_none a x lines old mid new first parts octets (inr h) log = refl
+lines_leave_none a x lines old mid new first frame (inl h) logs = refl
+lines_leave_none a x lines old mid new first frame (inr h) logs = refl
+
+-- ---- as much of packets and lines as the desk got
+
+pub gets_sent : (failed : Bool) (now : ℕ) (outs : List PacketValue) (old new : DeskValue) → GetsSegments failed now outs old new → OnlyEmits old new failed → Gets failed (at now outs) [] old new
+gets_sent false now outs old new h frame = told_sent old new now outs h frame.lines
+gets_sent true now outs old new h frame = amid_sent now outs old new h frame
+
+pub gets_after : (failed : Bool) (a b : List Sent) (x y : List (List ℕ)) (old mid new : DeskValue) → Gets false a x old mid → EmitsAndLogs old mid false → Gets failed b y mid new → Gets failed (a ++ b) (x ++ y) old new
+gets_after false a b x y old mid new first frame h = then_told (told old) (told mid) (told new) a b x y first h
+gets_after true a b x y old mid new first frame h = amid_after a b x y old mid new first frame h

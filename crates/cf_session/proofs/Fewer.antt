@@ -1,7 +1,7 @@
 -- What is put together of fewer segments.
 use Rattle.std.proofs.Common.{◌≡◌, ℕ, zero, suc, List, [], ◌∷◌, ◌++◌, Some}
 use Rattle.std.specs.Prelude.{slice_get}
-use Rattle.cf_session.specs.Laws.{FewerPartsAreEnough, HasLetter, IsReassembly, Part}
+use Rattle.cf_session.specs.Laws.{FewerPartsAreEnough, HasLetter, Part}
 use Rattle.cf_stream.specs.Stream.{Letter}
 
 get_first : (xs ys : List Part) (i : ℕ) (x : Part) → slice_get xs i ≡ Some x → slice_get (xs ++ ys) i ≡ Some x

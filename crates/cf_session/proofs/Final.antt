@@ -33,7 +33,7 @@ use Rattle.cf_session.specs.Sent.{at, first_line, last_line, late, line, new_lin
 use Rattle.cf_session.specs.Session.{Flow, SessionEvent, client_ends, client_of, clients, closed_at, controller_ends, controllers, has_room, history, is_closed, was_closed, work_of}
 use Rattle.cf_session.specs.Stands.{CountsAs, Hears, HearsBy, IsSessionOf, life_by}
 use Rattle.cf_session.specs.Told.{Told, with_both}
-use Rattle.cf_session.specs.Turn.{CutsBoth, HeardBy, IsHalf, MayGreet, MaySpeak, OnlySpeaks, SaysAmid, SaysBoth, came_first, came_greeted, closing_lines, greetings, heard_half, is_acknowledged, is_done_now, number_by, roomy_by}
+use Rattle.cf_session.specs.Turn.{RightCuts, HeardBy, IsHalf, MayGreet, MaySpeak, OnlySpeaks, SaysAmid, SaysBoth, came_first, came_greeted, closing_lines, greetings, heard_half, is_acknowledged, is_done_now, number_by, roomy_by}
 use Rattle.cf_session.specs.Work.{Work, Works}
 
 abbrev pub BaseCounts : Type 0
@@ -120,7 +120,7 @@ module _ {f : Flow} {es : List SessionEvent} {t : SessionEvent} {s0 : SessionVal
 
   -- ---- the event cuts the session
   module _ (r : CutReason) (because : Some r ≡ cut_by (is_some s1.closed) (is_reset given) s cut (full_of s1))
-      (t2 : Told) (cuts : CutsBoth f (controllers es) (clients es) half_heard.controller half_heard.client now r t1 t2) where
+      (cuts : RightCuts f (controllers es) (clients es) half_heard.controller half_heard.client) where
     loud : (is_idle (came_controller s p) && is_idle (came_first s p)) ≡ false
     loud = has_packet f s p None
 
@@ -146,10 +146,10 @@ module _ {f : Flow} {es : List SessionEvent} {t : SessionEvent} {s0 : SessionVal
         ∙ ap (λ xs. at (moment t.client) xs) (sym (rsts_are t s p cuts.to_controller cuts.to_client))
         ∙ ap (λ b. at (moment t.client) (quiet b (came_controller s p) cuts.to_controller ++ quiet b (came_first s p) cuts.to_client)) (sym loud)
 
-    pub hears_cut : Hears f s0.limit es t s p t0 t2 cut_event
-    hears_cut = record {
+    pub hears_cut : (t2 : Told) → t2 ≡ with_both t1 (at now (cuts.to_controller ∷ cuts.to_client ∷ [])) (line f now (CutLine r) ∷ []) → Hears f s0.limit es t s p t0 t2 cut_event
+    hears_cut t2 told = record {
       is_packet = cut_packet;
-      told = then_told t0 t1 t2 [] (at now (cuts.to_controller ∷ cuts.to_client ∷ [])) h.lines (line f now (CutLine r) ∷ []) h.told cuts.told
+      told = then_told t0 t1 t2 [] (at now (cuts.to_controller ∷ cuts.to_client ∷ [])) h.lines (line f now (CutLine r) ∷ []) h.told told
           ∙ ap (λ xs. with_both t0 xs (h.lines ++ line f now (CutLine r) ∷ [])) sent_cut
           ∙ ap (λ xs. with_both t0 (sent_second cut_event) (xs ++ line f now (CutLine r) ∷ [])) (sym (lines_are cut_event refl))
           ∙ ap (λ xs. with_both t0 (sent_second cut_event) ((first_line f es cut_event ++ new_lines es cut_event) ++ xs)) (sym last_cut);

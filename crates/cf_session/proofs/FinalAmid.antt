@@ -1,5 +1,5 @@
 -- The second half of an event of a session, where the desk failed amid it.
-use Rattle.std.proofs.Common.{◌≡◌, ℕ, Bool, cond, List, [], ◌∷◌, ◌++◌, length, drop, inl, inr, Option, Some, None, refl, sym, ap, ◌∙◌, subst}
+use Rattle.std.proofs.Common.{◌≡◌, ℕ, Bool, false, cond, List, [], ◌∷◌, ◌++◌, length, drop, inl, inr, Option, Some, None, refl, sym, ap, ◌∙◌, subst, true}
 use Rattle.std.specs.Option.{is_some, option_or}
 use Rattle.std.proofs.lemmas.List.{append-nil}
 use Rattle.cf_audit.specs.Line.{Cut as CutLine}
@@ -23,7 +23,8 @@ use Rattle.cf_session.proofs.Assembled.{came_cut, came_due, greeted_before, has_
 use Rattle.cf_session.proofs.Events.{heard_is_packet}
 use Rattle.cf_session.proofs.Final.{HeardAt, close_line, cut_event, cut_packet, half_heard, last_cut, lines_are, live_event, live_packet, sent_cut, sent_live, was, works_of}
 use Rattle.cf_session.proofs.Heards.{Suits, are_taken, cut_is, ended_as, full_of, hello_any, resets_is, room_is}
-use Rattle.cf_session.specs.Broken.{BreaksAmid, BreaksPacket, KeepsParts}
+use Rattle.cf_outside.specs.Frames.{EmitsAndLogs}
+use Rattle.cf_session.specs.Broken.{BreaksAmid, BreaksPacket}
 use Rattle.cf_session.specs.Cuts.{cut_by, is_reset, packet_cut}
 use Rattle.cf_session.specs.Event.{IsPacket, IsTick, came_controller}
 use Rattle.cf_session.specs.Parts.{SessionValue}
@@ -31,7 +32,7 @@ use Rattle.cf_session.specs.Sent.{at, first_line, last_line, late, line, new_lin
 use Rattle.cf_session.specs.Session.{Flow, SessionEvent, client_ends, client_of, clients, controller_ends, controllers, has_room, history, was_closed, work_of}
 use Rattle.cf_session.specs.Stands.{IsSessionOf}
 use Rattle.cf_session.specs.Told.{Told, told, with_both}
-use Rattle.cf_session.specs.Turn.{CutsAmid, CutsBoth, HeardAmid, OnlySpeaks, SaysAmid, SaysBoth, came_first, came_greeted, closing_lines, ends_of, greetings, heard_event, heard_half, is_done_now, leg_in, legs_of, number_by, roomy_by}
+use Rattle.cf_session.specs.Turn.{CutsBoth, HeardAmid, OnlySpeaks, SaysAmid, SaysBoth, came_first, came_greeted, closing_lines, ends_of, greetings, heard_event, heard_half, is_done_now, leg_in, legs_of, number_by, roomy_by}
 use Rattle.cf_session.specs.Work.{Work}
 
 module _ (f : Flow) (es : List SessionEvent) (t : SessionEvent) (s0 : SessionValue) (stands : IsSessionOf f es t s0) (tick : IsTick f es t.client.tick t) (s : Side) (p : PacketValue) where
@@ -112,28 +113,25 @@ module _ (f : Flow) (es : List SessionEvent) (t : SessionEvent) (s0 : SessionVal
 -- ---- after them
 
 module _ {f : Flow} {es : List SessionEvent} {t : SessionEvent} {s0 : SessionValue} {s : Side} {p : PacketValue} {s1 : SessionValue} {given : LegAnswer} {cut : Option CutReason} {now : ℕ}
-    (d0 d1 : DeskValue) (heard : HeardAt f es t s0 s p s1 given cut (told d0) (told d1) now) (parts : KeepsParts d0 d1) (octets : d1.octets ≡ d0.octets) where
+    (d0 d1 : DeskValue) (heard : HeardAt f es t s0 s p s1 given cut (told d0) (told d1) now) (frame : EmitsAndLogs d0 d1 false) where
   open heard use {tick, by as h, law, is_now}
 
   -- amid the RSTs and the line of a cut
   module _ (r : CutReason) (because : Some r ≡ cut_by (is_some s1.closed) (is_reset given) s cut (full_of s1))
-      (d2 : DeskValue) (x : CutsAmid f (controllers es) (clients es) (half_heard heard).controller (half_heard heard).client now r d1 d2) where
+      (d2 : DeskValue) (x : CutsBoth f (controllers es) (clients es) (half_heard heard).controller (half_heard heard).client now r d1 d2 true) where
     pub cut_failed : BreaksPacket f s0.limit es t s p d0 d2
     cut_failed =
-        let rsts = at now (x.to_controller ∷ x.to_client ∷ []) in
+        let rsts = at now (x.rsts.to_controller ∷ x.rsts.to_client ∷ []) in
         let put = line f now (CutLine r) ∷ [] in
-        let t2 = with_both (told d1) rsts put in
-        let cuts : CutsBoth f (controllers es) (clients es) (half_heard heard).controller (half_heard heard).client now r (told d1) t2 =
-        record { to_controller = x.to_controller; controller_right = x.controller_right; to_client = x.to_client; client_right = x.client_right; told = refl } in
-        let e = cut_event heard r because t2 cuts in
+        let e = cut_event heard r because x.rsts in
         record {
           event = e;
-          is_packet = cut_packet heard r because t2 cuts;
+          is_packet = cut_packet heard r because x.rsts;
           amid = amid_as rsts (sent_second e) (h.lines ++ put) _ d0 d2
-              (sent_cut heard r because t2 cuts)
+              (sent_cut heard r because x.rsts)
               (ap (λ xs. xs ++ put) (sym (lines_are heard e refl))
-              ∙ ap (λ xs. (first_line f es e ++ new_lines es e) ++ xs) (sym (last_cut heard r because t2 cuts)))
-              (amid_after [] rsts h.lines put d0 d1 d2 h.told parts octets x.amid);
+              ∙ ap (λ xs. (first_line f es e ++ new_lines es e) ++ xs) (sym (last_cut heard r because x.rsts)))
+              (amid_after [] rsts h.lines put d0 d1 d2 h.told frame x.gets);
         }
 
   module _ (because : None ≡ cut_by (is_some s1.closed) (is_reset given) s cut (full_of s1)) (uncut : cut ≡ None) where
@@ -167,14 +165,14 @@ module _ {f : Flow} {es : List SessionEvent} {t : SessionEvent} {s0 : SessionVal
               ∙ ap (λ b. at (moment t.client) (late b e.controller ++ late b e.client)) (sym (has_packet f s p number)))
               (ap (λ xs. xs ++ last_line f es e None) (append-nil h.lines ∙ sym (lines_are heard e refl)))
               (amid_as (at now outs ++ []) (at now outs) _ _ d0 d2 (append-nil (at now outs)) refl
-              (amid_before (at now outs) [] (h.lines ++ []) (last_line f es e None) d0 d2 (amid_after [] (at now outs) h.lines [] d0 d1 d2 h.told parts octets x.amid)));
+              (amid_before (at now outs) [] (h.lines ++ []) (last_line f es e None) d0 d2 (amid_after [] (at now outs) h.lines [] d0 d1 d2 h.told frame x.amid)));
         }
 
     -- amid the line of the closing
     module _ (s2 : SessionValue) (d2 d3 : DeskValue)
         (says : SaysBoth f now number (half_heard heard).controller (controllers es) (half_heard heard).client (clients es) h.work.to_client h.work.to_controller roomy s2 (told d1) (told d2))
         (only : OnlySpeaks s1 s2) (queue_c : IsQueueOf s2.to_client h.work.to_client) (queue_k : IsQueueOf s2.to_controller h.work.to_controller)
-        (asset : Asset) (is : f.asset ≡ asset) (more : KeepsParts d1 d2) (same : d2.octets ≡ d1.octets) (x : BreaksAmid [] (closing_lines asset s2 now) d2 d3) where
+        (asset : Asset) (is : f.asset ≡ asset) (more : EmitsAndLogs d1 d2 false) (x : BreaksAmid [] (closing_lines asset s2 now) d2 d3) where
       abbrev s3 : SessionValue
       s3 = record s2 { closed = option_or s2.closed (cond (is_done_now s2) (Some now) None) }
 
@@ -192,6 +190,6 @@ module _ {f : Flow} {es : List SessionEvent} {t : SessionEvent} {s0 : SessionVal
                 (append-nil outs ∙ sent_live heard because uncut s2 s3 (told d2) t3 says only queue_c queue_k refl refl asset is refl)
                 (ap (λ xs. xs ++ closing_lines asset s2 now) (sym (lines_are heard e refl))
                 ∙ ap (λ xs. (first_line f es e ++ new_lines es e) ++ xs) (close_line heard because uncut s2 s3 (told d2) t3 says only queue_c queue_k refl refl asset is refl))
-                (amid_after [] (outs ++ []) h.lines (closing_lines asset s2 now) d0 d1 d3 h.told parts octets
-                (amid_after outs [] [] (closing_lines asset s2 now) d1 d2 d3 says.told more same x));
+                (amid_after [] (outs ++ []) h.lines (closing_lines asset s2 now) d0 d1 d3 h.told frame
+                (amid_after outs [] [] (closing_lines asset s2 now) d1 d2 d3 says.told more x));
           }

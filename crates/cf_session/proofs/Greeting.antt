@@ -1,20 +1,20 @@
 -- The client is greeted.
-use Rattle.std.proofs.Common.{◌≡◌, ℕ, true, false, List, [], ◌∷◌, Option, Some, None, refl, sym, ap, ◌∙◌, subst}
+use Rattle.std.proofs.Common.{◌≡◌, ℕ, Bool, true, false, List, [], ◌∷◌, Option, Some, None, refl, sym, ap, ◌∙◌, subst}
 use Rattle.std.specs.Option.{is_some, option_or}
 use Rattle.std.proofs.lemmas.Bool.{cases_Bool, true≢false}
 use Rattle.std.proofs.Common.{inl, inr}
-use Rattle.cf_leg.specs.Calls.{Greeted, IsOwn, is_greeted_phase}
-use Rattle.cf_leg.specs.Emits.{IsRight, syn_ack_for}
-use Rattle.cf_leg.specs.Emitted.{with_segments}
+use Rattle.cf_leg.specs.Calls.{Greeted, IsOwn, greeting_as, greeting_by, is_greeted_phase}
+use Rattle.cf_leg.specs.Emits.{IsGreeting, syn_ack_for}
+use Rattle.cf_leg.specs.Emitted.{GetsSegments}
 use Rattle.cf_leg.specs.Event.{Came, Greeting, LegEvent, Nothing, Unspoken, moment}
 use Rattle.cf_leg.specs.Heard.{opened}
 use Rattle.cf_leg.specs.LegValue.{IsLegOf, LegValue, marks, phase_of}
-use Rattle.cf_leg.specs.Told.{greeting, is_greeted, own_number, seq_of}
+use Rattle.cf_leg.specs.Told.{greeting, is_greeted}
 use Rattle.cf_leg.specs.declared.Ends.{Ends}
 use Rattle.cf_leg.specs.declared.Role.{Role}
 use Rattle.cf_leg.specs.declared.Role.TheVariants as role
 use Rattle.cf_outq.specs.SendQueue.{Queue}
-use Rattle.cf_outside.specs.Desk.{SentValue}
+use Rattle.cf_outside.specs.Desk.{DeskValue}
 use Rattle.cf_packet.specs.Packet.{PacketValue}
 use Rattle.cf_session.specs.Parts.{IsLegBetween, IsPassive}
 use Rattle.cf_session.specs.Session.{Flow, client_ends}
@@ -50,25 +50,16 @@ module _ (law : OpenLegsHaveGreeted) (ends : Ends) (leg : LegValue) (q : Queue) 
       let h = nothing_came ends leg q d ds none s in
       ap is_greeted_phase (h.stands.of_phase ∙ ap (λ b. phase_of b (is_greeted (e ∷ ds))) (not_open law leg.ends.role (e ∷ ds) still) ∙ ap (phase_of false) still)
 
-  module _ (flow : Flow) (is : ends ≡ client_ends flow) (n now : ℕ) (new : LegValue) (b a : Option (List SentValue)) (g : Greeted now leg new b a) (same : new.ends ≡ leg.ends) (own : new.own ≡ n) (at : now ≡ moment d) where
-    st : IsLegOf new (marks q) (record d { came = Greeting g.out; ending = Unspoken } ∷ ds)
+  module _ (flow : Flow) (is : ends ≡ client_ends flow) (n now : ℕ) (new : LegValue) (old_desk new_desk : DeskValue) (failed : Bool) (g : Greeted now n leg new old_desk new_desk failed) (same : new.ends ≡ leg.ends) (at : now ≡ moment d) where
+    st : IsLegOf new (marks q) (record d { came = Greeting (greeting_by leg n); ending = Unspoken } ∷ ds)
     st = g.stands (marks q) d ds at (nothing_came ends leg q d ds none s).stands
 
-    ends_is : new.ends ≡ client_ends flow
-    ends_is = same ∙ s.is ∙ is
-
-    right : IsRight (client_ends flow) ds (record d { came = Greeting g.out; ending = Unspoken })
-    right = subst (λ x. IsRight x ds (record d { came = Greeting g.out; ending = Unspoken })) ends_is st.of_right.0
-
-    number : g.out.seq ≡ n
-    number = sym (ap (λ o. seq_of (option_or o (Some g.out))) (none_greeted (greeting ds) ungreeted))
-        ∙ sym (ap (λ (x : Ends). own_number x.role (record d { came = Greeting g.out; ending = Unspoken } ∷ ds)) ends_is) ∙ sym st.of_own ∙ own
-
-    pub out_is : g.out ≡ syn_ack_for (client_ends flow) flow.syn.seq n
-    out_is = right.came.0 ∙ ap (syn_ack_for (client_ends flow) flow.syn.seq) number
+    out_is : greeting_by leg n ≡ syn_ack_for (client_ends flow) flow.syn.seq n
+    out_is = ap (λ (x : Ends). greeting_as x n leg.other x.role) (s.is ∙ is)
+        ∙ subst (λ (x : Ends). IsGreeting x x.role (greeting_as x n leg.other x.role)) (s.is ∙ is) (subst (λ (x : Ends). IsGreeting x x.role (greeting_by leg n)) same st.of_right.0.came.0)
 
     pub greeted_stands : IsLegBetween (client_ends flow) new q (record d { came = Greeting (syn_ack_for (client_ends flow) flow.syn.seq n); ending = Unspoken } ∷ ds)
-    greeted_stands = record { is = ends_is; stands = subst (λ p. IsLegOf new (marks q) (record d { came = Greeting p; ending = Unspoken } ∷ ds)) out_is st }
+    greeted_stands = record { is = same ∙ s.is ∙ is; stands = subst (λ p. IsLegOf new (marks q) (record d { came = Greeting p; ending = Unspoken } ∷ ds)) out_is st }
 
-    pub greeted_packets : a ≡ with_segments b now (syn_ack_for (client_ends flow) flow.syn.seq n ∷ [])
-    greeted_packets = g.packets ∙ ap (λ p. with_segments b now (p ∷ [])) out_is
+    pub greeted_gets : GetsSegments failed now (syn_ack_for (client_ends flow) flow.syn.seq n ∷ []) old_desk new_desk
+    greeted_gets = subst (λ p. GetsSegments failed now (p ∷ []) old_desk new_desk) out_is g.gets

@@ -20,7 +20,8 @@ use Rattle.std.proofs.Math.Seq.{drop-append_seam}
 use Rattle.cf_session.proofs.Amid.{amid_after, part_longer}
 use Rattle.cf_session.proofs.Lanes.{some_letters}
 use Rattle.cf_session.proofs.Telling.{told_lines}
-use Rattle.cf_session.specs.Broken.{IsPartOf, KeepsParts}
+use Rattle.cf_outside.specs.Frames.{EmitsAndLogs}
+use Rattle.cf_session.specs.Broken.{IsPartOf}
 use Rattle.cf_session.specs.Told.{told, with_both}
 use Rattle.cf_session.specs.Turn.{FollowsAmid}
 use Rattle.cf_session.specs.Work.{Work, fed_at, work_by}
@@ -105,11 +106,11 @@ ended_amid nothing join asset client now s h w piece d0 d1 more packets part add
 
 -- after lines that were put
 pub amid_behind : (asset : Asset) (client : Endpoint) (now : ℕ) (s : Side) (h : List Element) (w v : Work) (first : List (List ℕ)) (letters : Stream) (d0 d1 d2 : DeskValue) → v.log ≡ w.log ++ first →
-    told d1 ≡ with_both (told d0) [] first → KeepsParts d0 d1 → d1.octets ≡ d0.octets → FollowsAmid asset client now s h v letters d1 d2 → FollowsAmid asset client now s h w letters d0 d2
-amid_behind asset client now s h w v first letters d0 d1 d2 log is parts octets x = record {
+    told d1 ≡ with_both (told d0) [] first → EmitsAndLogs d0 d1 false → FollowsAmid asset client now s h v letters d1 d2 → FollowsAmid asset client now s h w letters d0 d2
+amid_behind asset client now s h w v first letters d0 d1 d2 log is frame x = record {
   work = x.work;
   works = x.works;
   lines = first ++ x.lines;
   log_is = x.log_is ∙ ap (λ xs. xs ++ x.lines) log ∙ append_assoc w.log first x.lines;
-  amid = amid_after [] [] first x.lines d0 d1 d2 is parts octets x.amid;
+  amid = amid_after [] [] first x.lines d0 d1 d2 is frame x.amid;
 }

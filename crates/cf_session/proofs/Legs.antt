@@ -1,6 +1,7 @@
 -- What the calls of a leg say, in the session's words.
 use Rattle.std.proofs.Common.{◌≡◌, ℕ, Bool, true, false, not, ◌&&◌, List, [], ◌∷◌, cond, Option, refl, sym, ap, ◌∙◌, subst}
-use Rattle.cf_leg.specs.Calls.{Clocked, CutOff, Spoken}
+use Rattle.cf_leg.proofs.CutOffs.{cut_right}
+use Rattle.cf_leg.specs.Calls.{Clocked, Spoken, rst_of}
 use Rattle.cf_leg.specs.Emits.{IsRight, fired_at}
 use Rattle.cf_leg.specs.Emitted.{with_segments}
 use Rattle.cf_leg.specs.Event.{Cut, LegEvent, Spoke, Unspoken, begun, clocked, is_settled, moment, stream_after}
@@ -12,14 +13,14 @@ use Rattle.cf_leg.specs.declared.Ends.{Ends}
 use Rattle.cf_leg.specs.declared.Role.{Role}
 use Rattle.cf_outq.specs.SendQueue.{IsQueueOf, Queue}
 use Rattle.cf_outside.specs.Desk.{SentValue}
-use Rattle.cf_packet.specs.Packet.{PacketValue}
 use Rattle.cf_stream.specs.Stream.{Stream}
-use Rattle.cf_session.proofs.Telling.{then_told, told_by}
+use Rattle.cf_session.proofs.Telling.{told_by}
 use Rattle.cf_session.specs.Cuts.{gives_up, is_no_answer}
 use Rattle.cf_session.specs.Parts.{IsLegBetween, SessionValue}
 use Rattle.cf_session.specs.Sent.{at}
 use Rattle.cf_session.specs.Session.{Flow, client_ends, controller_ends}
 use Rattle.cf_session.specs.Told.{Told, with_both}
+use Rattle.cf_session.specs.Turn.{RightCuts}
 
 -- ---- the clock
 
@@ -82,11 +83,6 @@ ticked_as {leg} {new} {q} {q'} {given} {es} {now} {whole} ends t0 t1 h same kept
       stands = subst (λ x. IsLegBetween ends new x (clocked now (fired_at ends es (clocked now [])) ∷ es)) (sym kept) a.stands;
     }
 
--- ---- a cut
-
-pub cut_right : (ends : Ends) (leg : LegValue) (q : Queue) (e : LegEvent) (es : List LegEvent) (now : ℕ) (b a : Option (List SentValue)) → (h : CutOff now leg q b a) → IsLegBetween ends leg q (record e { ending = Unspoken } ∷ es) → IsRight ends es (record e { ending = Cut h.out })
-cut_right ends leg q e es now b a h s = subst (λ n. IsRight n es (record e { ending = Cut h.out })) s.is (h.right e es s.stands)
-
 -- ---- a speech
 
 pub spoken_of : (ends : Ends) (roomy : Bool) (now : ℕ) (leg new : LegValue) (q q' : Queue) (b a : Option (List SentValue)) (e : LegEvent) (es : List LegEvent) (whole : Stream) → (h : Spoken roomy now leg new q q' b a) → new.ends ≡ leg.ends → now ≡ moment e →
@@ -105,21 +101,13 @@ controller_in {s} {r} {ends} {es} same h = subst (λ (x : SessionValue). IsLegBe
 pub client_in : {s r : SessionValue} {ends : Ends} {es : List LegEvent} → s ≡ r → IsLegBetween ends r.client r.to_client es → IsLegBetween ends s.client s.to_client es
 client_in {s} {r} {ends} {es} same h = subst (λ (x : SessionValue). IsLegBetween ends x.client x.to_client es) (sym same) h
 
--- ---- both are cut, the controller's first
+-- ---- both are cut
 
-pub record BothCut (f : Flow) (x y : LegEvent) (cs ds : List LegEvent) (now : ℕ) (old new : Told) : Type 0 where
-  pub to_controller : PacketValue
-  pub controller_right : IsRight (controller_ends f) cs (record x { ending = Cut to_controller })
-  pub to_client : PacketValue
-  pub client_right : IsRight (client_ends f) ds (record y { ending = Cut to_client })
-  pub told : new ≡ with_both old (at now (to_controller ∷ to_client ∷ [])) []
-
-pub both_cut : {leg leg' : LegValue} {q q' : Queue} {now : ℕ} (f : Flow) (x y : LegEvent) (cs ds : List LegEvent) (t0 t1 t2 : Told) → CutOff now leg q t0.packets t1.packets → CutOff now leg' q' t1.packets t2.packets → t1.lines ≡ t0.lines → t2.lines ≡ t1.lines →
-    IsLegBetween (controller_ends f) leg q (record x { ending = Unspoken } ∷ cs) → IsLegBetween (client_ends f) leg' q' (record y { ending = Unspoken } ∷ ds) → BothCut f x y cs ds now t0 t2
-both_cut {leg} {leg'} {q} {q'} {now} f x y cs ds t0 t1 t2 a b k l lc ld = record {
-  to_controller = a.out;
-  controller_right = cut_right (controller_ends f) leg q x cs now t0.packets t1.packets a lc;
-  to_client = b.out;
-  client_right = cut_right (client_ends f) leg' q' y ds now t1.packets t2.packets b ld;
-  told = then_told t0 t1 t2 (at now (a.out ∷ [])) (at now (b.out ∷ [])) [] [] (told_by t0 t1 now (a.out ∷ []) a.packets k) (told_by t1 t2 now (b.out ∷ []) b.packets l);
+abbrev pub rights_of : (f : Flow) (x y : LegEvent) (cs ds : List LegEvent) {leg leg' : LegValue} {q q' : Queue} → IsLegBetween (controller_ends f) leg q (record x { ending = Unspoken } ∷ cs) → IsLegBetween (client_ends f) leg' q' (record y { ending = Unspoken } ∷ ds) →
+    RightCuts f cs ds x y
+rights_of f x y cs ds {leg} {leg'} {q} {q'} lc ld = record {
+  to_controller = rst_of leg q;
+  controller_right = subst (λ n. IsRight n cs (record x { ending = Cut (rst_of leg q) })) lc.is (cut_right leg q x cs lc.stands);
+  to_client = rst_of leg' q';
+  client_right = subst (λ n. IsRight n ds (record y { ending = Cut (rst_of leg' q') })) ld.is (cut_right leg' q' y ds ld.stands);
 }

@@ -15,9 +15,8 @@ use Rattle.cf_lane.specs.Laws.{GoOn, QuietBehindEnd, StreamsGoOn}
 use Rattle.cf_lane.specs.Output.{other, outputs, stream_to}
 use Rattle.cf_lane.specs.Unit.{Left, Tail, UnitValue, Wrong}
 use Rattle.cf_leg.specs.Event.{Ending, LegEvent, sent_in, stream_after, stream_at}
-use Rattle.cf_leg.specs.OneStream.{CarryAll, Grows, IsOneStream, IsRightRun}
+use Rattle.cf_leg.specs.OneStream.{CarryAll, Grows, IsOneStream}
 use Rattle.cf_leg.specs.Told.{letters_sent, letters_sent_by, own_number}
-use Rattle.cf_leg.specs.declared.Ends.{Ends}
 use Rattle.cf_leg.specs.declared.Role.{Role}
 use Rattle.cf_packet.specs.Packet.{PacketValue}
 use Rattle.cf_policy.specs.declared.Asset.{Asset}
@@ -32,7 +31,7 @@ use Rattle.cf_session.proofs.Fed.{other_bytes}
 use Rattle.cf_session.specs.Event.{AreEvents, EndsPacket, EndsTick, IsEvent}
 use Rattle.cf_session.specs.Laws.{IsFront, IsReassembly, Part, parts_in, parts_of}
 use Rattle.cf_session.specs.Session.{Flow, SessionEvent, client_of, clients, controllers, history, work_of}
-use Rattle.cf_session.specs.Work.{Work, Works, fed_at, no_work}
+use Rattle.cf_session.specs.Work.{Work, Works, fed_at, no_work, work_by}
 
 -- ---- an End among the items is one of the history
 
@@ -141,17 +140,13 @@ module _ (go : StreamsGoOn) (quiet : QuietBehindEnd) (f : Flow) (limit : ℕ) wh
             (ap (has_ended (other to)) g.all ∙ list_any-append (λ j. ends (other to) j.item) a.judged g.ms ∙ or_true (has_ended (other to) a.judged) (has_ended (other to) g.ms) d ∙ sym d));
       }
 
-  client_on : (es : List SessionEvent) (e : SessionEvent) → AreEvents f limit (e ∷ es) → Extends (work_of es).to_client e.work.to_client
-  client_on es e are =
+  work_on : (to : Side) (stream : Work → Stream) → ((asset : Asset) (client : Endpoint) (js : List Judged) → stream (work_by asset client js) ≡ stream_to asset to js) →
+      (es : List SessionEvent) (e : SessionEvent) → AreEvents f limit (e ∷ es) → Extends (stream (work_of es)) (stream e.work)
+  work_on to stream is es e are =
       let a = works_of f limit es are.1 in
       let b = works_of f limit (e ∷ es) are in
-      subst (λ (w : Work). Extends w.to_client e.work.to_client) (sym a.is_work) (subst (λ (w : Work). Extends (stream_to f.asset side.Client a.judged) w.to_client) (sym b.is_work) (judged_extend es e side.Client are a b))
-
-  controller_on : (es : List SessionEvent) (e : SessionEvent) → AreEvents f limit (e ∷ es) → Extends (work_of es).to_controller e.work.to_controller
-  controller_on es e are =
-      let a = works_of f limit es are.1 in
-      let b = works_of f limit (e ∷ es) are in
-      subst (λ (w : Work). Extends w.to_controller e.work.to_controller) (sym a.is_work) (subst (λ (w : Work). Extends (stream_to f.asset side.Controller a.judged) w.to_controller) (sym b.is_work) (judged_extend es e side.Controller are a b))
+      subst (λ (x : Stream). Extends x (stream e.work)) (sym (ap stream a.is_work ∙ is f.asset (client_of f) a.judged))
+      (subst (λ (x : Stream). Extends (stream_to f.asset to a.judged) x) (sym (ap stream b.is_work ∙ is f.asset (client_of f) b.judged)) (judged_extend es e to are a b))
 
 -- ---- what a leg was to say
 
@@ -190,14 +185,14 @@ module _ (go : StreamsGoOn) (quiet : QuietBehindEnd) (f : Flow) (limit : ℕ) wh
   controller_grown [] h = record { grows = tt; on = extends_none no_letters }
   controller_grown (e ∷ es) h =
       let g = controller_grown es h.1 in
-      let s = controller_says f limit es e h.0 (extends_both _ _ _ g.on (controller_on go quiet f limit es e h)) in
+      let s = controller_says f limit es e h.0 (extends_both _ _ _ g.on (work_on go quiet f limit side.Controller (λ w. w.to_controller) (λ a c js. refl) es e h)) in
       record { grows = (s.grows, g.grows); on = s.on }
 
   pub client_grown : (es : List SessionEvent) → AreEvents f limit es → Grown (clients es) (work_of es).to_client
   client_grown [] h = record { grows = tt; on = extends_none no_letters }
   client_grown (e ∷ es) h =
       let g = client_grown es h.1 in
-      let s = client_says f limit es e h.0 (extends_both _ _ _ g.on (client_on go quiet f limit es e h)) in
+      let s = client_says f limit es e h.0 (extends_both _ _ _ g.on (work_on go quiet f limit side.Client (λ w. w.to_client) (λ a c js. refl) es e h)) in
       record { grows = (s.grows, g.grows); on = s.on }
 
 -- ---- parts
@@ -250,6 +245,3 @@ pub front : (whole : Stream) (parts : List Part) (r : List Letter) → AreOf who
 front whole parts r of re =
     let b = begins_by_place r (letters whole) (λ p l e. place whole.bytes whole.ended p ∙ (let x = re.each p l e in of x.index x.part x.is p l x.has)) in
     record { more = b.0; is = b.1 }
-
-abbrev pub Carried : Type 0
-Carried = (ends : Ends) (es : List LegEvent) (whole : Stream) → IsRightRun ends es whole → IsOneStream whole ends.role es

@@ -1,29 +1,27 @@
 -- A session whose events did not cut it, between two of them, read from its events alone.
-use Rattle.std.proofs.Common.{◌≡◌, ℕ, ◌^◌, ◌≤◌, min, ◌&&◌, ◌||◌, Bool, true, false, inl, inr, List, [], ◌∷◌, ◌++◌, Option, Some, None, refl, sym, ap, ◌∙◌, subst, arith}
+use Rattle.std.proofs.Common.{◌≡◌, ℕ, ◌^◌, ◌≤◌, min, ◌&&◌, ◌||◌, Bool, true, inl, inr, List, [], ◌∷◌, ◌++◌, Option, Some, None, refl, sym, ap, ◌∙◌, subst}
 use Rattle.std.proofs.lemmas.Bool.{false≢true}
 use Rattle.std.proofs.lemmas.List.{append-nil}
 use Rattle.cf_audit.specs.declared.CutReason.{CutReason}
 use Rattle.cf_lane.specs.History.{taken}
 use Rattle.cf_lane.specs.Laws.{QuietBehindEnd, StreamsGoOn}
-use Rattle.cf_leg.specs.Event.{Came, Ending, LegEvent, Nothing, Spoke, Unspoken, is_idle, is_settled, is_spoken, is_unspoken, stream_after, stream_at}
+use Rattle.cf_leg.specs.Event.{Came, Ending, LegEvent, Nothing, Unspoken, is_idle, is_settled, is_spoken, is_unspoken, stream_after, stream_at}
 use Rattle.cf_leg.specs.Heard.{end_state, offers, offers_by, opened, shown}
 use Rattle.cf_leg.specs.OneStream.{IsRightRun}
 use Rattle.cf_leg.specs.Told.{letters_sent}
 use Rattle.cf_leg.specs.declared.Ends.{Ends}
 use Rattle.cf_leg.specs.declared.Role.{Role}
-use Rattle.cf_stream.proofs.Extends.{extends_none}
 use Rattle.cf_stream.specs.FirstCopy.{IsTaken, first_copy}
 use Rattle.cf_stream.specs.Stream.{Stream, letter_count, no_letters}
-use Rattle.cf_view.specs.declared.Side.{Side}
 use Rattle.cf_view.specs.declared.Side.TheVariants as side
-use Rattle.cf_session.specs.Event.{AreEvents, AreRight, AreTaken, EndsPacket, EndsTick, IsBeginning, IsEvent, IsPacket, IsTick}
+use Rattle.cf_session.specs.Event.{AreEvents, AreRight, AreTaken, EndsPacket, EndsTick, IsEvent}
 use Rattle.cf_session.specs.Laws.{AreUncut, IsSentUpTo}
-use Rattle.cf_session.specs.Session.{Flow, SessionEvent, client_ends, clients, controller_ends, controllers, history, work_of}
+use Rattle.cf_session.specs.Session.{Flow, SessionEvent, client_ends, clients, controller_ends, controllers, history}
 use Rattle.cf_session.specs.Stands.{AreOver}
 use Rattle.cf_session.proofs.Beginning.{none_taken}
-use Rattle.cf_session.proofs.Fixed.{WorkIsOne, clients_right, controllers_right}
-use Rattle.cf_session.proofs.OneStream.{client_grown, controller_grown, tick_still}
-use Rattle.cf_session.proofs.Short.{client_short, controller_short}
+use Rattle.cf_session.proofs.Fixed.{WorkIsOne}
+use Rattle.cf_session.proofs.OneStream.{tick_still}
+use Rattle.cf_session.proofs.Short.{client_run, controller_run}
 
 -- ---- one leg
 
@@ -127,28 +125,12 @@ module _ (law : Reach) (go : StreamsGoOn) (quiet : QuietBehindEnd) (one : WorkIs
     (small : limit ≤ 2 ^ 30) (are : AreEvents f limit (e ∷ es)) (none : e.cut ≡ None) where
   pub controller_reaches : IsSentUpTo (controller_ends f).role (controllers (e ∷ es)) e.work.to_controller
   controller_reaches = λ is_open.
-      let g = controller_grown go quiet f limit (e ∷ es) are in
-      let said : Stream = stream_after (controllers (e ∷ es)) in
       let over = are_over f limit es e are none in
-      let run : IsRightRun (controller_ends f) (controllers (e ∷ es)) said = record {
-        right = controllers_right f limit (e ∷ es) are;
-        grows = g.grows;
-        on = extends_none said;
-        limit = omega (arith, small, controller_short one f limit (e ∷ es) are (uncut_before f limit es e are));
-      } in
-      law (controller_ends f) (controllers (e ∷ es)) said run over.controller is_open
+      law (controller_ends f) (controllers (e ∷ es)) _ (controller_run go quiet one f limit (e ∷ es) small are (uncut_before f limit es e are)) over.controller is_open
       ∙ ap (λ s. min (shown (controller_ends f).role (controllers (e ∷ es))) (letter_count s)) over.to_controller
 
   pub client_reaches : IsSentUpTo (client_ends f).role (clients (e ∷ es)) e.work.to_client
   client_reaches = λ is_open.
-      let g = client_grown go quiet f limit (e ∷ es) are in
-      let said : Stream = stream_after (clients (e ∷ es)) in
       let over = are_over f limit es e are none in
-      let run : IsRightRun (client_ends f) (clients (e ∷ es)) said = record {
-        right = clients_right f limit (e ∷ es) are;
-        grows = g.grows;
-        on = extends_none said;
-        limit = omega (arith, small, client_short one f limit (e ∷ es) are (uncut_before f limit es e are));
-      } in
-      law (client_ends f) (clients (e ∷ es)) said run over.client is_open
+      law (client_ends f) (clients (e ∷ es)) _ (client_run go quiet one f limit (e ∷ es) small are (uncut_before f limit es e are)) over.client is_open
       ∙ ap (λ s. min (shown (client_ends f).role (clients (e ∷ es))) (letter_count s)) over.to_client

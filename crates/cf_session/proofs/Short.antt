@@ -9,18 +9,21 @@ use Rattle.cf_lane.specs.History.{Element, ended_of, is_side}
 use Rattle.cf_lane.specs.Laws.{QuietBehindEnd, StreamsGoOn}
 use Rattle.cf_lane.specs.Limit.{limit_cut}
 use Rattle.cf_leg.specs.Event.{LegEvent, stream_after, stream_at}
-use Rattle.cf_leg.specs.OneStream.{IsRightRun}
+use Rattle.cf_leg.specs.Emits.{AllRight}
+use Rattle.cf_leg.specs.OneStream.{IsOneStream, IsRightRun}
+use Rattle.cf_leg.specs.declared.Ends.{Ends}
+use Rattle.cf_leg.specs.declared.Role.{Role}
 use Rattle.cf_stream.proofs.Extends.{extends_none}
 use Rattle.cf_stream.specs.Stream.{Byte, End, Extends, Letter, Stream, letter_count, no_letters}
 use Rattle.cf_view.specs.declared.Side.{Side}
 use Rattle.cf_view.specs.declared.Side.TheVariants as side
 use Rattle.cf_session.specs.Cuts.{reset_cut}
 use Rattle.cf_session.specs.Event.{AreEvents, EndsPacket, EndsTick, IsBeginning, IsPacket, IsTick}
-use Rattle.cf_session.specs.Laws.{AreUncut, AreUncutBefore, IsFront, IsReassembly, parts_of}
+use Rattle.cf_session.specs.Laws.{AreUncut, AreUncutBefore, CarriesOneStream, IsFront, IsReassembly, SegmentsCarryOneStream, parts_of}
 use Rattle.cf_session.specs.Session.{Flow, SessionEvent, client_ends, client_of, clients, closed_at, controller_ends, controllers, history, is_closed, was_closed, work_of}
 use Rattle.cf_session.specs.Work.{Work, Works, no_work}
 use Rattle.cf_session.proofs.Fixed.{WorkIsOne, clients_right, controllers_right}
-use Rattle.cf_session.proofs.OneStream.{Carried, all_parts, client_grown, controller_grown, front, or_true, tick_still, works_of}
+use Rattle.cf_session.proofs.OneStream.{Grown, all_parts, client_grown, controller_grown, front, or_true, tick_still, works_of}
 use Rattle.cf_session.proofs.Sound.{limits_none}
 
 -- ---- a closed session has taken both Ends
@@ -142,18 +145,25 @@ front_extends w v r e h = elim (cases_Bool w.ended) [ inl ended ↦ subst (λ x.
 
 -- ---- one stream
 
-module _ (law : Carried) (go : StreamsGoOn) (quiet : QuietBehindEnd) (one : WorkIsOne) (f : Flow) (limit : ℕ) (es : List SessionEvent) (r : List Letter)
-    (small : limit ≤ 2 ^ 30) (are : AreEvents f limit es) (uncut : AreUncutBefore es) where
-  pub to_controller : IsReassembly (parts_of (controller_ends f).role (controllers es)) r → IsFront (work_of es).to_controller r
-  to_controller re =
-      let g = controller_grown go quiet f limit es are in
-      let said : Stream = stream_after (controllers es) in
-      let run : IsRightRun (controller_ends f) (controllers es) said = record { right = controllers_right f limit es are; grows = g.grows; on = extends_none said; limit = omega (arith, small, controller_short one f limit es are uncut) } in
-      front_extends said (work_of es).to_controller r g.on (front said _ r (all_parts said (controller_ends f).role (controllers es) (law (controller_ends f) (controllers es) said run)) re)
+-- what a leg said is one stream that its events carry
+run_of : (ends : Ends) (ls : List LegEvent) (whole : Stream) (limit : ℕ) → limit ≤ 2 ^ 30 → AllRight ends ls → Grown ls whole → letter_count (stream_after ls) ≤ limit → IsRightRun ends ls (stream_after ls)
+run_of ends ls whole limit small right g short = record { right = right; grows = g.grows; on = extends_none (stream_after ls); limit = omega (arith, small, short) }
 
-  pub to_client : IsReassembly (parts_of (client_ends f).role (clients es)) r → IsFront (work_of es).to_client r
-  to_client re =
-      let g = client_grown go quiet f limit es are in
-      let said : Stream = stream_after (clients es) in
-      let run : IsRightRun (client_ends f) (clients es) said = record { right = clients_right f limit es are; grows = g.grows; on = extends_none said; limit = omega (arith, small, client_short one f limit es are uncut) } in
-      front_extends said (work_of es).to_client r g.on (front said _ r (all_parts said (client_ends f).role (clients es) (law (client_ends f) (clients es) said run)) re)
+module _ (go : StreamsGoOn) (quiet : QuietBehindEnd) (one : WorkIsOne) (f : Flow) (limit : ℕ) (es : List SessionEvent) (small : limit ≤ 2 ^ 30) (are : AreEvents f limit es) (uncut : AreUncutBefore es) where
+  pub controller_run : IsRightRun (controller_ends f) (controllers es) (stream_after (controllers es))
+  controller_run = run_of (controller_ends f) (controllers es) _ limit small (controllers_right f limit es are) (controller_grown go quiet f limit es are) (controller_short one f limit es are uncut)
+
+  pub client_run : IsRightRun (client_ends f) (clients es) (stream_after (clients es))
+  client_run = run_of (client_ends f) (clients es) _ limit small (clients_right f limit es are) (client_grown go quiet f limit es are) (client_short one f limit es are uncut)
+
+abbrev pub LegLaw : Type 0
+LegLaw = (ends : Ends) (es : List LegEvent) (whole : Stream) → IsRightRun ends es whole → IsOneStream whole ends.role es
+
+pub carries_one : LegLaw → StreamsGoOn → QuietBehindEnd → WorkIsOne → SegmentsCarryOneStream
+carries_one law go quiet one f limit es small are uncut = (
+  record { said = _; goes_on = (controller_grown go quiet f limit es are).on; one = law _ _ _ (controller_run go quiet one f limit es small are uncut) },
+  record { said = _; goes_on = (client_grown go quiet f limit es are).on; one = law _ _ _ (client_run go quiet one f limit es small are uncut) },
+)
+
+pub carried_front : (r : Role) (ls : List LegEvent) (whole : Stream) (taken : List Letter) → CarriesOneStream r ls whole → IsReassembly (parts_of r ls) taken → IsFront whole taken
+carried_front r ls whole taken c re = front_extends c.said whole taken c.goes_on (front c.said _ taken (all_parts c.said r ls c.one) re)

@@ -32,7 +32,7 @@ use Rattle.cf_session.specs.Sent.{at, line}
 use Rattle.cf_session.specs.Session.{Flow, SessionEvent, client_ends, client_of, clients, closed_at, controller_ends, controllers, history, is_closed, is_done, is_expired, is_past}
 use Rattle.cf_session.specs.Stands.{IsSessionOf, Ticks, TicksBy, life_by}
 use Rattle.cf_session.specs.Told.{Told, with_both}
-use Rattle.cf_session.specs.Turn.{CutsBoth}
+use Rattle.cf_session.specs.Turn.{RightCuts}
 
 -- ---- the clock calls
 
@@ -183,7 +183,7 @@ told_cut t0 t1 t2 now ps qs p q bytes a b =
 
 module _ (f : Flow) (es : List SessionEvent) (e : SessionEvent) (now : ℕ) (early : is_expired f (e ∷ es) now ≡ false) where
   module _ (fc : List PacketValue) (fired : fc ≡ fired_at (controller_ends f) (controllers (e ∷ es)) (clocked now [])) (silent : gives_up (controller_ends f).role (controllers (e ∷ es)) (clocked now []) ≡ true)
-      (t0 t1 t2 : Told) (first : t1 ≡ with_both t0 (at now fc) []) (cuts : CutsBoth f (controllers (e ∷ es)) (clients (e ∷ es)) (clocked now fc) (begun now) now (reason.NoAnswer side.Controller) t1 t2) where
+      (cuts : RightCuts f (controllers (e ∷ es)) (clients (e ∷ es)) (clocked now fc) (begun now)) where
     abbrev pub controller_silent : SessionEvent
     controller_silent = record {
       controller = record (clocked now fc) { ending = Cut cuts.to_controller };
@@ -198,13 +198,14 @@ module _ (f : Flow) (es : List SessionEvent) (e : SessionEvent) (now : ℕ) (ear
         (sym (silent_cut (gives_up (controller_ends f).role (controllers (e ∷ es)) (clocked now [])) (gives_up (client_ends f).role (clients (e ∷ es)) (begun now)) silent))
         (cuts.to_controller, refl) (cuts.to_client, refl)
 
-    pub silent_ticks : Ticks f (e ∷ es) now t0 t2 controller_silent
-    silent_ticks = record {
+    pub silent_ticks : (t0 t1 t2 : Told) → t1 ≡ with_both t0 (at now fc) [] → t2 ≡ with_both t1 (at now (cuts.to_controller ∷ cuts.to_client ∷ [])) (line f now (CutLine (reason.NoAnswer side.Controller)) ∷ []) →
+        Ticks f (e ∷ es) now t0 t2 controller_silent
+    silent_ticks t0 t1 t2 first told = record {
       kept = early;
       is_tick = silent_tick;
       told =
           (let nothing : t1 ≡ with_both t0 (at now (fc ++ [])) [] = first ∙ ap (λ xs. with_both t0 (at now xs) []) (sym (append-nil fc)) in
-          told_cut t0 t1 t2 now fc [] cuts.to_controller cuts.to_client _ nothing cuts.told
+          told_cut t0 t1 t2 now fc [] cuts.to_controller cuts.to_client _ nothing told
           ∙ ap (λ xs. with_both t0 (at now xs) (line f now (CutLine (reason.NoAnswer side.Controller)) ∷ []))
           (ap (λ xs. xs ++ cuts.to_controller ∷ cuts.to_client ∷ []) (append-nil fc) ∙ sym (append_assoc fc (cuts.to_controller ∷ []) (cuts.to_client ∷ []))));
     }
@@ -221,8 +222,7 @@ silent_fires ends es now e = none_fires (fires ends.role es (clocked now [])) (n
 module _ (f : Flow) (es : List SessionEvent) (e : SessionEvent) (now : ℕ) (early : is_expired f (e ∷ es) now ≡ false) where
   module _ (fc fd : List PacketValue) (fired : fc ≡ fired_at (controller_ends f) (controllers (e ∷ es)) (clocked now [])) (fired_client : fd ≡ fired_at (client_ends f) (clients (e ∷ es)) (clocked now []))
       (quiet : gives_up (controller_ends f).role (controllers (e ∷ es)) (clocked now []) ≡ false) (silent : gives_up (client_ends f).role (clients (e ∷ es)) (clocked now []) ≡ true)
-      (t0 t1 t2 t3 : Told) (first : t1 ≡ with_both t0 (at now fc) []) (second : t2 ≡ with_both t1 (at now fd) [])
-      (cuts : CutsBoth f (controllers (e ∷ es)) (clients (e ∷ es)) (clocked now fc) (clocked now fd) now (reason.NoAnswer side.Client) t2 t3) where
+      (cuts : RightCuts f (controllers (e ∷ es)) (clients (e ∷ es)) (clocked now fc) (clocked now fd)) where
     abbrev pub client_silent : SessionEvent
     client_silent = record {
       controller = record (clocked now fc) { ending = Cut cuts.to_controller };
@@ -232,15 +232,19 @@ module _ (f : Flow) (es : List SessionEvent) (e : SessionEvent) (now : ℕ) (ear
       cut = Some (reason.NoAnswer side.Client);
     }
 
-    pub client_silent_ticks : Ticks f (e ∷ es) now t0 t3 client_silent
-    client_silent_ticks = record {
+    pub client_silent_tick : IsTick f (e ∷ es) now client_silent
+    client_silent_tick = is_tick f es e now fc fd true (Cut cuts.to_controller) (Cut cuts.to_client) (Some (reason.NoAnswer side.Client)) (record { controller = cuts.controller_right; client = cuts.client_right }) (sym (ap not quiet))
+        (sym (silent_client (gives_up (controller_ends f).role (controllers (e ∷ es)) (clocked now [])) (gives_up (client_ends f).role (clients (e ∷ es)) (clocked now [])) quiet silent))
+        (cuts.to_controller, refl) (cuts.to_client, refl)
+
+    pub client_silent_ticks : (t0 t1 t2 t3 : Told) → t1 ≡ with_both t0 (at now fc) [] → t2 ≡ with_both t1 (at now fd) [] →
+        t3 ≡ with_both t2 (at now (cuts.to_controller ∷ cuts.to_client ∷ [])) (line f now (CutLine (reason.NoAnswer side.Client)) ∷ []) → Ticks f (e ∷ es) now t0 t3 client_silent
+    client_silent_ticks t0 t1 t2 t3 first second told = record {
       kept = early;
-      is_tick = is_tick f es e now fc fd true (Cut cuts.to_controller) (Cut cuts.to_client) (Some (reason.NoAnswer side.Client)) (record { controller = cuts.controller_right; client = cuts.client_right }) (sym (ap not quiet))
-          (sym (silent_client (gives_up (controller_ends f).role (controllers (e ∷ es)) (clocked now [])) (gives_up (client_ends f).role (clients (e ∷ es)) (clocked now [])) quiet silent))
-          (cuts.to_controller, refl) (cuts.to_client, refl);
+      is_tick = client_silent_tick;
       told =
           (let none : fd ≡ [] = fired_client ∙ silent_fires (client_ends f) (clients (e ∷ es)) now silent in
-          told_cut t0 t2 t3 now fc fd cuts.to_controller cuts.to_client _ (then_sent t0 t1 t2 now fc fd first second) cuts.told
+          told_cut t0 t2 t3 now fc fd cuts.to_controller cuts.to_client _ (then_sent t0 t1 t2 now fc fd first second) told
           ∙ ap (λ xs. with_both t0 (at now xs) (line f now (CutLine (reason.NoAnswer side.Client)) ∷ []))
           (ap (λ d. (fc ++ d) ++ cuts.to_controller ∷ cuts.to_client ∷ []) none ∙ ap (λ xs. xs ++ cuts.to_controller ∷ cuts.to_client ∷ []) (append-nil fc)
           ∙ sym (append_assoc fc (cuts.to_controller ∷ []) (cuts.to_client ∷ [])) ∙ ap (λ d. (fc ++ cuts.to_controller ∷ []) ++ (d ++ cuts.to_client ∷ [])) (sym none)));

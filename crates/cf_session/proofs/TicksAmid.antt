@@ -1,5 +1,5 @@
 -- The first half of an event of a session, where the desk failed amid it.
-use Rattle.std.proofs.Common.{◌≡◌, ℕ, Bool, true, false, not, ◌&&◌, List, [], ◌∷◌, ◌++◌, cond, None, refl, sym, ap, ◌∙◌, subst, append_assoc, inl, inr}
+use Rattle.std.proofs.Common.{◌≡◌, ℕ, Bool, true, false, not, ◌&&◌, List, [], ◌∷◌, ◌++◌, cond, refl, sym, ap, ◌∙◌, subst, append_assoc, inl, inr}
 use Rattle.std.specs.Prelude.{nat_le, nat_lt}
 use Rattle.std.proofs.lemmas.Bool.{cases_Bool}
 use Rattle.std.proofs.lemmas.List.{append-nil}
@@ -17,19 +17,17 @@ use Rattle.cf_view.specs.declared.Side.TheVariants as side
 use Rattle.cf_session.proofs.Able.{can_cut, can_fire}
 use Rattle.cf_session.proofs.Amid.{amid_after, amid_as, amid_before, amid_sent}
 use Rattle.cf_session.proofs.Telling.{at-append}
-use Rattle.cf_session.proofs.Ticks.{client_silent, client_silent_ticks, controller_silent, live_tick, open_tick, silent_fires, silent_tick, ticking_at}
-use Rattle.cf_session.specs.Broken.{BreaksTick, KeepsParts}
+use Rattle.cf_session.proofs.Ticks.{client_silent, controller_silent, live_tick, open_tick, silent_fires, silent_tick, ticking_at, client_silent_tick}
+use Rattle.cf_outside.specs.Frames.{EmitsAndLogs, OnlyEmits}
+use Rattle.cf_session.specs.Broken.{BreaksTick}
 use Rattle.cf_session.specs.Cuts.{gives_up}
 use Rattle.cf_session.specs.Event.{AreTaken, IsTick}
 use Rattle.cf_session.specs.Parts.{SessionValue}
 use Rattle.cf_session.specs.Sent.{at, early, is_first_half, logged_first, sent_first}
 use Rattle.cf_session.specs.Session.{Flow, SessionEvent, client_ends, clients, controller_ends, controllers, history, is_expired}
 use Rattle.cf_session.specs.Stands.{AreOver, IsSessionOf}
-use Rattle.cf_session.specs.Told.{Told, told, with_both}
-use Rattle.cf_session.specs.Turn.{CutsAmid, CutsBoth}
-
-abbrev nothing_told : Told
-nothing_told = record { packets = None; lines = None }
+use Rattle.cf_session.specs.Told.{told, with_both}
+use Rattle.cf_session.specs.Turn.{CutsBoth, RightCuts}
 
 -- what fires is fixed by the moment of the clock call
 abbrev fired_as : (ends : Ends) (es : List LegEvent) → Bool → ℕ → List PacketValue
@@ -78,18 +76,16 @@ module _ (f : Flow) (es : List SessionEvent) (e : SessionEvent) (over : AreOver 
     -- the controller is silent for too long
     tick_silent : gives_up (controller_ends f).role (controllers (e ∷ es)) (clocked now []) ≡ true → (t : SessionEvent) × IsTick f (e ∷ es) now t
     tick_silent silent =
-        let cuts : CutsBoth f (controllers (e ∷ es)) (clients (e ∷ es)) (clocked now fired_c) (begun now) now (reason.NoAnswer side.Controller) (with_both nothing_told (at now fired_c) []) _ =
-        record { to_controller = rst_c.0; controller_right = rst_c.1; to_client = rst_begun.0; client_right = rst_begun.1; told = refl } in
-        (controller_silent f es e now unexpired fired_c refl silent nothing_told _ _ refl cuts, silent_tick f es e now unexpired fired_c refl silent nothing_told _ _ refl cuts)
+        let cuts : RightCuts f (controllers (e ∷ es)) (clients (e ∷ es)) (clocked now fired_c) (begun now) =
+        record { to_controller = rst_c.0; controller_right = rst_c.1; to_client = rst_begun.0; client_right = rst_begun.1 } in
+        (_, silent_tick f es e now unexpired fired_c refl silent cuts)
 
     tick_by : (b : Bool) → gives_up (controller_ends f).role (controllers (e ∷ es)) (clocked now []) ≡ false → gives_up (client_ends f).role (clients (e ∷ es)) (clocked now []) ≡ b →
         (t : SessionEvent) × IsTick f (e ∷ es) now t
     tick_by true quiet silent =
-        let cuts : CutsBoth f (controllers (e ∷ es)) (clients (e ∷ es)) (clocked now fired_c) (clocked now fired_d) now (reason.NoAnswer side.Client) (with_both (with_both nothing_told (at now fired_c) []) (at now fired_d) []) _ =
-        record { to_controller = rst_c.0; controller_right = rst_c.1; to_client = rst_d.0; client_right = rst_d.1; told = refl } in (
-          client_silent f es e now unexpired fired_c fired_d refl refl quiet silent nothing_told _ _ _ refl refl cuts,
-          (client_silent_ticks f es e now unexpired fired_c fired_d refl refl quiet silent nothing_told _ _ _ refl refl cuts).is_tick,
-        )
+        let cuts : RightCuts f (controllers (e ∷ es)) (clients (e ∷ es)) (clocked now fired_c) (clocked now fired_d) =
+        record { to_controller = rst_c.0; controller_right = rst_c.1; to_client = rst_d.0; client_right = rst_d.1 } in
+        (_, client_silent_tick f es e now unexpired fired_c fired_d refl refl quiet silent cuts)
     tick_by false quiet silent = (ticking_at f es e now fired_c fired_d, open_tick f es e now quiet silent fired_c fired_d fires_c fires_d)
 
     pub has_tick : (t : SessionEvent) × IsTick f (e ∷ es) now t
@@ -135,8 +131,8 @@ module _ (f : Flow) (es : List SessionEvent) (e : SessionEvent) (s : SessionValu
 
     module _ (old mid new : DeskValue) where
       -- the clock call of the controller's leg failed
-      pub controller_failed : ClockBreaks now s.controller s.to_controller old new → new.lines ≡ old.lines → new.line_part ≡ old.line_part → BreaksTick f (e ∷ es) now old new
-      controller_failed h lines part =
+      pub controller_failed : {failed : Bool} → ClockBreaks now s.controller s.to_controller old new → OnlyEmits old new failed → BreaksTick f (e ∷ es) now old new
+      controller_failed h sends =
           let t = first_half in
           let queue = subst (IsQueueOf s.to_controller) (sym stands.over.to_controller) stands.parts.to_controller in
           let right = subst (λ n. IsRight n cs (clocked now (h.out ∷ []))) stands.parts.controller.is (h.right cs stands.over.controller stands.parts.controller.stands queue) in
@@ -147,29 +143,27 @@ module _ (f : Flow) (es : List SessionEvent) (e : SessionEvent) (s : SessionValu
             is_tick = t.1;
             amid = amid_as (at now (h.out ∷ []) ++ rest) (sent_first t.0) ([] ++ logged_first f t.0) (logged_first f t.0) old new
                 (ap (λ ps. at now ps ++ rest) right.fired ∙ sym (sends_first t.0 t.1)) refl
-                (amid_before (at now (h.out ∷ [])) rest [] (logged_first f t.0) old new (amid_sent now (h.out ∷ []) old new h.breaks lines part));
+                (amid_before (at now (h.out ∷ [])) rest [] (logged_first f t.0) old new (amid_sent now (h.out ∷ []) old new h.breaks sends));
           }
 
-      module _ (first : told mid ≡ with_both (told old) (at now fc) []) (parts : KeepsParts old mid) (octets : mid.octets ≡ old.octets) where
+      module _ (first : told mid ≡ with_both (told old) (at now fc) []) (frame : EmitsAndLogs old mid false) where
         -- the controller was silent for too long, and the cut failed
         pub controller_cut_failed : gives_up (controller_ends f).role cs (clocked now []) ≡ true →
-            CutsAmid f cs ds (clocked now fc) (begun now) now (reason.NoAnswer side.Controller) mid new → BreaksTick f (e ∷ es) now old new
+            CutsBoth f cs ds (clocked now fc) (begun now) now (reason.NoAnswer side.Controller) mid new true → BreaksTick f (e ∷ es) now old new
         controller_cut_failed silent h =
-            let cuts : CutsBoth f cs ds (clocked now fc) (begun now) now (reason.NoAnswer side.Controller) (with_both (told old) (at now fc) []) _ =
-            record { to_controller = h.to_controller; controller_right = h.controller_right; to_client = h.to_client; client_right = h.client_right; told = refl } in
             record {
-              event = controller_silent f es e now unexpired fc refl silent (told old) _ _ refl cuts;
+              event = controller_silent f es e now unexpired fc refl silent h.rsts;
               kept = unexpired;
-              is_tick = silent_tick f es e now unexpired fc refl silent (told old) _ _ refl cuts;
-              amid = amid_as (at now fc ++ at now (h.to_controller ∷ h.to_client ∷ [])) _ _ _ old new
-                  (sym (at-append now fc (h.to_controller ∷ h.to_client ∷ [])) ∙ ap (at now) (sym (append_assoc fc (h.to_controller ∷ []) (h.to_client ∷ [])))) refl
-                  (amid_after (at now fc) (at now (h.to_controller ∷ h.to_client ∷ [])) [] _ old mid new first parts octets h.amid);
+              is_tick = silent_tick f es e now unexpired fc refl silent h.rsts;
+              amid = amid_as (at now fc ++ at now (h.rsts.to_controller ∷ h.rsts.to_client ∷ [])) _ _ _ old new
+                  (sym (at-append now fc (h.rsts.to_controller ∷ h.rsts.to_client ∷ [])) ∙ ap (at now) (sym (append_assoc fc (h.rsts.to_controller ∷ []) (h.rsts.to_client ∷ [])))) refl
+                  (amid_after (at now fc) (at now (h.rsts.to_controller ∷ h.rsts.to_client ∷ [])) [] _ old mid new first frame h.gets);
             }
 
         -- the clock call of the client's leg failed
-        pub client_failed : gives_up (controller_ends f).role cs (clocked now []) ≡ false → ClockBreaks now s.client s.to_client mid new → new.lines ≡ mid.lines → new.line_part ≡ mid.line_part →
+        pub client_failed : {failed : Bool} → gives_up (controller_ends f).role cs (clocked now []) ≡ false → ClockBreaks now s.client s.to_client mid new → OnlyEmits mid new failed →
             BreaksTick f (e ∷ es) now old new
-        client_failed quiet h lines part =
+        client_failed quiet h sends =
             let queue = subst (IsQueueOf s.to_client) (sym stands.over.to_client) stands.parts.to_client in
             let right = subst (λ n. IsRight n ds (clocked now (h.out ∷ []))) stands.parts.client.is (h.right ds stands.over.client stands.parts.client.stands queue) in
             let silent = sends_on (client_ends f) ds now h.out right.fired in
@@ -179,25 +173,23 @@ module _ (f : Flow) (es : List SessionEvent) (e : SessionEvent) (s : SessionValu
               is_tick = live_tick f es e now s stands unexpired quiet silent right_c right_d;
               amid = amid_as (at now fc ++ at now (h.out ∷ [])) (sent_first (ticking_at f es e now fc fd)) _ _ old new
                   (sym (at-append now fc (h.out ∷ [])) ∙ ap (λ ps. at now (fc ++ ps)) right.fired ∙ ap (λ ps. at now (ps ++ fd)) (sym (append-nil fc)) ∙ ap (λ ps. at now ((fc ++ []) ++ ps)) (sym (append-nil fd))) refl
-                  (amid_after (at now fc) (at now (h.out ∷ [])) [] [] old mid new first parts octets (amid_sent now (h.out ∷ []) mid new h.breaks lines part));
+                  (amid_after (at now fc) (at now (h.out ∷ [])) [] [] old mid new first frame (amid_sent now (h.out ∷ []) mid new h.breaks sends));
             }
 
       -- the client was silent for too long, and the cut failed
       pub client_cut_failed : gives_up (controller_ends f).role cs (clocked now []) ≡ false → gives_up (client_ends f).role ds (clocked now []) ≡ true →
-          told mid ≡ with_both (told old) (at now (fc ++ fd)) [] → KeepsParts old mid → mid.octets ≡ old.octets →
-          CutsAmid f cs ds (clocked now fc) (clocked now fd) now (reason.NoAnswer side.Client) mid new → BreaksTick f (e ∷ es) now old new
-      client_cut_failed quiet silent both parts octets h =
-          let cuts : CutsBoth f cs ds (clocked now fc) (clocked now fd) now (reason.NoAnswer side.Client) (with_both (with_both (told old) (at now fc) []) (at now fd) []) _ =
-          record { to_controller = h.to_controller; controller_right = h.controller_right; to_client = h.to_client; client_right = h.client_right; told = refl } in
-          let t = client_silent f es e now unexpired fc fd refl refl quiet silent (told old) _ _ _ refl refl cuts in
+          told mid ≡ with_both (told old) (at now (fc ++ fd)) [] → EmitsAndLogs old mid false →
+          CutsBoth f cs ds (clocked now fc) (clocked now fd) now (reason.NoAnswer side.Client) mid new true → BreaksTick f (e ∷ es) now old new
+      client_cut_failed quiet silent both frame h =
+          let t = client_silent f es e now unexpired fc fd refl refl quiet silent h.rsts in
           let none : fd ≡ [] = silent_fires (client_ends f) ds now silent in
           record {
             event = t;
             kept = unexpired;
-            is_tick = (client_silent_ticks f es e now unexpired fc fd refl refl quiet silent (told old) _ _ _ refl refl cuts).is_tick;
-            amid = amid_as (at now (fc ++ fd) ++ at now (h.to_controller ∷ h.to_client ∷ [])) (sent_first t) _ _ old new
-                (sym (at-append now (fc ++ fd) (h.to_controller ∷ h.to_client ∷ []))
-                ∙ ap (λ d. at now ((fc ++ d) ++ h.to_controller ∷ h.to_client ∷ [])) none ∙ ap (λ xs. at now (xs ++ h.to_controller ∷ h.to_client ∷ [])) (append-nil fc)
-                ∙ ap (at now) (sym (append_assoc fc (h.to_controller ∷ []) (h.to_client ∷ []))) ∙ ap (λ d. at now ((fc ++ h.to_controller ∷ []) ++ (d ++ h.to_client ∷ []))) (sym none)) refl
-                (amid_after (at now (fc ++ fd)) (at now (h.to_controller ∷ h.to_client ∷ [])) [] _ old mid new both parts octets h.amid);
+            is_tick = client_silent_tick f es e now unexpired fc fd refl refl quiet silent h.rsts;
+            amid = amid_as (at now (fc ++ fd) ++ at now (h.rsts.to_controller ∷ h.rsts.to_client ∷ [])) (sent_first t) _ _ old new
+                (sym (at-append now (fc ++ fd) (h.rsts.to_controller ∷ h.rsts.to_client ∷ []))
+                ∙ ap (λ d. at now ((fc ++ d) ++ h.rsts.to_controller ∷ h.rsts.to_client ∷ [])) none ∙ ap (λ xs. at now (xs ++ h.rsts.to_controller ∷ h.rsts.to_client ∷ [])) (append-nil fc)
+                ∙ ap (at now) (sym (append_assoc fc (h.rsts.to_controller ∷ []) (h.rsts.to_client ∷ []))) ∙ ap (λ d. at now ((fc ++ h.rsts.to_controller ∷ []) ++ (d ++ h.rsts.to_client ∷ []))) (sym none)) refl
+                (amid_after (at now (fc ++ fd)) (at now (h.rsts.to_controller ∷ h.rsts.to_client ∷ [])) [] _ old mid new both frame h.gets);
           }

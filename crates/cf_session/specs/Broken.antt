@@ -1,6 +1,6 @@
 -- What stands on a desk that failed amid a call of a session, `BreaksAmid`: a beginning of what the right event sends and logs in that
 -- half. Below it stands one for each call.
-use Rattle.std.specs.Prelude.{◌≡◌, ◌⊎◌, ℕ, false, List, [], ◌++◌, take}
+use Rattle.std.specs.Prelude.{◌≡◌, ◌⊎◌, ℕ, Bool, true, false, Result, Ok, Err, List, [], ◌++◌, take}
 use Rattle.std.specs.List.{concat, flat_map}
 use Rattle.cf_outside.specs.Desk.{DeskValue, SentValue}
 use Rattle.cf_packet.specs.Packet.{PacketValue}
@@ -8,6 +8,8 @@ use Rattle.cf_view.specs.declared.Side.{Side}
 use Rattle.cf_session.specs.Event.{IsBeginning, IsPacket, IsTick}
 use Rattle.cf_session.specs.Sent.{Sent, logged_first, logged_second, sent_first, sent_second}
 use Rattle.cf_session.specs.Session.{Flow, SessionEvent, is_expired}
+use Rattle.cf_session.specs.declared.session.BeginFault.{BeginFault}
+use Rattle.cf_session.specs.declared.session.BeginFault.TheVariants as fault
 use Rattle.cf_session.specs.Told.{emitted, told, with_both}
 
 -- the octets of packets, one after the other, as a desk spells them
@@ -30,12 +32,23 @@ pub record BreaksAmid (sent : List Sent) (lines : List (List ℕ)) (old new : De
   pub packet_part : IsPartOf (octets_of old.octets left) old.packet_part new.packet_part
   pub line_part : IsPartOf (concat missing) old.line_part new.line_part
 
+-- the desk got these packets and these lines: all of them, or, where it failed, a beginning
+abbrev pub Gets : (failed : Bool) → List Sent → (lines : List (List ℕ)) → (old new : DeskValue) → Type 0
+Gets false sent lines old new = told new ≡ with_both (told old) sent lines
+Gets true sent lines old new = BreaksAmid sent lines old new
+
 -- what stands after the last whole packet and the last whole line is as it was, as after each call that did not fail
 pub record KeepsParts (old new : DeskValue) : Type 0 where
   pub packet_part : new.packet_part ≡ old.packet_part
   pub line_part : new.line_part ≡ old.line_part
 
 -- ---- each call
+
+-- no session began, since the desk failed
+abbrev pub has_failed : {A : Type 0} → Result A BeginFault → Bool
+has_failed (Ok session) = false
+has_failed (Err fault.NoMemory) = false
+has_failed (Err fault.Write) = true
 
 -- no line was written, not even in part
 pub record KeepsLines (old new : DeskValue) : Type 0 where

@@ -3,12 +3,13 @@
 use Rattle.std.specs.Prelude.{◌≡◌, ℕ, ◌+◌, ◌^◌, ◌≤◌, min, true, false, List, [], ◌∷◌, ◌++◌, length, map, slice_get, Option, None, Some, ℤ}
 use Rattle.cf_leg.specs.Event.{Came, Greeting, LegEvent, Nothing, Packet, sent_in}
 use Rattle.cf_leg.specs.Heard.{opened, shown}
+use Rattle.cf_leg.specs.OneStream.{IsOneStream}
 use Rattle.cf_leg.specs.Segment.{letters_in}
 use Rattle.cf_leg.specs.Told.{letters_sent, letters_sent_at, letters_sent_by, own_number}
 use Rattle.cf_leg.specs.declared.Role.{Role}
 use Rattle.cf_packet.specs.Packet.{PacketValue}
 use Rattle.cf_stream.specs.Position.{position}
-use Rattle.cf_stream.specs.Stream.{End, Letter, Stream, letter_count, letter_from, letters}
+use Rattle.cf_stream.specs.Stream.{End, Extends, Letter, Stream, letter_count, letter_from, letters}
 use Rattle.cf_session.specs.Event.{AreEvents, IsTick}
 use Rattle.cf_session.specs.Session.{Flow, SessionEvent, client_ends, client_of, clients, controller_ends, controllers, history, is_expired, work_of}
 use Rattle.cf_session.specs.Work.{Works}
@@ -92,7 +93,20 @@ abbrev pub AreUncutBefore : List SessionEvent → Type 0
 AreUncutBefore [] = Unit {0}
 AreUncutBefore (event ∷ earlier) = AreUncut earlier
 
+-- each segment of an end carries the letters of one stream at its places, and the session's stream to its peer begins with that
+pub record CarriesOneStream (role : Role) (events : List LegEvent) (whole : Stream) : Type 0 where
+  pub said : Stream
+  pub goes_on : Extends said whole
+  pub one : IsOneStream said role events
+
 -- so it is towards the controller, and towards the client, of every session
+abbrev pub SegmentsCarryOneStream : Type 0
+SegmentsCarryOneStream =
+    (flow : Flow) (limit : ℕ) (events : List SessionEvent) → limit ≤ 2 ^ 30 → AreEvents flow limit events → AreUncutBefore events →
+    CarriesOneStream (controller_ends flow).role (controllers events) (work_of events).to_controller
+    × CarriesOneStream (client_ends flow).role (clients events) (work_of events).to_client
+
+-- so what either side puts together is a front of the stream to it
 abbrev pub HasOneStream : Type 0
 HasOneStream =
     (flow : Flow) (limit : ℕ) (events : List SessionEvent) (taken : List Letter) → limit ≤ 2 ^ 30 → AreEvents flow limit events → AreUncutBefore events →

@@ -26,7 +26,7 @@ use Rattle.cf_policy.specs.declared.Asset.{Asset}
 use Rattle.cf_view.specs.declared.Endpoint.{Endpoint}
 use Rattle.cf_view.specs.declared.Side.{Side}
 use Rattle.cf_view.specs.declared.Side.TheVariants as side
-use Rattle.cf_session.specs.Broken.{BreaksAmid}
+use Rattle.cf_session.specs.Broken.{BreaksAmid, Gets}
 use Rattle.cf_session.specs.Event.{AreTaken, came_controller}
 use Rattle.cf_session.specs.Stands.{HasRoomFor}
 use Rattle.cf_session.specs.Parts.{AreParts, IsLaneAfter, IsPassive, IsLegBetween, SessionValue, open_places, other_queue, own_queue}
@@ -35,13 +35,17 @@ use Rattle.cf_session.specs.Session.{Flow, SessionEvent, client_ends, client_of,
 use Rattle.cf_session.specs.Told.{Told, with_both}
 use Rattle.cf_session.specs.Work.{Work, Works, fed_at, no_work}
 
--- both sides have their RST, and the log its line
-pub record CutsBoth (flow : Flow) (controllers clients : List LegEvent) (controller client : LegEvent) (now : ℕ) (because : CutReason) (old new : Told) : Type 0 where
+-- the RSTs of a cut
+pub record RightCuts (flow : Flow) (controllers clients : List LegEvent) (controller client : LegEvent) : Type 0 where
   pub to_controller : PacketValue
   pub controller_right : IsRight (controller_ends flow) controllers (record controller { ending = LegCut to_controller })
   pub to_client : PacketValue
   pub client_right : IsRight (client_ends flow) clients (record client { ending = LegCut to_client })
-  pub told : new ≡ with_both old (at now (to_controller ∷ to_client ∷ [])) (line flow now (CutLine because) ∷ [])
+
+-- both sides have their RST, and the log its line; or the desk failed amid that
+pub record CutsBoth (flow : Flow) (controllers clients : List LegEvent) (controller client : LegEvent) (now : ℕ) (because : CutReason) (old new : DeskValue) (failed : Bool) : Type 0 where
+  pub rsts : RightCuts flow controllers clients controller client
+  pub gets : Gets failed (at now (rsts.to_controller ∷ rsts.to_client ∷ [])) (line flow now (CutLine because) ∷ []) old new
 
 -- a session to which nothing happened
 pub record IsMade (flow : Flow) (s : SessionValue) : Type 0 where
@@ -299,14 +303,6 @@ closing_lines asset s now =
     if is_done_now s && not (is_some s.closed) then line_about asset s.source now (Close s.lane.admitted s.lane.refused) ∷ [] else []
 
 -- ---- the same where the desk failed amid it: what is right to send and to log, of which the desk got a beginning
-
--- the RSTs of both sides, and the line
-pub record CutsAmid (flow : Flow) (controllers clients : List LegEvent) (controller client : LegEvent) (now : ℕ) (because : CutReason) (old new : DeskValue) : Type 0 where
-  pub to_controller : PacketValue
-  pub controller_right : IsRight (controller_ends flow) controllers (record controller { ending = LegCut to_controller })
-  pub to_client : PacketValue
-  pub client_right : IsRight (client_ends flow) clients (record client { ending = LegCut to_client })
-  pub amid : BreaksAmid (at now (to_controller ∷ to_client ∷ [])) (line flow now (CutLine because) ∷ []) old new
 
 -- letters that are handed to the lane: the lines by which its work goes on
 pub record FollowsAmid (asset : Asset) (client : Endpoint) (now : ℕ) (s : Side) (earlier : List Element) (before : Work) (letters : Stream) (old new : DeskValue) : Type 0 where

@@ -1,8 +1,9 @@
 //! The first half of an event: the clock calls.
-ghost use Rattle.std.specs.Prelude.{◌≡◌, ◌+◌, ◌-◌, ◌*◌, ◌^◌, ◌<◌, ◌≤◌, true, List, [], ◌∷◌, IfOk, IsErr, OnErr, OnOk};
-ghost use Rattle.cf_outside.specs.Desk.{DeskValue, KeepsDesk};
-ghost use Rattle.cf_outside.specs.Faults.{HasCause};
-ghost use Rattle.cf_session.specs.Broken.{BreaksTick, KeepsParts};
+ghost use Rattle.std.specs.Prelude.{◌≡◌, ◌+◌, ◌-◌, ◌*◌, ◌^◌, ◌<◌, ◌≤◌, true, List, [], ◌∷◌, IfOk, OnErr, OnOk};
+ghost use Rattle.std.specs.Result.{is_err};
+ghost use Rattle.cf_outside.specs.Desk.{DeskValue};
+ghost use Rattle.cf_outside.specs.Frames.{EmitsAndLogs};
+ghost use Rattle.cf_session.specs.Broken.{BreaksTick};
 ghost use Rattle.cf_session.specs.Cuts.{is_no_answer};
 ghost use Rattle.cf_session.specs.Parts.{SessionValue};
 ghost use Rattle.cf_session.specs.Session.{Flow, SessionEvent, is_past};
@@ -38,12 +39,9 @@ impl Session {
         ensures broken { OnErr result ((flow : Flow) (earlier : List SessionEvent) (last : SessionEvent) → flow.asset ≡ asset.now
             → IsSessionOf flow earlier last self.old
             → BreaksTick flow (last ∷ earlier) now (D.value desk.old) (D.value desk.new)) }
-        ensures parts { OnOk result (KeepsParts (D.value desk.old) (D.value desk.new)) }
         ensures sound { IfOk result (λ life. IsLife life → IsSound asset.now self.new) }
         ensures same { (SessionValue.limit self.new ≡ SessionValue.limit self.old) × (SessionValue.source self.new ≡ SessionValue.source self.old) }
-        ensures keeps { KeepsDesk (D.value desk.old) (D.value desk.new) }
-        ensures whole { OnOk result (DeskValue.whole (D.value desk.new) ≡ true) }
-        ensures cause { HasCause (DeskValue.faults (D.value desk.old)) (DeskValue.faults (D.value desk.new)) (IsErr result) }
+        ensures frame { EmitsAndLogs (D.value desk.old) (D.value desk.new) (is_err result) }
     {
         if is_over(self.closed, now) {
             return Ok(Life::Expired);

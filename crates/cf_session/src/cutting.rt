@@ -1,18 +1,17 @@
 //! How a session is cut, and the lines that it writes.
-ghost use Rattle.std.specs.Prelude.{◌≡◌, ◌+◌, ◌*◌, ◌^◌, ◌<◌, ◌≤◌, true, List, [], ◌∷◌, IfOk, IsErr, OnErr, OnOk};
+ghost use Rattle.std.specs.Prelude.{false, ◌≡◌, ◌+◌, ◌*◌, ◌^◌, ◌<◌, ◌≤◌, true, List, [], ◌∷◌, IfOk, OnErr, OnOk};
+ghost use Rattle.std.specs.Result.{is_err};
 ghost use Rattle.cf_audit.specs.Line.{HasShortRule, what_value};
-ghost use Rattle.cf_lane.specs.Handled.{HasAdded, MayHaveAdded, WritesLog};
+ghost use Rattle.cf_lane.specs.Handled.{HasAdded, MayHaveAdded};
 ghost use Rattle.cf_lane.specs.Log.{HasPlainRule, line_about};
 ghost use Rattle.cf_leg.specs.Event.{LegEvent, Unspoken};
-ghost use Rattle.cf_outside.specs.Desk.{DeskValue, KeepsDesk};
-ghost use Rattle.cf_outside.specs.Faults.{HasCause};
+ghost use Rattle.cf_outside.specs.Desk.{DeskValue};
+ghost use Rattle.cf_outside.specs.Frames.{EmitsAndLogs, OnlyLogs};
 ghost use Rattle.cf_policy.specs.Within.{IsAssetWithin};
 ghost use Rattle.cf_rebuild.specs.ReceiveWindow.{base_of};
-ghost use Rattle.cf_session.specs.Broken.{KeepsParts};
 ghost use Rattle.cf_session.specs.Parts.{IsLegBetween, SessionValue};
 ghost use Rattle.cf_session.specs.Session.{Flow, client_ends, client_of, controller_ends};
-ghost use Rattle.cf_session.specs.Told.{told};
-ghost use Rattle.cf_session.specs.Turn.{CutsAmid, CutsBoth};
+ghost use Rattle.cf_session.specs.Turn.{CutsBoth};
 
 use crate::life::Life;
 use crate::session::Session;
@@ -36,9 +35,7 @@ pub(crate) fn log_line<D: Desk>(
     requires whole { DeskValue.whole (D.value desk.old) ≡ true }
     ensures lines { OnOk result (HasAdded (line_about asset.now client now (what_value what.entry) ∷ []) (D.value desk.old) (D.value desk.new)) }
     ensures fails { OnErr result (MayHaveAdded (line_about asset.now client now (what_value what.entry) ∷ []) (D.value desk.old) (D.value desk.new)) }
-    ensures whole { OnOk result (DeskValue.whole (D.value desk.new) ≡ true) }
-    ensures log { WritesLog (D.value desk.old) (D.value desk.new) }
-    ensures cause { HasCause (DeskValue.faults (D.value desk.old)) (DeskValue.faults (D.value desk.new)) (IsErr result) }
+    ensures frame { OnlyLogs (D.value desk.old) (D.value desk.new) (is_err result) }
 {
     let line = Line {
         moment: now,
@@ -66,16 +63,13 @@ impl Session {
         ensures cuts { IfOk result (λ life. (life ≡ Life.Cut reason) × ((flow : Flow) (cs ds : List LegEvent) (c d : LegEvent) → flow.asset ≡ asset.now → SessionValue.source self.old ≡ client_of flow
             → IsLegBetween (controller_ends flow) (SessionValue.controller self.old) (SessionValue.to_controller self.old) (record c { ending = Unspoken } ∷ cs)
             → IsLegBetween (client_ends flow) (SessionValue.client self.old) (SessionValue.to_client self.old) (record d { ending = Unspoken } ∷ ds)
-            → CutsBoth flow cs ds c d now reason (told (D.value desk.old)) (told (D.value desk.new)))) }
+            → CutsBoth flow cs ds c d now reason (D.value desk.old) (D.value desk.new) false)) }
         ensures broken { OnErr result ((flow : Flow) (cs ds : List LegEvent) (c d : LegEvent) → flow.asset ≡ asset.now → SessionValue.source self.old ≡ client_of flow
             → IsLegBetween (controller_ends flow) (SessionValue.controller self.old) (SessionValue.to_controller self.old) (record c { ending = Unspoken } ∷ cs)
             → IsLegBetween (client_ends flow) (SessionValue.client self.old) (SessionValue.to_client self.old) (record d { ending = Unspoken } ∷ ds)
-            → CutsAmid flow cs ds c d now reason (D.value desk.old) (D.value desk.new)) }
+            → CutsBoth flow cs ds c d now reason (D.value desk.old) (D.value desk.new) true) }
         ensures same { (SessionValue.limit self.new ≡ SessionValue.limit self.old) × (SessionValue.source self.new ≡ SessionValue.source self.old) × (SessionValue.lane self.new ≡ SessionValue.lane self.old) }
-        ensures parts { OnOk result (KeepsParts (D.value desk.old) (D.value desk.new)) }
-        ensures keeps { KeepsDesk (D.value desk.old) (D.value desk.new) }
-        ensures whole { OnOk result (DeskValue.whole (D.value desk.new) ≡ true) }
-        ensures cause { HasCause (DeskValue.faults (D.value desk.old)) (DeskValue.faults (D.value desk.new)) (IsErr result) }
+        ensures frame { EmitsAndLogs (D.value desk.old) (D.value desk.new) (is_err result) }
     {
         self.controller.cut(now, &self.to_controller, desk)?;
         self.client.cut(now, &self.to_client, desk)?;

@@ -1,13 +1,14 @@
 //! Whether a packet cuts a session, and whether it closes one.
-ghost use Rattle.std.specs.Prelude.{◌≡◌, ◌+◌, ◌-◌, ◌*◌, ◌<◌, ◌≤◌, true, if◌then◌else◌, [], None, Some, IsErr, OnErr, OnOk};
+ghost use Rattle.std.specs.Prelude.{◌≡◌, ◌+◌, ◌-◌, ◌*◌, ◌<◌, ◌≤◌, true, if◌then◌else◌, [], None, Some, OnErr, OnOk};
+ghost use Rattle.std.specs.Result.{is_err};
 ghost use Rattle.std.specs.Option.{option_or};
 ghost use Rattle.cf_outq.specs.SendQueue.{queue_length};
-ghost use Rattle.cf_outside.specs.Desk.{DeskValue, KeepsDesk};
-ghost use Rattle.cf_outside.specs.Faults.{HasCause};
+ghost use Rattle.cf_outside.specs.Desk.{DeskValue};
+ghost use Rattle.cf_outside.specs.Frames.{EmitsAndLogs};
 ghost use Rattle.cf_policy.specs.Within.{IsAssetWithin};
 ghost use Rattle.cf_rebuild.specs.ReceiveWindow.{base_of};
 ghost use Rattle.cf_lane.specs.Limit.{limit_by};
-ghost use Rattle.cf_session.specs.Broken.{BreaksAmid, KeepsParts};
+ghost use Rattle.cf_session.specs.Broken.{BreaksAmid};
 ghost use Rattle.cf_session.specs.Cuts.{cut_by, is_reset};
 ghost use Rattle.cf_session.specs.Parts.{SessionValue};
 ghost use Rattle.cf_session.specs.Told.{told, with_both};
@@ -110,10 +111,7 @@ impl Session {
         ensures closed { OnOk result (SessionValue.closed self.new ≡ option_or (SessionValue.closed self.old) (if is_done_now self.old then Some now else None)) }
         ensures told { OnOk result (told (D.value desk.new) ≡ with_both (told (D.value desk.old)) [] (closing_lines asset.now self.old now)) }
         ensures broken { OnErr result (BreaksAmid [] (closing_lines asset.now self.old now) (D.value desk.old) (D.value desk.new)) }
-        ensures parts { OnOk result (KeepsParts (D.value desk.old) (D.value desk.new)) }
-        ensures keeps { KeepsDesk (D.value desk.old) (D.value desk.new) }
-        ensures whole { OnOk result (DeskValue.whole (D.value desk.new) ≡ true) }
-        ensures cause { HasCause (DeskValue.faults (D.value desk.old)) (DeskValue.faults (D.value desk.new)) (IsErr result) }
+        ensures frame { EmitsAndLogs (D.value desk.old) (D.value desk.new) (is_err result) }
     {
         if self.closed.is_some() || !self.is_done() {
             return Ok(());

@@ -1,16 +1,16 @@
 //! The bytes that a side's window has taken are handed to the lane.
-ghost use Rattle.std.specs.Prelude.{◌≡◌, ℕ, ◌+◌, ◌*◌, ◌^◌, ◌<◌, ◌≤◌, Bool, true, false, List, ◌++◌, length, drop, IfOk, IsErr, OnErr, OnOk, None};
+ghost use Rattle.std.specs.Prelude.{◌≡◌, ℕ, ◌+◌, ◌*◌, ◌^◌, ◌<◌, ◌≤◌, Bool, true, false, List, ◌++◌, length, drop, IfOk, OnErr, OnOk, None};
+ghost use Rattle.std.specs.Result.{is_err};
 ghost use Rattle.cf_lane.specs.Follows.{IsEndBehindCut, Rests, rest_of, with_rest};
 ghost use Rattle.cf_lane.specs.Handled.{CountsBy, EndsOther, Grows, HasRoom, IsLaneOf, IsOpen, MayEnd, debt};
 ghost use Rattle.cf_lane.specs.History.{Element};
 ghost use Rattle.cf_leg.specs.Event.{LegEvent};
 ghost use Rattle.cf_leg.specs.LegValue.{IsLegOf, Marks};
-ghost use Rattle.cf_outside.specs.Desk.{DeskValue, KeepsDesk};
-ghost use Rattle.cf_outside.specs.Faults.{HasCause};
+ghost use Rattle.cf_outside.specs.Desk.{DeskValue};
+ghost use Rattle.cf_outside.specs.Frames.{EmitsAndLogs, OnlyLogs};
 ghost use Rattle.cf_policy.specs.Within.{IsAssetWithin};
 ghost use Rattle.cf_rebuild.specs.ReceiveWindow.{IsWindow};
 ghost use Rattle.cf_view.specs.declared.Endpoint.{Endpoint as EndpointOf};
-ghost use Rattle.cf_session.specs.Broken.{KeepsParts};
 ghost use Rattle.cf_session.specs.Told.{told};
 ghost use Rattle.cf_session.specs.Turn.{AreUncut, FollowsAmid, FollowsMore, HandsOver};
 ghost use Rattle.cf_session.specs.Work.{Work, fed_at};
@@ -52,16 +52,12 @@ fn feed_lane<D: Desk>(
     ensures broken { OnErr result ((client : EndpointOf) (rests : Rests) (earlier : List Element) (before : Work) (piece : List ℕ) (ended : Bool)
         → AreUncut asset.now client rests earlier before lane.old to_client.old to_controller.old → bytes.entry.bytes ≡ rest_of side rests ++ piece
         → FollowsAmid asset.now client now side earlier before (record { bytes = piece; ended = ended }) (D.value desk.old) (D.value desk.new)) }
-    ensures parts { OnOk result (KeepsParts (D.value desk.old) (D.value desk.new)) }
     ensures serves { OnOk result (IsLaneOf asset.now lane.new) }
     ensures client_grows { IfOk result (λ fed. Grows (2 * fed.used) (debt lane.old) (debt lane.new) to_client.old to_client.new) }
     ensures controller_grows { IfOk result (λ fed. Grows (2 * fed.used) (debt lane.old) (debt lane.new) to_controller.old to_controller.new) }
     ensures debt { OnOk result (debt lane.new ≤ 5300) }
     ensures counts { IfOk result (λ fed. CountsBy fed.used lane.old lane.new) }
-    ensures packets { DeskValue.packets (D.value desk.new) ≡ DeskValue.packets (D.value desk.old) }
-    ensures keeps { KeepsDesk (D.value desk.old) (D.value desk.new) }
-    ensures whole { OnOk result (DeskValue.whole (D.value desk.new) ≡ true) }
-    ensures cause { HasCause (DeskValue.faults (D.value desk.old)) (DeskValue.faults (D.value desk.new)) (IsErr result) }
+    ensures frame { OnlyLogs (D.value desk.old) (D.value desk.new) (is_err result) }
 {
     pieces_join();
     streams_go_on();
@@ -97,13 +93,9 @@ fn end_lane<D: Desk>(
         → AreUncut asset.now client rests (earlier ++ fed_at now side (record { bytes = piece; ended = false })) middle
         lane.old to_client.old to_controller.old → rest ≡ length (rest_of side rests)
         → FollowsAmid asset.now client now side earlier middle (record { bytes = piece; ended = true }) (D.value desk.old) (D.value desk.new)) }
-    ensures parts { OnOk result (KeepsParts (D.value desk.old) (D.value desk.new)) }
     ensures queues { OnOk result (EndsOther side to_client.old to_controller.old to_client.new to_controller.new) }
     ensures lane { lane.new ≡ lane.old }
-    ensures packets { DeskValue.packets (D.value desk.new) ≡ DeskValue.packets (D.value desk.old) }
-    ensures keeps { KeepsDesk (D.value desk.old) (D.value desk.new) }
-    ensures whole { OnOk result (DeskValue.whole (D.value desk.new) ≡ true) }
-    ensures cause { HasCause (DeskValue.faults (D.value desk.old)) (DeskValue.faults (D.value desk.new)) (IsErr result) }
+    ensures frame { OnlyLogs (D.value desk.old) (D.value desk.new) (is_err result) }
 {
     pieces_join();
     streams_go_on();
@@ -160,15 +152,12 @@ pub(crate) fn hand_over<D: Desk>(
         → leg.old.window.pending ≡ rest_of side rests ++ piece
         → FollowsAmid asset.now client now side earlier before (record { bytes = piece; ended = leg.old.window.ended })
         (D.value desk.old) (D.value desk.new)) }
-    ensures parts { OnOk result (KeepsParts (D.value desk.old) (D.value desk.new)) }
     ensures serves { OnOk result (IsLaneOf asset.now lane.new) }
     ensures rest { IfOk result (λ cut. cut ≡ None → length leg.new.window.pending < 300) }
     ensures leg { OnOk result (leg.new ≡ record leg.old { window = leg.new.window }) }
     ensures stands { OnOk result ((m : Marks) (es : List LegEvent) → IsLegOf leg.old m es → IsLegOf leg.new m es) }
     ensures numbers { OnOk result (HandsOver side leg.old.window leg.new.window lane.old lane.new to_client.old to_client.new to_controller.old to_controller.new) }
-    ensures keeps { KeepsDesk (D.value desk.old) (D.value desk.new) }
-    ensures whole { OnOk result (DeskValue.whole (D.value desk.new) ≡ true) }
-    ensures cause { HasCause (DeskValue.faults (D.value desk.old)) (DeskValue.faults (D.value desk.new)) (IsErr result) }
+    ensures frame { EmitsAndLogs (D.value desk.old) (D.value desk.new) (is_err result) }
 {
     let Fed { used, cut } = feed_lane(
         lane,

@@ -1,5 +1,6 @@
 //! A packet of a side is heard: its leg takes it in, and what it brings is handed over.
-ghost use Rattle.std.specs.Prelude.{◌≡◌, ◌+◌, ◌*◌, ◌^◌, ◌<◌, ◌≤◌, true, List, ◌∷◌, length, IfOk, IsErr, OnErr, OnOk, None};
+ghost use Rattle.std.specs.Prelude.{◌≡◌, ◌+◌, ◌*◌, ◌^◌, ◌<◌, ◌≤◌, true, List, ◌∷◌, length, IfOk, OnErr, OnOk, None};
+ghost use Rattle.std.specs.Result.{is_err};
 ghost use Rattle.cf_lane.specs.Follows.{Rests, rest_of};
 ghost use Rattle.cf_lane.specs.Handled.{IsLaneOf};
 ghost use Rattle.cf_lane.specs.History.{Element, taken};
@@ -8,15 +9,14 @@ ghost use Rattle.cf_leg.specs.Event.{LegEvent, Nothing, Unspoken, moment};
 ghost use Rattle.cf_leg.specs.Heard.{offers};
 ghost use Rattle.cf_leg.specs.declared.Ends.{Ends};
 ghost use Rattle.cf_outq.specs.SendQueue.{IsQueueOf};
-ghost use Rattle.cf_outside.specs.Desk.{DeskValue, KeepsDesk};
-ghost use Rattle.cf_outside.specs.Faults.{HasCause};
+ghost use Rattle.cf_outside.specs.Desk.{DeskValue};
+ghost use Rattle.cf_outside.specs.Frames.{EmitsAndLogs};
 ghost use Rattle.cf_packet.specs.Packet.{packet_value};
 ghost use Rattle.cf_policy.specs.Within.{IsAssetWithin};
 ghost use Rattle.cf_rebuild.specs.ReceiveWindow.{base_of};
 ghost use Rattle.cf_stream.specs.FirstCopy.{IsTaken, first_copy};
 ghost use Rattle.cf_stream.specs.Stream.{Stream};
 ghost use Rattle.cf_view.specs.declared.Endpoint.{Endpoint as EndpointOf};
-ghost use Rattle.cf_session.specs.Broken.{KeepsParts};
 ghost use Rattle.cf_session.specs.Parts.{IsLegBetween, other_queue, own_queue};
 ghost use Rattle.cf_session.specs.Told.{told};
 ghost use Rattle.cf_session.specs.Turn.{AreUncut, Hearing, HearingAmid, KeepsRoom, MayHear};
@@ -98,13 +98,10 @@ pub(crate) fn hear<D: Desk>(
         → AreUncut asset.now client rests earlier before lane.old to_client.old to_controller.old → rest_of side rests ≡ leg.old.window.pending
         → IsTaken (first_copy (offers ends.role es)) (taken side earlier)
         → HearingAmid side ends asset.now client now e es (packet_value packet.now) earlier before (D.value desk.old) (D.value desk.new)) }
-    ensures parts { OnOk result (KeepsParts (D.value desk.old) (D.value desk.new)) }
     ensures ends { OnOk result (leg.new.ends ≡ leg.old.ends) }
     ensures serves { OnOk result (IsLaneOf asset.now lane.new) }
     ensures room { IfOk result (λ heard. KeepsRoom side leg.old.window leg.new.window lane.old lane.new to_client.old to_client.new to_controller.old to_controller.new heard.cut) }
-    ensures keeps { KeepsDesk (D.value desk.old) (D.value desk.new) }
-    ensures whole { OnOk result (DeskValue.whole (D.value desk.new) ≡ true) }
-    ensures cause { HasCause (DeskValue.faults (D.value desk.old)) (DeskValue.faults (D.value desk.new)) (IsErr result) }
+    ensures frame { EmitsAndLogs (D.value desk.old) (D.value desk.new) (is_err result) }
 {
     let had_ended = has_ended(leg);
     let answer = take_in(leg, now, side, packet, to_client, to_controller);

@@ -1,5 +1,5 @@
 //! Laws over every list of right events of a session: each is the contract of a function that does nothing.
-ghost use Rattle.cf_session.specs.Laws.{EachSessionHasATick, EventsAreFixed, FewerPartsAreEnough, HasOneStream, SendsWhatIsLetIn, WorkIsOfTheTaken};
+ghost use Rattle.cf_session.specs.Laws.{EachSessionHasATick, EventsAreFixed, FewerPartsAreEnough, HasOneStream, SegmentsCarryOneStream, SendsWhatIsLetIn, WorkIsOfTheTaken};
 ghost use Rattle.cf_session.specs.Stands.{AreQuietBeforeDue};
 
 use cf_lane::{has_one_judgement, streams_go_on};
@@ -35,14 +35,22 @@ pub fn work_is_of_what_was_taken()
     ensures { WorkIsOfTheTaken }
 {}
 
+/// Letter by letter: each segment of a session to its controller has at each of its places the letter of one stream, which the
+/// session's stream to it begins with; and so has each to its client.
+pub fn segments_carry_to_both_sides()
+    ensures { SegmentsCarryOneStream }
+{
+    has_one_judgement();
+    segments_carry_one_stream();
+    streams_go_on();
+}
+
 /// One stream: after each event, whatever copies of letters the controller takes of all segments that were sent to it, it gets
 /// a beginning of the session's stream to it; and so does the client.
 pub fn has_one_stream()
     ensures { HasOneStream }
 {
-    has_one_judgement();
-    segments_carry_one_stream();
-    streams_go_on();
+    segments_carry_to_both_sides();
 }
 
 /// How far: between two events of a session that was not cut, each open end has sent as many letters as its stream has below the

@@ -14,7 +14,8 @@ mod speaking;
 
 pub use laws::{
     each_session_has_a_tick, events_are_fixed, fewer_segments_are_enough, has_one_stream,
-    sessions_are_quiet_before_due, sessions_send_what_is_let_in, work_is_of_what_was_taken,
+    segments_carry_to_both_sides, sessions_are_quiet_before_due, sessions_send_what_is_let_in,
+    work_is_of_what_was_taken,
 };
 pub use life::Life;
 pub use session::{BeginFault, Session};

@@ -1,11 +1,12 @@
 //! The second half of an event: a packet.
-ghost use Rattle.std.specs.Prelude.{◌≡◌, ◌+◌, ◌-◌, ◌*◌, ◌^◌, ◌<◌, ◌≤◌, true, List, [], ◌∷◌, length, IfOk, IsErr, OnErr, OnOk};
-ghost use Rattle.cf_outside.specs.Desk.{DeskValue, KeepsDesk};
-ghost use Rattle.cf_outside.specs.Faults.{HasCause};
+ghost use Rattle.std.specs.Prelude.{◌≡◌, ◌+◌, ◌-◌, ◌*◌, ◌^◌, ◌<◌, ◌≤◌, true, List, [], ◌∷◌, length, IfOk, OnErr, OnOk};
+ghost use Rattle.std.specs.Result.{is_err};
+ghost use Rattle.cf_outside.specs.Desk.{DeskValue};
+ghost use Rattle.cf_outside.specs.Frames.{EmitsAndLogs};
 ghost use Rattle.cf_lane.specs.Handled.{CountsBy, IsLaneOf};
 ghost use Rattle.cf_leg.specs.Event.{moment};
 ghost use Rattle.cf_packet.specs.Packet.{packet_value};
-ghost use Rattle.cf_session.specs.Broken.{BreaksPacket, KeepsParts};
+ghost use Rattle.cf_session.specs.Broken.{BreaksPacket};
 ghost use Rattle.cf_session.specs.Event.{IsTick};
 ghost use Rattle.cf_session.specs.Parts.{AreParts, SessionValue};
 ghost use Rattle.cf_session.specs.Session.{Flow, SessionEvent};
@@ -45,13 +46,10 @@ impl Session {
         ensures broken { OnErr result ((flow : Flow) (earlier : List SessionEvent) (half : SessionEvent) → flow.asset ≡ asset.now
             → IsSessionOf flow earlier half self.old → IsTick flow earlier half.client.tick half → moment half.client ≡ now
             → BreaksPacket flow (SessionValue.limit self.old) earlier half side (packet_value packet.now) (D.value desk.old) (D.value desk.new)) }
-        ensures parts { OnOk result (KeepsParts (D.value desk.old) (D.value desk.new)) }
         ensures sound { IfOk result (λ life. IsLife life → IsSound asset.now self.new) }
         ensures few { OnOk result (CountsBy 32768 (SessionValue.lane self.old) (SessionValue.lane self.new)) }
         ensures same { (SessionValue.limit self.new ≡ SessionValue.limit self.old) × (SessionValue.source self.new ≡ SessionValue.source self.old) }
-        ensures keeps { KeepsDesk (D.value desk.old) (D.value desk.new) }
-        ensures whole { OnOk result (DeskValue.whole (D.value desk.new) ≡ true) }
-        ensures cause { HasCause (DeskValue.faults (D.value desk.old)) (DeskValue.faults (D.value desk.new)) (IsErr result) }
+        ensures frame { EmitsAndLogs (D.value desk.old) (D.value desk.new) (is_err result) }
     {
         let heard = self.hear(asset, now, side, packet, desk)?;
         base_counts_the_taken();
@@ -89,14 +87,11 @@ impl Session {
         ensures broken { OnErr result ((flow : Flow) (earlier : List SessionEvent) (half : SessionEvent) → flow.asset ≡ asset.now
             → IsHalf half → moment half.client ≡ now → AreParts flow earlier half self.old
             → HeardAmid flow earlier half side (packet_value packet.now) (D.value desk.old) (D.value desk.new)) }
-        ensures parts { OnOk result (KeepsParts (D.value desk.old) (D.value desk.new)) }
         ensures steady { IfOk result (λ heard. IsSteady self.new heard.cut) }
         ensures serves { OnOk result (IsLaneOf asset.now (SessionValue.lane self.new)) }
         ensures few { OnOk result (CountsBy 32768 (SessionValue.lane self.old) (SessionValue.lane self.new)) }
         ensures same { (SessionValue.limit self.new ≡ SessionValue.limit self.old) × (SessionValue.source self.new ≡ SessionValue.source self.old) × (SessionValue.closed self.new ≡ SessionValue.closed self.old) }
-        ensures keeps { KeepsDesk (D.value desk.old) (D.value desk.new) }
-        ensures whole { OnOk result (DeskValue.whole (D.value desk.new) ≡ true) }
-        ensures cause { HasCause (DeskValue.faults (D.value desk.old)) (DeskValue.faults (D.value desk.new)) (IsErr result) }
+        ensures frame { EmitsAndLogs (D.value desk.old) (D.value desk.new) (is_err result) }
     {
         match side {
             Side::Client => {

@@ -1,14 +1,15 @@
 //! One session between a client and an asset: two ends of TCP connections, and the lane between them.
-ghost use Rattle.std.specs.Prelude.{◌≡◌, ◌+◌, ◌-◌, ◌*◌, ◌^◌, ◌<◌, ◌≤◌, true, List, [], ◌∷◌, IfOk, IsErr, IsErrOf, OnErr, OnOk, pos, ◌≤ℤ◌};
+ghost use Rattle.std.specs.Prelude.{◌≡◌, ◌+◌, ◌-◌, ◌*◌, ◌^◌, ◌<◌, ◌≤◌, true, List, [], ◌∷◌, IfOk, IsErrOf, OnErr, OnOk, pos, ◌≤ℤ◌};
+ghost use Rattle.std.specs.Result.{is_err};
 ghost use Rattle.std.specs.Option.{is_some};
 ghost use Rattle.cf_lane.specs.Handled.{IsLaneOf};
 ghost use Rattle.cf_leg.specs.Calls.{Widens};
-ghost use Rattle.cf_outside.specs.Desk.{DeskValue, KeepsDesk};
-ghost use Rattle.cf_outside.specs.Faults.{HasCause};
+ghost use Rattle.cf_outside.specs.Desk.{DeskValue};
+ghost use Rattle.cf_outside.specs.Frames.{EmitsAndLogs};
 ghost use Rattle.cf_packet.specs.Packet.{packet_value};
 ghost use Rattle.cf_policy.specs.Within.{IsAssetWithin};
 ghost use Rattle.cf_rebuild.specs.ReceiveWindow.{base_of};
-ghost use Rattle.cf_session.specs.Broken.{BreaksBeginning, KeepsParts};
+ghost use Rattle.cf_session.specs.Broken.{BreaksBeginning, has_failed};
 ghost use Rattle.cf_session.specs.Parts.{SessionValue};
 ghost use Rattle.cf_session.specs.Session.{Flow, SessionEvent};
 ghost use Rattle.cf_session.specs.Stands.{Begins, IsSessionOf, IsSound};
@@ -88,10 +89,7 @@ impl Session {
         ensures nothing { IsErrOf result BeginFault.NoMemory → desk.new ≡ desk.old }
         ensures broken { IsErrOf result BeginFault.Write
             → BreaksBeginning (record { asset = asset.now; syn = packet_value syn.now }) (now - 1) (D.value desk.old) (D.value desk.new) }
-        ensures parts { OnOk result (KeepsParts (D.value desk.old) (D.value desk.new)) }
-        ensures keeps { KeepsDesk (D.value desk.old) (D.value desk.new) }
-        ensures whole { OnOk result (DeskValue.whole (D.value desk.new) ≡ true) }
-        ensures cause { HasCause (DeskValue.faults (D.value desk.old)) (DeskValue.faults (D.value desk.new)) (IsErrOf result BeginFault.Write) }
+        ensures frame { EmitsAndLogs (D.value desk.old) (D.value desk.new) (has_failed result) }
     {
         let Ok(mut session) = Session::made(alloc, asset, limit as u64, syn) else {
             return Err(BeginFault::NoMemory);
@@ -144,13 +142,10 @@ impl Session {
             → Begins flow (now - 1) self.new (told (D.value desk.old)) (told (D.value desk.new))) }
         ensures broken { OnErr result ((flow : Flow) → flow.asset ≡ asset.now → flow.syn.seq ≡ number → IsMade flow self.old
             → BreaksBeginning flow (now - 1) (D.value desk.old) (D.value desk.new)) }
-        ensures parts { OnOk result (KeepsParts (D.value desk.old) (D.value desk.new)) }
         ensures window { OnOk result (Widens true (self.old.controller).window (self.new.controller).window) }
         ensures queue { OnOk result (self.new.to_controller ≡ record self.old.to_controller { sent = (self.new.to_controller).sent }) }
         ensures same { OnOk result (self.new ≡ record self.old { controller = self.new.controller; to_controller = self.new.to_controller }) }
-        ensures keeps { KeepsDesk (D.value desk.old) (D.value desk.new) }
-        ensures whole { OnOk result (DeskValue.whole (D.value desk.new) ≡ true) }
-        ensures cause { HasCause (DeskValue.faults (D.value desk.old)) (DeskValue.faults (D.value desk.new)) (IsErr result) }
+        ensures frame { EmitsAndLogs (D.value desk.old) (D.value desk.new) (is_err result) }
     {
         events_begin();
         self.controller.greet(now, number, desk)?;

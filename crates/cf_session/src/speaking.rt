@@ -1,11 +1,12 @@
 //! Both ends speak, that of the controller first, and the client is greeted where the controller's end has opened.
-ghost use Rattle.std.specs.Prelude.{◌≡◌, ◌+◌, ◌-◌, ◌*◌, ◌^◌, ◌<◌, ◌≤◌, true, nat_le, ◌&&◌, List, ◌∷◌, [], length, IsErr, OnErr, OnOk, None};
+ghost use Rattle.std.specs.Prelude.{◌≡◌, ◌+◌, ◌-◌, ◌*◌, ◌^◌, ◌<◌, ◌≤◌, true, nat_le, ◌&&◌, List, ◌∷◌, [], length, OnErr, OnOk, None};
+ghost use Rattle.std.specs.Result.{is_err};
 ghost use Rattle.cf_leg.specs.Event.{LegEvent, Unspoken, moment};
 ghost use Rattle.cf_outq.specs.SendQueue.{IsQueueOf, queue_length};
-ghost use Rattle.cf_outside.specs.Desk.{DeskValue, KeepsDesk};
-ghost use Rattle.cf_outside.specs.Faults.{HasCause};
+ghost use Rattle.cf_outside.specs.Desk.{DeskValue};
+ghost use Rattle.cf_outside.specs.Frames.{EmitsAndLogs};
 ghost use Rattle.cf_stream.specs.Stream.{Stream};
-ghost use Rattle.cf_session.specs.Broken.{BreaksAmid, KeepsParts};
+ghost use Rattle.cf_session.specs.Broken.{BreaksAmid};
 ghost use Rattle.cf_session.specs.Parts.{IsLegBetween, SessionValue};
 ghost use Rattle.cf_session.specs.Sent.{at};
 ghost use Rattle.cf_session.specs.Session.{Flow, client_ends};
@@ -54,13 +55,10 @@ impl Session {
         ensures broken { OnErr result ((flow : Flow) (d : LegEvent) (ds : List LegEvent) → now ≡ moment d → MayGreet number d ds
             → IsLegBetween (client_ends flow) (SessionValue.client self.old) (SessionValue.to_client self.old) (record d { ending = Unspoken } ∷ ds)
             → BreaksAmid (at now (greetings flow number)) [] (D.value desk.old) (D.value desk.new)) }
-        ensures parts { OnOk result (KeepsParts (D.value desk.old) (D.value desk.new)) }
         ensures steady { OnOk result (IsSteady self.new None) }
         ensures window { OnOk result ((SessionValue.client self.new).window ≡ record (SessionValue.client self.old).window { edge = (SessionValue.client self.new).window.edge }) }
         ensures same { self.new ≡ record self.old { client = SessionValue.client self.new } }
-        ensures keeps { KeepsDesk (D.value desk.old) (D.value desk.new) }
-        ensures whole { OnOk result (DeskValue.whole (D.value desk.new) ≡ true) }
-        ensures cause { HasCause (DeskValue.faults (D.value desk.old)) (DeskValue.faults (D.value desk.new)) (IsErr result) }
+        ensures frame { EmitsAndLogs (D.value desk.old) (D.value desk.new) (is_err result) }
     {
         let Some(number) = number else {
             return Ok(());
@@ -90,15 +88,12 @@ impl Session {
         ensures broken { OnErr result ((flow : Flow) (c d : LegEvent) (cs ds : List LegEvent) (w v : Stream)
             → now ≡ moment c → now ≡ moment d → MayGreet number d ds → MaySpeak flow c d cs ds w v self.old
             → SaysAmid flow now number c cs d ds w v (is_roomy self.old) (D.value desk.old) (D.value desk.new)) }
-        ensures parts { OnOk result (KeepsParts (D.value desk.old) (D.value desk.new)) }
         ensures client_stands { OnOk result ((w : Stream) → IsQueueOf (SessionValue.to_client self.old) w → IsQueueOf (SessionValue.to_client self.new) w) }
         ensures controller_stands { OnOk result ((w : Stream) → IsQueueOf (SessionValue.to_controller self.old) w → IsQueueOf (SessionValue.to_controller self.new) w) }
         ensures steady { OnOk result (IsSteady self.new None) }
         ensures only { OnOk result (OnlySpeaks self.old self.new) }
         ensures same { (SessionValue.limit self.new ≡ SessionValue.limit self.old) × (SessionValue.source self.new ≡ SessionValue.source self.old) }
-        ensures keeps { KeepsDesk (D.value desk.old) (D.value desk.new) }
-        ensures whole { OnOk result (DeskValue.whole (D.value desk.new) ≡ true) }
-        ensures cause { HasCause (DeskValue.faults (D.value desk.old)) (DeskValue.faults (D.value desk.new)) (IsErr result) }
+        ensures frame { EmitsAndLogs (D.value desk.old) (D.value desk.new) (is_err result) }
     {
         // The fact: both windows keep their bounds.
         let _ended = (has_ended(&self.client), has_ended(&self.controller));

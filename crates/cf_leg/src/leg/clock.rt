@@ -1,11 +1,12 @@
 //! The retransmission timer of an end.
-ghost use Rattle.std.specs.Prelude.{◌≡◌, ◌+◌, ◌-◌, ◌*◌, ◌%◌, ◌^◌, ◌<◌, ◌≤◌, ◌==◌, min, not, nat_lt, ◌&&◌, ◌||◌, if◌then◌else◌, true, [], ◌∷◌, None, Some, Ok, IsErr, IfOk, OnErr, OnOk, ◌≤ℤ◌, ◌+ℤ◌};
-ghost use Rattle.cf_outside.specs.Faults.{HasCause};
+ghost use Rattle.std.specs.Prelude.{◌≡◌, ◌+◌, ◌-◌, ◌*◌, ◌%◌, ◌^◌, ◌<◌, ◌≤◌, ◌==◌, min, not, nat_lt, ◌&&◌, ◌||◌, if◌then◌else◌, true, [], ◌∷◌, None, Some, Ok, IfOk, OnErr, OnOk, ◌≤ℤ◌, ◌+ℤ◌, false};
 ghost use Rattle.cf_rebuild.specs.ReceiveWindow.{IsWindow, base_of};
-ghost use Rattle.cf_leg.specs.Calls.{AgainBreaks, ClockBreaks, OldestBreaks, Clocked, SendsAgain, SendsOldest, due_of, is_due};
+ghost use Rattle.cf_leg.specs.Calls.{ClockBreaks, Clocked, SendsAgain, SendsOldest, answer_again, answer_oldest, due_of, is_due};
 ghost use Rattle.cf_leg.specs.Timer.{backoff};
 ghost use Rattle.cf_leg.specs.LegValue.{IsLeg, is_open};
-ghost use Rattle.cf_outside.specs.Desk.{DeskValue, KeepsDesk};
+ghost use Rattle.cf_outside.specs.Desk.{DeskValue};
+ghost use Rattle.cf_outside.specs.Frames.{OnlyEmits};
+ghost use Rattle.std.specs.Result.{is_err};
 
 use super::{Leg, SECOND};
 use crate::ends::ClockAnswer;
@@ -28,14 +29,9 @@ impl Leg {
         requires base { base_of self.now.window ≤ 2 ^ 30 + 16384 }
         requires whole { DeskValue.whole (D.value desk.old) ≡ true }
         requires moment { now < 2 ^ 32 * 1000000 }
-        ensures sends { IfOk result (λ answer. SendsOldest self.now queue.now now answer (DeskValue.packets (D.value desk.old)) (DeskValue.packets (D.value desk.new))) }
-        ensures broken { OnErr result (OldestBreaks self.now queue.now now (D.value desk.old) (D.value desk.new)) }
-        ensures lines { DeskValue.lines (D.value desk.new) ≡ DeskValue.lines (D.value desk.old) }
-        ensures packet_part { OnOk result (DeskValue.packet_part (D.value desk.new) ≡ DeskValue.packet_part (D.value desk.old)) }
-        ensures line_part { DeskValue.line_part (D.value desk.new) ≡ DeskValue.line_part (D.value desk.old) }
-        ensures keeps { KeepsDesk (D.value desk.old) (D.value desk.new) }
-        ensures whole { OnOk result (DeskValue.whole (D.value desk.new) ≡ true) }
-        ensures cause { HasCause (DeskValue.faults (D.value desk.old)) (DeskValue.faults (D.value desk.new)) (IsErr result) }
+        ensures sends { IfOk result (λ answer. SendsOldest self.now queue.now now (D.value desk.old) (D.value desk.new) false × (answer ≡ answer_oldest queue.now)) }
+        ensures broken { OnErr result (SendsOldest self.now queue.now now (D.value desk.old) (D.value desk.new) true) }
+        ensures frame { OnlyEmits (D.value desk.old) (D.value desk.new) (is_err result) }
     {
         let told = self.told();
         let way = self.way();
@@ -64,14 +60,9 @@ impl Leg {
         requires moment { now < 2 ^ 32 * 1000000 }
         ensures bounds { IsLeg self.now }
         ensures window { IsWindow self.now.window }
-        ensures sends { IfOk result (λ answer. SendsAgain self.now queue.now now answer (DeskValue.packets (D.value desk.old)) (DeskValue.packets (D.value desk.new))) }
-        ensures broken { OnErr result (AgainBreaks self.now queue.now now (D.value desk.old) (D.value desk.new)) }
-        ensures lines { DeskValue.lines (D.value desk.new) ≡ DeskValue.lines (D.value desk.old) }
-        ensures packet_part { OnOk result (DeskValue.packet_part (D.value desk.new) ≡ DeskValue.packet_part (D.value desk.old)) }
-        ensures line_part { DeskValue.line_part (D.value desk.new) ≡ DeskValue.line_part (D.value desk.old) }
-        ensures keeps { KeepsDesk (D.value desk.old) (D.value desk.new) }
-        ensures whole { OnOk result (DeskValue.whole (D.value desk.new) ≡ true) }
-        ensures cause { HasCause (DeskValue.faults (D.value desk.old)) (DeskValue.faults (D.value desk.new)) (IsErr result) }
+        ensures sends { IfOk result (λ answer. SendsAgain self.now queue.now now (D.value desk.old) (D.value desk.new) false × (answer ≡ answer_again self.now queue.now)) }
+        ensures broken { OnErr result (SendsAgain self.now queue.now now (D.value desk.old) (D.value desk.new) true) }
+        ensures frame { OnlyEmits (D.value desk.old) (D.value desk.new) (is_err result) }
     {
         // The fact: the window and what was told keep their bounds.
         let _told = self.told();
@@ -134,12 +125,7 @@ impl Leg {
         ensures clocked { IfOk result (λ answer. Clocked now self.old self.new queue.old answer (DeskValue.packets (D.value desk.old)) (DeskValue.packets (D.value desk.new))) }
         ensures queue { queue.new ≡ queue.old }
         ensures broken { OnErr result (ClockBreaks now self.old queue.old (D.value desk.old) (D.value desk.new)) }
-        ensures lines { DeskValue.lines (D.value desk.new) ≡ DeskValue.lines (D.value desk.old) }
-        ensures packet_part { OnOk result (DeskValue.packet_part (D.value desk.new) ≡ DeskValue.packet_part (D.value desk.old)) }
-        ensures line_part { DeskValue.line_part (D.value desk.new) ≡ DeskValue.line_part (D.value desk.old) }
-        ensures keeps { KeepsDesk (D.value desk.old) (D.value desk.new) }
-        ensures whole { OnOk result (DeskValue.whole (D.value desk.new) ≡ true) }
-        ensures cause { HasCause (DeskValue.faults (D.value desk.old)) (DeskValue.faults (D.value desk.new)) (IsErr result) }
+        ensures frame { OnlyEmits (D.value desk.old) (D.value desk.new) (is_err result) }
     {
         if !self.is_due(now) {
             return Ok(ClockAnswer::Quiet);

@@ -1,14 +1,15 @@
 //! The RST of an end that gives up.
-ghost use Rattle.std.specs.Prelude.{◌≡◌, ◌+◌, ◌-◌, ◌*◌, ◌%◌, ◌^◌, ◌<◌, ◌≤◌, ◌==◌, ◌&&◌, ◌||◌, if◌then◌else◌, true, [], ◌∷◌, None, Ok, IsErr, OnErr, OnOk, ◌≤ℤ◌, ◌+ℤ◌};
-ghost use Rattle.cf_outside.specs.Faults.{HasCause};
+ghost use Rattle.std.specs.Prelude.{◌≡◌, ◌+◌, ◌-◌, ◌*◌, ◌%◌, ◌^◌, ◌<◌, ◌≤◌, ◌==◌, ◌&&◌, ◌||◌, if◌then◌else◌, true, [], ◌∷◌, None, Ok, OnErr, OnOk, ◌≤ℤ◌, ◌+ℤ◌};
 ghost use Rattle.cf_packet.specs.Packet.{packet_value};
 ghost use Rattle.cf_rebuild.specs.ReceiveWindow.{base_of};
-ghost use Rattle.cf_leg.specs.Calls.{CutBreaks, CutOff, rst_of};
+ghost use Rattle.cf_leg.specs.Calls.{CutOff, rst_of};
 ghost use Rattle.cf_leg.specs.Emits.{rst};
 ghost use Rattle.cf_stream.specs.Position.{place_or_zero};
 ghost use Rattle.cf_leg.specs.Emitted.{BreaksOff, with_segment};
 ghost use Rattle.cf_leg.specs.LegValue.{is_open};
-ghost use Rattle.cf_outside.specs.Desk.{DeskValue, KeepsDesk};
+ghost use Rattle.cf_outside.specs.Desk.{DeskValue};
+ghost use Rattle.cf_outside.specs.Frames.{OnlyEmits};
+ghost use Rattle.std.specs.Result.{is_err};
 
 use super::Leg;
 use crate::ends::{Ends, Role};
@@ -25,12 +26,7 @@ impl Leg {
         requires moment { now < 2 ^ 32 * 1000000 }
         ensures packets { OnOk result (DeskValue.packets (D.value desk.new) ≡ with_segment (DeskValue.packets (D.value desk.old)) now (rst_of self.now queue.now)) }
         ensures broken { OnErr result (BreaksOff now (rst_of self.now queue.now ∷ []) (D.value desk.old) (D.value desk.new)) }
-        ensures lines { DeskValue.lines (D.value desk.new) ≡ DeskValue.lines (D.value desk.old) }
-        ensures packet_part { OnOk result (DeskValue.packet_part (D.value desk.new) ≡ DeskValue.packet_part (D.value desk.old)) }
-        ensures line_part { DeskValue.line_part (D.value desk.new) ≡ DeskValue.line_part (D.value desk.old) }
-        ensures keeps { KeepsDesk (D.value desk.old) (D.value desk.new) }
-        ensures whole { OnOk result (DeskValue.whole (D.value desk.new) ≡ true) }
-        ensures cause { HasCause (DeskValue.faults (D.value desk.old)) (DeskValue.faults (D.value desk.new)) (IsErr result) }
+        ensures frame { OnlyEmits (D.value desk.old) (D.value desk.new) (is_err result) }
     {
         let sent = next_number(self.own, queue);
         let taken = sequence_number(self.other, place_or_zero(self.window.base()));
@@ -65,17 +61,10 @@ impl Leg {
         requires base { base_of self.now.window ≤ 2 ^ 30 + 16384 }
         requires whole { DeskValue.whole (D.value desk.old) ≡ true }
         requires moment { now < 2 ^ 32 * 1000000 }
-        ensures cut { OnOk result (CutOff now self.now queue.now (DeskValue.packets (D.value desk.old)) (DeskValue.packets (D.value desk.new))) }
-        ensures broken { OnErr result (CutBreaks now self.now queue.now (D.value desk.old) (D.value desk.new)) }
-        ensures lines { DeskValue.lines (D.value desk.new) ≡ DeskValue.lines (D.value desk.old) }
-        ensures packet_part { OnOk result (DeskValue.packet_part (D.value desk.new) ≡ DeskValue.packet_part (D.value desk.old)) }
-        ensures line_part { DeskValue.line_part (D.value desk.new) ≡ DeskValue.line_part (D.value desk.old) }
-        ensures keeps { KeepsDesk (D.value desk.old) (D.value desk.new) }
-        ensures whole { OnOk result (DeskValue.whole (D.value desk.new) ≡ true) }
-        ensures cause { HasCause (DeskValue.faults (D.value desk.old)) (DeskValue.faults (D.value desk.new)) (IsErr result) }
+        ensures cut { CutOff now self.now queue.now (D.value desk.old) (D.value desk.new) (is_err result) }
+        ensures frame { OnlyEmits (D.value desk.old) (D.value desk.new) (is_err result) }
     {
-        self.send_rst(now, queue, desk)?;
-        Ok(())
+        self.send_rst(now, queue, desk)
     }
 }
 

@@ -1,15 +1,16 @@
 //! How an end opens: its SYN or SYN ACK, and the packet that opens it.
-ghost use Rattle.std.specs.Prelude.{◌≡◌, ◌+◌, ◌-◌, ◌*◌, ◌%◌, ◌^◌, ◌<◌, ◌≤◌, ◌==◌, min, max, not, ◌&&◌, ◌||◌, if◌then◌else◌, true, [], ◌∷◌, None, Some, Ok, IsErr, OnErr, OnOk, ◌≤ℤ◌, ◌+ℤ◌};
-ghost use Rattle.cf_outside.specs.Faults.{HasCause};
+ghost use Rattle.std.specs.Prelude.{◌≡◌, ◌+◌, ◌-◌, ◌*◌, ◌%◌, ◌^◌, ◌<◌, ◌≤◌, ◌==◌, min, max, not, ◌&&◌, ◌||◌, if◌then◌else◌, true, [], ◌∷◌, None, Some, Ok, OnErr, OnOk, ◌≤ℤ◌, ◌+ℤ◌};
 ghost use Rattle.cf_outq.specs.SendQueue.{IsQueueOf};
 ghost use Rattle.cf_packet.specs.Packet.{packet_value};
 ghost use Rattle.cf_rebuild.specs.ReceiveWindow.{IsWindow};
 ghost use Rattle.cf_stream.specs.Stream.{Stream};
-ghost use Rattle.cf_leg.specs.Calls.{GreetingBreaks, window_by, Greeted, IsOwn, greeted_as, greeting_of, leg_opened, queue_opened};
+ghost use Rattle.cf_leg.specs.Calls.{window_by, Greeted, IsOwn, greeted_as, greeting_of, leg_opened, queue_opened};
 ghost use Rattle.cf_leg.specs.Emits.{send_mss};
 ghost use Rattle.cf_leg.specs.Emitted.{BreaksOff, with_segment};
 ghost use Rattle.cf_leg.specs.LegValue.{IsLeg};
-ghost use Rattle.cf_outside.specs.Desk.{DeskValue, KeepsDesk};
+ghost use Rattle.cf_outside.specs.Desk.{DeskValue};
+ghost use Rattle.cf_outside.specs.Frames.{OnlyEmits};
+ghost use Rattle.std.specs.Result.{is_err};
 
 use super::{Leg, SECOND};
 use crate::ends::{Phase, Role};
@@ -45,21 +46,14 @@ impl Leg {
         requires number { IsOwn self.old.ends.role own_seq }
         requires whole { DeskValue.whole (D.value desk.old) ≡ true }
         requires moment { now < 2 ^ 32 * 1000000 }
-        ensures ends { OnOk result (self.new.ends ≡ self.old.ends) }
-        ensures number { OnOk result (self.new.own ≡ own_seq) }
-        ensures window { OnOk result (self.new.window ≡ window_by self.old.ends.role self.old.window) }
-        ensures greeted { OnOk result (Greeted now self.old self.new (DeskValue.packets (D.value desk.old)) (DeskValue.packets (D.value desk.new))) }
-        ensures broken { OnErr result (GreetingBreaks now own_seq self.old (D.value desk.old) (D.value desk.new)) }
-        ensures lines { DeskValue.lines (D.value desk.new) ≡ DeskValue.lines (D.value desk.old) }
-        ensures packet_part { OnOk result (DeskValue.packet_part (D.value desk.new) ≡ DeskValue.packet_part (D.value desk.old)) }
-        ensures line_part { DeskValue.line_part (D.value desk.new) ≡ DeskValue.line_part (D.value desk.old) }
-        ensures keeps { KeepsDesk (D.value desk.old) (D.value desk.new) }
-        ensures whole { OnOk result (DeskValue.whole (D.value desk.new) ≡ true) }
-        ensures cause { HasCause (DeskValue.faults (D.value desk.old)) (DeskValue.faults (D.value desk.new)) (IsErr result) }
+        ensures ends { self.new.ends ≡ self.old.ends }
+        ensures number { self.new.own ≡ own_seq }
+        ensures window { self.new.window ≡ window_by self.old.ends.role self.old.window }
+        ensures greeted { Greeted now own_seq self.old self.new (D.value desk.old) (D.value desk.new) (is_err result) }
+        ensures frame { OnlyEmits (D.value desk.old) (D.value desk.new) (is_err result) }
     {
         self.begin(now, own_seq);
-        self.send_greeting(now, desk)?;
-        Ok(())
+        self.send_greeting(now, desk)
     }
 
     /// Sends the SYN or the SYN ACK.
@@ -68,12 +62,7 @@ impl Leg {
         requires moment { now < 2 ^ 32 * 1000000 }
         ensures packets { OnOk result (DeskValue.packets (D.value desk.new) ≡ with_segment (DeskValue.packets (D.value desk.old)) now (greeting_of self.now)) }
         ensures broken { OnErr result (BreaksOff now (greeting_of self.now ∷ []) (D.value desk.old) (D.value desk.new)) }
-        ensures lines { DeskValue.lines (D.value desk.new) ≡ DeskValue.lines (D.value desk.old) }
-        ensures packet_part { OnOk result (DeskValue.packet_part (D.value desk.new) ≡ DeskValue.packet_part (D.value desk.old)) }
-        ensures line_part { DeskValue.line_part (D.value desk.new) ≡ DeskValue.line_part (D.value desk.old) }
-        ensures keeps { KeepsDesk (D.value desk.old) (D.value desk.new) }
-        ensures whole { OnOk result (DeskValue.whole (D.value desk.new) ≡ true) }
-        ensures cause { HasCause (DeskValue.faults (D.value desk.old)) (DeskValue.faults (D.value desk.new)) (IsErr result) }
+        ensures frame { OnlyEmits (D.value desk.old) (D.value desk.new) (is_err result) }
     {
         let (ack, flags) = match self.ends.role {
             Role::Active(_) => (0, SYN),

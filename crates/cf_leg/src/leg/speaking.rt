@@ -1,13 +1,14 @@
 //! What an end says at the end of an event.
-ghost use Rattle.std.specs.Prelude.{◌≡◌, ◌+◌, ◌-◌, ◌*◌, ◌%◌, ◌^◌, ◌<◌, ◌≤◌, ◌==◌, not, ◌&&◌, ◌||◌, if◌then◌else◌, true, false, [], ◌∷◌, Ok, IsErr, OnErr, OnOk, ◌≤ℤ◌, ◌+ℤ◌};
-ghost use Rattle.cf_outside.specs.Faults.{HasCause};
+ghost use Rattle.std.specs.Prelude.{◌≡◌, ◌+◌, ◌-◌, ◌*◌, ◌%◌, ◌^◌, ◌<◌, ◌≤◌, ◌==◌, not, ◌&&◌, ◌||◌, if◌then◌else◌, true, false, [], ◌∷◌, Ok, OnErr, OnOk, ◌≤ℤ◌, ◌+ℤ◌};
 ghost use Rattle.cf_outq.specs.SendQueue.{IsQueueOf};
 ghost use Rattle.cf_rebuild.specs.ReceiveWindow.{IsWindow, base_of};
 ghost use Rattle.cf_stream.specs.Stream.{Stream};
 ghost use Rattle.cf_leg.specs.Calls.{AddressBreaks, SpeakingBreaks, Widens, IsTold, Addressed, Spoken, is_due, rearmed};
 ghost use Rattle.cf_leg.specs.Emits.{differs, to_tell};
 ghost use Rattle.cf_leg.specs.LegValue.{IsLeg, arms, is_open};
-ghost use Rattle.cf_outside.specs.Desk.{DeskValue, KeepsDesk};
+ghost use Rattle.cf_outside.specs.Desk.{DeskValue};
+ghost use Rattle.cf_outside.specs.Frames.{OnlyEmits};
+ghost use Rattle.std.specs.Result.{is_err};
 
 use super::{Leg, SECOND};
 use crate::ends::Told;
@@ -49,12 +50,7 @@ impl Leg {
         ensures addressed { OnOk result (Addressed roomy now self.old self.new queue.old queue.new (DeskValue.packets (D.value desk.old)) (DeskValue.packets (D.value desk.new))) }
         ensures stands { (whole : Stream) → IsQueueOf queue.old whole → IsQueueOf queue.new whole }
         ensures broken { OnErr result (AddressBreaks roomy now self.old queue.old (D.value desk.old) (D.value desk.new)) }
-        ensures lines { DeskValue.lines (D.value desk.new) ≡ DeskValue.lines (D.value desk.old) }
-        ensures packet_part { OnOk result (DeskValue.packet_part (D.value desk.new) ≡ DeskValue.packet_part (D.value desk.old)) }
-        ensures line_part { DeskValue.line_part (D.value desk.new) ≡ DeskValue.line_part (D.value desk.old) }
-        ensures keeps { KeepsDesk (D.value desk.old) (D.value desk.new) }
-        ensures whole { OnOk result (DeskValue.whole (D.value desk.new) ≡ true) }
-        ensures cause { HasCause (DeskValue.faults (D.value desk.old)) (DeskValue.faults (D.value desk.new)) (IsErr result) }
+        ensures frame { OnlyEmits (D.value desk.old) (D.value desk.new) (is_err result) }
     {
         let told = self.told();
         if !self.is_open() {
@@ -102,12 +98,7 @@ impl Leg {
         ensures spoken { OnOk result (Spoken roomy now self.old self.new queue.old queue.new (DeskValue.packets (D.value desk.old)) (DeskValue.packets (D.value desk.new))) }
         ensures stands { (whole : Stream) → IsQueueOf queue.old whole → IsQueueOf queue.new whole }
         ensures broken { OnErr result (SpeakingBreaks roomy now self.old queue.old (D.value desk.old) (D.value desk.new)) }
-        ensures lines { DeskValue.lines (D.value desk.new) ≡ DeskValue.lines (D.value desk.old) }
-        ensures packet_part { OnOk result (DeskValue.packet_part (D.value desk.new) ≡ DeskValue.packet_part (D.value desk.old)) }
-        ensures line_part { DeskValue.line_part (D.value desk.new) ≡ DeskValue.line_part (D.value desk.old) }
-        ensures keeps { KeepsDesk (D.value desk.old) (D.value desk.new) }
-        ensures whole { OnOk result (DeskValue.whole (D.value desk.new) ≡ true) }
-        ensures cause { HasCause (DeskValue.faults (D.value desk.old)) (DeskValue.faults (D.value desk.new)) (IsErr result) }
+        ensures frame { OnlyEmits (D.value desk.old) (D.value desk.new) (is_err result) }
     {
         self.address(now, roomy, queue, desk)?;
         self.rearm(now, queue);

@@ -22,5 +22,5 @@ returns-in_err-some-clause-broken g c =
 pub returns-in_err-acknowledge-clause-broken : goal.returns-in_err-acknowledge-clause-broken
 returns-in_err-acknowledge-clause-broken g c =
     on_err _ (alone_says c.args.way c.args.told c.args.mss c.args.is_due c.in_ok-some.some c.args.queue.now c.args.now (g.D.Desk.value c.args.desk.now) (g.D.Desk.value c.send_new.new.desk) (g.D.Desk.value c.acknowledge.new.desk)
-    c.in_ok-some.ensures.some (sym c.is_left-is_empty.ensures ∙ c.in_err-acknowledge.ensures.broken.0) c.in_ok-some.ensures.pieces c.in_ok-some.ensures.keeps.octets
+    c.in_ok-some.ensures.some (sym c.is_left-is_empty.ensures ∙ c.in_err-acknowledge.ensures.broken.0) c.in_ok-some.ensures.pieces c.in_ok-some.ensures.frame.rest.keeps.octets
     (subst (λ (n : ℕ). BreaksOff c.args.now (segment c.args.way c.args.told n no_letters ∷ []) (g.D.Desk.value c.send_new.new.desk) (g.D.Desk.value c.acknowledge.new.desk)) c.next_number-number.ensures c.in_err-acknowledge.ensures.broken.1))

@@ -1,6 +1,6 @@
 use Rattle.std.proofs.Common.{◌∙◌, ap, rules, arith, sym, ℕ, ◌+◌, lt-ltb}
 use Rattle.cf_outq.specs.SendQueue.{Queue, queue_length, piece_letters}
-use Rattle.cf_outside.proofs.Desks.{keeps_both}
+use Rattle.cf_outside.proofs.Desks.{emits_both}
 use Rattle.cf_leg.proofs.Broken.{new_breaks, on_err}
 use Rattle.cf_leg.proofs.Pieces.{sends_one_more, sends_all, piece_within, left_of}
 use Rattle.cf_leg.proofs.send.send_new.Goals as goal
@@ -22,11 +22,7 @@ loop-piece-preserved g c =
           let within = piece_within c.loop-piece.queue c.args.mss c.loop-piece.queue.sent c.loop-piece.queue.shown c.in-Some.piece c.in-Some.ensures.answer.piece (omega (arith, left)) in
           omega (arith, sent, within, length, shown));
       some = sym (lt-ltb _ _ (omega (arith, i.low, sent, c.in-Some.ensures.letters)));
-      lines = c.in_ok-send_piece.ensures.lines ∙ i.lines;
-      packet_part = c.in_ok-send_piece.ensures.packet_part ∙ i.packet_part;
-      line_part = c.in_ok-send_piece.ensures.line_part ∙ i.line_part;
-      whole = c.in_ok-send_piece.ensures.whole;
-      keeps = keeps_both (g.D.Desk.value c.args.desk.now) (g.D.Desk.value c.loop-piece.desk) (g.D.Desk.value c.send_piece.new.desk) i.keeps c.in_ok-send_piece.ensures.keeps;
+      frame = emits_both _ _ _ i.frame c.in_ok-send_piece.ensures.frame;
     }
 
 pub returns-clause-pieces : goal.returns-clause-pieces
@@ -36,10 +32,6 @@ returns-clause-pieces g c =
     (let none = c.in_default.ensures.answer.none.0 (search rules) in
     omega (arith, none, ap (λ (q : Queue). q.shown) i.queue, ap (λ (q : Queue). queue_length q) i.queue)) i.low i.high
 
-pub returns-in_err-send_piece-clause-keeps : goal.returns-in_err-send_piece-clause-keeps
-returns-in_err-send_piece-clause-keeps g c =
-    keeps_both (g.D.Desk.value c.args.desk.now) (g.D.Desk.value c.loop-piece.desk) (g.D.Desk.value c.send_piece.new.desk) c.loop-piece.invariant.keeps c.in_err-send_piece.ensures.keeps
-
 pub returns-in_err-send_piece-clause-broken : goal.returns-in_err-send_piece-clause-broken
 returns-in_err-send_piece-clause-broken g c =
     let i = c.loop-piece.invariant in
@@ -48,5 +40,5 @@ returns-in_err-send_piece-clause-broken g c =
     let left = left_of c.loop-piece.queue c.args.mss c.in-Some.piece c.in-Some.ensures.answer in
     on_err _ (new_breaks c.args.way c.args.told c.args.mss c.requires.mss.0 c.args.queue.now c.loop-piece.queue c.next_piece.new.self c.args.now
     (g.D.Desk.value c.args.desk.now) (g.D.Desk.value c.loop-piece.desk) (g.D.Desk.value c.send_piece.new.desk) c.in-Some.piece
-    i.sends i.keeps.octets shown i.low (omega (arith, i.low, left, length, shown)) c.in-Some.ensures.letters c.in-Some.ensures.answer c.in_err-send_piece.ensures.broken
+    i.sends i.frame.rest.keeps.octets shown i.low (omega (arith, i.low, left, length, shown)) c.in-Some.ensures.letters c.in-Some.ensures.answer c.in_err-send_piece.ensures.broken
     i.stands (λ whole s. c.in-Some.ensures.stands whole (i.stands whole s)))

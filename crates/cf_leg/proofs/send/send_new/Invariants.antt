@@ -1,10 +1,10 @@
-use Rattle.std.proofs.Common.{◌≡◌, ◌-◌, ◌≤◌, min, max, true}
-use Rattle.std.specs.Prelude.{nat_lt}
+use Rattle.std.proofs.Common.{◌≡◌, ◌-◌, ◌≤◌, min, max}
+use Rattle.std.specs.Prelude.{false, nat_lt}
 use Rattle.cf_outq.specs.SendQueue.{queue_length}
 use Rattle.cf_outq.specs.SendQueue.{IsQueueOf}
 use Rattle.cf_stream.specs.Stream.{Stream}
 use Rattle.cf_leg.specs.Calls.{SendsSome}
-use Rattle.cf_outside.specs.Desk.{KeepsDesk}
+use Rattle.cf_outside.specs.Frames.{OnlyEmits}
 use Rattle.cf_leg.proofs.send.send_new.Given as goal
 
 abbrev pub invariant-loop-piece : goal.invariant-loop-piece
@@ -15,11 +15,7 @@ invariant-loop-piece g l = record {
   low : l.initial.queue.sent ≤ l.queue.sent;
   high : l.queue.sent ≤ max l.initial.queue.sent (min l.initial.queue.shown (queue_length l.initial.queue));
   some : l.some ≡ nat_lt l.initial.queue.sent l.queue.sent;
-  lines : (g.D.Desk.value l.desk).lines ≡ (g.D.Desk.value l.initial.desk).lines;
-  packet_part : (g.D.Desk.value l.desk).packet_part ≡ (g.D.Desk.value l.initial.desk).packet_part;
-  line_part : (g.D.Desk.value l.desk).line_part ≡ (g.D.Desk.value l.initial.desk).line_part;
-  whole : (g.D.Desk.value l.desk).whole ≡ true;
-  keeps : KeepsDesk (g.D.Desk.value l.initial.desk) (g.D.Desk.value l.desk);
+  frame : OnlyEmits (g.D.Desk.value l.initial.desk) (g.D.Desk.value l.desk) false;
 }
 
 abbrev pub decreases-loop-piece : goal.decreases-loop-piece

@@ -1,14 +1,13 @@
-use Rattle.std.proofs.Common.{◌≡◌, ◌^◌, ◌+◌, ◌<◌, ◌≤◌, List, ℕ, length, take, true, false, slice_range, refl, sym, ap, ◌∙◌, subst, arith, length-take}
+use Rattle.std.proofs.Common.{◌≡◌, ◌^◌, ◌+◌, ◌≤◌, List, ℕ, length, take, false, sym, ap, ◌∙◌, subst, arith, length-take}
 use Rattle.std.proofs.lemmas.Bool.Decides.{nat_tests}
-use Rattle.cf_view.specs.declared.LinkKind.{LinkKind}
 use Rattle.cf_pcapng.specs.Answers.{answer_of}
 use Rattle.cf_pcapng.specs.Block.{Found, Is, Needs, Other, Refuses, block_at}
 use Rattle.cf_pcapng.specs.Blocks.{after_found}
 use Rattle.cf_pcapng.specs.Section.{Section}
-use Rattle.cf_run.specs.Capture.{AtPlace, Fits, by_block, is_past, refused_by, section_at}
+use Rattle.cf_run.specs.Capture.{Fits, by_block, is_past, section_at}
 use Rattle.cf_run.specs.Pieces.{EndsAs, SizeFits}
 use Rattle.cf_run.specs.declared.form.Form.TheVariants as form
-use Rattle.cf_run.proofs.BlockPieces.{same_after, same_refused, section_large, section_whole, whole_block}
+use Rattle.cf_run.proofs.BlockPieces.{same_after, same_refused, section_whole, whole_block}
 use Rattle.cf_run.proofs.blocks.whole_at.Goals as goal
 
 -- what the octets say stands there

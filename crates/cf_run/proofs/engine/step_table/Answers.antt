@@ -1,9 +1,7 @@
 use Rattle.std.proofs.Common.{ap, ◌∙◌, arith, Err}
-use Rattle.cf_outside.specs.Desk.{DeskValue}
 use Rattle.cf_packet.specs.Packet.{read_record}
 use Rattle.cf_session.specs.Told.{told}
 use Rattle.cf_run.proofs.Stepping.{stepped}
-use Rattle.cf_session.proofs.Amid.{parts_both}
 use Rattle.cf_run.proofs.Faults.{same_fault}
 use Rattle.cf_run.specs.declared.engine.StepFault.TheVariants as stepped
 use Rattle.cf_run.proofs.SteppingAmid.{first_breaks, second_breaks, stops_between}
@@ -23,16 +21,10 @@ returns-in-Err-clause-broken g c = λ e before last le all.
 pub returns-in-Err-receive_record-clause-broken : goal.returns-in-Err-receive_record-clause-broken
 returns-in-Err-receive_record-clause-broken g c = λ e before last le all.
     second_breaks c.args.assets.now c.args.limit c.args.now (read_record c.args.link.now c.args.bytes.now) c.args.table.now.sessions.items before last le all (omega (arith, c.requires.moment.0)) c.tick_all.new.table.sessions.items
-    (g.D.Desk.value c.args.desk.now) (g.D.Desk.value c.tick_all.new.desk) (g.D.Desk.value c.receive_record.new.desk) c.in-Ok.cuts c.in-Ok.ensures.ticks c.in-Ok.ensures.parts c.tick_all.ensures.keeps.octets (c.in-Err-receive_record.ensures.broken (ap Err (same_fault c.in-Err-receive_record.fault stepped.Write e)))
+    (g.D.Desk.value c.args.desk.now) (g.D.Desk.value c.tick_all.new.desk) (g.D.Desk.value c.receive_record.new.desk) c.in-Ok.cuts c.in-Ok.ensures.ticks c.in-Ok.ensures.frame (c.in-Err-receive_record.ensures.broken (ap Err (same_fault c.in-Err-receive_record.fault stepped.Write e)))
 
 pub returns-in-Err-receive_record-clause-stops : goal.returns-in-Err-receive_record-clause-stops
 returns-in-Err-receive_record-clause-stops g c = λ e before last le all.
     stops_between c.args.assets.now c.args.limit c.args.now (read_record c.args.link.now c.args.bytes.now) c.args.table.now.sessions.items before last le all (omega (arith, c.requires.moment.0)) c.tick_all.new.table.sessions.items
     (told (g.D.Desk.value c.args.desk.now)) (told (g.D.Desk.value c.tick_all.new.desk)) (told (g.D.Desk.value c.receive_record.new.desk)) c.in-Ok.cuts (ap (λ d. told (g.D.Desk.value d)) (c.in-Err-receive_record.ensures.nothing (ap Err (same_fault c.in-Err-receive_record.fault stepped.NoMemory e))))
     (c.in-Err-receive_record.ensures.beginning (ap Err (same_fault c.in-Err-receive_record.fault stepped.NoMemory e))) c.in-Ok.ensures.ticks
-
-pub returns-in-Err-receive_record-clause-stops_whole : goal.returns-in-Err-receive_record-clause-stops_whole
-returns-in-Err-receive_record-clause-stops_whole g c = λ e. ap (λ d. DeskValue.whole (g.D.Desk.value d)) (c.in-Err-receive_record.ensures.nothing (ap Err (same_fault c.in-Err-receive_record.fault stepped.NoMemory e))) ∙ c.in-Ok.ensures.whole
-
-pub returns-in-Ok-receive_record-clause-parts : goal.returns-in-Ok-receive_record-clause-parts
-returns-in-Ok-receive_record-clause-parts g c = parts_both _ _ _ c.in-Ok.ensures.parts c.in-Ok-receive_record.ensures.parts

@@ -5,7 +5,7 @@ use Rattle.std.proofs.lemmas.List.{append-nil, take_all}
 use Rattle.std.proofs.lemmas.List.Elements.{All-nil}
 use Rattle.std.proofs.lemmas.Bool.Decides.{nat_tests}
 use Rattle.std.proofs.lemmas.List.Edits.{length-remove}
-use Rattle.cf_outside.proofs.Desks.{keeps_none, keeps_both}
+use Rattle.cf_outside.proofs.Desks.{puts_none, puts_both}
 use Rattle.cf_session.specs.Told.{told}
 use Rattle.cf_run.specs.Engine.{AreDueFrom, AreSound, TickSome}
 use Rattle.cf_run.specs.Entries.{number_if, stays_by, cuts_by}
@@ -13,7 +13,7 @@ use Rattle.cf_run.specs.declared.entry.Entry.{Entry}
 use Rattle.cf_run.proofs.Due.{due_more, quiet_all, quiet_more}
 use Rattle.cf_run.proofs.Soundness.{first_of, sound_removed, cuts_stay, cuts_gone, one_less}
 use Rattle.cf_run.proofs.Timers.{some_first, some_more, some_all, take-removed, drop-removed, removed_same}
-use Rattle.cf_session.proofs.Amid.{parts_both, parts_none, on_err}
+use Rattle.cf_session.proofs.Amid.{on_err}
 use Rattle.cf_run.proofs.TimersAmid.{ticks_break}
 use Rattle.cf_run.proofs.first_half.tick_all.Goals as goal
 
@@ -24,9 +24,7 @@ sessions-init g c = record {
   least = All-nil _;
   fewer = omega arith;
   ticked = λ known all. some_first c.args.assets.now c.args.now known c.args.table.now.sessions.items _ all;
-  keeps = keeps_none _;
-  parts = parts_none _;
-  whole = c.requires.whole;
+  frame = puts_none _ c.requires.whole;
 }
 
 pub sessions-preserved-then-now-next : goal.sessions-preserved-then-now-next
@@ -46,9 +44,7 @@ sessions-preserved-then-now-next g c =
       ticked = λ known all.
           quiet_more c.sessions_are_quiet_before_due.ensures c.args.assets.now c.args.limit c.args.now known items place _ _ c.sessions.count before.sound within
           (λ entry at. subst (λ (e : Entry). c.args.now < e.due) (same entry at) c.if-now-next.true) (before.ticked known all);
-      keeps = before.keeps;
-      parts = before.parts;
-      whole = before.whole;
+      frame = before.frame;
     }
 
 pub sessions-preserved-then-stays : goal.sessions-preserved-then-stays
@@ -77,9 +73,7 @@ sessions-preserved-then-stays g c =
           (some_more c.args.assets.now c.args.now known place before _ _ _ x.0 y.0 (drop (place + 1) before) after (place + 1) (stays_by c.in_ok-life.life) (cuts_by c.in_ok-life.life) c.sessions.count
           (c.sessions.invariant.ticked known all) x.2 (c.in_ok-life.ensures.ticks x.0 y.0 x.1 y.1) c.in_ok-life.ensures.after
           (y.3 ∙ ap (λ zs. zs ++ y.0 ∷ []) c.in_ok-life.ensures.before ∙ ap (λ (b : Bool). take place before ++ cond b (y.0 ∷ []) []) (sym stay)));
-      keeps = keeps_both _ _ _ c.sessions.invariant.keeps c.in_ok-life.ensures.keeps;
-      parts = parts_both _ _ _ c.sessions.invariant.parts c.in_ok-life.ensures.parts;
-      whole = c.in_ok-life.ensures.whole;
+      frame = puts_both _ _ _ c.sessions.invariant.frame c.in_ok-life.ensures.frame;
     }
 
 pub sessions-preserved : goal.sessions-preserved
@@ -111,9 +105,7 @@ sessions-preserved g c =
           (some_more c.args.assets.now c.args.now known place before _ _ _ x.0 y.0 (drop (place + 1) before) after place (stays_by c.in_ok-life.life) (cuts_by c.in_ok-life.life) c.sessions.count
           (c.sessions.invariant.ticked known all) x.2 (c.in_ok-life.ensures.ticks x.0 y.0 x.1 y.1) (back ∙ c.in_ok-life.ensures.after)
           (front ∙ c.in_ok-life.ensures.before ∙ sym (append-nil (take place before)) ∙ ap (λ (b : Bool). take place before ++ cond b (y.0 ∷ []) []) (sym gone)));
-      keeps = keeps_both _ _ _ c.sessions.invariant.keeps c.in_ok-life.ensures.keeps;
-      parts = parts_both _ _ _ c.sessions.invariant.parts c.in_ok-life.ensures.parts;
-      whole = c.in_ok-life.ensures.whole;
+      frame = puts_both _ _ _ c.sessions.invariant.frame c.in_ok-life.ensures.frame;
     }
 
 pub returns-then-now-table-clause-ticks : goal.returns-then-now-table-clause-ticks
@@ -138,4 +130,4 @@ returns-in_err-life-clause-broken g c =
     let within : place < length before = omega (arith, c.sessions-test.true, c.len.ensures) in
     let x = first_of before place within in
     ticks_break c.each_session_has_a_tick.ensures c.args.assets.now c.args.now known before place (value c.args.desk.now) (value c.sessions.desk) (value c.tick_at.new.desk) c.sessions.count
-    (c.sessions.invariant.ticked known all) c.sessions.invariant.parts c.sessions.invariant.keeps.octets x.0 (drop (place + 1) before) (c.in_err-life.ensures.broken x.0 x.1) x.2)
+    (c.sessions.invariant.ticked known all) c.sessions.invariant.frame x.0 (drop (place + 1) before) (c.in_err-life.ensures.broken x.0 x.1) x.2)

@@ -1,6 +1,5 @@
-use Rattle.std.proofs.Common.{◌≡◌, ◌+◌, ◌-◌, ◌≤◌, true, length, take, List}
-use Rattle.cf_outside.specs.Desk.{DeskValue, KeepsDesk}
-use Rattle.cf_session.specs.Broken.{KeepsParts}
+use Rattle.std.proofs.Common.{◌+◌, ◌-◌, ◌≤◌, false, length, take, List}
+use Rattle.cf_outside.specs.Frames.{EmitsAndLogs}
 use Rattle.cf_session.specs.Told.{told}
 use Rattle.cf_run.specs.Engine.{AreAll, AreDueFrom, AreSound, TickSome}
 use Rattle.cf_run.specs.Table.{Session}
@@ -16,9 +15,7 @@ invariant-sessions g l =
       fewer : l.count + length l.table.sessions.items ≤ length l.fn.table.sessions.items;
       ticked : (known : List Session) → AreAll l.assets l.now l.fn.table.sessions.items known →
           TickSome l.assets l.now known l.table.sessions.items l.place (told (value l.fn.desk)) (told (value l.desk)) l.count;
-      keeps : KeepsDesk (value l.fn.desk) (value l.desk);
-      parts : KeepsParts (value l.fn.desk) (value l.desk);
-      whole : DeskValue.whole (value l.desk) ≡ true;
+      frame : EmitsAndLogs (value l.fn.desk) (value l.desk) false;
     }
 
 abbrev pub decreases-sessions : goal.decreases-sessions

@@ -27,6 +27,3 @@ returns-in_err-ended-clause-broken g c =
     let began = subst (λ e. Began asset e (h1 ++ end_at c.args.now c.args.side ∷ []) (Some []) (Some (middle.log ++ x.more)) d1.line_part) st.lane_stands.is_client x.began in
     ended_amid c.pieces_join.ensures.nothing c.pieces_join.ensures.judged asset client c.args.now c.args.side h middle piece (g.D.Desk.value c.args.desk.now) d1 x.more
     c.ended.ensures.log.packets c.ended.ensures.log.packet_part x.added began)
-
-pub returns-clause-parts : goal.returns-clause-parts
-returns-clause-parts g c = record { packet_part = c.ended.ensures.log.packet_part; line_part = c.ended.ensures.log.line_part c.in_ok-ended.ensures.whole }

@@ -27,6 +27,3 @@ returns-in_err-fed-clause-broken g c =
     let began = subst (λ e. BeganWithin c.args.asset.now e h c.args.now c.args.side piece (Some []) (Some (w.log ++ x.more)) d1.line_part) st.lane_stands.is_client x.began in
     fed_amid c.pieces_join.ensures.nothing c.pieces_join.ensures.judged c.judgements_go_on.ensures c.streams_go_on.ensures.go_on c.args.asset.now client c.args.now c.args.side h w (rest_of c.args.side r) piece ended (g.D.Desk.value c.args.desk.now) d1 x.more
     (subst IsOctets pending c.len-len.ensures.octets) c.feed.ensures.log.packets c.feed.ensures.log.packet_part x.added began)
-
-pub returns-clause-parts : goal.returns-clause-parts
-returns-clause-parts g c = record { packet_part = c.feed.ensures.log.packet_part; line_part = c.feed.ensures.log.line_part c.in_ok-fed.ensures.whole }

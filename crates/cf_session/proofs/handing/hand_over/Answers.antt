@@ -3,7 +3,7 @@ use Rattle.cf_lane.specs.Follows.{rest_of, with_rest}
 use Rattle.cf_session.proofs.Turns.{follows_both, none_of, rest_of-with, still_uncut}
 use Rattle.cf_session.specs.Told.{told}
 use Rattle.cf_session.specs.Turn.{FollowsAmid, FollowsMore}
-use Rattle.cf_session.proofs.Amid.{parts_both, on_err}
+use Rattle.cf_session.proofs.Amid.{on_err}
 use Rattle.cf_session.proofs.LanesAmid.{amid_behind}
 use Rattle.cf_session.proofs.handing.hand_over.Goals as goal
 
@@ -47,7 +47,4 @@ returns-in_err-end_lane-clause-broken g c =
     let b = c.in_err-end_lane.ensures.broken client r1 h w piece a.work (still_uncut a (none_of cut c.if-is_some.ensures)) (c.len-rest.ensures.length ∙ size) in
     let ended : true ≡ c.args.leg.now.window.ended = c.if-not-has_ended.ensures.value ∙ c.consume.ensures.window.ended in
     subst (λ (e : Bool). FollowsAmid c.args.asset.now client c.args.now c.args.side h w (record { bytes = piece; ended = e }) d0 d2) ended
-    (amid_behind c.args.asset.now client c.args.now c.args.side h w a.work a.lines (record { bytes = piece; ended = true }) d0 d1 d2 a.log_is a.told c.in_ok-used.ensures.parts c.feed_lane.ensures.keeps.octets b))
-
-pub returns-clause-parts : goal.returns-clause-parts
-returns-clause-parts g c = parts_both _ _ _ c.in_ok-used.ensures.parts c.in_ok-end_lane.ensures.parts
+    (amid_behind c.args.asset.now client c.args.now c.args.side h w a.work a.lines (record { bytes = piece; ended = true }) d0 d1 d2 a.log_is a.told c.in_ok-used.ensures.frame.rest b))

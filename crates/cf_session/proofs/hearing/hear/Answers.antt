@@ -12,7 +12,7 @@ use Rattle.cf_session.proofs.Hearings.{brings, newly_none, own_pushed, stands_on
 use Rattle.cf_session.proofs.Telling.{both_nothing}
 use Rattle.cf_session.specs.Parts.{IsLaneAfter, own_queue}
 use Rattle.cf_session.specs.Told.{told}
-use Rattle.cf_session.proofs.Amid.{parts_none, on_err}
+use Rattle.cf_session.proofs.Amid.{on_err}
 use Rattle.cf_session.proofs.hearing.hear.Goals as goal
 
 pub returns-clause-hears : goal.returns-clause-hears
@@ -70,6 +70,3 @@ returns-in_err-cut-clause-broken g c =
       unended = b.unended;
       follows = c.in_err-cut.ensures.broken client r h w seg.newly.letters.bytes (record { lane_stands = st.lane_stands; uncut = st.uncut; client_stands = seg.client_stands w.to_client st.client_stands; controller_stands = seg.controller_stands w.to_controller st.controller_stands }) b.pending;
     })
-
-pub returns-then-had_ended-clause-parts : goal.returns-then-had_ended-clause-parts
-returns-then-had_ended-clause-parts g c = parts_none _

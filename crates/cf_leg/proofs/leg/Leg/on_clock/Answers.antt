@@ -14,8 +14,8 @@ returns-then-is_spent-clause-clocked g c =
 
 pub returns-clause-clocked : goal.returns-clause-clocked
 returns-clause-clocked g c =
-    again_of c.args.self.now c.fire.new.self c.args.queue.now c.args.now c.in_ok-answer.answer _ _ c.in_ok-answer.ensures.bounds c.in_ok-answer.ensures.window c.acked_of-acked.ensures.bounds
-    (sym c.is_due.ensures ∙ c.if-not-is_due.false) (not_false (nat_lt c.args.self.now.fired 6) (sym c.is_spent.ensures ∙ c.if-is_spent.false)) c.in_ok-answer.ensures.sends c.fire.ensures.new
+    again_of c.args.self.now c.fire.new.self c.args.queue.now c.args.now c.in_ok-answer.answer (g.D.Desk.value c.args.desk.now) (g.D.Desk.value c.send_again.new.desk) c.in_ok-answer.ensures.bounds c.in_ok-answer.ensures.window c.acked_of-acked.ensures.bounds
+    (sym c.is_due.ensures ∙ c.if-not-is_due.false) (not_false (nat_lt c.args.self.now.fired 6) (sym c.is_spent.ensures ∙ c.if-is_spent.false)) c.in_ok-answer.ensures.sends.0 c.in_ok-answer.ensures.sends.1 c.fire.ensures.new
 
 pub returns-in_err-answer-clause-broken : goal.returns-in_err-answer-clause-broken
 returns-in_err-answer-clause-broken g c =

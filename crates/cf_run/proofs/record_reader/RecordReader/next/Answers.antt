@@ -1,7 +1,6 @@
-use Rattle.std.proofs.Common.{◌≡◌, ◌+◌, ℕ, List, length, slice_range, ap, refl, sym, subst, ◌∙◌}
+use Rattle.std.proofs.Common.{◌≡◌, ◌+◌, length, slice_range, ap, sym, subst, ◌∙◌}
 use Rattle.std.specs.Vec.{with_items}
 use Rattle.std.proofs.lemmas.List.{with_items_is}
-use Rattle.cf_outside.specs.Files.{Content}
 use Rattle.cf_run.specs.Pieces.{FindsBehind}
 use Rattle.cf_run.specs.Reader.{FindsRecord, ReaderValue}
 use Rattle.cf_run.specs.declared.record_reader.NextRecord.TheVariants as next

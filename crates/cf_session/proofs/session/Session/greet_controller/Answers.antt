@@ -1,28 +1,30 @@
-use Rattle.std.proofs.Common.{◌+◌, ◌-◌, true, List, [], ◌∷◌, refl, sym, ap, ◌∙◌, subst}
+use Rattle.std.proofs.Common.{◌+◌, ◌-◌, true, false, List, [], ◌∷◌, refl, sym, ap, ◌∙◌, subst}
 use Rattle.cf_audit.specs.Line.{Begun}
 use Rattle.cf_lane.specs.Log.{line_about}
 use Rattle.cf_leg.specs.Emits.{syn}
 use Rattle.cf_session.proofs.Beginning.{begins_of, first_said, moment_later, still_pending}
-use Rattle.cf_session.proofs.Telling.{line_is, told_lines, told_sent}
+use Rattle.cf_session.proofs.Telling.{line_is, told_lines}
 use Rattle.cf_session.specs.Session.{controller_ends}
 use Rattle.cf_session.specs.Told.{told, with_both}
 use Rattle.cf_session.specs.Turn.{IsMade}
 use Rattle.cf_lane.specs.Handled.{MayHaveAdded}
-use Rattle.cf_leg.specs.Calls.{Greeted, GreetingBreaks, SpeakingBreaks}
-use Rattle.cf_session.proofs.Amid.{parts_both, on_err}
-use Rattle.cf_session.proofs.BeginningAmid.{greeted_syn, greeting_amid, line_failed, speech_amid, speech_failed, syn_failed}
-use Rattle.cf_outside.specs.Desk.{DeskValue}
+use Rattle.cf_leg.specs.Calls.{Greeted, SpeakingBreaks}
+use Rattle.cf_outside.proofs.Desks.{puts_both}
+use Rattle.cf_session.proofs.Amid.{gets_sent, on_err}
+use Rattle.cf_session.proofs.BeginningAmid.{greeted_syn, line_failed, speech_amid, speech_failed, syn_failed}
 use Rattle.cf_session.proofs.session.Session.greet_controller.Goals as goal
 
 pub returns-clause-begins : goal.returns-clause-begins
 returns-clause-begins g c = λ f is number made.
     let m = subst (IsMade f) (sym c.self.view_is) made in
     let later = moment_later c.args.now c.requires.moment.0 in
+    let d0 = g.D.Desk.value c.args.desk.now in
+    let d1 = g.D.Desk.value c.greet.new.desk in
     let d2 = g.D.Desk.value c.speak.new.desk in
-    let first = first_said c.events_begin.ensures (controller_ends f) f.syn.seq (c.args.now - 1) (told (g.D.Desk.value c.args.desk.now)) (told (g.D.Desk.value c.greet.new.desk)) (told d2) later refl m.controller m.controller_list
-    c.in_ok-greet.ensures.greeted c.in_ok-speak.ensures.spoken c.in_ok-greet.ensures.ends c.in_ok-speak.ensures.ends c.greet.ensures.lines c.speak.ensures.lines in
+    let first = first_said c.events_begin.ensures (controller_ends f) f.syn.seq (c.args.now - 1) d0 d1 d2 later refl m.controller m.controller_list
+    (subst (λ n. Greeted c.args.now n c.self.inside.controller c.greet.new.self d0 d1 false) (sym number) c.in_ok-greet.ensures.greeted) c.in_ok-speak.ensures.spoken c.in_ok-greet.ensures.ends c.in_ok-speak.ensures.ends c.greet.ensures.frame.lines c.speak.ensures.frame.lines in
     let text = line_is f Begun is m.source later in
-    let put = told_lines d2 (g.D.Desk.value c.log_line.new.desk) (line_about c.args.asset.now c.self.inside.source c.args.now Begun ∷ []) c.log_line.ensures.log.packets c.in_ok-log_line.ensures.lines
+    let put = told_lines d2 (g.D.Desk.value c.log_line.new.desk) (line_about c.args.asset.now c.self.inside.source c.args.now Begun ∷ []) c.log_line.ensures.frame.packets c.in_ok-log_line.ensures.lines
     ∙ ap (λ (l : List _). with_both (told d2) [] (l ∷ [])) text in
     begins_of c.events_begin.ensures f (c.args.now - 1) _ m _ _ _ _ _ first.stands (still_pending c.self.inside.controller.ends.role c.self.inside.controller.window c.greet.new.self.window c.speak.new.self.window c.in_ok-greet.ensures.window c.in_ok-speak.ensures.window) (c.speak.ensures.stands _ m.controller_list) first.told put
 
@@ -35,8 +37,8 @@ returns-in_err-greet-clause-broken g c =
     let later = moment_later now c.requires.moment.0 in
     let d0 = g.D.Desk.value c.args.desk.now in
     let d1 = g.D.Desk.value c.greet.new.desk in
-    let h = subst (λ n. GreetingBreaks (tick + 1) n c.self.inside.controller d0 d1) (sym number) (subst (λ n. GreetingBreaks n c.args.number c.self.inside.controller d0 d1) later c.in_err-greet.ensures.broken) in
-    syn_failed f tick d0 d0 d1 (greeting_amid c.events_begin.ensures (controller_ends f) f.syn.seq tick c.self.inside.controller c.self.inside.to_controller d0 d1 refl m.controller h) c.greet.ensures.lines c.greet.ensures.line_part)
+    let h = subst (λ n. Greeted n f.syn.seq c.self.inside.controller c.greet.new.self d0 d1 true) later (subst (λ n. Greeted now n c.self.inside.controller c.greet.new.self d0 d1 true) (sym number) c.in_err-greet.ensures.greeted) in
+    syn_failed f tick d0 d0 d1 (greeted_syn c.events_begin.ensures (controller_ends f) f.syn.seq tick c.self.inside.controller c.greet.new.self c.self.inside.to_controller d0 d1 refl m.controller c.greet.ensures.ends h) c.greet.ensures.frame)
 
 pub returns-in_err-speak-clause-broken : goal.returns-in_err-speak-clause-broken
 returns-in_err-speak-clause-broken g c =
@@ -49,13 +51,13 @@ returns-in_err-speak-clause-broken g c =
     let d0 = g.D.Desk.value c.args.desk.now in
     let d1 = g.D.Desk.value c.greet.new.desk in
     let d2 = g.D.Desk.value c.speak.new.desk in
-    let greeted = subst (λ n. Greeted n c.self.inside.controller c.greet.new.self (DeskValue.packets d0) (DeskValue.packets d1)) later c.in_ok-greet.ensures.greeted in
-    let sent = told_sent d0 d1 (tick + 1) (syn (controller_ends f) f.syn.seq ∷ [])
-    (greeted_syn begin (controller_ends f) f.syn.seq tick c.self.inside.controller c.greet.new.self c.self.inside.to_controller (DeskValue.packets d0) (DeskValue.packets d1) refl m.controller c.in_ok-greet.ensures.ends greeted) c.greet.ensures.lines in
+    let greeted = subst (λ n. Greeted n f.syn.seq c.self.inside.controller c.greet.new.self d0 d1 false) later (subst (λ n. Greeted now n c.self.inside.controller c.greet.new.self d0 d1 false) (sym number) c.in_ok-greet.ensures.greeted) in
+    let sent = gets_sent false (tick + 1) (syn (controller_ends f) f.syn.seq ∷ []) d0 d1
+    (greeted_syn begin (controller_ends f) f.syn.seq tick c.self.inside.controller c.greet.new.self c.self.inside.to_controller d0 d1 refl m.controller c.greet.ensures.ends greeted) c.in_ok-greet.ensures.frame in
     let h = subst (λ n. SpeakingBreaks true n c.greet.new.self c.self.inside.to_controller d1 d2) later c.in_err-speak.ensures.broken in
-    speech_failed f tick d0 d1 d2 sent (record { packet_part = c.in_ok-greet.ensures.packet_part; line_part = c.greet.ensures.line_part }) c.greet.ensures.keeps.octets
-    (speech_amid begin (controller_ends f) tick c.self.inside.controller c.greet.new.self c.self.inside.to_controller _ _ d1 d2 m.controller m.controller_list greeted h) c.speak.ensures.lines c.speak.ensures.line_part
-    (record { lines = c.speak.ensures.lines ∙ c.greet.ensures.lines; line_part = c.speak.ensures.line_part ∙ c.greet.ensures.line_part }))
+    speech_failed f tick d0 d1 d2 sent c.in_ok-greet.ensures.frame.rest
+    (speech_amid begin (controller_ends f) tick f.syn.seq c.self.inside.controller c.greet.new.self c.self.inside.to_controller d0 d1 d2 m.controller m.controller_list greeted h) c.speak.ensures.frame
+    (record { lines = c.speak.ensures.frame.lines ∙ c.greet.ensures.frame.lines; line_part = c.speak.ensures.frame.line_part ∙ c.greet.ensures.frame.line_part }))
 
 pub returns-in_err-log_line-clause-broken : goal.returns-in_err-log_line-clause-broken
 returns-in_err-log_line-clause-broken g c =
@@ -66,15 +68,9 @@ returns-in_err-log_line-clause-broken g c =
     let d1 = g.D.Desk.value c.greet.new.desk in
     let d2 = g.D.Desk.value c.speak.new.desk in
     let d3 = g.D.Desk.value c.log_line.new.desk in
-    let first = first_said c.events_begin.ensures (controller_ends f) f.syn.seq (c.args.now - 1) (told d0) (told d1) (told d2) later refl m.controller m.controller_list
-    c.in_ok-greet.ensures.greeted c.in_ok-speak.ensures.spoken c.in_ok-greet.ensures.ends c.in_ok-speak.ensures.ends c.greet.ensures.lines c.speak.ensures.lines in
+    let first = first_said c.events_begin.ensures (controller_ends f) f.syn.seq (c.args.now - 1) d0 d1 d2 later refl m.controller m.controller_list
+    (subst (λ n. Greeted c.args.now n c.self.inside.controller c.greet.new.self d0 d1 false) (sym number) c.in_ok-greet.ensures.greeted) c.in_ok-speak.ensures.spoken c.in_ok-greet.ensures.ends c.in_ok-speak.ensures.ends c.greet.ensures.frame.lines c.speak.ensures.frame.lines in
     let text = line_is f Begun is m.source later in
-    let parts = parts_both d0 d1 d2 (record { packet_part = c.in_ok-greet.ensures.packet_part; line_part = c.greet.ensures.line_part }) (record { packet_part = c.in_ok-speak.ensures.packet_part; line_part = c.speak.ensures.line_part }) in
-    line_failed f (c.args.now - 1) d0 d2 d3 first.told parts (c.speak.ensures.keeps.octets ∙ c.greet.ensures.keeps.octets)
-    (subst (λ l. MayHaveAdded (l ∷ []) d2 d3) text c.in_err-log_line.ensures.fails) c.log_line.ensures.log)
-
-pub returns-clause-parts : goal.returns-clause-parts
-returns-clause-parts g c =
-    parts_both (g.D.Desk.value c.args.desk.now) (g.D.Desk.value c.greet.new.desk) (g.D.Desk.value c.log_line.new.desk) (record { packet_part = c.in_ok-greet.ensures.packet_part; line_part = c.greet.ensures.line_part })
-    (parts_both (g.D.Desk.value c.greet.new.desk) (g.D.Desk.value c.speak.new.desk) (g.D.Desk.value c.log_line.new.desk) (record { packet_part = c.in_ok-speak.ensures.packet_part; line_part = c.speak.ensures.line_part })
-    (record { packet_part = c.log_line.ensures.log.packet_part; line_part = c.log_line.ensures.log.line_part c.in_ok-log_line.ensures.whole }))
+    let frame = puts_both d0 d1 d2 c.in_ok-greet.ensures.frame.rest c.in_ok-speak.ensures.frame.rest in
+    line_failed f (c.args.now - 1) d0 d2 d3 first.told frame
+    (subst (λ l. MayHaveAdded (l ∷ []) d2 d3) text c.in_err-log_line.ensures.fails) c.log_line.ensures.frame)

@@ -6,8 +6,9 @@ use Rattle.cf_session.proofs.Ticks.{client_begins, client_fires, client_silent_t
 use Rattle.cf_session.specs.Session.{clients, controllers}
 use Rattle.cf_session.specs.Stands.{IsSessionOf, TicksBy}
 use Rattle.cf_session.specs.Told.{told}
-use Rattle.std.proofs.lemmas.Result.{on_err_weaker, on_ok_weaker}
-use Rattle.cf_session.proofs.Amid.{parts_both, on_err}
+use Rattle.std.proofs.lemmas.Result.{on_err_weaker}
+use Rattle.cf_outside.proofs.Desks.{puts_both}
+use Rattle.cf_session.proofs.Amid.{on_err}
 use Rattle.cf_session.proofs.Telling.{then_sent}
 use Rattle.cf_session.proofs.TicksAmid.{client_cut_failed, client_failed, controller_cut_failed, controller_failed}
 use Rattle.cf_session.proofs.session.Session.on_clock.Goals as goal
@@ -18,10 +19,10 @@ returns-then-is_silent-clause-ticks g c =
     let now = c.args.now in
     let s = subst (IsSessionOf f es e) (sym c.self.view_is) stands in
     let early = unexpired s c.args.now c.is_over.ensures c.if-is_over.false in
-    let a = controller_ticks s (told (g.D.Desk.value c.args.desk.now)) (told (g.D.Desk.value c.on_clock.new.desk)) c.in_ok-on_clock.ensures.clocked c.on_clock.ensures.ends c.on_clock.ensures.queue c.on_clock.ensures.lines in
+    let a = controller_ticks s (told (g.D.Desk.value c.args.desk.now)) (told (g.D.Desk.value c.on_clock.new.desk)) c.in_ok-on_clock.ensures.clocked c.on_clock.ensures.ends c.on_clock.ensures.queue c.on_clock.ensures.frame.lines in
     let silent = sym a.answer ∙ sym c.is_silent.ensures ∙ c.if-is_silent.true in
     let cuts = h.1 f (controllers (e ∷ es)) (clients (e ∷ es)) (clocked now (controller_fires f es e now)) (begun now) is s.source a.stands (client_begins s c.events_begin.ensures now) in
-    let ticks = silent_ticks f es e now early (controller_fires f es e now) refl silent _ _ _ a.told cuts in
+    let ticks = silent_ticks f es e now early (controller_fires f es e now) refl silent cuts.rsts _ _ _ a.told cuts.gets in
     subst (TicksBy f (e ∷ es) now _ _ _) (sym h.0) (_, ticks, refl)) c.cut_at.ensures.cuts
 
 pub returns-then-is_silent-2-clause-ticks : goal.returns-then-is_silent-2-clause-ticks
@@ -31,14 +32,14 @@ returns-then-is_silent-2-clause-ticks g c =
     let t1 = told (g.D.Desk.value c.on_clock.new.desk) in
     let s = subst (IsSessionOf f es e) (sym c.self.view_is) stands in
     let early = unexpired s c.args.now c.is_over.ensures c.if-is_over.false in
-    let a = controller_ticks s (told (g.D.Desk.value c.args.desk.now)) t1 c.in_ok-on_clock.ensures.clocked c.on_clock.ensures.ends c.on_clock.ensures.queue c.on_clock.ensures.lines in
-    let b = client_ticks s t1 (told (g.D.Desk.value c.on_clock-2.new.desk)) c.in_ok-on_clock-2.ensures.clocked c.on_clock-2.ensures.ends c.on_clock-2.ensures.queue c.on_clock-2.ensures.lines in
+    let a = controller_ticks s (told (g.D.Desk.value c.args.desk.now)) t1 c.in_ok-on_clock.ensures.clocked c.on_clock.ensures.ends c.on_clock.ensures.queue c.on_clock.ensures.frame.lines in
+    let b = client_ticks s t1 (told (g.D.Desk.value c.on_clock-2.new.desk)) c.in_ok-on_clock-2.ensures.clocked c.on_clock-2.ensures.ends c.on_clock-2.ensures.queue c.on_clock-2.ensures.frame.lines in
     let quiet = sym a.answer ∙ sym c.is_silent.ensures ∙ c.if-is_silent.false in
     let silent = sym b.answer ∙ sym c.is_silent-2.ensures ∙ c.if-is_silent-2.true in
     let fc = controller_fires f es e now in
     let fd = client_fires f es e now in
     let cuts = h.1 f (controllers (e ∷ es)) (clients (e ∷ es)) (clocked now fc) (clocked now fd) is s.source a.stands b.stands in
-    let ticks = client_silent_ticks f es e now early fc fd refl refl quiet silent _ _ _ _ a.told b.told cuts in
+    let ticks = client_silent_ticks f es e now early fc fd refl refl quiet silent cuts.rsts _ _ _ _ a.told b.told cuts.gets in
     subst (TicksBy f (e ∷ es) now _ _ _) (sym h.0) (_, ticks, refl)) c.cut_at-then-is_silent-2.ensures.cuts
 
 pub returns-clause-ticks : goal.returns-clause-ticks
@@ -47,8 +48,8 @@ returns-clause-ticks g c = λ f es e is stands.
     let t1 = told (g.D.Desk.value c.on_clock.new.desk) in
     let s = subst (IsSessionOf f es e) (sym c.self.view_is) stands in
     let early = unexpired s c.args.now c.is_over.ensures c.if-is_over.false in
-    let a = controller_ticks s (told (g.D.Desk.value c.args.desk.now)) t1 c.in_ok-on_clock.ensures.clocked c.on_clock.ensures.ends c.on_clock.ensures.queue c.on_clock.ensures.lines in
-    let b = client_ticks s t1 (told (g.D.Desk.value c.on_clock-2.new.desk)) c.in_ok-on_clock-2.ensures.clocked c.on_clock-2.ensures.ends c.on_clock-2.ensures.queue c.on_clock-2.ensures.lines in
+    let a = controller_ticks s (told (g.D.Desk.value c.args.desk.now)) t1 c.in_ok-on_clock.ensures.clocked c.on_clock.ensures.ends c.on_clock.ensures.queue c.on_clock.ensures.frame.lines in
+    let b = client_ticks s t1 (told (g.D.Desk.value c.on_clock-2.new.desk)) c.in_ok-on_clock-2.ensures.clocked c.on_clock-2.ensures.ends c.on_clock-2.ensures.queue c.on_clock-2.ensures.frame.lines in
     let quiet = sym a.answer ∙ sym c.is_silent.ensures ∙ c.if-is_silent.false in
     let silent = sym b.answer ∙ sym c.is_silent-2.ensures ∙ c.if-is_silent-2.false in
     let told = live_told f es e now _ s early quiet silent a.right b.right _ _ _ a.told b.told in
@@ -62,7 +63,7 @@ returns-in_err-on_clock-clause-broken g c =
     on_err c.from_residual.result (λ f es e is stands.
     let s = subst (IsSessionOf f es e) (sym c.self.view_is) stands in
     let early = unexpired s c.args.now c.is_over.ensures c.if-is_over.false in
-    controller_failed f es e _ s c.args.now early (g.D.Desk.value c.args.desk.now) (g.D.Desk.value c.args.desk.now) (g.D.Desk.value c.on_clock.new.desk) c.in_err-on_clock.ensures.broken c.on_clock.ensures.lines c.on_clock.ensures.line_part)
+    controller_failed f es e _ s c.args.now early (g.D.Desk.value c.args.desk.now) (g.D.Desk.value c.args.desk.now) (g.D.Desk.value c.on_clock.new.desk) c.in_err-on_clock.ensures.broken c.on_clock.ensures.frame)
 
 pub returns-then-is_silent-clause-broken : goal.returns-then-is_silent-clause-broken
 returns-then-is_silent-clause-broken g c =
@@ -72,10 +73,10 @@ returns-then-is_silent-clause-broken g c =
     let d1 = g.D.Desk.value c.on_clock.new.desk in
     let s = subst (IsSessionOf f es e) (sym c.self.view_is) stands in
     let early = unexpired s c.args.now c.is_over.ensures c.if-is_over.false in
-    let a = controller_ticks s (told d0) (told d1) c.in_ok-on_clock.ensures.clocked c.on_clock.ensures.ends c.on_clock.ensures.queue c.on_clock.ensures.lines in
+    let a = controller_ticks s (told d0) (told d1) c.in_ok-on_clock.ensures.clocked c.on_clock.ensures.ends c.on_clock.ensures.queue c.on_clock.ensures.frame.lines in
     let silent = sym a.answer ∙ sym c.is_silent.ensures ∙ c.if-is_silent.true in
     let cuts = h f (controllers (e ∷ es)) (clients (e ∷ es)) (clocked now (controller_fires f es e now)) (begun now) is s.source a.stands (client_begins s c.events_begin.ensures now) in
-    controller_cut_failed f es e _ s now early d0 d1 (g.D.Desk.value c.cut_at.new.desk) a.told (record { packet_part = c.in_ok-on_clock.ensures.packet_part; line_part = c.on_clock.ensures.line_part }) c.on_clock.ensures.keeps.octets silent cuts) c.cut_at.ensures.broken
+    controller_cut_failed f es e _ s now early d0 d1 (g.D.Desk.value c.cut_at.new.desk) a.told c.in_ok-on_clock.ensures.frame.rest silent cuts) c.cut_at.ensures.broken
 
 pub returns-in_err-on_clock-2-clause-broken : goal.returns-in_err-on_clock-2-clause-broken
 returns-in_err-on_clock-2-clause-broken g c =
@@ -84,9 +85,9 @@ returns-in_err-on_clock-2-clause-broken g c =
     let d1 = g.D.Desk.value c.on_clock.new.desk in
     let s = subst (IsSessionOf f es e) (sym c.self.view_is) stands in
     let early = unexpired s c.args.now c.is_over.ensures c.if-is_over.false in
-    let a = controller_ticks s (told d0) (told d1) c.in_ok-on_clock.ensures.clocked c.on_clock.ensures.ends c.on_clock.ensures.queue c.on_clock.ensures.lines in
+    let a = controller_ticks s (told d0) (told d1) c.in_ok-on_clock.ensures.clocked c.on_clock.ensures.ends c.on_clock.ensures.queue c.on_clock.ensures.frame.lines in
     let quiet = sym a.answer ∙ sym c.is_silent.ensures ∙ c.if-is_silent.false in
-    client_failed f es e _ s c.args.now early d0 d1 (g.D.Desk.value c.on_clock-2.new.desk) a.told (record { packet_part = c.in_ok-on_clock.ensures.packet_part; line_part = c.on_clock.ensures.line_part }) c.on_clock.ensures.keeps.octets quiet c.in_err-on_clock-2.ensures.broken c.on_clock-2.ensures.lines c.on_clock-2.ensures.line_part)
+    client_failed f es e _ s c.args.now early d0 d1 (g.D.Desk.value c.on_clock-2.new.desk) a.told c.in_ok-on_clock.ensures.frame.rest quiet c.in_err-on_clock-2.ensures.broken c.on_clock-2.ensures.frame)
 
 pub returns-then-is_silent-2-clause-broken : goal.returns-then-is_silent-2-clause-broken
 returns-then-is_silent-2-clause-broken g c =
@@ -97,27 +98,12 @@ returns-then-is_silent-2-clause-broken g c =
     let d2 = g.D.Desk.value c.on_clock-2.new.desk in
     let s = subst (IsSessionOf f es e) (sym c.self.view_is) stands in
     let early = unexpired s c.args.now c.is_over.ensures c.if-is_over.false in
-    let a = controller_ticks s (told d0) (told d1) c.in_ok-on_clock.ensures.clocked c.on_clock.ensures.ends c.on_clock.ensures.queue c.on_clock.ensures.lines in
-    let b = client_ticks s (told d1) (told d2) c.in_ok-on_clock-2.ensures.clocked c.on_clock-2.ensures.ends c.on_clock-2.ensures.queue c.on_clock-2.ensures.lines in
+    let a = controller_ticks s (told d0) (told d1) c.in_ok-on_clock.ensures.clocked c.on_clock.ensures.ends c.on_clock.ensures.queue c.on_clock.ensures.frame.lines in
+    let b = client_ticks s (told d1) (told d2) c.in_ok-on_clock-2.ensures.clocked c.on_clock-2.ensures.ends c.on_clock-2.ensures.queue c.on_clock-2.ensures.frame.lines in
     let quiet = sym a.answer ∙ sym c.is_silent.ensures ∙ c.if-is_silent.false in
     let silent = sym b.answer ∙ sym c.is_silent-2.ensures ∙ c.if-is_silent-2.true in
     let fc = controller_fires f es e now in
     let fd = client_fires f es e now in
     let cuts = h f (controllers (e ∷ es)) (clients (e ∷ es)) (clocked now fc) (clocked now fd) is s.source a.stands b.stands in
-    let parts = parts_both d0 d1 d2 (record { packet_part = c.in_ok-on_clock.ensures.packet_part; line_part = c.on_clock.ensures.line_part }) (record { packet_part = c.in_ok-on_clock-2.ensures.packet_part; line_part = c.on_clock-2.ensures.line_part }) in
-    client_cut_failed f es e _ s now early d0 d2 (g.D.Desk.value c.cut_at-then-is_silent-2.new.desk) quiet silent (then_sent (told d0) (told d1) (told d2) now fc fd a.told b.told) parts
-    (c.on_clock-2.ensures.keeps.octets ∙ c.on_clock.ensures.keeps.octets) cuts) c.cut_at-then-is_silent-2.ensures.broken
-
-pub returns-clause-parts : goal.returns-clause-parts
-returns-clause-parts g c =
-    parts_both (g.D.Desk.value c.args.desk.now) (g.D.Desk.value c.on_clock.new.desk) (g.D.Desk.value c.on_clock-2.new.desk) (record { packet_part = c.in_ok-on_clock.ensures.packet_part; line_part = c.on_clock.ensures.line_part }) (record { packet_part = c.in_ok-on_clock-2.ensures.packet_part; line_part = c.on_clock-2.ensures.line_part })
-
-pub returns-then-is_silent-clause-parts : goal.returns-then-is_silent-clause-parts
-returns-then-is_silent-clause-parts g c =
-    on_ok_weaker c.cut_at.result (parts_both (g.D.Desk.value c.args.desk.now) (g.D.Desk.value c.on_clock.new.desk) (g.D.Desk.value c.cut_at.new.desk) (record { packet_part = c.in_ok-on_clock.ensures.packet_part; line_part = c.on_clock.ensures.line_part })) c.cut_at.ensures.parts
-
-pub returns-then-is_silent-2-clause-parts : goal.returns-then-is_silent-2-clause-parts
-returns-then-is_silent-2-clause-parts g c =
-    on_ok_weaker c.cut_at-then-is_silent-2.result
-    (λ x. parts_both (g.D.Desk.value c.args.desk.now) (g.D.Desk.value c.on_clock.new.desk) (g.D.Desk.value c.cut_at-then-is_silent-2.new.desk) (record { packet_part = c.in_ok-on_clock.ensures.packet_part; line_part = c.on_clock.ensures.line_part })
-    (parts_both (g.D.Desk.value c.on_clock.new.desk) (g.D.Desk.value c.on_clock-2.new.desk) (g.D.Desk.value c.cut_at-then-is_silent-2.new.desk) (record { packet_part = c.in_ok-on_clock-2.ensures.packet_part; line_part = c.on_clock-2.ensures.line_part }) x)) c.cut_at-then-is_silent-2.ensures.parts
+    let frame = puts_both d0 d1 d2 c.in_ok-on_clock.ensures.frame.rest c.in_ok-on_clock-2.ensures.frame.rest in
+    client_cut_failed f es e _ s now early d0 d2 (g.D.Desk.value c.cut_at-then-is_silent-2.new.desk) quiet silent (then_sent (told d0) (told d1) (told d2) now fc fd a.told b.told) frame cuts) c.cut_at-then-is_silent-2.ensures.broken

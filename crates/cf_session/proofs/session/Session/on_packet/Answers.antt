@@ -8,8 +8,9 @@ use Rattle.cf_session.specs.Parts.{SessionValue}
 use Rattle.cf_session.specs.Session.{clients, controllers}
 use Rattle.cf_session.specs.Stands.{HearsBy}
 use Rattle.cf_session.specs.Told.{told}
-use Rattle.std.proofs.lemmas.Result.{on_err_weaker, on_ok_weaker}
-use Rattle.cf_session.proofs.Amid.{parts_both, on_err}
+use Rattle.std.proofs.lemmas.Result.{on_err_weaker}
+use Rattle.cf_outside.proofs.Desks.{puts_both, puts_failed}
+use Rattle.cf_session.proofs.Amid.{on_err}
 use Rattle.cf_session.proofs.FinalAmid.{close_failed, cut_failed, hear_failed, speak_failed}
 use Rattle.cf_session.proofs.session.Session.on_packet.Goals as goal
 
@@ -22,7 +23,7 @@ returns-in-Some-clause-hears g c =
     let because = reason_is c.args.side c.in_ok-heard.heard.answer c.in_ok-heard.heard.cut c.self.view_is c.is_some.ensures c.is_reset.ensures c.full-full.ensures (sym c.in-Some.is ∙ c.why.ensures) in
     let cuts = x.1 flow (controllers es) (clients es) (half_heard heard).controller (half_heard heard).client is (c.hear.ensures.same.1 ∙ stands.source) heard.by.parts.controller heard.by.parts.client in
     subst (HearsBy flow (SessionValue.limit c.args.self.now) es t c.args.side (packet_value c.args.packet.now) c.cut_at.new.self (told (g.D.Desk.value c.args.desk.now)) t2) (sym x.0)
-    (_, hears_cut heard r because t2 cuts, refl, counts_cut heard r because t2 cuts c.cut_at.new.self c.cut_at.ensures.same.2)) c.cut_at.ensures.cuts
+    (_, hears_cut heard r because cuts.rsts t2 cuts.gets, refl, counts_cut heard r because cuts.rsts c.cut_at.new.self c.cut_at.ensures.same.2)) c.cut_at.ensures.cuts
 
 pub returns-clause-hears : goal.returns-clause-hears
 returns-clause-hears g c = λ flow es t is stands tick at.
@@ -65,7 +66,7 @@ returns-in-Some-clause-broken g c =
     let heard = heard_at c.in_ok-heard.ensures.hears c.hear.ensures.same c.base_counts_the_taken.ensures is stands tick at in
     let because = reason_is c.args.side c.in_ok-heard.heard.answer c.in_ok-heard.heard.cut c.self.view_is c.is_some.ensures c.is_reset.ensures c.full-full.ensures (sym c.in-Some.is ∙ c.why.ensures) in
     let cuts = x flow (controllers es) (clients es) (half_heard heard).controller (half_heard heard).client is (c.hear.ensures.same.1 ∙ stands.source) heard.by.parts.controller heard.by.parts.client in
-    cut_failed d0 d1 heard c.in_ok-heard.ensures.parts c.hear.ensures.keeps.octets c.in-Some.reason because (g.D.Desk.value c.cut_at.new.desk) cuts) c.cut_at.ensures.broken
+    cut_failed d0 d1 heard c.in_ok-heard.ensures.frame c.in-Some.reason because (g.D.Desk.value c.cut_at.new.desk) cuts) c.cut_at.ensures.broken
 
 pub returns-in_err-speak-clause-broken : goal.returns-in_err-speak-clause-broken
 returns-in_err-speak-clause-broken g c =
@@ -76,7 +77,7 @@ returns-in_err-speak-clause-broken g c =
     let heard = heard_at c.in_ok-heard.ensures.hears c.hear.ensures.same c.base_counts_the_taken.ensures is stands tick at in
     let because = reason_is c.args.side c.in_ok-heard.heard.answer c.in_ok-heard.heard.cut c.self.view_is c.is_some.ensures c.is_reset.ensures c.full-full.ensures (sym c.in_default.is ∙ c.why.ensures) in
     let uncut = lane_uncut c.args.side c.in_ok-heard.heard.answer c.in_ok-heard.heard.cut c.hear.new.self c.in_ok-heard.ensures.steady because in
-    speak_failed d0 d1 heard c.in_ok-heard.ensures.parts c.hear.ensures.keeps.octets because uncut d2 (amid_here heard d1 d2 c.greeting_number.ensures c.in_err-speak.ensures.broken))
+    speak_failed d0 d1 heard c.in_ok-heard.ensures.frame because uncut d2 (amid_here heard d1 d2 c.greeting_number.ensures c.in_err-speak.ensures.broken))
 
 pub returns-in_err-close-clause-broken : goal.returns-in_err-close-clause-broken
 returns-in_err-close-clause-broken g c =
@@ -92,10 +93,12 @@ returns-in_err-close-clause-broken g c =
     let says = says_here heard s2 (told d2) c.greeting_number.ensures c.in_ok-speak.ensures.says in
     let qc = c.in_ok-speak.ensures.client_stands heard.by.work.to_client heard.by.parts.to_client in
     let qk = c.in_ok-speak.ensures.controller_stands heard.by.work.to_controller heard.by.parts.to_controller in
-    close_failed d0 d1 heard c.in_ok-heard.ensures.parts c.hear.ensures.keeps.octets because uncut s2 d2 d3 says c.in_ok-speak.ensures.only qc qk c.args.asset.now is c.in_ok-speak.ensures.parts c.speak.ensures.keeps.octets c.in_err-close.ensures.broken)
+    close_failed d0 d1 heard c.in_ok-heard.ensures.frame because uncut s2 d2 d3 says c.in_ok-speak.ensures.only qc qk c.args.asset.now is c.in_ok-speak.ensures.frame c.in_err-close.ensures.broken)
 
-pub returns-in-Some-clause-parts : goal.returns-in-Some-clause-parts
-returns-in-Some-clause-parts g c = on_ok_weaker c.cut_at.result (parts_both _ _ _ c.in_ok-heard.ensures.parts) c.cut_at.ensures.parts
+pub returns-in_err-close-clause-frame : goal.returns-in_err-close-clause-frame
+returns-in_err-close-clause-frame g c =
+    puts_failed _ c.from_residual-in_err-close.result _ _ c.from_residual-in_err-close.ensures.1
+    (puts_both _ _ _ c.in_ok-heard.ensures.frame (puts_both _ _ _ c.in_ok-speak.ensures.frame c.in_err-close.ensures.frame))
 
-pub returns-clause-parts : goal.returns-clause-parts
-returns-clause-parts g c = parts_both _ _ _ c.in_ok-heard.ensures.parts (parts_both _ _ _ c.in_ok-speak.ensures.parts c.in_ok-close.ensures.parts)
+pub returns-clause-frame : goal.returns-clause-frame
+returns-clause-frame g c = puts_both _ _ _ c.in_ok-heard.ensures.frame (puts_both _ _ _ c.in_ok-speak.ensures.frame c.in_ok-close.ensures.frame)

@@ -12,7 +12,7 @@ use Rattle.cf_session.specs.Turn.{IsSteady, MaySpeak, OnlySpeaks, SaysBoth, came
 use Rattle.cf_leg.specs.Emits.{IsRight}
 use Rattle.cf_leg.specs.declared.Ends.{Ends}
 use Rattle.cf_session.proofs.Able.{can_answer}
-use Rattle.cf_session.proofs.Amid.{amid_after, amid_as, amid_before, amid_sent, parts_both, on_err}
+use Rattle.cf_session.proofs.Amid.{amid_after, amid_as, amid_before, amid_sent, on_err}
 use Rattle.cf_session.proofs.Legs.{right_of}
 use Rattle.cf_session.proofs.Telling.{at-append}
 use Rattle.cf_session.specs.Sent.{at}
@@ -34,8 +34,8 @@ returns-clause-says g c = λ flow x y cs ds w v at_c at_d may stands.
     let d2 = g.D.Desk.value c.greet_client.new.desk in
     let d3 = g.D.Desk.value c.speak-2.new.desk in
     let hello = record y { came = came_greeted flow c.args.number y.came } in
-    let one = told_sent d0 d1 now a.outs a.packets c.speak.ensures.lines in
-    let three = told_sent d2 d3 now b.outs b.packets c.speak-2.ensures.lines in
+    let one = told_sent d0 d1 now a.outs a.packets c.speak.ensures.frame.lines in
+    let three = told_sent d2 d3 now b.outs b.packets c.speak-2.ensures.frame.lines in
     let new : SessionValue = record middle { client = c.speak-2.new.self; to_client = c.speak-2.new.queue } in
     subst (λ r. SaysBoth flow now c.args.number x cs y ds w v r new (told d0) (told d3)) (c.is_roomy-roomy.ensures.value ∙ ap is_roomy c.self.view_is)
     (record {
@@ -104,7 +104,7 @@ returns-in_err-speak-clause-broken g c =
       controller_right = subst (λ (n : Ends). IsRight n cs (record x { ending = Spoke v roomy a.outs })) m.controller_stands.is a.right;
       client_right = b.1;
       amid = amid_as (at now a.outs ++ at now rest) _ [] [] d0 d1 (sym (at-append now a.outs rest)) refl
-          (amid_before (at now a.outs) (at now rest) [] [] d0 d1 (amid_sent now a.outs d0 d1 a.breaks c.speak.ensures.lines c.speak.ensures.line_part));
+          (amid_before (at now a.outs) (at now rest) [] [] d0 d1 (amid_sent now a.outs d0 d1 a.breaks c.speak.ensures.frame));
     }))
 
 pub returns-in_err-greet_client-clause-broken : goal.returns-in_err-greet_client-clause-broken
@@ -119,7 +119,7 @@ returns-in_err-greet_client-clause-broken g c =
     let a = c.in_ok-speak.ensures.spoken in
     let b = can_answer flow c.args.number _ _ y ds w roomy may m.client_stands in
     let said = spoken_of (controller_ends flow) roomy now c.self.inside.controller c.speak.new.self c.self.inside.to_controller c.speak.new.queue _ _ x cs v a c.in_ok-speak.ensures.ends at_c m.controller_stands m.to_controller_stands in
-    let one = told_sent d0 d1 now a.outs a.packets c.speak.ensures.lines in
+    let one = told_sent d0 d1 now a.outs a.packets c.speak.ensures.frame.lines in
     let greets = c.in_err-greet_client.ensures.broken flow y ds at_d may m.client_stands in
     let hi = greetings flow c.args.number in
     subst (λ r. SaysAmid flow now c.args.number x cs y ds w v r d0 d2) (c.is_roomy-roomy.ensures.value ∙ ap is_roomy c.self.view_is)
@@ -129,7 +129,7 @@ returns-in_err-greet_client-clause-broken g c =
       controller_right = right_of (controller_ends flow) _ _ (record x { ending = Spoke v roomy a.outs }) cs said;
       client_right = b.1;
       amid = amid_as (at now a.outs ++ (at now hi ++ at now b.0)) _ [] [] d0 d2 (ap (λ xs. at now a.outs ++ xs) (sym (at-append now hi b.0)) ∙ sym (at-append now a.outs (hi ++ b.0))) refl
-          (amid_after (at now a.outs) (at now hi ++ at now b.0) [] [] d0 d1 d2 one (record { packet_part = c.in_ok-speak.ensures.packet_part; line_part = c.speak.ensures.line_part }) c.speak.ensures.keeps.octets
+          (amid_after (at now a.outs) (at now hi ++ at now b.0) [] [] d0 d1 d2 one c.in_ok-speak.ensures.frame.rest
           (amid_before (at now hi) (at now b.0) [] [] d1 d2 greets));
     }))
 
@@ -151,7 +151,7 @@ returns-in_err-speak-2-clause-broken g c =
     let hello = record y { came = came_greeted flow c.args.number y.came } in
     let legs = subst (λ (s : SessionValue). IsLegBetween (client_ends flow) s.client s.to_client (record hello { ending = Unspoken } ∷ ds)) (sym c.self-2.view_is) greeted.stands in
     let b = c.in_err-speak-2.ensures.broken hello ds w at_d legs.stands (subst (λ (s : SessionValue). IsQueueOf s.to_client w) (sym path) m.to_client_stands) in
-    let one = told_sent d0 d1 now a.outs a.packets c.speak.ensures.lines in
+    let one = told_sent d0 d1 now a.outs a.packets c.speak.ensures.frame.lines in
     subst (λ r. SaysAmid flow now c.args.number x cs y ds w v r d0 d3) (c.is_roomy-roomy.ensures.value ∙ ap is_roomy c.self.view_is)
     (record {
       outs_c = a.outs;
@@ -159,12 +159,7 @@ returns-in_err-speak-2-clause-broken g c =
       controller_right = right_of (controller_ends flow) _ _ (record x { ending = Spoke v roomy a.outs }) cs said;
       client_right = subst (λ (n : Ends). IsRight n ds (record hello { ending = Spoke w roomy b.outs })) legs.is b.right;
       amid = amid_as (at now a.outs ++ (at now hi ++ at now b.outs)) _ [] [] d0 d3 (ap (λ xs. at now a.outs ++ xs) (sym (at-append now hi b.outs)) ∙ sym (at-append now a.outs (hi ++ b.outs))) refl
-          (amid_after (at now a.outs) (at now hi ++ at now b.outs) [] [] d0 d1 d3 one (record { packet_part = c.in_ok-speak.ensures.packet_part; line_part = c.speak.ensures.line_part }) c.speak.ensures.keeps.octets
-          (amid_after (at now hi) (at now b.outs) [] [] d1 d2 d3 greeted.told c.in_ok-greet_client.ensures.parts c.greet_client.ensures.keeps.octets
-          (amid_sent now b.outs d2 d3 b.breaks c.speak-2.ensures.lines c.speak-2.ensures.line_part)));
+          (amid_after (at now a.outs) (at now hi ++ at now b.outs) [] [] d0 d1 d3 one c.in_ok-speak.ensures.frame.rest
+          (amid_after (at now hi) (at now b.outs) [] [] d1 d2 d3 greeted.told c.in_ok-greet_client.ensures.frame
+          (amid_sent now b.outs d2 d3 b.breaks c.speak-2.ensures.frame)));
     }))
-
-pub returns-clause-parts : goal.returns-clause-parts
-returns-clause-parts g c =
-    parts_both (g.D.Desk.value c.args.desk.now) (g.D.Desk.value c.speak.new.desk) (g.D.Desk.value c.speak-2.new.desk) (record { packet_part = c.in_ok-speak.ensures.packet_part; line_part = c.speak.ensures.line_part })
-    (parts_both (g.D.Desk.value c.speak.new.desk) (g.D.Desk.value c.greet_client.new.desk) (g.D.Desk.value c.speak-2.new.desk) c.in_ok-greet_client.ensures.parts (record { packet_part = c.in_ok-speak-2.ensures.packet_part; line_part = c.speak-2.ensures.line_part }))
