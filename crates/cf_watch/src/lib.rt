@@ -9,6 +9,8 @@ mod laws;
 mod letter;
 mod place;
 mod reading;
+mod scope;
+mod tag;
 mod watching;
 
 pub use born::Born;
