@@ -1,4 +1,5 @@
 mod First
+mod FirstUnits
 mod Ordering
 mod Reading
 mod Rising

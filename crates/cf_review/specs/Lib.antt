@@ -1,5 +1,6 @@
 pub mod Counted
 pub mod First
+pub mod FirstUnit
 pub mod Lines
 pub mod Remark
 pub mod Review

@@ -2,6 +2,7 @@
 #![tactic(auto)]
 
 mod counting;
+mod first_unit;
 mod laws;
 mod lines;
 mod remark;

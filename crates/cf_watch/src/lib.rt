@@ -18,3 +18,4 @@ pub use fault::{CAPTURE_LIMIT, WatchFault, WatchRefusal};
 pub use flow::{Conflict, Flow, Recording};
 pub use laws::{flows_are_for_assets, one_stream_is_seen};
 pub use reading::{watch, watch_recording};
+pub use scope::Scope;

@@ -2,7 +2,7 @@
 
 /// What a capture is watched for: how its frames are read, and which packets begin a flow.
 #[derive(Clone, Copy)]
-pub(crate) enum Scope {
+pub enum Scope {
     /// Flows from their SYN on, in frames as they stand.
     Connections,
     /// Flows from their first segment on, in frames without their VLAN tags, and the stamp of each record.
