@@ -58,6 +58,14 @@ pub fn dropped_alone<F: Files>(
     Some(dropped)
 }
 
+/// The octets of a record that are read.
+fn octets_of<'a>(frames: Frames, link: &LinkKind, body: &'a [u8]) -> &'a [u8] {
+    match frames {
+        Frames::AsTheyStand => body,
+        Frames::WithoutTags => untagged(link, body),
+    }
+}
+
 /// Counts the records from the reader's place on, and says whether all of them are dropped.
 fn drops_all<F: Files>(
     reader: &mut RecordReader,
@@ -74,10 +82,7 @@ fn drops_all<F: Files>(
         match reader.next(files, capture) {
             NextRecord::Whole(_) => {
                 let link = reader.link();
-                let octets = match frames {
-                    Frames::AsTheyStand => reader.body(),
-                    Frames::WithoutTags => untagged(&link, reader.body()),
-                };
+                let octets = octets_of(frames, &link, reader.body());
                 match read_packet(&link, octets) {
                     Ok(_) => return false,
                     Err(refusal) => {

@@ -3,4 +3,5 @@ mod FirstUnits
 mod Ordering
 mod Reading
 mod Rising
+mod SynFlows
 mod Writing

@@ -4,3 +4,4 @@ pub mod FirstUnit
 pub mod Lines
 pub mod Remark
 pub mod Review
+pub mod SynFlows

@@ -18,6 +18,7 @@ returns c = record {
   watched_unobjected = c.runs_are_unobjected.ensures.watched;
   in_order = c.bytes_come_in_order.ensures;
   first = c.judge_tells_the_first.ensures;
+  syn_flows = c.syn_flows_are_watched.ensures;
   told = c.refused_commands_are_told.ensures;
   fixed = c.records_fix_runs.ensures.runs;
   records = c.octets_have_one_list_of_records.ensures.one_timed;
