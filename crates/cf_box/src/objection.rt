@@ -31,7 +31,7 @@ pub struct Objected {
     pub what: Told,
 }
 
-/// Pushes what is told of an objection, behind a word.
+/// Pushes what is told of an objection, after a word.
 pub(crate) fn push_objected(text: &mut EndText, objected: &Objected)
     requires { length text.old.bytes ≤ 8 }
     ensures text { text.new.bytes ≡ text.old.bytes ++ objected_text objected.now }

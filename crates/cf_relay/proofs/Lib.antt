@@ -1,3 +1,4 @@
+-- The interface of lemmas for the crates above: Lined, Stages, Starting and Turned.
 mod Asked
 mod Asking
 mod Doing
@@ -6,11 +7,15 @@ mod Files
 mod Gave
 mod Giving
 mod Hearing
+pub mod Lined
 mod Lists
 mod Moving
+mod OnePair
 mod Scenes
 mod Serving
-mod Stages
+pub mod Stages
 mod Standing
+pub mod Starting
 mod Taking
+pub mod Turned
 mod Turning

@@ -2,9 +2,11 @@ pub mod Answers
 pub mod Closing
 pub mod Ends
 pub mod Gave
+pub mod Only
 pub mod Relaying
 pub mod Scene
 pub mod Sides
 pub mod Stands
 pub mod Taken
 pub mod Turn
+pub mod Turned

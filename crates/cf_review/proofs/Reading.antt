@@ -28,7 +28,7 @@ use Rattle.cf_review.specs.Review.{AddsReview, AddsUnits, conflict_remarks, end_
 use Rattle.cf_policy.specs.declared.Protocol.{Protocol}
 use Rattle.cf_audit.specs.declared.line.Why.{Why}
 
--- with these units in front, those from a place on are those of the flow; the remarks on these units stand behind some others
+-- with these units in front, those from a place on are those of the flow; the remarks on these units stand after some others
 pub record SoFar (asset : Asset) (f : FlowValue) (start : List RemarkValue) (at : ℕ) (r : Reader) (admitted : ℕ) (remarks : List RemarkValue) : Type 0 where
   pub units : List Judged
   pub leads : (js : List Judged) (ending : Ending) → AreRead asset f.client.address units (drop at f.bytes) (drop at f.born) js ending → AreRead asset f.client.address [] f.bytes f.born (units ++ js) ending
@@ -89,7 +89,7 @@ so_far_first asset f start remarks r h told = record {
 }
 
 module _ (asset : Asset) (f : FlowValue) (start : List RemarkValue) (at : ℕ) (r : Reader) (admitted : ℕ) (remarks : List RemarkValue) (so : SoFar asset f start at r admitted remarks) where
-  -- what an add behind the others does to the whole
+  -- what an add after the others does to the whole
   told_more : (more new : List RemarkValue) → new ≡ remarks ++ more → new ≡ start ++ (in_turn (unit_remarks asset f) [] so.units ++ more)
   told_more more new is = is ∙ ap (λ xs. xs ++ more) so.told ∙ append_assoc start (in_turn (unit_remarks asset f) [] so.units) more
 
@@ -184,7 +184,7 @@ module _ (asset : Asset) (f : FlowValue) (start : List RemarkValue) (at : ℕ) (
       let size : length (drop at f.bytes) ≡ length f.bytes - at = length-drop at f.bytes in
       omega (arith, size, inside, so.inside)
 
--- of a flow from a place on the records are those behind it
+-- of a flow from a place on the records are those after it
 pub number_from : (born : List ℕ) (start i place number : ℕ) → start + i ≡ place → number ≡ get_or born place 0 → number ≡ get_or (drop start born) i 0
 number_from born start i place number e is = is ∙ ap (λ n. get_or born n 0) (sym e) ∙ sym (get_or-drop start born i 0)
 

@@ -1,4 +1,4 @@
--- What a review has to do with the judge: JudgeTellsTheFirst. This project's own.
+-- What a review has to do with the judge: JudgeTellsTheFirst.
 use Rattle.std.specs.Prelude.{◌≡◌, List, [], ◌∷◌, length, Option, None, Some, option_and_then, option_map}
 use Rattle.std.specs.List.{AllByRecursion}
 use Rattle.std.specs.List.Sorted.{IsNonDecreasingBy}
@@ -24,12 +24,15 @@ complaint_by (Broken reason) = Some (complaint.Broken reason)
 complaint_by (Conflict position) = Some (complaint.Conflict position)
 complaint_by Midstream = None
 
+-- an objection with the record, the client and the asset of a remark
 abbrev pub objection_about : RemarkValue → Complaint → Objection
 objection_about r what = record { at_record = r.at_record; client = r.client; asset = r.asset; what = what }
 
+-- a remark as the judge tells it, if it does
 abbrev pub objection_by : RemarkValue → Option Objection
 objection_by r = option_map (objection_about r) (complaint_by r.what)
 
+-- the first of some remarks, if there is one
 abbrev pub first_of : List RemarkValue → Option RemarkValue
 first_of [] = None
 first_of (r ∷ rs) = Some r

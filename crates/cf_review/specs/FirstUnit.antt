@@ -1,5 +1,5 @@
 -- From which byte on a flow is read: IsReadPart. One that begins with its SYN is read from its first byte on; one that begins amid its
--- stream from the first byte at which a unit of the protocol begins. This project's own.
+-- stream from the first byte at which a unit of the protocol begins.
 use Rattle.std.specs.Prelude.{◌≡◌, ◌<◌, ◌⊎◌, ℕ, List, [], ◌∷◌, drop, slice_get, Option, Some, None}
 use Rattle.cf_lane.specs.Unit.{SpellsUnit, UnitValue}
 use Rattle.cf_policy.specs.declared.Asset.{Asset}
@@ -28,6 +28,7 @@ IsReadFrom protocol bytes place = IsFirstUnit protocol bytes place ⊎ ((place �
 abbrev pub from_place : (place : ℕ) → FlowValue → FlowValue
 from_place place f = record f { bytes = drop place f.bytes; born = drop place f.born }
 
+-- by the record with which a flow begins amid its stream, if it does
 abbrev pub IsReadPartBy : Protocol → (midstream : Option ℕ) → (f read : FlowValue) → Type 0
 IsReadPartBy protocol None f read = read ≡ f
 IsReadPartBy protocol (Some number) f read = (place : ℕ) × IsReadFrom protocol f.bytes place × (read ≡ from_place place f)

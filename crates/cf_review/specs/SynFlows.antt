@@ -1,4 +1,4 @@
--- The flows of a review that begin with a SYN are those of the judge: SynFlowsAreWatched. This project's own.
+-- The flows of a review that begin with a SYN are those of the judge: SynFlowsAreWatched.
 use Rattle.std.specs.Prelude.{◌≡◌, Bool, List, is_none}
 use Rattle.std.specs.List.{AllByRecursion, filter}
 use Rattle.cf_policy.specs.declared.Asset.{Asset}
@@ -8,6 +8,7 @@ use Rattle.cf_watch.specs.Tagged.{untagged}
 use Rattle.cf_watch.specs.Watched.{Watched, watched}
 use Rattle.cf_watch.specs.declared.Scope.TheVariants as scope
 
+-- a flow begins with a SYN, and not amid its stream
 abbrev pub begins_with_syn : Watched → Bool
 begins_with_syn w = is_none w.midstream
 

@@ -1,6 +1,6 @@
 -- The flows of a capture as its scope says: seen_by. For a review a flow of a client endpoint and an asset that has none begins with its
 -- first segment there, also amid its stream, and goes on up to the next SYN. With the scope of connections the flows are those of
--- `watched`. This project's own.
+-- `watched`.
 use Rattle.std.specs.Prelude.{◌+◌, ◌-◌, ◌%◌, ◌^◌, ◌||◌, ℕ, Bool, true, false, not, if◌then◌else◌, List, [], ◌∷◌, ◌++◌, length, Option, Some, None, Result, Ok, Err}
 use Rattle.cf_leg.specs.Segment.{has_rst, has_syn}
 use Rattle.cf_packet.specs.Packet.{PacketValue, read_record}
@@ -36,15 +36,17 @@ begun_with opening number asset packet = with_packet number packet (record {
   carried = [];
 })
 
--- amid a stream the text begins at place 0, behind the number before its own; the flow counts as answered, so that each SYN begins anew
+-- amid a stream the text begins at place 0, after the number before its own; the flow counts as answered, so that each SYN begins anew
 abbrev pub opening_amid : (number : ℕ) → PacketValue → Opening
 opening_amid number packet = record { origin = (packet.seq + (2 ^ 32 - 1)) % 2 ^ 32; answered = true; midstream = Some number }
 
+-- the flows after a packet from a client to an asset, the last flow of whom stands at this place
 abbrev pub goes_from : Scope → (number asset : ℕ) → PacketValue → (last : Option ℕ) → List Watched → List Watched
 goes_from scope number asset packet None flows =
     if begins_amid scope packet then flows ++ begun_with (opening_amid number packet) number asset packet ∷ [] else goes_at number asset packet None flows
 goes_from scope number asset packet (Some place) flows = goes_at number asset packet (Some place) flows
 
+-- those after a packet, which may be to no asset
 abbrev pub goes_to_asset : Scope → (number : ℕ) → PacketValue → (asset : Option ℕ) → List Watched → List Watched
 goes_to_asset scope number packet None flows = flows
 goes_to_asset scope number packet (Some asset) flows = goes_from scope number asset packet (last_place packet.source asset flows) flows

@@ -9,7 +9,7 @@ use Rattle.cf_view.specs.declared.LinkKind.TheVariants as link
 abbrev pub has_tag : List ℕ → Bool
 has_tag frame = nat_le 14 (length frame) && ((u16_be_at frame 12 == 0x8100) || (u16_be_at frame 12 == 0x88A8))
 
--- a frame from 4 octets further on for each of its tags, of which there are at most so many: behind its two addresses, which are not
+-- a frame from 4 octets further on for each of its tags, of which there are at most so many: after its two addresses, which are not
 -- read, it is the same frame without them
 abbrev pub without_tags : (most : ℕ) → List ℕ → List ℕ
 without_tags zero frame = frame

@@ -42,9 +42,9 @@ pub fn watch<F: Files>(
     }
 }
 
-/// What a review reads of such a capture: its flows to the assets of a policy, also those whose beginning it does not have, and the stamp of
-/// each record. Frames are read without their VLAN tags. A flow without a SYN begins with its first packet that has neither SYN nor RST, and
-/// goes on up to the next SYN. Changes no file. This project's own.
+/// What a review reads of such a capture: its flows to the assets of a policy, also those whose beginning it does not have, and the stamp
+/// of each record, in microseconds. Frames are read without their VLAN tags. A flow without a SYN begins with its first packet that has
+/// neither SYN nor RST, and goes on up to the next SYN. The errors are those of `watch`. Changes no file. This project's own.
 ///
 /// It keeps the stamps besides.
 pub fn watch_recording<F: Files>(
@@ -110,7 +110,7 @@ fn is_long<F: Files>(name: &str, files: &mut F) -> Option<bool>
     }
 }
 
-/// Keeps a stamp behind the others, where stamps are kept.
+/// Keeps a stamp after the others, where stamps are kept.
 fn keep_stamp(scope: Scope, kept: &mut Vec<u64>, stamp: u64) -> Result<(), NoMemory>
     ensures { OnOk result (scope ≡ Scope.Recording → kept.new.items ≡ kept.old.items ++ stamp ∷ []) }
 {

@@ -1,6 +1,6 @@
 //! What a capture is watched for.
 
-/// What a capture is watched for: how its frames are read, and which packets begin a flow.
+/// What a capture is watched for: how its frames are read, and which packets begin a flow. This project's own.
 #[derive(Clone, Copy)]
 pub enum Scope {
     /// Flows from their SYN on, in frames as they stand.

@@ -23,8 +23,8 @@ pub(crate) fn frame_by<'a>(scope: Scope, link: &LinkKind, octets: &'a [u8]) -> &
     }
 }
 
-/// The octets of a record without the VLAN tags of its frame, as many as it has: for a frame with tags its octets from 4 further on for each,
-/// where the type stands that is behind the tags. So what stands for its addresses is not theirs. IEEE 802.1Q-2018, section 9.
+/// The octets of a record without the VLAN tags of its frame, however many it has: of a frame with tags its octets from 4 further on for
+/// each, so that the type after the tags stands at octet 12. What then stands before it are no addresses. IEEE 802.1Q-2018, section 9.
 pub fn untagged<'a>(link: &LinkKind, octets: &'a [u8]) -> &'a [u8]
     ensures { result.now ≡ untagged link.now octets.now }
 {

@@ -1,0 +1,2 @@
+-- The interface of lemmas for the crates above: Projection.
+pub mod Projection

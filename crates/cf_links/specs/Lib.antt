@@ -1,0 +1,4 @@
+pub mod Laws
+pub mod LinkValue
+pub mod Links
+pub mod Service

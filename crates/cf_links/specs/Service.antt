@@ -1,0 +1,53 @@
+-- What links tell of sessions that come and go. The main definitions are `Opens`, `Wakes`, `Arrives`, `TellsReady` and `Leaves`, one
+-- for each call, and `ChangesPlace`. This project's own.
+use Rattle.std.specs.Prelude.{◌≡◌, ◌==◌, ℕ, Bool, true, false, List, [], ◌∷◌, ◌++◌, Option, option_map}
+use Rattle.cf_outside.specs.declared.pair.MomentAnswer.{MomentAnswer}
+use Rattle.cf_outside.specs.declared.pair.MomentAnswer.TheVariants as moment
+use Rattle.cf_links.specs.Links.{Came, Left, LinksEntry, LinksPlace, Opened, Ready, Woke}
+use Rattle.cf_links.specs.declared.service.ArriveAnswer.{ArriveAnswer}
+use Rattle.cf_links.specs.declared.service.ArriveAnswer.TheVariants as arrive
+
+-- the list with one entry more, where it is told
+abbrev pub with_more : Option (List LinksEntry) → LinksEntry → Option (List LinksEntry)
+with_more told entry = option_map (λ es. es ++ entry ∷ []) told
+
+-- this machine listens at a place
+abbrev pub Opens : (place : ℕ) → Option (List LinksEntry) → Option (List LinksEntry) → MomentAnswer → Type 0
+Opens place old new (moment.Told now) = new ≡ with_more old (Opened place now)
+Opens place old new moment.Failed = new ≡ old
+
+-- a round begins
+abbrev pub Wakes : Option (List LinksEntry) → Option (List LinksEntry) → MomentAnswer → Type 0
+Wakes old new (moment.Told now) = new ≡ with_more old (Woke now)
+Wakes old new moment.Failed = new ≡ old
+
+-- a client came to a place, and has this number
+abbrev pub Arrives : (session place : ℕ) → Option (List LinksEntry) → Option (List LinksEntry) → ArriveAnswer → Type 0
+Arrives session place old new (arrive.Came client) = new ≡ with_more old (Came session place client)
+Arrives session place old new arrive.Nobody = new ≡ old
+
+-- a session is ready for a turn
+abbrev pub TellsReady : (session : ℕ) → Option (List LinksEntry) → Option (List LinksEntry) → Bool → Type 0
+TellsReady session old new true = new ≡ with_more old (Ready session)
+TellsReady session old new false = new ≡ old
+
+-- a session was left
+abbrev pub Leaves : (session : ℕ) → Option (List LinksEntry) → Option (List LinksEntry) → Type 0
+Leaves session old new = new ≡ with_more old (Left session)
+
+-- the object has the session besides; every other one that it had it has still
+pub record GetsSession (session : ℕ) (old new : LinksPlace) : Type 0 where
+  pub served : new.serves session ≡ true
+  pub others : (other : ℕ) → (session == other) ≡ false → new.serves other ≡ old.serves other
+  pub lender : new.lender ≡ old.lender
+
+-- the object does not have the session any more; every other one that it had it has still
+pub record LosesSession (session : ℕ) (old new : LinksPlace) : Type 0 where
+  pub gone : new.serves session ≡ false
+  pub others : (other : ℕ) → (session == other) ≡ false → new.serves other ≡ old.serves other
+  pub lender : new.lender ≡ old.lender
+
+-- a session was added where a client came
+abbrev pub ChangesPlace : (session : ℕ) → LinksPlace → LinksPlace → ArriveAnswer → Type 0
+ChangesPlace session old new (arrive.Came client) = GetsSession session old new
+ChangesPlace session old new arrive.Nobody = new ≡ old
