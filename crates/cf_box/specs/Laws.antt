@@ -6,6 +6,7 @@ use Rattle.cf_pcapng.specs.Calls.{GiveBlocks, HaveOneListOfBlocks}
 use Rattle.cf_readback.specs.ReadBack.{RunsAreReadBack}
 use Rattle.cf_refusals.specs.Told.{RefusedAreTold}
 use Rattle.cf_review.specs.First.{BytesComeInOrder, JudgeTellsTheFirst}
+use Rattle.cf_review.specs.Fronts.{RecordsComeFirst}
 use Rattle.cf_review.specs.SynFlows.{SynFlowsAreWatched}
 use Rattle.cf_run.specs.Fixed.{RecordsFixRuns}
 use Rattle.cf_run.specs.Isolation.{RunsIsolateSessions}
@@ -42,6 +43,8 @@ pub record HasLaws : Type 0 where
   pub in_order : BytesComeInOrder
   pub first : JudgeTellsTheFirst
   pub syn_flows : SynFlowsAreWatched
+  -- the record of each unit of a flow is the first with which the bytes of the flow reached its end
+  pub fronts : RecordsComeFirst
   -- each refused command has its line and, but in three cases, its reply
   pub told : RefusedAreTold
   -- two runs of one policy over the same records have the same outputs and counts

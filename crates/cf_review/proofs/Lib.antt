@@ -1,5 +1,6 @@
 mod First
 mod FirstUnits
+mod Fronts
 mod Ordering
 mod Reading
 mod Rising

@@ -1,11 +1,18 @@
 //! Laws of reviews: each is the contract of a function that does nothing.
 ghost use Rattle.cf_review.specs.First.{BytesComeInOrder, JudgeTellsTheFirst};
+ghost use Rattle.cf_review.specs.Fronts.{RecordsComeFirst};
 ghost use Rattle.cf_review.specs.SynFlows.{SynFlowsAreWatched};
 
 /// Of flows that begin with a SYN, and whose bytes came in the order of the records, the judge's objection is the first remark of a
 /// review, and there is none where a review has none.
 pub fn judge_tells_the_first()
     ensures { JudgeTellsTheFirst }
+{}
+
+/// The record of each unit of a flow of a capture, and that of an octet that breaks, is the first with which the bytes of the flow reached
+/// its end.
+pub fn records_come_first()
+    ensures { RecordsComeFirst }
 {}
 
 /// The flows that a review reads of a capture without VLAN tags and that begin with a SYN are those that the judge reads of it.

@@ -19,6 +19,7 @@ returns c = record {
   in_order = c.bytes_come_in_order.ensures;
   first = c.judge_tells_the_first.ensures;
   syn_flows = c.syn_flows_are_watched.ensures;
+  fronts = c.records_come_first.ensures;
   told = c.refused_commands_are_told.ensures;
   fixed = c.records_fix_runs.ensures.runs;
   records = c.octets_have_one_list_of_records.ensures.one_timed;
