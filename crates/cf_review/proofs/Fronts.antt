@@ -1,14 +1,13 @@
 -- The records with which the units of a flow became whole.
-use Rattle.std.proofs.Common.{◌≡◌, ◌+◌, ◌-◌, ◌<◌, ◌≤◌, ◌∙◌, ℕ, List, [], ◌∷◌, ◌++◌, length, drop, get_or, slice_get, Option, Some, None, refl, sym, ap, subst, arith}
+use Rattle.std.proofs.Common.{◌≡◌, ◌+◌, ◌-◌, ◌<◌, ◌≤◌, ◌∙◌, ℕ, List, [], ◌∷◌, ◌++◌, length, drop, get_or, Option, Some, None, refl, ap, subst, arith}
 use Rattle.std.proofs.lemmas.List.{drop-drop, get_or-drop, get_or_default, length-drop}
 use Rattle.std.proofs.lemmas.Option.{slice_get_read}
 use Rattle.cf_lane.specs.Judged.{Judged}
 use Rattle.cf_policy.specs.declared.Asset.{Asset}
-use Rattle.cf_policy.specs.declared.Protocol.{Protocol}
 use Rattle.cf_watch.specs.Carried.{AreBorn, Carried, IsBornWith}
 use Rattle.cf_watch.specs.FlowValue.{FlowValue}
 use Rattle.cf_judge.specs.Plain.{AreRead, Breaks, Ending, HasEnding, Whole}
-use Rattle.cf_review.specs.FirstUnit.{IsReadPartBy, from_place}
+use Rattle.cf_review.specs.FirstUnit.{IsReadPartBy}
 use Rattle.cf_review.specs.Fronts.{AreTold, IsEndTold, RecordsComeFirst}
 
 module _ (asset : Asset) (client : ℕ) (carried : List Carried) (whole born : List ℕ) (are_born : AreBorn carried whole born) where
