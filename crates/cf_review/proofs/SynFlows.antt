@@ -104,9 +104,9 @@ and_right true b h = h
 and_right false b h = absurd (false≢true h)
 
 -- a packet that begins a flow amid its stream is no SYN
-no_syn : (s r x : Bool) → not (s || r) ≡ true → (s && x) ≡ false
-no_syn true r x e = absurd (false≢true e)
-no_syn false r x e = refl
+no_syn : (s r x t : Bool) → (not (s || r) && t) ≡ true → (s && x) ≡ false
+no_syn true r x t e = absurd (false≢true e)
+no_syn false r x t e = refl
 
 -- where a flow counts as answered, each SYN begins another
 always_anew : (o s a : Bool) → a ≡ true → (o && not (s && not a)) ≡ o
@@ -259,7 +259,7 @@ module _ (number asset : ℕ) (p : PacketValue) where
   by_cases w ws None true h m f ih = mine_here w ws (begins_with_syn w) refl m h f.0
 
   commutes : (ws : List Watched) → AreFirst ws → syn_flows (go_all ws) ≡ go (syn_flows ws)
-  commutes [] f = front (begins_amid scope.Recording p) (is_opening p) (λ e. no_syn (has_syn p) (has_rst p) (not (has_ack p || (has_rst p || has_fin p))) e)
+  commutes [] f = front (begins_amid scope.Recording p) (is_opening p) (λ e. no_syn (has_syn p) (has_rst p) (not (has_ack p || (has_rst p || has_fin p))) (not (length p.text == 0)) e)
   commutes (w ∷ ws) f = by_cases w ws (last ws) (Mine w) refl refl f (commutes ws f.2)
 
   -- ---- and what is kept of those that do not

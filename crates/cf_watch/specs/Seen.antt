@@ -1,7 +1,7 @@
 -- The flows of a capture as its scope says: seen_by. For a review a flow of a client endpoint and an asset that has none begins with its
--- first segment there, also amid its stream, and goes on up to the next SYN. With the scope of connections the flows are those of
+-- first segment with text there, also amid its stream, and goes on up to the next SYN. With the scope of connections the flows are those of
 -- `watched`.
-use Rattle.std.specs.Prelude.{◌+◌, ◌-◌, ◌%◌, ◌^◌, ◌||◌, ℕ, Bool, true, false, not, if◌then◌else◌, List, [], ◌∷◌, ◌++◌, length, Option, Some, None, Result, Ok, Err}
+use Rattle.std.specs.Prelude.{◌==◌, ◌&&◌, ◌+◌, ◌-◌, ◌%◌, ◌^◌, ◌||◌, ℕ, Bool, true, false, not, if◌then◌else◌, List, [], ◌∷◌, ◌++◌, length, Option, Some, None, Result, Ok, Err}
 use Rattle.cf_leg.specs.Segment.{has_rst, has_syn}
 use Rattle.cf_packet.specs.Packet.{PacketValue, read_record}
 use Rattle.cf_packet.specs.declared.packet.PacketRefusal.{PacketRefusal}
@@ -20,10 +20,10 @@ abbrev pub frame_by : Scope → LinkKind → List ℕ → List ℕ
 frame_by scope.Connections link octets = octets
 frame_by scope.Recording link octets = untagged link octets
 
--- a segment of a connection that goes on: it has neither SYN nor RST
+-- a segment of a connection that goes on, with text: it has neither SYN nor RST
 abbrev pub begins_amid : Scope → PacketValue → Bool
 begins_amid scope.Connections packet = false
-begins_amid scope.Recording packet = not (has_syn packet || has_rst packet)
+begins_amid scope.Recording packet = not (has_syn packet || has_rst packet) && not (length packet.text == 0)
 
 -- a flow that a packet begins, of which so much is known before
 abbrev pub begun_with : Opening → (number asset : ℕ) → PacketValue → Watched

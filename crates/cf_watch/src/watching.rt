@@ -136,7 +136,9 @@ fn begins_amid(scope: Scope, packet: &Packet<'_>) -> bool
 {
     match scope {
         Scope::Connections => false,
-        Scope::Recording => !(has(packet, SYN) || has(packet, RST)),
+        Scope::Recording => {
+            !(has(packet, SYN) || has(packet, RST)) && !packet.text.is_empty()
+        }
     }
 }
 

@@ -209,7 +209,7 @@ writes all that POLICY objects to in what clients sent to its assets in a captur
   LOG      is created behind all else, and gets the lines, in the order of the records
 
 The three names differ. A flow is what one client sends to one asset, from a SYN on, or from its
-first packet in the capture on; VLAN tags are passed over. Each line has the moment of the record
+first data in the capture on; VLAN tags are passed over. Each line has the moment of the record
 with which the thing was whole, the client, the asset, and one of
 
   refuse RULE REASON code C group G point X value V unanswered HEX   (docs/LOG.md)

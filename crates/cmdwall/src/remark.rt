@@ -81,7 +81,7 @@ pub(crate) fn remark_on_no_review<R: FileSystem + Eprint + AllocGlobal>(
     files: &mut RealFiles<'_, R>,
 ) -> io::Result<()> {
     eprintln!(rt;
-        "cmdwall: note: no connection to an asset of POLICY is in CAPTURE: no segment goes to an asset's address and port"
+        "cmdwall: note: no connection to an asset of POLICY is in CAPTURE: neither a SYN nor data goes to an asset's address and port"
     )?;
     remark_on_dropped(rt, capture, Frames::WithoutTags, files)
 }
