@@ -220,8 +220,8 @@ with which the thing was whole, the client, the asset, and one of
                         on at which a unit of the protocol begins
 
 Standard output has the numbers of flows, of commands, of those that POLICY allows and refuses,
-by what refuses them, and of the other lines. The status is 0 where there is no line, and 15
-where there is one. How often a rule lets commands through plays no part, nor do the numbers of
+by what refuses them, of strays and conflicts, and of flows that are broken. The status is 0
+where there is no line, and 15 where there is one. How often a rule lets commands through plays no part, nor do the numbers of
 IEC 60870-5-104. Nothing is written where the capture is refused or cut.
 
 example:
