@@ -353,7 +353,7 @@ module _ (failed : Type 0) (status : ℕ) (before after : Outside) where
     ends_apart r (inr s) found place e = ends_refused HasListedRecords bytes (listing_once bytes) r s.refuses found place (listed (holds bytes) found place e)
 
     recorded_up_to : (p : Policy) (stamps : List ℕ) (r : Reviewed) → HasReview policy capture before p stamps r → (place : ℕ) × WatchEnd (holds bytes) FileEnd place
-    recorded_up_to p stamps r w = let has = w.recorded.has_flows in (has.place, subst (λ f. WatchEnd f FileEnd has.place) told has.ends)
+    recorded_up_to p stamps r w = let has = w.recorded in (has.place, subst (λ f. WatchEnd f FileEnd has.place) told has.ends)
 
     remarks_end : (why : Denial) → Remarks policy capture before why → (place : ℕ) × WatchEnd (holds bytes) FileEnd place
     remarks_end (denial.Remarks counts) o = recorded_up_to o.0 o.1 o.2 o.3

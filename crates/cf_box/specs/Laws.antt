@@ -6,6 +6,8 @@ use Rattle.cf_pcapng.specs.Calls.{GiveBlocks, HaveOneListOfBlocks}
 use Rattle.cf_readback.specs.ReadBack.{RunsAreReadBack}
 use Rattle.cf_refusals.specs.Told.{RefusedAreTold}
 use Rattle.cf_review.specs.First.{BytesComeInOrder, JudgeTellsTheFirst}
+use Rattle.cf_review.specs.Fronts.{RecordsComeFirst}
+use Rattle.cf_review.specs.SynFlows.{SynFlowsAreWatched}
 use Rattle.cf_run.specs.Fixed.{RecordsFixRuns}
 use Rattle.cf_run.specs.Isolation.{RunsIsolateSessions}
 use Rattle.cf_run.specs.Records.{HaveOneTimedList}
@@ -36,9 +38,13 @@ pub record HasLaws : Type 0 where
   -- flows that a watcher tells of the file
   pub unobjected : RunsAreUnobjected
   pub watched_unobjected : WatchedRunsAreUnobjected
-  -- the bytes of each flow of a capture come in the order of its records; and of such flows the judge's objection is the first of a review
+  -- the bytes of each flow of a capture come in the order of its records; of such flows that begin with a SYN the judge's objection is the
+  -- first of a review; and in a capture without tags these are the flows of the judge
   pub in_order : BytesComeInOrder
   pub first : JudgeTellsTheFirst
+  pub syn_flows : SynFlowsAreWatched
+  -- the record of each unit of a flow is the first with which the bytes of the flow reached its end
+  pub fronts : RecordsComeFirst
   -- each refused command has its line and, but in three cases, its reply
   pub told : RefusedAreTold
   -- two runs of one policy over the same records have the same outputs and counts

@@ -8,7 +8,9 @@ use cf_isolation::{
 use cf_pcapng::{calls_give_blocks, files_have_one_list_of_blocks};
 use cf_readback::runs_are_read_back;
 use cf_refusals::refused_commands_are_told;
-use cf_review::{bytes_come_in_order, judge_tells_the_first};
+use cf_review::{
+    bytes_come_in_order, judge_tells_the_first, records_come_first, syn_flows_are_watched,
+};
 use cf_run::{octets_have_one_list_of_records, records_fix_runs, runs_isolate_sessions};
 use cf_selfjudged::runs_are_unobjected;
 
@@ -28,6 +30,8 @@ pub(crate) fn laws_hold()
     runs_are_unobjected();
     bytes_come_in_order();
     judge_tells_the_first();
+    syn_flows_are_watched();
+    records_come_first();
     refused_commands_are_told();
     records_fix_runs();
     octets_have_one_list_of_records();

@@ -6,6 +6,7 @@ use cf_outside::Files;
 use cf_packet::{PacketRefusal, read_packet};
 use cf_run::{NextRecord, RecordReader};
 use cf_view::LinkKind;
+use cf_watch::untagged;
 use std::alloc::Global;
 
 /// How many records there are, and how many of them were dropped for each reason. A count that would pass `u64::MAX` stays there.
@@ -31,18 +32,38 @@ impl Dropped {
     }
 }
 
+/// How frames with VLAN tags are read.
+#[derive(Clone, Copy)]
+pub enum Frames {
+    AsTheyStand,
+    WithoutTags,
+}
+
 /// The records of a capture by why they are dropped, where there is one and none is a packet. Nothing where one is, and the records
 /// after it are not read; nor where the capture is refused or cut, or cannot be read. Changes no file.
-pub fn dropped_alone<F: Files>(alloc: Global, files: &mut F, capture: &str) -> Option<Dropped>
+pub fn dropped_alone<F: Files>(
+    alloc: Global,
+    files: &mut F,
+    capture: &str,
+    frames: Frames,
+) -> Option<Dropped>
     ensures same { F.content files.new ≡ F.content files.old }
     ensures writes { F.write_faults files.new ≡ F.write_faults files.old }
 {
     let mut reader = RecordReader::open(alloc, files, capture).ok()?;
     let mut dropped = Dropped::new();
-    if !drops_all(&mut reader, files, capture, &mut dropped) || dropped.records == 0 {
+    if !drops_all(&mut reader, files, capture, frames, &mut dropped) || dropped.records == 0 {
         return None;
     }
     Some(dropped)
+}
+
+/// The octets of a record that are read.
+fn octets_of<'a>(frames: Frames, link: &LinkKind, body: &'a [u8]) -> &'a [u8] {
+    match frames {
+        Frames::AsTheyStand => body,
+        Frames::WithoutTags => untagged(link, body),
+    }
 }
 
 /// Counts the records from the reader's place on, and says whether all of them are dropped.
@@ -50,6 +71,7 @@ fn drops_all<F: Files>(
     reader: &mut RecordReader,
     files: &mut F,
     capture: &str,
+    frames: Frames,
     dropped: &mut Dropped,
 ) -> bool
     requires near { reader.old.place ≤ 2 ^ 40 }
@@ -60,11 +82,12 @@ fn drops_all<F: Files>(
         match reader.next(files, capture) {
             NextRecord::Whole(_) => {
                 let link = reader.link();
-                match read_packet(&link, reader.body()) {
+                let octets = octets_of(frames, &link, reader.body());
+                match read_packet(&link, octets) {
                     Ok(_) => return false,
                     Err(refusal) => {
                         dropped.records = dropped.records.saturating_add(1);
-                        dropped.count(&link, reader.body(), refusal);
+                        dropped.count(&link, octets, refusal);
                     }
                 }
             }

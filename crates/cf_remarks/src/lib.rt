@@ -31,7 +31,7 @@ mod way;
 
 pub use closes::left_open;
 pub use counts::{has_gaps, read_summary};
-pub use dropped::{Dropped, dropped_alone};
+pub use dropped::{Dropped, Frames, dropped_alone};
 pub use learned::learned_text;
 pub use look::{Look, Misfits, look_again};
 pub use reason::DropReason;

@@ -1,5 +1,5 @@
 -- The first of all remarks, and the judge's objection.
-use Rattle.std.proofs.Common.{◌≡◌, ◌+◌, ◌-◌, ◌<◌, ◌≤◌, ◌∙◌, ◌==◌, ℕ, List, [], ◌∷◌, ◌++◌, Bool, true, false, cond, if◌then◌else◌, length, map, drop, take, get_or, slice_get, nat_lt, Option, Some, None, option_map, refl, sym, ap, subst, arith, inl, inr, append_assoc, eq-eqb, suc}
+use Rattle.std.proofs.Common.{option_and_then, pos, ◌≡◌, ◌+◌, ◌-◌, ◌<◌, ◌≤◌, ◌∙◌, ◌==◌, ℕ, List, [], ◌∷◌, ◌++◌, Bool, true, false, cond, if◌then◌else◌, length, map, drop, take, get_or, slice_get, nat_lt, Option, Some, None, option_map, refl, sym, ap, subst, arith, inl, inr, append_assoc, eq-eqb, suc}
 use Rattle.std.specs.Option.{option_or}
 use Rattle.std.specs.List.{AllByRecursion, filter}
 use Rattle.std.specs.List.Sorted.{IsNonDecreasingBy}
@@ -12,20 +12,42 @@ use Rattle.cf_lane.specs.declared.fate.Fate.{Fate}
 use Rattle.cf_lane.specs.declared.fate.Fate.TheVariants as fate
 use Rattle.cf_policy.specs.declared.Asset.{Asset}
 use Rattle.cf_watch.specs.FlowValue.{FlowValue}
-use Rattle.cf_watch.specs.declared.flow.Conflict.{Conflict}
+use Rattle.cf_watch.specs.declared.flow.Conflict.{Conflict as Conflict_}
 use Rattle.cf_judge.specs.Objections.{AreReadBy, IsReadBy, Reading, earlier, first_wrong, objected, objection_of, objection_to, sooner, wrong_by, wrong_by_fate}
 use Rattle.cf_judge.specs.Plain.{AreRead, Breaks, Ending, Whole}
 use Rattle.cf_judge.specs.declared.Objection.{Objection}
-use Rattle.cf_review.specs.First.{IsRising, JudgeTellsTheFirst, first_of, objection_by}
-use Rattle.cf_review.specs.Remark.{Refused, RemarkValue, Stray}
+use Rattle.cf_review.specs.First.{BeginsWithSyn, IsRising, JudgeTellsTheFirst, first_of, objection_about, objection_by}
+use Rattle.cf_judge.specs.declared.Complaint.{Complaint}
+use Rattle.cf_judge.specs.declared.Complaint.TheVariants as complaint
+use Rattle.cf_review.specs.Remark.{Broken, Conflict, MatterValue, Midstream, Refused, RemarkValue, Stray}
 use Rattle.cf_review.specs.declared.remark.TheConstants.{SHOWN}
-use Rattle.cf_review.specs.Review.{AreInOrder, conflict_remarks, end_remarks, flow_remarks, is_at, matters, octets_of, remark_on, remarks_by, remarks_on, unit_remarks}
+use Rattle.cf_review.specs.Review.{AreInOrder, conflict_remarks, end_remarks, flow_remarks, is_at, matters, midstream_remarks, octets_of, remark_on, remarks_by, remarks_on, unit_remarks}
+
+-- ---- what is remarked, as the judge tells it
+
+-- of a flow that begins amid its stream nothing is told; here it stands for some complaint
+abbrev complaint_or : MatterValue → Complaint
+complaint_or (Refused refusal octets) = complaint.Refused refusal.decider refusal.reason
+complaint_or (Stray because) = complaint.Stray because
+complaint_or (Broken reason) = complaint.Broken reason
+complaint_or (Conflict position) = complaint.Conflict position
+complaint_or Midstream = complaint.Conflict (pos 0)
+
+abbrev told_as : RemarkValue → Objection
+told_as r = objection_about r (complaint_or r.what)
+
+abbrev IsObjection : RemarkValue → Type 0
+IsObjection r = objection_by r ≡ Some (told_as r)
+
+all_append : (xs ys : List RemarkValue) → AllByRecursion IsObjection xs → AllByRecursion IsObjection ys → AllByRecursion IsObjection (xs ++ ys)
+all_append [] ys a b = b
+all_append (x ∷ xs) ys a b = (a.0, all_append xs ys a.1 b)
 
 -- ---- the earliest of objections
 
 abbrev least : List RemarkValue → Option Objection
 least [] = None
-least (r ∷ rs) = earlier (Some (objection_by r)) (least rs)
+least (r ∷ rs) = earlier (Some (told_as r)) (least rs)
 
 earlier_none : (o : Option Objection) → earlier o None ≡ o
 earlier_none None = refl
@@ -60,7 +82,7 @@ earlier_assoc (Some a) (Some b) (Some c) = earlier_twice a b c
 
 least_append : (xs ys : List RemarkValue) → least (xs ++ ys) ≡ earlier (least xs) (least ys)
 least_append [] ys = refl
-least_append (x ∷ xs) ys = ap (earlier (Some (objection_by x))) (least_append xs ys) ∙ sym (earlier_assoc (Some (objection_by x)) (least xs) (least ys))
+least_append (x ∷ xs) ys = ap (earlier (Some (told_as x))) (least_append xs ys) ∙ sym (earlier_assoc (Some (told_as x)) (least xs) (least ys))
 
 -- ---- those of one flow, whose units come in the order of the records
 
@@ -77,9 +99,9 @@ lower : (low high : ℕ) (first : Option Objection) (rs : List RemarkValue) → 
 lower low high None rs h is = is
 lower low high (Some o) rs h is = (is.0, omega (arith, h, is.1))
 
-before : (low : ℕ) (r : RemarkValue) (first : Option Objection) (rs : List RemarkValue) → low ≤ r.at_record → IsFirst r.at_record first rs → IsFirst low (Some (objection_by r)) (r ∷ rs)
-before low r None rs h is = (ap (earlier (Some (objection_by r))) is, h)
-before low r (Some o) rs h is = (ap (earlier (Some (objection_by r))) is.0 ∙ first_stays (objection_by r) o is.1, h)
+before : (low : ℕ) (r : RemarkValue) (first : Option Objection) (rs : List RemarkValue) → low ≤ r.at_record → IsFirst r.at_record first rs → IsFirst low (Some (told_as r)) (r ∷ rs)
+before low r None rs h is = (ap (earlier (Some (told_as r))) is, h)
+before low r (Some o) rs h is = (ap (earlier (Some (told_as r))) is.0 ∙ first_stays (told_as r) o is.1, h)
 
 -- all bytes came with a record from this one on
 abbrev IsFrom : (low : ℕ) → (born : List ℕ) → Type 0
@@ -121,30 +143,69 @@ module _ (asset : Asset) (f : FlowValue) where
   chosen true v w = refl
   chosen false v w = refl
 
-  by_conflict : (c : Option Conflict) (first : _) (rs : List RemarkValue) → least rs ≡ option_map (objected f) first →
+  by_conflict : (c : Option Conflict_) (first : _) (rs : List RemarkValue) → least rs ≡ option_map (objected f) first →
       option_map (objected f) (sooner (option_map wrong_by c) first) ≡ least (conflict_remarks f c ++ rs)
   by_conflict None first rs e = sym e
   by_conflict (Some c) None rs e = sym (ap (earlier (Some (objected f (wrong_by c)))) e)
   by_conflict (Some c) (Some w) rs e = chosen (nat_lt w.number c.at_record) (wrong_by c) w ∙ sym (ap (earlier (Some (objected f (wrong_by c)))) e)
 
-  flow_first : (js : List Judged) (ending : Ending) → IsRising f → AreRead asset f.client.address [] f.bytes f.born js ending → objection_of f js ending ≡ least (flow_remarks asset f js ending)
-  flow_first js ending rising are =
+  flow_first : (js : List Judged) (ending : Ending) → BeginsWithSyn f → IsRising f → AreRead asset f.client.address [] f.bytes f.born js ending → objection_of f js ending ≡ least (flow_remarks asset f js ending)
+  flow_first js ending syn rising are =
       let u = units_first 0 [] f.bytes f.born js ending rising.count rising.rises (λ i below. omega arith) are in
-      by_conflict f.conflict (first_wrong js ending) (in_turn (unit_remarks asset f) [] js ++ end_remarks f ending)
-      (first_is 0 (option_map (objected f) (first_wrong js ending)) (in_turn (unit_remarks asset f) [] js ++ end_remarks f ending) u)
+      let items = in_turn (unit_remarks asset f) [] js ++ end_remarks f ending in
+      by_conflict f.conflict (first_wrong js ending) items (first_is 0 (option_map (objected f) (first_wrong js ending)) items u)
+      ∙ ap (λ m. least (midstream_remarks f m ++ (conflict_remarks f f.conflict ++ items))) (sym syn)
+
+  -- each of them is an objection
+  abbrev Objections : List RemarkValue → Type 0
+  Objections rs = AllByRecursion IsObjection rs
+
+  by_matters : (number : ℕ) (octets : List ℕ) (fate_ : Fate) → Objections (map (remark_on f number) (matters octets fate_))
+  by_matters number octets (fate.Refused refusal) = (refl, tt)
+  by_matters number octets (fate.Stray because) = (refl, tt)
+  by_matters number octets fate.Carried = tt
+  by_matters number octets (fate.Admitted used) = tt
+  by_matters number octets fate.Lengthens = tt
+  by_matters number octets (fate.Cuts because) = tt
+
+  by_units : (earlier_ js : List Judged) → Objections (in_turn (unit_remarks asset f) earlier_ js)
+  by_units earlier_ [] = tt
+  by_units earlier_ (j ∷ js) = all_append (unit_remarks asset f earlier_ j) (in_turn (unit_remarks asset f) (earlier_ ++ j ∷ []) js) (by_matters j.moment (octets_of asset earlier_ j.item) j.fate) (by_units (earlier_ ++ j ∷ []) js)
+
+  by_end : (ending : Ending) → Objections (end_remarks f ending)
+  by_end Whole = tt
+  by_end (Breaks number reason) = (refl, tt)
+
+  by_one_conflict : (c : Option Conflict_) → Objections (conflict_remarks f c)
+  by_one_conflict None = tt
+  by_one_conflict (Some c) = (refl, tt)
+
+  flow_objections : (js : List Judged) (ending : Ending) → BeginsWithSyn f → Objections (flow_remarks asset f js ending)
+  flow_objections js ending syn =
+      let items = in_turn (unit_remarks asset f) [] js ++ end_remarks f ending in
+      let rest = all_append (conflict_remarks f f.conflict) items (by_one_conflict f.conflict) (all_append (in_turn (unit_remarks asset f) [] js) (end_remarks f ending) (by_units [] js) (by_end ending)) in
+      subst (λ m. Objections (midstream_remarks f m ++ (conflict_remarks f f.conflict ++ items))) (sym syn) rest
 
 -- ---- those of all flows
 
-one_first : (o : Option Asset) (r : Reading) → IsReadBy o r → IsRising r.flow → objection_of r.flow r.judged r.ending ≡ least (remarks_by o r)
-one_first None r are rising = absurd are
-one_first (Some asset) r are rising = flow_first asset r.flow r.judged r.ending rising are
+one_first : (o : Option Asset) (r : Reading) → IsReadBy o r → IsRising r.flow → BeginsWithSyn r.flow → objection_of r.flow r.judged r.ending ≡ least (remarks_by o r)
+one_first None r are rising syn = absurd are
+one_first (Some asset) r are rising syn = flow_first asset r.flow r.judged r.ending syn rising are
+
+one_objects : (o : Option Asset) (r : Reading) → BeginsWithSyn r.flow → AllByRecursion IsObjection (remarks_by o r)
+one_objects None r syn = tt
+one_objects (Some asset) r syn = flow_objections asset r.flow r.judged r.ending syn
+
+all_object : (assets : List Asset) (rs : List Reading) → AllByRecursion (λ r. BeginsWithSyn r.flow) rs → AllByRecursion IsObjection (remarks_on assets rs)
+all_object assets [] syn = tt
+all_object assets (r ∷ rs) syn = all_append (remarks_by (slice_get assets r.flow.asset) r) (remarks_on assets rs) (one_objects (slice_get assets r.flow.asset) r syn.0) (all_object assets rs syn.1)
 
 all_first : (assets : List Asset) (first : Option Objection) (rs : List Reading) → AreReadBy assets rs → AllByRecursion (λ r. IsRising r.flow) rs →
-    objection_to first rs ≡ earlier first (least (remarks_on assets rs))
-all_first assets first [] are rising = sym (earlier_none first)
-all_first assets first (r ∷ rs) are rising =
-    let here = one_first (slice_get assets r.flow.asset) r are.0 rising.0 in
-    all_first assets (earlier first (objection_of r.flow r.judged r.ending)) rs are.1 rising.1
+    AllByRecursion (λ r. BeginsWithSyn r.flow) rs → objection_to first rs ≡ earlier first (least (remarks_on assets rs))
+all_first assets first [] are rising syn = sym (earlier_none first)
+all_first assets first (r ∷ rs) are rising syn =
+    let here = one_first (slice_get assets r.flow.asset) r are.0 rising.0 syn.0 in
+    all_first assets (earlier first (objection_of r.flow r.judged r.ending)) rs are.1 rising.1 syn.1
     ∙ earlier_assoc first (objection_of r.flow r.judged r.ending) (least (remarks_on assets rs))
     ∙ ap (λ o. earlier first (earlier o (least (remarks_on assets rs)))) here
     ∙ ap (earlier first) (sym (least_append (remarks_by (slice_get assets r.flow.asset) r) (remarks_on assets rs)))
@@ -192,14 +253,14 @@ least_from low [] none = tt
 least_from low (r ∷ rs) none =
     elim (cases_lt r.at_record low) [
       | inl below ↦ absurd (not_nothing (r.at_record == r.at_record) r (filter (is_at r.at_record) rs) (itself r.at_record) (none r.at_record below))
-      | inr above ↦ is_least low (objection_by r) (least rs) above (least_from low rs (λ n h. nothing_behind (r.at_record == n) r (filter (is_at n) rs) (none n h)))
+      | inr above ↦ is_least low (told_as r) (least rs) above (least_from low rs (λ n h. nothing_behind (r.at_record == n) r (filter (is_at n) rs) (none n h)))
     ]
 
 heads : (x y : RemarkValue) (xs ys : List RemarkValue) → x ∷ xs ≡ y ∷ ys → x ≡ y
 heads x y xs ys e = cc
 
 least_is : (t : RemarkValue) (more all : List RemarkValue) → ((n : ℕ) → n < t.at_record → filter (is_at n) all ≡ []) → filter (is_at t.at_record) all ≡ t ∷ more →
-    least all ≡ Some (objection_by t)
+    least all ≡ Some (told_as t)
 least_is t more [] none some = cc some
 least_is t more (r ∷ rs) none some =
     let behind : (n : ℕ) → n < t.at_record → filter (is_at n) rs ≡ [] = λ n h. nothing_behind (r.at_record == n) r (filter (is_at n) rs) (none n h) in
@@ -209,12 +270,12 @@ least_is t more (r ∷ rs) none some =
         | inl later ↦
             (let other : (r.at_record == t.at_record) ≡ false = grind (arith, nat_tests, later) in
             let next = least_is t more rs behind (sym (passed_over (r.at_record == t.at_record) r (filter (is_at t.at_record) rs) other) ∙ some) in
-            ap (earlier (Some (objection_by r))) next ∙ later_wins (objection_by r) (objection_by t) later)
+            ap (earlier (Some (told_as r))) next ∙ later_wins (told_as r) (told_as t) later)
         | inr low ↦
             (let at : r.at_record ≡ t.at_record = omega (arith, above, low) in
             let same : (r.at_record == t.at_record) ≡ true = eq-eqb r.at_record t.at_record at in
             let is : r ≡ t = heads r t (filter (is_at t.at_record) rs) more (sym (kept_first (r.at_record == t.at_record) r (filter (is_at t.at_record) rs) same) ∙ some) in
-            stays (objection_by r) (least rs) (subst (λ n. AtLeast n (least rs)) (sym at) (least_from t.at_record rs behind)) ∙ ap (λ (x : RemarkValue). Some (objection_by x)) is)
+            stays (told_as r) (least rs) (subst (λ n. AtLeast n (least rs)) (sym at) (least_from t.at_record rs behind)) ∙ ap (λ (x : RemarkValue). Some (told_as x)) is)
       ]
     ]
 
@@ -225,7 +286,7 @@ none_below low n (x ∷ xs) h from =
     let other : (x.at_record == n) ≡ false = grind (arith, nat_tests, above, h) in
     passed_over (x.at_record == n) x (filter (is_at n) xs) other ∙ none_below low n xs h (λ i d below. from (suc i) d (omega (arith, below)))
 
-told_first : (all told : List RemarkValue) → AreInOrder all told → least all ≡ option_map objection_by (first_of told)
+told_first : (all told : List RemarkValue) → AreInOrder all told → least all ≡ option_map told_as (first_of told)
 told_first [] [] o = refl
 told_first (r ∷ rs) [] o = absurd (not_nothing (r.at_record == r.at_record) r (filter (is_at r.at_record) rs) (itself r.at_record) (sym (o.of_each r.at_record)))
 told_first all (t ∷ ts) o =
@@ -233,5 +294,22 @@ told_first all (t ∷ ts) o =
     (λ n h. sym (o.of_each n) ∙ none_below t.at_record n (t ∷ ts) h (λ i d below. o.rising 0 i d (omega arith) below))
     (sym (o.of_each t.at_record) ∙ kept_first (t.at_record == t.at_record) t (filter (is_at t.at_record) ts) (itself t.at_record))
 
+kept_by : (b : Bool) (x : RemarkValue) (xs : List RemarkValue) → IsObjection x → AllByRecursion IsObjection xs → AllByRecursion IsObjection (cond b (x ∷ xs) xs)
+kept_by true x xs h a = (h, a)
+kept_by false x xs h a = a
+
+kept_all : (p : RemarkValue → Bool) (xs : List RemarkValue) → AllByRecursion IsObjection xs → AllByRecursion IsObjection (filter p xs)
+kept_all p [] a = tt
+kept_all p (x ∷ xs) a = kept_by (p x) x (filter p xs) a.0 (kept_all p xs a.1)
+
+first_objects : (all told : List RemarkValue) → AreInOrder all told → AllByRecursion IsObjection all → option_map told_as (first_of told) ≡ option_and_then objection_by (first_of told)
+first_objects all [] o each = refl
+first_objects all (t ∷ ts) o each =
+    let kept : AllByRecursion IsObjection (filter (is_at t.at_record) all) = kept_all (is_at t.at_record) all each in
+    let is : filter (is_at t.at_record) all ≡ t ∷ filter (is_at t.at_record) ts = sym (o.of_each t.at_record) ∙ kept_first (t.at_record == t.at_record) t (filter (is_at t.at_record) ts) (itself t.at_record) in
+    sym (subst (AllByRecursion IsObjection) is kept).0
+
 pub tells_the_first : JudgeTellsTheFirst
-tells_the_first assets readings told are rising order = all_first assets None readings are rising ∙ told_first (remarks_on assets readings) told order
+tells_the_first assets readings told are rising syn order =
+    all_first assets None readings are rising syn ∙ told_first (remarks_on assets readings) told order
+    ∙ first_objects (remarks_on assets readings) told order (all_object assets readings syn)

@@ -1,5 +1,8 @@
 mod First
+mod FirstUnits
+mod Fronts
 mod Ordering
 mod Reading
 mod Rising
+mod SynFlows
 mod Writing

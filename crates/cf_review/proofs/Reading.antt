@@ -1,5 +1,5 @@
 -- The bytes of a flow, read up to a place, with all that is objected to.
-use Rattle.std.proofs.Common.{◌≡◌, ◌+◌, ◌-◌, ◌<◌, ◌≤◌, ◌∙◌, ℕ, List, [], ◌∷◌, ◌++◌, length, map, take, drop, get_or, slice_get, slice_range, All, Some, min, ◌^◌, refl, sym, ap, subst, arith, append_assoc}
+use Rattle.std.proofs.Common.{◌≡◌, ◌+◌, ◌-◌, ◌<◌, ◌≤◌, ◌∙◌, ℕ, List, [], ◌∷◌, ◌++◌, length, map, take, drop, get_or, slice_get, slice_range, All, Option, None, Some, min, ◌^◌, refl, sym, ap, subst, arith, append_assoc}
 use Rattle.std.proofs.lemmas.List.{append-nil, drop-drop, drop_all, get_or-drop, get_or-map, length-drop, length-map, map-append, take_all}
 use Rattle.std.proofs.lemmas.Option.{get_or_from_slice_get, slice_get_within}
 use Rattle.cf_lane.proofs.Earlier.{in_turn-more}
@@ -23,7 +23,9 @@ use Rattle.cf_judge.specs.declared.ruling.Ruling.{Ruling}
 use Rattle.cf_judge.specs.declared.ruling.Ruling.TheVariants as ruling
 use Rattle.cf_judge.specs.declared.front.Reader.{Reader}
 use Rattle.cf_review.specs.Remark.{Broken, RemarkValue}
-use Rattle.cf_review.specs.Review.{AddsReview, conflict_remarks, flow_remarks, matters, remark_on, remarks_by, remarks_on, unit_remarks}
+use Rattle.cf_review.specs.FirstUnit.{AreReadParts, IsReadPart, IsReadPartAt, IsReadPartBy, from_place}
+use Rattle.cf_review.specs.Review.{AddsReview, AddsUnits, conflict_remarks, end_remarks, flow_remarks, matters, midstream_remarks, remark_on, remarks_by, remarks_on, unit_remarks}
+use Rattle.cf_policy.specs.declared.Protocol.{Protocol}
 use Rattle.cf_audit.specs.declared.line.Why.{Why}
 
 -- with these units in front, those from a place on are those of the flow; the remarks on these units stand after some others
@@ -32,7 +34,7 @@ pub record SoFar (asset : Asset) (f : FlowValue) (start : List RemarkValue) (at 
   pub leads : (js : List Judged) (ending : Ending) → AreRead asset f.client.address units (drop at f.bytes) (drop at f.born) js ending → AreRead asset f.client.address [] f.bytes f.born (units ++ js) ending
   pub reader : IsReaderOf asset f.client.address units r
   pub admitted_is : admitted ≡ admitted_in units
-  pub told : remarks ≡ start ++ (conflict_remarks f f.conflict ++ in_turn (unit_remarks asset f) [] units)
+  pub told : remarks ≡ start ++ in_turn (unit_remarks asset f) [] units
   pub inside : at ≤ length f.bytes
   pub few : admitted ≤ at
 
@@ -74,25 +76,22 @@ module _ (octets : List ℕ) where
   allowed_by fate.Lengthens e = refl
   allowed_by (fate.Cuts because) e = refl
 
-pub so_far_first : (asset : Asset) (f : FlowValue) (start remarks : List RemarkValue) (r : Reader) → IsReaderOf asset f.client.address [] r → remarks ≡ start ++ conflict_remarks f f.conflict →
+pub so_far_first : (asset : Asset) (f : FlowValue) (start remarks : List RemarkValue) (r : Reader) → IsReaderOf asset f.client.address [] r → remarks ≡ start →
     SoFar asset f start 0 r 0 remarks
 so_far_first asset f start remarks r h told = record {
   units = [];
   leads = λ js ending are. are;
   reader = h;
   admitted_is = refl;
-  told = told ∙ ap (λ xs. start ++ xs) (sym (append-nil (conflict_remarks f f.conflict)));
+  told = told ∙ sym (append-nil start);
   inside = omega arith;
   few = omega arith;
 }
 
 module _ (asset : Asset) (f : FlowValue) (start : List RemarkValue) (at : ℕ) (r : Reader) (admitted : ℕ) (remarks : List RemarkValue) (so : SoFar asset f start at r admitted remarks) where
   -- what an add after the others does to the whole
-  told_more : (more new : List RemarkValue) → new ≡ remarks ++ more → new ≡ start ++ (conflict_remarks f f.conflict ++ (in_turn (unit_remarks asset f) [] so.units ++ more))
-  told_more more new is =
-      let c = conflict_remarks f f.conflict in
-      let us = in_turn (unit_remarks asset f) [] so.units in
-      is ∙ ap (λ xs. xs ++ more) so.told ∙ append_assoc start (c ++ us) more ∙ ap (λ xs. start ++ xs) (append_assoc c us more)
+  told_more : (more new : List RemarkValue) → new ≡ remarks ++ more → new ≡ start ++ (in_turn (unit_remarks asset f) [] so.units ++ more)
+  told_more more new is = is ∙ ap (λ xs. xs ++ more) so.told ∙ append_assoc start (in_turn (unit_remarks asset f) [] so.units) more
 
   pub so_far_on : (p : Ruling) (used : ℕ) (new : Reader) (number more : ℕ) (octets : List ℕ) (now : List RemarkValue) → length f.born ≡ length f.bytes →
       TakesUnit asset f.client.address so.units (drop at f.bytes) p used new → number ≡ get_or f.born (at + used - 1) 0 → more ≤ 1 → ((g : Fate) → p ≡ ruling_of g → more ≡ one_if (is_admitted g)) →
@@ -127,12 +126,12 @@ module _ (asset : Asset) (f : FlowValue) (start : List RemarkValue) (at : ℕ) (
             ));
         reader = t.goes_on number;
         admitted_is = ap (λ n. admitted + n) c ∙ ap (λ n. n + one_if (is_admitted t.fate)) so.admitted_is ∙ sym (admitted_more so.units j);
-        told = told_more (unit_remarks asset f so.units j) now added ∙ ap (λ xs. start ++ (conflict_remarks f f.conflict ++ xs)) (sym (in_turn-more (unit_remarks asset f) so.units j));
+        told = told_more (unit_remarks asset f so.units j) now added ∙ ap (λ xs. start ++ xs) (sym (in_turn-more (unit_remarks asset f) so.units j));
         inside = omega (arith, size, inside, so.inside);
         few = omega (arith, some, few, so.few);
       }
 
-  pub found_rest : IsPartial (SpellsUnit asset.protocol) (drop at f.bytes) → AddsReview asset f start remarks admitted
+  pub found_rest : IsPartial (SpellsUnit asset.protocol) (drop at f.bytes) → AddsUnits asset f start remarks admitted
   found_rest h = record {
     judged = so.units;
     ending = Whole;
@@ -142,7 +141,7 @@ module _ (asset : Asset) (f : FlowValue) (start : List RemarkValue) (at : ℕ) (
   }
 
   pub found_break : (reason : Break) (place number : ℕ) (now : List RemarkValue) → BreaksAt (SpellsUnit asset.protocol) (drop at f.bytes) place → reason ≡ unit_break asset.protocol place →
-      number ≡ get_or f.born (at + place) 0 → now ≡ remarks ++ remark_on f number (Broken reason) ∷ [] → AddsReview asset f start now admitted
+      number ≡ get_or f.born (at + place) 0 → now ≡ remarks ++ remark_on f number (Broken reason) ∷ [] → AddsUnits asset f start now admitted
   found_break reason place number now b is number_is added = record {
     judged = so.units;
     ending = Breaks number reason;
@@ -152,7 +151,7 @@ module _ (asset : Asset) (f : FlowValue) (start : List RemarkValue) (at : ℕ) (
     remarks = told_more (remark_on f number (Broken reason) ∷ []) now added;
   }
 
-  pub found_all : length f.bytes ≤ at → AddsReview asset f start remarks admitted
+  pub found_all : length f.bytes ≤ at → AddsUnits asset f start remarks admitted
   found_all h = found_rest (subst (IsPartial (SpellsUnit asset.protocol)) (sym (drop_all at f.bytes h)) (nothing_unit asset.protocol))
 
   -- what was told of the bytes that were lent
@@ -185,20 +184,46 @@ module _ (asset : Asset) (f : FlowValue) (start : List RemarkValue) (at : ℕ) (
       let size : length (drop at f.bytes) ≡ length f.bytes - at = length-drop at f.bytes in
       omega (arith, size, inside, so.inside)
 
-pub found_nothing : (asset : Asset) (f : FlowValue) (start remarks : List RemarkValue) → f.bytes ≡ [] → remarks ≡ start ++ conflict_remarks f f.conflict → AddsReview asset f start remarks 0
+-- of a flow from a place on the records are those after it
+pub number_from : (born : List ℕ) (start i place number : ℕ) → start + i ≡ place → number ≡ get_or born place 0 → number ≡ get_or (drop start born) i 0
+number_from born start i place number e is = is ∙ ap (λ n. get_or born n 0) (sym e) ∙ sym (get_or-drop start born i 0)
+
+pub same_sizes : (bytes born : List ℕ) (start : ℕ) → length born ≡ length bytes → length (drop start born) ≡ length (drop start bytes)
+same_sizes bytes born start e = length-drop start born ∙ ap (λ n. n - start) e ∙ sym (length-drop start bytes)
+
+pub found_nothing : (asset : Asset) (f : FlowValue) (start remarks : List RemarkValue) → f.bytes ≡ [] → remarks ≡ start → AddsUnits asset f start remarks 0
 found_nothing asset f start remarks e told = record {
   judged = [];
   ending = Whole;
   are_read = subst (IsPartial (SpellsUnit asset.protocol)) (sym e) (nothing_unit asset.protocol);
   admitted_is = refl;
-  remarks = told ∙ ap (λ xs. start ++ xs) (sym (append-nil (conflict_remarks f f.conflict)));
+  remarks = told ∙ sym (append-nil start);
 }
+
+-- the remarks on a flow are that it begins amid its stream, its conflict, and those on the bytes that are read
+pub adds_review : (asset : Asset) (f : FlowValue) (place : ℕ) (start first second now : List RemarkValue) (admitted : ℕ) → IsReadPart asset.protocol f (from_place place f) →
+    first ≡ start ++ midstream_remarks f f.midstream → second ≡ first ++ conflict_remarks f f.conflict → AddsUnits asset (from_place place f) second now admitted →
+    AddsReview asset f start now admitted
+adds_review asset f place start first second now admitted part one two units =
+    let m = midstream_remarks f f.midstream in
+    let c = conflict_remarks f f.conflict in
+    let us = in_turn (unit_remarks asset f) [] units.judged ++ end_remarks f units.ending in
+    let front : second ≡ start ++ (m ++ c) = two ∙ ap (λ xs. xs ++ c) one ∙ append_assoc start m c in
+    record {
+      read = from_place place f;
+      is_part = part;
+      judged = units.judged;
+      ending = units.ending;
+      are_read = units.are_read;
+      admitted_is = units.admitted_is;
+      remarks = units.remarks ∙ ap (λ xs. xs ++ us) front ∙ append_assoc start (m ++ c) us ∙ ap (λ xs. start ++ xs) (append_assoc m c us);
+    }
 
 -- ---- flows that were reviewed so far
 
 pub record ReviewedSoFar (assets : List Asset) (flows : List FlowValue) (admitted : ℕ) (remarks : List RemarkValue) : Type 0 where
   pub readings : List Reading
-  pub of_flows : map (λ r. r.flow) readings ≡ flows
+  pub of_flows : AreReadParts assets flows (map (λ r. r.flow) readings)
   pub are_read : AreReadBy assets readings
   pub admitted_is : admitted ≡ commands_in 0 readings
   pub remarks_are : remarks ≡ remarks_on assets readings
@@ -220,16 +245,31 @@ remarks_more assets (s ∷ rs) r =
 pub reviewed_first : (assets : List Asset) (remarks : List RemarkValue) → remarks ≡ [] → ReviewedSoFar assets [] 0 remarks
 reviewed_first assets remarks none = record { readings = []; of_flows = refl; are_read = tt; admitted_is = refl; remarks_are = none }
 
+parts_more : (assets : List Asset) (fs rs : List FlowValue) (f r : FlowValue) → AreReadParts assets fs rs → IsReadPartAt (slice_get assets f.asset) f r → AreReadParts assets (fs ++ f ∷ []) (rs ++ r ∷ [])
+parts_more assets [] rs f r are is = subst (λ xs. AreReadParts assets (f ∷ []) (xs ++ r ∷ [])) (sym are) (is, refl)
+parts_more assets (g ∷ fs) [] f r are is = absurd are
+parts_more assets (g ∷ fs) (s ∷ rs) f r are is = (are.0, parts_more assets fs rs f r are.1 is)
+
+same_asset_by : (protocol : Protocol) (midstream : Option ℕ) (f read : FlowValue) → IsReadPartBy protocol midstream f read → (read.asset ≡ f.asset) × (read.client ≡ f.client)
+same_asset_by protocol None f read is = (ap (λ (x : FlowValue). x.asset) is, ap (λ (x : FlowValue). x.client) is)
+same_asset_by protocol (Some number) f read is = (ap (λ (x : FlowValue). x.asset) is.2, ap (λ (x : FlowValue). x.client) is.2)
+
+-- it is a flow of the same client to the same asset
+same_asset : (asset : Asset) (f read : FlowValue) → IsReadPart asset.protocol f read → read.asset ≡ f.asset
+same_asset asset f read is = (same_asset_by asset.protocol f.midstream f read is).0
+
 pub reviewed_on : (assets : List Asset) (flows : List FlowValue) (admitted more : ℕ) (old new : List RemarkValue) (f : FlowValue) (asset : Asset) →
     ReviewedSoFar assets flows admitted old → slice_get assets f.asset ≡ Some asset → AddsReview asset f old new more → ReviewedSoFar assets (flows ++ f ∷ []) (min (admitted + more) (2 ^ 64 - 1)) new
 reviewed_on assets flows admitted more old new f asset so at is =
-    let r : Reading = record { flow = f; judged = is.judged; ending = is.ending } in
+    let r : Reading = record { flow = is.read; judged = is.judged; ending = is.ending } in
+    let there : slice_get assets is.read.asset ≡ Some asset = ap (slice_get assets) (same_asset asset f is.read is.is_part) ∙ at in
     record {
       readings = so.readings ++ r ∷ [];
-      of_flows = map-append (λ s. s.flow) so.readings (r ∷ []) ∙ ap (λ fs. fs ++ f ∷ []) so.of_flows;
-      are_read = read_more assets so.readings r so.are_read (subst (λ a. IsReadBy a r) (sym at) is.are_read);
+      of_flows = subst (AreReadParts assets (flows ++ f ∷ [])) (sym (map-append (λ s. s.flow) so.readings (r ∷ [])))
+          (parts_more assets flows (map (λ s. s.flow) so.readings) f is.read so.of_flows (subst (λ a. IsReadPartAt a f is.read) (sym at) is.is_part));
+      are_read = read_more assets so.readings r so.are_read (subst (λ a. IsReadBy a r) (sym there) is.are_read);
       admitted_is = ap (λ n. min (n + more) (2 ^ 64 - 1)) so.admitted_is ∙ ap (λ n. min (commands_in 0 so.readings + n) (2 ^ 64 - 1)) is.admitted_is ∙ sym (commands_more 0 so.readings r);
-      remarks_are = is.remarks ∙ ap (λ xs. xs ++ flow_remarks asset f is.judged is.ending) so.remarks_are ∙ ap (λ a. remarks_on assets so.readings ++ remarks_by a r) (sym at) ∙ sym (remarks_more assets so.readings r);
+      remarks_are = is.remarks ∙ ap (λ xs. xs ++ flow_remarks asset is.read is.judged is.ending) so.remarks_are ∙ ap (λ a. remarks_on assets so.readings ++ remarks_by a r) (sym there) ∙ sym (remarks_more assets so.readings r);
     }
 
 -- each flow is to an asset of the policy

@@ -1,7 +1,6 @@
 -- No byte of a watched flow came with an earlier record than a byte before it.
-use Rattle.std.proofs.Common.{◌≡◌, ◌<◌, ◌≤◌, ◌+◌, ◌++◌, ◌∙◌, ℕ, zero, suc, List, [], ◌∷◌, Bool, true, false, Option, None, Some, Result, Ok, Err, if◌then◌else◌, length, map, set, slice_get, get_or, unwrap_or, refl, ap, subst, sym, arith, inl, inr, length-append, ◌⊎◌}
+use Rattle.std.proofs.Common.{◌-◌, ◌≡◌, ◌≤◌, ◌+◌, ◌++◌, ◌∙◌, ℕ, zero, suc, List, [], ◌∷◌, Bool, true, false, Option, None, Some, Result, Ok, Err, if◌then◌else◌, length, map, set, slice_get, get_or, unwrap_or, refl, ap, subst, sym, arith, inl, inr, length-append, ◌⊎◌}
 use Rattle.std.specs.List.{AllByRecursion}
-use Rattle.std.specs.List.Sorted.{IsNonDecreasingBy}
 use Rattle.std.proofs.lemmas.List.{get_or_default, map-append}
 use Rattle.std.proofs.lemmas.Option.{none-some, slice_get_read}
 use Rattle.cf_packet.specs.Packet.{PacketValue, read_record}
@@ -13,12 +12,18 @@ use Rattle.cf_run.specs.Table.{is_opening}
 use Rattle.cf_stream.proofs.FirstCopy.{first_copy-append}
 use Rattle.cf_stream.proofs.Taken.{taken_extends}
 use Rattle.cf_stream.specs.FirstCopy.{first_copy}
-use Rattle.cf_stream.specs.Stream.{Extends, Stream}
+use Rattle.cf_stream.specs.Stream.{Extends}
 use Rattle.cf_watch.specs.Carried.{AreBorn, Carried, HasBytes, IsBornWith, copy_of, offer_of}
 use Rattle.cf_watch.specs.Flow.{AreFlowsOf}
 use Rattle.cf_watch.specs.FlowValue.{FlowValue}
-use Rattle.cf_watch.specs.Watched.{Watched, begins_anew, begun_by, goes, goes_at, goes_to, last_place, watched, with_packet, with_record}
+use Rattle.cf_watch.specs.Seen.{begins_amid, begun_with, frame_by, goes_from, goes_to_asset, opening_amid, seen_by, with_frame}
+use Rattle.cf_watch.specs.Watched.{Watched, begins_anew, begun_by, goes_at, goes_to, last_place, with_packet}
+use Rattle.cf_watch.specs.declared.Scope.{Scope}
+use Rattle.cf_policy.specs.declared.Protocol.{Protocol}
+use Rattle.std.proofs.lemmas.List.{length-drop}
+use Rattle.std.proofs.lemmas.List.Sorted.{IsNonDecreasingBy-drop}
 use Rattle.cf_review.specs.First.{BytesComeInOrder, IsRising}
+use Rattle.cf_review.specs.FirstUnit.{AreReadParts, IsReadPartAt, IsReadPartBy, from_place}
 
 -- ---- the records of what was carried fall, from this one on
 
@@ -70,20 +75,28 @@ module _ (n : ℕ) where
   fall_at asset packet None ws h = fall_if (is_opening packet) (ws ++ begun_by n asset packet ∷ []) ws (fall_append ws (begun_by n asset packet) h (omega arith, tt)) h
   fall_at asset packet (Some place) ws h = fall_to asset place packet (slice_get ws place) ws refl h
 
-  fall_goes : (packet : PacketValue) (o : Option ℕ) (ws : List Watched) → AllFall n ws → AllFall n (goes n packet o ws)
-  fall_goes packet None ws h = h
-  fall_goes packet (Some a) ws h = fall_at a packet (last_place packet.source a ws) ws h
+  fall_from : (scope : Scope) (asset : ℕ) (packet : PacketValue) (last : Option ℕ) (ws : List Watched) → AllFall n ws → AllFall n (goes_from scope n asset packet last ws)
+  fall_from scope asset packet None ws h =
+      fall_if (begins_amid scope packet) (ws ++ begun_with (opening_amid n packet) n asset packet ∷ []) (goes_at n asset packet None ws)
+      (fall_append ws (begun_with (opening_amid n packet) n asset packet) h (omega arith, tt)) (fall_at asset packet None ws h)
+  fall_from scope asset packet (Some place) ws h = fall_at asset packet (Some place) ws h
 
-  fall_record : (assets : List Asset) (r : Result PacketValue PacketRefusal) (ws : List Watched) → AllFall n ws → AllFall n (with_record assets n r ws)
-  fall_record assets (Err refusal) ws h = h
-  fall_record assets (Ok packet) ws h = fall_goes packet (asset_place assets packet.dest) ws h
+  fall_goes : (scope : Scope) (packet : PacketValue) (o : Option ℕ) (ws : List Watched) → AllFall n ws → AllFall n (goes_to_asset scope n packet o ws)
+  fall_goes scope packet None ws h = h
+  fall_goes scope packet (Some a) ws h = fall_from scope a packet (last_place packet.source a ws) ws h
 
-watched_fall : (assets : List Asset) (newest : List Record) → AllFall (length newest) (watched assets newest)
-watched_fall assets [] = tt
-watched_fall assets (r ∷ earlier) =
+  fall_record : (scope : Scope) (assets : List Asset) (r : Result PacketValue PacketRefusal) (ws : List Watched) → AllFall n ws → AllFall n (with_frame scope assets n r ws)
+  fall_record scope assets (Err refusal) ws h = h
+  fall_record scope assets (Ok packet) ws h = fall_goes scope packet (asset_place assets packet.dest) ws h
+
+seen_fall : (scope : Scope) (assets : List Asset) (newest : List Record) → AllFall (length newest) (seen_by scope assets newest)
+seen_fall scope assets [] = tt
+seen_fall scope assets (r ∷ earlier) =
     let more : length earlier + 1 ≡ length (r ∷ earlier) = omega arith in
-    subst (λ n. AllFall n (with_record assets (length earlier + 1) (read_record r.link r.body) (watched assets earlier))) more
-    (fall_record (length earlier + 1) assets (read_record r.link r.body) (watched assets earlier) (all_more (length earlier) (length earlier + 1) (watched assets earlier) (omega arith) (watched_fall assets earlier)))
+    let before = seen_by scope assets earlier in
+    subst (λ n. AllFall n (with_frame scope assets (length earlier + 1) (read_record r.link (frame_by scope r.link r.body)) before)) more
+    (fall_record (length earlier + 1) scope assets (read_record r.link (frame_by scope r.link r.body)) before
+    (all_more (length earlier) (length earlier + 1) before (omega arith) (seen_fall scope assets earlier)))
 
 -- ---- so the bytes come in their order
 
@@ -134,5 +147,28 @@ all_rise n [] flows h are = subst (AllByRecursion IsRising) (sym are) tt
 all_rise n (w ∷ ws) [] h are = absurd are
 all_rise n (w ∷ ws) (f ∷ flows) h are = (one_rises n w.carried f h.0 are.0.born, all_rise n ws flows h.1 are.1)
 
+-- ---- and those of the parts that are read
+
+rises_from : (place : ℕ) (f : FlowValue) → IsRising f → IsRising (from_place place f)
+rises_from place f h = record {
+  count = length-drop place f.born ∙ ap (λ n. n - place) h.count ∙ sym (length-drop place f.bytes);
+  rises = IsNonDecreasingBy-drop (λ n. n) place f.born h.rises;
+}
+
+part_rises : (protocol : Protocol) (midstream : Option ℕ) (f read : FlowValue) → IsReadPartBy protocol midstream f read → IsRising f → IsRising read
+part_rises protocol None f read is h = subst IsRising (sym is) h
+part_rises protocol (Some number) f read is h = subst IsRising (sym is.2) (rises_from is.0 f h)
+
+one_part : (o : Option Asset) (f read : FlowValue) → IsReadPartAt o f read → IsRising f → IsRising read
+one_part None f read is h = absurd is
+one_part (Some asset) f read is h = part_rises asset.protocol f.midstream f read is h
+
+parts_rise : (assets : List Asset) (flows read : List FlowValue) → AreReadParts assets flows read → AllByRecursion IsRising flows → AllByRecursion IsRising read
+parts_rise assets [] read are h = subst (AllByRecursion IsRising) (sym are) tt
+parts_rise assets (f ∷ flows) [] are h = absurd are
+parts_rise assets (f ∷ flows) (r ∷ read) are h = (one_part (slice_get assets f.asset) f r are.0 h.0, parts_rise assets flows read are.1 h.1)
+
 pub come_in_order : BytesComeInOrder
-come_in_order assets newest flows are = all_rise (length newest) (watched assets newest) flows (watched_fall assets newest) are
+come_in_order scope assets newest flows read are parts =
+    let rising = all_rise (length newest) (seen_by scope assets newest) flows (seen_fall scope assets newest) are in
+    (rising, parts_rise assets flows read parts rising)

@@ -2,7 +2,7 @@
 use Rattle.std.specs.Prelude.{◌==◌, ◌+◌, ◌-◌, ◌^◌, ℕ, Bool, List, count_by, map, min}
 use Rattle.cf_policy.specs.declared.Decider.{Decider}
 use Rattle.cf_policy.specs.declared.Decider.TheVariants as decider
-use Rattle.cf_review.specs.Remark.{Broken, Conflict, MatterValue, Refused, RemarkValue, Stray, remark_value}
+use Rattle.cf_review.specs.Remark.{Broken, Conflict, MatterValue, Midstream, Refused, RemarkValue, Stray, remark_value}
 use Rattle.cf_review.specs.declared.counting.Counts.{Counts}
 use Rattle.cf_review.specs.declared.counting.Kind.{Kind}
 use Rattle.cf_review.specs.declared.counting.Kind.TheVariants as kind
@@ -22,6 +22,7 @@ kind_of (Refused refusal octets) = kind_by refusal.decider
 kind_of (Stray because) = kind.Stray
 kind_of (Conflict position) = kind.Conflict
 kind_of (Broken reason) = kind.Broken
+kind_of Midstream = kind.Midstream
 
 -- the place of a kind among all
 abbrev pub kind_number : Kind → ℕ
@@ -32,6 +33,7 @@ kind_number kind.Form = 3
 kind_number kind.Stray = 4
 kind_number kind.Conflict = 5
 kind_number kind.Broken = 6
+kind_number kind.Midstream = 7
 
 -- the remark is of this kind
 abbrev pub is_kind : Kind → MatterValue → Bool

@@ -8,12 +8,14 @@ use Rattle.cf_review.specs.declared.remark.Matter.{Matter}
 use Rattle.cf_review.specs.declared.remark.Matter.TheVariants as matter
 use Rattle.cf_review.specs.declared.remark.Remark.{Remark}
 
--- a refused command with its first octets; what is stray; an octet that no unit has there; two letters at one position
+-- a refused command with its first octets; what is stray; an octet that no unit has there; two letters at one position; a flow that
+-- begins amid its stream
 pub data MatterValue : Type 0 where
   Refused : Refusal → (octets : List ℕ) → MatterValue
   Stray : Why → MatterValue
   Broken : Break → MatterValue
   Conflict : ℤ → MatterValue
+  Midstream : MatterValue
 
 -- the number of its record, its client, the place of its asset in the policy, and what is objected to
 pub record RemarkValue : Type 0 where
@@ -28,6 +30,7 @@ matter_value (matter.Refused refusal octets) = Refused refusal octets.items
 matter_value (matter.Stray because) = Stray because
 matter_value (matter.Broken reason) = Broken reason
 matter_value (matter.Conflict position) = Conflict position
+matter_value matter.Midstream = Midstream
 
 -- a remark, without where its octets lie in memory
 abbrev pub remark_value : Remark → RemarkValue

@@ -1,5 +1,5 @@
--- All that is objected to in flows, in the order of the records: IsReviewOf. In one record a conflict comes before the items of its
--- flow, these in the order of the bytes, and flows in their order.
+-- All that is objected to in flows, in the order of the records: IsReviewOf. In one record it comes first that a flow begins amid its
+-- stream, then a conflict, then the items of the flow, in the order of the bytes; and flows come in their order.
 use Rattle.std.specs.Prelude.{◌≡◌, ◌==◌, ℕ, Bool, List, [], ◌∷◌, ◌++◌, length, map, take, slice_get, Option, Some, None}
 use Rattle.std.specs.List.{filter, flat_map}
 use Rattle.std.specs.List.Sorted.{IsNonDecreasingBy}
@@ -13,7 +13,8 @@ use Rattle.cf_watch.specs.FlowValue.{FlowValue}
 use Rattle.cf_watch.specs.declared.flow.Conflict.{Conflict as ConflictOf}
 use Rattle.cf_judge.specs.Objections.{AreReadBy, Reading, admitted_in, commands_in}
 use Rattle.cf_judge.specs.Plain.{AreRead, Breaks, Ending, Whole}
-use Rattle.cf_review.specs.Remark.{Broken, Conflict, MatterValue, Refused, RemarkValue, Stray, remark_value}
+use Rattle.cf_review.specs.FirstUnit.{AreReadParts, IsReadPart}
+use Rattle.cf_review.specs.Remark.{Broken, Conflict, MatterValue, Midstream, Refused, RemarkValue, Stray, remark_value}
 use Rattle.cf_review.specs.declared.remark.TheConstants.{SHOWN}
 use Rattle.cf_review.specs.declared.reviewing.Reviewed.{Reviewed}
 
@@ -50,17 +51,33 @@ abbrev pub conflict_remarks : FlowValue → Option ConflictOf → List RemarkVal
 conflict_remarks f None = []
 conflict_remarks f (Some c) = remark_on f c.at_record (Conflict c.position) ∷ []
 
+-- that on a flow that begins amid its stream, if it does
+abbrev pub midstream_remarks : FlowValue → Option ℕ → List RemarkValue
+midstream_remarks f None = []
+midstream_remarks f (Some number) = remark_on f number Midstream ∷ []
+
 -- those on a flow whose bytes are these units and this ending
 abbrev pub flow_remarks : Asset → FlowValue → List Judged → Ending → List RemarkValue
-flow_remarks asset f js ending = conflict_remarks f f.conflict ++ (in_turn (unit_remarks asset f) [] js ++ end_remarks f ending)
+flow_remarks asset f js ending =
+    midstream_remarks f f.midstream ++ (conflict_remarks f f.conflict ++ (in_turn (unit_remarks asset f) [] js ++ end_remarks f ending))
 
--- the bytes of a flow are some units and an ending, and these are the remarks after others on it, with so many commands allowed
-pub record AddsReview (asset : Asset) (f : FlowValue) (old new : List RemarkValue) (admitted : ℕ) : Type 0 where
+-- the bytes of a flow are some units and an ending, and these are the remarks after others on these, with so many commands allowed
+pub record AddsUnits (asset : Asset) (f : FlowValue) (old new : List RemarkValue) (admitted : ℕ) : Type 0 where
   pub judged : List Judged
   pub ending : Ending
   pub are_read : AreRead asset f.client.address [] f.bytes f.born judged ending
   pub admitted_is : admitted ≡ admitted_in judged
-  pub remarks : new ≡ old ++ flow_remarks asset f judged ending
+  pub remarks : new ≡ old ++ (in_turn (unit_remarks asset f) [] judged ++ end_remarks f ending)
+
+-- the part of a flow that is read is some units and an ending, and these are the remarks after others on it, with so many commands allowed
+pub record AddsReview (asset : Asset) (f : FlowValue) (old new : List RemarkValue) (admitted : ℕ) : Type 0 where
+  pub read : FlowValue
+  pub is_part : IsReadPart asset.protocol f read
+  pub judged : List Judged
+  pub ending : Ending
+  pub are_read : AreRead asset read.client.address [] read.bytes read.born judged ending
+  pub admitted_is : admitted ≡ admitted_in judged
+  pub remarks : new ≡ old ++ flow_remarks asset read judged ending
 
 -- those on a flow to the asset at its place
 abbrev pub remarks_by : Option Asset → Reading → List RemarkValue
@@ -80,10 +97,10 @@ pub record AreInOrder (all told : List RemarkValue) : Type 0 where
   pub rising : IsNonDecreasingBy (λ r. r.at_record) told
   pub of_each : (number : ℕ) → filter (is_at number) told ≡ filter (is_at number) all
 
--- the flows can be read so, and this is all that is objected to in them
+-- the flows, each from where it is read on, can be read so, and this is all that is objected to in them
 pub record IsReviewOf (assets : List Asset) (flows : List FlowValue) (r : Reviewed) : Type 0 where
   pub readings : List Reading
-  pub of_flows : map (λ x. x.flow) readings ≡ flows
+  pub of_flows : AreReadParts assets flows (map (λ x. x.flow) readings)
   pub are_read : AreReadBy assets readings
   pub counts : r.flows ≡ length flows
   pub admitted : r.admitted ≡ commands_in 0 readings

@@ -18,6 +18,8 @@ pub(crate) enum Kind {
     Stray,
     Conflict,
     Broken,
+    /// A flow that begins amid its stream.
+    Midstream,
 }
 
 /// How much there is in a review.
@@ -103,6 +105,7 @@ fn kind_of(what: &Matter) -> Kind
         Matter::Stray(_) => Kind::Stray,
         Matter::Conflict(_) => Kind::Conflict,
         Matter::Broken(_) => Kind::Broken,
+        Matter::Midstream => Kind::Midstream,
     }
 }
 
@@ -130,5 +133,6 @@ fn number(kind: Kind) -> u8
         Kind::Stray => 4,
         Kind::Conflict => 5,
         Kind::Broken => 6,
+        Kind::Midstream => 7,
     }
 }

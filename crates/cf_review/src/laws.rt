@@ -1,13 +1,26 @@
 //! Laws of reviews: each is the contract of a function that does nothing.
 ghost use Rattle.cf_review.specs.First.{BytesComeInOrder, JudgeTellsTheFirst};
+ghost use Rattle.cf_review.specs.Fronts.{RecordsComeFirst};
+ghost use Rattle.cf_review.specs.SynFlows.{SynFlowsAreWatched};
 
-/// Of flows whose bytes came in the order of the records the judge's objection is the first remark of a review, and there is none
-/// where a review has none.
+/// Of flows that begin with a SYN, and whose bytes came in the order of the records, the judge's objection is the first remark of a
+/// review, and there is none where a review has none.
 pub fn judge_tells_the_first()
     ensures { JudgeTellsTheFirst }
 {}
 
-/// The bytes of each flow of a capture came in the order of the records.
+/// The record of each unit of a flow of a capture, and that of an octet that breaks, is the first with which the bytes of the flow reached
+/// its end.
+pub fn records_come_first()
+    ensures { RecordsComeFirst }
+{}
+
+/// The flows that a review reads of a capture without VLAN tags and that begin with a SYN are those that the judge reads of it.
+pub fn syn_flows_are_watched()
+    ensures { SynFlowsAreWatched }
+{}
+
+/// The bytes of each flow of a capture, and of the part of it that is read, came in the order of the records.
 pub fn bytes_come_in_order()
     ensures { BytesComeInOrder }
 {}

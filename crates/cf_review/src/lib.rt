@@ -2,6 +2,7 @@
 #![tactic(auto)]
 
 mod counting;
+mod first_unit;
 mod laws;
 mod lines;
 mod remark;
@@ -9,7 +10,9 @@ mod reviewing;
 mod spelling;
 
 pub use counting::{Counts, count};
-pub use laws::{bytes_come_in_order, judge_tells_the_first};
+pub use laws::{
+    bytes_come_in_order, judge_tells_the_first, records_come_first, syn_flows_are_watched,
+};
 pub use lines::write_lines;
 pub use remark::{Matter, Remark, SHOWN};
 pub use reviewing::{Reviewed, review};

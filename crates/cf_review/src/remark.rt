@@ -24,6 +24,8 @@ pub enum Matter {
     Broken(Break),
     /// Two packets carried different letters at this position.
     Conflict(i64),
+    /// The flow begins amid its stream: the capture has no SYN of it.
+    Midstream,
 }
 
 /// Something in a recording that a policy objects to.

@@ -1,5 +1,5 @@
 //! All that a policy objects to in watched flows.
-ghost use Rattle.std.specs.Prelude.{◌≡◌, ◌≤◌, ◌++◌, ◌∷◌, [], ℕ, List, IfOk, OnOk, All, length, map, slice_range, take};
+ghost use Rattle.std.specs.Prelude.{◌≡◌, ◌≤◌, ◌++◌, ◌∷◌, [], ℕ, List, IfOk, OnOk, All, drop, length, map, slice_range, take};
 ghost use Rattle.cf_lane.specs.Judged.{Judged as JudgedItem, is_admitted, one_if};
 ghost use Rattle.cf_lane.specs.Unit.{SpellsUnit, UnitValue};
 ghost use Rattle.cf_lane.specs.declared.fate.Fate.{Fate};
@@ -11,8 +11,10 @@ ghost use Rattle.cf_policy.specs.Within.{AreAssetsWithin, IsAssetWithin};
 ghost use Rattle.cf_watch.specs.FlowValue.{IsForAsset, flow_value};
 ghost use Rattle.cf_review.specs.Remark.{matter_value, remark_value};
 ghost use Rattle.cf_review.specs.declared.remark.TheConstants.{SHOWN};
-ghost use Rattle.cf_review.specs.Review.{AddsReview, IsReviewOf, conflict_remarks, remark_on, unit_remarks};
+ghost use Rattle.cf_review.specs.FirstUnit.{from_place};
+ghost use Rattle.cf_review.specs.Review.{AddsReview, AddsUnits, IsReviewOf, conflict_remarks, midstream_remarks, remark_on, unit_remarks};
 
+use crate::first_unit::first_place;
 use crate::remark::{Matter, Remark, SHOWN};
 use arrayvec::ArrayVec;
 use cf_judge::{Front, Reader, Ruling};
@@ -31,8 +33,8 @@ pub struct Reviewed {
     pub remarks: Vec<Remark>,
 }
 
-/// Judges flows, each of which is to an asset of the policy, and keeps all that the policy objects to. Rates and the numbers of
-/// IEC 60870-5-104 are not judged. The flows are those of a whole capture.
+/// Judges flows, each of which is to an asset of the policy, and keeps all that the policy objects to. A flow that begins amid its stream is
+/// told, and read from its first unit on. Rates and the numbers of IEC 60870-5-104 are not judged. The flows are those of a whole capture.
 pub fn review(alloc: Global, policy: &Policy, flows: &[Flow]) -> Result<Reviewed, NoMemory>
     requires within { AreAssetsWithin policy.now.assets }
     requires flows { All (IsForAsset policy.now.assets) (map flow_value flows.now) }
@@ -66,51 +68,67 @@ fn review_flow(
     requires born { length flow.now.born ≡ length flow.now.bytes.items }
     ensures { IfOk result (λ admitted. AddsReview asset.now (flow_value flow.now) (map remark_value remarks.old.items) (map remark_value remarks.new.items) admitted) }
 {
+    add_midstream(flow, remarks)?;
     add_conflict(flow, remarks)?;
+    let start = first_place(&asset.protocol, flow);
+    review_units(alloc, asset, flow, start, remarks)
+}
+
+/// Adds the remarks on the bytes of a flow from a place on, and answers how many of its commands are allowed.
+fn review_units(
+    alloc: Global,
+    asset: &Asset,
+    flow: &Flow,
+    start: usize,
+    remarks: &mut Vec<Remark>,
+) -> Result<u64, NoMemory>
+    requires within { IsAssetWithin asset.now }
+    requires born { length flow.now.born ≡ length flow.now.bytes.items }
+    requires inside { start ≤ length flow.now.bytes.items }
+    ensures { IfOk result (λ admitted. AddsUnits asset.now (from_place start (flow_value flow.now)) (map remark_value remarks.old.items) (map remark_value remarks.new.items) admitted) }
+{
+    let bytes = bytes_from(flow, start);
     let mut admitted: u64 = 0;
-    if flow.bytes.is_empty() {
+    if bytes.is_empty() {
         return Ok(admitted);
     }
     let mut reader = Reader::new(alloc, asset, flow.client.address)?;
     let mut at = 0;
-    'units: while at < flow.bytes.len() {
-        match reader.next(asset, &octets_of(flow, at, flow.bytes.len())) {
+    'units: while at < bytes.len() {
+        match reader.next(asset, &octets_of(bytes, at, bytes.len())) {
             Front::Rest => return Ok(admitted),
             Front::Broken { reason, place } => {
-                add(
-                    flow,
-                    flow.record_at(at + place),
-                    Matter::Broken(reason),
-                    remarks,
-                )?;
+                let number = flow.record_at(start + at + place);
+                add(flow, number, Matter::Broken(reason), remarks)?;
                 return Ok(admitted);
             }
             Front::Took { ruling, used } => {
-                let unit = octets_of(flow, at, at + used);
+                let unit = octets_of(bytes, at, at + used);
                 at += used;
                 admitted += allowed_by(&ruling);
-                add_unit(
-                    &reader,
-                    asset,
-                    flow,
-                    unit,
-                    flow.record_at(at - 1),
-                    ruling,
-                    remarks,
-                )?;
+                let number = flow.record_at(start + at - 1);
+                add_unit(&reader, asset, flow, unit, number, ruling, remarks)?;
             }
         }
     }
     Ok(admitted)
 }
 
-/// Octets of a flow.
-fn octets_of(flow: &Flow, from: usize, to: usize) -> View<'_>
-    requires ordered { from ≤ to }
-    requires inside { to ≤ length flow.now.bytes.items }
-    ensures { result.bytes ≡ slice_range flow.now.bytes.items from to }
+/// The bytes of a flow from a place on.
+fn bytes_from(flow: &Flow, start: usize) -> &[u8]
+    requires { start ≤ length flow.now.bytes.items }
+    ensures { result.now ≡ drop start flow.now.bytes.items }
 {
-    View::one(&flow.bytes.as_slice()[from..to])
+    &flow.bytes.as_slice()[start..]
+}
+
+/// Some octets of others.
+fn octets_of(octets: &[u8], from: usize, to: usize) -> View<'_>
+    requires ordered { from ≤ to }
+    requires inside { to ≤ length octets.now }
+    ensures { result.bytes ≡ slice_range octets.now from to }
+{
+    View::one(&octets[from..to])
 }
 
 /// How many commands a ruling allows.
@@ -137,6 +155,19 @@ fn add(flow: &Flow, number: u64, what: Matter, remarks: &mut Vec<Remark>) -> Res
     match remarks.push(remark) {
         Ok(()) => Ok(()),
         Err(_) => Err(NoMemory),
+    }
+}
+
+/// Adds that a flow begins amid its stream, if it does.
+fn add_midstream(flow: &Flow, remarks: &mut Vec<Remark>) -> Result<(), NoMemory>
+    ensures { OnOk result (map remark_value remarks.new.items ≡ map remark_value remarks.old.items ++ midstream_remarks (flow_value flow.now) flow.now.midstream) }
+{
+    match flow.midstream {
+        None => Ok(()),
+        Some(number) => {
+            add(flow, number, Matter::Midstream, remarks)?;
+            Ok(())
+        }
     }
 }
 

@@ -60,6 +60,7 @@ fn spell_matter(
         Matter::Stray(why) => spell_stray(asset, client, moment, *why, line),
         Matter::Broken(reason) => spell_broken(asset, client, moment, *reason, line),
         Matter::Conflict(position) => spell_conflict(asset, client, moment, *position, line),
+        Matter::Midstream => spell_midstream(asset, client, moment, line),
     }
 }
 
@@ -139,6 +140,15 @@ fn spell_conflict(
     line.push_str("conflict ");
     push_signed(line, position);
     line.push_str("\n");
+}
+
+/// Writes that a flow begins amid its stream.
+fn spell_midstream(asset: &Asset, client: Endpoint, moment: u64, line: &mut ArrayString<256>)
+    ensures bytes { line.new.bytes ≡ other_line asset.now client moment (codes "begins midstream") }
+    ensures short { array_string_len line.new ≤ 256 }
+{
+    begin_line(asset, client, moment, line);
+    line.push_str("begins midstream\n");
 }
 
 /// Writes a moment, a client and an asset.

@@ -12,8 +12,11 @@ use cf_view::{Endpoint, LinkKind};
 /// A frame of no IPv4 packet.
 const ARP: &str = "ffffffffffff 020000000005 0806 00*46";
 
-/// The addresses and the type of a frame that holds an IPv4 packet.
-const FRAME: &str = "020000000009 020000000005 0800";
+/// The addresses of a frame.
+const ADDRESSES: &str = "020000000009 020000000005";
+
+/// The type of a frame that holds an IPv4 packet.
+const IPV4: &str = "0800";
 
 /// The address of the clients `c`.
 const CLIENTS: u32 = 0x0A00_0005;
@@ -134,11 +137,15 @@ fn segment(book: &Book, row: &Row, spelled: &str) -> Result<Vec<u8>, Fault> {
     )
 }
 
-/// What a record holds: the packet alone, or a frame that is filled up to 60 octets.
+/// What a record holds: the packet alone, or a frame that is filled up to 60 octets. The frame of `tag HEX ..` has these tags.
 fn body(book: &Book, row: &Row, spelled: &str, link: LinkKind) -> Result<Vec<u8>, Fault> {
     if spelled == "arp" {
         return octets(book, ARP);
     }
+    let (tags, spelled) = match spelled.strip_prefix("tag ") {
+        Some(tagged) => tagged.split_once(' ').ok_or(Fault::Wanted(Wanted::Field))?,
+        None => ("", spelled),
+    };
     let packet = match spelled.strip_prefix("ip ") {
         Some(spelled) => octets(book, spelled)?,
         None => segment(book, row, spelled)?,
@@ -146,7 +153,9 @@ fn body(book: &Book, row: &Row, spelled: &str, link: LinkKind) -> Result<Vec<u8>
     if link == LinkKind::RawIp {
         return Ok(packet);
     }
-    let mut frame = octets(book, FRAME)?;
+    let mut frame = octets(book, ADDRESSES)?;
+    frame.extend_from_slice(&octets(book, tags)?)?;
+    frame.extend_from_slice(&octets(book, IPV4)?)?;
     frame.extend_from_slice(&packet)?;
     if frame.len() < 60 {
         frame.resize(60, 0)?;

@@ -1,5 +1,5 @@
 -- The flows of a client and an asset, session by session.
-use Rattle.std.proofs.Common.{◌≡◌, ◌&&◌, ◌||◌, ◌==◌, ℕ, Bool, true, false, not, inl, inr, List, [], ◌∷◌, map, refl, sym, ap, ◌∙◌, subst, arith}
+use Rattle.std.proofs.Common.{None, ◌≡◌, ◌&&◌, ◌||◌, ◌==◌, ℕ, Bool, true, false, not, inl, inr, List, [], ◌∷◌, map, refl, sym, ap, ◌∙◌, subst, arith}
 use Rattle.std.specs.List.{AllByRecursion}
 use Rattle.std.proofs.lemmas.Bool.{cases_Bool, false≢true, true≢false}
 use Rattle.std.proofs.lemmas.Bool.Decides.{nat_tests}
@@ -79,7 +79,7 @@ went_on asset flow (n ∷ ns) f fs g o origin q =
 -- ---- a SYN begins a flow, or goes on with one that has carried nothing
 
 abbrev fresh : (asset : ℕ) (p : PacketValue) → Watched
-fresh asset p = record { client = p.source; asset = asset; origin = p.seq; answered = false; carried = [] }
+fresh asset p = record { client = p.source; asset = asset; origin = p.seq; answered = false; midstream = None; carried = [] }
 
 -- what a SYN goes on with
 record Begins (asset : ℕ) (flow : Flow) (n : Numbered) (fs : List Watched) (P : Watched → Type 0) : Type 0 where

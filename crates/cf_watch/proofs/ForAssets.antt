@@ -11,7 +11,11 @@ use Rattle.cf_run.specs.Table.{is_opening, same_endpoint}
 use Rattle.cf_policy.specs.declared.Asset.{Asset}
 use Rattle.cf_watch.specs.Flow.{AreFlowsOf}
 use Rattle.cf_watch.specs.FlowValue.{FlowValue, IsForAsset}
-use Rattle.cf_watch.specs.Watched.{Watched, begins_anew, begun_by, goes, goes_at, goes_to, last_place, watched, with_packet, with_record}
+use Rattle.cf_watch.specs.Seen.{begins_amid, begun_with, goes_from, goes_to_asset, opening_amid, frame_by, seen_by, with_frame}
+use Rattle.cf_watch.specs.Watched.{Watched, begins_anew, begun_by, goes_at, goes_to, last_place, watched, with_packet}
+use Rattle.cf_watch.specs.declared.scope.Scope.{Scope}
+use Rattle.cf_watch.specs.declared.scope.Scope.TheVariants as scope
+use Rattle.cf_watch.proofs.Seen.{watched_is_seen}
 
 module _ (n : ℕ) where
   abbrev Small : List Watched → Type 0
@@ -45,26 +49,36 @@ module _ (n : ℕ) where
   small_at number asset packet None ws s h = small_if (is_opening packet) (ws ++ begun_by number asset packet ∷ []) ws (small_append ws (begun_by number asset packet) h s) h
   small_at number asset packet (Some place) ws s h = small_to number asset place packet (slice_get ws place) ws refl s h
 
-  small_goes : (number : ℕ) (packet : PacketValue) (o : Option ℕ) (ws : List Watched) → ((a : ℕ) → o ≡ Some a → a < n) → Small ws → Small (goes number packet o ws)
-  small_goes number packet None ws f h = h
-  small_goes number packet (Some a) ws f h = small_at number a packet (last_place packet.source a ws) ws (f a refl) h
+  small_from : (scope : Scope) (number asset : ℕ) (packet : PacketValue) (last : Option ℕ) (ws : List Watched) → asset < n → Small ws → Small (goes_from scope number asset packet last ws)
+  small_from scope number asset packet None ws s h =
+      small_if (begins_amid scope packet) (ws ++ begun_with (opening_amid number packet) number asset packet ∷ []) (goes_at number asset packet None ws)
+      (small_append ws (begun_with (opening_amid number packet) number asset packet) h s) (small_at number asset packet None ws s h)
+  small_from scope number asset packet (Some place) ws s h = small_at number asset packet (Some place) ws s h
+
+  small_goes : (scope : Scope) (number : ℕ) (packet : PacketValue) (o : Option ℕ) (ws : List Watched) → ((a : ℕ) → o ≡ Some a → a < n) → Small ws → Small (goes_to_asset scope number packet o ws)
+  small_goes scope number packet None ws f h = h
+  small_goes scope number packet (Some a) ws f h = small_from scope number a packet (last_place packet.source a ws) ws (f a refl) h
 
 place_inside : (p : Asset → Bool) (assets : List Asset) (i : ℕ) → position p assets ≡ Some i → i < length assets
 place_inside p [] i e = absurd (none-some i e)
 place_inside p (a ∷ assets) i e = (position-Some p (a ∷ assets) i a e).0
 
-small_record : (assets : List Asset) (number : ℕ) (r : Result PacketValue PacketRefusal) (ws : List Watched) → Small (length assets) ws → Small (length assets) (with_record assets number r ws)
-small_record assets number (Err refusal) ws h = h
-small_record assets number (Ok packet) ws h = small_goes (length assets) number packet (asset_place assets packet.dest) ws (λ a e. place_inside (λ x. same_endpoint x.endpoint packet.dest) assets a e) h
+small_record : (scope : Scope) (assets : List Asset) (number : ℕ) (r : Result PacketValue PacketRefusal) (ws : List Watched) → Small (length assets) ws → Small (length assets) (with_frame scope assets number r ws)
+small_record scope assets number (Err refusal) ws h = h
+small_record scope assets number (Ok packet) ws h = small_goes (length assets) scope number packet (asset_place assets packet.dest) ws (λ a e. place_inside (λ x. same_endpoint x.endpoint packet.dest) assets a e) h
 
-small_watched : (assets : List Asset) (newest : List Record) → Small (length assets) (watched assets newest)
-small_watched assets [] = tt
-small_watched assets (r ∷ earlier) = small_record assets (length earlier + 1) (read_record r.link r.body) (watched assets earlier) (small_watched assets earlier)
+small_seen : (scope : Scope) (assets : List Asset) (newest : List Record) → Small (length assets) (seen_by scope assets newest)
+small_seen scope assets [] = tt
+small_seen scope assets (r ∷ earlier) =
+    small_record scope assets (length earlier + 1) (read_record r.link (frame_by scope r.link r.body)) (seen_by scope assets earlier) (small_seen scope assets earlier)
 
 for_each : (assets : List Asset) (ws : List Watched) (flows : List FlowValue) → Small (length assets) ws → AreFlowsOf ws flows → AllByRecursion (IsForAsset assets) flows
 for_each assets [] flows h are = subst (AllByRecursion (IsForAsset assets)) (sym are) tt
 for_each assets (w ∷ ws) [] h are = absurd are
 for_each assets (w ∷ ws) (f ∷ flows) h are = (record { asset = subst (λ a. a < length assets) (sym are.0.asset) h.0; born = are.0.born.count }, for_each assets ws flows h.1 are.1)
 
+pub are_for_seen : (scope : Scope) (assets : List Asset) (newest : List Record) (flows : List FlowValue) → AreFlowsOf (seen_by scope assets newest) flows → AllByRecursion (IsForAsset assets) flows
+are_for_seen scope assets newest flows are = for_each assets (seen_by scope assets newest) flows (small_seen scope assets newest) are
+
 pub are_for : (assets : List Asset) (newest : List Record) (flows : List FlowValue) → AreFlowsOf (watched assets newest) flows → AllByRecursion (IsForAsset assets) flows
-are_for assets newest flows are = for_each assets (watched assets newest) flows (small_watched assets newest) are
+are_for assets newest flows are = are_for_seen scope.Connections assets newest flows (subst (λ ws. AreFlowsOf ws flows) (watched_is_seen assets newest) are)

@@ -4,7 +4,9 @@ mod Lengths
 mod Letters
 mod OneStream
 mod Pieces
+mod Seen
 mod SoFar
 mod Standing
 mod Tables
+mod Tags
 mod Taking

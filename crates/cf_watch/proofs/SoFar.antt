@@ -14,27 +14,29 @@ use Rattle.cf_run.specs.declared.NextRecord.TheVariants as next
 use Rattle.cf_watch.specs.Flow.{AreFlowsOf}
 use Rattle.cf_watch.specs.FlowValue.{IsForAsset, flow_value}
 use Rattle.cf_watch.specs.Trail.{IsHeard, IsWatchOf}
-use Rattle.cf_watch.specs.Watch.{EndsAt, IsRecordingOf}
-use Rattle.cf_watch.specs.Watched.{Watched, watched}
+use Rattle.cf_watch.specs.Seen.{seen_by}
+use Rattle.cf_watch.specs.Watch.{EndsAt, IsRecordingFor}
+use Rattle.cf_watch.specs.Watched.{Watched}
+use Rattle.cf_watch.specs.declared.scope.Scope.{Scope}
 use Rattle.cf_watch.specs.declared.fault.TheConstants.{CAPTURE_LIMIT}
 use Rattle.cf_watch.specs.declared.flow.Flow.{Flow}
 use Rattle.cf_watch.specs.declared.watching.Trail.{Trail}
 use Rattle.cf_watch.specs.declared.watching.Watch.{Watch}
-use Rattle.cf_watch.proofs.ForAssets.{are_for}
+use Rattle.cf_watch.proofs.ForAssets.{are_for_seen}
 use Rattle.cf_watch.proofs.Leading.{Leads, leads_first, leads_on, leads_to}
 
 -- these records stand in front of a reader's place, the newest first, and their flows and stamps are kept
-pub record SoFar (assets : List Asset) (file : Content) (start : Form) (reader : ReaderValue) (number : ℕ) (watch : Watch) (stamps : List ℕ) : Type 0 where
+pub record SoFar (scope : Scope) (assets : List Asset) (file : Content) (start : Form) (reader : ReaderValue) (number : ℕ) (watch : Watch) (stamps : List ℕ) : Type 0 where
   pub has_form : HasForm file (Ok start)
   pub newest : List Record
   pub leads : Leads file start reader.form reader.place (reverse newest)
-  pub heard : IsWatchOf number watch (watched assets newest)
+  pub heard : IsWatchOf number watch (seen_by scope assets newest)
   pub count : length newest ≡ number
   pub stamped : stamps ≡ map (λ r. r.stamp) (reverse newest)
 
-pub so_far_first : (assets : List Asset) (file : Content) (reader : ReaderValue) (watch : Watch) (stamps : List ℕ) → HasForm file (Ok reader.form) → reader.place ≡ first_place reader.form → IsWatchOf 0 watch [] →
-    stamps ≡ [] → SoFar assets file reader.form reader 0 watch stamps
-so_far_first assets file reader watch stamps h first heard none = record {
+pub so_far_first : (scope : Scope) (assets : List Asset) (file : Content) (reader : ReaderValue) (watch : Watch) (stamps : List ℕ) → HasForm file (Ok reader.form) → reader.place ≡ first_place reader.form → IsWatchOf 0 watch [] →
+    stamps ≡ [] → SoFar scope assets file reader.form reader 0 watch stamps
+so_far_first scope assets file reader watch stamps h first heard none = record {
   has_form = h;
   newest = [];
   leads = subst (λ n. Leads file reader.form reader.form n []) (sym first) (leads_first file reader.form h);
@@ -57,10 +59,10 @@ are_flows (w ∷ ws) [] ts a b each = absurd (omega (arith, a))
 are_flows (w ∷ ws) (f ∷ fs) [] a b each = absurd (omega (arith, b))
 are_flows (w ∷ ws) (f ∷ fs) (t ∷ ts) a b each = ((each 0 f t w refl refl refl).flow, are_flows ws fs ts (omega (arith, a)) (omega (arith, b)) (λ i g u v x y z. each (suc i) g u v x y z))
 
-module _ {assets : List Asset} {file : Content} {start : Form} {reader : ReaderValue} {number : ℕ} {watch : Watch} {stamps : List ℕ} (so : SoFar assets file start reader number watch stamps) where
+module _ {scope : Scope} {assets : List Asset} {file : Content} {start : Form} {reader : ReaderValue} {number : ℕ} {watch : Watch} {stamps : List ℕ} (so : SoFar scope assets file start reader number watch stamps) where
   pub so_far_on : (new_reader : ReaderValue) (stamp : ℕ) (new : Watch) (new_stamps : List ℕ) → FindsRecord file reader new_reader (next.Whole stamp) →
-      IsWatchOf (number + 1) new (watched assets (record { stamp = stamp; link = new_reader.link; body = new_reader.body } ∷ so.newest)) → new_stamps ≡ stamps ++ stamp ∷ [] →
-      SoFar assets file start new_reader (number + 1) new new_stamps
+      IsWatchOf (number + 1) new (seen_by scope assets (record { stamp = stamp; link = new_reader.link; body = new_reader.body } ∷ so.newest)) → new_stamps ≡ stamps ++ stamp ∷ [] →
+      SoFar scope assets file start new_reader (number + 1) new new_stamps
   so_far_on new_reader stamp new new_stamps found heard more =
       let r : Record = record { stamp = stamp; link = new_reader.link; body = new_reader.body } in
       record {
@@ -83,20 +85,18 @@ module _ {assets : List Asset} {file : Content} {start : Form} {reader : ReaderV
     are_records = leads_to file start reader place (reverse so.newest) found so.leads stands is;
   }
 
-  flows_now : AreFlowsOf (watched assets so.newest) (map flow_value watch.flows.items)
-  flows_now = are_flows (watched assets so.newest) watch.flows.items watch.trails.items so.heard.flow_count so.heard.trail_count so.heard.each
+  flows_now : AreFlowsOf (seen_by scope assets so.newest) (map flow_value watch.flows.items)
+  flows_now = are_flows (seen_by scope assets so.newest) watch.flows.items watch.trails.items so.heard.flow_count so.heard.trail_count so.heard.each
 
-  pub is_recording : (place : ℕ) → IsAtEnd file CAPTURE_LIMIT → StandsBehind file reader place FileEnd → IsRecordingOf assets file (map flow_value watch.flows.items) stamps
+  pub is_recording : (place : ℕ) → IsAtEnd file CAPTURE_LIMIT → StandsBehind file reader place FileEnd → IsRecordingFor scope assets file (map flow_value watch.flows.items) stamps
   is_recording place short stands = record {
-    has_flows = record {
-      newest = so.newest;
-      place = place;
-      ends = ends_at place FileEnd short stands tt;
-      are_newest = refl;
-      are_flows = flows_now;
-    };
+    newest = so.newest;
+    place = place;
+    ends = ends_at place FileEnd short stands tt;
+    are_newest = refl;
+    are_flows = flows_now;
     are_stamps = so.stamped;
   }
 
   pub for_assets : All (IsForAsset assets) (map flow_value watch.flows.items)
-  for_assets = All-from_recursion (IsForAsset assets) (map flow_value watch.flows.items) (are_for assets so.newest (map flow_value watch.flows.items) flows_now)
+  for_assets = All-from_recursion (IsForAsset assets) (map flow_value watch.flows.items) (are_for_seen scope assets so.newest (map flow_value watch.flows.items) flows_now)

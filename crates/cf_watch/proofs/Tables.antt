@@ -16,6 +16,8 @@ use Rattle.cf_packet.specs.Packet.{PacketValue}
 use Rattle.cf_watch.specs.Carried.{AreBorn, HasBytes}
 use Rattle.cf_watch.specs.Kept.{known}
 use Rattle.cf_run.specs.Table.{same_endpoint}
+use Rattle.cf_watch.specs.Seen.{begins_amid, begun_with, goes_from, opening_amid}
+use Rattle.cf_watch.specs.declared.scope.Scope.{Scope}
 use Rattle.cf_watch.specs.Watched.{Watched, begins_anew, begun_by, goes_at, is_between, last_place, later_place, with_packet}
 use Rattle.cf_watch.specs.declared.letter.Letter.{Letter as Heard}
 use Rattle.cf_watch.specs.declared.watching.FlowKey.{FlowKey}
@@ -190,12 +192,13 @@ nothing_known a p e =
     rw (l, g) refl
 
 -- a flow with nothing carried
-pub heard_first : (f : Flow) (t : Trail) (client : Endpoint) (asset origin : ℕ) → f.client ≡ client → f.asset ≡ asset → f.bytes.items ≡ [] → f.born ≡ [] → f.conflict ≡ None →
-    t.origin ≡ origin → t.answered ≡ false → t.top ≡ 0 → t.ahead.entries ≡ [] → IsHeard f t (record { client = client; asset = asset; origin = origin; answered = false; carried = [] })
-heard_first f t client asset origin c a bs ns k o r z e = record {
+pub heard_first : (f : Flow) (t : Trail) (client : Endpoint) (asset origin : ℕ) (answered : Bool) (midstream : Option ℕ) → f.client ≡ client → f.asset ≡ asset → f.midstream ≡ midstream → f.bytes.items ≡ [] → f.born ≡ [] → f.conflict ≡ None →
+    t.origin ≡ origin → t.answered ≡ answered → t.top ≡ 0 → t.ahead.entries ≡ [] → IsHeard f t (record { client = client; asset = asset; origin = origin; answered = answered; midstream = midstream; carried = [] })
+heard_first f t client asset origin answered midstream c a m bs ns k o r z e = record {
   flow = record {
     client = c;
     asset = a;
+    midstream = m;
     bytes = subst (λ xs. HasBytes [] xs) (sym bs) (false, record { bytes = λ p l. absurd (omega (arith, l)); ended = λ d. absurd (false≢true d); unfinished = λ _. refl });
     born = subst (λ xs. AreBorn [] xs f.born) (sym bs) (subst (λ ys. AreBorn [] [] ys) (sym ns) (record { count = refl; each = λ place number h. absurd (none-some number h) }));
     conflict = k;
@@ -217,6 +220,15 @@ goes_begins number asset place packet ws w at b = rw (at, b) refl
 pub goes_further : (number asset place : ℕ) (packet : PacketValue) (ws : List Watched) (w : Watched) → slice_get ws place ≡ Some w → begins_anew packet w ≡ false →
     goes_at number asset packet (Some place) ws ≡ set ws place (with_packet number packet w)
 goes_further number asset place packet ws w at b = rw (at, b) refl
+
+-- a packet of no flow begins one amid its stream, or is taken as in a watch of connections
+pub begins_here : (scope : Scope) (number asset : ℕ) (packet : PacketValue) (ws : List Watched) → begins_amid scope packet ≡ true →
+    goes_from scope number asset packet None ws ≡ ws ++ begun_with (opening_amid number packet) number asset packet ∷ []
+begins_here scope number asset packet ws e = rw e refl
+
+pub passes_here : (scope : Scope) (number asset : ℕ) (packet : PacketValue) (ws : List Watched) → begins_amid scope packet ≡ false →
+    goes_from scope number asset packet None ws ≡ goes_at number asset packet None ws
+passes_here scope number asset packet ws e = rw e refl
 
 pub flow_at : {X : Type 0} (ws : List X) (place : ℕ) → place < length ws → (w : X) × (slice_get ws place ≡ Some w)
 flow_at [] place h = absurd (omega (arith, h))

@@ -26,7 +26,7 @@ or_assoc None y z = refl
 or_assoc (Some l) y z = refl
 
 pub grows_nothing : (number : ℕ) (flow : Flow) → Grows number flow flow
-grows_nothing number flow = record { more = []; bytes = sym (append-nil flow.bytes.items); born = sym (append-nil flow.born); client = refl; asset = refl }
+grows_nothing number flow = record { more = []; bytes = sym (append-nil flow.bytes.items); born = sym (append-nil flow.born); client = refl; asset = refl; midstream = refl }
 
 pub grows_both : (number : ℕ) (old mid new : Flow) → Grows number old mid → Grows number mid new → Grows number old new
 grows_both number old mid new g h =
@@ -41,6 +41,7 @@ grows_both number old mid new g h =
       born = h.born ∙ ap (λ (xs : List ℕ). xs ++ replicate (length h.more) number) g.born ∙ c;
       client = h.client ∙ g.client;
       asset = h.asset ∙ g.asset;
+      midstream = h.midstream ∙ g.midstream;
     }
 
 -- ---- conflicts

@@ -8,6 +8,7 @@ use Rattle.cf_watch.specs.FlowValue.{FlowValue}
 pub record IsFlowOf (w : Watched) (f : FlowValue) : Type 0 where
   pub client : f.client ≡ w.client
   pub asset : f.asset ≡ w.asset
+  pub midstream : f.midstream ≡ w.midstream
   pub bytes : HasBytes w.carried f.bytes
   pub born : AreBorn w.carried f.bytes f.born
   pub conflict : HasConflict w.carried f.conflict

@@ -5,17 +5,18 @@ use Rattle.cf_view.specs.declared.Endpoint.{Endpoint}
 use Rattle.cf_watch.specs.declared.flow.Conflict.{Conflict}
 use Rattle.cf_watch.specs.declared.flow.Flow.{Flow}
 
--- its client, the place of its asset in the policy, its bytes, for each of them the number of the record with which they reached it, and
--- its first conflict
+-- its client, the place of its asset in the policy, the record with which it begins where that is amid its stream, its bytes, for each of
+-- them the number of the record with which they reached it, and its first conflict
 pub record FlowValue : Type 0 where
   pub client : Endpoint
   pub asset : ℕ
+  pub midstream : Option ℕ
   pub bytes : List ℕ
   pub born : List ℕ
   pub conflict : Option Conflict
 
 abbrev pub flow_value : Flow → FlowValue
-flow_value f = record { client = f.client; asset = f.asset; bytes = f.bytes.items; born = f.born; conflict = f.conflict }
+flow_value f = record { client = f.client; asset = f.asset; midstream = f.midstream; bytes = f.bytes.items; born = f.born; conflict = f.conflict }
 
 -- its asset is a place of the policy, and each byte came with a record
 pub record IsForAsset (assets : List Asset) (f : FlowValue) : Type 0 where

@@ -29,6 +29,7 @@ pub record Grows (number : ℕ) (old new : Flow) : Type 0 where
   pub born : new.born ≡ old.born ++ replicate (length more) number
   pub client : new.client ≡ old.client
   pub asset : new.asset ≡ old.asset
+  pub midstream : new.midstream ≡ old.midstream
 
 -- the letters of a packet were taken: each is known where none was, and the first that differs is a conflict
 pub record Takes (c : Carried) (old : Flow) (old_ahead : BTreeMap ℕ Heard) (new : Flow) (new_ahead : BTreeMap ℕ Heard) : Type 0 where

@@ -8,11 +8,14 @@ use Rattle.cf_run.specs.Reader.{HasForm}
 use Rattle.cf_run.specs.declared.Form.{Form}
 use Rattle.cf_watch.specs.Flow.{AreFlowsOf}
 use Rattle.cf_watch.specs.FlowValue.{FlowValue}
+use Rattle.cf_watch.specs.Seen.{seen_by}
 use Rattle.cf_watch.specs.Watched.{watched}
 use Rattle.cf_watch.specs.declared.fault.TheConstants.{CAPTURE_LIMIT}
 use Rattle.cf_watch.specs.declared.fault.WatchFault.{WatchFault}
 use Rattle.cf_watch.specs.declared.fault.WatchFault.TheVariants as fault
 use Rattle.cf_watch.specs.declared.fault.WatchRefusal.TheVariants as refusal
+use Rattle.cf_watch.specs.declared.scope.Scope.{Scope}
+use Rattle.cf_watch.specs.declared.scope.Scope.TheVariants as scope
 
 -- a file of this form has these records, the oldest first, up to its last place, as far as it is told; no moment is tested
 abbrev pub HasRecords : Content → Form → List Record → LastPlace → Type 0
@@ -36,10 +39,18 @@ pub record HasFlows (assets : List Asset) (file : Content) (flows : List FlowVal
   pub are_newest : ends.records ≡ reverse newest
   pub are_flows : AreFlowsOf (watched assets newest) flows
 
--- these flows, and of the same records the stamps in microseconds, in the order of the file
-pub record IsRecordingOf (assets : List Asset) (file : Content) (flows : List FlowValue) (stamps : List ℕ) : Type 0 where
-  pub has_flows : HasFlows assets file flows
-  pub are_stamps : stamps ≡ map (λ r. r.stamp) has_flows.ends.records
+-- the flows of all records of a file, as a scope says, and of the same records the stamps in microseconds, in the order of the file
+pub record IsRecordingFor (scope : Scope) (assets : List Asset) (file : Content) (flows : List FlowValue) (stamps : List ℕ) : Type 0 where
+  pub newest : List Record
+  pub place : ℕ
+  pub ends : EndsAt file FileEnd place
+  pub are_newest : ends.records ≡ reverse newest
+  pub are_flows : AreFlowsOf (seen_by scope assets newest) flows
+  pub are_stamps : stamps ≡ map (λ r. r.stamp) ends.records
+
+-- those of a recording
+abbrev pub IsRecordingOf : List Asset → Content → List FlowValue → (stamps : List ℕ) → Type 0
+IsRecordingOf assets file flows stamps = IsRecordingFor scope.Recording assets file flows stamps
 
 -- an answer about a file, as far as it is told
 abbrev pub WatchesAs : List Asset → Content → Result (List FlowValue) WatchFault → Type 0

@@ -13,12 +13,13 @@ use Rattle.cf_run.specs.Table.{is_opening, same_endpoint}
 use Rattle.cf_watch.specs.Carried.{Carried, top_of}
 
 -- a flow as it was watched: its client, the place of its asset in the policy, the number of its SYN, whether a packet with ACK has
--- followed, and what its packets carried, the newest first
+-- followed, the record with which it begins where that is amid its stream, and what its packets carried, the newest first
 pub record Watched : Type 0 where
   pub client : Endpoint
   pub asset : ℕ
   pub origin : ℕ
   pub answered : Bool
+  pub midstream : Option ℕ
   pub carried : List Carried
 
 -- ---- one packet
@@ -40,7 +41,7 @@ with_packet number packet f =
 -- a flow that a SYN begins
 abbrev pub begun_by : (number asset : ℕ) → PacketValue → Watched
 begun_by number asset packet =
-    with_packet number packet (record { client = packet.source; asset = asset; origin = packet.seq; answered = false; carried = [] })
+    with_packet number packet (record { client = packet.source; asset = asset; origin = packet.seq; answered = false; midstream = None; carried = [] })
 
 -- ---- which flow a packet is of
 

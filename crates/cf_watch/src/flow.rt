@@ -10,17 +10,19 @@ use cf_view::Endpoint;
 pub struct Conflict {
     /// The number, counted from 1, of the record that has the later packet.
     pub at_record: u64,
-    /// The position, counted from 0 for the letter after the SYN, and at least 0.
+    /// The position, counted from 0 for the letter after the SYN or the first one that was seen, and at least 0.
     pub position: i64,
 }
 
-/// What a client sent to an asset, from a SYN on, as the packets of a capture carry it. This project's own.
+/// What a client sent to an asset, from a SYN on or from amid its stream, as the packets of a capture carry it. This project's own.
 #[derive(Drop)]
 pub struct Flow {
     /// The address and the port that the packets come from.
     pub client: Endpoint,
     /// The place of the asset in the policy, counted from 0.
     pub asset: u32,
+    /// The number, counted from 1, of the record with which it begins, where that is amid its stream: no SYN of it was seen.
+    pub midstream: Option<u64>,
     /// The bytes at the positions 0, 1 and so on, up to the first gap or End.
     pub bytes: Vec<u8>,
     /// For each byte the number, counted from 1, of the record with which the bytes reached it.

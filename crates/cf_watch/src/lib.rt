@@ -9,6 +9,8 @@ mod laws;
 mod letter;
 mod place;
 mod reading;
+mod scope;
+mod tag;
 mod watching;
 
 pub use born::Born;
@@ -16,3 +18,5 @@ pub use fault::{CAPTURE_LIMIT, WatchFault, WatchRefusal};
 pub use flow::{Conflict, Flow, Recording};
 pub use laws::{flows_are_for_assets, one_stream_is_seen};
 pub use reading::{watch, watch_recording};
+pub use scope::Scope;
+pub use tag::untagged;

@@ -5,10 +5,11 @@ ghost use Rattle.cf_outside.specs.Files.{IsAtEnd, IsLongerThan};
 ghost use Rattle.cf_run.specs.Form.{first_place};
 ghost use Rattle.cf_run.specs.Reader.{HasForm};
 ghost use Rattle.cf_watch.specs.FlowValue.{IsForAsset, flow_value};
-ghost use Rattle.cf_watch.specs.Watch.{IsRecordingOf, WatchesAs};
+ghost use Rattle.cf_watch.specs.Watch.{IsRecordingFor, IsRecordingOf, WatchesAs};
 
 use crate::fault::{CAPTURE_LIMIT, WatchFault, WatchRefusal};
 use crate::flow::{Flow, Recording};
+use crate::scope::Scope;
 use crate::watching::Watch;
 use cf_outside::{Files, ReadAnswer};
 use cf_policy::{Asset, Policy};
@@ -16,8 +17,8 @@ use cf_run::{NextRecord, RecordReader};
 use cf_view::NoMemory;
 use std::alloc::Global;
 
-/// The flows of a capture to the assets of a policy, in the order of their beginning: of a pcap or a pcapng file of at most
-/// `CAPTURE_LIMIT` octets. Packets that are no TCP segments of IPv4 are passed over. Changes no file. This project's own.
+/// The flows of a capture to the assets of a policy, in the order of their beginning, each from a SYN on: of a pcap or a pcapng file of at
+/// most `CAPTURE_LIMIT` octets. Packets that are no TCP segments of IPv4 are passed over. Changes no file. This project's own.
 ///
 /// It keeps one record of the file at a time, and of each flow its bytes, their records, and the letters that came ahead of their
 /// turn.
@@ -35,13 +36,17 @@ pub fn watch<F: Files>(
     ensures read { HasCause (F.read_faults files.old) (F.read_faults files.new) (IsErrOf result WatchFault.Read) }
     ensures writes { F.write_faults files.new ≡ F.write_faults files.old }
 {
-    match watch_keeping(alloc, Stamps::Dropped, policy, capture, files) {
+    match watch_for(alloc, Scope::Connections, policy, capture, files) {
         Ok(recording) => Ok(recording.flows),
         Err(fault) => Err(fault),
     }
 }
 
-/// The same, with the stamp of each record. It keeps these besides.
+/// What a review reads of such a capture: its flows to the assets of a policy, also those whose beginning it does not have, and the stamp
+/// of each record, in microseconds. Frames are read without their VLAN tags. A flow without a SYN begins with its first packet with text
+/// that has neither SYN nor RST, and goes on up to the next SYN. The errors are those of `watch`. Changes no file. This project's own.
+///
+/// It keeps the stamps besides.
 pub fn watch_recording<F: Files>(
     alloc: Global,
     policy: &Policy,
@@ -56,26 +61,19 @@ pub fn watch_recording<F: Files>(
     ensures read { HasCause (F.read_faults files.old) (F.read_faults files.new) (IsErrOf result WatchFault.Read) }
     ensures writes { F.write_faults files.new ≡ F.write_faults files.old }
 {
-    watch_keeping(alloc, Stamps::Kept, policy, capture, files)
+    watch_for(alloc, Scope::Recording, policy, capture, files)
 }
 
-/// Whether the stamps of the records are kept.
-#[derive(Clone, Copy)]
-enum Stamps {
-    Kept,
-    Dropped,
-}
-
-/// The flows of a capture, with the stamp of each record where they are kept.
-fn watch_keeping<F: Files>(
+/// The flows of a capture, with the stamp of each record where these are kept.
+fn watch_for<F: Files>(
     alloc: Global,
-    stamps: Stamps,
+    scope: Scope,
     policy: &Policy,
     capture: &str,
     files: &mut F,
 ) -> Result<Recording, WatchFault>
     requires assets { length policy.now.assets < 2 ^ 32 }
-    ensures watched { IfOk result (λ r. (all : List ℕ) × IsRecordingOf policy.now.assets (F.content files.old capture.now) (map flow_value r.flows.items) all × (stamps ≡ Stamps.Kept → r.stamps.items ≡ all)) }
+    ensures watched { IfOk result (λ r. (all : List ℕ) × IsRecordingFor scope policy.now.assets (F.content files.old capture.now) (map flow_value r.flows.items) all × (scope ≡ Scope.Recording → r.stamps.items ≡ all)) }
     ensures for_assets { IfOk result (λ r. All (IsForAsset policy.now.assets) (map flow_value r.flows.items)) }
     ensures fault { IfErr result (λ fault. WatchesAs policy.now.assets (F.content files.old capture.now) (Err fault)) }
     ensures same { F.content files.new ≡ F.content files.old }
@@ -90,7 +88,7 @@ fn watch_keeping<F: Files>(
     match RecordReader::open(alloc, files, capture) {
         Ok(mut reader) => {
             let assets = policy.assets.as_slice();
-            watch_records(alloc, stamps, assets, capture, &mut reader, files)
+            watch_records(alloc, scope, assets, capture, &mut reader, files)
         }
         Err(fault) => Err(WatchFault::from(fault)),
     }
@@ -113,12 +111,12 @@ fn is_long<F: Files>(name: &str, files: &mut F) -> Option<bool>
 }
 
 /// Keeps a stamp after the others, where stamps are kept.
-fn keep_stamp(stamps: Stamps, kept: &mut Vec<u64>, stamp: u64) -> Result<(), NoMemory>
-    ensures { OnOk result (stamps ≡ Stamps.Kept → kept.new.items ≡ kept.old.items ++ stamp ∷ []) }
+fn keep_stamp(scope: Scope, kept: &mut Vec<u64>, stamp: u64) -> Result<(), NoMemory>
+    ensures { OnOk result (scope ≡ Scope.Recording → kept.new.items ≡ kept.old.items ++ stamp ∷ []) }
 {
-    match stamps {
-        Stamps::Dropped => Ok(()),
-        Stamps::Kept => match kept.push(stamp) {
+    match scope {
+        Scope::Connections => Ok(()),
+        Scope::Recording => match kept.push(stamp) {
             Ok(()) => Ok(()),
             Err(_) => Err(NoMemory),
         },
@@ -128,7 +126,7 @@ fn keep_stamp(stamps: Stamps, kept: &mut Vec<u64>, stamp: u64) -> Result<(), NoM
 /// The recording of the records from the reader's place on.
 fn watch_records<F: Files>(
     alloc: Global,
-    stamps: Stamps,
+    scope: Scope,
     assets: &[Asset],
     name: &str,
     reader: &mut RecordReader,
@@ -138,7 +136,7 @@ fn watch_records<F: Files>(
     requires short { IsAtEnd (F.content files.old name.now) CAPTURE_LIMIT }
     requires form { HasForm (F.content files.old name.now) (Ok reader.old.form) }
     requires place { reader.old.place ≡ first_place reader.old.form }
-    ensures watched { IfOk result (λ r. (all : List ℕ) × IsRecordingOf assets.now (F.content files.old name.now) (map flow_value r.flows.items) all × (stamps ≡ Stamps.Kept → r.stamps.items ≡ all)) }
+    ensures watched { IfOk result (λ r. (all : List ℕ) × IsRecordingFor scope assets.now (F.content files.old name.now) (map flow_value r.flows.items) all × (scope ≡ Scope.Recording → r.stamps.items ≡ all)) }
     ensures for_assets { IfOk result (λ r. All (IsForAsset assets.now) (map flow_value r.flows.items)) }
     ensures fault { IfErr result (λ fault. WatchesAs assets.now (F.content files.old name.now) (Err fault)) }
     ensures same { F.content files.new ≡ F.content files.old }
@@ -156,11 +154,11 @@ fn watch_records<F: Files>(
                     return Err(WatchFault::Refused(WatchRefusal::Long));
                 }
                 number += 1;
-                match watch.take(alloc, assets, &reader.link(), number, reader.body()) {
+                match watch.take(alloc, scope, assets, &reader.link(), number, reader.body()) {
                     Ok(()) => {}
                     Err(_) => return Err(WatchFault::NoMemory),
                 }
-                if keep_stamp(stamps, &mut kept, stamp).is_err() {
+                if keep_stamp(scope, &mut kept, stamp).is_err() {
                     return Err(WatchFault::NoMemory);
                 }
             }

@@ -8,14 +8,17 @@ ghost use Rattle.std.specs.Ordering.{is_eq};
 ghost use Rattle.cf_watch.specs.Trail.{HasHeard, IsHeard, IsWatchOf, key_cmp, key_of};
 ghost use Rattle.cf_leg.specs.Segment.{has_ack};
 ghost use Rattle.cf_run.specs.Entries.{asset_place};
+ghost use Rattle.cf_watch.specs.Seen.{begins_amid, begun_with, frame_by, goes_from, goes_to_asset, with_frame};
 ghost use Rattle.cf_run.specs.Table.{same_endpoint};
-ghost use Rattle.cf_watch.specs.Watched.{Watched, begins_anew, begun_by, goes, goes_at, with_packet, with_record};
+ghost use Rattle.cf_watch.specs.Watched.{Watched, begins_anew, goes_at, with_packet};
 
 use crate::born::Born;
 use crate::carry::{Ahead, advance, carry};
 use crate::flow::Flow;
 use crate::place::{has, has_fin, is_opening, text_place, top_after};
-use cf_packet::{ACK, Packet, read_packet};
+use crate::scope::Scope;
+use crate::tag::frame_by;
+use cf_packet::{ACK, Packet, RST, SYN, read_packet};
 use cf_policy::Asset;
 use cf_view::{Endpoint, LinkKind, NoMemory};
 use std::alloc::Global;
@@ -24,13 +27,24 @@ use std::collections::BTreeMap;
 /// What is kept of a flow besides what is told of it.
 #[derive(Drop)]
 pub(crate) struct Trail {
-    /// The sequence number of its SYN.
+    /// The sequence number of its SYN, or that before its first byte.
     pub(crate) origin: u32,
     /// Whether a packet with ACK has followed.
     pub(crate) answered: bool,
     /// One more than the greatest place that was carried.
     pub(crate) top: u64,
     pub(crate) ahead: Ahead,
+}
+
+/// What is known of a flow as it begins, before its first packet is taken.
+#[derive(Clone, Copy)]
+pub(crate) struct Opening {
+    /// The sequence number before that of its first byte.
+    origin: u32,
+    /// Whether a packet with ACK has followed.
+    answered: bool,
+    /// The number of the record with which it begins, where that is amid its stream.
+    midstream: Option<u64>,
 }
 
 /// A client and the place of an asset.
@@ -116,6 +130,18 @@ fn begins_anew(trail: &Trail, packet: &Packet<'_>) -> bool
     is_opening(packet) && !(packet.seq == trail.origin && !trail.answered)
 }
 
+/// Whether a packet begins a flow amid its stream, where its client and asset have none.
+fn begins_amid(scope: Scope, packet: &Packet<'_>) -> bool
+    ensures { result ≡ begins_amid scope (packet_value packet.now) }
+{
+    match scope {
+        Scope::Connections => false,
+        Scope::Recording => {
+            !(has(packet, SYN) || has(packet, RST)) && !packet.text.is_empty()
+        }
+    }
+}
+
 impl Watch {
     /// No flows.
     pub(crate) fn new(alloc: Global) -> Watch
@@ -132,6 +158,7 @@ impl Watch {
     pub(crate) fn take(
         &mut self,
         alloc: Global,
+        scope: Scope,
         assets: &[Asset],
         link: &LinkKind,
         number: u64,
@@ -140,14 +167,15 @@ impl Watch {
         requires assets { length assets.now < 2 ^ 32 }
         requires number { (1 ≤ number) × (number ≤ 2 ^ 27) }
         requires heard { HasHeard (number - 1) self.old }
-        ensures heard { OnOk result ((ws : List Watched) → IsWatchOf (number - 1) self.old ws → IsWatchOf number self.new (with_record assets.now number (read_record link.now body.now) ws)) }
+        ensures heard { OnOk result ((ws : List Watched) → IsWatchOf (number - 1) self.old ws → IsWatchOf number self.new (with_frame scope assets.now number (read_record link.now (frame_by scope link.now body.now)) ws)) }
     {
-        let Ok(packet) = read_packet(link, body) else {
+        let frame = frame_by(scope, link, body);
+        let Ok(packet) = read_packet(link, frame) else {
             return Ok(());
         };
         match asset_at(assets, &packet.dest) {
             Some(asset) => {
-                self.take_packet(alloc, number, asset as u32, &packet)?;
+                self.take_packet(alloc, scope, number, asset as u32, &packet)?;
                 Ok(())
             }
             None => Ok(()),
@@ -158,6 +186,7 @@ impl Watch {
     fn take_packet(
         &mut self,
         alloc: Global,
+        scope: Scope,
         number: u64,
         asset: u32,
         packet: &Packet<'_>,
@@ -165,7 +194,7 @@ impl Watch {
         requires number { (1 ≤ number) × (number ≤ 2 ^ 27) }
         requires short { length packet.now.text.now ≤ 65535 }
         requires heard { HasHeard (number - 1) self.old }
-        ensures heard { OnOk result ((ws : List Watched) → IsWatchOf (number - 1) self.old ws → IsWatchOf number self.new (goes number (packet_value packet.now) (Some asset) ws)) }
+        ensures heard { OnOk result ((ws : List Watched) → IsWatchOf (number - 1) self.old ws → IsWatchOf number self.new (goes_to_asset scope number (packet_value packet.now) (Some asset) ws)) }
     {
         let key = FlowKey {
             address: packet.source.address,
@@ -178,28 +207,43 @@ impl Watch {
                 Ok(())
             }
             None => {
-                self.begin_if_opening(alloc, number, asset, packet)?;
+                self.begin_first(alloc, scope, number, asset, packet)?;
                 Ok(())
             }
         }
     }
 
     /// Takes a packet of no flow that was watched.
-    fn begin_if_opening(
+    fn begin_first(
         &mut self,
         alloc: Global,
+        scope: Scope,
         number: u64,
         asset: u32,
         packet: &Packet<'_>,
     ) -> Result<(), NoMemory>
         requires number { (1 ≤ number) × (number ≤ 2 ^ 27) }
         requires short { length packet.now.text.now ≤ 65535 }
-        ensures heard { OnOk result ((ws : List Watched) → IsWatchOf (number - 1) self.old ws → IsWatchOf number self.new (goes_at number asset (packet_value packet.now) None ws)) }
+        ensures heard { OnOk result ((ws : List Watched) → IsWatchOf (number - 1) self.old ws → IsWatchOf number self.new (goes_from scope number asset (packet_value packet.now) None ws)) }
     {
+        if begins_amid(scope, packet) {
+            let opening = Opening {
+                origin: packet.seq.wrapping_sub(1),
+                answered: true,
+                midstream: Some(number),
+            };
+            self.begin(alloc, number, asset, opening, packet)?;
+            return Ok(());
+        }
         if !is_opening(packet) {
             return Ok(());
         }
-        self.begin(alloc, number, asset, packet)?;
+        let opening = Opening {
+            origin: packet.seq,
+            answered: false,
+            midstream: None,
+        };
+        self.begin(alloc, number, asset, opening, packet)?;
         Ok(())
     }
 
@@ -220,7 +264,12 @@ impl Watch {
         ensures heard { OnOk result ((ws : List Watched) → IsWatchOf (number - 1) self.old ws → IsWatchOf number self.new (goes_at number asset (packet_value packet.now) (Some place) ws)) }
     {
         if begins_anew(&self.trails[place], packet) {
-            self.begin(alloc, number, asset, packet)?;
+            let opening = Opening {
+                origin: packet.seq,
+                answered: false,
+                midstream: None,
+            };
+            self.begin(alloc, number, asset, opening, packet)?;
             return Ok(());
         }
         hear(
@@ -238,22 +287,24 @@ impl Watch {
         alloc: Global,
         number: u64,
         asset: u32,
+        opening: Opening,
         packet: &Packet<'_>,
     ) -> Result<(), NoMemory>
         requires number { (1 ≤ number) × (number ≤ 2 ^ 27) }
         requires short { length packet.now.text.now ≤ 65535 }
-        ensures heard { OnOk result ((ws : List Watched) → IsWatchOf (number - 1) self.old ws → IsWatchOf number self.new (ws ++ begun_by number asset (packet_value packet.now) ∷ [])) }
+        ensures heard { OnOk result ((ws : List Watched) → IsWatchOf (number - 1) self.old ws → IsWatchOf number self.new (ws ++ begun_with opening number asset (packet_value packet.now) ∷ [])) }
     {
         let mut flow = Flow {
             client: packet.source,
             asset,
+            midstream: opening.midstream,
             bytes: Vec::new(alloc),
             born: Born::new(alloc),
             conflict: None,
         };
         let mut trail = Trail {
-            origin: packet.seq,
-            answered: false,
+            origin: opening.origin,
+            answered: opening.answered,
             top: 0,
             ahead: BTreeMap::new(alloc),
         };

@@ -208,18 +208,20 @@ writes all that POLICY objects to in what clients sent to its assets in a captur
   CAPTURE  a pcap or pcapng file, of Ethernet or raw IP, of at most 67,108,864 bytes
   LOG      is created behind all else, and gets the lines, in the order of the records
 
-The three names differ. A flow is what one client sends to one asset, from a SYN in the capture
-on; packets before it are not used. Each line has the moment of the record with which the thing
-was whole, the client, the asset, and one of
+The three names differ. A flow is what one client sends to one asset, from a SYN on, or from its
+first data in the capture on; VLAN tags are passed over. Each line has the moment of the record
+with which the thing was whole, the client, the asset, and one of
 
   refuse RULE REASON code C group G point X value V unanswered HEX   (docs/LOG.md)
   stray client WHY      a frame, segment or fragment of DNP3 that belongs to nothing
   broken WHY            the bytes are no units of the protocol; the flow is read up to here
   conflict POSITION     two packets carry different bytes at one position of the flow
+  begins midstream      the SYN of the flow is not in the capture; it is read from the first place
+                        on at which a unit of the protocol begins
 
 Standard output has the numbers of flows, of commands, of those that POLICY allows and refuses,
-by what refuses them, and of the other lines. The status is 0 where there is no line, and 15
-where there is one. How often a rule lets commands through plays no part, nor do the numbers of
+by what refuses them, of strays and conflicts, and of flows that are broken. The status is 0
+where there is no line, and 15 where there is one. How often a rule lets commands through plays no part, nor do the numbers of
 IEC 60870-5-104. Nothing is written where the capture is refused or cut.
 
 example:

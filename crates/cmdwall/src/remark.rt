@@ -3,8 +3,8 @@
 use crate::why::policy_again;
 use cf_machine::{Gather, RealFiles};
 use cf_remarks::{
-    dropped_alone, dropped_text, has_gaps, learned_text, left_open, look_again, read_summary,
-    run_text,
+    Frames, dropped_alone, dropped_text, has_gaps, learned_text, left_open, look_again,
+    read_summary, run_text,
 };
 use cf_run::RunNames;
 use std::rt::Files as FileSystem;
@@ -50,12 +50,13 @@ pub(crate) fn remark_on_run<R: FileSystem + Eprint + AllocGlobal>(
 pub(crate) fn remark_on_dropped<R: FileSystem + Eprint + AllocGlobal>(
     rt: &R,
     capture: &str,
+    frames: Frames,
     files: &mut RealFiles<'_, R>,
 ) -> io::Result<()> {
     if !is_file(rt, capture) {
         return Ok(());
     }
-    match dropped_alone(rt.alloc(), files, capture) {
+    match dropped_alone(rt.alloc(), files, capture, frames) {
         Some(dropped) => print_lines(rt, &dropped_text(rt.alloc(), &dropped)?),
         None => Ok(()),
     }
@@ -70,7 +71,19 @@ pub(crate) fn remark_on_nothing<R: FileSystem + Eprint + AllocGlobal>(
     eprintln!(rt;
         "cmdwall: note: no connection to an asset of POLICY begins in CAPTURE: no SYN goes to an asset's address and port"
     )?;
-    remark_on_dropped(rt, capture, files)
+    remark_on_dropped(rt, capture, Frames::AsTheyStand, files)
+}
+
+/// Says that a capture has no connection to an asset at all; and why no record is a packet, where that is so.
+pub(crate) fn remark_on_no_review<R: FileSystem + Eprint + AllocGlobal>(
+    rt: &R,
+    capture: &str,
+    files: &mut RealFiles<'_, R>,
+) -> io::Result<()> {
+    eprintln!(rt;
+        "cmdwall: note: no connection to an asset of POLICY is in CAPTURE: neither a SYN nor data goes to an asset's address and port"
+    )?;
+    remark_on_dropped(rt, capture, Frames::WithoutTags, files)
 }
 
 /// Says what each client sent in a capture that a policy was learned from, and what was left out; or why no record is a packet.
@@ -82,7 +95,7 @@ pub(crate) fn remark_on_learned<R: FileSystem + Eprint + AllocGlobal>(
     files: &mut RealFiles<'_, R>,
 ) -> io::Result<()> {
     if printed.ends_with(" 0\n") {
-        remark_on_dropped(rt, capture, files)?;
+        remark_on_dropped(rt, capture, Frames::AsTheyStand, files)?;
     }
     if !is_file(rt, policy) || !is_file(rt, capture) {
         return Ok(());

@@ -2,7 +2,9 @@
 ghost use Rattle.std.specs.Prelude.{IfSome};
 ghost use Rattle.cf_policy.specs.Within.{IsWithin};
 
-use crate::remark::{remark_on_dropped, remark_on_learned, remark_on_nothing, remark_on_run};
+use crate::remark::{
+    remark_on_dropped, remark_on_learned, remark_on_no_review, remark_on_nothing, remark_on_run,
+};
 use cf_box::{Command, read_words};
 use cf_explain::{
     PolicyFile, asset_message, capture_message, inclusion_message, outputs_message, policy_message,
@@ -133,10 +135,10 @@ fn remark<R: FileSystem + Eprint + AllocGlobal>(
             remark_on_nothing(rt, capture, files)
         }
         Command::Review { capture, .. } if printed.starts_with("flows 0\n") => {
-            remark_on_nothing(rt, capture, files)
+            remark_on_no_review(rt, capture, files)
         }
         Command::Packets { capture } if printed.contains(" dropped ") => {
-            remark_on_dropped(rt, capture, files)
+            remark_on_dropped(rt, capture, Frames::AsTheyStand, files)
         }
         Command::Run { policy, names } => remark_on_run(rt, policy, names, printed, files),
         _ => Ok(()),

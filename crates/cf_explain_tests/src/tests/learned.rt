@@ -111,6 +111,7 @@ fn flow_of(alloc: Global, given: &str) -> Result<Flow, Fail> {
             port: 49_152,
         },
         asset: asset.parse::<u32>().unwrap_or(0),
+        midstream: None,
         bytes: bytes_of(alloc, text)?,
         born: Born::new(alloc),
         conflict: None,

@@ -7,7 +7,7 @@ use super::sessions::policy;
 use super::{Place, named, same};
 use cf_outside::MemoryFiles;
 use cf_remarks::{
-    dropped_alone, dropped_text, has_gaps, left_open, look_again, read_summary, run_text,
+    Frames, dropped_alone, dropped_text, has_gaps, left_open, look_again, read_summary, run_text,
 };
 use cf_run::{RunNames, Summary, run_capture};
 use cf_samples::rows::octets;
@@ -171,7 +171,7 @@ fn remarks(rt: &impl Abort, alloc: Global, octets: Vec<u8>) -> String {
     if text.is_empty() {
         text.push_str("nothing\n").expect(rt, "memory");
     }
-    if let Some(dropped) = dropped_alone(alloc, &mut files, "c") {
+    if let Some(dropped) = dropped_alone(alloc, &mut files, "c", Frames::AsTheyStand) {
         let alone = dropped_text(alloc, &dropped).expect(rt, "memory");
         assert!(rt; alone.as_str() == text.as_str());
         text.push_str("alone\n").expect(rt, "memory");

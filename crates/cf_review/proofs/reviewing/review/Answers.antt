@@ -4,6 +4,7 @@ use Rattle.std.proofs.lemmas.List.{length-map, map-append, take_all}
 use Rattle.std.proofs.lemmas.List.Sorted.{IsNonDecreasingBy-from_sort_by_key, answers_always}
 use Rattle.std.proofs.lemmas.Option.{slice_get_read}
 use Rattle.cf_watch.specs.FlowValue.{flow_value}
+use Rattle.cf_review.specs.FirstUnit.{AreReadParts}
 use Rattle.cf_review.specs.Remark.{remark_value}
 use Rattle.cf_review.specs.declared.remark.Remark.{Remark}
 use Rattle.cf_review.proofs.Ordering.{in_order, when_done}
@@ -66,7 +67,7 @@ returns c =
     record {
       reviewed = record {
         readings = inv.readings;
-        of_flows = inv.of_flows ∙ all;
+        of_flows = subst (λ fs. AreReadParts c.args.policy.now.assets fs (map (λ r. r.flow) inv.readings)) all inv.of_flows;
         are_read = inv.are_read;
         counts = sym (length-map flows flow_value);
         admitted = inv.admitted_is;

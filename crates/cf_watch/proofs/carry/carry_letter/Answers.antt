@@ -28,6 +28,6 @@ returns-then-differ c =
     record {
       takes = subst (λ (z : ℤ). Takes (record { number = c.args.number; at = z; text = stream_of c.args.letter }) c.args.flow.now c.args.ahead.now new c.args.ahead.now) e
           (takes_conflict c.args.number place c.args.letter c.in-Some.first c.args.flow.now new c.args.ahead.now is (c.if-differ.ensures.0 refl)
-          refl (record { more = g.more; bytes = g.bytes; born = g.born; client = refl; asset = refl }) (none_of c.args.flow.now.conflict c.if-is_none.ensures)
+          refl (record { more = g.more; bytes = g.bytes; born = g.born; client = refl; asset = refl; midstream = refl }) (none_of c.args.flow.now.conflict c.if-is_none.ensures)
           (ap (λ (z : ℤ). Some (record { at_record = c.args.number; position = z })) f));
     }

@@ -1,5 +1,5 @@
 use Rattle.std.proofs.Common.{◌≡◌, ◌-◌, ◌^◌, ◌≤◌, ℕ, List}
-use Rattle.cf_watch.specs.declared.reading.Stamps.TheVariants as stamps
+use Rattle.cf_watch.specs.declared.scope.Scope.TheVariants as scope
 use Rattle.cf_watch.proofs.SoFar.{SoFar}
 use Rattle.cf_watch.proofs.reading.watch_records.Given as goal
 
@@ -8,8 +8,8 @@ invariant-records g l =
     let content = g.F.Files.content in
     record {
       all : List ℕ;
-      so : SoFar l.assets (content l.fn.files l.name) l.fn.reader.form l.reader l.number l.watch all;
-      kept : l.stamps ≡ stamps.Kept → l.kept.items ≡ all;
+      so : SoFar l.scope l.assets (content l.fn.files l.name) l.fn.reader.form l.reader l.number l.watch all;
+      kept : l.scope ≡ scope.Recording → l.kept.items ≡ all;
       near : l.reader.place ≤ 67108864;
       few : l.number ≤ l.reader.place;
       same : content l.files ≡ content l.fn.files;

@@ -40,6 +40,7 @@ returns-clause-heard c w h =
       flow = record {
         client = (all_grow w.carried one old mid new a b d h.knows takes after.knows after.grows after.stops after.conflict).client ∙ h.flow.client;
         asset = (all_grow w.carried one old mid new a b d h.knows takes after.knows after.grows after.stops after.conflict).asset ∙ h.flow.asset;
+        midstream = (all_grow w.carried one old mid new a b d h.knows takes after.knows after.grows after.stops after.conflict).midstream ∙ h.flow.midstream;
         bytes = bytes_now w.carried one old mid new a b d h.knows takes after.knows after.grows after.stops after.conflict;
         born = born_now w.carried one old mid new a b d h.knows takes after.knows after.grows after.stops after.conflict h.flow.bytes h.flow.born;
         conflict = conflict_now w.carried one old mid new a b d h.knows takes after.knows after.grows after.stops after.conflict h.flow.conflict;

@@ -1,0 +1,335 @@
+-- The flows of a review that begin with a SYN, as records come.
+use Rattle.std.proofs.Common.{◌≡◌, ◌∙◌, ◌++◌, ◌∷◌, [], ◌+◌, ◌==◌, ◌&&◌, ◌||◌, ℕ, zero, suc, Bool, true, false, not, if◌then◌else◌, cond, List, length, set, slice_get, Option, Some, None, Result, Ok, Err, unwrap_or, refl, sym, ap, subst, arith}
+use Rattle.std.specs.List.{AllByRecursion, filter}
+use Rattle.std.proofs.lemmas.Bool.{false≢true}
+use Rattle.std.proofs.lemmas.Bool.Decides.{nat_tests}
+use Rattle.std.proofs.lemmas.List.Elements.{filter-append}
+use Rattle.std.proofs.lemmas.Option.{none-some}
+use Rattle.cf_leg.specs.Segment.{has_ack, has_fin, has_rst, has_syn}
+use Rattle.cf_packet.specs.Packet.{PacketValue, read_record}
+use Rattle.cf_packet.specs.declared.PacketRefusal.{PacketRefusal}
+use Rattle.cf_policy.specs.declared.Asset.{Asset}
+use Rattle.cf_run.specs.Capture.{Record}
+use Rattle.cf_run.specs.Entries.{asset_place}
+use Rattle.cf_run.specs.Table.{is_opening, same_endpoint}
+use Rattle.cf_view.specs.declared.Endpoint.{Endpoint}
+use Rattle.cf_watch.specs.Seen.{begins_amid, begun_with, frame_by, goes_from, goes_to_asset, opening_amid, seen_by, with_frame}
+use Rattle.cf_watch.specs.Watched.{Watched, begins_anew, begun_by, goes, goes_at, goes_to, is_between, last_place, later_place, watched, with_packet, with_record}
+use Rattle.cf_watch.specs.declared.Scope.TheVariants as scope
+use Rattle.cf_review.specs.SynFlows.{HasNoTag, SynFlowsAreWatched, begins_with_syn}
+
+-- ---- lists
+
+abbrev syn_flows : List Watched → List Watched
+syn_flows ws = filter begins_with_syn ws
+
+module _ (P : Watched → Type 0) where
+  all_append : (ws : List Watched) (x : Watched) → AllByRecursion P ws → P x → AllByRecursion P (ws ++ x ∷ [])
+  all_append [] x a h = (h, tt)
+  all_append (w ∷ ws) x a h = (a.0, all_append ws x a.1 h)
+
+  all_set : (ws : List Watched) (i : ℕ) (x : Watched) → AllByRecursion P ws → P x → AllByRecursion P (set ws i x)
+  all_set [] i x a h = tt
+  all_set (w ∷ ws) zero x a h = (h, a.1)
+  all_set (w ∷ ws) (suc i) x a h = (a.0, all_set ws i x a.1 h)
+
+  all_get : (ws : List Watched) (i : ℕ) (x : Watched) → AllByRecursion P ws → slice_get ws i ≡ Some x → P x
+  all_get [] i x a e = absurd (none-some x e)
+  all_get (w ∷ ws) zero x a e = subst P (ap (λ o. unwrap_or o w) e) a.0
+  all_get (w ∷ ws) (suc i) x a e = all_get ws i x a.1 e
+
+if_behind : (b : Bool) (w : Watched) (xs ys : List Watched) → (if b then w ∷ xs else w ∷ ys) ≡ w ∷ (if b then xs else ys)
+if_behind true w xs ys = refl
+if_behind false w xs ys = refl
+
+kept : (b : Bool) (w : Watched) (xs : List Watched) → b ≡ true → cond b (w ∷ xs) xs ≡ w ∷ xs
+kept true w xs e = refl
+kept false w xs e = absurd (false≢true e)
+
+dropped : (b : Bool) (w : Watched) (xs : List Watched) → b ≡ false → cond b (w ∷ xs) xs ≡ xs
+dropped true w xs e = absurd (false≢true (sym e))
+dropped false w xs e = refl
+
+kept_if : (b : Bool) (xs ys : List Watched) → syn_flows (if b then xs else ys) ≡ (if b then syn_flows xs else syn_flows ys)
+kept_if true xs ys = refl
+kept_if false xs ys = refl
+
+-- ---- a flow that begins amid its stream is the first of its client and asset, and counts as answered
+
+abbrev IsBefore : Watched → List Watched → Type 0
+IsBefore w ws = (client : Endpoint) (asset : ℕ) → is_between client asset w ≡ true → AllByRecursion (λ v. begins_with_syn v ≡ false → is_between client asset v ≡ false) ws
+
+abbrev AreFirst : List Watched → Type 0
+AreFirst [] = Unit {0}
+AreFirst (w ∷ ws) = (begins_with_syn w ≡ false → w.answered ≡ true) × IsBefore w ws × AreFirst ws
+
+abbrev IsApart : (x w : Watched) → Type 0
+IsApart x w = (client : Endpoint) (asset : ℕ) → is_between client asset w ≡ true → begins_with_syn x ≡ false → is_between client asset x ≡ false
+
+first_append : (ws : List Watched) (x : Watched) → AreFirst ws → (begins_with_syn x ≡ false → x.answered ≡ true) → AllByRecursion (IsApart x) ws → AreFirst (ws ++ x ∷ [])
+first_append [] x f h a = (h, (λ client asset e. tt), tt)
+first_append (w ∷ ws) x f h a =
+    (f.0, (λ client asset e. all_append (λ v. begins_with_syn v ≡ false → is_between client asset v ≡ false) ws x (f.1 client asset e) (a.0 client asset e)), first_append ws x f.2 h a.1)
+
+or_true : (a b : Bool) → a ≡ true → (a || b) ≡ true
+or_true true b e = refl
+or_true false b e = absurd (false≢true e)
+
+module _ (number : ℕ) (p : PacketValue) where
+  first_set : (ws : List Watched) (i : ℕ) (x : Watched) → slice_get ws i ≡ Some x → AreFirst ws → AreFirst (set ws i (with_packet number p x))
+  first_set [] i x e f = tt
+  first_set (w ∷ ws) zero x e f =
+      let same : w ≡ x = ap (λ o. unwrap_or o w) e in
+      subst (λ y. AreFirst (with_packet number p y ∷ ws)) same ((λ s. or_true w.answered (has_ack p) (f.0 s)), f.1, f.2)
+  first_set (w ∷ ws) (suc i) x e f = (
+    f.0,
+    (λ client asset b.
+        let P : Watched → Type 0 = λ v. begins_with_syn v ≡ false → is_between client asset v ≡ false in
+        let all = f.1 client asset b in
+        all_set P ws i (with_packet number p x) all (all_get P ws i x all e)),
+    first_set ws i x e f.2,
+  )
+
+-- ---- one packet to an asset
+
+number_is : (a b : ℕ) → (a == b) ≡ true → a ≡ b
+number_is a b e = grind (arith, nat_tests, e)
+
+and_left : (a b : Bool) → (a && b) ≡ true → a ≡ true
+and_left true b h = refl
+and_left false b h = absurd (false≢true h)
+
+and_right : (a b : Bool) → (a && b) ≡ true → b ≡ true
+and_right true b h = h
+and_right false b h = absurd (false≢true h)
+
+-- a packet that begins a flow amid its stream is no SYN
+no_syn : (s r x t : Bool) → (not (s || r) && t) ≡ true → (s && x) ≡ false
+no_syn true r x t e = absurd (false≢true e)
+no_syn false r x t e = refl
+
+-- where a flow counts as answered, each SYN begins another
+always_anew : (o s a : Bool) → a ≡ true → (o && not (s && not a)) ≡ o
+always_anew true true true e = refl
+always_anew true false true e = refl
+always_anew false s true e = refl
+always_anew o s false e = absurd (false≢true e)
+
+module _ (number asset : ℕ) (p : PacketValue) where
+  abbrev Mine : Watched → Bool
+  Mine f = is_between p.source asset f
+
+  abbrev new : Watched
+  new = begun_by number asset p
+
+  abbrev amid : Watched
+  amid = begun_with (opening_amid number p) number asset p
+
+  abbrev last : List Watched → Option ℕ
+  last ws = last_place p.source asset ws
+
+  abbrev go : List Watched → List Watched
+  go ws = goes_at number asset p (last ws) ws
+
+  abbrev go_all : List Watched → List Watched
+  go_all ws = goes_from scope.Recording number asset p (last ws) ws
+
+  behind_to : (w : Watched) (ws : List Watched) (i : ℕ) (o : Option Watched) → goes_to number asset (suc i) p o (w ∷ ws) ≡ w ∷ goes_to number asset i p o ws
+  behind_to w ws i None = refl
+  behind_to w ws i (Some f) = if_behind (begins_anew p f) w (ws ++ new ∷ []) (set ws i (with_packet number p f))
+
+  later : (w : Watched) (ws : List Watched) (o : Option ℕ) → last ws ≡ o → last (w ∷ ws) ≡ later_place o (Mine w)
+  later w ws o h = ap (λ q. later_place q (Mine w)) h
+
+  -- a flow before the one that a packet is of stays as it is
+  go_some : (w : Watched) (ws : List Watched) (i : ℕ) → last ws ≡ Some i → go (w ∷ ws) ≡ w ∷ go ws
+  go_some w ws i h = ap (λ o. goes_at number asset p o (w ∷ ws)) (later w ws (Some i) h) ∙ behind_to w ws i (slice_get ws i) ∙ sym (ap (λ o. w ∷ goes_at number asset p o ws) h)
+
+  all_some : (w : Watched) (ws : List Watched) (i : ℕ) → last ws ≡ Some i → go_all (w ∷ ws) ≡ w ∷ go_all ws
+  all_some w ws i h =
+      ap (λ o. goes_from scope.Recording number asset p o (w ∷ ws)) (later w ws (Some i) h) ∙ behind_to w ws i (slice_get ws i)
+      ∙ sym (ap (λ o. w ∷ goes_from scope.Recording number asset p o ws) h)
+
+  none_later : (w : Watched) (ws : List Watched) → last ws ≡ None → Mine w ≡ false → last (w ∷ ws) ≡ None
+  none_later w ws h m = later w ws None h ∙ ap (later_place None) m
+
+  zero_later : (w : Watched) (ws : List Watched) → last ws ≡ None → Mine w ≡ true → last (w ∷ ws) ≡ Some 0
+  zero_later w ws h m = later w ws None h ∙ ap (later_place None) m
+
+  go_none : (w : Watched) (ws : List Watched) → last ws ≡ None → Mine w ≡ false → go (w ∷ ws) ≡ w ∷ go ws
+  go_none w ws h m =
+      ap (λ o. goes_at number asset p o (w ∷ ws)) (none_later w ws h m) ∙ if_behind (is_opening p) w (ws ++ new ∷ []) ws ∙ sym (ap (λ o. w ∷ goes_at number asset p o ws) h)
+
+  all_none : (w : Watched) (ws : List Watched) → last ws ≡ None → Mine w ≡ false → go_all (w ∷ ws) ≡ w ∷ go_all ws
+  all_none w ws h m =
+      ap (λ o. goes_from scope.Recording number asset p o (w ∷ ws)) (none_later w ws h m)
+      ∙ ap (λ xs. if begins_amid scope.Recording p then w ∷ (ws ++ amid ∷ []) else xs) (if_behind (is_opening p) w (ws ++ new ∷ []) ws)
+      ∙ if_behind (begins_amid scope.Recording p) w (ws ++ amid ∷ []) (if is_opening p then ws ++ new ∷ [] else ws)
+      ∙ sym (ap (λ o. w ∷ goes_from scope.Recording number asset p o ws) h)
+
+  go_other : (w : Watched) (ws : List Watched) (o : Option ℕ) → last ws ≡ o → Mine w ≡ false → go (w ∷ ws) ≡ w ∷ go ws
+  go_other w ws None h m = go_none w ws h m
+  go_other w ws (Some i) h m = go_some w ws i h
+
+  -- of flows none of which begins amid its stream the last one stays
+  abbrev SynOnly : List Watched → Type 0
+  SynOnly ws = AllByRecursion (λ v. begins_with_syn v ≡ false → Mine v ≡ false) ws
+
+  some_front : (w : Watched) (ws : List Watched) (o : Option ℕ) → Mine w ≡ true → last (syn_flows ws) ≡ o → last (syn_flows (w ∷ ws)) ≡ last (w ∷ syn_flows ws) → (j : ℕ) × (last (syn_flows (w ∷ ws)) ≡ Some j)
+  some_front w ws (Some k) m h e = (suc k, e ∙ later w (syn_flows ws) (Some k) h)
+  some_front w ws None m h e = (0, e ∙ zero_later w (syn_flows ws) h m)
+
+  some_stays_by : (w : Watched) (ws : List Watched) (o : Option ℕ) (s m : Bool) (i : ℕ) → last ws ≡ o → begins_with_syn w ≡ s → Mine w ≡ m → (s ≡ false → m ≡ false) →
+      ((k : ℕ) → o ≡ Some k → (j : ℕ) × (last (syn_flows ws) ≡ Some j)) → later_place o m ≡ Some i → (j : ℕ) × (last (syn_flows (w ∷ ws)) ≡ Some j)
+  some_stays_by w ws (Some k) true m i h s mine apart ih e =
+      let (j, is) = ih k refl in (suc j, ap last (kept (begins_with_syn w) w (syn_flows ws) s) ∙ later w (syn_flows ws) (Some j) is)
+  some_stays_by w ws (Some k) false m i h s mine apart ih e = let (j, is) = ih k refl in (j, ap last (dropped (begins_with_syn w) w (syn_flows ws) s) ∙ is)
+  some_stays_by w ws None true true i h s mine apart ih e =
+      let front = ap last (kept (begins_with_syn w) w (syn_flows ws) s) in
+      some_front w ws (last (syn_flows ws)) mine refl front
+  some_stays_by w ws None false true i h s mine apart ih e = absurd (false≢true (sym (apart refl)))
+  some_stays_by w ws None s false i h e mine apart ih l = absurd (none-some i l)
+
+  some_stays : (ws : List Watched) (i : ℕ) → SynOnly ws → last ws ≡ Some i → (j : ℕ) × (last (syn_flows ws) ≡ Some j)
+  some_stays [] i a e = absurd (none-some i e)
+  some_stays (w ∷ ws) i a e = some_stays_by w ws (last ws) (begins_with_syn w) (Mine w) i refl refl refl a.0 (λ k is. some_stays ws k a.1 is) e
+
+  none_left : (o : Option ℕ) (m : Bool) → later_place o m ≡ None → (o ≡ None) × (m ≡ false)
+  none_left (Some k) m e = absurd (none-some (suc k) (sym e))
+  none_left None true e = absurd (none-some 0 (sym e))
+  none_left None false e = (refl, refl)
+
+  none_stays_by : (w : Watched) (ws : List Watched) (s : Bool) → begins_with_syn w ≡ s → Mine w ≡ false → last (syn_flows ws) ≡ None → last (syn_flows (w ∷ ws)) ≡ None
+  none_stays_by w ws true s m h = ap last (kept (begins_with_syn w) w (syn_flows ws) s) ∙ none_later w (syn_flows ws) h m
+  none_stays_by w ws false s m h = ap last (dropped (begins_with_syn w) w (syn_flows ws) s) ∙ h
+
+  none_stays : (ws : List Watched) → last ws ≡ None → last (syn_flows ws) ≡ None
+  none_stays [] e = refl
+  none_stays (w ∷ ws) e = let left = none_left (last ws) (Mine w) e in none_stays_by w ws (begins_with_syn w) refl left.1 (none_stays ws left.0)
+
+  -- ---- what a packet does to the flows that begin with a SYN
+
+  front : (a o : Bool) → (a ≡ true → o ≡ false) → syn_flows (if a then amid ∷ [] else if o then new ∷ [] else []) ≡ (if o then new ∷ [] else [])
+  front true o apart = ap (λ b. if b then new ∷ [] else []) (sym (apart refl))
+  front false true apart = refl
+  front false false apart = refl
+
+  goes_on : (w : Watched) (ws : List Watched) (s : Bool) → begins_with_syn w ≡ s → go_all (w ∷ ws) ≡ w ∷ go_all ws → (s ≡ true → go (w ∷ syn_flows ws) ≡ w ∷ go (syn_flows ws)) →
+      syn_flows (go_all ws) ≡ go (syn_flows ws) → syn_flows (go_all (w ∷ ws)) ≡ go (syn_flows (w ∷ ws))
+  goes_on w ws true s all one ih =
+      ap syn_flows all ∙ kept (begins_with_syn w) w (syn_flows (go_all ws)) s ∙ ap (λ xs. w ∷ xs) ih ∙ sym (one refl) ∙ ap go (sym (kept (begins_with_syn w) w (syn_flows ws) s))
+  goes_on w ws false s all one ih =
+      ap syn_flows all ∙ dropped (begins_with_syn w) w (syn_flows (go_all ws)) s ∙ ih ∙ ap go (sym (dropped (begins_with_syn w) w (syn_flows ws) s))
+
+  mine_here : (w : Watched) (ws : List Watched) (s : Bool) → begins_with_syn w ≡ s → Mine w ≡ true → last ws ≡ None → (begins_with_syn w ≡ false → w.answered ≡ true) →
+      syn_flows (go_all (w ∷ ws)) ≡ go (syn_flows (w ∷ ws))
+  mine_here w ws true s m h answered =
+      let here : go_all (w ∷ ws) ≡ (if begins_anew p w then w ∷ (ws ++ new ∷ []) else with_packet number p w ∷ ws) =
+      ap (λ o. goes_from scope.Recording number asset p o (w ∷ ws)) (zero_later w ws h m) in
+      let there : go (w ∷ syn_flows ws) ≡ (if begins_anew p w then w ∷ (syn_flows ws ++ new ∷ []) else with_packet number p w ∷ syn_flows ws) =
+      ap (λ o. goes_at number asset p o (w ∷ syn_flows ws)) (zero_later w (syn_flows ws) (none_stays ws h) m) in
+      let one : syn_flows (w ∷ (ws ++ new ∷ [])) ≡ w ∷ (syn_flows ws ++ new ∷ []) =
+      kept (begins_with_syn w) w (syn_flows (ws ++ new ∷ [])) s ∙ ap (λ xs. w ∷ xs) (filter-append begins_with_syn ws (new ∷ [])) in
+      let two : syn_flows (with_packet number p w ∷ ws) ≡ with_packet number p w ∷ syn_flows ws = kept (begins_with_syn w) (with_packet number p w) (syn_flows ws) s in
+      ap syn_flows here ∙ kept_if (begins_anew p w) (w ∷ (ws ++ new ∷ [])) (with_packet number p w ∷ ws)
+      ∙ ap (λ xs. if begins_anew p w then xs else syn_flows (with_packet number p w ∷ ws)) one
+      ∙ ap (λ xs. if begins_anew p w then w ∷ (syn_flows ws ++ new ∷ []) else xs) two
+      ∙ sym there ∙ ap go (sym (kept (begins_with_syn w) w (syn_flows ws) s))
+  mine_here w ws false s m h answered =
+      let here : go_all (w ∷ ws) ≡ (if begins_anew p w then w ∷ (ws ++ new ∷ []) else with_packet number p w ∷ ws) =
+      ap (λ o. goes_from scope.Recording number asset p o (w ∷ ws)) (zero_later w ws h m) in
+      let there : go (syn_flows ws) ≡ (if is_opening p then syn_flows ws ++ new ∷ [] else syn_flows ws) =
+      ap (λ o. goes_at number asset p o (syn_flows ws)) (none_stays ws h) in
+      let one : syn_flows (w ∷ (ws ++ new ∷ [])) ≡ syn_flows ws ++ new ∷ [] = dropped (begins_with_syn w) w (syn_flows (ws ++ new ∷ [])) s ∙ filter-append begins_with_syn ws (new ∷ []) in
+      let two : syn_flows (with_packet number p w ∷ ws) ≡ syn_flows ws = dropped (begins_with_syn w) (with_packet number p w) (syn_flows ws) s in
+      let anew : begins_anew p w ≡ is_opening p = always_anew (is_opening p) (p.seq == w.origin) w.answered (answered s) in
+      ap syn_flows here ∙ kept_if (begins_anew p w) (w ∷ (ws ++ new ∷ [])) (with_packet number p w ∷ ws)
+      ∙ ap (λ xs. if begins_anew p w then xs else syn_flows (with_packet number p w ∷ ws)) one
+      ∙ ap (λ xs. if begins_anew p w then syn_flows ws ++ new ∷ [] else xs) two
+      ∙ ap (λ b. if b then syn_flows ws ++ new ∷ [] else syn_flows ws) anew
+      ∙ sym there ∙ ap go (sym (dropped (begins_with_syn w) w (syn_flows ws) s))
+
+  by_cases : (w : Watched) (ws : List Watched) (o : Option ℕ) (m : Bool) → last ws ≡ o → Mine w ≡ m → AreFirst (w ∷ ws) → syn_flows (go_all ws) ≡ go (syn_flows ws) →
+      syn_flows (go_all (w ∷ ws)) ≡ go (syn_flows (w ∷ ws))
+  by_cases w ws (Some i) false h m f ih = goes_on w ws (begins_with_syn w) refl (all_some w ws i h) (λ s. go_other w (syn_flows ws) (last (syn_flows ws)) refl m) ih
+  by_cases w ws (Some i) true h m f ih =
+      let (j, is) = some_stays ws i (f.1 p.source asset m) h in
+      goes_on w ws (begins_with_syn w) refl (all_some w ws i h) (λ s. go_some w (syn_flows ws) j is) ih
+  by_cases w ws None false h m f ih = goes_on w ws (begins_with_syn w) refl (all_none w ws h m) (λ s. go_other w (syn_flows ws) (last (syn_flows ws)) refl m) ih
+  by_cases w ws None true h m f ih = mine_here w ws (begins_with_syn w) refl m h f.0
+
+  commutes : (ws : List Watched) → AreFirst ws → syn_flows (go_all ws) ≡ go (syn_flows ws)
+  commutes [] f = front (begins_amid scope.Recording p) (is_opening p) (λ e. no_syn (has_syn p) (has_rst p) (not (has_ack p || (has_rst p || has_fin p))) (not (length p.text == 0)) e)
+  commutes (w ∷ ws) f = by_cases w ws (last ws) (Mine w) refl refl f (commutes ws f.2)
+
+  -- ---- and what is kept of those that do not
+
+  none_mine : (ws : List Watched) → last ws ≡ None → AllByRecursion (λ w. Mine w ≡ false) ws
+  none_mine [] e = tt
+  none_mine (w ∷ ws) e = let left = none_left (last ws) (Mine w) e in (left.1, none_mine ws left.0)
+
+  apart_by : (w : Watched) (client : Endpoint) (other : ℕ) (b : Bool) → Mine w ≡ false → is_between client other w ≡ true → is_between client other amid ≡ b → b ≡ false
+  apart_by w client other false m e same = refl
+  apart_by w client other true m e same =
+      let ends = and_left (same_endpoint p.source client) (asset == other) same in
+      let a = number_is p.source.address client.address (and_left (p.source.address == client.address) _ ends) in
+      let b = number_is p.source.port client.port (and_right (p.source.address == client.address) _ ends) in
+      let c = number_is asset other (and_right (same_endpoint p.source client) _ same) in
+      let mine : Mine w ≡ is_between client other w =
+      ap (λ n. ((w.client.address == n) && (w.client.port == p.source.port)) && (w.asset == asset)) a
+      ∙ ap (λ n. ((w.client.address == client.address) && (w.client.port == n)) && (w.asset == asset)) b
+      ∙ ap (λ n. ((w.client.address == client.address) && (w.client.port == client.port)) && (w.asset == n)) c in
+      absurd (false≢true (sym m ∙ mine ∙ e))
+
+  all_apart : (ws : List Watched) → AllByRecursion (λ w. Mine w ≡ false) ws → AllByRecursion (IsApart amid) ws
+  all_apart [] a = tt
+  all_apart (w ∷ ws) a = ((λ client other e s. apart_by w client other (is_between client other amid) a.0 e refl), all_apart ws a.1)
+
+  all_new : (ws : List Watched) → AllByRecursion (IsApart new) ws
+  all_new [] = tt
+  all_new (w ∷ ws) = ((λ client other e s. absurd (false≢true (sym s))), all_new ws)
+
+  first_if : (b : Bool) (xs ys : List Watched) → AreFirst xs → AreFirst ys → AreFirst (if b then xs else ys)
+  first_if true xs ys a b = a
+  first_if false xs ys a b = b
+
+  with_new : (ws : List Watched) → AreFirst ws → AreFirst (ws ++ new ∷ [])
+  with_new ws f = first_append ws new f (λ s. absurd (false≢true (sym s))) (all_new ws)
+
+  first_to : (i : ℕ) (o : Option Watched) (ws : List Watched) → slice_get ws i ≡ o → AreFirst ws → AreFirst (goes_to number asset i p o ws)
+  first_to i None ws e f = f
+  first_to i (Some x) ws e f = first_if (begins_anew p x) (ws ++ new ∷ []) (set ws i (with_packet number p x)) (with_new ws f) (first_set number p ws i x e f)
+
+  first_from : (o : Option ℕ) (ws : List Watched) → last ws ≡ o → AreFirst ws → AreFirst (goes_from scope.Recording number asset p o ws)
+  first_from None ws e f =
+      first_if (begins_amid scope.Recording p) (ws ++ amid ∷ []) (goes_at number asset p None ws)
+      (first_append ws amid f (λ s. refl) (all_apart ws (none_mine ws e)))
+      (first_if (is_opening p) (ws ++ new ∷ []) ws (with_new ws f) f)
+  first_from (Some i) ws e f = first_to i (slice_get ws i) ws refl f
+
+-- ---- record by record
+
+alike_goes : (number : ℕ) (p : PacketValue) (o : Option ℕ) (ws : List Watched) → AreFirst ws →
+    AreFirst (goes_to_asset scope.Recording number p o ws) × (syn_flows (goes_to_asset scope.Recording number p o ws) ≡ goes number p o (syn_flows ws))
+alike_goes number p None ws f = (f, refl)
+alike_goes number p (Some asset) ws f = (first_from number asset p (last_place p.source asset ws) ws refl f, commutes number asset p ws f)
+
+alike_record : (assets : List Asset) (number : ℕ) (r : Result PacketValue PacketRefusal) (ws : List Watched) → AreFirst ws →
+    AreFirst (with_frame scope.Recording assets number r ws) × (syn_flows (with_frame scope.Recording assets number r ws) ≡ with_record assets number r (syn_flows ws))
+alike_record assets number (Err refusal) ws f = (f, refl)
+alike_record assets number (Ok p) ws f = alike_goes number p (asset_place assets p.dest) ws f
+
+alike : (assets : List Asset) (newest : List Record) → AllByRecursion HasNoTag newest →
+    AreFirst (seen_by scope.Recording assets newest) × (syn_flows (seen_by scope.Recording assets newest) ≡ watched assets newest)
+alike assets [] none = (tt, refl)
+alike assets (r ∷ earlier) none =
+    let before = alike assets earlier none.1 in
+    let number = length earlier + 1 in
+    let one = alike_record assets number (read_record r.link (frame_by scope.Recording r.link r.body)) (seen_by scope.Recording assets earlier) before.0 in (
+      one.0,
+      one.1 ∙ ap (λ body. with_record assets number (read_record r.link body) (syn_flows (seen_by scope.Recording assets earlier))) none.0
+          ∙ ap (with_record assets number (read_record r.link r.body)) before.1,
+    )
+
+pub are_watched : SynFlowsAreWatched
+are_watched assets newest none = (alike assets newest none).1

@@ -1,0 +1,23 @@
+-- The flows of a review that begin with a SYN are those of the judge: SynFlowsAreWatched.
+use Rattle.std.specs.Prelude.{◌≡◌, Bool, List, is_none}
+use Rattle.std.specs.List.{AllByRecursion, filter}
+use Rattle.cf_policy.specs.declared.Asset.{Asset}
+use Rattle.cf_run.specs.Capture.{Record}
+use Rattle.cf_watch.specs.Seen.{seen_by}
+use Rattle.cf_watch.specs.Tagged.{untagged}
+use Rattle.cf_watch.specs.Watched.{Watched, watched}
+use Rattle.cf_watch.specs.declared.Scope.TheVariants as scope
+
+-- a flow begins with a SYN, and not amid its stream
+abbrev pub begins_with_syn : Watched → Bool
+begins_with_syn w = is_none w.midstream
+
+-- the frame of a record has no VLAN tag
+abbrev pub HasNoTag : Record → Type 0
+HasNoTag r = untagged r.link r.body ≡ r.body
+
+-- in a capture without tags, in their order
+abbrev pub SynFlowsAreWatched : Type 0
+SynFlowsAreWatched =
+    (assets : List Asset) (newest : List Record) → AllByRecursion HasNoTag newest →
+    filter begins_with_syn (seen_by scope.Recording assets newest) ≡ watched assets newest
