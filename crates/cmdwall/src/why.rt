@@ -14,6 +14,7 @@ use cf_machine::{LinkFault, Part, RealFiles, Withheld};
 use cf_outside::{Files, ReadAnswer, WholeFault, read_whole};
 use cf_policy::Policy;
 use cf_policylang::{Cause, Key, LONGEST_TEXT, PolicyFault, PolicyRefusal, read_policy};
+use cf_remarks::Frames;
 use cf_watch::CAPTURE_LIMIT;
 use std::io;
 use std::rt::Files as FileSystem;
