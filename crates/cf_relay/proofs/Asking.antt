@@ -4,25 +4,27 @@ use Rattle.std.specs.Prelude.{IfErr, OnOk}
 use Rattle.std.specs.List.{list_any}
 use Rattle.std.specs.Option.{option_or}
 use Rattle.cf_audit.specs.declared.line.CutReason.{CutReason}
-use Rattle.cf_lane.specs.Follows.{rest_of}
+use Rattle.cf_lane.specs.Follows.{over, rest_of}
 use Rattle.cf_lane.specs.Handled.{WritesLog}
 use Rattle.cf_lane.specs.Laws.{QuietBehindEnd, StreamsGoOn}
 use Rattle.cf_lane.specs.Limit.{limit_by, limit_cut}
 use Rattle.cf_lane.specs.Output.{other, stream_to}
 use Rattle.cf_lane.specs.declared.limit.TheConstants.{LETTER_LIMIT}
+use Rattle.cf_links.specs.LinkValue.{LinkValue}
+use Rattle.cf_links.specs.Links.{SessionTold, with_answers}
 use Rattle.cf_outq.specs.SendQueue.{Queue, queue_length}
 use Rattle.cf_outside.specs.Desk.{DeskValue}
 use Rattle.cf_outside.specs.Pair.{Entry, Idle}
-use Rattle.cf_outside.specs.PairValue.{PairValue}
 use Rattle.cf_policy.specs.declared.Asset.{Asset}
 use Rattle.cf_view.specs.declared.Side.{Side}
 use Rattle.cf_view.specs.declared.Side.TheVariants as side
 use Rattle.cf_relay.proofs.Doing.{IsQuiet, by_own, by_side, quiet_idle, quiet_none, silent_kept}
 use Rattle.cf_relay.proofs.Giving.{with_none}
 use Rattle.cf_relay.proofs.Hearing.{or_false}
+use Rattle.cf_relay.proofs.Lined.{apart_none}
 use Rattle.cf_relay.proofs.Stages.{breaks_nothing, no_take, one_broken, one_stage, open_ended, takes_stage}
-use Rattle.cf_relay.proofs.Standing.{Silent, TakesTo, stands_cut, stands_full, stands_heard, stands_missed, stands_silent}
-use Rattle.cf_relay.specs.Answers.{closes, history_of, idles_after, with_answers}
+use Rattle.cf_relay.proofs.Standing.{Silent, TakesTo, left_apart, stands_cut, stands_full, stands_heard, stands_missed, stands_silent}
+use Rattle.cf_relay.specs.Answers.{closes, history_of, idles_after}
 use Rattle.cf_relay.specs.Relaying.{RelayingValue, is_closed, lane_state, letters_from, queue_to, rests_of}
 use Rattle.cf_relay.specs.Scene.{AddsAnswers, DoesBetween, RoseBy, StopsBetween, StopsBy, scene}
 use Rattle.cf_relay.specs.Taken.{LimitBy, MayTakeNow, TakeState, TakesAnswer, TakesBy, take_state}
@@ -31,15 +33,19 @@ use Rattle.cf_relay.specs.declared.stop.Stop.{Stop}
 use Rattle.cf_relay.specs.declared.stop.Stop.TheVariants as stop
 
 -- what a call on a side changes of a relay
-abbrev pub take_state_of : Side → RelayingValue → Option (List (List ℕ)) → Option (List Entry) → TakeState
+abbrev pub take_state_of : Side → RelayingValue → Option (List (List ℕ)) → SessionTold → TakeState
 take_state_of s now log told = take_state (lane_state now log) (rest_of s (rests_of now)) (letters_from s now) now.idle told
 
 rests_same : (s : Side) (old new : RelayingValue) → rest_of s (rests_of new) ≡ rest_of s (rests_of old) → rest_of (other s) (rests_of new) ≡ rest_of (other s) (rests_of old) → rests_of new ≡ rests_of old
 rests_same side.Client old new e d = ap (λ (xs : List ℕ). record { client = xs; controller = new.controller_rest }) e ∙ ap (λ (xs : List ℕ). record { client = old.client_rest; controller = xs }) d
 rests_same side.Controller old new e d = ap (λ (xs : List ℕ). record { client = new.client_rest; controller = xs }) e ∙ ap (λ (xs : List ℕ). record { client = xs; controller = old.controller_rest }) d
 
+-- the same over a log of its own
+own_same : (own : Option (List (List ℕ))) (a b : TakeState) → a ≡ b → record a { state = over own a.state } ≡ record b { state = over own b.state }
+own_same own a b same = ap (λ (x : TakeState). record x { state = over own x.state }) same
+
 -- nothing came, or an answer Idle: the lane, its queues and its log are as they were
-silent_asked : (s : Side) (answers : List Entry) (old new : RelayingValue) (log log' : Option (List (List ℕ))) (told told' t : Option (List Entry)) (n : ℕ) → TakesTo s old new → IsQuiet answers → ((t : Side) → list_any (closes t) answers ≡ false) →
+silent_asked : (s : Side) (answers : List Entry) (old new : RelayingValue) (log log' : Option (List (List ℕ))) (told told' t : SessionTold) (n : ℕ) → TakesTo s old new → IsQuiet answers → ((t : Side) → list_any (closes t) answers ≡ false) →
     take_state_of s new log' told' ≡ record (take_state_of s old log told) { idle = n; told = t } → n ≡ idles_after old.idle answers → Silent answers old new log log'
 silent_asked s answers old new log log' told told' t n to quiet unclosed same idle =
     silent_kept answers old new log log' quiet
@@ -58,75 +64,78 @@ none_some x reason none is = cc
 
 -- ---- a side was asked, or passed over, and what followed
 
-module _ (law : StreamsGoOn) (quiet : QuietBehindEnd) (asset : Asset) (most : ℕ) (s : Side) (old new : RelayingValue) (pair pair' : PairValue) (desk desk' : DeskValue) (few : old.idle < most) (to : TakesTo s old new)
-    (later : pair.faults ≤ pair'.faults) (idles : (start : ℕ) → RoseBy old.idle start pair.idles → RoseBy new.idle start pair'.idles) (log : WritesLog desk desk') where
-  adds_answer : (answers : List Entry) → pair'.told ≡ with_answers pair.told answers → AddsAnswers (scene old pair desk) (scene new pair' desk') answers
+module _ (law : StreamsGoOn) (quiet : QuietBehindEnd) (asset : Asset) (most : ℕ) (s : Side) (old new : RelayingValue) (links links' : LinkValue) (desk desk' : DeskValue) (few : old.idle < most) (to : TakesTo s old new)
+    (later : links.faults ≤ links'.faults) (idles : (start : ℕ) → RoseBy old.idle start links.idles → RoseBy new.idle start links'.idles) (log : WritesLog desk desk') where
+  adds_answer : (answers : List Entry) → links'.told ≡ with_answers links.told answers → AddsAnswers (scene old links desk) (scene new links' desk') answers
   adds_answer answers e = record { tells = e; link = later; idles = idles; log = log }
 
   -- passed over
-  skip_goes : pair'.faults ≡ pair.faults → take_state_of s new desk'.lines pair'.told ≡ take_state_of s old desk.lines pair.told → (MayTakeNow s old.to_client old.to_controller → ⊥) →
-      DoesBetween asset most (Taking s ∷ []) (scene old pair desk) (scene new pair' desk')
+  skip_goes : links'.faults ≡ links.faults → take_state_of s new desk'.lines links'.told ≡ take_state_of s old desk.lines links.told → (MayTakeNow s old.to_client old.to_controller → ⊥) →
+      DoesBetween asset most (Taking s ∷ []) (scene old links desk) (scene new links' desk')
   skip_goes still same never = record {
     answers = [];
-    adds = adds_answer [] (ap (λ (x : TakeState). x.told) same ∙ with_none pair.told);
+    adds = adds_answer [] (ap (λ (x : TakeState). x.told) same ∙ with_none links.told);
     still = still;
-    does = λ first es st. (
-      one_stage asset most (Taking s) es [] (no_take asset most first es old desk.lines st few s never),
-      stands_silent asset first es [] old new desk.lines desk'.lines st
-          (silent_asked s [] old new desk.lines desk'.lines pair.told pair'.told pair.told old.idle to quiet_none (λ t. refl) same refl),
+    does = λ first own es st. (
+      one_stage asset most (Taking s) es [] (no_take asset most first es old own st few s never),
+      apart_none own desk.lines desk'.lines _ (ap (λ (x : TakeState). x.state.lines) same)
+          (stands_silent asset first es [] old new own own st
+          (silent_asked s [] old new own own links.told links'.told links.told old.idle to quiet_none (λ t. refl) (own_same own _ _ same) refl)),
     );
   }
 
-  take_goes : pair'.faults ≡ pair.faults → MayTakeNow s old.to_client old.to_controller → TakesAnswer asset old.moment s None (take_state_of s old desk.lines pair.told) (take_state_of s new desk'.lines pair'.told) →
-      limit_by LETTER_LIMIT new.client_letters new.controller_letters (queue_length new.to_client) (queue_length new.to_controller) ≡ None → DoesBetween asset most (Taking s ∷ []) (scene old pair desk) (scene new pair' desk')
+  take_goes : links'.faults ≡ links.faults → MayTakeNow s old.to_client old.to_controller → TakesAnswer asset old.moment s None (take_state_of s old desk.lines links.told) (take_state_of s new desk'.lines links'.told) →
+      limit_by LETTER_LIMIT new.client_letters new.controller_letters (queue_length new.to_client) (queue_length new.to_controller) ≡ None → DoesBetween asset most (Taking s ∷ []) (scene old links desk) (scene new links' desk')
   take_goes still may takes short = record {
     answers = takes.answer ∷ [];
     adds = adds_answer (takes.answer ∷ []) takes.answers.tells;
     still = still;
-    does = λ first es st. (
-      one_stage asset most (Taking s) es (takes.answer ∷ []) (takes_stage asset most first es old desk.lines st few s takes.answer may takes.answers.is_taken),
-      stands_heard law asset first es s takes.answer takes.answers.is_taken old desk.lines st new desk'.lines to (open_ended asset most first es old desk.lines st s may.open_still)
-          takes.answers.letters takes.answers.idles takes.hears quiet short,
+    does = λ first own es st. (
+      one_stage asset most (Taking s) es (takes.answer ∷ []) (takes_stage asset most first es old own st few s takes.answer may takes.answers.is_taken),
+      left_apart law asset first es s takes.answer takes.answers.is_taken old own desk.lines st new desk'.lines None to takes.hears _
+          (stands_heard law asset first es s takes.answer takes.answers.is_taken old own desk.lines st new desk'.lines to (open_ended asset most first es old own st s may.open_still)
+          takes.answers.letters takes.answers.idles takes.hears quiet short),
     );
   }
 
-  full_stops : pair'.faults ≡ pair.faults → MayTakeNow s old.to_client old.to_controller → TakesAnswer asset old.moment s None (take_state_of s old desk.lines pair.told) (take_state_of s new desk'.lines pair'.told) → (reason : CutReason) →
-      limit_by LETTER_LIMIT new.client_letters new.controller_letters (queue_length new.to_client) (queue_length new.to_controller) ≡ Some reason → StopsBetween asset most (Taking s ∷ []) (stop.Cut reason) (scene old pair desk) (scene new pair' desk')
+  full_stops : links'.faults ≡ links.faults → MayTakeNow s old.to_client old.to_controller → TakesAnswer asset old.moment s None (take_state_of s old desk.lines links.told) (take_state_of s new desk'.lines links'.told) → (reason : CutReason) →
+      limit_by LETTER_LIMIT new.client_letters new.controller_letters (queue_length new.to_client) (queue_length new.to_controller) ≡ Some reason → StopsBetween asset most (Taking s ∷ []) (stop.Cut reason) (scene old links desk) (scene new links' desk')
   full_stops still may takes reason full = record {
     answers = takes.answer ∷ [];
     adds = adds_answer (takes.answer ∷ []) takes.answers.tells;
     cause = still;
-    does = λ first es st. (
-      one_broken asset most (Taking s) es (takes.answer ∷ []) (takes_stage asset most first es old desk.lines st few s takes.answer may takes.answers.is_taken),
-      stands_full law asset first es s takes.answer takes.answers.is_taken old desk.lines st new desk'.lines to (open_ended asset most first es old desk.lines st s may.open_still)
-          takes.answers.letters takes.answers.idles takes.hears reason full,
+    does = λ first own es st. (
+      one_broken asset most (Taking s) es (takes.answer ∷ []) (takes_stage asset most first es old own st few s takes.answer may takes.answers.is_taken),
+      left_apart law asset first es s takes.answer takes.answers.is_taken old own desk.lines st new desk'.lines None to takes.hears _
+          (stands_full law asset first es s takes.answer takes.answers.is_taken old own desk.lines st new desk'.lines to (open_ended asset most first es old own st s may.open_still)
+          takes.answers.letters takes.answers.idles takes.hears reason full),
     );
   }
 
-  pub take_stops : (why : Stop) → TakesBy asset old.moment most s (take_state_of s old desk.lines pair.told) (take_state_of s new desk'.lines pair'.told) desk' (Err why) →
-      StopsBy why (scene old pair desk) (scene new pair' desk') → StopsBetween asset most (Taking s ∷ []) why (scene old pair desk) (scene new pair' desk')
+  pub take_stops : (why : Stop) → TakesBy asset old.moment most s (take_state_of s old desk.lines links.told) (take_state_of s new desk'.lines links'.told) desk' (Err why) →
+      StopsBy why (scene old links desk) (scene new links' desk') → StopsBetween asset most (Taking s ∷ []) why (scene old links desk) (scene new links' desk')
   take_stops stop.Idle (may, full, same) cause = record {
     answers = Idle s ∷ [];
     adds = adds_answer (Idle s ∷ []) (ap (λ (x : TakeState). x.told) same);
     cause = cause;
-    does = λ first es st. (
-      one_broken asset most (Taking s) es (Idle s ∷ []) (takes_stage asset most first es old desk.lines st few s (Idle s) may refl),
-      (
-        stands_silent asset first es (Idle s ∷ []) old new desk.lines desk'.lines st
-            (silent_asked s (Idle s ∷ []) old new desk.lines desk'.lines pair.told pair'.told (with_answers pair.told (Idle s ∷ [])) (old.idle + 1) to (quiet_idle s) (λ t. refl) same (omega arith)),
+    does = λ first own es st. (
+      one_broken asset most (Taking s) es (Idle s ∷ []) (takes_stage asset most first es old own st few s (Idle s) may refl),
+      apart_none own desk.lines desk'.lines _ (ap (λ (x : TakeState). x.state.lines) same) (
+        stands_silent asset first es (Idle s ∷ []) old new own own st
+            (silent_asked s (Idle s ∷ []) old new own own links.told links'.told (with_answers links.told (Idle s ∷ [])) (old.idle + 1) to (quiet_idle s) (λ t. refl) (own_same own _ _ same) (omega arith)),
         full,
       ),
     );
   }
   take_stops stop.Link same cause = record {
     answers = [];
-    adds = adds_answer [] (ap (λ (x : TakeState). x.told) same ∙ with_none pair.told);
+    adds = adds_answer [] (ap (λ (x : TakeState). x.told) same ∙ with_none links.told);
     cause = cause;
-    does = λ first es st. (
+    does = λ first own es st. (
       breaks_nothing asset most (Taking s ∷ []) es,
-      (
-        stands_silent asset first es [] old new desk.lines desk'.lines st
-            (silent_asked s [] old new desk.lines desk'.lines pair.told pair'.told pair.told old.idle to quiet_none (λ t. refl) same refl),
+      apart_none own desk.lines desk'.lines _ (ap (λ (x : TakeState). x.state.lines) same) (
+        stands_silent asset first es [] old new own own st
+            (silent_asked s [] old new own own links.told links'.told links.told old.idle to quiet_none (λ t. refl) (own_same own _ _ same) refl),
         subst (λ (n : ℕ). n < most) (sym (ap (λ (x : TakeState). x.idle) same)) few,
       ),
     );
@@ -135,26 +144,27 @@ module _ (law : StreamsGoOn) (quiet : QuietBehindEnd) (asset : Asset) (most : �
     answers = answer ∷ [];
     adds = adds_answer (answer ∷ []) answers.tells;
     cause = cause;
-    does = λ first es st. (
-      one_broken asset most (Taking s) es (answer ∷ []) (takes_stage asset most first es old desk.lines st few s answer may answers.is_taken),
-      stands_missed law asset first es s answer answers.is_taken old desk.lines st desk' misses,
+    does = λ first own es st. (
+      one_broken asset most (Taking s) es (answer ∷ []) (takes_stage asset most first es old own st few s answer may answers.is_taken),
+      stands_missed law asset first es s answer answers.is_taken old own desk.lines st desk' misses,
     );
   }
   take_stops (stop.Cut reason) (may, takes) cause = record {
     answers = takes.answer ∷ [];
     adds = adds_answer (takes.answer ∷ []) takes.answers.tells;
     cause = cause;
-    does = λ first es st. (
-      one_broken asset most (Taking s) es (takes.answer ∷ []) (takes_stage asset most first es old desk.lines st few s takes.answer may takes.answers.is_taken),
-      stands_cut law asset first es s takes.answer takes.answers.is_taken old desk.lines st new desk'.lines (Some reason) to takes.hears reason
-          (λ js cuts qc qk. ap (λ c. option_or c (limit_cut LETTER_LIMIT (history_of (es ++ takes.answer ∷ [])) (stream_to asset side.Client js) (stream_to asset side.Controller js))) cuts),
+    does = λ first own es st. (
+      one_broken asset most (Taking s) es (takes.answer ∷ []) (takes_stage asset most first es old own st few s takes.answer may takes.answers.is_taken),
+      left_apart law asset first es s takes.answer takes.answers.is_taken old own desk.lines st new desk'.lines (Some reason) to takes.hears _
+          (stands_cut law asset first es s takes.answer takes.answers.is_taken old own desk.lines st new desk'.lines (Some reason) to takes.hears reason
+          (λ js cuts qc qk. ap (λ c. option_or c (limit_cut LETTER_LIMIT (history_of (es ++ takes.answer ∷ [])) (stream_to asset side.Client js) (stream_to asset side.Controller js))) cuts)),
     );
   }
 
-  letters_same : take_state_of s new desk'.lines pair'.told ≡ take_state_of s old desk.lines pair.told → (t : Side) → letters_from t new ≡ letters_from t old
+  letters_same : take_state_of s new desk'.lines links'.told ≡ take_state_of s old desk.lines links.told → (t : Side) → letters_from t new ≡ letters_from t old
   letters_same same = by_own (λ t. letters_from t new ≡ letters_from t old) s (ap (λ (x : TakeState). x.letters) same) to.other_letters
 
-  limit_same : take_state_of s new desk'.lines pair'.told ≡ take_state_of s old desk.lines pair.told →
+  limit_same : take_state_of s new desk'.lines links'.told ≡ take_state_of s old desk.lines links.told →
       limit_by LETTER_LIMIT old.client_letters old.controller_letters (queue_length old.to_client) (queue_length old.to_controller)
       ≡ limit_by LETTER_LIMIT new.client_letters new.controller_letters (queue_length new.to_client) (queue_length new.to_controller)
   limit_same same =
@@ -164,10 +174,10 @@ module _ (law : StreamsGoOn) (quiet : QuietBehindEnd) (asset : Asset) (most : �
       ∙ ap (λ (q : Queue). limit_by LETTER_LIMIT new.client_letters new.controller_letters (queue_length new.to_client) (queue_length q)) (sym (ap (λ (x : TakeState). x.state.to_controller) same))
 
   -- a side that was passed over leaves what it was, which was short
-  pub limit_goes : pair'.faults ≡ pair.faults → (x : Unit {0}) (r : Result Unit Stop) → TakesBy asset old.moment most s (take_state_of s old desk.lines pair.told) (take_state_of s new desk'.lines pair'.told) desk' (Ok x) →
+  pub limit_goes : links'.faults ≡ links.faults → (x : Unit {0}) (r : Result Unit Stop) → TakesBy asset old.moment most s (take_state_of s old desk.lines links.told) (take_state_of s new desk'.lines links'.told) desk' (Ok x) →
       limit_by LETTER_LIMIT old.client_letters old.controller_letters (queue_length old.to_client) (queue_length old.to_controller) ≡ None →
       LimitBy new.client_letters new.controller_letters (queue_length new.to_client) (queue_length new.to_controller) r →
-      OnOk r (DoesBetween asset most (Taking s ∷ []) (scene old pair desk) (scene new pair' desk')) × IfErr r (λ why. StopsBetween asset most (Taking s ∷ []) why (scene old pair desk) (scene new pair' desk'))
+      OnOk r (DoesBetween asset most (Taking s ∷ []) (scene old links desk) (scene new links' desk')) × IfErr r (λ why. StopsBetween asset most (Taking s ∷ []) why (scene old links desk) (scene new links' desk'))
   limit_goes still x (Ok y) (inl (never, same)) short limit = (skip_goes still same never, tt)
   limit_goes still x (Ok y) (inr (may, goes, takes)) short limit = (take_goes still may takes limit, tt)
   limit_goes still x (Err stop.Idle) takes short limit = absurd limit

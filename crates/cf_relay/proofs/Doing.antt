@@ -3,17 +3,19 @@ use Rattle.std.proofs.Common.{Bool, Err, List, Ok, Option, [], ap, arith, false,
 use Rattle.std.specs.List.{flat_map, list_any}
 use Rattle.std.proofs.lemmas.List.{append-nil}
 use Rattle.cf_lane.specs.Output.{other}
+use Rattle.cf_links.specs.LinkValue.{LinkValue}
+use Rattle.cf_links.specs.Links.{SessionTold, with_entry}
 use Rattle.cf_outq.specs.SendQueue.{IsQueueOf, Queue}
 use Rattle.cf_outside.specs.Desk.{DeskValue}
 use Rattle.cf_outside.specs.Faults.{Rose}
-use Rattle.cf_outside.specs.Pair.{Entry, Finished, Idle, Moment, Took, with_entry}
-use Rattle.cf_outside.specs.PairValue.{PairValue}
+use Rattle.cf_outside.specs.Pair.{Entry, Finished, Idle, Moment, Took}
 use Rattle.cf_policy.specs.declared.Asset.{Asset}
 use Rattle.cf_stream.specs.Stream.{Stream}
 use Rattle.cf_view.specs.declared.Side.{Side}
 use Rattle.cf_view.specs.declared.Side.TheVariants as side
 use Rattle.cf_relay.proofs.Giving.{given_more, with_none}
 use Rattle.cf_relay.proofs.Hearing.{or_false}
+use Rattle.cf_relay.proofs.Lined.{apart_none}
 use Rattle.cf_relay.proofs.Lists.{closes_more, history_more, met_more, told_more}
 use Rattle.cf_relay.proofs.Scenes.{writes_none}
 use Rattle.cf_relay.proofs.Stages.{begins_stage, breaks_nothing, finishes_stage, gives_stage, no_finish, one_broken, one_stage, tells_stage}
@@ -175,7 +177,7 @@ giving_all s queued answers g = giving_until s g.pieces g.rest answers g.until
 giving_begun : (s : Side) (queued : List ℕ) (answers : List Entry) → BeginsToGive s queued answers → IsGiving s answers
 giving_begun s queued answers g = subst (IsGiving s) (sym g.all) (giving_pieces s g.pieces)
 
-silent_gives : (s : Side) (old new : RelayingValue) (log : Option (List (List ℕ))) (told told' : Option (List Entry)) (answers : List Entry) → IsGiving s answers → GivesTo s old new →
+silent_gives : (s : Side) (old new : RelayingValue) (log : Option (List (List ℕ))) (told told' : SessionTold) (answers : List Entry) → IsGiving s answers → GivesTo s old new →
     Gave s (queue_to s old) (queue_to s new) told told' old.idle new.idle answers → ((w : Stream) → IsQueueOf (queue_to s old) w → IsQueueOf (queue_to s new) w) → Silent answers old new log log
 silent_gives s old new log told told' answers is to gave stands = record {
   history = is.history;
@@ -196,63 +198,63 @@ silent_gives s old new log told told' answers is to gave stands = record {
 
 -- ---- telling
 
-pub tell_goes : (asset : Asset) (most : ℕ) (old : RelayingValue) (pair pair' : PairValue) (desk : DeskValue) (m now : ℕ) → now ≡ max old.moment m → old.idle < most → (AreClosed old → ⊥) → pair'.told ≡ with_entry pair.told (Moment m) →
-    pair.faults ≤ pair'.faults → pair'.faults ≡ pair.faults → pair'.idles ≡ pair.idles → DoesBetween asset most (Telling ∷ []) (scene old pair desk) (scene (record old { moment = now }) pair' desk)
-tell_goes asset most old pair pair' desk m now is few still e later none same =
-    subst (λ n. DoesBetween asset most (Telling ∷ []) (scene old pair desk) (scene (record old { moment = n }) pair' desk)) (sym is) (record {
+pub tell_goes : (asset : Asset) (most : ℕ) (old : RelayingValue) (links links' : LinkValue) (desk : DeskValue) (m now : ℕ) → now ≡ max old.moment m → old.idle < most → (AreClosed old → ⊥) → links'.told ≡ with_entry links.told (Moment m) →
+    links.faults ≤ links'.faults → links'.faults ≡ links.faults → links'.idles ≡ links.idles → DoesBetween asset most (Telling ∷ []) (scene old links desk) (scene (record old { moment = now }) links' desk)
+tell_goes asset most old links links' desk m now is few still e later none same =
+    subst (λ n. DoesBetween asset most (Telling ∷ []) (scene old links desk) (scene (record old { moment = n }) links' desk)) (sym is) (record {
       answers = Moment m ∷ [];
       adds = record { tells = e; link = later; idles = λ start r. omega (arith, r, same); log = writes_none desk };
       still = none;
-      does = λ first es st. (
-        one_stage asset most Telling es (Moment m ∷ []) (tells_stage asset most first es old desk.lines st few still m),
-        stands_silent asset first es (Moment m ∷ []) old (record old { moment = max old.moment m }) desk.lines desk.lines st (silent_moment old desk.lines m),
+      does = λ first own es st. (
+        one_stage asset most Telling es (Moment m ∷ []) (tells_stage asset most first es old own st few still m),
+        apart_none own desk.lines desk.lines _ refl (stands_silent asset first es (Moment m ∷ []) old (record old { moment = max old.moment m }) own own st (silent_moment old own m)),
       );
     })
 
 -- nothing was done, and a call on the pair failed
-pub link_stops : (asset : Asset) (most : ℕ) (ps : List Stage) (old : RelayingValue) (pair pair' : PairValue) (desk : DeskValue) → old.idle < most → pair'.told ≡ pair.told → Rose pair.faults pair'.faults →
-    pair'.idles ≡ pair.idles → pair.faults ≤ pair'.faults → StopsBetween asset most ps stop.Link (scene old pair desk) (scene old pair' desk)
-link_stops asset most ps old pair pair' desk few e rose same later = record {
+pub link_stops : (asset : Asset) (most : ℕ) (ps : List Stage) (old : RelayingValue) (links links' : LinkValue) (desk : DeskValue) → old.idle < most → links'.told ≡ links.told → Rose links.faults links'.faults →
+    links'.idles ≡ links.idles → links.faults ≤ links'.faults → StopsBetween asset most ps stop.Link (scene old links desk) (scene old links' desk)
+link_stops asset most ps old links links' desk few e rose same later = record {
   answers = [];
-  adds = record { tells = e ∙ with_none pair.told; link = later; idles = λ start r. omega (arith, r, same); log = writes_none desk };
+  adds = record { tells = e ∙ with_none links.told; link = later; idles = λ start r. omega (arith, r, same); log = writes_none desk };
   cause = rose;
-  does = λ first es st. (breaks_nothing asset most ps es, (subst (λ (x : List Entry). StandsFor asset first x old desk.lines) (sym (append-nil es)) st, few));
+  does = λ first own es st. (breaks_nothing asset most ps es, apart_none own desk.lines desk.lines _ refl (subst (λ (x : List Entry). StandsFor asset first x old own) (sym (append-nil es)) st, few));
 }
 
 -- ---- giving
 
-module _ (asset : Asset) (most : ℕ) (s : Side) (old new : RelayingValue) (pair pair' : PairValue) (desk : DeskValue) (few : old.idle < most) (to : GivesTo s old new)
-    (stands : (w : Stream) → IsQueueOf (queue_to s old) w → IsQueueOf (queue_to s new) w) (later : pair.faults ≤ pair'.faults)
-    (idles : (start : ℕ) → RoseBy old.idle start pair.idles → RoseBy new.idle start pair'.idles) where
-  pub give_goes : pair'.faults ≡ pair.faults → (x : Unit {0}) → GaveBy s most (queue_to s old) (queue_to s new) pair.told pair'.told old.idle new.idle (Ok x) → DoesBetween asset most (Giving s ∷ []) (scene old pair desk) (scene new pair' desk)
+module _ (asset : Asset) (most : ℕ) (s : Side) (old new : RelayingValue) (links links' : LinkValue) (desk : DeskValue) (few : old.idle < most) (to : GivesTo s old new)
+    (stands : (w : Stream) → IsQueueOf (queue_to s old) w → IsQueueOf (queue_to s new) w) (later : links.faults ≤ links'.faults)
+    (idles : (start : ℕ) → RoseBy old.idle start links.idles → RoseBy new.idle start links'.idles) where
+  pub give_goes : links'.faults ≡ links.faults → (x : Unit {0}) → GaveBy s most (queue_to s old) (queue_to s new) links.told links'.told old.idle new.idle (Ok x) → DoesBetween asset most (Giving s ∷ []) (scene old links desk) (scene new links' desk)
   give_goes still x (answers, gave, gives, goes) = record {
     answers = answers;
     adds = record { tells = gave.tells; link = later; idles = idles; log = writes_none desk };
     still = still;
-    does = λ first es st. (
-      one_stage asset most (Giving s) es answers (gives_stage asset most first es old desk.lines st few s answers gives),
-      stands_silent asset first es answers old new desk.lines desk.lines st (silent_gives s old new desk.lines pair.told pair'.told answers (giving_all s (queue_to s old).kept answers gives) to gave stands),
+    does = λ first own es st. (
+      one_stage asset most (Giving s) es answers (gives_stage asset most first es old own st few s answers gives),
+      apart_none own desk.lines desk.lines _ refl (stands_silent asset first es answers old new own own st (silent_gives s old new own links.told links'.told answers (giving_all s (queue_to s old).kept answers gives) to gave stands)),
     );
   }
 
-  pub give_stops : (why : Stop) → GaveBy s most (queue_to s old) (queue_to s new) pair.told pair'.told old.idle new.idle (Err why) → StopsBy why (scene old pair desk) (scene new pair' desk) →
-      StopsBetween asset most (Giving s ∷ []) why (scene old pair desk) (scene new pair' desk)
+  pub give_stops : (why : Stop) → GaveBy s most (queue_to s old) (queue_to s new) links.told links'.told old.idle new.idle (Err why) → StopsBy why (scene old links desk) (scene new links' desk) →
+      StopsBetween asset most (Giving s ∷ []) why (scene old links desk) (scene new links' desk)
   give_stops stop.Idle (answers, gave, gives, full) cause = record {
     answers = answers;
     adds = record { tells = gave.tells; link = later; idles = idles; log = writes_none desk };
     cause = cause;
-    does = λ first es st. (
-      one_broken asset most (Giving s) es answers (gives_stage asset most first es old desk.lines st few s answers gives),
-      (stands_silent asset first es answers old new desk.lines desk.lines st (silent_gives s old new desk.lines pair.told pair'.told answers (giving_all s (queue_to s old).kept answers gives) to gave stands), full),
+    does = λ first own es st. (
+      one_broken asset most (Giving s) es answers (gives_stage asset most first es old own st few s answers gives),
+      apart_none own desk.lines desk.lines _ refl (stands_silent asset first es answers old new own own st (silent_gives s old new own links.told links'.told answers (giving_all s (queue_to s old).kept answers gives) to gave stands), full),
     );
   }
   give_stops stop.Link (answers, gave, begins, goes) cause = record {
     answers = answers;
     adds = record { tells = gave.tells; link = later; idles = idles; log = writes_none desk };
     cause = cause;
-    does = λ first es st. (
-      inl (begins_stage asset most first es old desk.lines st few s answers begins),
-      (stands_silent asset first es answers old new desk.lines desk.lines st (silent_gives s old new desk.lines pair.told pair'.told answers (giving_begun s (queue_to s old).kept answers begins) to gave stands), goes),
+    does = λ first own es st. (
+      inl (begins_stage asset most first es old own st few s answers begins),
+      apart_none own desk.lines desk.lines _ refl (stands_silent asset first es answers old new own own st (silent_gives s old new own links.told links'.told answers (giving_begun s (queue_to s old).kept answers begins) to gave stands), goes),
     );
   }
   give_stops stop.Write gave cause = absurd gave
@@ -299,37 +301,37 @@ silent_same s old new log to closed =
     let same : (t : Side) → is_closed t new ≡ is_closed t old = by_own (λ t. is_closed t new ≡ is_closed t old) s closed to.others in
     silent_kept [] old new log log quiet_none to.keeps refl to.idle (λ t. same t ∙ sym (or_false (is_closed t old))) (λ t is. inl (sym (same t) ∙ is))
 
-module _ (asset : Asset) (most : ℕ) (s : Side) (old new : RelayingValue) (pair pair' : PairValue) (desk : DeskValue) (few : old.idle < most) (to : ClosesTo s old new)
-    (later : pair.faults ≤ pair'.faults) (same : pair'.idles ≡ pair.idles) where
-  pub finish_goes : pair'.faults ≡ pair.faults → (x : Unit {0}) → FinishesBy s (queue_to s old) (is_closed s old) (is_closed s new) pair.told pair'.told (Ok x) → DoesBetween asset most (Finishing s ∷ []) (scene old pair desk) (scene new pair' desk)
+module _ (asset : Asset) (most : ℕ) (s : Side) (old new : RelayingValue) (links links' : LinkValue) (desk : DeskValue) (few : old.idle < most) (to : ClosesTo s old new)
+    (later : links.faults ≤ links'.faults) (same : links'.idles ≡ links.idles) where
+  pub finish_goes : links'.faults ≡ links.faults → (x : Unit {0}) → FinishesBy s (queue_to s old) (is_closed s old) (is_closed s new) links.told links'.told (Ok x) → DoesBetween asset most (Finishing s ∷ []) (scene old links desk) (scene new links' desk)
   finish_goes still x (inl (last, closed, tells)) = record {
     answers = Finished s ∷ [];
     adds = record { tells = tells; link = later; idles = λ start r. omega (arith, r, same, to.idle); log = writes_none desk };
     still = still;
-    does = λ first es st. (
-      one_stage asset most (Finishing s) es (Finished s ∷ []) (finishes_stage asset most first es old desk.lines st few s last),
-      stands_silent asset first es (Finished s ∷ []) old new desk.lines desk.lines st (silent_close s old new desk.lines to closed last),
+    does = λ first own es st. (
+      one_stage asset most (Finishing s) es (Finished s ∷ []) (finishes_stage asset most first es old own st few s last),
+      apart_none own desk.lines desk.lines _ refl (stands_silent asset first es (Finished s ∷ []) old new own own st (silent_close s old new own to closed last)),
     );
   }
   finish_goes still x (inr (never, closed, tells)) = record {
     answers = [];
-    adds = record { tells = tells ∙ with_none pair.told; link = later; idles = λ start r. omega (arith, r, same, to.idle); log = writes_none desk };
+    adds = record { tells = tells ∙ with_none links.told; link = later; idles = λ start r. omega (arith, r, same, to.idle); log = writes_none desk };
     still = still;
-    does = λ first es st. (
-      one_stage asset most (Finishing s) es [] (no_finish asset most first es old desk.lines st few s never),
-      stands_silent asset first es [] old new desk.lines desk.lines st (silent_same s old new desk.lines to closed),
+    does = λ first own es st. (
+      one_stage asset most (Finishing s) es [] (no_finish asset most first es old own st few s never),
+      apart_none own desk.lines desk.lines _ refl (stands_silent asset first es [] old new own own st (silent_same s old new own to closed)),
     );
   }
 
-  pub finish_stops : (why : Stop) → FinishesBy s (queue_to s old) (is_closed s old) (is_closed s new) pair.told pair'.told (Err why) → StopsBy why (scene old pair desk) (scene new pair' desk) →
-      StopsBetween asset most (Finishing s ∷ []) why (scene old pair desk) (scene new pair' desk)
+  pub finish_stops : (why : Stop) → FinishesBy s (queue_to s old) (is_closed s old) (is_closed s new) links.told links'.told (Err why) → StopsBy why (scene old links desk) (scene new links' desk) →
+      StopsBetween asset most (Finishing s ∷ []) why (scene old links desk) (scene new links' desk)
   finish_stops stop.Link (closed, tells) cause = record {
     answers = [];
-    adds = record { tells = tells ∙ with_none pair.told; link = later; idles = λ start r. omega (arith, r, same, to.idle); log = writes_none desk };
+    adds = record { tells = tells ∙ with_none links.told; link = later; idles = λ start r. omega (arith, r, same, to.idle); log = writes_none desk };
     cause = cause;
-    does = λ first es st. (
+    does = λ first own es st. (
       breaks_nothing asset most (Finishing s ∷ []) es,
-      (stands_silent asset first es [] old new desk.lines desk.lines st (silent_same s old new desk.lines to closed), omega (arith, few, to.idle)),
+      apart_none own desk.lines desk.lines _ refl (stands_silent asset first es [] old new own own st (silent_same s old new own to closed), omega (arith, few, to.idle)),
     );
   }
   finish_stops stop.Idle none cause = absurd none

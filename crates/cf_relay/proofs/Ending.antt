@@ -1,12 +1,12 @@
 -- What the answers of a relay mean, by what was done and by the last line.
-use Rattle.std.proofs.Common.{Err, List, None, Ok, Option, Result, Some, [], ap, arith, drop, inl, inr, length, refl, subst, suc, sym, take, true, ℕ, ◌++◌, ◌<◌, ◌∙◌, ◌∷◌, ◌≡◌, ◌≤◌}
+use Rattle.std.proofs.Common.{Err, List, None, Ok, Option, Result, [], ap, arith, drop, inl, inr, length, refl, subst, suc, sym, take, true, ℕ, ◌++◌, ◌<◌, ◌∙◌, ◌∷◌, ◌≡◌, ◌≤◌}
 use Rattle.std.specs.List.{concat}
 use Rattle.std.specs.Option.{option_or}
-use Rattle.std.proofs.lemmas.List.{append-nil, append_assoc}
+use Rattle.std.proofs.lemmas.List.{append-nil}
 use Rattle.cf_audit.specs.Line.{Begun, Close, Cut}
 use Rattle.cf_audit.specs.declared.line.CutReason.{CutReason}
 use Rattle.cf_lane.specs.Follows.{AreJudged, Follows, no_rests}
-use Rattle.cf_lane.specs.Handled.{HasAdded, LaneValue, MayHaveAdded, MayHaveMore, state}
+use Rattle.cf_lane.specs.Handled.{HasAdded, IsLaneOf, LaneValue, MayHaveAdded, MayHaveMore, debt, state}
 use Rattle.cf_lane.specs.History.{ended_of, taken}
 use Rattle.cf_lane.specs.Judged.{Judged}
 use Rattle.cf_lane.specs.Limit.{limit_cut}
@@ -15,22 +15,22 @@ use Rattle.cf_lane.specs.Output.{other, outputs, stream_to}
 use Rattle.cf_lane.specs.declared.limit.TheConstants.{LETTER_LIMIT}
 use Rattle.cf_outq.specs.SendQueue.{IsQueueOf, Queue, empty}
 use Rattle.cf_outside.specs.Desk.{DeskValue}
-use Rattle.cf_outside.specs.Pair.{Entry, FaultsBy, Moment, met_at, with_entry}
+use Rattle.cf_outside.specs.Pair.{Entry, FaultsBy, Moment, met_at}
 use Rattle.cf_policy.specs.declared.Asset.{Asset}
 use Rattle.cf_stream.specs.Stream.{letter_count, no_letters}
 use Rattle.cf_view.specs.declared.Endpoint.{Endpoint}
 use Rattle.cf_view.specs.declared.Side.{Side}
 use Rattle.cf_view.specs.declared.Side.TheVariants as side
 use Rattle.cf_relay.proofs.Doing.{by_side}
-use Rattle.cf_relay.proofs.Giving.{with_more, with_one}
+use Rattle.cf_relay.proofs.Lined.{lines_both, lines_none}
 use Rattle.cf_relay.proofs.Standing.{limit_is}
 use Rattle.cf_relay.proofs.Stages.{breaks_nothing, does_broken, does_then, goes_on}
-use Rattle.cf_relay.specs.Answers.{given, history_of, is_finished, with_answers}
+use Rattle.cf_relay.specs.Answers.{given, history_of, is_finished}
 use Rattle.cf_relay.specs.Closing.{BeginsLines, ClosesWith, StopsWith, desk_log}
 use Rattle.cf_relay.specs.Ends.{EndsAs, GivenAll, IdlesRose, IdlesRoseAt, IsLinkEnd, IsWriteEnd, RelayEnds, close_line, cut_line, log_of}
-use Rattle.cf_relay.specs.Relaying.{RelayingValue, begun_value, is_closed, letters_from, queue_to}
+use Rattle.cf_relay.specs.Relaying.{IsSound, RelayingValue, begun_value, is_closed, letters_from, queue_to}
 use Rattle.cf_relay.specs.Scene.{RoseBy, Scene, StopsBy}
-use Rattle.cf_relay.specs.Stands.{GivenPrefixes, StandsCut, StandsFor, StandsStopped}
+use Rattle.cf_relay.specs.Stands.{GivenPrefixes, IsNewLane, StandsCut, StandsFor, StandsStopped}
 use Rattle.cf_relay.specs.Taken.{StaysWhole}
 use Rattle.cf_relay.specs.Turn.{AreItemsOf, BeginsStages, IsUnstopped, DoesStages, IsRelayed, Meeting, Telling, cut_at, stages, turns}
 use Rattle.cf_relay.specs.declared.done.RelayDone.{RelayDone}
@@ -40,14 +40,6 @@ use Rattle.cf_relay.specs.declared.stop.Stop.{Stop}
 use Rattle.cf_relay.specs.declared.stop.Stop.TheVariants as stop
 
 -- ---- the lines of a log
-
-pub with_no_lines : (x : Option (List (List ℕ))) → x ≡ with_lines x []
-with_no_lines None = refl
-with_no_lines (Some ls) = ap Some (sym (append-nil ls))
-
-pub with_both : (b : Option (List (List ℕ))) (xs ys : List (List ℕ)) → with_lines (with_lines b xs) ys ≡ with_lines b (xs ++ ys)
-with_both None xs ys = refl
-with_both (Some b) xs ys = ap Some (append_assoc b xs ys)
 
 take_all : {A : Type 0} (xs ys : List A) → take (length xs) (xs ++ ys) ≡ xs
 take_all [] ys = refl
@@ -62,7 +54,7 @@ pub begins_last : (base log : Option (List (List ℕ))) (part : List ℕ) (xs : 
 begins_last base log part xs line (inl (same, (k, some))) =
     (length xs, k, same ∙ ap (with_lines base) (sym (take_all xs (line ∷ []))), some ∙ ap (λ ls. take k (concat ls)) (sym (drop_all xs (line ∷ []))))
 begins_last base log part xs line (inr (added, none)) =
-    (length (xs ++ line ∷ []), 0, added ∙ with_both base xs (line ∷ []) ∙ ap (with_lines base) (sym (take_all (xs ++ line ∷ []) []) ∙ ap (take (length (xs ++ line ∷ []))) (append-nil (xs ++ line ∷ []))), none)
+    (length (xs ++ line ∷ []), 0, added ∙ lines_both base xs (line ∷ []) ∙ ap (with_lines base) (sym (take_all (xs ++ line ∷ []) []) ∙ ap (take (length (xs ++ line ∷ []))) (append-nil (xs ++ line ∷ []))), none)
 
 -- ---- the beginning
 
@@ -100,7 +92,7 @@ module _ (asset : Asset) (listen most : ℕ) (few : 0 < most) (base : Option (Li
     relayed = relayed_none asset listen most few;
     goes = goes_first asset listen most few;
     prefixes = no_prefixes asset [] (λ s. refl);
-    holds_log = (same ∙ with_no_lines base, whole);
+    holds_log = (same ∙ lines_none base, whole);
   }
 
   pub link_met : (client : Endpoint) → desk.lines ≡ base → desk.whole ≡ true → IsLinkEnd asset listen most (desk_log base desk) (met_at listen asset.endpoint client ∷ [])
@@ -109,7 +101,7 @@ module _ (asset : Asset) (listen most : ℕ) (few : 0 < most) (base : Option (Li
     relayed = relayed_met asset listen most few client;
     goes = goes_met asset listen most few client;
     prefixes = no_prefixes asset (met_at listen asset.endpoint client ∷ []) (λ s. refl);
-    holds_log = (same ∙ with_no_lines base, whole);
+    holds_log = (same ∙ lines_none base, whole);
   }
 
   pub write_told : (client : Endpoint) (m : ℕ) → MayHaveMore (line_about asset client m Begun ∷ []) base desk.lines desk.line_part → IsWriteEnd asset listen most (desk_log base desk) (met_at listen asset.endpoint client ∷ Moment m ∷ [])
@@ -122,7 +114,7 @@ module _ (asset : Asset) (listen most : ℕ) (few : 0 < most) (base : Option (Li
     prefixes = no_prefixes asset (met_at listen asset.endpoint client ∷ Moment m ∷ []) (λ s. refl);
     last = [];
     is_last = inl refl;
-    begins = begins_last base desk.lines desk.line_part [] (line_about asset client m Begun) (subst (λ x. MayHaveMore (line_about asset client m Begun ∷ []) x desk.lines desk.line_part) (with_no_lines base) may);
+    begins = begins_last base desk.lines desk.line_part [] (line_about asset client m Begun) (subst (λ x. MayHaveMore (line_about asset client m Begun ∷ []) x desk.lines desk.line_part) (lines_none base) may);
   }
 
 -- ---- the ends of the turns
@@ -138,7 +130,7 @@ module _ (asset : Asset) (listen most : ℕ) (few : 0 < most) (client : Endpoint
   -- the lines behind the open line
   lines_all : (log : Option (List (List ℕ))) (answers : List Entry) (js : List Judged) → log ≡ with_lines (with_lines base (line_about asset client m Begun ∷ [])) (lines asset client [] js) →
       log ≡ with_lines base (log_of asset (met_at listen asset.endpoint client ∷ Moment m ∷ answers) js)
-  lines_all log answers js e = e ∙ with_both base (line_about asset client m Begun ∷ []) (lines asset client [] js)
+  lines_all log answers js e = e ∙ lines_both base (line_about asset client m Begun ∷ []) (lines asset client [] js)
 
   stands_lines : (answers : List Entry) (now : RelayingValue) (log : Option (List (List ℕ))) (s2 : StandsFor asset (with_lines base (line_about asset client m Begun ∷ [])) (met_at listen asset.endpoint client ∷ Moment m ∷ answers) now log) →
       log ≡ with_lines base (log_of asset (met_at listen asset.endpoint client ∷ Moment m ∷ answers) s2.follows.judged)
@@ -187,7 +179,7 @@ module _ (asset : Asset) (listen most : ℕ) (few : 0 < most) (client : Endpoint
           counts = record { admitted = s2.follows.knows.admitted; refused = s2.follows.knows.refused };
           holds_log = (
             added ∙ ap (λ x. with_lines x (line_about asset client now.moment (Close now.lane.admitted now.lane.refused) ∷ [])) (stands_lines answers now d1.lines s2)
-                ∙ with_both base (log_of asset (met_at listen asset.endpoint client ∷ Moment m ∷ answers) s2.follows.judged) (line_about asset client now.moment (Close now.lane.admitted now.lane.refused) ∷ [])
+                ∙ lines_both base (log_of asset (met_at listen asset.endpoint client ∷ Moment m ∷ answers) s2.follows.judged) (line_about asset client now.moment (Close now.lane.admitted now.lane.refused) ∷ [])
                 ∙ ap (λ k. with_lines base (log_of asset (met_at listen asset.endpoint client ∷ Moment m ∷ answers) s2.follows.judged ++ line_about asset client k (Close now.lane.admitted now.lane.refused) ∷ [])) s2.moment,
             whole,
           );
@@ -216,11 +208,11 @@ module _ (asset : Asset) (listen most : ℕ) (few : 0 < most) (client : Endpoint
       BeginsLines base desk.lines desk.line_part ((line_about asset client m Begun ∷ ls) ++ [])
   begun_lines desk ls count some e d =
       subst (BeginsLines base desk.lines desk.line_part) (sym (append-nil (line_about asset client m Begun ∷ ls)))
-      (suc count, some, e ∙ with_both base (line_about asset client m Begun ∷ []) (take count ls), d)
+      (suc count, some, e ∙ lines_both base (line_about asset client m Begun ∷ []) (take count ls), d)
 
   -- the relay stopped within its turns
   pub stop_ends : (n : ℕ) (answers : List Entry) (now : RelayingValue) (d1 d2 : DeskValue) (why : Stop) → BeginsStages asset most (turns n) (met_at listen asset.endpoint client ∷ Moment m ∷ []) answers →
-      StandsStopped asset most (with_lines base (line_about asset client m Begun ∷ [])) (met_at listen asset.endpoint client ∷ Moment m ∷ answers) why now d1 → StaysWhole (Err why) d1 →
+      StandsStopped asset most (with_lines base (line_about asset client m Begun ∷ [])) (met_at listen asset.endpoint client ∷ Moment m ∷ answers) why now d1.lines d1.line_part → StaysWhole (Err why) d1 →
       (r : Result RelayDone RelayFault) → StopsWith asset client now why d1 d2 r → RelayEnds asset listen most (desk_log base d2) ⊥ (met_at listen asset.endpoint client ∷ Moment m ∷ answers) r
   unfolding goes_on
   stop_ends n answers now d1 d2 stop.Idle breaks (s2, full) stays r (is, same) =
@@ -264,7 +256,7 @@ module _ (asset : Asset) (listen most : ℕ) (few : 0 < most) (client : Endpoint
         counts = s2.counts;
         holds_log = (
           added ∙ ap (λ x. with_lines x (line_about asset client now.moment (Cut reason) ∷ [])) (cut_lines answers now d1.lines reason s2)
-              ∙ with_both base (log_of asset (met_at listen asset.endpoint client ∷ Moment m ∷ answers) s2.judged) (line_about asset client now.moment (Cut reason) ∷ [])
+              ∙ lines_both base (log_of asset (met_at listen asset.endpoint client ∷ Moment m ∷ answers) s2.judged) (line_about asset client now.moment (Cut reason) ∷ [])
               ∙ ap (λ k. with_lines base (log_of asset (met_at listen asset.endpoint client ∷ Moment m ∷ answers) s2.judged ++ line_about asset client k (Cut reason) ∷ [])) s2.moment,
           whole,
         );
@@ -300,7 +292,7 @@ close_idles asset client now d1 d2 most start idles (Ok d) (is, added, whole) = 
 close_idles asset client now d1 d2 most start idles (Err e) h = tt
 
 pub stop_idles : (asset : Asset) (most : ℕ) (first : Option (List (List ℕ))) (es : List Entry) (client : Endpoint) (now : RelayingValue) (d1 d2 : DeskValue) (start idles : ℕ) (why : Stop) (r : Result RelayDone RelayFault) →
-    StandsStopped asset most first es why now d1 → StopsWith asset client now why d1 d2 r → RoseBy now.idle start idles → IdlesRose most start idles r
+    StandsStopped asset most first es why now d1.lines d1.line_part → StopsWith asset client now why d1 d2 r → RoseBy now.idle start idles → IdlesRose most start idles r
 stop_idles asset most first es client now d1 d2 start idles stop.Idle r (s2, full) (is, same) rose =
     subst (IdlesRose most start idles) (sym is) (subst (λ (n : ℕ). RoseBy n start idles) full rose)
 stop_idles asset most first es client now d1 d2 start idles stop.Link r st (is, same) rose = subst (IdlesRose most start idles) (sym is) tt
@@ -317,7 +309,7 @@ close_faults asset client now d1 d2 before after (Err fault.Link) h same = absur
 close_faults asset client now d1 d2 before after (Err fault.NoMemory) h same = absurd h
 
 pub stop_faults : (asset : Asset) (client : Endpoint) (now : RelayingValue) (d1 d2 : DeskValue) (old new : Scene) (why : Stop) (r : Result RelayDone RelayFault) → StopsWith asset client now why d1 d2 r →
-    old.pair.faults ≤ new.pair.faults → StopsBy why old new → FaultsBy old.pair.faults new.pair.faults (r ≡ Err fault.Link)
+    old.links.faults ≤ new.links.faults → StopsBy why old new → FaultsBy old.links.faults new.links.faults (r ≡ Err fault.Link)
 stop_faults asset client now d1 d2 old new stop.Idle r (is, same) later cause = record { later = later; rose = λ e. cc; still = λ never. cause }
 stop_faults asset client now d1 d2 old new stop.Link r (is, same) later cause = record { later = later; rose = λ e. cause; still = λ never. absurd (never is) }
 stop_faults asset client now d1 d2 old new stop.Write r (is, same) later cause = record { later = later; rose = λ e. cc; still = λ never. cause.0 }
@@ -335,33 +327,58 @@ empty_stands : IsQueueOf empty no_letters
 empty_stands = record { ended = refl; pushed = refl; kept = refl; acked = omega arith; sent = omega arith; shown = omega arith }
 
 first_by : (asset : Asset) (listen : ℕ) (client : Endpoint) (m : ℕ) (first : Option (List (List ℕ))) (lane : LaneValue) → lane.client ≡ client → Follows asset [] no_rests None first (state lane empty empty first) →
-    StandsFor asset first (met_at listen asset.endpoint client ∷ Moment m ∷ []) (begun_value lane empty empty m) first
+    StandsFor asset first (met_at listen asset.endpoint client ∷ Moment m ∷ []) (begun_value lane m) first
 first_by asset listen client m first lane is f = record {
   follows = f;
   uncut = sym (limit_is asset [] f.judged 0 0 empty empty refl refl f.client_stream f.controller_stream);
   client = is;
-  acked = by_side (λ s. (queue_to s (begun_value lane empty empty m)).acked ≡ length (given s (met_at listen asset.endpoint client ∷ Moment m ∷ []))) refl refl;
-  front = by_side (λ s. outputs asset s [] f.judged ≡ given s (met_at listen asset.endpoint client ∷ Moment m ∷ []) ++ (queue_to s (begun_value lane empty empty m)).kept) (sym f.client_stream.kept) (sym f.controller_stream.kept);
-  ended = by_side (λ s. (queue_to s (begun_value lane empty empty m)).ended ≡ ended_of (other s) (history_of (met_at listen asset.endpoint client ∷ Moment m ∷ []))) refl refl;
-  letters = by_side (λ s. letters_from s (begun_value lane empty empty m) ≡ letter_count (taken s (history_of (met_at listen asset.endpoint client ∷ Moment m ∷ [])))) refl refl;
-  closed = by_side (λ s. is_closed s (begun_value lane empty empty m) ≡ is_finished s (met_at listen asset.endpoint client ∷ Moment m ∷ [])) refl refl;
-  done = by_side (λ s. is_closed s (begun_value lane empty empty m) ≡ true → ((queue_to s (begun_value lane empty empty m)).kept ≡ []) × ((queue_to s (begun_value lane empty empty m)).ended ≡ true)) (λ e. cc) (λ e. cc);
+  acked = by_side (λ s. (queue_to s (begun_value lane m)).acked ≡ length (given s (met_at listen asset.endpoint client ∷ Moment m ∷ []))) refl refl;
+  front = by_side (λ s. outputs asset s [] f.judged ≡ given s (met_at listen asset.endpoint client ∷ Moment m ∷ []) ++ (queue_to s (begun_value lane m)).kept) (sym f.client_stream.kept) (sym f.controller_stream.kept);
+  ended = by_side (λ s. (queue_to s (begun_value lane m)).ended ≡ ended_of (other s) (history_of (met_at listen asset.endpoint client ∷ Moment m ∷ []))) refl refl;
+  letters = by_side (λ s. letters_from s (begun_value lane m) ≡ letter_count (taken s (history_of (met_at listen asset.endpoint client ∷ Moment m ∷ [])))) refl refl;
+  closed = by_side (λ s. is_closed s (begun_value lane m) ≡ is_finished s (met_at listen asset.endpoint client ∷ Moment m ∷ [])) refl refl;
+  done = by_side (λ s. is_closed s (begun_value lane m) ≡ true → ((queue_to s (begun_value lane m)).kept ≡ []) × ((queue_to s (begun_value lane m)).ended ≡ true)) (λ e. cc) (λ e. cc);
   moment = omega arith;
   idle = refl;
 }
 
-pub first_stands : (asset : Asset) (listen : ℕ) (client : Endpoint) (m : ℕ) (first log : Option (List (List ℕ))) (lane : LaneValue) (c k : Queue) (v : RelayingValue) → lane.client ≡ client →
-    ((c k : Queue) (x : Option (List (List ℕ))) → IsQueueOf c no_letters → IsQueueOf k no_letters → Follows asset [] no_rests None x (state lane c k x)) →
-    log ≡ first → c ≡ empty → k ≡ empty →
-    v ≡ begun_value lane c k m →
-    StandsFor asset first (met_at listen asset.endpoint client ∷ Moment m ∷ []) v log
-first_stands asset listen client m first log lane c k v is follows same qc qk value =
-    let v0 : v ≡ begun_value lane empty empty m =
-    value ∙ ap (λ (q : Queue). begun_value lane q k m) qc ∙ ap (λ (q : Queue). begun_value lane empty q m) qk in
-    subst (λ (x : Option (List (List ℕ))). StandsFor asset first (met_at listen asset.endpoint client ∷ Moment m ∷ []) v x) (sym same)
-    (subst (λ (x : RelayingValue). StandsFor asset first (met_at listen asset.endpoint client ∷ Moment m ∷ []) x first) (sym v0)
-    (first_by asset listen client m first lane is (follows empty empty first empty_stands empty_stands)))
+pub first_stands : (asset : Asset) (listen : ℕ) (client : Endpoint) (m : ℕ) (first : Option (List (List ℕ))) (lane : LaneValue) → IsNewLane asset client lane →
+    StandsFor asset first (met_at listen asset.endpoint client ∷ Moment m ∷ []) (begun_value lane m) first
+first_stands asset listen client m first lane new = first_by asset listen client m first lane new.of_client (new.follows empty empty first empty_stands empty_stands)
 
-pub told_two : (told a b c : Option (List Entry)) (e f : Entry) (xs : List Entry) → a ≡ with_entry told e → b ≡ with_entry a f → c ≡ with_answers b xs → c ≡ with_answers told (e ∷ f ∷ xs)
-told_two told a b c e f xs p q r =
-    r ∙ ap (λ t. with_answers t xs) (q ∙ ap (λ t. with_entry t f) p ∙ with_one told (e ∷ []) f) ∙ with_more told (e ∷ f ∷ []) xs
+pub first_sound : (asset : Asset) (client : Endpoint) (most m : ℕ) (lane : LaneValue) → 0 < most → IsNewLane asset client lane → IsSound asset most (begun_value lane m)
+first_sound asset client most m lane few new = record {
+  of_asset = new.of_asset;
+  debt = omega (arith, new.counts.2);
+  short = record { client = omega arith; controller = omega arith; to_client = omega arith; to_controller = omega arith };
+  to_client = omega arith;
+  to_controller = omega arith;
+  client_rest = omega arith;
+  controller_rest = omega arith;
+  counts = omega (arith, new.counts.0, new.counts.1);
+  few = few;
+}
+
+-- a lane that was just made
+pub new_lane : (asset : Asset) (client : Endpoint) (lane : LaneValue) → IsLaneOf asset lane → lane.client ≡ client → (lane.admitted ≡ 0) × (lane.refused ≡ 0) × (debt lane ≡ 0) →
+    ((c k : Queue) (x : Option (List (List ℕ))) → IsQueueOf c no_letters → IsQueueOf k no_letters → Follows asset [] no_rests None x (state lane c k x)) → IsNewLane asset client lane
+new_lane asset client lane of_asset is counts follows = record { of_asset = of_asset; of_client = is; counts = counts; follows = follows }
+
+-- a relay of a lane, of two queues, and of what was heard of two sides
+abbrev pub begun_of : LaneValue → (c k : Queue) → (rest : List ℕ) → (letters : ℕ) → (rest' : List ℕ) → (letters' : ℕ) → (moment : ℕ) → RelayingValue
+begun_of lane c k rest letters rest' letters' moment =
+    record (begun_value lane moment) {
+      to_client = c;
+      to_controller = k;
+      client_rest = rest;
+      client_letters = letters;
+      controller_rest = rest';
+      controller_letters = letters';
+    }
+
+pub begun_is : (lane : LaneValue) (c k : Queue) (rest : List ℕ) (letters : ℕ) (rest' : List ℕ) (letters' moment : ℕ) → c ≡ empty → k ≡ empty → rest ≡ [] → letters ≡ 0 → rest' ≡ [] → letters' ≡ 0 →
+    begun_of lane c k rest letters rest' letters' moment ≡ begun_value lane moment
+begun_is lane c k rest letters rest' letters' moment p q r s r' s' =
+    ap (λ (x : Queue). begun_of lane x k rest letters rest' letters' moment) p ∙ ap (λ (x : Queue). begun_of lane empty x rest letters rest' letters' moment) q
+    ∙ ap (λ (x : List ℕ). begun_of lane empty empty x letters rest' letters' moment) r ∙ ap (λ (x : ℕ). begun_of lane empty empty [] x rest' letters' moment) s
+    ∙ ap (λ (x : List ℕ). begun_of lane empty empty [] 0 x letters' moment) r' ∙ ap (λ (x : ℕ). begun_of lane empty empty [] 0 [] x moment) s'

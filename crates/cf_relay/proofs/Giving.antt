@@ -1,25 +1,40 @@
 -- Pieces given one after the other.
-use Rattle.std.proofs.Common.{◌≡◌, ◌≤◌, ◌+◌, ℕ, zero, suc, true, List, [], ◌∷◌, ◌++◌, if◌then◌else◌, length, map, take, drop, refl, sym, ap, ◌∙◌, subst, arith, Option, None, Some}
+use Rattle.std.proofs.Common.{◌≡◌, ◌≤◌, ◌+◌, ℕ, zero, suc, true, List, [], ◌∷◌, ◌++◌, if◌then◌else◌, length, map, take, drop, refl, sym, ap, ◌∙◌, subst, arith, Option, None, Some, option_map}
 use Rattle.std.specs.List.{AllByRecursion, concat}
 use Rattle.std.proofs.lemmas.List.{length-append, append_assoc, append-nil, length-take, length-take-le}
-use Rattle.cf_outside.specs.Pair.{Entry, Took, with_entry}
+use Rattle.cf_outside.specs.Pair.{Entry, Took}
 use Rattle.cf_view.specs.declared.Side.{Side}
 use Rattle.cf_view.specs.declared.Side.TheVariants as side
 use Rattle.cf_lane.specs.History.{is_side}
-use Rattle.cf_relay.specs.Answers.{with_answers, given, given_in, idles_after}
+use Rattle.cf_links.specs.Links.{LinksEntry, Of, SessionTold, with_answers, with_entry}
+use Rattle.cf_relay.specs.Answers.{given, given_in, idles_after}
 use Rattle.cf_relay.specs.Turn.{HasBytes, IsGivePiece, TookPieces}
 
-pub with_none : (told : Option (List Entry)) → told ≡ with_answers told []
-with_none None = refl
-with_none (Some es) = ap Some (sym (append-nil es))
+-- the answers of a session, as entries of the whole list
+pub mapped_more : (k : ℕ) (xs ys : List Entry) → map (Of k) (xs ++ ys) ≡ map (Of k) xs ++ map (Of k) ys
+mapped_more k [] ys = refl
+mapped_more k (x ∷ xs) ys = ap (λ es. Of k x ∷ es) (mapped_more k xs ys)
 
-pub with_more : (told : Option (List Entry)) (xs ys : List Entry) → with_answers (with_answers told xs) ys ≡ with_answers told (xs ++ ys)
-with_more None xs ys = refl
-with_more (Some es) xs ys = ap Some (append_assoc es xs ys)
+none_list : (k : ℕ) (list : Option (List LinksEntry)) → list ≡ option_map (λ es. es ++ map (Of k) []) list
+none_list k None = refl
+none_list k (Some es) = ap Some (sym (append-nil es))
 
-pub with_one : (told : Option (List Entry)) (xs : List Entry) (e : Entry) → with_entry (with_answers told xs) e ≡ with_answers told (xs ++ e ∷ [])
-with_one None xs e = refl
-with_one (Some es) xs e = ap Some (append_assoc es xs (e ∷ []))
+more_list : (k : ℕ) (list : Option (List LinksEntry)) (xs ys : List Entry) →
+    option_map (λ es. es ++ map (Of k) ys) (option_map (λ es. es ++ map (Of k) xs) list) ≡ option_map (λ es. es ++ map (Of k) (xs ++ ys)) list
+more_list k None xs ys = refl
+more_list k (Some es) xs ys = ap Some (append_assoc es (map (Of k) xs) (map (Of k) ys) ∙ ap (λ zs. es ++ zs) (sym (mapped_more k xs ys)))
+
+abbrev listed : ℕ → Option (List LinksEntry) → SessionTold
+listed k list = record { session = k; list = list }
+
+pub with_none : (told : SessionTold) → told ≡ with_answers told []
+with_none told = ap (listed told.session) (none_list told.session told.list)
+
+pub with_more : (told : SessionTold) (xs ys : List Entry) → with_answers (with_answers told xs) ys ≡ with_answers told (xs ++ ys)
+with_more told xs ys = ap (listed told.session) (more_list told.session told.list xs ys)
+
+pub with_one : (told : SessionTold) (xs : List Entry) (e : Entry) → with_entry (with_answers told xs) e ≡ with_answers told (xs ++ e ∷ [])
+with_one told xs e = with_more told xs (e ∷ [])
 
 pub map_more : (s : Side) (pieces : List (List ℕ)) (piece : List ℕ) → map (Took s) pieces ++ Took s piece ∷ [] ≡ map (Took s) (pieces ++ piece ∷ [])
 map_more s [] piece = refl
@@ -86,7 +101,7 @@ pub acked_step : (a b k : ℕ) (front : List ℕ) (pieces : List (List ℕ)) →
 acked_step a b k front pieces e inside =
     omega (arith, e, ap length (flat_more pieces (take k front)), length-append (concat pieces) (take k front), length-take-le k front inside)
 
-pub tells_step : (s : Side) (told told' told'' : Option (List Entry)) (pieces : List (List ℕ)) (piece : List ℕ) → told' ≡ with_answers told (map (Took s) pieces) → told'' ≡ with_entry told' (Took s piece) →
+pub tells_step : (s : Side) (told told' told'' : SessionTold) (pieces : List (List ℕ)) (piece : List ℕ) → told' ≡ with_answers told (map (Took s) pieces) → told'' ≡ with_entry told' (Took s piece) →
     told'' ≡ with_answers told (map (Took s) (pieces ++ piece ∷ []))
 tells_step s told told' told'' pieces piece e f =
     f ∙ ap (λ t. with_entry t (Took s piece)) e ∙ with_one told (map (Took s) pieces) (Took s piece) ∙ ap (with_answers told) (map_more s pieces piece)

@@ -3,7 +3,7 @@ use Rattle.std.proofs.Common.{Bool, false, true, List, None, Option, Result, Ok,
 use Rattle.std.specs.Prelude.{OnErr}
 use Rattle.std.proofs.lemmas.List.{length-append, length-drop}
 use Rattle.cf_audit.specs.declared.line.CutReason.{CutReason}
-use Rattle.cf_lane.specs.Follows.{Began, Follows, IsEndBehindCut, Rests, rest_of, with_rest}
+use Rattle.cf_lane.specs.Follows.{AddsTo, BeganApart, Follows, IsEndBehindCut, Rests, rest_of, with_rest}
 use Rattle.cf_lane.specs.Handled.{CountsBy, EndsOther, Grows, IsLaneOf, LaneValue, State, debt, state}
 use Rattle.cf_lane.specs.History.{Element, end_at, letters_at}
 use Rattle.cf_outq.specs.SendQueue.{Queue, after_end}
@@ -71,8 +71,8 @@ same_rest side.Controller rests = refl
 
 module _ (asset : Asset) (moment : ℕ) (s : Side) (lane lane' : LaneValue) (c k c' k' : Queue) (log log' : Option (List (List ℕ))) where
   pub hears_got : (bytes rest rest' view : List ℕ) (used : ℕ) (cut : Option CutReason) → view ≡ rest ++ bytes → used ≤ length view →
-      ((h : List Element) (rests : Rests) (first : Option (List (List ℕ))) (piece : List ℕ) (ended : Bool) → IsEndBehindCut ended cut → view ≡ rest_of s rests ++ piece →
-      Follows asset h rests None first (state lane c k log) → Follows asset (h ++ letters_at moment s piece ended ∷ []) (with_rest s rests (drop used view)) cut first (state lane' c' k' log')) →
+      ((h : List Element) (rests : Rests) (first own : Option (List (List ℕ))) (piece : List ℕ) (ended : Bool) → IsEndBehindCut ended cut → view ≡ rest_of s rests ++ piece →
+      Follows asset h rests None first (state lane c k own) → AddsTo asset (h ++ letters_at moment s piece ended ∷ []) (with_rest s rests (drop used view)) cut first own log (state lane' c' k' log')) →
       (cut ≡ None → length (drop used view) < 300) → (cut ≡ None → rest' ≡ drop used view) → IsLaneOf asset lane' → debt lane' ≤ 5300 → lane'.client ≡ lane.client →
       Grows (2 * used) (debt lane) (debt lane') c c' → Grows (2 * used) (debt lane) (debt lane') k k' → CountsBy used lane lane' →
       IsHeard asset moment s (Got s bytes) cut rest rest' (state lane c k log) (state lane' c' k' log')
@@ -81,7 +81,7 @@ module _ (asset : Asset) (moment : ℕ) (s : Side) (lane lane' : LaneValue) (c k
       record {
         left = drop used view;
         keeps = λ n. (keeps n, subst (λ (xs : List ℕ). length xs < 300) (sym (keeps n)) (short n));
-        follows = λ h rests first is f. history h rests first bytes false tt (e ∙ ap (λ xs. xs ++ bytes) is) f;
+        follows = λ h rests first own is f. history h rests first own bytes false tt (e ∙ ap (λ xs. xs ++ bytes) is) f;
         of_asset = of_asset;
         debt = owed;
         client = client;
@@ -93,15 +93,15 @@ module _ (asset : Asset) (moment : ℕ) (s : Side) (lane lane' : LaneValue) (c k
       }
 
   pub hears_end : (rest : List ℕ) (size : ℕ) → size ≡ length rest →
-      ((h : List Element) (rests : Rests) (first : Option (List (List ℕ))) → size ≡ length (rest_of s rests) →
-      Follows asset h rests None first (state lane c k log) → Follows asset (h ++ end_at moment s ∷ []) rests None first (state lane' c' k' log')) →
+      ((h : List Element) (rests : Rests) (first own : Option (List (List ℕ))) → size ≡ length (rest_of s rests) →
+      Follows asset h rests None first (state lane c k own) → AddsTo asset (h ++ end_at moment s ∷ []) rests None first own log (state lane' c' k' log')) →
       length rest < 300 → IsLaneOf asset lane → debt lane ≤ 5300 → lane' ≡ lane → EndsOther s c k c' k' →
       IsHeard asset moment s (Ended s) None rest rest (state lane c k log) (state lane' c' k' log')
   hears_end rest size e history short of_asset owed same queues = record {
     left = rest;
     keeps = λ n. (refl, short);
-    follows = λ h rests first is f. subst (λ r. Follows asset (h ++ end_at moment s ∷ []) r None first (state lane' c' k' log')) (sym (ap (with_rest s rests) is ∙ same_rest s rests))
-        (history h rests first (e ∙ ap length is) f);
+    follows = λ h rests first own is f. subst (λ r. AddsTo asset (h ++ end_at moment s ∷ []) r None first own log (state lane' c' k' log')) (sym (ap (with_rest s rests) is ∙ same_rest s rests))
+        (history h rests first own (e ∙ ap length is) f);
     of_asset = subst (IsLaneOf asset) (sym same) of_asset;
     debt = subst (λ (l : LaneValue). debt l ≤ 5300) (sym same) owed;
     client = ap (λ (l : LaneValue). l.client) same;
@@ -113,11 +113,11 @@ module _ (asset : Asset) (moment : ℕ) (s : Side) (lane lane' : LaneValue) (c k
   }
 
   pub misses_end : (rest : List ℕ) (size : ℕ) (lines : Option (List (List ℕ))) (part : List ℕ) → size ≡ length rest →
-      ((h : List Element) (rests : Rests) (first : Option (List (List ℕ))) → size ≡ length (rest_of s rests) →
-      Follows asset h rests None first (state lane c k log) → Began asset lane.client (h ++ end_at moment s ∷ []) first lines part) →
-      (h : List Element) (rests : Rests) (first : Option (List (List ℕ))) → rest ≡ rest_of s rests → Follows asset h rests None first (state lane c k log) →
-      Began asset lane.client (h ++ end_at moment s ∷ []) first lines part
-  misses_end rest size lines part e fails h rests first is f = fails h rests first (e ∙ ap length is) f
+      ((h : List Element) (rests : Rests) (first own : Option (List (List ℕ))) → size ≡ length (rest_of s rests) →
+      Follows asset h rests None first (state lane c k own) → BeganApart asset lane.client (h ++ end_at moment s ∷ []) first own log lines part) →
+      (h : List Element) (rests : Rests) (first own : Option (List (List ℕ))) → rest ≡ rest_of s rests → Follows asset h rests None first (state lane c k own) →
+      BeganApart asset lane.client (h ++ end_at moment s ∷ []) first own log lines part
+  misses_end rest size lines part e fails h rests first own is f = fails h rests first own (e ∙ ap length is) f
 
 pub some_none : {A : Type 0} (x : Option CutReason) (reason : CutReason) → x ≡ Some reason → x ≡ None → A
 some_none x reason is none = cc

@@ -6,8 +6,10 @@ mod Files
 mod Gave
 mod Giving
 mod Hearing
+mod Lined
 mod Lists
 mod Moving
+mod OnePair
 mod Scenes
 mod Serving
 mod Stages

@@ -5,6 +5,7 @@ use Rattle.std.proofs.Math.Nat.{mul-le-mul_left}
 use Rattle.std.proofs.lemmas.List.{length-append}
 use Rattle.cf_lane.specs.Handled.{IsOpen}
 use Rattle.cf_lane.specs.Output.{other}
+use Rattle.cf_links.specs.Links.{SessionTold}
 use Rattle.cf_outq.specs.SendQueue.{Queue}
 use Rattle.cf_outside.specs.Desk.{DeskValue}
 use Rattle.cf_outside.specs.Pair.{Ended, Entry, Finished, Got, Idle, Met, Moment, Took}
@@ -58,7 +59,7 @@ acked_sum side.Controller old new n e same = omega (arith, e, ap (λ (q : Queue)
 
 module _ (most : ℕ) (s : Side) (old mid : RelayingValue) (few : old.idle < most) (to : GivesTo s old mid) where
   -- what was given raises the progress, or nothing was queued
-  gives_or_rests : (told told' : Option (List Entry)) (answers : List Entry) → Gave s (queue_to s old) (queue_to s mid) told told' old.idle mid.idle answers → GivesQueued s (queue_to s old).kept answers →
+  gives_or_rests : (told told' : SessionTold) (answers : List Entry) → Gave s (queue_to s old) (queue_to s mid) told told' old.idle mid.idle answers → GivesQueued s (queue_to s old).kept answers →
       (progress most old < progress most mid) ⊎ (((queue_to s old).kept ≡ []) × (answers ≡ []))
   gives_or_rests told told' answers gave gives =
       elim (gave_cases s old.idle (queue_to s old).kept answers gives.pieces gives.rest gives.took gives.until) [
@@ -70,7 +71,7 @@ module _ (most : ℕ) (s : Side) (old mid : RelayingValue) (few : old.idle < mos
             omega (arith, ap (λ n. n * most) a, gave.counts, one))
       ]
 
-  rests_unmoved : (told told' : Option (List Entry)) (answers : List Entry) → Gave s (queue_to s old) (queue_to s mid) told told' old.idle mid.idle answers → answers ≡ [] → Unmoved old mid
+  rests_unmoved : (told told' : SessionTold) (answers : List Entry) → Gave s (queue_to s old) (queue_to s mid) told told' old.idle mid.idle answers → answers ≡ [] → Unmoved old mid
   rests_unmoved told told' answers gave none = record {
     kept = by_own (λ t. (queue_to t mid).kept ≡ (queue_to t old).kept) s (sym (gave.kept ∙ ap (λ xs. given s xs ++ (queue_to s mid).kept) none)) (ap (λ (q : Queue). q.kept) to.same);
     acked = by_own (λ t. (queue_to t mid).acked ≡ (queue_to t old).acked) s (omega (arith, gave.acked, ap (λ xs. length (given s xs)) none)) (ap (λ (q : Queue). q.acked) to.same);
@@ -98,13 +99,13 @@ both_unmoved a b c h g = record {
 }
 
 -- nothing is queued, so a queue with End has its side closed
-closed_last : (s : Side) (q : Queue) (before after : Bool) (told told' : Option (List Entry)) (x : Unit {0}) → FinishesBy s q before after told told' (Ok x) → q.kept ≡ [] → q.ended ≡ true → after ≡ true
+closed_last : (s : Side) (q : Queue) (before after : Bool) (told told' : SessionTold) (x : Unit {0}) → FinishesBy s q before after told told' (Ok x) → q.kept ≡ [] → q.ended ≡ true → after ≡ true
 closed_last s q before after told told' x (inl (last, closed, tells)) none ends = closed
 closed_last s q true after told told' x (inr (never, same, tells)) none ends = same
 closed_last s q false after told told' x (inr (never, same, tells)) none ends = absurd (never (none, ends, refl))
 
 module _ (most : ℕ) (s : Side) (old mid new : RelayingValue) (few : old.idle < most) (to : GivesTo s old mid) (closes : ClosesTo s mid new) where
-  pub serve_moves : (a b c d : Option (List Entry)) (x y : Unit {0}) → GaveBy s most (queue_to s old) (queue_to s mid) a b old.idle mid.idle (Ok x) →
+  pub serve_moves : (a b c d : SessionTold) (x y : Unit {0}) → GaveBy s most (queue_to s old) (queue_to s mid) a b old.idle mid.idle (Ok x) →
       FinishesBy s (queue_to s mid) (is_closed s mid) (is_closed s new) c d (Ok y) → ServesOrRests s most old new
   serve_moves a b c d x y (answers, gave, gives, goes) finishes =
       elim (gives_or_rests most s old mid few to a b answers gave gives) [
@@ -140,7 +141,7 @@ letters_still : (s : Side) (old new : RelayingValue) → letters_from s new ≡ 
 letters_still side.Client old new h same = omega (arith, h, same)
 letters_still side.Controller old new h same = omega (arith, h, same)
 
-module _ (asset : Asset) (most : ℕ) (s : Side) (old new : RelayingValue) (log log' : Option (List (List ℕ))) (told told' : Option (List Entry)) (desk : DeskValue) (few : old.idle < most) (to : TakesTo s old new) where
+module _ (asset : Asset) (most : ℕ) (s : Side) (old new : RelayingValue) (log log' : Option (List (List ℕ))) (told told' : SessionTold) (desk : DeskValue) (few : old.idle < most) (to : TakesTo s old new) where
   pub ask_moves : (x : Unit {0}) → TakesBy asset old.moment most s (take_state_of s old log told) (take_state_of s new log' told') desk (Ok x) → AsksOrRests s most old new
   ask_moves x (inl (never, same)) = inr (
     record {

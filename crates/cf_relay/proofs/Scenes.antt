@@ -3,14 +3,16 @@ use Rattle.std.proofs.Common.{Err, List, Ok, Option, Result, [], ap, append_asso
 use Rattle.std.specs.Prelude.{IfErr, OnOk}
 use Rattle.std.proofs.lemmas.List.{append-nil}
 use Rattle.cf_lane.specs.Handled.{WritesLog}
+use Rattle.cf_lane.specs.Log.{with_lines}
+use Rattle.cf_links.specs.Links.{with_answers}
 use Rattle.cf_outside.proofs.Desks.{keeps_both, keeps_none}
 use Rattle.cf_outside.specs.Desk.{DeskValue}
 use Rattle.cf_outside.specs.Faults.{Rose}
 use Rattle.cf_outside.specs.Pair.{Entry, FaultsBy}
 use Rattle.cf_policy.specs.declared.Asset.{Asset}
 use Rattle.cf_relay.proofs.Giving.{with_more, with_none}
+use Rattle.cf_relay.proofs.Lined.{apart_as, apart_more, apart_none}
 use Rattle.cf_relay.proofs.Stages.{breaks_more, does_broken, does_then}
-use Rattle.cf_relay.specs.Answers.{with_answers}
 use Rattle.cf_relay.specs.Scene.{AddsAnswers, DoesBetween, Scene, StopsBetween, StopsBy}
 use Rattle.cf_relay.specs.Stands.{StandsFor, StandsStopped}
 use Rattle.cf_relay.specs.Turn.{Stage}
@@ -31,7 +33,7 @@ writes_both d e f h g = record {
 
 adds_both : (old mid new : Scene) (xs ys : List Entry) → AddsAnswers old mid xs → AddsAnswers mid new ys → AddsAnswers old new (xs ++ ys)
 adds_both old mid new xs ys h g = record {
-  tells = g.tells ∙ ap (λ t. with_answers t ys) h.tells ∙ with_more old.pair.told xs ys;
+  tells = g.tells ∙ ap (λ t. with_answers t ys) h.tells ∙ with_more old.links.told xs ys;
   link = omega (arith, h.link, g.link);
   idles = λ start r. g.idles start (h.idles start r);
   log = writes_both old.desk mid.desk new.desk h.log g.log;
@@ -40,9 +42,9 @@ adds_both old mid new xs ys h g = record {
 pub goes_none : (asset : Asset) (most : ℕ) (now : Scene) → DoesBetween asset most [] now now
 goes_none asset most now = record {
   answers = [];
-  adds = record { tells = with_none now.pair.told; link = omega arith; idles = λ start r. r; log = writes_none now.desk };
+  adds = record { tells = with_none now.links.told; link = omega arith; idles = λ start r. r; log = writes_none now.desk };
   still = refl;
-  does = λ first es st. (refl, subst (λ (x : List Entry). StandsFor asset first x now.relaying now.desk.lines) (sym (append-nil es)) st);
+  does = λ first own es st. (refl, apart_none own now.desk.lines now.desk.lines (λ log. StandsFor asset first (es ++ []) now.relaying log) refl (subst (λ (x : List Entry). StandsFor asset first x now.relaying own) (sym (append-nil es)) st));
 }
 
 pub goes_then : (asset : Asset) (most : ℕ) (ps qs : List Stage) (old mid new : Scene) → DoesBetween asset most ps old mid → DoesBetween asset most qs mid new → DoesBetween asset most (ps ++ qs) old new
@@ -50,19 +52,21 @@ goes_then asset most ps qs old mid new h g = record {
   answers = h.answers ++ g.answers;
   adds = adds_both old mid new h.answers g.answers h.adds g.adds;
   still = g.still ∙ h.still;
-  does = λ first es st.
-      let a = h.does first es st in
-      let b = g.does first (es ++ h.answers) a.1 in (
+  does = λ first own es st.
+      let a = h.does first own es st in
+      let b = g.does first (with_lines own a.1.more) (es ++ h.answers) a.1.stands in (
         does_then asset most ps qs es h.answers g.answers a.0 b.0,
-        subst (λ (x : List Entry). StandsFor asset first x new.relaying new.desk.lines) (append_assoc es h.answers g.answers) b.1,
+        apart_more own old.desk.lines mid.desk.lines new.desk.lines (λ log. StandsFor asset first (es ++ (h.answers ++ g.answers)) new.relaying log) a.1.more a.1.added
+            (apart_as (with_lines own a.1.more) mid.desk.lines new.desk.lines (λ log. StandsFor asset first ((es ++ h.answers) ++ g.answers) new.relaying log) (λ log. StandsFor asset first (es ++ (h.answers ++ g.answers)) new.relaying log)
+            (λ log s. subst (λ (x : List Entry). StandsFor asset first x new.relaying log) (append_assoc es h.answers g.answers) s) b.1),
       );
 }
 
-stopped_at : (asset : Asset) (most : ℕ) (first : Option (List (List ℕ))) (es fs : List Entry) (why : Stop) (now : Scene) → es ≡ fs →
-    StandsStopped asset most first es why now.relaying now.desk → StandsStopped asset most first fs why now.relaying now.desk
-stopped_at asset most first es fs why now e st = subst (λ (x : List Entry). StandsStopped asset most first x why now.relaying now.desk) e st
+stopped_at : (asset : Asset) (most : ℕ) (first : Option (List (List ℕ))) (es fs : List Entry) (why : Stop) (now : Scene) → es ≡ fs → (log : Option (List (List ℕ))) →
+    StandsStopped asset most first es why now.relaying log now.desk.line_part → StandsStopped asset most first fs why now.relaying log now.desk.line_part
+stopped_at asset most first es fs why now e log st = subst (λ (x : List Entry). StandsStopped asset most first x why now.relaying log now.desk.line_part) e st
 
-cause_later : (why : Stop) (old mid new : Scene) (xs : List Entry) → AddsAnswers old mid xs → mid.pair.faults ≡ old.pair.faults → StopsBy why mid new → StopsBy why old new
+cause_later : (why : Stop) (old mid new : Scene) (xs : List Entry) → AddsAnswers old mid xs → mid.links.faults ≡ old.links.faults → StopsBy why mid new → StopsBy why old new
 cause_later stop.Idle old mid new xs h still c = c ∙ still
 cause_later (stop.Cut reason) old mid new xs h still c = c ∙ still
 cause_later stop.Link old mid new xs h still c = omega (arith, h.link, c)
@@ -73,11 +77,14 @@ goes_stops asset most ps qs why old mid new h g = record {
   answers = h.answers ++ g.answers;
   adds = adds_both old mid new h.answers g.answers h.adds g.adds;
   cause = cause_later why old mid new h.answers h.adds h.still g.cause;
-  does = λ first es st.
-      let a = h.does first es st in
-      let b = g.does first (es ++ h.answers) a.1 in (
+  does = λ first own es st.
+      let a = h.does first own es st in
+      let b = g.does first (with_lines own a.1.more) (es ++ h.answers) a.1.stands in (
         does_broken asset most ps qs es h.answers g.answers a.0 b.0,
-        stopped_at asset most first ((es ++ h.answers) ++ g.answers) (es ++ (h.answers ++ g.answers)) why new (append_assoc es h.answers g.answers) b.1,
+        apart_more own old.desk.lines mid.desk.lines new.desk.lines (λ log. StandsStopped asset most first (es ++ (h.answers ++ g.answers)) why new.relaying log new.desk.line_part) a.1.more a.1.added
+            (apart_as (with_lines own a.1.more) mid.desk.lines new.desk.lines (λ log. StandsStopped asset most first ((es ++ h.answers) ++ g.answers) why new.relaying log new.desk.line_part)
+            (λ log. StandsStopped asset most first (es ++ (h.answers ++ g.answers)) why new.relaying log new.desk.line_part)
+            (stopped_at asset most first ((es ++ h.answers) ++ g.answers) (es ++ (h.answers ++ g.answers)) why new (append_assoc es h.answers g.answers)) b.1),
       );
 }
 
@@ -86,7 +93,7 @@ stops_more asset most ps qs why old new h = record {
   answers = h.answers;
   adds = h.adds;
   cause = h.cause;
-  does = λ first es st. let a = h.does first es st in (breaks_more asset most ps qs es h.answers a.0, a.1);
+  does = λ first own es st. let a = h.does first own es st in (breaks_more asset most ps qs es h.answers a.0, a.1);
 }
 
 pub on_ok : {T : Type 0} (r : Result T Stop) (P Q : Type 0) → (P → Q) → OnOk r P → OnOk r Q
@@ -114,7 +121,7 @@ faults_of before now r why was link = record {
   still = λ never. link.still (λ is. never cc);
 }
 
-pub stop_cause : (why : Stop) (old new : Scene) → FaultsBy old.pair.faults new.pair.faults (why ≡ stop.Link) → (why ≡ stop.Write → Rose old.desk.faults new.desk.faults) → StopsBy why old new
+pub stop_cause : (why : Stop) (old new : Scene) → FaultsBy old.links.faults new.links.faults (why ≡ stop.Link) → (why ≡ stop.Write → Rose old.desk.faults new.desk.faults) → StopsBy why old new
 stop_cause stop.Link old new link write = link.rose refl
 stop_cause stop.Idle old new link write = link.still (λ is. cc)
 stop_cause stop.Write old new link write = (link.still (λ is. cc), write refl)

@@ -1,14 +1,15 @@
 -- A side that is given what is queued for it, and closed where that is all.
-use Rattle.std.proofs.Common.{Bool, Err, List, Ok, Option, Result, [], ap, arith, cond, length, refl, subst, sym, ℕ, ◌+◌, ◌<◌, ◌∙◌, ◌∷◌, ◌≡◌, ◌≤◌}
+use Rattle.std.proofs.Common.{Bool, Err, List, Ok, Result, [], ap, arith, cond, length, refl, subst, sym, ℕ, ◌+◌, ◌<◌, ◌∙◌, ◌∷◌, ◌≡◌, ◌≤◌}
 use Rattle.std.specs.Prelude.{IfErr, OnOk}
 use Rattle.std.specs.Result.{IsErrAnd}
 use Rattle.std.proofs.lemmas.List.{length-append}
 use Rattle.cf_lane.specs.Output.{other}
 use Rattle.cf_lane.specs.declared.limit.TheConstants.{LETTER_LIMIT}
+use Rattle.cf_links.specs.LinkValue.{LinkValue}
+use Rattle.cf_links.specs.Links.{SessionTold}
 use Rattle.cf_outq.specs.SendQueue.{IsQueueOf, Queue, queue_length}
 use Rattle.cf_outside.specs.Desk.{DeskValue}
 use Rattle.cf_outside.specs.Pair.{Entry, FaultsBy}
-use Rattle.cf_outside.specs.PairValue.{PairValue}
 use Rattle.cf_policy.specs.declared.Asset.{Asset}
 use Rattle.cf_stream.specs.Stream.{Stream}
 use Rattle.cf_view.specs.declared.Side.{Side}
@@ -72,45 +73,45 @@ closes_side s old q n b = record {
   idle = refl;
 }
 
-finish_cause : (s : Side) (q : Queue) (a b : Bool) (told told' : Option (List Entry)) (old new : Scene) (why : Stop) → FinishesBy s q a b told told' (Err why) →
-    FaultsBy old.pair.faults new.pair.faults (why ≡ stop.Link) → StopsBy why old new
+finish_cause : (s : Side) (q : Queue) (a b : Bool) (told told' : SessionTold) (old new : Scene) (why : Stop) → FinishesBy s q a b told told' (Err why) →
+    FaultsBy old.links.faults new.links.faults (why ≡ stop.Link) → StopsBy why old new
 finish_cause s q a b told told' old new stop.Link finishes link = link.rose refl
 finish_cause s q a b told told' old new stop.Idle finishes link = absurd finishes
 finish_cause s q a b told told' old new stop.Write finishes link = absurd finishes
 finish_cause s q a b told told' old new (stop.Cut reason) finishes link = absurd finishes
 
-module _ (most : ℕ) (s : Side) (old mid new : RelayingValue) (pair pairm pair' : PairValue) (few : mid.idle < most) (closes : ClosesTo s mid new)
-    (gives : (asset : Asset) (desk : DeskValue) → DoesBetween asset most (Giving s ∷ []) (scene old pair desk) (scene mid pairm desk)) (same : pair'.idles ≡ pairm.idles) where
-  serve_goes : (r : Result (Unit {0}) Stop) → FinishesBy s (queue_to s mid) (is_closed s mid) (is_closed s new) pairm.told pair'.told r → FaultsBy pairm.faults pair'.faults (r ≡ Err stop.Link) →
-      OnOk r ((asset : Asset) (desk : DeskValue) → DoesBetween asset most (Giving s ∷ Finishing s ∷ []) (scene old pair desk) (scene new pair' desk))
-  serve_goes (Ok x) finishes cause = λ asset desk. goes_then asset most (Giving s ∷ []) (Finishing s ∷ []) (scene old pair desk) (scene mid pairm desk) (scene new pair' desk) (gives asset desk)
-      (finish_goes asset most s mid new pairm pair' desk few closes cause.later same (cause.still (λ is. cc)) x finishes)
+module _ (most : ℕ) (s : Side) (old mid new : RelayingValue) (links linksm links' : LinkValue) (few : mid.idle < most) (closes : ClosesTo s mid new)
+    (gives : (asset : Asset) (desk : DeskValue) → DoesBetween asset most (Giving s ∷ []) (scene old links desk) (scene mid linksm desk)) (same : links'.idles ≡ linksm.idles) where
+  serve_goes : (r : Result (Unit {0}) Stop) → FinishesBy s (queue_to s mid) (is_closed s mid) (is_closed s new) linksm.told links'.told r → FaultsBy linksm.faults links'.faults (r ≡ Err stop.Link) →
+      OnOk r ((asset : Asset) (desk : DeskValue) → DoesBetween asset most (Giving s ∷ Finishing s ∷ []) (scene old links desk) (scene new links' desk))
+  serve_goes (Ok x) finishes cause = λ asset desk. goes_then asset most (Giving s ∷ []) (Finishing s ∷ []) (scene old links desk) (scene mid linksm desk) (scene new links' desk) (gives asset desk)
+      (finish_goes asset most s mid new linksm links' desk few closes cause.later same (cause.still (λ is. cc)) x finishes)
   serve_goes (Err e) finishes cause = tt
 
-  serve_stops : (r : Result (Unit {0}) Stop) → FinishesBy s (queue_to s mid) (is_closed s mid) (is_closed s new) pairm.told pair'.told r → FaultsBy pairm.faults pair'.faults (r ≡ Err stop.Link) →
-      IfErr r (λ why. (asset : Asset) (desk : DeskValue) → StopsBetween asset most (Giving s ∷ Finishing s ∷ []) why (scene old pair desk) (scene new pair' desk))
+  serve_stops : (r : Result (Unit {0}) Stop) → FinishesBy s (queue_to s mid) (is_closed s mid) (is_closed s new) linksm.told links'.told r → FaultsBy linksm.faults links'.faults (r ≡ Err stop.Link) →
+      IfErr r (λ why. (asset : Asset) (desk : DeskValue) → StopsBetween asset most (Giving s ∷ Finishing s ∷ []) why (scene old links desk) (scene new links' desk))
   serve_stops (Ok x) finishes cause = tt
-  serve_stops (Err e) finishes cause = λ asset desk. goes_stops asset most (Giving s ∷ []) (Finishing s ∷ []) e (scene old pair desk) (scene mid pairm desk) (scene new pair' desk) (gives asset desk)
-      (finish_stops asset most s mid new pairm pair' desk few closes cause.later same e finishes
-      (finish_cause s (queue_to s mid) (is_closed s mid) (is_closed s new) pairm.told pair'.told (scene mid pairm desk) (scene new pair' desk) e finishes (faults_of pairm.faults pair'.faults (Err e) e refl cause)))
+  serve_stops (Err e) finishes cause = λ asset desk. goes_stops asset most (Giving s ∷ []) (Finishing s ∷ []) e (scene old links desk) (scene mid linksm desk) (scene new links' desk) (gives asset desk)
+      (finish_stops asset most s mid new linksm links' desk few closes cause.later same e finishes
+      (finish_cause s (queue_to s mid) (is_closed s mid) (is_closed s new) linksm.told links'.told (scene mid linksm desk) (scene new links' desk) e finishes (faults_of linksm.faults links'.faults (Err e) e refl cause)))
 
 -- a give broke off
-give_cause : (s : Side) (most : ℕ) (q q' : Queue) (a b : Option (List Entry)) (i j : ℕ) (old new : Scene) (why : Stop) → GaveBy s most q q' a b i j (Err why) →
-    FaultsBy old.pair.faults new.pair.faults (why ≡ stop.Link) → StopsBy why old new
+give_cause : (s : Side) (most : ℕ) (q q' : Queue) (a b : SessionTold) (i j : ℕ) (old new : Scene) (why : Stop) → GaveBy s most q q' a b i j (Err why) →
+    FaultsBy old.links.faults new.links.faults (why ≡ stop.Link) → StopsBy why old new
 give_cause s most q q' a b i j old new stop.Link gave link = link.rose refl
 give_cause s most q q' a b i j old new stop.Idle gave link = link.still (λ is. cc)
 give_cause s most q q' a b i j old new stop.Write gave link = absurd gave
 give_cause s most q q' a b i j old new (stop.Cut reason) gave link = absurd gave
 
-give_breaks : (asset : Asset) (most : ℕ) (s : Side) (old new : RelayingValue) (pair pair' : PairValue) (desk : DeskValue) → old.idle < most → GivesTo s old new →
-    ((w : Stream) → IsQueueOf (queue_to s old) w → IsQueueOf (queue_to s new) w) → (r : Result (Unit {0}) Stop) (why : Stop) → r ≡ Err why → FaultsBy pair.faults pair'.faults (r ≡ Err stop.Link) →
-    ((start : ℕ) → RoseBy old.idle start pair.idles → RoseBy new.idle start pair'.idles) →
-    GaveBy s most (queue_to s old) (queue_to s new) pair.told pair'.told old.idle new.idle (Err why) →
-    StopsBetween asset most (Giving s ∷ Finishing s ∷ []) why (scene old pair desk) (scene new pair' desk)
-give_breaks asset most s old new pair pair' desk few to stands r why was cause idles gave =
-    stops_more asset most (Giving s ∷ []) (Finishing s ∷ []) why (scene old pair desk) (scene new pair' desk)
-    (give_stops asset most s old new pair pair' desk few to stands cause.later idles why gave
-    (give_cause s most (queue_to s old) (queue_to s new) pair.told pair'.told old.idle new.idle (scene old pair desk) (scene new pair' desk) why gave (faults_of pair.faults pair'.faults r why was cause)))
+give_breaks : (asset : Asset) (most : ℕ) (s : Side) (old new : RelayingValue) (links links' : LinkValue) (desk : DeskValue) → old.idle < most → GivesTo s old new →
+    ((w : Stream) → IsQueueOf (queue_to s old) w → IsQueueOf (queue_to s new) w) → (r : Result (Unit {0}) Stop) (why : Stop) → r ≡ Err why → FaultsBy links.faults links'.faults (r ≡ Err stop.Link) →
+    ((start : ℕ) → RoseBy old.idle start links.idles → RoseBy new.idle start links'.idles) →
+    GaveBy s most (queue_to s old) (queue_to s new) links.told links'.told old.idle new.idle (Err why) →
+    StopsBetween asset most (Giving s ∷ Finishing s ∷ []) why (scene old links desk) (scene new links' desk)
+give_breaks asset most s old new links links' desk few to stands r why was cause idles gave =
+    stops_more asset most (Giving s ∷ []) (Finishing s ∷ []) why (scene old links desk) (scene new links' desk)
+    (give_stops asset most s old new links links' desk few to stands cause.later idles why gave
+    (give_cause s most (queue_to s old) (queue_to s new) links.told links'.told old.idle new.idle (scene old links desk) (scene new links' desk) why gave (faults_of links.faults links'.faults r why was cause)))
 
 -- ---- the calls of a side that is served
 
@@ -119,62 +120,62 @@ record IsWithinLimit (q : Queue) : Type 0 where
   pub short : queue_length q < LETTER_LIMIT
   pub fits : length q.kept + q.acked ≤ queue_length q
 
-gave_within : (s : Side) (q q' : Queue) (told told' : Option (List Entry)) (idle idle' : ℕ) (answers : List Entry) → Gave s q q' told told' idle idle' answers → IsWithinLimit q → IsWithinLimit q'
+gave_within : (s : Side) (q q' : Queue) (told told' : SessionTold) (idle idle' : ℕ) (answers : List Entry) → Gave s q q' told told' idle idle' answers → IsWithinLimit q → IsWithinLimit q'
 gave_within s q q' told told' idle idle' answers gave h =
     let e : queue_length q' ≡ queue_length q = ap (λ n. n + cond q'.ended 1 0) gave.pushed ∙ ap {B = ℕ} (λ b. q.pushed + cond b 1 0) gave.ended in
     let k : length q.kept ≡ length (given s answers) + length q'.kept = ap length gave.kept ∙ length-append (given s answers) q'.kept in
     record { short = omega (arith, e, h.short); fits = omega (arith, e, k, gave.acked, h.fits) }
 
 -- what the calls of a side that is served come to
-pub record Served (most : ℕ) (s : Side) (r : Result (Unit {0}) Stop) (old : Relaying) (new : RelayingValue) (pair pair' : PairValue) : Type 0 where
-  pub goes : OnOk r ((asset : Asset) (desk : DeskValue) → DoesBetween asset most (Giving s ∷ Finishing s ∷ []) (scene (relaying_value old) pair desk) (scene new pair' desk))
-  pub stops : IfErr r (λ why. (asset : Asset) (desk : DeskValue) → StopsBetween asset most (Giving s ∷ Finishing s ∷ []) why (scene (relaying_value old) pair desk) (scene new pair' desk))
+pub record Served (most : ℕ) (s : Side) (r : Result (Unit {0}) Stop) (old : Relaying) (new : RelayingValue) (links links' : LinkValue) : Type 0 where
+  pub goes : OnOk r ((asset : Asset) (desk : DeskValue) → DoesBetween asset most (Giving s ∷ Finishing s ∷ []) (scene (relaying_value old) links desk) (scene new links' desk))
+  pub stops : IfErr r (λ why. (asset : Asset) (desk : DeskValue) → StopsBetween asset most (Giving s ∷ Finishing s ∷ []) why (scene (relaying_value old) links desk) (scene new links' desk))
   pub sound : OnOk r ((asset : Asset) → IsSound asset most (relaying_value old) → IsSound asset most new)
   pub moves : OnOk r (ServesOrRests s most (relaying_value old) new)
 
-module _ (most : ℕ) (s : Side) (old : Relaying) (queue queue' : Queue) (idle' : ℕ) (pair pair' : PairValue) (few : old.idle < most) (lent : queue ≡ of_side s old.to)
-    (stands : (w : Stream) → IsQueueOf queue w → IsQueueOf queue' w) (idles : (start : ℕ) → RoseBy old.idle start pair.idles → RoseBy idle' start pair'.idles)
-    (r : Result (Unit {0}) Stop) (cause : FaultsBy pair.faults pair'.faults (r ≡ Err stop.Link)) where
+module _ (most : ℕ) (s : Side) (old : Relaying) (queue queue' : Queue) (idle' : ℕ) (links links' : LinkValue) (few : old.idle < most) (lent : queue ≡ of_side s old.to)
+    (stands : (w : Stream) → IsQueueOf queue w → IsQueueOf queue' w) (idles : (start : ℕ) → RoseBy old.idle start links.idles → RoseBy idle' start links'.idles)
+    (r : Result (Unit {0}) Stop) (cause : FaultsBy links.faults links'.faults (r ≡ Err stop.Link)) where
   at_queues : (P : Queue → Queue → Type 0) → P queue queue' → P (queue_to s (relaying_value old)) (queue_to s (given_to s old queue' idle'))
   at_queues P p =
       subst (λ x. P x (queue_to s (given_to s old queue' idle'))) (lent ∙ by_side (λ s. of_side s old.to ≡ queue_to s (relaying_value old)) refl refl s)
       (subst (λ x. P queue x) (by_side (λ s. queue' ≡ queue_to s (given_to s old queue' idle')) refl refl s) p)
 
-  gave_at : (r : Result (Unit {0}) Stop) → GaveBy s most queue queue' pair.told pair'.told old.idle idle' r →
-      GaveBy s most (queue_to s (relaying_value old)) (queue_to s (given_to s old queue' idle')) pair.told pair'.told old.idle idle' r
-  gave_at r gave = at_queues (λ x y. GaveBy s most x y pair.told pair'.told old.idle idle' r) gave
+  gave_at : (r : Result (Unit {0}) Stop) → GaveBy s most queue queue' links.told links'.told old.idle idle' r →
+      GaveBy s most (queue_to s (relaying_value old)) (queue_to s (given_to s old queue' idle')) links.told links'.told old.idle idle' r
+  gave_at r gave = at_queues (λ x y. GaveBy s most x y links.told links'.told old.idle idle' r) gave
 
   stands_at : (w : Stream) → IsQueueOf (queue_to s (relaying_value old)) w → IsQueueOf (queue_to s (given_to s old queue' idle')) w
   stands_at = at_queues (λ x y. (w : Stream) → IsQueueOf x w → IsQueueOf y w) stands
 
   -- what a `?` hands on
-  pub give_broke : {T : Type 0} (answer : Result T Stop) (why : Stop) → IsErrAnd answer (λ e. e ≡ why) → r ≡ Err why → GaveBy s most queue queue' pair.told pair'.told old.idle idle' (Err why) →
-      IfErr answer (λ e. (asset : Asset) (desk : DeskValue) → StopsBetween asset most (Giving s ∷ Finishing s ∷ []) e (scene (relaying_value old) pair desk) (scene (given_to s old queue' idle') pair' desk))
+  pub give_broke : {T : Type 0} (answer : Result T Stop) (why : Stop) → IsErrAnd answer (λ e. e ≡ why) → r ≡ Err why → GaveBy s most queue queue' links.told links'.told old.idle idle' (Err why) →
+      IfErr answer (λ e. (asset : Asset) (desk : DeskValue) → StopsBetween asset most (Giving s ∷ Finishing s ∷ []) e (scene (relaying_value old) links desk) (scene (given_to s old queue' idle') links' desk))
   give_broke answer why is was gave =
-      handed_on answer why (λ e. (asset : Asset) (desk : DeskValue) → StopsBetween asset most (Giving s ∷ Finishing s ∷ []) e (scene (relaying_value old) pair desk) (scene (given_to s old queue' idle') pair' desk)) is
-      (λ asset desk. give_breaks asset most s (relaying_value old) (given_to s old queue' idle') pair pair' desk few (gives_side s old queue' idle') stands_at r why was cause idles (gave_at (Err why) gave))
+      handed_on answer why (λ e. (asset : Asset) (desk : DeskValue) → StopsBetween asset most (Giving s ∷ Finishing s ∷ []) e (scene (relaying_value old) links desk) (scene (given_to s old queue' idle') links' desk)) is
+      (λ asset desk. give_breaks asset most s (relaying_value old) (given_to s old queue' idle') links links' desk few (gives_side s old queue' idle') stands_at r why was cause idles (gave_at (Err why) gave))
 
-  module _ (x : Unit {0}) (was : r ≡ Ok x) (gave : GaveBy s most queue queue' pair.told pair'.told old.idle idle' (Ok x)) where
-    gave_goes : (asset : Asset) (desk : DeskValue) → DoesBetween asset most (Giving s ∷ []) (scene (relaying_value old) pair desk) (scene (given_to s old queue' idle') pair' desk)
-    gave_goes = λ asset desk. give_goes asset most s (relaying_value old) (given_to s old queue' idle') pair pair' desk few (gives_side s old queue' idle') stands_at cause.later idles
-        (no_fault pair.faults pair'.faults r x was cause) x (gave_at (Ok x) gave)
+  module _ (x : Unit {0}) (was : r ≡ Ok x) (gave : GaveBy s most queue queue' links.told links'.told old.idle idle' (Ok x)) where
+    gave_goes : (asset : Asset) (desk : DeskValue) → DoesBetween asset most (Giving s ∷ []) (scene (relaying_value old) links desk) (scene (given_to s old queue' idle') links' desk)
+    gave_goes = λ asset desk. give_goes asset most s (relaying_value old) (given_to s old queue' idle') links links' desk few (gives_side s old queue' idle') stands_at cause.later idles
+        (no_fault links.faults links'.faults r x was cause) x (gave_at (Ok x) gave)
 
-    module _ (finished finished' : Bool) (pair'' : PairValue) (shut : finished ≡ of_side s old.finished) (same : pair''.idles ≡ pair'.idles) (f : Result (Unit {0}) Stop)
-        (finishes : FinishesBy s queue' finished finished' pair'.told pair''.told f) (late : FaultsBy pair'.faults pair''.faults (f ≡ Err stop.Link)) where
-      finishes_at : FinishesBy s (queue_to s (given_to s old queue' idle')) (is_closed s (given_to s old queue' idle')) (is_closed s (served_to s old queue' idle' finished')) pair'.told pair''.told f
+    module _ (finished finished' : Bool) (links'' : LinkValue) (shut : finished ≡ of_side s old.finished) (same : links''.idles ≡ links'.idles) (f : Result (Unit {0}) Stop)
+        (finishes : FinishesBy s queue' finished finished' links'.told links''.told f) (late : FaultsBy links'.faults links''.faults (f ≡ Err stop.Link)) where
+      finishes_at : FinishesBy s (queue_to s (given_to s old queue' idle')) (is_closed s (given_to s old queue' idle')) (is_closed s (served_to s old queue' idle' finished')) links'.told links''.told f
       finishes_at =
-          subst (λ q. FinishesBy s q (is_closed s (given_to s old queue' idle')) (is_closed s (served_to s old queue' idle' finished')) pair'.told pair''.told f)
+          subst (λ q. FinishesBy s q (is_closed s (given_to s old queue' idle')) (is_closed s (served_to s old queue' idle' finished')) links'.told links''.told f)
           (by_side (λ s. queue' ≡ queue_to s (given_to s old queue' idle')) refl refl s)
-          (subst (λ b. FinishesBy s queue' b (is_closed s (served_to s old queue' idle' finished')) pair'.told pair''.told f)
+          (subst (λ b. FinishesBy s queue' b (is_closed s (served_to s old queue' idle' finished')) links'.told links''.told f)
           (shut ∙ by_side (λ s. of_side s old.finished ≡ is_closed s (given_to s old queue' idle')) refl refl s)
-          (subst (λ b. FinishesBy s queue' finished b pair'.told pair''.told f) (by_side (λ s. finished' ≡ is_closed s (served_to s old queue' idle' finished')) refl refl s) finishes))
+          (subst (λ b. FinishesBy s queue' finished b links'.told links''.told f) (by_side (λ s. finished' ≡ is_closed s (served_to s old queue' idle' finished')) refl refl s) finishes))
 
       served_sound : (asset : Asset) → IsSound asset most (relaying_value old) → IsSound asset most (served_to s old queue' idle' finished')
       served_sound asset h =
           let client : IsWithinLimit old.to.client = record { short = h.short.to_client; fits = h.to_client } in
           let controller : IsWithinLimit old.to.controller = record { short = h.short.to_controller; fits = h.to_controller } in
           let each = with_each IsWithinLimit s old.to queue' client controller
-          (gave_within s queue queue' pair.told pair'.told old.idle idle' gave.0 gave.1 (subst IsWithinLimit (sym lent) (of_each IsWithinLimit s old.to client controller))) in
+          (gave_within s queue queue' links.told links'.told old.idle idle' gave.0 gave.1 (subst IsWithinLimit (sym lent) (of_each IsWithinLimit s old.to client controller))) in
           record {
             of_asset = h.of_asset;
             debt = h.debt;
@@ -187,16 +188,16 @@ module _ (most : ℕ) (s : Side) (old : Relaying) (queue queue' : Queue) (idle' 
             few = gave.3;
           }
 
-      served_moves : (f : Result (Unit {0}) Stop) → FinishesBy s (queue_to s (given_to s old queue' idle')) (is_closed s (given_to s old queue' idle')) (is_closed s (served_to s old queue' idle' finished')) pair'.told pair''.told f →
+      served_moves : (f : Result (Unit {0}) Stop) → FinishesBy s (queue_to s (given_to s old queue' idle')) (is_closed s (given_to s old queue' idle')) (is_closed s (served_to s old queue' idle' finished')) links'.told links''.told f →
           OnOk f (ServesOrRests s most (relaying_value old) (served_to s old queue' idle' finished'))
       served_moves (Ok y) done = serve_moves most s (relaying_value old) (given_to s old queue' idle') (served_to s old queue' idle' finished') few (gives_side s old queue' idle') (closes_side s old queue' idle' finished')
-          pair.told pair'.told pair'.told pair''.told x y (gave_at (Ok x) gave) done
+          links.told links'.told links'.told links''.told x y (gave_at (Ok x) gave) done
       served_moves (Err e) done = tt
 
-      pub served : Served most s f old (served_to s old queue' idle' finished') pair pair''
+      pub served : Served most s f old (served_to s old queue' idle' finished') links links''
       served = record {
-        goes = serve_goes most s (relaying_value old) (given_to s old queue' idle') (served_to s old queue' idle' finished') pair pair' pair'' gave.3 (closes_side s old queue' idle' finished') gave_goes same f finishes_at late;
-        stops = serve_stops most s (relaying_value old) (given_to s old queue' idle') (served_to s old queue' idle' finished') pair pair' pair'' gave.3 (closes_side s old queue' idle' finished') gave_goes same f finishes_at late;
+        goes = serve_goes most s (relaying_value old) (given_to s old queue' idle') (served_to s old queue' idle' finished') links links' links'' gave.3 (closes_side s old queue' idle' finished') gave_goes same f finishes_at late;
+        stops = serve_stops most s (relaying_value old) (given_to s old queue' idle') (served_to s old queue' idle' finished') links links' links'' gave.3 (closes_side s old queue' idle' finished') gave_goes same f finishes_at late;
         sound = all_ok f _ served_sound;
         moves = served_moves f finishes_at;
       }

@@ -6,7 +6,7 @@ use Rattle.std.specs.List.{flat_map}
 use Rattle.std.specs.Option.{option_or}
 use Rattle.std.proofs.lemmas.List.{append-nil, append_assoc, append_cancel_left, length-append}
 use Rattle.cf_audit.specs.declared.line.CutReason.{CutReason}
-use Rattle.cf_lane.specs.Follows.{AreJudged, AreRests, Began, Follows, Rests, rest_of, with_rest}
+use Rattle.cf_lane.specs.Follows.{AddsTo, AreJudged, AreRests, Began, Follows, Rests, rest_of, with_rest}
 use Rattle.cf_lane.specs.Handled.{LaneValue, State}
 use Rattle.cf_lane.specs.History.{Element, bytes_at, bytes_of, end_at, ended_of, taken}
 use Rattle.cf_lane.specs.Judged.{Judged, cut_of, has_ended}
@@ -29,7 +29,7 @@ use Rattle.cf_relay.proofs.Hearing.{or_false}
 use Rattle.cf_relay.proofs.Lists.{closes_more, closes_none, ended_more, gives_none, history_more, letters_more, letters_other, meets_none, other_bytes, met_more, tells_none, told_more}
 use Rattle.cf_relay.specs.Answers.{client_of, element_of, first_of, given, greatest, history_after, history_of, idles_after, is_finished, met_in, moment_of, moments}
 use Rattle.cf_relay.specs.Relaying.{RelayingValue, is_closed, lane_state, letters_from, queue_to, rests_of}
-use Rattle.cf_relay.specs.Stands.{IsCutShort, StandsCut, StandsFor, StandsMissed}
+use Rattle.cf_relay.specs.Stands.{Apart, IsCutShort, StandsCut, StandsFor, StandsMissed}
 use Rattle.cf_relay.specs.Taken.{IsHeard, MissesLine, ended_after, letters_brought}
 use Rattle.cf_relay.specs.Turn.{IsTakeAnswer, cut_at}
 
@@ -179,7 +179,7 @@ goes_on_outputs asset client js ks g side.Client = (_, g.to_client)
 goes_on_outputs asset client js ks g side.Controller = (_, g.to_controller)
 
 module _ (law : StreamsGoOn) (asset : Asset) (first : Option (List (List ℕ))) (es : List Entry) (s : Side) (answer : Entry) (taken_is : IsTakeAnswer s answer)
-    (old : RelayingValue) (log : Option (List (List ℕ))) (st : StandsFor asset first es old log) where
+    (old : RelayingValue) (own log : Option (List (List ℕ))) (st : StandsFor asset first es old own) where
   one_history : history_of (es ++ answer ∷ []) ≡ history_of es ++ element_of (moment_of es) answer
   one_history = history_more [] es (answer ∷ []) ∙ ap (λ x. history_of es ++ x) (append-nil (element_of (moment_of es) answer))
 
@@ -204,10 +204,10 @@ module _ (law : StreamsGoOn) (asset : Asset) (first : Option (List (List ℕ))) 
       let g = goes_on_outputs asset (client_of es) st.follows.judged ks (law asset (client_of es) (history_of es) more st.follows.judged ks here there) t in
       ((queue_to t old).kept ++ g.0, g.1 ∙ ap (λ xs. xs ++ g.0) (st.front t) ∙ append_assoc (given t es) (queue_to t old).kept g.0 ∙ ap (λ xs. xs ++ ((queue_to t old).kept ++ g.0)) (sym (one_given t)))
 
-  missed_at : (h : List Element) (more : List Element) (desk : DeskValue) → h ≡ history_of es ++ more → IsCutShort h (history_of (es ++ answer ∷ [])) → Began asset old.lane.client h first desk.lines desk.line_part →
-      StandsMissed asset first (es ++ answer ∷ []) desk
-  missed_at h more desk e short began =
-      let here : Began asset (client_of (es ++ answer ∷ [])) h first desk.lines desk.line_part = subst (λ c. Began asset c h first desk.lines desk.line_part) (st.client ∙ sym one_client) began in
+  missed_at : (h : List Element) (more : List Element) (lines : Option (List (List ℕ))) (part : List ℕ) → h ≡ history_of es ++ more → IsCutShort h (history_of (es ++ answer ∷ [])) → Began asset old.lane.client h first lines part →
+      StandsMissed asset first (es ++ answer ∷ []) lines part
+  missed_at h more lines part e short began =
+      let here : Began asset (client_of (es ++ answer ∷ [])) h first lines part = subst (λ c. Began asset c h first lines part) (st.client ∙ sym one_client) began in
       record {
         history = h;
         is_short = short;
@@ -216,46 +216,66 @@ module _ (law : StreamsGoOn) (asset : Asset) (first : Option (List (List ℕ))) 
       }
 
   -- a line failed
-  missed_by : (desk : DeskValue) (e : Entry) → e ≡ answer → IsTakeAnswer s e → MissesLine asset old.moment s e (rest_of s (rests_of old)) (lane_state old log) desk → StandsMissed asset first (es ++ answer ∷ []) desk
+  missed_by : (desk : DeskValue) (e : Entry) → e ≡ answer → IsTakeAnswer s e → MissesLine asset old.moment s e (rest_of s (rests_of old)) (lane_state old log) desk → Apart own log desk.lines (λ lines. StandsMissed asset first (es ++ answer ∷ []) lines desk.line_part)
   missed_by desk (Met c) is t misses = absurd t
   missed_by desk (Moment m) is t misses = absurd t
   missed_by desk (Got of bytes) is t misses =
-      let w = misses (history_of es) (rests_of old) first refl st.follows in
-      missed_at (history_of es ++ bytes_at old.moment s w.handled ∷ []) (bytes_at old.moment s w.handled ∷ []) desk refl
-      (inr (
-        history_of es,
-        old.moment,
-        s,
-        w.handled,
-        w.rest,
-        refl,
-        one_history ∙ ap (λ x. history_of es ++ element_of (moment_of es) x) (sym is) ∙ ap (λ m. history_of es ++ bytes_at m of bytes ∷ []) (sym st.moment)
-            ∙ ap (λ o. history_of es ++ bytes_at old.moment o bytes ∷ []) t.0 ∙ ap (λ xs. history_of es ++ bytes_at old.moment s xs ∷ []) w.piece_is,
-      ))
-      w.began
+      let b = misses (history_of es) (rests_of old) first own refl st.follows in
+      let w = b.began in
+      record {
+        more = b.more;
+        added = b.added;
+        stands = missed_at (history_of es ++ bytes_at old.moment s w.handled ∷ []) (bytes_at old.moment s w.handled ∷ []) (with_lines own b.more) desk.line_part refl
+            (inr (
+              history_of es,
+              old.moment,
+              s,
+              w.handled,
+              w.rest,
+              refl,
+              one_history ∙ ap (λ x. history_of es ++ element_of (moment_of es) x) (sym is) ∙ ap (λ m. history_of es ++ bytes_at m of bytes ∷ []) (sym st.moment)
+                  ∙ ap (λ o. history_of es ++ bytes_at old.moment o bytes ∷ []) t.0 ∙ ap (λ xs. history_of es ++ bytes_at old.moment s xs ∷ []) w.piece_is,
+            ))
+            w.began;
+      }
   missed_by desk (Took of bytes) is t misses = absurd t
   missed_by desk (Ended of) is t misses =
-      missed_at (history_of es ++ end_at old.moment s ∷ []) (end_at old.moment s ∷ []) desk refl
-      (inl (ap (λ m. history_of es ++ end_at m s ∷ []) st.moment ∙ ap (λ o. history_of es ++ end_at (moment_of es) o ∷ []) (sym t)
-      ∙ ap (λ x. history_of es ++ element_of (moment_of es) x) is ∙ sym one_history))
-      (misses (history_of es) (rests_of old) first refl st.follows)
+      let b = misses (history_of es) (rests_of old) first own refl st.follows in
+      record {
+        more = b.more;
+        added = b.added;
+        stands = missed_at (history_of es ++ end_at old.moment s ∷ []) (end_at old.moment s ∷ []) (with_lines own b.more) desk.line_part refl
+            (inl (ap (λ m. history_of es ++ end_at m s ∷ []) st.moment ∙ ap (λ o. history_of es ++ end_at (moment_of es) o ∷ []) (sym t)
+            ∙ ap (λ x. history_of es ++ element_of (moment_of es) x) is ∙ sym one_history))
+            b.began;
+      }
   missed_by desk (Idle of) is t misses = absurd misses
   missed_by desk (Finished of) is t misses = absurd t
 
-  pub stands_missed : (desk : DeskValue) → MissesLine asset old.moment s answer (rest_of s (rests_of old)) (lane_state old log) desk → StandsMissed asset first (es ++ answer ∷ []) desk
+  pub stands_missed : (desk : DeskValue) → MissesLine asset old.moment s answer (rest_of s (rests_of old)) (lane_state old log) desk → Apart own log desk.lines (λ lines. StandsMissed asset first (es ++ answer ∷ []) lines desk.line_part)
   stands_missed desk misses = missed_by desk answer refl taken_is misses
 
   module _ (new : RelayingValue) (log' : Option (List (List ℕ))) (cut : Option CutReason) (to : TakesTo s old new)
       (hears : IsHeard asset old.moment s answer cut (rest_of s (rests_of old)) (rest_of s (rests_of new)) (lane_state old log) (lane_state new log')) where
-    follows_left : Follows asset (history_of es ++ element_of old.moment answer) (with_rest s (rests_of old) hears.left) cut first (lane_state new log')
-    follows_left = hears.follows (history_of es) (rests_of old) first refl st.follows
+    pub adds_left : AddsTo asset (history_of es ++ element_of old.moment answer) (with_rest s (rests_of old) hears.left) cut first own log (lane_state new log')
+    adds_left = hears.follows (history_of es) (rests_of old) first own refl st.follows
+
+    -- its own log with the lines that were added
+    abbrev pub own_left : Option (List (List ℕ))
+    own_left = with_lines own adds_left.more
+
+    pub follows_left : Follows asset (history_of es ++ element_of old.moment answer) (with_rest s (rests_of old) hears.left) cut first (lane_state new own_left)
+    follows_left = adds_left.follows
+
+    pub left_apart : (A : Option (List (List ℕ)) → Type 0) → A own_left → Apart own log log' A
+    left_apart A a = record { more = adds_left.more; added = adds_left.added; stands = a }
 
     history_is : history_of es ++ element_of old.moment answer ≡ history_of (es ++ answer ∷ [])
     history_is = ap (λ m. history_of es ++ element_of m answer) st.moment ∙ sym one_history
 
     -- cut by an item, or by the limit behind it
     pub stands_cut : (reason : CutReason) → ((js : List Judged) → cut_of js ≡ cut → IsQueueOf new.to_client (stream_to asset side.Client js) → IsQueueOf new.to_controller (stream_to asset side.Controller js) →
-        cut_at asset (es ++ answer ∷ []) js ≡ Some reason) → StandsCut asset first (es ++ answer ∷ []) new log' reason
+        cut_at asset (es ++ answer ∷ []) js ≡ Some reason) → StandsCut asset first (es ++ answer ∷ []) new own_left reason
     stands_cut reason is_cut =
         let f = follows_left in
         let client : new.lane.client ≡ client_of (es ++ answer ∷ []) = hears.client ∙ st.client ∙ sym one_client in
@@ -285,10 +305,13 @@ module _ (law : StreamsGoOn) (asset : Asset) (first : Option (List (List ℕ))) 
     letters_here : (t : Side) → letters_from t new ≡ letter_count (taken t (history_of (es ++ answer ∷ [])))
     letters_here t = both_sides (λ u. letters_from u new ≡ letter_count (taken u (history_of (es ++ answer ∷ [])))) s letters_own letters_others t
 
-    follows_new : (f : Follows asset (history_of (es ++ answer ∷ [])) (rests_of new) None first (lane_state new log'))
+    abbrev pub own_new : Option (List (List ℕ))
+    own_new = own_left new log' None to hears
+
+    follows_new : (f : Follows asset (history_of (es ++ answer ∷ [])) (rests_of new) None first (lane_state new own_new))
         × (f.judged ≡ (follows_left new log' None to hears).judged)
     follows_new =
-        follows_at asset _ (history_of (es ++ answer ∷ [])) _ (rests_of new) None first (lane_state new log') (history_is new log' None to hears)
+        follows_at asset _ (history_of (es ++ answer ∷ [])) _ (rests_of new) None first (lane_state new own_new) (history_is new log' None to hears)
         (ap (with_rest s (rests_of old)) (sym (hears.keeps refl).0) ∙ rests_with s old new to.other_rest) (follows_left new log' None to hears)
 
     ended_here : (t : Side) → (queue_to t new).ended ≡ ended_of (other t) (history_of (es ++ answer ∷ []))
@@ -365,7 +388,7 @@ module _ (law : StreamsGoOn) (asset : Asset) (first : Option (List (List ℕ))) 
         (kept_none quiet t was.0 was.1, ended_kept t was.1)
 
     pub stands_heard : QuietBehindEnd → limit_by LETTER_LIMIT new.client_letters new.controller_letters (queue_length new.to_client) (queue_length new.to_controller) ≡ None →
-        StandsFor asset first (es ++ answer ∷ []) new log'
+        StandsFor asset first (es ++ answer ∷ []) new own_new
     stands_heard quiet short =
         let f = follows_new in
         record {
@@ -384,7 +407,7 @@ module _ (law : StreamsGoOn) (asset : Asset) (first : Option (List (List ℕ))) 
 
     -- the limit cuts
     pub stands_full : (reason : CutReason) → limit_by LETTER_LIMIT new.client_letters new.controller_letters (queue_length new.to_client) (queue_length new.to_controller) ≡ Some reason →
-        StandsCut asset first (es ++ answer ∷ []) new log' reason
+        StandsCut asset first (es ++ answer ∷ []) new own_new reason
     stands_full reason full =
         stands_cut new log' None to hears reason (λ js none qc qk.
         ap (λ c. option_or c (limit_cut LETTER_LIMIT (history_of (es ++ answer ∷ [])) (stream_to asset side.Client js) (stream_to asset side.Controller js))) none

@@ -2,14 +2,16 @@
 use Rattle.std.proofs.Common.{Err, List, None, Ok, Option, Result, [], arith, inr, length, refl, sym, ap, subst, take, ℕ, ◌++◌, ◌+◌, ◌<◌, ◌∙◌, ◌≡◌, ◌≤◌}
 use Rattle.std.specs.Prelude.{OnErr, OnOk}
 use Rattle.std.proofs.lemmas.List.{append-nil, length-take-le}
-use Rattle.cf_lane.specs.Follows.{Follows, with_rest}
+use Rattle.cf_lane.specs.Follows.{Follows, over, with_rest}
 use Rattle.cf_lane.specs.Handled.{IsLaneOf, State, debt}
 use Rattle.cf_lane.specs.History.{Element}
+use Rattle.cf_links.specs.Links.{SessionTold, with_entry}
 use Rattle.cf_outside.specs.Desk.{DeskValue}
-use Rattle.cf_outside.specs.Pair.{Ended, Entry, Got, Idle, with_entry}
+use Rattle.cf_outside.specs.Pair.{Ended, Got, Idle}
 use Rattle.cf_policy.specs.declared.Asset.{Asset}
 use Rattle.cf_view.specs.declared.Side.{Side}
 use Rattle.cf_relay.proofs.Hearing.{same_pushed, same_rest}
+use Rattle.cf_relay.proofs.Lined.{lines_none}
 use Rattle.cf_relay.specs.Taken.{AnswersTo, IsHeard, MayTakeNow, TakesAnswer, TakesBy, take_state}
 use Rattle.cf_relay.specs.declared.stop.Stop.{Stop}
 use Rattle.cf_relay.specs.declared.stop.Stop.TheVariants as stop
@@ -19,8 +21,13 @@ hears_idle : (asset : Asset) (moment : ℕ) (s : Side) (rest : List ℕ) (now : 
 hears_idle asset moment s rest now short of_asset owed = record {
   left = rest;
   keeps = λ n. (refl, short);
-  follows = λ h rests first is f. subst (λ r. Follows asset (h ++ []) r None first now) (sym (ap (with_rest s rests) is ∙ same_rest s rests))
-      (subst (λ (k : List Element). Follows asset k rests None first now) (sym (append-nil h)) f);
+  follows = λ h rests first own is f. record {
+    more = [];
+    added = lines_none now.lines;
+    follows = subst (λ (l : Option (List (List ℕ))). Follows asset (h ++ []) (with_rest s rests rest) None first (over l now)) (lines_none own)
+        (subst (λ r. Follows asset (h ++ []) r None first (over own now)) (sym (ap (with_rest s rests) is ∙ same_rest s rests))
+        (subst (λ (k : List Element). Follows asset k rests None first (over own now)) (sym (append-nil h)) f));
+  };
   of_asset = of_asset;
   debt = owed;
   client = refl;
@@ -31,7 +38,7 @@ hears_idle asset moment s rest now short of_asset owed = record {
   counts = λ n. omega arith;
 }
 
-module _ (asset : Asset) (moment most : ℕ) (s : Side) (rest : List ℕ) (letters : ℕ) (told told' : Option (List Entry)) (idle idle' : ℕ) (now : State) (desk : DeskValue) where
+module _ (asset : Asset) (moment most : ℕ) (s : Side) (rest : List ℕ) (letters : ℕ) (told told' : SessionTold) (idle idle' : ℕ) (now : State) (desk : DeskValue) where
   idle_answer : length rest < 300 → IsLaneOf asset now.lane → debt now.lane ≤ 5300 → idle' ≡ idle + 1 → told' ≡ with_entry told (Idle s) →
       TakesAnswer asset moment s None (take_state now rest letters idle told) (take_state now rest letters idle' told')
   idle_answer short of_asset owed i e = record {
@@ -51,9 +58,9 @@ module _ (asset : Asset) (moment most : ℕ) (s : Side) (rest : List ℕ) (lette
 pub got_size : (n : ℕ) (buf : List ℕ) → 1 ≤ n → n ≤ length buf → length buf ≡ 4096 → (1 ≤ length (take n buf)) × (length (take n buf) ≤ 4096)
 got_size n buf some inside size = (omega (arith, some, length-take-le n buf inside), omega (arith, inside, size, length-take-le n buf inside))
 
-pub got_answers : (s : Side) (bytes : List ℕ) (told told' : Option (List Entry)) (idle letters letters' : ℕ) → 1 ≤ length bytes → length bytes ≤ 4096 → told' ≡ with_entry told (Got s bytes) → letters' ≡ letters + length bytes →
+pub got_answers : (s : Side) (bytes : List ℕ) (told told' : SessionTold) (idle letters letters' : ℕ) → 1 ≤ length bytes → length bytes ≤ 4096 → told' ≡ with_entry told (Got s bytes) → letters' ≡ letters + length bytes →
     AnswersTo s (Got s bytes) told told' idle 0 letters letters'
 got_answers s bytes told told' idle letters letters' some most tells more = record { is_taken = (refl, some, most); tells = tells; idles = refl; letters = more }
 
-pub end_answers : (s : Side) (told told' : Option (List Entry)) (idle letters letters' : ℕ) → told' ≡ with_entry told (Ended s) → letters' ≡ letters + 1 → AnswersTo s (Ended s) told told' idle 0 letters letters'
+pub end_answers : (s : Side) (told told' : SessionTold) (idle letters letters' : ℕ) → told' ≡ with_entry told (Ended s) → letters' ≡ letters + 1 → AnswersTo s (Ended s) told told' idle 0 letters letters'
 end_answers s told told' idle letters letters' tells more = record { is_taken = refl; tells = tells; idles = refl; letters = more }

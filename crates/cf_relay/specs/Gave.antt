@@ -1,15 +1,16 @@
 -- What giving does to a queue and to a pair. This project's own.
+use Rattle.cf_links.specs.Links.{SessionTold, with_answers}
 use Rattle.cf_outq.specs.SendQueue.{Queue}
 use Rattle.cf_outside.specs.Pair.{Entry, Finished}
 use Rattle.cf_view.specs.declared.Side.{Side}
-use Rattle.std.specs.Prelude.{Bool, Err, List, Ok, Option, Result, [], false, length, true, ℕ, ◌++◌, ◌+◌, ◌<◌, ◌∷◌, ◌≡◌, ◌⊎◌}
-use Rattle.cf_relay.specs.Answers.{given, idles_after, with_answers}
+use Rattle.std.specs.Prelude.{Bool, Err, List, Ok, Result, [], false, length, true, ℕ, ◌++◌, ◌+◌, ◌<◌, ◌∷◌, ◌≡◌, ◌⊎◌}
+use Rattle.cf_relay.specs.Answers.{given, idles_after}
 use Rattle.cf_relay.specs.Turn.{BeginsToGive, GivesQueued}
 use Rattle.cf_relay.specs.declared.stop.Stop.{Stop}
 use Rattle.cf_relay.specs.declared.stop.Stop.TheVariants as stop
 
 -- the answers were added, and the bytes given left the queue's front
-pub record Gave (s : Side) (old new : Queue) (told_before told_after : Option (List Entry)) (idle_before idle_after : ℕ)
+pub record Gave (s : Side) (old new : Queue) (told_before told_after : SessionTold) (idle_before idle_after : ℕ)
     (answers : List Entry) : Type 0 where
   pub tells : told_after ≡ with_answers told_before answers
   pub counts : idle_after ≡ idles_after idle_before answers
@@ -19,7 +20,7 @@ pub record Gave (s : Side) (old new : Queue) (told_before told_after : Option (L
   pub ended : new.ended ≡ old.ended
 
 -- a side was given what is queued for it; the relay stops at the Idle that completes their number, or at a call that fails
-abbrev pub GaveBy : Side → (most : ℕ) → (old new : Queue) → (told_before told_after : Option (List Entry)) →
+abbrev pub GaveBy : Side → (most : ℕ) → (old new : Queue) → (told_before told_after : SessionTold) →
     (idle_before idle_after : ℕ) → Result Unit Stop → Type 0
 GaveBy s most old new before after idle idle' (Ok done) =
     (answers : List Entry) × Gave s old new before after idle idle' answers × GivesQueued s old.kept answers × (idle' < most)
@@ -35,7 +36,7 @@ abbrev pub OnlyEndIsLeft : Queue → (finished : Bool) → Type 0
 OnlyEndIsLeft q finished = (q.kept ≡ []) × (q.ended ≡ true) × (finished ≡ false)
 
 -- a side was closed exactly where End is all that is left for it, and it was not closed before
-abbrev pub FinishesBy : Side → Queue → (finished_before finished_after : Bool) → (told_before told_after : Option (List Entry))
+abbrev pub FinishesBy : Side → Queue → (finished_before finished_after : Bool) → (told_before told_after : SessionTold)
     → Result Unit Stop → Type 0
 FinishesBy s q finished finished' before after (Ok done) =
     (OnlyEndIsLeft q finished × (finished' ≡ true) × (after ≡ with_answers before (Finished s ∷ []))) ⊎

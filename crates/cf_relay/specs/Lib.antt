@@ -2,6 +2,7 @@ pub mod Answers
 pub mod Closing
 pub mod Ends
 pub mod Gave
+pub mod Only
 pub mod Relaying
 pub mod Scene
 pub mod Sides

@@ -3,7 +3,7 @@ use Rattle.cf_lane.specs.Follows.{Rests}
 use Rattle.cf_lane.specs.Handled.{IsLaneOf, LaneValue, State, debt, state}
 use Rattle.cf_lane.specs.Output.{other}
 use Rattle.cf_lane.specs.declared.limit.TheConstants.{LETTER_LIMIT}
-use Rattle.cf_outq.specs.SendQueue.{Queue, queue_length}
+use Rattle.cf_outq.specs.SendQueue.{Queue, empty, queue_length}
 use Rattle.cf_policy.specs.declared.Asset.{Asset}
 use Rattle.cf_view.specs.declared.Side.{Side}
 use Rattle.std.specs.Prelude.{Bool, List, Option, [], false, length, true, ℕ, ◌*◌, ◌+◌, ◌<◌, ◌≡◌, ◌≤◌, ◌⊎◌}
@@ -44,11 +44,11 @@ relaying_value a = record {
 }
 
 -- a relay before its first turn
-abbrev pub begun_value : LaneValue → (to_client to_controller : Queue) → (moment : ℕ) → RelayingValue
-begun_value lane to_client to_controller moment = record {
+abbrev pub begun_value : LaneValue → (moment : ℕ) → RelayingValue
+begun_value lane moment = record {
   lane = lane;
-  to_client = to_client;
-  to_controller = to_controller;
+  to_client = empty;
+  to_controller = empty;
   client_rest = [];
   controller_rest = [];
   client_letters = 0;

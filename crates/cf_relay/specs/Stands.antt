@@ -1,17 +1,19 @@
 -- What a relay keeps between two stages stands for the list of answers: StandsFor; and what it stands for as it stops. This
 -- project's own.
 use Rattle.cf_audit.specs.declared.line.CutReason.{CutReason}
-use Rattle.cf_lane.specs.Follows.{Began, Follows}
+use Rattle.cf_lane.specs.Follows.{Began, Follows, no_rests}
+use Rattle.cf_lane.specs.Handled.{IsLaneOf, LaneValue, debt, state}
 use Rattle.cf_lane.specs.History.{Element, bytes_at, ended_of, taken}
 use Rattle.cf_lane.specs.Judged.{Judged, is_admitted, is_refused}
 use Rattle.cf_lane.specs.Limit.{limit_cut}
 use Rattle.cf_lane.specs.Log.{lines, with_lines}
 use Rattle.cf_lane.specs.Output.{other, outputs, stream_to}
 use Rattle.cf_lane.specs.declared.limit.TheConstants.{LETTER_LIMIT}
-use Rattle.cf_outside.specs.Desk.{DeskValue}
+use Rattle.cf_outq.specs.SendQueue.{IsQueueOf, Queue}
 use Rattle.cf_outside.specs.Pair.{Entry}
 use Rattle.cf_policy.specs.declared.Asset.{Asset}
-use Rattle.cf_stream.specs.Stream.{letter_count}
+use Rattle.cf_stream.specs.Stream.{letter_count, no_letters}
+use Rattle.cf_view.specs.declared.Endpoint.{Endpoint}
 use Rattle.cf_view.specs.declared.Side.{Side}
 use Rattle.std.specs.Prelude.{List, None, Option, Some, [], count_by, length, true, ℕ, ◌++◌, ◌<◌, ◌∷◌, ◌≡◌, ◌⊎◌}
 use Rattle.cf_view.specs.declared.Side.TheVariants as side
@@ -20,6 +22,12 @@ use Rattle.cf_relay.specs.Relaying.{RelayingValue, is_closed, lane_state, letter
 use Rattle.cf_relay.specs.Turn.{AreItemsOf, cut_at}
 use Rattle.cf_relay.specs.declared.stop.Stop.{Stop}
 use Rattle.cf_relay.specs.declared.stop.Stop.TheVariants as stop
+
+-- a log got lines, by which something goes on that stands over lines of its own: the log may have lines of others besides
+pub record Apart (own old new : Option (List (List ℕ))) (Stands : Option (List (List ℕ)) → Type 0) : Type 0 where
+  pub more : List (List ℕ)
+  pub added : new ≡ with_lines old more
+  pub stands : Stands (with_lines own more)
 
 -- lane, queues and log have the history of the list, which nothing cuts
 pub record StandsFor (asset : Asset) (first : Option (List (List ℕ))) (es : List Entry) (now : RelayingValue)
@@ -39,6 +47,14 @@ pub record StandsFor (asset : Asset) (first : Option (List (List ℕ))) (es : Li
   pub done : (s : Side) → is_closed s now ≡ true → ((queue_to s now).kept ≡ []) × ((queue_to s now).ended ≡ true)
   pub moment : now.moment ≡ moment_of es
   pub idle : now.idle ≡ idle_run es
+
+-- a lane of an asset and a client that has handled nothing: with two empty queues it follows an empty history over any log
+pub record IsNewLane (asset : Asset) (client : Endpoint) (lane : LaneValue) : Type 0 where
+  pub of_asset : IsLaneOf asset lane
+  pub of_client : lane.client ≡ client
+  pub counts : (lane.admitted ≡ 0) × (lane.refused ≡ 0) × (debt lane ≡ 0)
+  pub follows : (to_client to_controller : Queue) (first : Option (List (List ℕ))) → IsQueueOf to_client no_letters
+      → IsQueueOf to_controller no_letters → Follows asset [] no_rests None first (state lane to_client to_controller first)
 
 -- each side was given a prefix of the stream to it
 abbrev pub IsPrefix : List ℕ → List ℕ → Type 0
@@ -72,16 +88,17 @@ IsCutShort short whole =
     × (short ≡ earlier ++ bytes_at moment s bytes ∷ []) × (whole ≡ earlier ++ bytes_at moment s (bytes ++ more) ∷ []))
 
 -- a line failed: the log has a beginning of the lines of the items up to there
-pub record StandsMissed (asset : Asset) (first : Option (List (List ℕ))) (es : List Entry) (desk : DeskValue) : Type 0 where
+pub record StandsMissed (asset : Asset) (first : Option (List (List ℕ))) (es : List Entry) (log : Option (List (List ℕ)))
+    (part : List ℕ) : Type 0 where
   pub history : List Element
   pub is_short : IsCutShort history (history_of es)
-  pub began : Began asset (client_of es) history first desk.lines desk.line_part
+  pub began : Began asset (client_of es) history first log part
   pub prefixes : GivenPrefixes asset es began.judged
 
 -- what a relay that stops stands for, with its list
 abbrev pub StandsStopped : Asset → (most : ℕ) → (first : Option (List (List ℕ))) → List Entry → Stop → RelayingValue
-    → DeskValue → Type 0
-StandsStopped asset most first es stop.Idle now desk = StandsFor asset first es now desk.lines × (now.idle ≡ most)
-StandsStopped asset most first es stop.Link now desk = StandsFor asset first es now desk.lines × (now.idle < most)
-StandsStopped asset most first es stop.Write now desk = StandsMissed asset first es desk
-StandsStopped asset most first es (stop.Cut reason) now desk = StandsCut asset first es now desk.lines reason
+    → (log : Option (List (List ℕ))) → (part : List ℕ) → Type 0
+StandsStopped asset most first es stop.Idle now log part = StandsFor asset first es now log × (now.idle ≡ most)
+StandsStopped asset most first es stop.Link now log part = StandsFor asset first es now log × (now.idle < most)
+StandsStopped asset most first es stop.Write now log part = StandsMissed asset first es log part
+StandsStopped asset most first es (stop.Cut reason) now log part = StandsCut asset first es now log reason

@@ -1,10 +1,11 @@
 -- What taking does to a lane, its queues and its log. This project's own.
 use Rattle.cf_audit.specs.declared.line.CutReason.{CutReason}
-use Rattle.cf_lane.specs.Follows.{Began, BeganWithin, Follows, Rests, rest_of, with_rest}
+use Rattle.cf_lane.specs.Follows.{AddsTo, BeganApart, BeganApartWithin, Follows, Rests, over, rest_of, with_rest}
 use Rattle.cf_lane.specs.Handled.{IsLaneOf, IsOpen, State, debt}
 use Rattle.cf_lane.specs.History.{Element, end_at, is_side}
 use Rattle.cf_lane.specs.Limit.{limit_by}
 use Rattle.cf_lane.specs.declared.limit.TheConstants.{LETTER_LIMIT}
+use Rattle.cf_links.specs.Links.{SessionTold, with_answers}
 use Rattle.cf_outq.specs.SendQueue.{Queue}
 use Rattle.cf_outside.specs.Desk.{DeskValue}
 use Rattle.cf_outside.specs.Pair.{Ended, Entry, Finished, Got, Idle, Met, Moment, Took}
@@ -12,7 +13,7 @@ use Rattle.cf_policy.specs.declared.Asset.{Asset}
 use Rattle.cf_view.specs.declared.Side.{Side}
 use Rattle.std.specs.Prelude.{Bool, Err, List, None, Ok, Option, Result, Some, [], if◌then◌else◌, length, true, ℕ, ◌++◌, ◌+◌, ◌<◌, ◌∷◌, ◌≡◌, ◌≤◌, ◌||◌, ◌⊎◌}
 use Rattle.cf_view.specs.declared.Side.TheVariants as side
-use Rattle.cf_relay.specs.Answers.{element_of, idles_after, with_answers}
+use Rattle.cf_relay.specs.Answers.{element_of, idles_after}
 use Rattle.cf_relay.specs.Turn.{IsTakeAnswer}
 use Rattle.cf_relay.specs.declared.stop.Stop.{Stop}
 use Rattle.cf_relay.specs.declared.stop.Stop.TheVariants as stop
@@ -58,9 +59,9 @@ pub record IsHeard (asset : Asset) (moment : ℕ) (s : Side) (answer : Entry) (c
     (rest_before rest_after : List ℕ) (old new : State) : Type 0 where
   pub left : List ℕ
   pub keeps : cut ≡ None → (rest_after ≡ left) × (length rest_after < 300)
-  pub follows : (h : List Element) (rests : Rests) (first : Option (List (List ℕ))) → rest_before ≡ rest_of s rests
-      → Follows asset h rests None first old
-      → Follows asset (h ++ element_of moment answer) (with_rest s rests left) cut first new
+  pub follows : (h : List Element) (rests : Rests) (first own : Option (List (List ℕ))) → rest_before ≡ rest_of s rests
+      → Follows asset h rests None first (over own old)
+      → AddsTo asset (h ++ element_of moment answer) (with_rest s rests left) cut first own old.lines new
   pub of_asset : IsLaneOf asset new.lane
   pub debt : debt new.lane ≤ 5300
   pub client : new.lane.client ≡ old.lane.client
@@ -76,19 +77,19 @@ abbrev pub MissesLine : Asset → (moment : ℕ) → Side → Entry → (rest : 
 MissesLine asset moment s (Met meeting) rest old desk = ⊥
 MissesLine asset moment s (Moment other) rest old desk = ⊥
 MissesLine asset moment s (Got of bytes) rest old desk =
-    (h : List Element) (rests : Rests) (first : Option (List (List ℕ))) → rest ≡ rest_of s rests
-    → Follows asset h rests None first old
-    → BeganWithin asset old.lane.client h moment s bytes first desk.lines desk.line_part
+    (h : List Element) (rests : Rests) (first own : Option (List (List ℕ))) → rest ≡ rest_of s rests
+    → Follows asset h rests None first (over own old)
+    → BeganApartWithin asset old.lane.client h moment s bytes first own old.lines desk.lines desk.line_part
 MissesLine asset moment s (Took of bytes) rest old desk = ⊥
 MissesLine asset moment s (Ended of) rest old desk =
-    (h : List Element) (rests : Rests) (first : Option (List (List ℕ))) → rest ≡ rest_of s rests
-    → Follows asset h rests None first old
-    → Began asset old.lane.client (h ++ end_at moment s ∷ []) first desk.lines desk.line_part
+    (h : List Element) (rests : Rests) (first own : Option (List (List ℕ))) → rest ≡ rest_of s rests
+    → Follows asset h rests None first (over own old)
+    → BeganApart asset old.lane.client (h ++ end_at moment s ∷ []) first own old.lines desk.lines desk.line_part
 MissesLine asset moment s (Idle of) rest old desk = ⊥
 MissesLine asset moment s (Finished of) rest old desk = ⊥
 
 -- a side that was asked answered
-pub record AnswersTo (s : Side) (answer : Entry) (told_before told_after : Option (List Entry))
+pub record AnswersTo (s : Side) (answer : Entry) (told_before told_after : SessionTold)
     (idle_before idle_after letters_before letters_after : ℕ) : Type 0 where
   pub is_taken : IsTakeAnswer s answer
   pub tells : told_after ≡ with_answers told_before (answer ∷ [])
@@ -101,9 +102,9 @@ pub record TakeState : Type 0 where
   pub rest : List ℕ
   pub letters : ℕ
   pub idle : ℕ
-  pub told : Option (List Entry)
+  pub told : SessionTold
 
-abbrev pub take_state : State → (rest : List ℕ) → (letters idle : ℕ) → Option (List Entry) → TakeState
+abbrev pub take_state : State → (rest : List ℕ) → (letters idle : ℕ) → SessionTold → TakeState
 take_state state rest letters idle told = record { state = state; rest = rest; letters = letters; idle = idle; told = told }
 
 -- a side was asked, answered, and the lane handled it

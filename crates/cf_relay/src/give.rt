@@ -1,5 +1,7 @@
-//! A queue's bytes, given to its side of a pair.
+//! A queue's bytes, given to its side of a session.
 ghost use Rattle.std.specs.Prelude.{◌≡◌, ℕ, ◌+◌, ◌-◌, ◌^◌, ◌<◌, ◌≤◌, Err, min, take, drop, length, true, false};
+ghost use Rattle.cf_links.specs.LinkValue.{told_of};
+ghost use Rattle.cf_links.specs.Links.{LinksPlace};
 ghost use Rattle.cf_outq.specs.SendQueue.{IsQueueOf};
 ghost use Rattle.cf_outside.specs.Pair.{FaultsBy};
 ghost use Rattle.cf_stream.specs.Stream.{Stream};
@@ -7,8 +9,9 @@ ghost use Rattle.cf_relay.specs.Gave.{GaveBy, FinishesBy};
 ghost use Rattle.cf_relay.specs.Scene.{RoseBy};
 
 use crate::stop::{Stop, count_idle};
+use cf_links::Links;
 use cf_outq::{Outq, Piece};
-use cf_outside::{GiveAnswer, Pair, WriteAnswer};
+use cf_outside::{GiveAnswer, WriteAnswer};
 use cf_view::Side;
 
 /// The bytes that a queue has room for.
@@ -60,20 +63,24 @@ pub(crate) fn take_front(queue: &mut Outq, n: usize)
 
 /// Gives a side queued bytes until the queue is empty or `Idle` comes. Each give is handed at most as many of the oldest
 /// bytes as the buffer takes.
-pub(crate) fn give_to<P: Pair>(
+pub(crate) fn give_to<L: Links>(
     side: Side,
     queue: &mut Outq,
     idle: &mut u64,
     most: u64,
     buf: &mut [u8],
-    pair: &mut P,
+    session: u64,
+    links: &mut L,
 ) -> Result<(), Stop>
+    requires serves { LinksPlace.serves (L.place links.old) session ≡ true }
     requires few { idle.old < most }
     requires buffer { length buf.old ≡ 4096 }
-    ensures gave { GaveBy side most queue.old queue.new (P.told pair.old) (P.told pair.new) idle.old idle.new result }
+    ensures place { L.place links.new ≡ L.place links.old }
+    ensures gave { GaveBy side most queue.old queue.new (told_of L.Links session links.old) (told_of L.Links session links.new)
+        idle.old idle.new result }
     ensures stands { (whole : Stream) → IsQueueOf queue.old whole → IsQueueOf queue.new whole }
-    ensures cause { FaultsBy (P.faults pair.old) (P.faults pair.new) (result ≡ Err Stop.Link) }
-    ensures idles { (start : ℕ) → RoseBy idle.old start (P.idles pair.old) → RoseBy idle.new start (P.idles pair.new) }
+    ensures cause { FaultsBy (L.faults links.old) (L.faults links.new) (result ≡ Err Stop.Link) }
+    ensures idles { (start : ℕ) → RoseBy idle.old start (L.idles links.old) → RoseBy idle.new start (L.idles links.new) }
     ensures buffer { length buf.new ≡ 4096 }
 {
     'gives: loop {
@@ -81,7 +88,7 @@ pub(crate) fn give_to<P: Pair>(
         if n == 0 {
             return Ok(());
         }
-        match pair.give(side, &buf[..n]) {
+        match links.give(session, side, &buf[..n]) {
             GiveAnswer::Took(took) => {
                 take_front(queue, took);
                 *idle = 0;
@@ -93,20 +100,24 @@ pub(crate) fn give_to<P: Pair>(
 }
 
 /// Closes a side for sending where End is all that is left for it, once.
-pub(crate) fn finish_to<P: Pair>(
+pub(crate) fn finish_to<L: Links>(
     side: Side,
     queue: &Outq,
     finished: &mut bool,
-    pair: &mut P,
+    session: u64,
+    links: &mut L,
 ) -> Result<(), Stop>
-    ensures finishes { FinishesBy side queue.now finished.old finished.new (P.told pair.old) (P.told pair.new) result }
-    ensures cause { FaultsBy (P.faults pair.old) (P.faults pair.new) (result ≡ Err Stop.Link) }
-    ensures idles { P.idles pair.new ≡ P.idles pair.old }
+    requires serves { LinksPlace.serves (L.place links.old) session ≡ true }
+    ensures place { L.place links.new ≡ L.place links.old }
+    ensures finishes { FinishesBy side queue.now finished.old finished.new (told_of L.Links session links.old)
+        (told_of L.Links session links.new) result }
+    ensures cause { FaultsBy (L.faults links.old) (L.faults links.new) (result ≡ Err Stop.Link) }
+    ensures idles { L.idles links.new ≡ L.idles links.old }
 {
     if *finished || !queue.is_ended() || waiting(queue) > 0 {
         return Ok(());
     }
-    match pair.finish(side) {
+    match links.finish(session, side) {
         WriteAnswer::Done => {
             *finished = true;
             Ok(())

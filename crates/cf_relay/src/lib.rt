@@ -4,6 +4,7 @@
 mod done;
 mod give;
 mod lines;
+mod only;
 mod relaying;
 mod sides;
 mod stop;
@@ -12,4 +13,7 @@ mod top;
 mod turns;
 
 pub use done::{RelayDone, RelayEnd, RelayFault};
+pub use lines::log_line;
+pub use relaying::Relaying;
+pub use stop::Stop;
 pub use top::relay;

@@ -1,16 +1,20 @@
-//! A relay between two stages of a turn, and each stage.
-ghost use Rattle.std.specs.Prelude.{◌≡◌, ℕ, ◌+◌, ◌*◌, ◌<◌, ◌≤◌, ◌^◌, ◌⊎◌, [], ◌∷◌, max, true, IfErr, OnOk, length};
+//! A relay between two stages of a turn, and each stage. This project's own.
+ghost use Rattle.std.specs.Prelude.{◌≡◌, ℕ, ◌+◌, ◌*◌, ◌<◌, ◌≤◌, ◌^◌, ◌⊎◌, [], ◌∷◌, List, Option, max, true, IfErr, OnOk, length};
 ghost use Rattle.cf_lane.specs.Limit.{limit_by};
 ghost use Rattle.cf_lane.specs.declared.limit.TheConstants.{LETTER_LIMIT};
-ghost use Rattle.cf_outq.specs.SendQueue.{IsQueue, queue_length};
+ghost use Rattle.cf_links.specs.LinkValue.{link_value};
+ghost use Rattle.cf_links.specs.Links.{LinksPlace};
+ghost use Rattle.cf_outq.specs.SendQueue.{IsQueue, empty, queue_length};
 ghost use Rattle.cf_outside.specs.Desk.{DeskValue};
-ghost use Rattle.cf_outside.specs.PairValue.{pair_value};
+ghost use Rattle.cf_outside.specs.Pair.{Moment, met_at};
 ghost use Rattle.cf_policy.specs.Within.{IsAssetWithin};
 ghost use Rattle.cf_policy.specs.declared.Asset.{Asset as AssetOf};
-ghost use Rattle.cf_relay.specs.Relaying.{AreClosed, AsksOrRests, IsShort, IsSound, ServesOrRests, Unmoved, relaying_value};
+ghost use Rattle.cf_relay.specs.Relaying.{AreClosed, AsksOrRests, IsShort, IsSound, ServesOrRests, Unmoved, begun_value, relaying_value};
 ghost use Rattle.cf_relay.specs.Scene.{DoesBetween, StopsBetween, scene, scene_of};
+ghost use Rattle.cf_relay.specs.Stands.{IsNewLane, StandsFor};
 ghost use Rattle.cf_relay.specs.Taken.{LimitBy, StaysWhole};
 ghost use Rattle.cf_relay.specs.Turn.{Finishing, Giving, Taking, Telling};
+ghost use Rattle.cf_view.specs.declared.Endpoint.{Endpoint as EndpointOf};
 
 use crate::give::{finish_to, give_to};
 use crate::sides::Sides;
@@ -18,14 +22,16 @@ use crate::stop::Stop;
 use crate::take::{Heard, take_from};
 use cf_audit::CutReason;
 use cf_lane::{LETTER_LIMIT, Lane, Lengths, limit_cut, streams_go_on};
+use cf_links::Links;
 use cf_outq::Outq;
-use cf_outside::{Desk, MomentAnswer, Pair};
+use cf_outside::{Desk, MomentAnswer};
 use cf_policy::Asset;
 use cf_view::Side;
 
-/// A relay between two stages.
+/// A relay between two stages: its lane, and for each side the queue to it, the bytes of it that are no whole unit, and how many
+/// of its letters were taken.
 #[derive(Drop)]
-pub(crate) struct Relaying {
+pub struct Relaying {
     pub(crate) lane: Lane,
     /// The queue to each side.
     pub(crate) to: Sides<Outq>,
@@ -39,22 +45,55 @@ pub(crate) struct Relaying {
 }
 
 impl Relaying {
+    /// A relay that has met its client and was told its first moment, in microseconds: nothing of either side was taken yet.
+    pub fn begun(lane: Lane, to_client: Outq, to_controller: Outq, moment: u64) -> Relaying
+        requires to_client { to_client ≡ empty }
+        requires to_controller { to_controller ≡ empty }
+        ensures value { relaying_value result ≡ begun_value lane moment }
+        ensures stands { (asset : AssetOf) (listen : ℕ) (client : EndpointOf) (first : Option (List (List ℕ)))
+            → IsNewLane asset client lane → StandsFor asset first (met_at listen asset.endpoint client ∷ Moment moment ∷ [])
+            (relaying_value result) first }
+        ensures sound { (asset : AssetOf) (client : EndpointOf) (most : ℕ) → 0 < most → IsNewLane asset client lane
+            → IsSound asset most (relaying_value result) }
+        ensures still { AreClosed (relaying_value result) → ⊥ }
+    {
+        Relaying {
+            lane,
+            to: Sides {
+                client: to_client,
+                controller: to_controller,
+            },
+            from: Sides {
+                client: Heard::none(),
+                controller: Heard::none(),
+            },
+            finished: Sides {
+                client: false,
+                controller: false,
+            },
+            moment,
+            idle: 0,
+        }
+    }
+
     /// Asks for the moment, and keeps the greatest.
-    pub(crate) fn tell<P: Pair>(&mut self, pair: &mut P) -> Result<(), Stop>
+    pub(crate) fn tell<L: Links>(&mut self, session: u64, links: &mut L) -> Result<(), Stop>
+        requires serves { LinksPlace.serves (L.place links.old) session ≡ true }
         requires still { AreClosed (relaying_value self.old) → ⊥ }
+        ensures place { L.place links.new ≡ L.place links.old }
         ensures goes { OnOk result ((asset : AssetOf) (most : ℕ) (desk : DeskValue) → self.old.idle < most →
             DoesBetween asset most (Telling ∷ [])
-            (scene (relaying_value self.old) (pair_value P.Pair pair.old) desk)
-            (scene (relaying_value self.new) (pair_value P.Pair pair.new) desk)) }
+            (scene (relaying_value self.old) (link_value L.Links session links.old) desk)
+            (scene (relaying_value self.new) (link_value L.Links session links.new) desk)) }
         ensures stops { IfErr result (λ stop. (asset : AssetOf) (most : ℕ) (desk : DeskValue) → self.old.idle < most →
             StopsBetween asset most (Telling ∷ []) stop
-            (scene (relaying_value self.old) (pair_value P.Pair pair.old) desk)
-            (scene (relaying_value self.new) (pair_value P.Pair pair.new) desk)) }
+            (scene (relaying_value self.old) (link_value L.Links session links.old) desk)
+            (scene (relaying_value self.new) (link_value L.Links session links.new) desk)) }
         ensures sound { (asset : AssetOf) (most : ℕ) → IsSound asset most (relaying_value self.old) → IsSound asset most
             (relaying_value self.new) }
         ensures unmoved { Unmoved (relaying_value self.old) (relaying_value self.new) }
     {
-        match pair.moment() {
+        match links.moment(session) {
             MomentAnswer::Told(now) => {
                 self.moment = self.moment.max(now);
                 Ok(())
@@ -64,23 +103,28 @@ impl Relaying {
     }
 
     /// Asks a side for bytes, where it has not ended and both queues are small, and hands the lane what comes.
-    pub(crate) fn take<P: Pair, D: Desk>(
+    pub(crate) fn take<L: Links, D: Desk>(
         &mut self,
         side: Side,
         asset: &Asset,
         most: u64,
         buf: &mut [u8],
-        pair: &mut P,
+        session: u64,
+        links: &mut L,
         desk: &mut D,
     ) -> Result<(), Stop>
+        requires serves { LinksPlace.serves (L.place links.old) session ≡ true }
         requires within { IsAssetWithin asset.now }
         requires sound { IsSound asset.now most (relaying_value self.old) }
         requires whole { DeskValue.whole (D.value desk.old) ≡ true }
         requires buffer { length buf.old ≡ 4096 }
+        ensures place { L.place links.new ≡ L.place links.old }
         ensures goes { OnOk result (DoesBetween asset.now most (Taking side ∷ [])
-            (scene_of P.Pair D.Desk self.old pair.old desk.old) (scene_of P.Pair D.Desk self.new pair.new desk.new)) }
+            (scene_of L.Links session D.Desk self.old links.old desk.old)
+            (scene_of L.Links session D.Desk self.new links.new desk.new)) }
         ensures stops { IfErr result (λ stop. StopsBetween asset.now most (Taking side ∷ []) stop
-            (scene_of P.Pair D.Desk self.old pair.old desk.old) (scene_of P.Pair D.Desk self.new pair.new desk.new)) }
+            (scene_of L.Links session D.Desk self.old links.old desk.old)
+            (scene_of L.Links session D.Desk self.new links.new desk.new)) }
         ensures sound { OnOk result (IsSound asset.now most (relaying_value self.new)) }
         ensures moves { OnOk result (AsksOrRests side most (relaying_value self.old) (relaying_value self.new)) }
         ensures whole { StaysWhole result (D.value desk.new) }
@@ -98,7 +142,8 @@ impl Relaying {
             &mut self.idle,
             most,
             buf,
-            pair,
+            session,
+            links,
             desk,
         )?;
         self.check_limit()
@@ -137,30 +182,33 @@ impl Relaying {
     }
 
     /// Gives a side what is queued for it, and closes it for sending where that is all.
-    pub(crate) fn serve<P: Pair>(
+    pub(crate) fn serve<L: Links>(
         &mut self,
         side: Side,
         most: u64,
         buf: &mut [u8],
-        pair: &mut P,
+        session: u64,
+        links: &mut L,
     ) -> Result<(), Stop>
+        requires serves { LinksPlace.serves (L.place links.old) session ≡ true }
         requires few { self.old.idle < most }
         requires buffer { length buf.old ≡ 4096 }
+        ensures place { L.place links.new ≡ L.place links.old }
         ensures goes { OnOk result ((asset : AssetOf) (desk : DeskValue) → DoesBetween asset most
             (Giving side ∷ Finishing side ∷ [])
-            (scene (relaying_value self.old) (pair_value P.Pair pair.old) desk)
-            (scene (relaying_value self.new) (pair_value P.Pair pair.new) desk)) }
+            (scene (relaying_value self.old) (link_value L.Links session links.old) desk)
+            (scene (relaying_value self.new) (link_value L.Links session links.new) desk)) }
         ensures stops { IfErr result (λ stop. (asset : AssetOf) (desk : DeskValue) → StopsBetween asset most
             (Giving side ∷ Finishing side ∷ []) stop
-            (scene (relaying_value self.old) (pair_value P.Pair pair.old) desk)
-            (scene (relaying_value self.new) (pair_value P.Pair pair.new) desk)) }
+            (scene (relaying_value self.old) (link_value L.Links session links.old) desk)
+            (scene (relaying_value self.new) (link_value L.Links session links.new) desk)) }
         ensures sound { OnOk result ((asset : AssetOf) → IsSound asset most (relaying_value self.old) → IsSound asset most
             (relaying_value self.new)) }
         ensures moves { OnOk result (ServesOrRests side most (relaying_value self.old) (relaying_value self.new)) }
         ensures buffer { length buf.new ≡ 4096 }
     {
         let queue = self.to.of_mut(side);
-        give_to(side, queue, &mut self.idle, most, buf, pair)?;
-        finish_to(side, queue, self.finished.of_mut(side), pair)
+        give_to(side, queue, &mut self.idle, most, buf, session, links)?;
+        finish_to(side, queue, self.finished.of_mut(side), session, links)
     }
 }

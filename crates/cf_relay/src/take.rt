@@ -1,5 +1,7 @@
-//! What comes from a side of a pair, handed to the lane.
+//! What comes from a side of a session, handed to the lane.
 ghost use Rattle.std.specs.Prelude.{◌≡◌, ◌+◌, ◌*◌, ◌-◌, ◌^◌, ◌<◌, ◌≤◌, ◌++◌, [], ◌∷◌, Err, IfOk, IsTrue, ◌↔◌, OnOk, OnErr, IsErr, ℕ, None, Option, Some, length, drop, true};
+ghost use Rattle.cf_links.specs.LinkValue.{told_of};
+ghost use Rattle.cf_links.specs.Links.{LinksPlace};
 ghost use Rattle.cf_outq.specs.SendQueue.{queue_length};
 ghost use Rattle.cf_outside.specs.Desk.{DeskValue};
 ghost use Rattle.cf_outside.specs.Faults.{HasCause};
@@ -13,8 +15,9 @@ use crate::stop::{Stop, count_idle};
 use arrayvec::ArrayVec;
 use cf_audit::CutReason;
 use cf_lane::Lane;
+use cf_links::Links;
 use cf_outq::Outq;
-use cf_outside::{Desk, Pair, TakeAnswer};
+use cf_outside::{Desk, TakeAnswer};
 use cf_policy::Asset;
 use cf_view::{Side, View, WriteFault};
 
@@ -150,7 +153,7 @@ fn may_take(side: Side, to_client: &Outq, to_controller: &Outq) -> bool
 }
 
 /// Asks a side once for bytes, where it has not ended and both queues are small, and hands the lane what comes.
-pub(crate) fn take_from<P: Pair, D: Desk>(
+pub(crate) fn take_from<L: Links, D: Desk>(
     side: Side,
     asset: &Asset,
     moment: u64,
@@ -161,9 +164,11 @@ pub(crate) fn take_from<P: Pair, D: Desk>(
     idle: &mut u64,
     most: u64,
     buf: &mut [u8],
-    pair: &mut P,
+    session: u64,
+    links: &mut L,
     desk: &mut D,
 ) -> Result<(), Stop>
+    requires serves { LinksPlace.serves (L.place links.old) session ≡ true }
     requires of_asset { IsLaneOf asset.now lane.old }
     requires within { IsAssetWithin asset.now }
     requires whole { DeskValue.whole (D.value desk.old) ≡ true }
@@ -175,24 +180,25 @@ pub(crate) fn take_from<P: Pair, D: Desk>(
     requires letters { heard.old.letters < 2 ^ 30 }
     requires few { idle.old < most }
     requires buffer { length buf.old ≡ 4096 }
+    ensures place { L.place links.new ≡ L.place links.old }
     ensures takes { TakesBy asset.now moment most side
         (take_state (state lane.old to_client.old to_controller.old
-        (DeskValue.lines (D.value desk.old))) heard.old.rest.items heard.old.letters idle.old (P.told pair.old))
+        (DeskValue.lines (D.value desk.old))) heard.old.rest.items heard.old.letters idle.old (told_of L.Links session links.old))
         (take_state (state lane.new to_client.new to_controller.new
-        (DeskValue.lines (D.value desk.new))) heard.new.rest.items heard.new.letters idle.new (P.told pair.new))
+        (DeskValue.lines (D.value desk.new))) heard.new.rest.items heard.new.letters idle.new (told_of L.Links session links.new))
         (D.value desk.new) result }
     ensures whole { StaysWhole result (D.value desk.new) }
     ensures log { WritesLog (D.value desk.old) (D.value desk.new) }
     ensures write { HasCause (DeskValue.faults (D.value desk.old)) (DeskValue.faults (D.value desk.new))
         (result ≡ Err Stop.Write) }
-    ensures link { FaultsBy (P.faults pair.old) (P.faults pair.new) (result ≡ Err Stop.Link) }
-    ensures idles { (start : ℕ) → RoseBy idle.old start (P.idles pair.old) → RoseBy idle.new start (P.idles pair.new) }
+    ensures link { FaultsBy (L.faults links.old) (L.faults links.new) (result ≡ Err Stop.Link) }
+    ensures idles { (start : ℕ) → RoseBy idle.old start (L.idles links.old) → RoseBy idle.new start (L.idles links.new) }
     ensures buffer { length buf.new ≡ 4096 }
 {
     if !may_take(side, to_client, to_controller) {
         return Ok(());
     }
-    match pair.take(side, &mut *buf) {
+    match links.take(session, side, &mut *buf) {
         TakeAnswer::Failed => Err(Stop::Link),
         TakeAnswer::Idle => count_idle(idle, most),
         TakeAnswer::Got(n) => {

@@ -3,7 +3,7 @@ ghost use Rattle.std.specs.Prelude.{◌≡◌, ℕ, ◌*◌, ◌<◌, ◌≤◌,
 ghost use Rattle.cf_audit.specs.Line.{Begun};
 ghost use Rattle.cf_lane.specs.Handled.{WritesLog};
 ghost use Rattle.cf_lane.specs.Log.{line_about, with_lines};
-ghost use Rattle.cf_outq.specs.SendQueue.{IsQueueOf, empty};
+ghost use Rattle.cf_outq.specs.SendQueue.{empty};
 ghost use Rattle.cf_outside.specs.Desk.{DeskValue};
 ghost use Rattle.cf_outside.specs.Faults.{HasCause};
 ghost use Rattle.cf_outside.specs.Files.{Content, KeepsOthers, content_after_create};
@@ -12,18 +12,15 @@ ghost use Rattle.cf_policy.specs.Within.{IsAssetWithin};
 ghost use Rattle.cf_relay.specs.Answers.{with_answers};
 ghost use Rattle.cf_relay.specs.Closing.{ClosesWith, IsCutLost, StopsWith, desk_log};
 ghost use Rattle.cf_relay.specs.Ends.{IdlesRose, RelayEnds, file_log};
-ghost use Rattle.cf_relay.specs.Relaying.{AreClosed, IsSound, begun_value, relaying_value};
+ghost use Rattle.cf_relay.specs.Relaying.{AreClosed, IsSound, relaying_value};
 ghost use Rattle.cf_relay.specs.Scene.{RoseBy};
 ghost use Rattle.cf_relay.specs.Stands.{StandsFor};
 ghost use Rattle.cf_relay.specs.Taken.{StaysWhole};
-ghost use Rattle.cf_stream.specs.Stream.{no_letters};
 
 use crate::done::{RelayDone, RelayEnd, RelayFault};
 use crate::lines::log_line;
 use crate::relaying::Relaying;
-use crate::sides::Sides;
 use crate::stop::Stop;
-use crate::take::Heard;
 use cf_audit::What;
 use cf_lane::Lane;
 use cf_outq::Outq;
@@ -101,8 +98,6 @@ fn relay_logged<P: Pair, F: Files>(
     requires most { 0 < most }
     requires to_client { to_client ≡ empty }
     requires to_controller { to_controller ≡ empty }
-    requires client_stands { IsQueueOf to_client no_letters }
-    requires controller_stands { IsQueueOf to_controller no_letters }
     requires created { (first : Content) × (F.content files.old log.now ≡ content_after_create first) }
     ensures ends { (first : Content) → F.content files.old log.now ≡ content_after_create first → (answers : List Entry) ×
         (P.told pair.new ≡ with_answers (P.told pair.old) answers)
@@ -146,8 +141,6 @@ fn relay_desk<P: Pair, D: Desk>(
     requires whole { DeskValue.whole (D.value desk.old) ≡ true }
     requires to_client { to_client ≡ empty }
     requires to_controller { to_controller ≡ empty }
-    requires client_stands { IsQueueOf to_client no_letters }
-    requires controller_stands { IsQueueOf to_controller no_letters }
     ensures ends { (answers : List Entry) × (P.told pair.new ≡ with_answers (P.told pair.old) answers)
         × RelayEnds asset.now listen most (desk_log (DeskValue.lines (D.value desk.old)) (D.value desk.new)) ⊥ answers result }
     ensures idle { IdlesRose most (P.idles pair.old) (P.idles pair.new) result }
@@ -172,31 +165,8 @@ fn relay_desk<P: Pair, D: Desk>(
         Ok(()) => {}
         Err(_fault) => return Err(RelayFault::Write),
     }
-    let relaying = begun(lane, to_client, to_controller, moment);
+    let relaying = Relaying::begun(lane, to_client, to_controller, moment);
     relay_turns(relaying, asset, client, most, pair, desk)
-}
-
-/// A relay that has met its client and was told its first moment.
-fn begun(lane: Lane, to_client: Outq, to_controller: Outq, moment: u64) -> Relaying
-    ensures { relaying_value result ≡ begun_value lane to_client to_controller moment }
-{
-    Relaying {
-        lane,
-        to: Sides {
-            client: to_client,
-            controller: to_controller,
-        },
-        from: Sides {
-            client: Heard::none(),
-            controller: Heard::none(),
-        },
-        finished: Sides {
-            client: false,
-            controller: false,
-        },
-        moment,
-        idle: 0,
-    }
 }
 
 /// Makes the turns, and puts the last line.
@@ -228,7 +198,7 @@ fn relay_turns<P: Pair, D: Desk>(
     ensures log { WritesLog (D.value desk.old) (D.value desk.new) }
 {
     let mut buf = [0u8; 4096];
-    match relaying.run(asset, most, &mut buf, pair, desk) {
+    match relaying.run_pair(asset, most, &mut buf, pair, desk) {
         Ok(()) => relaying.close(asset, client, desk),
         Err(stop) => relaying.stopped(asset, client, stop, desk),
     }

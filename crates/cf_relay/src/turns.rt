@@ -1,5 +1,6 @@
-//! The turns of a relay.
+//! The turns of a relay. This project's own.
 ghost use Rattle.std.specs.Prelude.{◌≡◌, ℕ, ◌<◌, ◌⊎◌, true, ◌↔◌, IfErr, IsTrue, OnOk, length};
+ghost use Rattle.cf_links.specs.Links.{LinksPlace};
 ghost use Rattle.cf_outside.specs.Desk.{DeskValue};
 ghost use Rattle.cf_policy.specs.Within.{IsAssetWithin};
 ghost use Rattle.cf_relay.specs.Relaying.{AreClosed, IsSound, progress, relaying_value};
@@ -9,77 +10,91 @@ ghost use Rattle.cf_relay.specs.Turn.{turn, turns};
 
 use crate::relaying::Relaying;
 use crate::stop::Stop;
-use cf_outside::{Desk, Pair};
+use cf_links::Links;
+use cf_outside::Desk;
 use cf_policy::Asset;
 use cf_view::Side;
 
 impl Relaying {
     /// Turns, until both sides are closed or the relay stops.
-    pub(crate) fn run<P: Pair, D: Desk>(
+    pub(crate) fn run<L: Links, D: Desk>(
         &mut self,
         asset: &Asset,
         most: u64,
         buf: &mut [u8],
-        pair: &mut P,
+        session: u64,
+        links: &mut L,
         desk: &mut D,
     ) -> Result<(), Stop>
+        requires serves { LinksPlace.serves (L.place links.old) session ≡ true }
         requires within { IsAssetWithin asset.now }
         requires sound { IsSound asset.now most (relaying_value self.old) }
         requires still { AreClosed (relaying_value self.old) → ⊥ }
         requires whole { DeskValue.whole (D.value desk.old) ≡ true }
         requires buffer { length buf.old ≡ 4096 }
+        ensures place { L.place links.new ≡ L.place links.old }
         ensures goes { OnOk result ((n : ℕ) × DoesBetween asset.now most (turns n)
-            (scene_of P.Pair D.Desk self.old pair.old desk.old) (scene_of P.Pair D.Desk self.new pair.new desk.new)) }
+            (scene_of L.Links session D.Desk self.old links.old desk.old)
+            (scene_of L.Links session D.Desk self.new links.new desk.new)) }
         ensures stops { IfErr result (λ stop. (n : ℕ) × StopsBetween asset.now most (turns n) stop
-            (scene_of P.Pair D.Desk self.old pair.old desk.old) (scene_of P.Pair D.Desk self.new pair.new desk.new)) }
+            (scene_of L.Links session D.Desk self.old links.old desk.old)
+            (scene_of L.Links session D.Desk self.new links.new desk.new)) }
         ensures closed { OnOk result (AreClosed (relaying_value self.new)) }
         ensures few { OnOk result (self.new.idle < most) }
         ensures whole { StaysWhole result (D.value desk.new) }
     {
         'turns: loop {
-            self.turn(asset, most, buf, pair, desk)?;
+            self.turn(asset, most, buf, session, links, desk)?;
             if self.is_closed() {
                 return Ok(());
             }
         }
     }
 
-    /// Whether both sides are closed.
-    fn is_closed(&self) -> bool
+    /// Whether both sides are closed for sending: then each was given all that was for it, and no further turn is made.
+    pub fn is_closed(&self) -> bool
         ensures { IsTrue result ↔ AreClosed (relaying_value self.now) }
     {
         self.finished.client && self.finished.controller
     }
 
-    /// One turn: the moment; what the client and then the controller sends; what is queued for the controller and then for
-    /// the client.
-    fn turn<P: Pair, D: Desk>(
+    /// One turn of a session: the moment; what the client and then the controller sends, at most 4,096 bytes each; what is
+    /// queued for the controller and then for the client, until a queue is empty or its side answers `Idle`. Lines of items go
+    /// to the desk, with the greatest moment told, in microseconds. `most` answers `Idle`, with none between them that moves a letter, stop
+    /// it. The buffer has 4,096 bytes; what stands in it does not matter. After an error no further turn is made, and the last line, as
+    /// that of a cut, is the caller's to write.
+    pub fn turn<L: Links, D: Desk>(
         &mut self,
         asset: &Asset,
         most: u64,
         buf: &mut [u8],
-        pair: &mut P,
+        session: u64,
+        links: &mut L,
         desk: &mut D,
     ) -> Result<(), Stop>
+        requires serves { LinksPlace.serves (L.place links.old) session ≡ true }
         requires within { IsAssetWithin asset.now }
         requires sound { IsSound asset.now most (relaying_value self.old) }
         requires still { AreClosed (relaying_value self.old) → ⊥ }
         requires whole { DeskValue.whole (D.value desk.old) ≡ true }
         requires buffer { length buf.old ≡ 4096 }
+        ensures place { L.place links.new ≡ L.place links.old }
         ensures goes { OnOk result (DoesBetween asset.now most turn
-            (scene_of P.Pair D.Desk self.old pair.old desk.old) (scene_of P.Pair D.Desk self.new pair.new desk.new)) }
+            (scene_of L.Links session D.Desk self.old links.old desk.old)
+            (scene_of L.Links session D.Desk self.new links.new desk.new)) }
         ensures stops { IfErr result (λ stop. StopsBetween asset.now most turn stop
-            (scene_of P.Pair D.Desk self.old pair.old desk.old) (scene_of P.Pair D.Desk self.new pair.new desk.new)) }
+            (scene_of L.Links session D.Desk self.old links.old desk.old)
+            (scene_of L.Links session D.Desk self.new links.new desk.new)) }
         ensures sound { OnOk result (IsSound asset.now most (relaying_value self.new)) }
         ensures moves { OnOk result ((progress most (relaying_value self.old) < progress most (relaying_value self.new))
             ⊎ AreClosed (relaying_value self.new)) }
         ensures whole { StaysWhole result (D.value desk.new) }
         ensures buffer { length buf.new ≡ 4096 }
     {
-        self.tell(pair)?;
-        self.take(Side::Client, asset, most, buf, pair, desk)?;
-        self.take(Side::Controller, asset, most, buf, pair, desk)?;
-        self.serve(Side::Controller, most, buf, pair)?;
-        self.serve(Side::Client, most, buf, pair)
+        self.tell(session, links)?;
+        self.take(Side::Client, asset, most, buf, session, links, desk)?;
+        self.take(Side::Controller, asset, most, buf, session, links, desk)?;
+        self.serve(Side::Controller, most, buf, session, links)?;
+        self.serve(Side::Client, most, buf, session, links)
     }
 }

@@ -28,6 +28,7 @@ gives-preserved g c =
       idles = λ start h. omega (arith, inv.idles start h, c.give.ensures.idle.later);
       few = omega (arith, inv.few);
       stands = λ whole h. c.take_front.ensures.stands whole (inv.stands whole h);
+      place = c.give.ensures.place ∙ inv.place;
       still = c.in-Took.ensures.cause.still (λ is. cc) ∙ inv.still;
       buffer = c.copy_front-n.ensures.buffer ∙ inv.buffer;
     }

@@ -3,8 +3,8 @@ use Rattle.cf_relay.proofs.take.end_lane.Goals as goal
 
 pub returns-in_err-ended-clause-misses : goal.returns-in_err-ended-clause-misses
 returns-in_err-ended-clause-misses g c =
-    on_err _ _ (misses_end _ _ c.args.side _ c.ended.new.self _ _ c.ended.new.to_client c.ended.new.to_controller _ (g.D.Desk.value c.ended.new.desk).lines _ _ _ _ c.len-rest.ensures.value c.in_err-ended.ensures.fails)
+    on_err _ _ (misses_end _ _ c.args.side _ c.ended.new.self _ _ c.ended.new.to_client c.ended.new.to_controller _ (g.D.Desk.value c.ended.new.desk).lines _ _ _ _ c.len-rest.ensures.value c.in_err-ended.ensures.fails_apart)
 
 pub returns-clause-hears : goal.returns-clause-hears
 returns-clause-hears g c =
-    hears_end _ _ c.args.side _ _ _ _ _ _ _ _ _ _ c.len-rest.ensures.value c.in_ok-ended.ensures.history c.requires.little c.requires.of_asset c.requires.debt c.ended.ensures.lane c.in_ok-ended.ensures.queues
+    hears_end _ _ c.args.side _ _ _ _ _ _ _ _ _ _ c.len-rest.ensures.value c.in_ok-ended.ensures.apart c.requires.little c.requires.of_asset c.requires.debt c.ended.ensures.lane c.in_ok-ended.ensures.queues

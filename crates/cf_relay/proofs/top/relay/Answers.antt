@@ -1,11 +1,11 @@
 use Rattle.std.proofs.Common.{[], ap, arith, ◌*◌}
 use Rattle.cf_relay.proofs.Files.{ends_same, write_first}
-use Rattle.cf_relay.proofs.Giving.{with_none}
+use Rattle.cf_relay.proofs.OnePair.{all_none}
 use Rattle.cf_relay.proofs.top.relay.Goals as goal
 
 pub returns-in-Failed-clause-ends : goal.returns-in-Failed-clause-ends
 returns-in-Failed-clause-ends g c =
-    ([], with_none _, write_first c.args.asset.now c.args.listen (2 * c.args.idles) (g.F.Files.content c.args.files.now c.args.log.now) (g.F.Files.content c.create.new.self c.args.log.now) (omega arith) c.in-Failed.ensures.file)
+    ([], all_none _, write_first c.args.asset.now c.args.listen (2 * c.args.idles) (g.F.Files.content c.args.files.now c.args.log.now) (g.F.Files.content c.create.new.self c.args.log.now) (omega arith) c.in-Failed.ensures.file)
 
 pub returns-clause-ends : goal.returns-clause-ends
 returns-clause-ends g c =

@@ -1,19 +1,21 @@
-use Rattle.std.proofs.Common.{[], ap, arith, inr, refl, ◌∙◌, ◌∷◌}
+use Rattle.std.proofs.Common.{List, Option, [], ap, arith, inr, refl, subst, sym, ℕ, ◌∙◌, ◌∷◌}
 use Rattle.cf_audit.specs.Line.{Begun}
 use Rattle.cf_lane.specs.Log.{line_about, with_lines}
 use Rattle.cf_outside.specs.Pair.{Moment, met_at}
-use Rattle.cf_relay.proofs.Ending.{first_stands, link_first, link_met, told_two, with_no_lines, write_told}
-use Rattle.cf_relay.proofs.Giving.{with_none}
+use Rattle.cf_relay.proofs.Ending.{link_first, link_met, new_lane, write_told}
+use Rattle.cf_relay.proofs.Lined.{lines_none}
+use Rattle.cf_relay.proofs.OnePair.{all_none, told_two}
 use Rattle.cf_relay.specs.Relaying.{RelayingValue, relaying_value}
+use Rattle.cf_relay.specs.Stands.{StandsFor}
 use Rattle.cf_relay.proofs.top.relay_desk.Goals as goal
 
 pub returns-in-Failed-clause-ends : goal.returns-in-Failed-clause-ends
 returns-in-Failed-clause-ends g c =
-    ([], c.in-Failed.ensures.entry ∙ with_none _, link_first c.args.asset.now c.args.listen c.args.most c.requires.most _ (g.D.Desk.value c.args.desk.now) refl c.requires.whole)
+    ([], c.in-Failed.ensures.entry ∙ all_none _, link_first c.args.asset.now c.args.listen c.args.most c.requires.most _ (g.D.Desk.value c.args.desk.now) refl c.requires.whole)
 
 pub returns-in-Err-clause-ends : goal.returns-in-Err-clause-ends
 returns-in-Err-clause-ends g c =
-    (met_at c.args.listen c.args.asset.now.endpoint c.in-Met.client ∷ [], c.in-Met.ensures.entry, inr ((c.in-Met.client, refl), (with_no_lines _, c.requires.whole)))
+    (met_at c.args.listen c.args.asset.now.endpoint c.in-Met.client ∷ [], c.in-Met.ensures.entry, inr ((c.in-Met.client, refl), (lines_none _, c.requires.whole)))
 
 pub returns-in-Failed-moment-clause-ends : goal.returns-in-Failed-moment-clause-ends
 returns-in-Failed-moment-clause-ends g c = (
@@ -25,7 +27,7 @@ returns-in-Failed-moment-clause-ends g c = (
 pub returns-in-Err-log_line-clause-ends : goal.returns-in-Err-log_line-clause-ends
 returns-in-Err-log_line-clause-ends g c = (
   met_at c.args.listen c.args.asset.now.endpoint c.in-Met.client ∷ Moment c.in-Told.moment ∷ [],
-  told_two _ _ _ _ _ _ [] c.in-Met.ensures.entry c.in-Told.ensures.entry (with_none _),
+  told_two _ _ _ _ _ _ [] c.in-Met.ensures.entry c.in-Told.ensures.entry (all_none _),
   write_told c.args.asset.now c.args.listen c.args.most c.requires.most _ (g.D.Desk.value c.log_line.new.desk) c.in-Met.client c.in-Told.moment c.in-Err-log_line.ensures.fails,
 )
 
@@ -34,8 +36,9 @@ returns-clause-ends g c =
     let base = (g.D.Desk.value c.args.desk.now).lines in
     let client = c.in-Met.client in
     let m = c.in-Told.moment in
-    let st = first_stands c.args.asset.now c.args.listen client m (with_lines base (line_about c.args.asset.now client m Begun ∷ [])) (g.D.Desk.value c.log_line.new.desk).lines c.in-Ok.lane c.args.to_client c.args.to_controller
-    (relaying_value c.begun-relaying.result) c.in-Ok.ensures.client c.in-Ok.ensures.follows c.in-Ok-log_line.ensures.lines c.requires.to_client c.requires.to_controller c.begun-relaying.ensures in
+    let st = subst (λ (x : Option (List (List ℕ))). StandsFor c.args.asset.now (with_lines base (line_about c.args.asset.now client m Begun ∷ [])) (met_at c.args.listen c.args.asset.now.endpoint client ∷ Moment m ∷ []) (relaying_value c.begun-relaying.result) x)
+    (sym c.in-Ok-log_line.ensures.lines)
+    (c.begun-relaying.ensures.stands c.args.asset.now c.args.listen client (with_lines base (line_about c.args.asset.now client m Begun ∷ [])) (new_lane _ _ _ c.in-Ok.ensures.of_asset c.in-Ok.ensures.client c.in-Ok.ensures.counts c.in-Ok.ensures.follows)) in
     let e = c.relay_turns.ensures.ends base c.args.listen m st in
     (met_at c.args.listen c.args.asset.now.endpoint client ∷ Moment m ∷ e.0, told_two _ _ _ _ _ _ e.0 c.in-Met.ensures.entry c.in-Told.ensures.entry e.1, e.2)
 
@@ -44,6 +47,11 @@ returns-clause-idle g c =
     let base = (g.D.Desk.value c.args.desk.now).lines in
     let client = c.in-Met.client in
     let m = c.in-Told.moment in
-    let st = first_stands c.args.asset.now c.args.listen client m (with_lines base (line_about c.args.asset.now client m Begun ∷ [])) (g.D.Desk.value c.log_line.new.desk).lines c.in-Ok.lane c.args.to_client c.args.to_controller
-    (relaying_value c.begun-relaying.result) c.in-Ok.ensures.client c.in-Ok.ensures.follows c.in-Ok-log_line.ensures.lines c.requires.to_client c.requires.to_controller c.begun-relaying.ensures in
-    c.relay_turns.ensures.idle base c.args.listen m st _ (omega (arith, ap (λ (v : RelayingValue). v.idle) c.begun-relaying.ensures, c.meet.ensures.idle, c.moment.ensures.idle))
+    let st = subst (λ (x : Option (List (List ℕ))). StandsFor c.args.asset.now (with_lines base (line_about c.args.asset.now client m Begun ∷ [])) (met_at c.args.listen c.args.asset.now.endpoint client ∷ Moment m ∷ []) (relaying_value c.begun-relaying.result) x)
+    (sym c.in-Ok-log_line.ensures.lines)
+    (c.begun-relaying.ensures.stands c.args.asset.now c.args.listen client (with_lines base (line_about c.args.asset.now client m Begun ∷ [])) (new_lane _ _ _ c.in-Ok.ensures.of_asset c.in-Ok.ensures.client c.in-Ok.ensures.counts c.in-Ok.ensures.follows)) in
+    c.relay_turns.ensures.idle base c.args.listen m st _ (omega (arith, ap (λ (v : RelayingValue). v.idle) c.begun-relaying.ensures.value, c.meet.ensures.idle, c.moment.ensures.idle))
+
+pub relay_turns-requires-clause-sound : goal.relay_turns-requires-clause-sound
+relay_turns-requires-clause-sound g c =
+    c.begun-relaying.ensures.sound c.args.asset.now c.in-Met.client c.args.most c.requires.most (new_lane _ _ _ c.in-Ok.ensures.of_asset c.in-Ok.ensures.client c.in-Ok.ensures.counts c.in-Ok.ensures.follows)

@@ -1,4 +1,4 @@
-use Rattle.std.proofs.Common.{suc}
+use Rattle.std.proofs.Common.{refl, suc, ◌∙◌}
 use Rattle.cf_relay.proofs.Moving.{goes_nearer, not_both}
 use Rattle.cf_relay.proofs.Scenes.{goes_none, goes_stops, goes_then}
 use Rattle.cf_relay.proofs.Serving.{handed_on}
@@ -7,7 +7,7 @@ use Rattle.cf_relay.specs.Turn.{turn, turns}
 use Rattle.cf_relay.proofs.relaying.Relaying.run.Goals as goal
 
 pub turns-init : goal.turns-init
-turns-init g c = record { count = 0; goes = goes_none _ _ _; sound = c.requires.sound; still = c.requires.still; whole = c.requires.whole; buffer = c.requires.buffer }
+turns-init g c = record { count = 0; goes = goes_none _ _ _; place = refl; sound = c.requires.sound; still = c.requires.still; whole = c.requires.whole; buffer = c.requires.buffer }
 
 pub returns-in_err-turn-clause-stops : goal.returns-in_err-turn-clause-stops
 returns-in_err-turn-clause-stops g c =
@@ -31,6 +31,7 @@ pub turns-preserved : goal.turns-preserved
 turns-preserved g c = record {
   count = suc c.turns.invariant.count;
   goes = goes_then c.args.asset.now c.args.most (turns c.turns.invariant.count) turn _ _ _ c.turns.invariant.goes c.in_ok-turn.ensures.goes;
+  place = c.turn.ensures.place ∙ c.turns.invariant.place;
   sound = c.in_ok-turn.ensures.sound;
   still = λ closed. not_both c.is_closed.result c.if-is_closed.false (c.is_closed.ensures.1 closed);
   whole = c.in_ok-turn.ensures.whole;

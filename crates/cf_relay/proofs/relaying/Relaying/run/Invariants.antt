@@ -1,5 +1,5 @@
 use Rattle.std.proofs.Common.{ℕ, length, true, ◌*◌, ◌-◌, ◌^◌, ◌≡◌}
-use Rattle.cf_outside.specs.PairValue.{pair_value}
+use Rattle.cf_links.specs.LinkValue.{link_value}
 use Rattle.cf_relay.specs.Relaying.{AreClosed, IsSound, progress, relaying_value}
 use Rattle.cf_relay.specs.Scene.{DoesBetween, scene}
 use Rattle.cf_relay.specs.Turn.{turns}
@@ -10,8 +10,9 @@ invariant-turns g l =
     record {
       count : ℕ;
       goes : DoesBetween l.fn.asset l.most (turns count)
-          (scene (relaying_value l.fn.self) (pair_value g.P.Pair l.fn.pair) (g.D.Desk.value l.fn.desk))
-          (scene (relaying_value l.self) (pair_value g.P.Pair l.pair) (g.D.Desk.value l.desk));
+          (scene (relaying_value l.fn.self) (link_value g.L.Links l.fn.session l.fn.links) (g.D.Desk.value l.fn.desk))
+          (scene (relaying_value l.self) (link_value g.L.Links l.fn.session l.links) (g.D.Desk.value l.desk));
+      place : g.L.Links.place l.links ≡ g.L.Links.place l.fn.links;
       sound : IsSound l.fn.asset l.most (relaying_value l.self);
       still : AreClosed (relaying_value l.self) → ⊥;
       whole : (g.D.Desk.value l.desk).whole ≡ true;

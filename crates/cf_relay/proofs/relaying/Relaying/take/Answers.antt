@@ -1,5 +1,5 @@
 use Rattle.std.proofs.Common.{rules}
-use Rattle.cf_outside.specs.PairValue.{pair_value}
+use Rattle.cf_links.specs.LinkValue.{link_value}
 use Rattle.cf_relay.proofs.Asked.{heard_within, take_broke, taken}
 use Rattle.cf_relay.proofs.relaying.Relaying.take.Goals as goal
 
@@ -14,7 +14,7 @@ returns-in_err-take_from-clause-stops g c =
     let n = c.take_from.new in
     let e = c.take_from.ensures in
     take_broke c.streams_go_on.ensures.go_on c.streams_go_on.ensures.quiet c.args.asset.now c.args.most c.args.side c.args.self.now c.of_mut.result.now n.heard n.lane n.to_client n.to_controller n.idle
-    (pair_value g.P.Pair c.args.pair.now) (pair_value g.P.Pair n.pair) (g.D.Desk.value c.args.desk.now) (g.D.Desk.value n.desk) c.requires.sound c.of_mut.ensures.value e.idles e.log c.take_from.result e.link e.write
+    (link_value g.L.Links c.args.session c.args.links.now) (link_value g.L.Links c.args.session n.links) (g.D.Desk.value c.args.desk.now) (g.D.Desk.value n.desk) c.requires.sound c.of_mut.ensures.value e.idles e.log c.take_from.result e.link e.write
     c.from_residual.result c.in_err-take_from.field-0.0 c.from_residual.ensures.1 c.in_err-take_from.was c.in_err-take_from.ensures.takes
 
 pub returns : goal.returns
@@ -23,6 +23,6 @@ returns g c =
     let e = c.take_from.ensures in
     let limit = c.check_limit.ensures in
     let t = taken c.streams_go_on.ensures.go_on c.streams_go_on.ensures.quiet c.args.asset.now c.args.most c.args.side c.args.self.now c.of_mut.result.now n.heard n.lane n.to_client n.to_controller n.idle
-    (pair_value g.P.Pair c.args.pair.now) (pair_value g.P.Pair n.pair) (g.D.Desk.value c.args.desk.now) (g.D.Desk.value n.desk) c.requires.sound c.of_mut.ensures.value e.idles e.log c.take_from.result e.link e.write
+    (link_value g.L.Links c.args.session c.args.links.now) (link_value g.L.Links c.args.session n.links) (g.D.Desk.value c.args.desk.now) (g.D.Desk.value n.desk) c.requires.sound c.of_mut.ensures.value e.idles e.log c.take_from.result e.link e.write
     c.in_ok-take_from.field-0 c.in_ok-take_from.was c.in_ok-take_from.ensures.takes c.check_limit.result limit.limit limit.short limit.to_client limit.to_controller in
-    record { goes = t.goes; stops = t.stops; sound = t.sound; moves = t.moves; whole = search rules; buffer = search rules }
+    record { place = search rules; goes = t.goes; stops = t.stops; sound = t.sound; moves = t.moves; whole = search rules; buffer = search rules }
