@@ -1,18 +1,19 @@
+-- The interface of lemmas for the crates above: Ending, Lined and Stages.
 mod Asked
 mod Asking
 mod Doing
-mod Ending
+pub mod Ending
 mod Files
 mod Gave
 mod Giving
 mod Hearing
-mod Lined
+pub mod Lined
 mod Lists
 mod Moving
 mod OnePair
 mod Scenes
 mod Serving
-mod Stages
+pub mod Stages
 mod Standing
 mod Taking
 mod Turning

@@ -3,7 +3,8 @@ ghost use Rattle.std.specs.Prelude.{◌≡◌, ℕ, ◌<◌, ◌⊎◌, true, �
 ghost use Rattle.cf_links.specs.Links.{LinksPlace};
 ghost use Rattle.cf_outside.specs.Desk.{DeskValue};
 ghost use Rattle.cf_policy.specs.Within.{IsAssetWithin};
-ghost use Rattle.cf_relay.specs.Relaying.{AreClosed, IsSound, progress, relaying_value};
+ghost use Rattle.cf_relay.specs.Relaying.{AreClosed, IsSound, RelayingValue, progress, relaying_value};
+ghost use Rattle.cf_lane.specs.Handled.{LaneValue};
 ghost use Rattle.cf_relay.specs.Scene.{DoesBetween, StopsBetween, scene_of};
 ghost use Rattle.cf_relay.specs.Taken.{StaysWhole};
 ghost use Rattle.cf_relay.specs.Turn.{turn, turns};
@@ -56,6 +57,27 @@ impl Relaying {
         ensures { IsTrue result ↔ AreClosed (relaying_value self.now) }
     {
         self.finished.client && self.finished.controller
+    }
+
+    /// The greatest moment told, in microseconds.
+    pub fn moment(&self) -> u64
+        ensures { result ≡ RelayingValue.moment (relaying_value self.now) }
+    {
+        self.moment
+    }
+
+    /// How many commands were admitted.
+    pub fn admitted(&self) -> u64
+        ensures { result ≡ LaneValue.admitted (RelayingValue.lane (relaying_value self.now)) }
+    {
+        self.lane.admitted()
+    }
+
+    /// How many commands were refused.
+    pub fn refused(&self) -> u64
+        ensures { result ≡ LaneValue.refused (RelayingValue.lane (relaying_value self.now)) }
+    {
+        self.lane.refused()
     }
 
     /// One turn of a session: the moment; what the client and then the controller sends, at most 4,096 bytes each; what is
