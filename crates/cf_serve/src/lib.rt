@@ -1,0 +1,8 @@
+//! A service: many clients and their controllers over one loop, each session a relay of its own.
+#![tactic(auto)]
+
+mod end;
+mod laws;
+
+pub use end::SessionEnd;
+pub use laws::sessions_are_isolated;
