@@ -1,4 +1,5 @@
 pub mod Laws
+pub mod Phase
 pub mod Rounds
 pub mod Served
 pub mod Session

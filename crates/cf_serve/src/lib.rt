@@ -3,6 +3,8 @@
 
 mod end;
 mod laws;
+mod session;
 
 pub use end::SessionEnd;
 pub use laws::sessions_are_isolated;
+pub use session::{Linked, Served, Terms};
