@@ -16,6 +16,8 @@ use Rattle.cf_serve.specs.Session.{EndsSo, Listening}
 use Rattle.cf_serve.specs.declared.end.SessionEnd.{SessionEnd}
 use Rattle.cf_serve.specs.declared.end.SessionEnd.TheVariants as end
 use Rattle.cf_serve.specs.declared.session.Linked.{Linked}
+use Rattle.cf_serve.specs.declared.session.Reached.{Reached}
+use Rattle.cf_serve.specs.declared.session.Reached.TheVariants as reached
 use Rattle.cf_serve.specs.declared.session.Served.{Served}
 use Rattle.cf_serve.specs.declared.session.Terms.{Terms}
 
@@ -76,6 +78,27 @@ pub record TurnDoes (at : Listening) (most : ℕ) (client : Endpoint) (told told
   pub tells : told_after ≡ with_answers told answers
   pub leaves : (es : List Entry) (own : List (List ℕ)) → StandsAs at most es own old →
       (lines : List (List ℕ)) × ((log_after ≡ with_lines log lines) × TurnLeaves at most client (es ++ answers) (own ++ lines) new end)
+
+-- what came of asking for a controller: nothing yet, a relay that has made no turn, or an end
+abbrev pub ReachLeaves : Listening → (most : ℕ) → (client : Endpoint) → List Entry → (own : List (List ℕ)) → Reached → Type 0
+ReachLeaves at most client es own reached.Waiting = (es ≡ []) × (own ≡ [])
+ReachLeaves at most client es own (reached.Begun linked) = HasTurned at most es own (linked_value linked)
+ReachLeaves at most client es own (reached.Ended end) = EndsSo at most client es own end
+
+-- asking for it adds answers and lines, behind those of the session before
+pub record ReachDoes (at : Listening) (most : ℕ) (client : Endpoint) (before : List Entry) (told told_after : SessionTold)
+    (log log_after : Option (List (List ℕ))) (reached : Reached) : Type 0 where
+  pub answers : List Entry
+  pub lines : List (List ℕ)
+  pub tells : told_after ≡ with_answers told answers
+  pub added : log_after ≡ with_lines log lines
+  pub leaves : ReachLeaves at most client (before ++ answers) lines reached
+
+-- a relay that begins may have its turns
+abbrev pub IsSoundBegun : Listening → (most : ℕ) → Reached → Type 0
+IsSoundBegun at most reached.Waiting = Unit {0}
+IsSoundBegun at most (reached.Begun linked) = MayTurn at most (Some (linked_value linked))
+IsSoundBegun at most (reached.Ended end) = Unit {0}
 
 -- how a session ends by what its relay answered, where that is no failed write
 abbrev pub end_of : Result Unit Stop → (closed : Bool) → Option SessionEnd
