@@ -10,7 +10,7 @@ use Rattle.cf_relay.specs.Turn.{AreItemsOf, DoesStages, stages}
 use Rattle.cf_links.specs.Links.{answers_of}
 use Rattle.cf_view.specs.declared.Endpoint.{Endpoint}
 use Rattle.cf_serve.specs.Laws.{AreRelayed, EachIsAlone, IsolatesSessions, was_relayed}
-use Rattle.cf_serve.specs.Rounds.{ends_of, own_lines}
+use Rattle.cf_serve.specs.Rounds.{ends_in, lines_in, turns_of}
 use Rattle.cf_serve.specs.Session.{EndsSo, IsSession, Listening, StandsSo, lost_line, silent_line}
 use Rattle.cf_serve.specs.declared.end.SessionEnd.{SessionEnd}
 use Rattle.cf_serve.specs.declared.end.SessionEnd.TheVariants as end
@@ -88,7 +88,7 @@ moved at most client own es fs ends others p q s = subst (λ e. IsSession at mos
 pub isolates : HasOneJudgement → IsolatesSessions
 isolates law places others at most entries other_entries lines other_lines one two k l client client' mine theirs same ends relayed = (
   λ s. ap (given s) same,
-  alone law at most (answers_of l other_entries) client client' (own_lines k one.rounds) (own_lines l two.rounds) (ends_of l two.rounds) relayed
-      (moved at most client (own_lines k one.rounds) (answers_of k entries) (answers_of l other_entries) (ends_of k one.rounds) (ends_of l two.rounds) same ends mine)
+  alone law at most (answers_of l other_entries) client client' (lines_in k (turns_of one.rounds)) (lines_in l (turns_of two.rounds)) (ends_in l (turns_of two.rounds)) relayed
+      (moved at most client (lines_in k (turns_of one.rounds)) (answers_of k entries) (answers_of l other_entries) (ends_in k (turns_of one.rounds)) (ends_in l (turns_of two.rounds)) same ends mine)
       theirs,
 )

@@ -14,7 +14,7 @@ use Rattle.cf_serve.specs.declared.end.SessionEnd.TheVariants as end
 use Rattle.cf_serve.specs.declared.session.Reached.{Reached}
 use Rattle.cf_serve.specs.declared.session.Reached.TheVariants as reached
 
-abbrev told_as : ℕ → Option (List LinksEntry) → SessionTold
+abbrev pub told_as : ℕ → Option (List LinksEntry) → SessionTold
 told_as session list = record { session = session; list = list }
 
 -- nothing was told

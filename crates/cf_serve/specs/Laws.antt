@@ -37,7 +37,7 @@ abbrev pub IsolatesSessions : Type 0
 IsolatesSessions =
     (places others : List Listening) (at : Listening) (most : ℕ) (entries other_entries : List LinksEntry) (lines other_lines : List (List ℕ))
     (one : IsServed places most entries lines) (two : IsServed others most other_entries other_lines) (k l : ℕ) (client other_client : Endpoint)
-    → IsSession at most client (answers_of k entries) (own_lines k one.rounds) (ends_of k one.rounds)
-    → IsSession at most other_client (answers_of l other_entries) (own_lines l two.rounds) (ends_of l two.rounds)
-    → answers_of k entries ≡ answers_of l other_entries → ends_of k one.rounds ≡ ends_of l two.rounds → AreRelayed (ends_of l two.rounds)
-    → ((s : Side) → given s (answers_of k entries) ≡ given s (answers_of l other_entries)) × (own_lines k one.rounds ≡ own_lines l two.rounds)
+    → IsSession at most client (answers_of k entries) (lines_in k (turns_of one.rounds)) (ends_in k (turns_of one.rounds))
+    → IsSession at most other_client (answers_of l other_entries) (lines_in l (turns_of two.rounds)) (ends_in l (turns_of two.rounds))
+    → answers_of k entries ≡ answers_of l other_entries → ends_in k (turns_of one.rounds) ≡ ends_in l (turns_of two.rounds) → AreRelayed (ends_in l (turns_of two.rounds))
+    → ((s : Side) → given s (answers_of k entries) ≡ given s (answers_of l other_entries)) × (lines_in k (turns_of one.rounds) ≡ lines_in l (turns_of two.rounds))

@@ -2,7 +2,8 @@
 -- project's own.
 use Rattle.cf_audit.specs.Line.{Begun, Close, Cut, Lost, NoMemory, Silent, Unreached, WhatValue}
 use Rattle.cf_lane.specs.Log.{line_about, with_lines}
-use Rattle.cf_links.specs.Links.{SessionTold, with_answers}
+use Rattle.cf_links.specs.Links.{LinksEntry, LinksPlace, SessionTold, with_answers}
+use Rattle.cf_links.specs.Service.{LosesSession}
 use Rattle.cf_outside.specs.Pair.{Entry, Moment, met_at}
 use Rattle.cf_relay.specs.Relaying.{AreClosed, IsSound, RelayingValue, relaying_value}
 use Rattle.cf_relay.specs.Stands.{StandsFor}
@@ -10,8 +11,8 @@ use Rattle.cf_relay.specs.Turn.{DoesStages, turns}
 use Rattle.cf_view.specs.declared.Endpoint.{Endpoint}
 use Rattle.cf_relay.specs.declared.stop.Stop.{Stop}
 use Rattle.cf_relay.specs.declared.stop.Stop.TheVariants as stop
-use Rattle.std.specs.Prelude.{Bool, Err, List, None, Ok, Result, false, true, Option, Some, [], option_map, ℕ, ◌++◌, ◌∷◌, ◌≡◌}
-use Rattle.cf_serve.specs.Rounds.{Seat}
+use Rattle.std.specs.Prelude.{Bool, Err, List, None, Ok, Result, false, true, Option, Some, [], is_some, map, not, option_map, ℕ, ◌++◌, ◌∷◌, ◌≡◌}
+use Rattle.cf_serve.specs.Rounds.{IsTurn, Seat, TurnOf, turn_entries}
 use Rattle.cf_serve.specs.Session.{EndsSo, Listening}
 use Rattle.cf_serve.specs.declared.end.SessionEnd.{SessionEnd}
 use Rattle.cf_serve.specs.declared.end.SessionEnd.TheVariants as end
@@ -20,6 +21,7 @@ use Rattle.cf_serve.specs.declared.session.Reached.{Reached}
 use Rattle.cf_serve.specs.declared.session.Reached.TheVariants as reached
 use Rattle.cf_serve.specs.declared.session.Served.{Served}
 use Rattle.cf_serve.specs.declared.session.Terms.{Terms}
+use Rattle.cf_serve.specs.declared.table.Place.{Place}
 
 -- a relay whose controller was reached, and the client that was met
 pub record LinkedValue : Type 0 where
@@ -29,16 +31,14 @@ pub record LinkedValue : Type 0 where
 abbrev pub linked_value : Linked → LinkedValue
 linked_value linked = record { met = linked.met; now = relaying_value linked.relaying }
 
--- a session: its seat, its client, and its relay once the controller is reached
+-- a session: its seat, and its relay once the controller is reached
 pub record Phase : Type 0 where
   pub seat : Seat
-  pub client : Endpoint
   pub linked : Option LinkedValue
 
 abbrev pub phase_of : Served → Phase
 phase_of served = record {
-  seat = record { session = served.number; place = served.place };
-  client = served.client;
+  seat = record { session = served.number; place = served.place; client = served.client };
   linked = option_map linked_value served.linked;
 }
 
@@ -117,3 +117,23 @@ last_value end.Silent admitted refused = Silent admitted refused
 last_value end.Lost admitted refused = Lost admitted refused
 last_value end.Unreached admitted refused = Unreached
 last_value end.NoMemory admitted refused = NoMemory
+
+-- the assets that are served, each with the port at which its clients come
+abbrev pub listenings : List Place → List Listening
+listenings places = map (λ (place : Place). record { asset = place.asset.now; port = place.at.port }) places
+
+-- what a round is to one session, whatever came before: a turn where it is ready, and else nothing
+pub record SeatDoes (at : Listening) (most : ℕ) (es : List Entry) (own : List (List ℕ)) (told told_after : Option (List LinksEntry))
+    (log log_after : Option (List (List ℕ))) (old new : Phase) (stays : Bool) : Type 0 where
+  pub turn : TurnOf
+  pub seat : turn.seat ≡ old.seat
+  pub is_turn : IsTurn turn
+  pub tells : told_after ≡ option_map (λ entries. entries ++ turn_entries turn) told
+  pub added : log_after ≡ with_lines log turn.lines
+  pub ended : is_some turn.end ≡ not stays
+  pub leaves : TurnLeaves at most old.seat.client (es ++ turn.answers) (own ++ turn.lines) new.linked turn.end
+
+-- a session that ended was left, and any other is served as before
+abbrev pub KeepsPlace : (session : ℕ) → LinksPlace → LinksPlace → (stays : Bool) → Type 0
+KeepsPlace session old new true = new ≡ old
+KeepsPlace session old new false = LosesSession session old new

@@ -9,20 +9,20 @@ use Rattle.cf_links.specs.Links.{Came, Left, LinksEntry, Of, Ready, Woke}
 use Rattle.cf_outside.specs.Pair.{Entry}
 use Rattle.cf_view.specs.declared.Endpoint.{Endpoint}
 use Rattle.std.specs.List.{flat_map}
-use Rattle.std.specs.Prelude.{Bool, List, None, Option, Some, [], count_by, false, if◌then◌else◌, length, map, nat_lt, slice_get, ℕ, ◌&&◌, ◌++◌, ◌+◌}
+use Rattle.std.specs.Prelude.{Bool, List, None, Option, Some, [], count_by, false, if◌then◌else◌, length, map, nat_lt, option_to_list, slice_get, ℕ, ◌&&◌, ◌++◌, ◌+◌}
 use Rattle.std.specs.Prelude.{◌∷◌, ◌≡◌, ◌≤◌, ◌==◌, true}
 use Rattle.cf_serve.specs.Session.{Listening}
 use Rattle.cf_serve.specs.declared.end.SessionEnd.{SessionEnd}
 
--- a session's number, and that of the listening place to which its client came
+-- a session's number, that of the listening place to which its client came, and the endpoint from which it came
 pub record Seat : Type 0 where
   pub session : ℕ
   pub place : ℕ
+  pub client : Endpoint
 
 -- a client that came and was taken
 pub record Arrival : Type 0 where
   pub seat : Seat
-  pub client : Endpoint
   pub lines : List (List ℕ)
 
 -- what a round was to one session: its answers, the lines that it got, and its end where this was its last
@@ -48,7 +48,7 @@ turn_entries t =
     if t.ready then Ready t.seat.session ∷ (map (Of t.seat.session) t.answers ++ left_by t.seat.session t.end) else []
 
 abbrev pub arrival_entries : Arrival → List LinksEntry
-arrival_entries a = Came a.seat.session a.seat.place a.client ∷ []
+arrival_entries a = Came a.seat.session a.seat.place a.seat.client ∷ []
 
 -- the answers of a round, in the order of the loop
 abbrev pub round_entries : Round → List LinksEntry
@@ -58,19 +58,23 @@ round_entries r = Woke r.moment ∷ (flat_map arrival_entries r.arrivals ++ flat
 abbrev pub round_lines : Round → List (List ℕ)
 round_lines r = flat_map (λ (a : Arrival). a.lines) r.arrivals ++ flat_map (λ (t : TurnOf). t.lines) r.turns
 
--- the lines of one session
-abbrev pub own_in : ℕ → Round → List (List ℕ)
-own_in k r = flat_map (λ (t : TurnOf). if t.seat.session == k then t.lines else []) r.turns
+-- the turns of some rounds, in their order
+abbrev pub turns_of : List Round → List TurnOf
+turns_of rounds = flat_map (λ (r : Round). r.turns) rounds
 
-abbrev pub own_lines : ℕ → List Round → List (List ℕ)
-own_lines k rounds = flat_map (own_in k) rounds
+-- what one session has of some turns
+abbrev pub part : {A : Type 0} → (TurnOf → List A) → (session : ℕ) → List TurnOf → List A
+part of session past = flat_map (λ (t : TurnOf). if t.seat.session == session then of t else []) past
 
--- the ends of one session: at most one
-abbrev pub end_in : ℕ → TurnOf → List SessionEnd
-end_in k t = elim t.end [ None ↦ [] | Some end ↦ if t.seat.session == k then end ∷ [] else [] ]
+-- its answers, its lines, and its ends, of which there is one at most
+abbrev pub answers_in : (session : ℕ) → List TurnOf → List Entry
+answers_in session past = part (λ (t : TurnOf). t.answers) session past
 
-abbrev pub ends_of : ℕ → List Round → List SessionEnd
-ends_of k rounds = flat_map (λ (r : Round). flat_map (end_in k) r.turns) rounds
+abbrev pub lines_in : (session : ℕ) → List TurnOf → List (List ℕ)
+lines_in session past = part (λ (t : TurnOf). t.lines) session past
+
+abbrev pub ends_in : (session : ℕ) → List TurnOf → List SessionEnd
+ends_in session past = part (λ (t : TurnOf). option_to_list t.end) session past
 
 -- a session that is not ready has no answer, no line and no end
 abbrev pub IsTurn : TurnOf → Type 0
@@ -97,7 +101,7 @@ abbrev pub AreArrivals : List Listening → (moment : ℕ) → (from next : ℕ)
 AreArrivals places moment from next standing [] = Unit {0}
 AreArrivals places moment from next standing (a ∷ more) =
     (from ≤ a.seat.place) × ((a.seat.session ≡ next) × ((has_place standing a.seat.place ≡ true)
-    × ((a.lines ≡ full_lines places moment (standing ++ a.seat ∷ []) a.seat.place a.client)
+    × ((a.lines ≡ full_lines places moment (standing ++ a.seat ∷ []) a.seat.place a.seat.client)
     × AreArrivals places moment (a.seat.place + 1) (next + 1) (standing ++ a.seat ∷ []) more)))
 
 -- the sessions that stand behind a round

@@ -4,7 +4,9 @@
 mod end;
 mod laws;
 mod session;
+mod table;
 
 pub use end::SessionEnd;
 pub use laws::sessions_are_isolated;
 pub use session::{Linked, Served, Terms};
+pub use table::{Place, turn_one};

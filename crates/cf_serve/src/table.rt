@@ -1,0 +1,64 @@
+//! The sessions of a service that stand, and their turns in a round.
+ghost use Rattle.std.specs.Prelude.{◌≡◌, ◌<◌, IfOk, IsErr, List, OnOk, Some, length, slice_get, true, ℕ};
+ghost use Rattle.cf_lane.specs.Handled.{WritesLog};
+ghost use Rattle.cf_links.specs.Links.{LinksPlace};
+ghost use Rattle.cf_outside.specs.Desk.{DeskValue};
+ghost use Rattle.cf_outside.specs.Faults.{HasCause};
+ghost use Rattle.cf_outside.specs.Pair.{Entry};
+ghost use Rattle.cf_policy.specs.Within.{IsAssetWithin};
+ghost use Rattle.cf_serve.specs.Phase.{KeepsPlace, MayTurn, Phase, SeatDoes, StandsAs, listening_of, phase_of};
+
+use crate::session::{Served, Terms};
+use cf_links::Service;
+use cf_outside::Desk;
+use cf_policy::Asset;
+use cf_view::{Endpoint, WriteFault};
+use std::alloc::Global;
+
+/// An asset that is served, and the address and the port of this machine at which its clients come.
+#[derive(Clone, Copy)]
+pub struct Place<'a> {
+    pub asset: &'a Asset,
+    pub at: Endpoint,
+}
+
+/// Gives a session its turn where something can move for it, and leaves it where it ends; answers whether it stays.
+pub fn turn_one<L: Service, D: Desk>(
+    served: &mut Served,
+    alloc: Global,
+    terms: &Terms<'_>,
+    buf: &mut [u8],
+    links: &mut L,
+    desk: &mut D,
+) -> Result<bool, WriteFault>
+    requires serves { LinksPlace.serves (L.place links.old) served.old.number ≡ true }
+    requires within { IsAssetWithin terms.now.asset.now }
+    requires most { 0 < terms.now.most }
+    requires may { MayTurn (listening_of terms.now) terms.now.most (Phase.linked (phase_of served.old)) }
+    requires whole { DeskValue.whole (D.value desk.old) ≡ true }
+    requires buffer { length buf.old ≡ 4096 }
+    ensures place { IfOk result (λ stays. KeepsPlace served.old.number (L.place links.old) (L.place links.new) stays) }
+    ensures served { IsErr result → L.place links.new ≡ L.place links.old }
+    ensures does { IfOk result (λ stays. (es : List Entry) (own : List (List ℕ))
+        → StandsAs (listening_of terms.now) terms.now.most es own (Phase.linked (phase_of served.old))
+        → SeatDoes (listening_of terms.now) terms.now.most es own (L.told links.old) (L.told links.new)
+        (DeskValue.lines (D.value desk.old)) (DeskValue.lines (D.value desk.new)) (phase_of served.old) (phase_of served.new) stays) }
+    ensures may { IfOk result (λ stays. stays ≡ true → MayTurn (listening_of terms.now) terms.now.most (Phase.linked (phase_of served.new))) }
+    ensures same { served.new ≡ record served.old { linked = served.new.linked } }
+    ensures whole { OnOk result (DeskValue.whole (D.value desk.new) ≡ true) }
+    ensures log { WritesLog (D.value desk.old) (D.value desk.new) }
+    ensures cause { HasCause (DeskValue.faults (D.value desk.old)) (DeskValue.faults (D.value desk.new)) (IsErr result) }
+    ensures buffer { length buf.new ≡ 4096 }
+{
+    let number = served.number;
+    if !links.is_ready(number) {
+        return Ok(true);
+    }
+    match served.turn(alloc, terms, buf, links, desk)? {
+        None => Ok(true),
+        Some(_) => {
+            links.leave(number);
+            Ok(false)
+        }
+    }
+}
