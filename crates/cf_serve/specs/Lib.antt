@@ -3,3 +3,4 @@ pub mod Phase
 pub mod Rounds
 pub mod Served
 pub mod Session
+pub mod Table

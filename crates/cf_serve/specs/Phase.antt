@@ -119,8 +119,11 @@ last_value end.Unreached admitted refused = Unreached
 last_value end.NoMemory admitted refused = NoMemory
 
 -- the assets that are served, each with the port at which its clients come
+abbrev pub listening_at : Place → Listening
+listening_at place = record { asset = place.asset.now; port = place.at.port }
+
 abbrev pub listenings : List Place → List Listening
-listenings places = map (λ (place : Place). record { asset = place.asset.now; port = place.at.port }) places
+listenings places = map listening_at places
 
 -- what a round is to one session, whatever came before: a turn where it is ready, and else nothing
 pub record SeatDoes (at : Listening) (most : ℕ) (es : List Entry) (own : List (List ℕ)) (told told_after : Option (List LinksEntry))

@@ -9,4 +9,4 @@ mod table;
 pub use end::SessionEnd;
 pub use laws::sessions_are_isolated;
 pub use session::{Linked, Served, Terms};
-pub use table::{Place, turn_one};
+pub use table::{Place, Table, turn_one};

@@ -1,12 +1,16 @@
 //! The sessions of a service that stand, and their turns in a round.
-ghost use Rattle.std.specs.Prelude.{◌≡◌, ◌<◌, IfOk, IsErr, List, OnOk, Some, length, slice_get, true, ℕ};
+ghost use Rattle.std.specs.Prelude.{◌≡◌, ◌<◌, IfOk, IsErr, List, OnOk, Some, length, map, slice_get, true, vec_len, ℕ};
 ghost use Rattle.cf_lane.specs.Handled.{WritesLog};
 ghost use Rattle.cf_links.specs.Links.{LinksPlace};
 ghost use Rattle.cf_outside.specs.Desk.{DeskValue};
 ghost use Rattle.cf_outside.specs.Faults.{HasCause};
 ghost use Rattle.cf_outside.specs.Pair.{Entry};
 ghost use Rattle.cf_policy.specs.Within.{IsAssetWithin};
-ghost use Rattle.cf_serve.specs.Phase.{KeepsPlace, MayTurn, Phase, SeatDoes, StandsAs, listening_of, phase_of};
+ghost use Rattle.cf_serve.specs.Phase.{KeepsPlace, MayTurn, Phase, SeatDoes, StandsAs, listening_at, listening_of, listenings, phase_of};
+ghost use Rattle.cf_serve.specs.Rounds.{TurnOf};
+ghost use Rattle.cf_serve.specs.Table.{IsTable, Keeps, StepDoes};
+ghost use Rattle.cf_serve.specs.declared.table.Place.{Place as PlaceOf};
+ghost use Rattle.std.specs.List.{AllByRecursion};
 
 use crate::session::{Served, Terms};
 use cf_links::Service;
@@ -20,6 +24,16 @@ use std::alloc::Global;
 pub struct Place<'a> {
     pub asset: &'a Asset,
     pub at: Endpoint,
+}
+
+/// A listening place by its number.
+fn place_of<'a>(places: &[Place<'a>], number: usize) -> Place<'a>
+    requires number { number < length places.now }
+    requires within { AllByRecursion (λ place. IsAssetWithin (PlaceOf.asset place).now) places.now }
+    ensures place { slice_get (listenings places.now) number ≡ Some (listening_at result) }
+    ensures within { IsAssetWithin result.asset.now }
+{
+    places[number]
 }
 
 /// Gives a session its turn where something can move for it, and leaves it where it ends; answers whether it stays.
@@ -60,5 +74,61 @@ pub fn turn_one<L: Service, D: Desk>(
             links.leave(number);
             Ok(false)
         }
+    }
+}
+
+/// The sessions that stand, in the order in which they came, and the number of the next.
+#[derive(Drop)]
+pub struct Table {
+    pub(crate) sessions: Vec<Served>,
+    pub(crate) next: u64,
+}
+
+impl Table {
+    /// Gives the session of a place its turn; it is taken out where it ends. Answers whether it stays.
+    pub fn turn_at<L: Service, D: Desk>(
+        &mut self,
+        index: usize,
+        alloc: Global,
+        places: &[Place<'_>],
+        moment: u64,
+        most: u64,
+        buf: &mut [u8],
+        links: &mut L,
+        desk: &mut D,
+    ) -> Result<bool, WriteFault>
+        requires index { index < length self.old.sessions.items }
+        requires table { IsTable (listenings places.now) most (LinksPlace.serves (L.place links.old)) self.old.next
+            (map phase_of self.old.sessions.items) }
+        requires within { AllByRecursion (λ place. IsAssetWithin (PlaceOf.asset place).now) places.now }
+        requires most { 0 < most }
+        requires whole { DeskValue.whole (D.value desk.old) ≡ true }
+        requires buffer { length buf.old ≡ 4096 }
+        ensures table { OnOk result (IsTable (listenings places.now) most (LinksPlace.serves (L.place links.new)) self.new.next
+            (map phase_of self.new.sessions.items)) }
+        ensures does { IfOk result (λ stays. (past : List TurnOf)
+            → Keeps (listenings places.now) most self.old.next past (map phase_of self.old.sessions.items)
+            → StepDoes (listenings places.now) most self.old.next past index (L.told links.old) (L.told links.new)
+            (DeskValue.lines (D.value desk.old)) (DeskValue.lines (D.value desk.new))
+            (map phase_of self.old.sessions.items) (map phase_of self.new.sessions.items) stays) }
+        ensures next { self.new.next ≡ self.old.next }
+        ensures whole { OnOk result (DeskValue.whole (D.value desk.new) ≡ true) }
+        ensures log { WritesLog (D.value desk.old) (D.value desk.new) }
+        ensures cause { HasCause (DeskValue.faults (D.value desk.old)) (DeskValue.faults (D.value desk.new)) (IsErr result) }
+        ensures buffer { length buf.new ≡ 4096 }
+    {
+        let served = &mut self.sessions[index];
+        let place = place_of(places, served.place);
+        let terms = Terms {
+            asset: place.asset,
+            port: place.at.port,
+            moment,
+            most,
+        };
+        let stays = turn_one(served, alloc, &terms, buf, links, desk)?;
+        if !stays {
+            self.sessions.remove(index);
+        }
+        Ok(stays)
     }
 }

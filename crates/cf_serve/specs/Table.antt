@@ -1,0 +1,69 @@
+-- The sessions that stand, as a list, and what they stand for. The main definitions are `IsTable` and `Keeps`. This project's own.
+use Rattle.cf_links.specs.Links.{LinksEntry}
+use Rattle.cf_lane.specs.Log.{with_lines}
+use Rattle.std.specs.List.{AllByRecursion}
+use Rattle.std.specs.Prelude.{Bool, List, None, Option, Some, [], false, if◌then◌else◌, length, map, option_map, slice_get, true, ℕ, ◌++◌, ◌+◌, ◌<◌}
+use Rattle.std.specs.Prelude.{◌∷◌, ◌≡◌, ◌≤◌, ◌==◌}
+use Rattle.cf_serve.specs.Phase.{MayTurn, Phase, StandsAs}
+use Rattle.cf_serve.specs.Rounds.{IsTurn, TurnOf, answers_in, ends_in, lines_in, stays, turn_entries}
+use Rattle.cf_serve.specs.Session.{EndsSo, Listening}
+use Rattle.cf_serve.specs.declared.end.SessionEnd.{SessionEnd}
+
+-- numbers count up, from one on and below another
+abbrev pub IsBetween : (low high : ℕ) → List Phase → Type 0
+IsBetween low high [] = low ≤ high
+IsBetween low high (p ∷ ps) = (low ≤ p.seat.session) × IsBetween (p.seat.session + 1) high ps
+
+-- what lets a session be given a turn
+pub record MayGo (places : List Listening) (most : ℕ) (serves : ℕ → Bool) (p : Phase) : Type 0 where
+  pub placed : p.seat.place < length places
+  pub may : (at : Listening) → slice_get places p.seat.place ≡ Some at → MayTurn at most p.linked
+  pub served : serves p.seat.session ≡ true
+
+-- the sessions that stand, in the order of their numbers; the links have them, and none of a number from `next` on
+pub record IsTable (places : List Listening) (most : ℕ) (serves : ℕ → Bool) (next : ℕ) (ps : List Phase) : Type 0 where
+  pub ordered : IsBetween 0 next ps
+  pub each : AllByRecursion (MayGo places most serves) ps
+  pub free : (session : ℕ) → next ≤ session → serves session ≡ false
+
+-- a session that stands is kept by what it had of the turns so far
+pub record IsHeld (places : List Listening) (most : ℕ) (past : List TurnOf) (p : Phase) : Type 0 where
+  pub no_end : ends_in p.seat.session past ≡ []
+  pub stands : (at : Listening) → slice_get places p.seat.place ≡ Some at
+      → StandsAs at most (answers_in p.seat.session past) (lines_in p.seat.session past) p.linked
+
+-- a session that ended has had this end, and stands no longer
+pub record IsOver (places : List Listening) (most : ℕ) (past : List TurnOf) (ps : List Phase) (t : TurnOf) (end : SessionEnd) : Type 0 where
+  pub gone : AllByRecursion (λ (p : Phase). (p.seat.session == t.seat.session) ≡ false) ps
+  pub one_end : ends_in t.seat.session past ≡ end ∷ []
+  pub ends : (at : Listening) → slice_get places t.seat.place ≡ Some at
+      → EndsSo at most t.seat.client (answers_in t.seat.session past) (lines_in t.seat.session past) end
+
+abbrev pub IfOver : List Listening → (most : ℕ) → List TurnOf → List Phase → TurnOf → Option SessionEnd → Type 0
+IfOver places most past ps t None = Unit {0}
+IfOver places most past ps t (Some end) = IsOver places most past ps t end
+
+-- the turns so far are those of these sessions, and of sessions that ended, all with numbers below `next`
+pub record Keeps (places : List Listening) (most : ℕ) (next : ℕ) (past : List TurnOf) (ps : List Phase) : Type 0 where
+  pub early : AllByRecursion (λ (t : TurnOf). t.seat.session < next) past
+  pub held : AllByRecursion (IsHeld places most past) ps
+  pub over : AllByRecursion (λ (t : TurnOf). IfOver places most past ps t t.end) past
+
+-- a session in its place had its turn: it stays there, or it is there no longer
+pub record StepDoes (places : List Listening) (most next : ℕ) (past : List TurnOf) (index : ℕ) (told told_after : Option (List LinksEntry))
+    (log log_after : Option (List (List ℕ))) (old new : List Phase) (stays_on : Bool) : Type 0 where
+  pub before : List Phase
+  pub it : Phase
+  pub after : List Phase
+  pub left : List Phase
+  pub was : old ≡ before ++ it ∷ after
+  pub at : length before ≡ index
+  pub is : new ≡ before ++ (left ++ after)
+  pub turn : TurnOf
+  pub seat : turn.seat ≡ it.seat
+  pub is_turn : IsTurn turn
+  pub tells : told_after ≡ option_map (λ entries. entries ++ turn_entries turn) told
+  pub added : log_after ≡ with_lines log turn.lines
+  pub stay : map (λ (p : Phase). p.seat) left ≡ stays turn
+  pub count : length left ≡ (if stays_on then 1 else 0)
+  pub keeps : Keeps places most next (past ++ turn ∷ []) new
