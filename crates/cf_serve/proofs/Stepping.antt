@@ -1,6 +1,6 @@
 -- One step of a round: a session in its place had its turn.
 use Rattle.std.proofs.Common.{Bool, List, None, Option, Some, [], ap, arith, length, map, refl, subst, sym, true, false, ℕ, ◌++◌, ◌<◌, ◌≤◌, ◌∙◌, ◌∷◌, ◌≡◌, if◌then◌else◌}
-use Rattle.std.specs.Prelude.{is_some, not, option_map, slice_get, ◌==◌}
+use Rattle.std.specs.Prelude.{Err, Ok, OnErr, Result, is_some, not, option_map, slice_get, ◌==◌}
 use Rattle.std.specs.List.{AllByRecursion}
 use Rattle.std.proofs.lemmas.Option.{same_Some}
 use Rattle.cf_lane.specs.Log.{with_lines}
@@ -12,7 +12,7 @@ use Rattle.cf_serve.proofs.Numbers.{after_it, all_back, all_front, all_join, all
 use Rattle.cf_serve.specs.Phase.{KeepsPlace, LinkedValue, MayTurn, Phase, SeatDoes, StandsAs, TurnLeaves}
 use Rattle.cf_serve.specs.Rounds.{Seat, TurnOf, answers_in, lines_in, stays, turn_entries}
 use Rattle.cf_serve.specs.Session.{Listening}
-use Rattle.cf_serve.specs.Table.{IsBetween, IsTable, Keeps, MayGo, StepDoes}
+use Rattle.cf_serve.specs.Table.{IsBetween, IsTable, Keeps, MayGo, MayLeave, StepDoes}
 use Rattle.cf_serve.specs.declared.end.SessionEnd.{SessionEnd}
 
 below_next : (k next j : ℕ) → k < next → next ≤ j → (k == j) ≡ false
@@ -46,6 +46,16 @@ module _ (places : List Listening) (most next : ℕ) (serves : ℕ → Bool) (ps
     each = all_join (MayGo places most serves) before (record { seat = it.seat; linked = new } ∷ after) (all_front (MayGo places most serves) before (it ∷ after) each_it)
         (record { placed = may_go.placed; may = may; served = may_go.served }, (all_back (MayGo places most serves) before (it ∷ after) each_it).1);
     free = table.free;
+  })
+
+  -- its write failed, and the links have what they had
+  pub leave_it : (new : Option LinkedValue) (serves' : ℕ → Bool) → serves' ≡ serves → MayLeave serves' next (before ++ record { seat = it.seat; linked = new } ∷ after)
+  leave_it new serves' same = subst (λ s. MayLeave s next (before ++ record { seat = it.seat; linked = new } ∷ after)) (sym same) (record {
+    ordered = with_it 0 next before (record { seat = it.seat; linked = new }) after (before_it 0 next before it after ordered_it) (after_it 0 next before it after ordered_it);
+    served = all_join (λ (p : Phase). serves p.seat.session ≡ true) before (record { seat = it.seat; linked = new } ∷ after)
+        (all_map (MayGo places most serves) (λ (p : Phase). serves p.seat.session ≡ true) before (λ p m. m.served) (all_front (MayGo places most serves) before (it ∷ after) each_it))
+        (may_go.served, all_map (MayGo places most serves) (λ (p : Phase). serves p.seat.session ≡ true) after (λ p m. m.served)
+            (all_back (MayGo places most serves) before (it ∷ after) each_it).1);
   })
 
   -- it is gone, and the links have it no longer
@@ -162,3 +172,7 @@ module _ (places : List Listening) (most next : ℕ) (past : List TurnOf) (index
         count = refl;
         keeps = subst (Keeps places most next (past ++ d.turn ∷ [])) (sym is) (kept_out d.turn some.0 d.seat some.1 (turn_leaves d.turn (Some some.0) some.1 d.leaves));
       }
+
+pub on_err : {A E : Type 0} (r : Result A E) (P : Type 0) → P → OnErr r P
+on_err (Ok a) P p = tt
+on_err (Err e) P p = p

@@ -1,11 +1,11 @@
 -- The sessions that stand, as a list, and what they stand for. The main definitions are `IsTable` and `Keeps`. This project's own.
 use Rattle.cf_links.specs.Links.{LinksEntry}
 use Rattle.cf_lane.specs.Log.{with_lines}
-use Rattle.std.specs.List.{AllByRecursion}
+use Rattle.std.specs.List.{AllByRecursion, flat_map}
 use Rattle.std.specs.Prelude.{Bool, List, None, Option, Some, [], false, if◌then◌else◌, length, map, option_map, slice_get, true, ℕ, ◌++◌, ◌+◌, ◌<◌}
 use Rattle.std.specs.Prelude.{◌∷◌, ◌≡◌, ◌≤◌, ◌==◌}
 use Rattle.cf_serve.specs.Phase.{MayTurn, Phase, StandsAs}
-use Rattle.cf_serve.specs.Rounds.{IsTurn, TurnOf, answers_in, ends_in, lines_in, stays, turn_entries}
+use Rattle.cf_serve.specs.Rounds.{AreTurns, IsTurn, TurnOf, answers_in, ends_in, lines_in, stays, turn_entries}
 use Rattle.cf_serve.specs.Session.{EndsSo, Listening}
 use Rattle.cf_serve.specs.declared.end.SessionEnd.{SessionEnd}
 
@@ -25,6 +25,11 @@ pub record IsTable (places : List Listening) (most : ℕ) (serves : ℕ → Bool
   pub ordered : IsBetween 0 next ps
   pub each : AllByRecursion (MayGo places most serves) ps
   pub free : (session : ℕ) → next ≤ session → serves session ≡ false
+
+-- what lets them be left: the links have each
+pub record MayLeave (serves : ℕ → Bool) (next : ℕ) (ps : List Phase) : Type 0 where
+  pub ordered : IsBetween 0 next ps
+  pub served : AllByRecursion (λ (p : Phase). serves p.seat.session ≡ true) ps
 
 -- a session that stands is kept by what it had of the turns so far
 pub record IsHeld (places : List Listening) (most : ℕ) (past : List TurnOf) (p : Phase) : Type 0 where
@@ -67,3 +72,29 @@ pub record StepDoes (places : List Listening) (most next : ℕ) (past : List Tur
   pub stay : map (λ (p : Phase). p.seat) left ≡ stays turn
   pub count : length left ≡ (if stays_on then 1 else 0)
   pub keeps : Keeps places most next (past ++ turn ∷ []) new
+
+-- each session that stands had its turn, in their order
+pub record TurnsDo (places : List Listening) (most next : ℕ) (past : List TurnOf) (told told_after : Option (List LinksEntry))
+    (log log_after : Option (List (List ℕ))) (old new : List Phase) : Type 0 where
+  pub turns : List TurnOf
+  pub tells : told_after ≡ option_map (λ entries. entries ++ flat_map turn_entries turns) told
+  pub added : log_after ≡ with_lines log (flat_map (λ (t : TurnOf). t.lines) turns)
+  pub in_turn : map (λ (t : TurnOf). t.seat) turns ≡ map (λ (p : Phase). p.seat) old
+  pub each : AreTurns turns
+  pub stay : map (λ (p : Phase). p.seat) new ≡ flat_map stays turns
+  pub keeps : Keeps places most next (past ++ turns) new
+
+-- the first of them had theirs, the rest not yet
+pub record TurnsBegin (places : List Listening) (most next : ℕ) (past : List TurnOf) (index : ℕ) (told told_after : Option (List LinksEntry))
+    (log log_after : Option (List (List ℕ))) (old new : List Phase) : Type 0 where
+  pub done : List Phase
+  pub rest : List Phase
+  pub was : new ≡ done ++ rest
+  pub at : length done ≡ index
+  pub turns : List TurnOf
+  pub tells : told_after ≡ option_map (λ entries. entries ++ flat_map turn_entries turns) told
+  pub added : log_after ≡ with_lines log (flat_map (λ (t : TurnOf). t.lines) turns)
+  pub in_turn : map (λ (t : TurnOf). t.seat) turns ++ map (λ (p : Phase). p.seat) rest ≡ map (λ (p : Phase). p.seat) old
+  pub each : AreTurns turns
+  pub stay : map (λ (p : Phase). p.seat) done ≡ flat_map stays turns
+  pub keeps : Keeps places most next (past ++ turns) new

@@ -1,5 +1,5 @@
 //! The sessions of a service that stand, and their turns in a round.
-ghost use Rattle.std.specs.Prelude.{◌≡◌, ◌<◌, IfOk, IsErr, List, OnOk, Some, length, map, slice_get, true, vec_len, ℕ};
+ghost use Rattle.std.specs.Prelude.{◌≡◌, ◌<◌, ◌+◌, if◌then◌else◌, IfOk, IsErr, List, OnErr, OnOk, Some, length, map, slice_get, true, vec_len, ℕ};
 ghost use Rattle.cf_lane.specs.Handled.{WritesLog};
 ghost use Rattle.cf_links.specs.Links.{LinksPlace};
 ghost use Rattle.cf_outside.specs.Desk.{DeskValue};
@@ -8,7 +8,7 @@ ghost use Rattle.cf_outside.specs.Pair.{Entry};
 ghost use Rattle.cf_policy.specs.Within.{IsAssetWithin};
 ghost use Rattle.cf_serve.specs.Phase.{KeepsPlace, MayTurn, Phase, SeatDoes, StandsAs, listening_at, listening_of, listenings, phase_of};
 ghost use Rattle.cf_serve.specs.Rounds.{TurnOf};
-ghost use Rattle.cf_serve.specs.Table.{IsTable, Keeps, StepDoes};
+ghost use Rattle.cf_serve.specs.Table.{IsTable, Keeps, MayLeave, StepDoes, TurnsDo};
 ghost use Rattle.cf_serve.specs.declared.table.Place.{Place as PlaceOf};
 ghost use Rattle.std.specs.List.{AllByRecursion};
 
@@ -52,7 +52,7 @@ pub fn turn_one<L: Service, D: Desk>(
     requires whole { DeskValue.whole (D.value desk.old) ≡ true }
     requires buffer { length buf.old ≡ 4096 }
     ensures place { IfOk result (λ stays. KeepsPlace served.old.number (L.place links.old) (L.place links.new) stays) }
-    ensures served { IsErr result → L.place links.new ≡ L.place links.old }
+    ensures served { OnErr result (L.place links.new ≡ L.place links.old) }
     ensures does { IfOk result (λ stays. (es : List Entry) (own : List (List ℕ))
         → StandsAs (listening_of terms.now) terms.now.most es own (Phase.linked (phase_of served.old))
         → SeatDoes (listening_of terms.now) terms.now.most es own (L.told links.old) (L.told links.new)
@@ -111,6 +111,8 @@ impl Table {
             → StepDoes (listenings places.now) most self.old.next past index (L.told links.old) (L.told links.new)
             (DeskValue.lines (D.value desk.old)) (DeskValue.lines (D.value desk.new))
             (map phase_of self.old.sessions.items) (map phase_of self.new.sessions.items) stays) }
+        ensures len { IfOk result (λ stays. vec_len self.new.sessions + (if stays then 0 else 1) ≡ vec_len self.old.sessions) }
+        ensures leave { OnErr result (MayLeave (LinksPlace.serves (L.place links.new)) self.new.next (map phase_of self.new.sessions.items)) }
         ensures next { self.new.next ≡ self.old.next }
         ensures whole { OnOk result (DeskValue.whole (D.value desk.new) ≡ true) }
         ensures log { WritesLog (D.value desk.old) (D.value desk.new) }
@@ -130,5 +132,43 @@ impl Table {
             self.sessions.remove(index);
         }
         Ok(stays)
+    }
+
+    /// Gives each session its turn, in the order in which they came; those that end are taken out.
+    pub fn turns<L: Service, D: Desk>(
+        &mut self,
+        alloc: Global,
+        places: &[Place<'_>],
+        moment: u64,
+        most: u64,
+        links: &mut L,
+        desk: &mut D,
+    ) -> Result<(), WriteFault>
+        requires table { IsTable (listenings places.now) most (LinksPlace.serves (L.place links.old)) self.old.next
+            (map phase_of self.old.sessions.items) }
+        requires within { AllByRecursion (λ place. IsAssetWithin (PlaceOf.asset place).now) places.now }
+        requires most { 0 < most }
+        requires whole { DeskValue.whole (D.value desk.old) ≡ true }
+        ensures table { OnOk result (IsTable (listenings places.now) most (LinksPlace.serves (L.place links.new)) self.new.next
+            (map phase_of self.new.sessions.items)) }
+        ensures does { OnOk result ((past : List TurnOf)
+            → Keeps (listenings places.now) most self.old.next past (map phase_of self.old.sessions.items)
+            → TurnsDo (listenings places.now) most self.old.next past (L.told links.old) (L.told links.new)
+            (DeskValue.lines (D.value desk.old)) (DeskValue.lines (D.value desk.new))
+            (map phase_of self.old.sessions.items) (map phase_of self.new.sessions.items)) }
+        ensures leave { OnErr result (MayLeave (LinksPlace.serves (L.place links.new)) self.new.next (map phase_of self.new.sessions.items)) }
+        ensures next { self.new.next ≡ self.old.next }
+        ensures whole { OnOk result (DeskValue.whole (D.value desk.new) ≡ true) }
+        ensures log { WritesLog (D.value desk.old) (D.value desk.new) }
+        ensures cause { HasCause (DeskValue.faults (D.value desk.old)) (DeskValue.faults (D.value desk.new)) (IsErr result) }
+    {
+        let mut buf = [0u8; 4096];
+        let mut index = 0;
+        while index < self.sessions.len() {
+            if self.turn_at(index, alloc, places, moment, most, &mut buf, links, desk)? {
+                index += 1;
+            }
+        }
+        Ok(())
     }
 }

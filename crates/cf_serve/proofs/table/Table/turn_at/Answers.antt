@@ -4,11 +4,11 @@ use Rattle.std.specs.Prelude.{Bool, option_map}
 use Rattle.std.proofs.Math.ListN.{set}
 use Rattle.cf_links.specs.Links.{LinksPlace}
 use Rattle.cf_serve.proofs.Placing.{phases_at}
-use Rattle.cf_serve.proofs.Stepping.{at_place, lost_one, may_go, ordered_it, same_serves, step_ends, step_stays, stood, table_ends, table_stays}
+use Rattle.cf_serve.proofs.Stepping.{at_place, leave_it, lost_one, may_go, on_err, ordered_it, same_serves, step_ends, step_stays, stood, table_ends, table_stays}
 use Rattle.cf_serve.specs.Phase.{MayTurn, SeatDoes, linked_value, listening_at, listenings, phase_of}
 use Rattle.cf_serve.specs.Rounds.{answers_in, lines_in}
 use Rattle.cf_serve.specs.Session.{Listening}
-use Rattle.cf_serve.specs.Table.{IsTable, StepDoes}
+use Rattle.cf_serve.specs.Table.{IsTable, MayLeave, StepDoes}
 use Rattle.cf_serve.proofs.table.Table.turn_at.Goals as goal
 
 pub place_of-place-requires-clause-number : goal.place_of-place-requires-clause-number
@@ -128,3 +128,18 @@ returns-then-not-stays-clause-does g c = λ past keeps.
         (map phase_of c.remove.new.self.items) (ap (map phase_of) c.remove.ensures.items ∙ s.out c.turn_one.new.served)
         (subst (λ (b : Bool). SeatDoes at c.args.most (answers_in served.number past) (lines_in served.number past) told told' log log' (phase_of served)
             (record (phase_of served) { linked = new }) b) gone renamed))
+
+pub returns-in_err-stays-clause-leave : goal.returns-in_err-stays-clause-leave
+returns-in_err-stays-clause-leave g c =
+    let served = c.index_mut-served.result.now in
+    let items = c.args.self.now.sessions.items in
+    let s = phases_at items c.args.index served c.requires.index c.index_mut-served.ensures.value in
+    let places = listenings c.args.places.now in
+    let serves = LinksPlace.serves (g.L.Links.place c.args.links.now) in
+    let new = option_map linked_value c.turn_one.new.served.linked in
+    let after = LinksPlace.serves (g.L.Links.place c.turn_one.new.links) in
+    on_err c.from_residual.result (MayLeave after c.args.self.now.next (map phase_of (set items c.args.index c.turn_one.new.served)))
+        (subst (MayLeave after c.args.self.now.next)
+            (ap (λ p. s.before ++ p ∷ s.after) (sym (ap phase_of c.turn_one.ensures.same)) ∙ sym (s.put c.turn_one.new.served))
+            (leave_it places c.args.most c.args.self.now.next serves (map phase_of items) s.before (phase_of served) s.after s.was c.requires.table
+                new after (ap (λ (p : LinksPlace). p.serves) c.in_err-stays.ensures.served)))
