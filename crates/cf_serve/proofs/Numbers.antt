@@ -56,7 +56,7 @@ higher : (low high high' : ℕ) (ps : List Phase) → high ≤ high' → IsBetwe
 higher low high high' [] h b = omega (arith, h, b)
 higher low high high' (p ∷ ps) h (l, b) = (l, higher (p.seat.session + 1) high high' ps h b)
 
-members : (low high : ℕ) (ps : List Phase) → IsBetween low high ps → AllByRecursion (IsWithin low high) ps
+pub members : (low high : ℕ) (ps : List Phase) → IsBetween low high ps → AllByRecursion (IsWithin low high) ps
 members low high [] b = tt
 members low high (p ∷ ps) (l, b) =
     let top : p.seat.session + 1 ≤ high = bounds (p.seat.session + 1) high ps b in

@@ -35,12 +35,12 @@ turns_join : (ts us : List TurnOf) → AreTurns ts → AreTurns us → AreTurns 
 turns_join [] us h k = k
 turns_join (t ∷ ts) us (p, h) k = (p, turns_join ts us h k)
 
-more_twice : (told : Option (List LinksEntry)) (xs ys : List LinksEntry) →
+pub more_twice : (told : Option (List LinksEntry)) (xs ys : List LinksEntry) →
     option_map (λ es. es ++ ys) (option_map (λ es. es ++ xs) told) ≡ option_map (λ es. es ++ (xs ++ ys)) told
 more_twice None xs ys = refl
 more_twice (Some es) xs ys = ap Some (append_assoc es xs ys)
 
-more_none : (told : Option (List LinksEntry)) → told ≡ option_map (λ es. es ++ []) told
+pub more_none : (told : Option (List LinksEntry)) → told ≡ option_map (λ es. es ++ []) told
 more_none None = refl
 more_none (Some es) = ap Some (sym (append-nil es))
 

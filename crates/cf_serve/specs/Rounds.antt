@@ -8,8 +8,8 @@ use Rattle.cf_lane.specs.Log.{line_about}
 use Rattle.cf_links.specs.Links.{Came, Left, LinksEntry, Of, Ready, Woke}
 use Rattle.cf_outside.specs.Pair.{Entry}
 use Rattle.cf_view.specs.declared.Endpoint.{Endpoint}
-use Rattle.std.specs.List.{flat_map}
-use Rattle.std.specs.Prelude.{Bool, List, None, Option, Some, [], count_by, false, if◌then◌else◌, length, map, nat_lt, option_to_list, slice_get, ℕ, ◌&&◌, ◌++◌, ◌+◌}
+use Rattle.std.specs.List.{flat_map, sum_by}
+use Rattle.std.specs.Prelude.{Bool, List, None, Option, Some, [], false, if◌then◌else◌, length, map, nat_lt, option_to_list, slice_get, ℕ, ◌&&◌, ◌++◌, ◌+◌}
 use Rattle.std.specs.Prelude.{◌∷◌, ◌≡◌, ◌≤◌, ◌==◌, true}
 use Rattle.cf_serve.specs.Session.{Listening}
 use Rattle.cf_serve.specs.declared.end.SessionEnd.{SessionEnd}
@@ -84,9 +84,16 @@ abbrev pub AreTurns : List TurnOf → Type 0
 AreTurns [] = Unit {0}
 AreTurns (t ∷ ts) = IsTurn t × AreTurns ts
 
+-- how many of them are of a listening place
+abbrev pub is_of : (place : ℕ) → Seat → ℕ
+is_of place seat = if seat.place == place then 1 else 0
+
+abbrev pub count_of : (place : ℕ) → List Seat → ℕ
+count_of place standing = sum_by (is_of place) standing
+
 -- there is a place for one more client: fewer than 256 sessions stand, and fewer than 32 of that listening place
 abbrev pub has_place : List Seat → (place : ℕ) → Bool
-has_place standing place = nat_lt (length standing) 256 && nat_lt (count_by (λ (s : Seat). s.place == place) standing) 32
+has_place standing place = nat_lt (length standing) 256 && nat_lt (count_of place standing) 32
 
 -- the line of a client that took the last place
 abbrev pub full_line : Option Listening → Endpoint → (moment : ℕ) → List (List ℕ)

@@ -1,11 +1,12 @@
 -- The sessions that stand, as a list, and what they stand for. The main definitions are `IsTable` and `Keeps`. This project's own.
 use Rattle.cf_links.specs.Links.{LinksEntry}
 use Rattle.cf_lane.specs.Log.{with_lines}
+use Rattle.cf_view.specs.declared.Endpoint.{Endpoint}
 use Rattle.std.specs.List.{AllByRecursion, flat_map}
 use Rattle.std.specs.Prelude.{Bool, List, None, Option, Some, [], false, if◌then◌else◌, length, map, option_map, slice_get, true, ℕ, ◌++◌, ◌+◌, ◌<◌}
 use Rattle.std.specs.Prelude.{◌∷◌, ◌≡◌, ◌≤◌, ◌==◌}
 use Rattle.cf_serve.specs.Phase.{MayTurn, Phase, StandsAs}
-use Rattle.cf_serve.specs.Rounds.{AreTurns, IsTurn, TurnOf, answers_in, ends_in, lines_in, stays, turn_entries}
+use Rattle.cf_serve.specs.Rounds.{AreArrivals, AreTurns, Arrival, IsTurn, Seat, TurnOf, answers_in, arrival_entries, ends_in, lines_in, stays, turn_entries}
 use Rattle.cf_serve.specs.Session.{EndsSo, Listening}
 use Rattle.cf_serve.specs.declared.end.SessionEnd.{SessionEnd}
 
@@ -98,3 +99,23 @@ pub record TurnsBegin (places : List Listening) (most next : ℕ) (past : List T
   pub each : AreTurns turns
   pub stay : map (λ (p : Phase). p.seat) done ≡ flat_map stays turns
   pub keeps : Keeps places most next (past ++ turns) new
+
+-- the seats of the sessions that stand
+abbrev pub seats_of : List Phase → List Seat
+seats_of ps = map (λ (p : Phase). p.seat) ps
+
+-- a session whose controller is not reached yet
+abbrev pub new_phase : (session place : ℕ) → Endpoint → Phase
+new_phase session place client = record { seat = record { session = session; place = place; client = client }; linked = None }
+
+-- clients that came at the places from one on and below another, each in the table from here on
+pub record Arrive (places : List Listening) (most moment from upto next next_after : ℕ) (told told_after : Option (List LinksEntry))
+    (log log_after : Option (List (List ℕ))) (old new : List Phase) : Type 0 where
+  pub arrivals : List Arrival
+  pub tells : told_after ≡ option_map (λ entries. entries ++ flat_map arrival_entries arrivals) told
+  pub added : log_after ≡ with_lines log (flat_map (λ (a : Arrival). a.lines) arrivals)
+  pub come : AreArrivals places moment from next (seats_of old) arrivals
+  pub below : AllByRecursion (λ (a : Arrival). a.seat.place < upto) arrivals
+  pub seats : seats_of new ≡ seats_of old ++ map (λ (a : Arrival). a.seat) arrivals
+  pub counts : next_after ≡ next + length arrivals
+  pub keeps : (past : List TurnOf) → Keeps places most next past old → Keeps places most next_after past new

@@ -1,5 +1,5 @@
 //! The sessions of a service that stand, and their turns in a round.
-ghost use Rattle.std.specs.Prelude.{◌≡◌, ◌<◌, ◌+◌, if◌then◌else◌, IfOk, IsErr, List, OnErr, OnOk, Some, length, map, slice_get, true, vec_len, ℕ};
+ghost use Rattle.std.specs.Prelude.{◌≡◌, ◌<◌, ◌≤◌, ◌+◌, ◌-◌, false, ◌^◌, ◌++◌, ◌∷◌, [], if◌then◌else◌, IfOk, IsErr, List, OnErr, OnOk, Some, length, map, slice_get, true, vec_capacity, vec_len, ℕ};
 ghost use Rattle.cf_lane.specs.Handled.{WritesLog};
 ghost use Rattle.cf_links.specs.Links.{LinksPlace};
 ghost use Rattle.cf_outside.specs.Desk.{DeskValue};
@@ -7,17 +7,26 @@ ghost use Rattle.cf_outside.specs.Faults.{HasCause};
 ghost use Rattle.cf_outside.specs.Pair.{Entry};
 ghost use Rattle.cf_policy.specs.Within.{IsAssetWithin};
 ghost use Rattle.cf_serve.specs.Phase.{KeepsPlace, MayTurn, Phase, SeatDoes, StandsAs, listening_at, listening_of, listenings, phase_of};
-ghost use Rattle.cf_serve.specs.Rounds.{TurnOf};
-ghost use Rattle.cf_serve.specs.Table.{IsTable, Keeps, MayLeave, StepDoes, TurnsDo};
+ghost use Rattle.cf_serve.specs.Rounds.{TurnOf, has_place};
+ghost use Rattle.cf_serve.specs.Table.{Arrive, IsTable, Keeps, MayLeave, StepDoes, TurnsDo, new_phase, seats_of};
 ghost use Rattle.cf_serve.specs.declared.table.Place.{Place as PlaceOf};
 ghost use Rattle.std.specs.List.{AllByRecursion};
 
 use crate::session::{Served, Terms};
-use cf_links::Service;
+use cf_audit::What;
+use cf_links::{ArriveAnswer, Service};
 use cf_outside::Desk;
 use cf_policy::Asset;
+use cf_relay::log_line;
 use cf_view::{Endpoint, WriteFault};
 use std::alloc::Global;
+
+/// How many sessions stand at most. This project's own choice.
+const SESSION_LIMIT: usize = 256;
+
+/// How many of them are of one listening place at most, so that the clients of one asset keep no others out. This project's own
+/// choice.
+const PLACE_LIMIT: usize = 32;
 
 /// An asset that is served, and the address and the port of this machine at which its clients come.
 #[derive(Clone, Copy)]
@@ -111,6 +120,7 @@ impl Table {
             → StepDoes (listenings places.now) most self.old.next past index (L.told links.old) (L.told links.new)
             (DeskValue.lines (D.value desk.old)) (DeskValue.lines (D.value desk.new))
             (map phase_of self.old.sessions.items) (map phase_of self.new.sessions.items) stays) }
+        ensures room { vec_capacity self.new.sessions ≡ vec_capacity self.old.sessions }
         ensures len { IfOk result (λ stays. vec_len self.new.sessions + (if stays then 0 else 1) ≡ vec_len self.old.sessions) }
         ensures leave { OnErr result (MayLeave (LinksPlace.serves (L.place links.new)) self.new.next (map phase_of self.new.sessions.items)) }
         ensures next { self.new.next ≡ self.old.next }
@@ -158,6 +168,7 @@ impl Table {
             (map phase_of self.old.sessions.items) (map phase_of self.new.sessions.items)) }
         ensures leave { OnErr result (MayLeave (LinksPlace.serves (L.place links.new)) self.new.next (map phase_of self.new.sessions.items)) }
         ensures next { self.new.next ≡ self.old.next }
+        ensures room { vec_capacity self.new.sessions ≡ vec_capacity self.old.sessions }
         ensures whole { OnOk result (DeskValue.whole (D.value desk.new) ≡ true) }
         ensures log { WritesLog (D.value desk.old) (D.value desk.new) }
         ensures cause { HasCause (DeskValue.faults (D.value desk.old)) (DeskValue.faults (D.value desk.new)) (IsErr result) }
@@ -170,5 +181,79 @@ impl Table {
             }
         }
         Ok(())
+    }
+
+    /// Whether there is a place for one more client of a listening place.
+    fn has_place(&self, place: usize) -> bool
+        ensures { result ≡ has_place (seats_of (map phase_of self.now.sessions.items)) place }
+    {
+        let mut count = 0;
+        for served in self.sessions.iter() {
+            if served.place == place {
+                count += 1;
+            }
+        }
+        self.sessions.len() < SESSION_LIMIT && count < PLACE_LIMIT
+    }
+
+    /// Takes a client at one place, where one came and there is a place for it.
+    fn arrive<L: Service, D: Desk>(
+        &mut self,
+        place: usize,
+        places: &[Place<'_>],
+        moment: u64,
+        links: &mut L,
+        desk: &mut D,
+    ) -> Result<(), WriteFault>
+        requires place { place < length places.now }
+        requires few { length places.now ≤ 256 }
+        requires room { 256 ≤ vec_capacity self.old.sessions }
+        requires free { (session : ℕ) → self.old.next ≤ session → LinksPlace.serves (L.place links.old) session ≡ false }
+        requires within { AllByRecursion (λ place. IsAssetWithin (PlaceOf.asset place).now) places.now }
+        requires whole { DeskValue.whole (D.value desk.old) ≡ true }
+        ensures table { (most : ℕ) → IsTable (listenings places.now) most (LinksPlace.serves (L.place links.old)) self.old.next
+            (map phase_of self.old.sessions.items) → IsTable (listenings places.now) most (LinksPlace.serves (L.place links.new))
+            self.new.next (map phase_of self.new.sessions.items) }
+        ensures free { (session : ℕ) → self.new.next ≤ session → LinksPlace.serves (L.place links.new) session ≡ false }
+        ensures does { OnOk result ((most : ℕ) → Arrive (listenings places.now) most moment place (place + 1) self.old.next self.new.next
+            (L.told links.old) (L.told links.new) (DeskValue.lines (D.value desk.old)) (DeskValue.lines (D.value desk.new))
+            (map phase_of self.old.sessions.items) (map phase_of self.new.sessions.items)) }
+        ensures room { vec_capacity self.old.sessions ≤ vec_capacity self.new.sessions }
+        ensures whole { OnOk result (DeskValue.whole (D.value desk.new) ≡ true) }
+        ensures log { WritesLog (D.value desk.old) (D.value desk.new) }
+        ensures cause { HasCause (DeskValue.faults (D.value desk.old)) (DeskValue.faults (D.value desk.new)) (IsErr result) }
+    {
+        if self.next == u64::MAX || !self.has_place(place) {
+            return Ok(());
+        }
+        let client = match links.arrive(place as u32, self.next) {
+            ArriveAnswer::Came(client) => client,
+            ArriveAnswer::Nobody => return Ok(()),
+        };
+        self.take_in(place, client);
+        if self.has_place(place) {
+            return Ok(());
+        }
+        let at = place_of(places, place);
+        log_line(at.asset, client, moment, What::Full, desk)
+    }
+
+    /// A client has its place in the table, under the next number.
+    fn take_in(&mut self, place: usize, client: Endpoint)
+        requires room { vec_len self.old.sessions < vec_capacity self.old.sessions }
+        requires next { self.old.next < 2 ^ 64 - 1 }
+        ensures items { map phase_of self.new.sessions.items ≡ map phase_of self.old.sessions.items
+            ++ new_phase self.old.next place client ∷ [] }
+        ensures next { self.new.next ≡ self.old.next + 1 }
+        ensures room { vec_capacity self.old.sessions ≤ vec_capacity self.new.sessions }
+    {
+        let served = Served {
+            number: self.next,
+            place,
+            client,
+            linked: None,
+        };
+        let _ = self.sessions.push(served);
+        self.next += 1;
     }
 }

@@ -1,5 +1,5 @@
 use Rattle.std.proofs.Common.{List, length, map, true, ◌≡◌, ◌≤◌, ◌-◌}
-use Rattle.std.specs.Prelude.{vec_len}
+use Rattle.std.specs.Prelude.{vec_capacity, vec_len}
 use Rattle.cf_lane.specs.Handled.{WritesLog}
 use Rattle.cf_links.specs.Links.{LinksPlace}
 use Rattle.cf_outside.specs.Desk.{DeskValue}
@@ -16,6 +16,7 @@ invariant-loop-index g l =
           TurnsBegin (listenings l.fn.places) l.fn.most l.fn.self.next past l.index (g.L.Links.told l.fn.links) (g.L.Links.told l.links)
           (g.D.Desk.value l.fn.desk).lines (g.D.Desk.value l.desk).lines (map phase_of l.fn.self.sessions.items) (map phase_of l.self.sessions.items);
       next : l.self.next ≡ l.fn.self.next;
+      room : vec_capacity l.self.sessions ≡ vec_capacity l.fn.self.sessions;
       within : l.index ≤ vec_len l.self.sessions;
       whole : (g.D.Desk.value l.desk).whole ≡ true;
       log : WritesLog (g.D.Desk.value l.fn.desk) (g.D.Desk.value l.desk);
