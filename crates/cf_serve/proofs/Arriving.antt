@@ -2,20 +2,21 @@
 use Rattle.std.proofs.Common.{Bool, List, None, Option, Some, [], ap, arith, length, map, refl, subst, sym, true, false, ℕ, ◌++◌, ◌+◌, ◌<◌, ◌≤◌, ◌∙◌, ◌∷◌, ◌≡◌}
 use Rattle.std.specs.Prelude.{Err, Ok, OnOk, Result, option_map, option_to_list, slice_get, ◌==◌, if◌then◌else◌}
 use Rattle.std.specs.List.{AllByRecursion, flat_map}
-use Rattle.std.proofs.lemmas.List.{append-nil, map-append}
+use Rattle.std.proofs.lemmas.Grind.{flat_map-append}
+use Rattle.std.proofs.lemmas.List.{append-nil, append_assoc, length-append, map-append}
 use Rattle.cf_lane.specs.Log.{with_lines}
-use Rattle.cf_links.specs.Links.{Came, LinksEntry, LinksPlace}
+use Rattle.cf_links.specs.Links.{Came, LinksEntry, LinksPlace, Woke}
 use Rattle.cf_links.specs.Service.{GetsSession}
-use Rattle.cf_relay.proofs.Lined.{lines_none}
+use Rattle.cf_relay.proofs.Lined.{lines_both, lines_none}
 use Rattle.cf_view.specs.declared.Endpoint.{Endpoint}
 use Rattle.cf_view.specs.declared.WriteFault.{WriteFault}
 use Rattle.cf_serve.proofs.Keeping.{part_none}
 use Rattle.cf_serve.proofs.Numbers.{all_join, all_map, all_zip, above, below, members}
-use Rattle.cf_serve.proofs.Rounding.{more_none}
+use Rattle.cf_serve.proofs.Rounding.{more_none, more_twice}
 use Rattle.cf_serve.specs.Phase.{Phase, StandsAs}
-use Rattle.cf_serve.specs.Rounds.{Arrival, AreArrivals, Seat, TurnOf, answers_in, ends_in, full_line, full_lines, has_place, lines_in}
+use Rattle.cf_serve.specs.Rounds.{Arrival, AreArrivals, Seat, TurnOf, answers_in, arrival_entries, ends_in, turn_entries, full_line, full_lines, has_place, lines_in}
 use Rattle.cf_serve.specs.Session.{EndsSo, Listening}
-use Rattle.cf_serve.specs.Table.{Arrive, IfOver, IsBetween, IsHeld, IsOver, IsTable, Keeps, MayGo, new_phase, seats_of}
+use Rattle.cf_serve.specs.Table.{Arrive, IfOver, IsBetween, IsHeld, IsOver, IsTable, Keeps, MayGo, RoundDoes, TurnsDo, new_phase, seats_of}
 use Rattle.cf_serve.specs.declared.end.SessionEnd.{SessionEnd}
 
 one_more : (low next : ℕ) (ps : List Phase) (p : Phase) → p.seat.session ≡ next → IsBetween low next ps → IsBetween low (next + 1) (ps ++ p ∷ [])
@@ -110,3 +111,83 @@ module _ (places : List Listening) (most moment place next : ℕ) (told : Option
 pub for_all : {E : Type 0} (P : ℕ → Type 0) (r : Result Unit E) → ((most : ℕ) → OnOk r (P most)) → OnOk r ((most : ℕ) → P most)
 for_all P (Ok u) h = h
 for_all P (Err e) h = tt
+
+-- ---- places one after the other
+
+lower_from : (places : List Listening) (moment from from' next : ℕ) (standing : List Seat) (cs : List Arrival) → from' ≤ from →
+    AreArrivals places moment from next standing cs → AreArrivals places moment from' next standing cs
+lower_from places moment from from' next standing [] h come = tt
+lower_from places moment from from' next standing (a ∷ cs) h (f, rest) = (omega (arith, h, f), rest)
+
+come_join : (places : List Listening) (moment from upto next : ℕ) (standing : List Seat) (cs bs : List Arrival) → from ≤ upto →
+    AreArrivals places moment from next standing cs → AllByRecursion (λ (a : Arrival). a.seat.place < upto) cs →
+    AreArrivals places moment upto (next + length cs) (standing ++ map (λ (a : Arrival). a.seat) cs) bs → AreArrivals places moment from next standing (cs ++ bs)
+come_join places moment from upto next standing [] bs h come below later =
+    lower_from places moment upto from next standing bs h
+        (subst (λ n. AreArrivals places moment upto n standing bs) (omega arith)
+            (subst (λ (ss : List Seat). AreArrivals places moment upto (next + length {A = Arrival} []) ss bs) (append-nil standing) later))
+come_join places moment from upto next standing (a ∷ cs) bs h (f, (e, (r, (l, rest)))) (b, below) later =
+    (f, (e, (r, (l, come_join places moment (a.seat.place + 1) upto (next + 1) (standing ++ a.seat ∷ []) cs bs (omega (arith, b)) rest below
+        (subst (λ n. AreArrivals places moment upto n ((standing ++ a.seat ∷ []) ++ map (λ (x : Arrival). x.seat) cs) bs) (omega arith)
+            (subst (λ (ss : List Seat). AreArrivals places moment upto (next + length (a ∷ cs)) ss bs)
+                (sym (append_assoc standing (a.seat ∷ []) (map (λ (x : Arrival). x.seat) cs))) later))))))
+
+module _ (places : List Listening) (most moment next : ℕ) (told : Option (List LinksEntry)) (log : Option (List (List ℕ))) (old : List Phase) where
+  pub arrive_first : Arrive places most moment 0 0 next next told told log log old old
+  arrive_first = record {
+    arrivals = [];
+    tells = more_none told;
+    added = lines_none log;
+    come = tt;
+    below = tt;
+    seats = sym (append-nil (seats_of old));
+    counts = omega arith;
+    keeps = λ past k. k;
+  }
+
+  pub arrive_then : (place next1 next2 : ℕ) (told1 told2 : Option (List LinksEntry)) (log1 log2 : Option (List (List ℕ))) (mid new : List Phase) →
+      Arrive places most moment 0 place next next1 told told1 log log1 old mid →
+      Arrive places most moment place (place + 1) next1 next2 told1 told2 log1 log2 mid new →
+      Arrive places most moment 0 (place + 1) next next2 told told2 log log2 old new
+  arrive_then place next1 next2 told1 told2 log1 log2 mid new a b = record {
+    arrivals = a.arrivals ++ b.arrivals;
+    tells = b.tells ∙ ap (option_map (λ es. es ++ flat_map arrival_entries b.arrivals)) a.tells
+        ∙ more_twice told (flat_map arrival_entries a.arrivals) (flat_map arrival_entries b.arrivals)
+        ∙ ap (λ (xs : List LinksEntry). option_map (λ es. es ++ xs) told) (sym (flat_map-append arrival_entries a.arrivals b.arrivals));
+    added = b.added ∙ ap (λ l. with_lines l (flat_map (λ (x : Arrival). x.lines) b.arrivals)) a.added
+        ∙ lines_both log (flat_map (λ (x : Arrival). x.lines) a.arrivals) (flat_map (λ (x : Arrival). x.lines) b.arrivals)
+        ∙ ap (with_lines log) (sym (flat_map-append (λ (x : Arrival). x.lines) a.arrivals b.arrivals));
+    come = come_join places moment 0 place next (seats_of old) a.arrivals b.arrivals (omega arith) a.come a.below
+        (subst (λ n. AreArrivals places moment place n (seats_of old ++ map (λ (x : Arrival). x.seat) a.arrivals) b.arrivals) a.counts
+            (subst (λ (ss : List Seat). AreArrivals places moment place next1 ss b.arrivals) a.seats b.come));
+    below = all_join (λ (x : Arrival). x.seat.place < place + 1) a.arrivals b.arrivals
+        (all_map (λ (x : Arrival). x.seat.place < place) (λ (x : Arrival). x.seat.place < place + 1) a.arrivals (λ x h. omega (arith, h)) a.below) b.below;
+    seats = b.seats ∙ ap (λ (ss : List Seat). ss ++ map (λ (x : Arrival). x.seat) b.arrivals) a.seats
+        ∙ append_assoc (seats_of old) (map (λ (x : Arrival). x.seat) a.arrivals) (map (λ (x : Arrival). x.seat) b.arrivals)
+        ∙ ap (λ ss. seats_of old ++ ss) (sym (map-append (λ (x : Arrival). x.seat) a.arrivals b.arrivals));
+    counts = let l : length (a.arrivals ++ b.arrivals) ≡ length a.arrivals + length b.arrivals = length-append a.arrivals b.arrivals in omega (arith, l, a.counts, b.counts);
+    keeps = λ past k. b.keeps past (a.keeps past k);
+  }
+
+  -- the clients that came, and then the turns
+  pub round_is : (upto next1 : ℕ) (told0 told1 told2 : Option (List LinksEntry)) (log1 log2 : Option (List (List ℕ))) (mid new : List Phase) (past : List TurnOf) →
+      told ≡ option_map (λ es. es ++ Woke moment ∷ []) told0 →
+      Arrive places most moment 0 upto next next1 told told1 log log1 old mid →
+      TurnsDo places most next1 past told1 told2 log1 log2 mid new →
+      RoundDoes places most next next1 past told0 told2 log log2 old new
+  round_is upto next1 told0 told1 told2 log1 log2 mid new past woke a b = record {
+    round = record { moment = moment; arrivals = a.arrivals; turns = b.turns };
+    tells = b.tells ∙ ap (option_map (λ es. es ++ flat_map turn_entries b.turns)) (a.tells ∙ ap (option_map (λ es. es ++ flat_map arrival_entries a.arrivals)) woke
+            ∙ more_twice told0 (Woke moment ∷ []) (flat_map arrival_entries a.arrivals))
+        ∙ more_twice told0 (Woke moment ∷ flat_map arrival_entries a.arrivals) (flat_map turn_entries b.turns);
+    added = b.added ∙ ap (λ l. with_lines l (flat_map (λ (t : TurnOf). t.lines) b.turns)) a.added
+        ∙ lines_both log (flat_map (λ (x : Arrival). x.lines) a.arrivals) (flat_map (λ (t : TurnOf). t.lines) b.turns);
+    is_round = record {
+      arrive = a.come;
+      in_turn = b.in_turn ∙ a.seats;
+      each = b.each;
+      counts = a.counts;
+      stay = b.stay;
+    };
+    keeps = b.keeps;
+  }

@@ -6,7 +6,7 @@ use Rattle.std.specs.List.{AllByRecursion, flat_map}
 use Rattle.std.specs.Prelude.{Bool, List, None, Option, Some, [], false, if◌then◌else◌, length, map, option_map, slice_get, true, ℕ, ◌++◌, ◌+◌, ◌<◌}
 use Rattle.std.specs.Prelude.{◌∷◌, ◌≡◌, ◌≤◌, ◌==◌}
 use Rattle.cf_serve.specs.Phase.{MayTurn, Phase, StandsAs}
-use Rattle.cf_serve.specs.Rounds.{AreArrivals, AreTurns, Arrival, IsTurn, Seat, TurnOf, answers_in, arrival_entries, ends_in, lines_in, stays, turn_entries}
+use Rattle.cf_serve.specs.Rounds.{AreArrivals, AreTurns, Arrival, IsRound, IsTurn, Round, Seat, TurnOf, answers_in, arrival_entries, ends_in, lines_in, round_entries, round_lines, stays, turn_entries}
 use Rattle.cf_serve.specs.Session.{EndsSo, Listening}
 use Rattle.cf_serve.specs.declared.end.SessionEnd.{SessionEnd}
 
@@ -119,3 +119,12 @@ pub record Arrive (places : List Listening) (most moment from upto next next_aft
   pub seats : seats_of new ≡ seats_of old ++ map (λ (a : Arrival). a.seat) arrivals
   pub counts : next_after ≡ next + length arrivals
   pub keeps : (past : List TurnOf) → Keeps places most next past old → Keeps places most next_after past new
+
+-- a whole round, whatever came before
+pub record RoundDoes (places : List Listening) (most next next_after : ℕ) (past : List TurnOf) (told told_after : Option (List LinksEntry))
+    (log log_after : Option (List (List ℕ))) (old new : List Phase) : Type 0 where
+  pub round : Round
+  pub tells : told_after ≡ option_map (λ entries. entries ++ round_entries round) told
+  pub added : log_after ≡ with_lines log (round_lines round)
+  pub is_round : IsRound places next (seats_of old) round next_after (seats_of new)
+  pub keeps : Keeps places most next_after (past ++ round.turns) new

@@ -2,11 +2,13 @@
 #![tactic(auto)]
 
 mod end;
+mod fault;
 mod laws;
 mod session;
 mod table;
 
 pub use end::SessionEnd;
+pub use fault::ServeFault;
 pub use laws::sessions_are_isolated;
 pub use session::{Linked, Served, Terms};
 pub use table::{Place, Table, turn_one};

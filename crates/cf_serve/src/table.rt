@@ -1,21 +1,22 @@
 //! The sessions of a service that stand, and their turns in a round.
-ghost use Rattle.std.specs.Prelude.{◌≡◌, ◌<◌, ◌≤◌, ◌+◌, ◌-◌, false, ◌^◌, ◌++◌, ◌∷◌, [], if◌then◌else◌, IfOk, IsErr, List, OnErr, OnOk, Some, length, map, slice_get, true, vec_capacity, vec_len, ℕ};
+ghost use Rattle.std.specs.Prelude.{◌≡◌, ◌<◌, ◌≤◌, ◌+◌, ◌-◌, false, ◌^◌, ◌++◌, ◌∷◌, [], if◌then◌else◌, IfOk, Err, IsErr, List, OnErr, OnOk, Some, length, map, slice_get, true, vec_capacity, vec_len, ℕ};
 ghost use Rattle.cf_lane.specs.Handled.{WritesLog};
 ghost use Rattle.cf_links.specs.Links.{LinksPlace};
 ghost use Rattle.cf_outside.specs.Desk.{DeskValue};
-ghost use Rattle.cf_outside.specs.Faults.{HasCause};
+ghost use Rattle.cf_outside.specs.Faults.{HasCause, Rose};
 ghost use Rattle.cf_outside.specs.Pair.{Entry};
 ghost use Rattle.cf_policy.specs.Within.{IsAssetWithin};
 ghost use Rattle.cf_serve.specs.Phase.{KeepsPlace, MayTurn, Phase, SeatDoes, StandsAs, listening_at, listening_of, listenings, phase_of};
 ghost use Rattle.cf_serve.specs.Rounds.{TurnOf, has_place};
-ghost use Rattle.cf_serve.specs.Table.{Arrive, IsTable, Keeps, MayLeave, StepDoes, TurnsDo, new_phase, seats_of};
+ghost use Rattle.cf_serve.specs.Table.{Arrive, IsTable, Keeps, MayLeave, RoundDoes, StepDoes, TurnsDo, new_phase, seats_of};
 ghost use Rattle.cf_serve.specs.declared.table.Place.{Place as PlaceOf};
 ghost use Rattle.std.specs.List.{AllByRecursion};
 
+use crate::fault::ServeFault;
 use crate::session::{Served, Terms};
 use cf_audit::What;
 use cf_links::{ArriveAnswer, Service};
-use cf_outside::Desk;
+use cf_outside::{Desk, MomentAnswer};
 use cf_policy::Asset;
 use cf_relay::log_line;
 use cf_view::{Endpoint, WriteFault};
@@ -255,5 +256,81 @@ impl Table {
         };
         let _ = self.sessions.push(served);
         self.next += 1;
+    }
+
+    /// Takes a client at each listening place that has one, and a place for it.
+    fn arrivals<L: Service, D: Desk>(
+        &mut self,
+        places: &[Place<'_>],
+        moment: u64,
+        links: &mut L,
+        desk: &mut D,
+    ) -> Result<(), WriteFault>
+        requires few { length places.now ≤ 256 }
+        requires room { 256 ≤ vec_capacity self.old.sessions }
+        requires free { (session : ℕ) → self.old.next ≤ session → LinksPlace.serves (L.place links.old) session ≡ false }
+        requires within { AllByRecursion (λ place. IsAssetWithin (PlaceOf.asset place).now) places.now }
+        requires whole { DeskValue.whole (D.value desk.old) ≡ true }
+        ensures table { (most : ℕ) → IsTable (listenings places.now) most (LinksPlace.serves (L.place links.old)) self.old.next
+            (map phase_of self.old.sessions.items) → IsTable (listenings places.now) most (LinksPlace.serves (L.place links.new))
+            self.new.next (map phase_of self.new.sessions.items) }
+        ensures does { OnOk result ((most : ℕ) → Arrive (listenings places.now) most moment 0 (length places.now) self.old.next self.new.next
+            (L.told links.old) (L.told links.new) (DeskValue.lines (D.value desk.old)) (DeskValue.lines (D.value desk.new))
+            (map phase_of self.old.sessions.items) (map phase_of self.new.sessions.items)) }
+        ensures room { vec_capacity self.old.sessions ≤ vec_capacity self.new.sessions }
+        ensures whole { OnOk result (DeskValue.whole (D.value desk.new) ≡ true) }
+        ensures log { WritesLog (D.value desk.old) (D.value desk.new) }
+        ensures cause { HasCause (DeskValue.faults (D.value desk.old)) (DeskValue.faults (D.value desk.new)) (IsErr result) }
+    {
+        for place in 0..places.len() {
+            self.arrive(place, places, moment, links, desk)?;
+        }
+        Ok(())
+    }
+
+    /// One round: a client at most is taken at each place, and then each session has its turn.
+    pub fn round<L: Service, D: Desk>(
+        &mut self,
+        alloc: Global,
+        places: &[Place<'_>],
+        most: u64,
+        links: &mut L,
+        desk: &mut D,
+    ) -> Result<(), ServeFault>
+        requires few { length places.now ≤ 256 }
+        requires room { 256 ≤ vec_capacity self.old.sessions }
+        requires table { IsTable (listenings places.now) most (LinksPlace.serves (L.place links.old)) self.old.next
+            (map phase_of self.old.sessions.items) }
+        requires within { AllByRecursion (λ place. IsAssetWithin (PlaceOf.asset place).now) places.now }
+        requires most { 0 < most }
+        requires whole { DeskValue.whole (D.value desk.old) ≡ true }
+        ensures table { OnOk result (IsTable (listenings places.now) most (LinksPlace.serves (L.place links.new)) self.new.next
+            (map phase_of self.new.sessions.items)) }
+        ensures does { OnOk result ((past : List TurnOf)
+            → Keeps (listenings places.now) most self.old.next past (map phase_of self.old.sessions.items)
+            → RoundDoes (listenings places.now) most self.old.next self.new.next past (L.told links.old) (L.told links.new)
+            (DeskValue.lines (D.value desk.old)) (DeskValue.lines (D.value desk.new))
+            (map phase_of self.old.sessions.items) (map phase_of self.new.sessions.items)) }
+        ensures leave { OnErr result (MayLeave (LinksPlace.serves (L.place links.new)) self.new.next (map phase_of self.new.sessions.items)) }
+        ensures room { vec_capacity self.old.sessions ≤ vec_capacity self.new.sessions }
+        ensures whole { OnOk result (DeskValue.whole (D.value desk.new) ≡ true) }
+        ensures log { WritesLog (D.value desk.old) (D.value desk.new) }
+        ensures write { HasCause (DeskValue.faults (D.value desk.old)) (DeskValue.faults (D.value desk.new))
+            (result ≡ Err ServeFault.Write) }
+        ensures loops { result ≡ Err ServeFault.Loop → Rose (L.round_faults links.old) (L.round_faults links.new) }
+        ensures memory { result ≡ Err ServeFault.NoMemory → ⊥ }
+    {
+        let moment = match links.wait() {
+            MomentAnswer::Told(moment) => moment,
+            MomentAnswer::Failed => return Err(ServeFault::Loop),
+        };
+        match self.arrivals(places, moment, links, desk) {
+            Ok(()) => {}
+            Err(_) => return Err(ServeFault::Write),
+        }
+        match self.turns(alloc, places, moment, most, links, desk) {
+            Ok(()) => Ok(()),
+            Err(_) => Err(ServeFault::Write),
+        }
     }
 }
