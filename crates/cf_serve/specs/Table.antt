@@ -3,12 +3,14 @@ use Rattle.cf_links.specs.Links.{LinksEntry}
 use Rattle.cf_lane.specs.Log.{with_lines}
 use Rattle.cf_view.specs.declared.Endpoint.{Endpoint}
 use Rattle.std.specs.List.{AllByRecursion, flat_map}
-use Rattle.std.specs.Prelude.{Bool, List, None, Option, Some, [], false, if◌then◌else◌, length, map, option_map, slice_get, true, ℕ, ◌++◌, ◌+◌, ◌<◌}
+use Rattle.std.specs.Prelude.{Bool, Err, Ok, Result, List, None, Option, Some, [], false, if◌then◌else◌, length, map, option_map, slice_get, true, ℕ, ◌++◌, ◌+◌, ◌<◌}
 use Rattle.std.specs.Prelude.{◌∷◌, ◌≡◌, ◌≤◌, ◌==◌}
 use Rattle.cf_serve.specs.Phase.{MayTurn, Phase, StandsAs}
-use Rattle.cf_serve.specs.Rounds.{AreArrivals, AreTurns, Arrival, IsRound, IsTurn, Round, Seat, TurnOf, answers_in, arrival_entries, ends_in, lines_in, round_entries, round_lines, stays, turn_entries}
+use Rattle.cf_serve.specs.Rounds.{AreArrivals, AreRounds, AreTurns, Arrival, IsRound, IsTurn, Round, Seat, TurnOf, answers_in, arrival_entries, ends_in, lines_in, round_entries, round_lines, stays, turn_entries, turns_of}
 use Rattle.cf_serve.specs.Session.{EndsSo, Listening}
 use Rattle.cf_serve.specs.declared.end.SessionEnd.{SessionEnd}
+use Rattle.cf_serve.specs.declared.fault.ServeFault.{ServeFault}
+use Rattle.cf_serve.specs.declared.fault.ServeFault.TheVariants as fault
 
 -- numbers count up, from one on and below another
 abbrev pub IsBetween : (low high : ℕ) → List Phase → Type 0
@@ -128,3 +130,19 @@ pub record RoundDoes (places : List Listening) (most next next_after : ℕ) (pas
   pub added : log_after ≡ with_lines log (round_lines round)
   pub is_round : IsRound places next (seats_of old) round next_after (seats_of new)
   pub keeps : Keeps places most next_after (past ++ round.turns) new
+
+-- round after round
+pub record RoundsDo (places : List Listening) (most next next_after : ℕ) (past : List TurnOf) (told told_after : Option (List LinksEntry))
+    (log log_after : Option (List (List ℕ))) (old new : List Phase) : Type 0 where
+  pub rounds : List Round
+  pub tells : told_after ≡ option_map (λ entries. entries ++ flat_map round_entries rounds) told
+  pub added : log_after ≡ with_lines log (flat_map round_lines rounds)
+  pub in_turn : AreRounds places next (seats_of old) rounds next_after (seats_of new)
+  pub keeps : Keeps places most next_after (past ++ turns_of rounds) new
+
+-- the service goes on, or its wait failed: all rounds were whole
+abbrev pub IfWhole : Result Unit ServeFault → Type 0 → Type 0
+IfWhole (Ok done) all = all
+IfWhole (Err fault.Loop) all = all
+IfWhole (Err fault.Write) all = Unit {0}
+IfWhole (Err fault.NoMemory) all = Unit {0}

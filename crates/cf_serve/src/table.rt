@@ -8,7 +8,7 @@ ghost use Rattle.cf_outside.specs.Pair.{Entry};
 ghost use Rattle.cf_policy.specs.Within.{IsAssetWithin};
 ghost use Rattle.cf_serve.specs.Phase.{KeepsPlace, MayTurn, Phase, SeatDoes, StandsAs, listening_at, listening_of, listenings, phase_of};
 ghost use Rattle.cf_serve.specs.Rounds.{TurnOf, has_place};
-ghost use Rattle.cf_serve.specs.Table.{Arrive, IsTable, Keeps, MayLeave, RoundDoes, StepDoes, TurnsDo, new_phase, seats_of};
+ghost use Rattle.cf_serve.specs.Table.{Arrive, IfWhole, IsTable, Keeps, MayLeave, RoundDoes, RoundsDo, StepDoes, TurnsDo, new_phase, seats_of};
 ghost use Rattle.cf_serve.specs.declared.table.Place.{Place as PlaceOf};
 ghost use Rattle.std.specs.List.{AllByRecursion};
 
@@ -318,6 +318,8 @@ impl Table {
         ensures write { HasCause (DeskValue.faults (D.value desk.old)) (DeskValue.faults (D.value desk.new))
             (result ≡ Err ServeFault.Write) }
         ensures loops { result ≡ Err ServeFault.Loop → Rose (L.round_faults links.old) (L.round_faults links.new) }
+        ensures still { result ≡ Err ServeFault.Loop → (self.new ≡ self.old) × (L.told links.new ≡ L.told links.old)
+            × (D.value desk.new ≡ D.value desk.old) × (L.place links.new ≡ L.place links.old) }
         ensures memory { result ≡ Err ServeFault.NoMemory → ⊥ }
     {
         let moment = match links.wait() {
@@ -332,5 +334,43 @@ impl Table {
             Ok(()) => Ok(()),
             Err(_) => Err(ServeFault::Write),
         }
+    }
+
+    /// Round after round, until a line fails or the wait does.
+    pub fn rounds<L: Service, D: Desk>(
+        &mut self,
+        alloc: Global,
+        places: &[Place<'_>],
+        most: u64,
+        links: &mut L,
+        desk: &mut D,
+    ) -> Result<(), ServeFault>
+        requires few { length places.now ≤ 256 }
+        requires room { 256 ≤ vec_capacity self.old.sessions }
+        requires table { IsTable (listenings places.now) most (LinksPlace.serves (L.place links.old)) self.old.next
+            (map phase_of self.old.sessions.items) }
+        requires within { AllByRecursion (λ place. IsAssetWithin (PlaceOf.asset place).now) places.now }
+        requires most { 0 < most }
+        requires whole { DeskValue.whole (D.value desk.old) ≡ true }
+        ensures table { IfWhole result (IsTable (listenings places.now) most (LinksPlace.serves (L.place links.new)) self.new.next
+            (map phase_of self.new.sessions.items)) }
+        ensures does { IfWhole result ((past : List TurnOf)
+            → Keeps (listenings places.now) most self.old.next past (map phase_of self.old.sessions.items)
+            → RoundsDo (listenings places.now) most self.old.next self.new.next past (L.told links.old) (L.told links.new)
+            (DeskValue.lines (D.value desk.old)) (DeskValue.lines (D.value desk.new))
+            (map phase_of self.old.sessions.items) (map phase_of self.new.sessions.items)) }
+        ensures leave { MayLeave (LinksPlace.serves (L.place links.new)) self.new.next (map phase_of self.new.sessions.items) }
+        ensures log { WritesLog (D.value desk.old) (D.value desk.new) }
+        ensures write { HasCause (DeskValue.faults (D.value desk.old)) (DeskValue.faults (D.value desk.new))
+            (result ≡ Err ServeFault.Write) }
+        ensures memory { result ≡ Err ServeFault.NoMemory → ⊥ }
+    {
+        for _ in 0..u64::MAX {
+            match self.round(alloc, places, most, links, desk) {
+                Ok(()) => {}
+                Err(fault) => return Err(fault),
+            }
+        }
+        Ok(())
     }
 }
