@@ -48,7 +48,7 @@ pub bounds : (low high : ℕ) (ps : List Phase) → IsBetween low high ps → lo
 bounds low high [] h = h
 bounds low high (p ∷ ps) (l, h) = let b : p.seat.session + 1 ≤ high = bounds (p.seat.session + 1) high ps h in omega (arith, l, b)
 
-lower : (low low' high : ℕ) (ps : List Phase) → low' ≤ low → IsBetween low high ps → IsBetween low' high ps
+pub lower : (low low' high : ℕ) (ps : List Phase) → low' ≤ low → IsBetween low high ps → IsBetween low' high ps
 lower low low' high [] h b = omega (arith, h, b)
 lower low low' high (p ∷ ps) h (l, b) = (omega (arith, h, l), b)
 

@@ -1,19 +1,22 @@
 -- The turns of a round, one after the other.
 use Rattle.std.proofs.Common.{Bool, List, None, Option, Some, [], ap, arith, length, map, refl, subst, sym, true, false, ℕ, ◌++◌, ◌+◌, ◌<◌, ◌≤◌, ◌∙◌, ◌∷◌, ◌≡◌, if◌then◌else◌}
-use Rattle.std.specs.Prelude.{option_map}
+use Rattle.std.specs.Prelude.{option_map, ◌==◌}
 use Rattle.std.specs.List.{AllByRecursion, flat_map}
 use Rattle.std.proofs.lemmas.Grind.{flat_map-append}
 use Rattle.std.proofs.lemmas.List.{append-nil, append_assoc, map-append, length-append}
 use Rattle.std.proofs.Math.Seq.{drop-append_seam, take-append_seam}
 use Rattle.std.specs.Prelude.{drop, take}
 use Rattle.cf_lane.specs.Log.{with_lines}
-use Rattle.cf_links.specs.Links.{LinksEntry}
+use Rattle.cf_links.specs.Links.{Left, LinksEntry, LinksPlace}
+use Rattle.cf_links.specs.Service.{LosesSession}
 use Rattle.cf_relay.proofs.Lined.{lines_both, lines_none}
-use Rattle.cf_serve.proofs.Numbers.{all_map}
-use Rattle.cf_serve.specs.Phase.{Phase}
+use Rattle.cf_serve.proofs.Numbers.{all_map, all_zip, lower, others_after}
+use Rattle.cf_serve.specs.Phase.{Phase, phase_of}
 use Rattle.cf_serve.specs.Rounds.{AreTurns, IsTurn, Seat, TurnOf, stays, turn_entries}
 use Rattle.cf_serve.specs.Session.{Listening}
-use Rattle.cf_serve.specs.Table.{IsTable, Keeps, MayGo, MayLeave, StepDoes, TurnsBegin, TurnsDo}
+use Rattle.cf_serve.specs.Table.{IsTable, Keeps, MayGo, MayLeave, StepDoes, TurnsBegin, TurnsDo, seats_of}
+use Rattle.cf_serve.specs.Served.{left_of}
+use Rattle.cf_serve.specs.declared.session.Served.{Served}
 
 -- what may be given a turn may be left
 pub may_leave : (places : List Listening) (most next : ℕ) (serves : ℕ → Bool) (ps : List Phase) → IsTable places most serves next ps → MayLeave serves next ps
@@ -130,3 +133,21 @@ within_on index len len' false is e h = cc
 pub within_off : (index len len' : ℕ) (stays_on : Bool) → stays_on ≡ false → len' + (if stays_on then 0 else 1) ≡ len → index < len → index ≤ len'
 within_off index len len' true is e h = cc
 within_off index len len' false is e h = omega (arith, e, h)
+
+-- one session is left, and then the others
+pub leave_one : (next : ℕ) (old new : LinksPlace) (p : Phase) (ps : List Phase) → MayLeave old.serves next (p ∷ ps) → LosesSession p.seat.session old new → MayLeave new.serves next ps
+leave_one next old new p ps m lost = record {
+  ordered = lower (p.seat.session + 1) 0 next ps (omega arith) m.ordered.1;
+  served = all_zip (λ (q : Phase). (p.seat.session == q.seat.session) ≡ false) (λ (q : Phase). old.serves q.seat.session ≡ true) (λ (q : Phase). new.serves q.seat.session ≡ true) ps
+      (λ q other h. lost.others q.seat.session other ∙ h) (others_after next p ps m.ordered.1) m.served.1;
+}
+
+pub left_more : (told mid after : Option (List LinksEntry)) (xs : List Served) (x : Served) →
+    mid ≡ option_map (λ es. es ++ left_of (seats_of (map phase_of xs))) told → after ≡ option_map (λ es. es ++ Left x.number ∷ []) mid →
+    after ≡ option_map (λ es. es ++ left_of (seats_of (map phase_of (xs ++ x ∷ [])))) told
+left_more told mid after xs x e f =
+    f ∙ ap (option_map (λ es. es ++ Left x.number ∷ [])) e ∙ more_twice told (left_of (seats_of (map phase_of xs))) (Left x.number ∷ [])
+    ∙ ap (λ (ls : List LinksEntry). option_map (λ es. es ++ ls) told)
+        (sym (ap (λ (ps : List Phase). left_of (seats_of ps)) (map-append phase_of xs (x ∷ []))
+            ∙ ap left_of (map-append (λ (p : Phase). p.seat) (map phase_of xs) (phase_of x ∷ []))
+            ∙ map-append (λ (s : Seat). Left s.session) (seats_of (map phase_of xs)) ((phase_of x).seat ∷ [])))

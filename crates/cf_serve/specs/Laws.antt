@@ -8,6 +8,7 @@ use Rattle.std.specs.Prelude.{Bool, List, [], ◌∷◌, false, true, ℕ, ◌�
 use Rattle.cf_serve.specs.Rounds.{ends_of, own_lines}
 use Rattle.cf_serve.specs.Served.{IsServed}
 use Rattle.cf_serve.specs.Session.{IsSession, Listening}
+use Rattle.cf_serve.specs.declared.table.Place.{Place}
 use Rattle.cf_serve.specs.declared.end.SessionEnd.{SessionEnd}
 use Rattle.cf_serve.specs.declared.end.SessionEnd.TheVariants as end
 
@@ -35,7 +36,7 @@ EachIsAlone =
 -- and their lines are the same. The other sessions, their number and their order may differ in every way
 abbrev pub IsolatesSessions : Type 0
 IsolatesSessions =
-    (places others : List Listening) (at : Listening) (most : ℕ) (entries other_entries : List LinksEntry) (lines other_lines : List (List ℕ))
+    (places others : List Place) (at : Listening) (most : ℕ) (entries other_entries : List LinksEntry) (lines other_lines : List (List ℕ))
     (one : IsServed places most entries lines) (two : IsServed others most other_entries other_lines) (k l : ℕ) (client other_client : Endpoint)
     → IsSession at most client (answers_of k entries) (lines_in k (turns_of one.rounds)) (ends_in k (turns_of one.rounds))
     → IsSession at most other_client (answers_of l other_entries) (lines_in l (turns_of two.rounds)) (ends_in l (turns_of two.rounds))

@@ -6,9 +6,10 @@ mod fault;
 mod laws;
 mod session;
 mod table;
+mod top;
 
 pub use end::SessionEnd;
 pub use fault::ServeFault;
 pub use laws::sessions_are_isolated;
-pub use session::{Linked, Served, Terms};
-pub use table::{Place, Table, turn_one};
+pub use table::Place;
+pub use top::serve_desk;

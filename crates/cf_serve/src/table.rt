@@ -1,5 +1,5 @@
 //! The sessions of a service that stand, and their turns in a round.
-ghost use Rattle.std.specs.Prelude.{◌≡◌, ◌<◌, ◌≤◌, ◌+◌, ◌-◌, false, ◌^◌, ◌++◌, ◌∷◌, [], if◌then◌else◌, IfOk, Err, IsErr, List, OnErr, OnOk, Some, length, map, slice_get, true, vec_capacity, vec_len, ℕ};
+ghost use Rattle.std.specs.Prelude.{◌≡◌, ◌<◌, ◌≤◌, ◌+◌, ◌-◌, false, ◌^◌, ◌++◌, ◌∷◌, [], if◌then◌else◌, IfOk, Err, IsErr, List, OnErr, OnOk, Some, length, map, option_map, slice_get, true, vec_capacity, vec_len, ℕ};
 ghost use Rattle.cf_lane.specs.Handled.{WritesLog};
 ghost use Rattle.cf_links.specs.Links.{LinksPlace};
 ghost use Rattle.cf_outside.specs.Desk.{DeskValue};
@@ -7,6 +7,7 @@ ghost use Rattle.cf_outside.specs.Faults.{HasCause, Rose};
 ghost use Rattle.cf_outside.specs.Pair.{Entry};
 ghost use Rattle.cf_policy.specs.Within.{IsAssetWithin};
 ghost use Rattle.cf_serve.specs.Phase.{KeepsPlace, MayTurn, Phase, SeatDoes, StandsAs, listening_at, listening_of, listenings, phase_of};
+ghost use Rattle.cf_serve.specs.Served.{left_of};
 ghost use Rattle.cf_serve.specs.Rounds.{TurnOf, has_place};
 ghost use Rattle.cf_serve.specs.Table.{Arrive, IfWhole, IsTable, Keeps, MayLeave, RoundDoes, RoundsDo, StepDoes, TurnsDo, new_phase, seats_of};
 ghost use Rattle.cf_serve.specs.declared.table.Place.{Place as PlaceOf};
@@ -20,7 +21,7 @@ use cf_outside::{Desk, MomentAnswer};
 use cf_policy::Asset;
 use cf_relay::log_line;
 use cf_view::{Endpoint, WriteFault};
-use std::alloc::Global;
+use std::alloc::{AllocError, Global};
 
 /// How many sessions stand at most. This project's own choice.
 const SESSION_LIMIT: usize = 256;
@@ -37,9 +38,10 @@ pub struct Place<'a> {
 }
 
 /// A listening place by its number.
-fn place_of<'a>(places: &[Place<'a>], number: usize) -> Place<'a>
+pub(crate) fn place_of<'a>(places: &[Place<'a>], number: usize) -> Place<'a>
     requires number { number < length places.now }
     requires within { AllByRecursion (λ place. IsAssetWithin (PlaceOf.asset place).now) places.now }
+    ensures is { slice_get places.now number ≡ Some result }
     ensures place { slice_get (listenings places.now) number ≡ Some (listening_at result) }
     ensures within { IsAssetWithin result.asset.now }
 {
@@ -95,6 +97,26 @@ pub struct Table {
 }
 
 impl Table {
+    /// No sessions, and room for all that may stand.
+    pub fn new(alloc: Global) -> Result<Table, AllocError>
+        ensures none { IfOk result (λ table. (Table.sessions table).items ≡ []) }
+        ensures next { IfOk result (λ table. Table.next table ≡ 0) }
+        ensures room { IfOk result (λ table. 256 ≤ vec_capacity (Table.sessions table)) }
+    {
+        let sessions = Vec::with_capacity(alloc, SESSION_LIMIT)?;
+        Ok(Table { sessions, next: 0 })
+    }
+
+    /// Leaves every session.
+    pub fn leave_all<L: Service>(&self, links: &mut L)
+        requires leave { MayLeave (LinksPlace.serves (L.place links.old)) self.now.next (map phase_of self.now.sessions.items) }
+        ensures told { L.told links.new ≡ option_map (λ es. es ++ left_of (seats_of (map phase_of self.now.sessions.items))) (L.told links.old) }
+    {
+        for served in self.sessions.iter() {
+            links.leave(served.number);
+        }
+    }
+
     /// Gives the session of a place its turn; it is taken out where it ends. Answers whether it stays.
     pub fn turn_at<L: Service, D: Desk>(
         &mut self,
