@@ -13,10 +13,10 @@ use Rattle.cf_view.specs.declared.WriteFault.{WriteFault}
 use Rattle.cf_serve.proofs.Keeping.{part_none}
 use Rattle.cf_serve.proofs.Numbers.{all_join, all_map, all_zip, above, below, members}
 use Rattle.cf_serve.proofs.Rounding.{more_none, more_twice}
-use Rattle.cf_serve.specs.Phase.{Phase, StandsAs}
-use Rattle.cf_serve.specs.Rounds.{Arrival, AreArrivals, Seat, TurnOf, answers_in, arrival_entries, ends_in, turn_entries, full_line, full_lines, has_place, lines_in}
-use Rattle.cf_serve.specs.Session.{EndsSo, Listening}
-use Rattle.cf_serve.specs.Table.{Arrive, IfOver, IsBetween, IsHeld, IsOver, IsTable, Keeps, MayGo, RoundDoes, TurnsDo, new_phase, seats_of}
+use Rattle.cf_serve.specs.Phase.{Phase}
+use Rattle.cf_serve.specs.Rounds.{Arrival, AreArrivals, Seat, TurnOf, arrival_entries, turn_entries, full_line, full_lines, has_place}
+use Rattle.cf_serve.specs.Session.{Listening}
+use Rattle.cf_serve.specs.Table.{Arrive, IfOver, IsBetween, IsHeld, IsTable, Keeps, MayGo, RoundDoes, TurnsDo, new_phase, seats_of}
 use Rattle.cf_serve.specs.declared.end.SessionEnd.{SessionEnd}
 
 one_more : (low next : ℕ) (ps : List Phase) (p : Phase) → p.seat.session ≡ next → IsBetween low next ps → IsBetween low (next + 1) (ps ++ p ∷ [])
@@ -31,8 +31,8 @@ module _ (places : List Listening) (most next place : ℕ) (client : Endpoint) (
     ordered = one_more 0 next ps (new_phase next place client) refl t.ordered;
     each = all_join (MayGo places most new.serves) ps (new_phase next place client ∷ [])
         (all_zip (λ (q : Phase). (0 ≤ q.seat.session) × (q.seat.session < next)) (MayGo places most old.serves) (MayGo places most new.serves) ps
-            (λ q h m. record { placed = m.placed; may = m.may; served = gets.others q.seat.session (above next q.seat.session h.1) ∙ m.served })
-            (members 0 next ps t.ordered) t.each)
+        (λ q h m. record { placed = m.placed; may = m.may; served = gets.others q.seat.session (above next q.seat.session h.1) ∙ m.served })
+        (members 0 next ps t.ordered) t.each)
         (record { placed = placed; may = λ at is. tt; served = gets.served }, tt);
     free = λ session h. gets.others session (below next session (omega (arith, h))) ∙ t.free session (omega (arith, h));
   }
@@ -56,11 +56,13 @@ module _ (places : List Listening) (most next place : ℕ) (client : Endpoint) (
     pub keeps_new : Keeps places most (next + 1) past (ps ++ new_phase next place client ∷ [])
     keeps_new = record {
       early = all_map (λ (t : TurnOf). t.seat.session < next) (λ (t : TurnOf). t.seat.session < next + 1) past (λ t h. omega (arith, h)) keeps.early;
-      held = all_join (IsHeld places most past) ps (new_phase next place client ∷ []) keeps.held
-          (record {
-            no_end = part_none (λ (t : TurnOf). option_to_list t.end) next past fresh;
-            stands = λ at is. (part_none (λ (t : TurnOf). t.answers) next past fresh, part_none (λ (t : TurnOf). t.lines) next past fresh);
-          }, tt);
+      held = all_join (IsHeld places most past) ps (new_phase next place client ∷ []) keeps.held (
+        record {
+          no_end = part_none (λ (t : TurnOf). option_to_list t.end) next past fresh;
+          stands = λ at is. (part_none (λ (t : TurnOf). t.answers) next past fresh, part_none (λ (t : TurnOf). t.lines) next past fresh);
+        },
+        tt,
+      );
       over = all_zip (λ (t : TurnOf). t.seat.session < next) (λ (t : TurnOf). IfOver places most past ps t t.end)
           (λ (t : TurnOf). IfOver places most past (ps ++ new_phase next place client ∷ []) t t.end) past (λ t h o. over_new t t.end h o) keeps.early keeps.over;
     }
@@ -105,7 +107,7 @@ module _ (places : List Listening) (most moment place next : ℕ) (told : Option
         OnOk r (log' ≡ with_lines log (full_line (Some at) client moment)) → OnOk r (Arrive places most moment place (place + 1) next next' told after log log' ps new)
     came_last at there full (Ok u) added =
         came_with (full_line (Some at) client moment) added
-            (ap (λ (o : Option Listening). full_line o client moment) (sym there) ∙ ap (λ (b : Bool). if b then [] else full_line (slice_get places place) client moment) (sym full))
+        (ap (λ (o : Option Listening). full_line o client moment) (sym there) ∙ ap (λ (b : Bool). if b then [] else full_line (slice_get places place) client moment) (sym full))
     came_last at there full (Err e) added = tt
 
 pub for_all : {E : Type 0} (P : ℕ → Type 0) (r : Result Unit E) → ((most : ℕ) → OnOk r (P most)) → OnOk r ((most : ℕ) → P most)
@@ -124,13 +126,24 @@ come_join : (places : List Listening) (moment from upto next : ℕ) (standing : 
     AreArrivals places moment upto (next + length cs) (standing ++ map (λ (a : Arrival). a.seat) cs) bs → AreArrivals places moment from next standing (cs ++ bs)
 come_join places moment from upto next standing [] bs h come below later =
     lower_from places moment upto from next standing bs h
-        (subst (λ n. AreArrivals places moment upto n standing bs) (omega arith)
-            (subst (λ (ss : List Seat). AreArrivals places moment upto (next + length {A = Arrival} []) ss bs) (append-nil standing) later))
-come_join places moment from upto next standing (a ∷ cs) bs h (f, (e, (r, (l, rest)))) (b, below) later =
-    (f, (e, (r, (l, come_join places moment (a.seat.place + 1) upto (next + 1) (standing ++ a.seat ∷ []) cs bs (omega (arith, b)) rest below
-        (subst (λ n. AreArrivals places moment upto n ((standing ++ a.seat ∷ []) ++ map (λ (x : Arrival). x.seat) cs) bs) (omega arith)
+    (subst (λ n. AreArrivals places moment upto n standing bs) (omega arith)
+    (subst (λ (ss : List Seat). AreArrivals places moment upto (next + length {A = Arrival} []) ss bs) (append-nil standing) later))
+come_join places moment from upto next standing (a ∷ cs) bs h (f, (e, (r, (l, rest)))) (b, below) later = (
+  f,
+  (
+    e,
+    (
+      r,
+      (
+        l,
+        come_join places moment (a.seat.place + 1) upto (next + 1) (standing ++ a.seat ∷ []) cs bs (omega (arith, b)) rest below
+            (subst (λ n. AreArrivals places moment upto n ((standing ++ a.seat ∷ []) ++ map (λ (x : Arrival). x.seat) cs) bs) (omega arith)
             (subst (λ (ss : List Seat). AreArrivals places moment upto (next + length (a ∷ cs)) ss bs)
-                (sym (append_assoc standing (a.seat ∷ []) (map (λ (x : Arrival). x.seat) cs))) later))))))
+            (sym (append_assoc standing (a.seat ∷ []) (map (λ (x : Arrival). x.seat) cs))) later)),
+      ),
+    ),
+  ),
+)
 
 module _ (places : List Listening) (most moment next : ℕ) (told : Option (List LinksEntry)) (log : Option (List (List ℕ))) (old : List Phase) where
   pub arrive_first : Arrive places most moment 0 0 next next told told log log old old
@@ -159,7 +172,7 @@ module _ (places : List Listening) (most moment next : ℕ) (told : Option (List
         ∙ ap (with_lines log) (sym (flat_map-append (λ (x : Arrival). x.lines) a.arrivals b.arrivals));
     come = come_join places moment 0 place next (seats_of old) a.arrivals b.arrivals (omega arith) a.come a.below
         (subst (λ n. AreArrivals places moment place n (seats_of old ++ map (λ (x : Arrival). x.seat) a.arrivals) b.arrivals) a.counts
-            (subst (λ (ss : List Seat). AreArrivals places moment place next1 ss b.arrivals) a.seats b.come));
+        (subst (λ (ss : List Seat). AreArrivals places moment place next1 ss b.arrivals) a.seats b.come));
     below = all_join (λ (x : Arrival). x.seat.place < place + 1) a.arrivals b.arrivals
         (all_map (λ (x : Arrival). x.seat.place < place) (λ (x : Arrival). x.seat.place < place + 1) a.arrivals (λ x h. omega (arith, h)) a.below) b.below;
     seats = b.seats ∙ ap (λ (ss : List Seat). ss ++ map (λ (x : Arrival). x.seat) b.arrivals) a.seats
@@ -178,7 +191,7 @@ module _ (places : List Listening) (most moment next : ℕ) (told : Option (List
   round_is upto next1 told0 told1 told2 log1 log2 mid new past woke a b = record {
     round = record { moment = moment; arrivals = a.arrivals; turns = b.turns };
     tells = b.tells ∙ ap (option_map (λ es. es ++ flat_map turn_entries b.turns)) (a.tells ∙ ap (option_map (λ es. es ++ flat_map arrival_entries a.arrivals)) woke
-            ∙ more_twice told0 (Woke moment ∷ []) (flat_map arrival_entries a.arrivals))
+        ∙ more_twice told0 (Woke moment ∷ []) (flat_map arrival_entries a.arrivals))
         ∙ more_twice told0 (Woke moment ∷ flat_map arrival_entries a.arrivals) (flat_map turn_entries b.turns);
     added = b.added ∙ ap (λ l. with_lines l (flat_map (λ (t : TurnOf). t.lines) b.turns)) a.added
         ∙ lines_both log (flat_map (λ (x : Arrival). x.lines) a.arrivals) (flat_map (λ (t : TurnOf). t.lines) b.turns);

@@ -1,14 +1,14 @@
 -- One turn more: what it does to the sessions that stand, and to those that ended.
-use Rattle.std.proofs.Common.{Bool, List, None, Option, Some, [], ap, refl, subst, sym, true, false, ℕ, ◌++◌, ◌+◌, ◌<◌, ◌∙◌, ◌∷◌, ◌≡◌, if◌then◌else◌}
+use Rattle.std.proofs.Common.{Bool, List, None, Option, Some, [], ap, refl, subst, sym, true, false, ℕ, ◌++◌, ◌<◌, ◌∙◌, ◌∷◌, ◌≡◌, if◌then◌else◌}
 use Rattle.std.specs.Prelude.{◌==◌, option_to_list, slice_get}
-use Rattle.std.specs.List.{AllByRecursion, flat_map}
+use Rattle.std.specs.List.{AllByRecursion}
 use Rattle.std.proofs.lemmas.Bool.{eq-eqb, eqb-false}
 use Rattle.std.proofs.lemmas.Grind.{flat_map-append}
 use Rattle.std.proofs.lemmas.List.{append-nil}
 use Rattle.cf_outside.specs.Pair.{Entry}
 use Rattle.cf_serve.proofs.Numbers.{after_it, all_back, all_front, all_join, all_map, all_zip, before_it, differs, number_below, others_after, others_before}
 use Rattle.cf_serve.specs.Phase.{LinkedValue, Phase, StandsAs, TurnLeaves}
-use Rattle.cf_serve.specs.Rounds.{TurnOf, answers_in, ends_in, lines_in, part, stays}
+use Rattle.cf_serve.specs.Rounds.{TurnOf, answers_in, ends_in, lines_in, part}
 use Rattle.cf_serve.specs.Session.{EndsSo, Listening}
 use Rattle.cf_serve.specs.Table.{IfOver, IsBetween, IsHeld, IsOver, Keeps}
 use Rattle.cf_serve.specs.declared.end.SessionEnd.{SessionEnd}
@@ -39,9 +39,9 @@ module _ (places : List Listening) (most : ℕ) (past : List TurnOf) (t : TurnOf
     no_end = part_other (λ (u : TurnOf). option_to_list u.end) p.seat.session past t other ∙ h.no_end;
     stands = λ at is.
         subst (λ (es : List Entry). StandsAs at most es (lines_in p.seat.session (past ++ t ∷ [])) p.linked)
-            (sym (part_other (λ (u : TurnOf). u.answers) p.seat.session past t other))
-            (subst (λ (ls : List (List ℕ)). StandsAs at most (answers_in p.seat.session past) ls p.linked)
-                (sym (part_other (λ (u : TurnOf). u.lines) p.seat.session past t other)) (h.stands at is));
+        (sym (part_other (λ (u : TurnOf). u.answers) p.seat.session past t other))
+        (subst (λ (ls : List (List ℕ)). StandsAs at most (answers_in p.seat.session past) ls p.linked)
+        (sym (part_other (λ (u : TurnOf). u.lines) p.seat.session past t other)) (h.stands at is));
   }
 
   over_other : (u : TurnOf) (ps qs : List Phase) (e : SessionEnd) → (t.seat.session == u.seat.session) ≡ false →
@@ -51,9 +51,9 @@ module _ (places : List Listening) (most : ℕ) (past : List TurnOf) (t : TurnOf
     one_end = part_other (λ (x : TurnOf). option_to_list x.end) u.seat.session past t other ∙ h.one_end;
     ends = λ at is.
         subst (λ (es : List Entry). EndsSo at most u.seat.client es (lines_in u.seat.session (past ++ t ∷ [])) e)
-            (sym (part_other (λ (x : TurnOf). x.answers) u.seat.session past t other))
-            (subst (λ (ls : List (List ℕ)). EndsSo at most u.seat.client (answers_in u.seat.session past) ls e)
-                (sym (part_other (λ (x : TurnOf). x.lines) u.seat.session past t other)) (h.ends at is));
+        (sym (part_other (λ (x : TurnOf). x.answers) u.seat.session past t other))
+        (subst (λ (ls : List (List ℕ)). EndsSo at most u.seat.client (answers_in u.seat.session past) ls e)
+        (sym (part_other (λ (x : TurnOf). x.lines) u.seat.session past t other)) (h.ends at is));
   }
 
   -- the turn of this session leaves so much
@@ -78,7 +78,7 @@ module _ (places : List Listening) (most : ℕ) (past : List TurnOf) (t : TurnOf
     no_end = own_ends none ∙ ap option_to_list stands;
     stands = λ at is.
         subst (λ (es : List Entry). StandsAs at most es (lines_in t.seat.session (past ++ t ∷ [])) linked) (sym own_answers)
-            (subst (λ (ls : List (List ℕ)). StandsAs at most (answers_in t.seat.session past ++ t.answers) ls linked) (sym own_lines) (leaves at is));
+        (subst (λ (ls : List (List ℕ)). StandsAs at most (answers_in t.seat.session past ++ t.answers) ls linked) (sym own_lines) (leaves at is));
   }
 
   over_own : (linked : Option LinkedValue) (qs : List Phase) (e : SessionEnd) → t.end ≡ Some e → ends_in t.seat.session past ≡ [] →
@@ -88,7 +88,7 @@ module _ (places : List Listening) (most : ℕ) (past : List TurnOf) (t : TurnOf
     one_end = own_ends none ∙ ap option_to_list ended;
     ends = λ at is.
         subst (λ (es : List Entry). EndsSo at most t.seat.client es (lines_in t.seat.session (past ++ t ∷ [])) e) (sym own_answers)
-            (subst (λ (ls : List (List ℕ)). EndsSo at most t.seat.client (answers_in t.seat.session past ++ t.answers) ls e) (sym own_lines) (leaves at is));
+        (subst (λ (ls : List (List ℕ)). EndsSo at most t.seat.client (answers_in t.seat.session past ++ t.answers) ls e) (sym own_lines) (leaves at is));
   }
 
 flip : (a b : ℕ) → (a == b) ≡ false → (b == a) ≡ false
@@ -130,7 +130,7 @@ module _ (places : List Listening) (most next : ℕ) (past : List TurnOf) (t : T
     over_by u None h = tt
     over_by u (Some e) h =
         over_other places most past t u (before ++ it linked ∷ after) qs e
-            (all_back (λ (p : Phase). (p.seat.session == u.seat.session) ≡ false) before (it linked ∷ after) h.gone).0 (fewer u h.gone) h
+        (all_back (λ (p : Phase). (p.seat.session == u.seat.session) ≡ false) before (it linked ∷ after) h.gone).0 (fewer u h.gone) h
 
     over_past : AllByRecursion (λ (u : TurnOf). IfOver places most (past ++ t ∷ []) qs u u.end) past
     over_past = all_map (λ (u : TurnOf). IfOver places most past (before ++ it linked ∷ after) u u.end) (λ (u : TurnOf). IfOver places most (past ++ t ∷ []) qs u u.end) past
@@ -145,7 +145,7 @@ module _ (places : List Listening) (most next : ℕ) (past : List TurnOf) (t : T
   same_gone u h =
       let back = all_back (λ (p : Phase). (p.seat.session == u.seat.session) ≡ false) before (it linked ∷ after) h in
       all_join (λ (p : Phase). (p.seat.session == u.seat.session) ≡ false) before (it new ∷ after)
-          (all_front (λ (p : Phase). (p.seat.session == u.seat.session) ≡ false) before (it linked ∷ after) h) (back.0, back.1)
+      (all_front (λ (p : Phase). (p.seat.session == u.seat.session) ≡ false) before (it linked ∷ after) h) (back.0, back.1)
 
   pub keeps_stay : t.end ≡ None → Leaves places most past t new None → Keeps places most next (past ++ t ∷ []) (before ++ it new ∷ after)
   keeps_stay stands leaves = record {
@@ -160,7 +160,7 @@ module _ (places : List Listening) (most next : ℕ) (past : List TurnOf) (t : T
   fewer_gone u h =
       let back = all_back (λ (p : Phase). (p.seat.session == u.seat.session) ≡ false) before (it linked ∷ after) h in
       all_join (λ (p : Phase). (p.seat.session == u.seat.session) ≡ false) before after
-          (all_front (λ (p : Phase). (p.seat.session == u.seat.session) ≡ false) before (it linked ∷ after) h) back.1
+      (all_front (λ (p : Phase). (p.seat.session == u.seat.session) ≡ false) before (it linked ∷ after) h) back.1
 
   own_gone : AllByRecursion (λ (p : Phase). (p.seat.session == t.seat.session) ≡ false) (before ++ after)
   own_gone = all_map IsOther (λ (p : Phase). (p.seat.session == t.seat.session) ≡ false) (before ++ after) (λ p h. flip t.seat.session p.seat.session h)

@@ -22,7 +22,7 @@ use Rattle.cf_view.specs.declared.Endpoint.{Endpoint}
 use Rattle.cf_view.specs.declared.Side.{Side}
 use Rattle.cf_view.specs.declared.Side.TheVariants as side
 use Rattle.cf_serve.proofs.Turning.{closes_so, cut_so, lost_so, silent_so, told_first, open_line}
-use Rattle.cf_serve.specs.Phase.{HasTurned, LinkedValue, TurnDoes, end_of, last_value}
+use Rattle.cf_serve.specs.Phase.{LinkedValue, TurnDoes, end_of, last_value}
 use Rattle.cf_serve.specs.Session.{EndsSo, Listening}
 use Rattle.cf_serve.specs.declared.end.SessionEnd.{SessionEnd}
 use Rattle.cf_serve.specs.declared.end.SessionEnd.TheVariants as end
@@ -40,9 +40,11 @@ finish : (at : Listening) (most : ℕ) (client : Endpoint) (es all answers : Lis
     (lines : List (List ℕ)) × ((after ≡ with_lines log lines) × EndsSo at most client (es ++ answers) (own ++ lines) e)
 finish at most client es all answers own more line log mid after e last before split ends = (
   more ++ line ∷ [],
-  (last ∙ ap (λ l. with_lines l (line ∷ [])) before ∙ lines_both log more (line ∷ []),
-  subst (λ (xs : List Entry). EndsSo at most client (xs ++ answers) (own ++ (more ++ line ∷ [])) e) (sym split)
-      (subst (λ (ls : List (List ℕ)). EndsSo at most client (all ++ answers) ls e) (append_assoc own more (line ∷ [])) ends)),
+  (
+    last ∙ ap (λ l. with_lines l (line ∷ [])) before ∙ lines_both log more (line ∷ []),
+    subst (λ (xs : List Entry). EndsSo at most client (xs ++ answers) (own ++ (more ++ line ∷ [])) e) (sym split)
+        (subst (λ (ls : List (List ℕ)). EndsSo at most client (all ++ answers) ls e) (append_assoc own more (line ∷ [])) ends),
+  ),
 )
 
 -- a relay that answered neither an end nor a failed write went on
@@ -72,14 +74,17 @@ module _ (at : Listening) (most : ℕ) (few : 0 < most) (client met : Endpoint) 
     leaves = λ es own hs.
         let x = does.does (Some (open_line at met hs.moment)) (Some own) (told_first at met hs.moment hs.answers) hs.stands in (
           x.1.more,
-          (x.1.added, record {
-            moment = hs.moment;
-            count = suc hs.count;
-            answers = hs.answers ++ does.answers;
-            split = ap (λ zs. zs ++ does.answers) hs.split;
-            does = does_then at.asset most (turns hs.count) turn (told_first at met hs.moment []) hs.answers does.answers hs.does x.0;
-            stands = x.1.stands;
-          }),
+          (
+            x.1.added,
+            record {
+              moment = hs.moment;
+              count = suc hs.count;
+              answers = hs.answers ++ does.answers;
+              split = ap (λ zs. zs ++ does.answers) hs.split;
+              does = does_then at.asset most (turns hs.count) turn (told_first at met hs.moment []) hs.answers does.answers hs.does x.0;
+              stands = x.1.stands;
+            },
+          ),
         );
   }
 
@@ -94,9 +99,9 @@ module _ (at : Listening) (most : ℕ) (few : 0 < most) (client met : Endpoint) 
       leaves = λ es own hs.
           let x = does.does (Some (open_line at met hs.moment)) (Some own) (told_first at met hs.moment hs.answers) hs.stands in
           finish at most client es (told_first at met hs.moment hs.answers) does.answers own x.1.more
-              (line_about at.asset met new.moment (last_value end.Closed new.lane.admitted new.lane.refused)) d.lines d'.lines d''.lines end.Closed last x.1.added hs.split
-              (closes_so at most few met hs.moment (hs.answers ++ does.answers) new (own ++ x.1.more) x.1.stands client (suc hs.count)
-                  (does_then at.asset most (turns hs.count) turn (told_first at met hs.moment []) hs.answers does.answers hs.does x.0) fewer (both_closed new closed));
+          (line_about at.asset met new.moment (last_value end.Closed new.lane.admitted new.lane.refused)) d.lines d'.lines d''.lines end.Closed last x.1.added hs.split
+          (closes_so at most few met hs.moment (hs.answers ++ does.answers) new (own ++ x.1.more) x.1.stands client (suc hs.count)
+          (does_then at.asset most (turns hs.count) turn (told_first at met hs.moment []) hs.answers does.answers hs.does x.0) fewer (both_closed new closed));
     }
 
     -- one that stopped
@@ -109,8 +114,8 @@ module _ (at : Listening) (most : ℕ) (few : 0 < most) (client met : Endpoint) 
           let x = stops.does (Some (open_line at met hs.moment)) (Some own) (told_first at met hs.moment hs.answers) hs.stands in
           let b = does_broken at.asset most (turns hs.count) turn (told_first at met hs.moment []) hs.answers stops.answers hs.does x.0 in
           finish at most client es (told_first at met hs.moment hs.answers) stops.answers own x.1.more
-              (line_about at.asset met new.moment (last_value end.Silent new.lane.admitted new.lane.refused)) d.lines d'.lines d''.lines end.Silent last x.1.added hs.split
-              (silent_so at most few met hs.moment (hs.answers ++ stops.answers) new (own ++ x.1.more) x.1.stands.0 client (suc hs.count) b x.1.stands.1);
+          (line_about at.asset met new.moment (last_value end.Silent new.lane.admitted new.lane.refused)) d.lines d'.lines d''.lines end.Silent last x.1.added hs.split
+          (silent_so at most few met hs.moment (hs.answers ++ stops.answers) new (own ++ x.1.more) x.1.stands.0 client (suc hs.count) b x.1.stands.1);
     }
 
     losing : StopsBetween at.asset most turn stop.Link (scene old link d) (scene new link' d') → HasAdded (line_about at.asset met new.moment (last_value end.Lost new.lane.admitted new.lane.refused) ∷ []) d' d'' →
@@ -122,8 +127,8 @@ module _ (at : Listening) (most : ℕ) (few : 0 < most) (client met : Endpoint) 
           let x = stops.does (Some (open_line at met hs.moment)) (Some own) (told_first at met hs.moment hs.answers) hs.stands in
           let b = does_broken at.asset most (turns hs.count) turn (told_first at met hs.moment []) hs.answers stops.answers hs.does x.0 in
           finish at most client es (told_first at met hs.moment hs.answers) stops.answers own x.1.more
-              (line_about at.asset met new.moment (last_value end.Lost new.lane.admitted new.lane.refused)) d.lines d'.lines d''.lines end.Lost last x.1.added hs.split
-              (lost_so at most few met hs.moment (hs.answers ++ stops.answers) new (own ++ x.1.more) x.1.stands.0 client (suc hs.count) b x.1.stands.1);
+          (line_about at.asset met new.moment (last_value end.Lost new.lane.admitted new.lane.refused)) d.lines d'.lines d''.lines end.Lost last x.1.added hs.split
+          (lost_so at most few met hs.moment (hs.answers ++ stops.answers) new (own ++ x.1.more) x.1.stands.0 client (suc hs.count) b x.1.stands.1);
     }
 
     cutting : (reason : CutReason) → StopsBetween at.asset most turn (stop.Cut reason) (scene old link d) (scene new link' d') → HasAdded (line_about at.asset met new.moment (last_value (end.Cut reason) new.lane.admitted new.lane.refused) ∷ []) d' d'' →
@@ -135,8 +140,8 @@ module _ (at : Listening) (most : ℕ) (few : 0 < most) (client met : Endpoint) 
           let x = stops.does (Some (open_line at met hs.moment)) (Some own) (told_first at met hs.moment hs.answers) hs.stands in
           let b = does_broken at.asset most (turns hs.count) turn (told_first at met hs.moment []) hs.answers stops.answers hs.does x.0 in
           finish at most client es (told_first at met hs.moment hs.answers) stops.answers own x.1.more
-              (line_about at.asset met new.moment (last_value (end.Cut reason) new.lane.admitted new.lane.refused)) d.lines d'.lines d''.lines (end.Cut reason) last x.1.added hs.split
-              (cut_so at most few met hs.moment client (suc hs.count) (hs.answers ++ stops.answers) new (own ++ x.1.more) reason b x.1.stands);
+          (line_about at.asset met new.moment (last_value (end.Cut reason) new.lane.admitted new.lane.refused)) d.lines d'.lines d''.lines (end.Cut reason) last x.1.added hs.split
+          (cut_so at most few met hs.moment client (suc hs.count) (hs.answers ++ stops.answers) new (own ++ x.1.more) reason b x.1.stands);
     }
 
     stopping : (why : Stop) (closed : Bool) (e : SessionEnd) → StopsBetween at.asset most turn why (scene old link d) (scene new link' d') →

@@ -1,5 +1,5 @@
 -- A log that is written by one call after another.
-use Rattle.std.proofs.Common.{Err, Ok, Result, refl, ◌∙◌, true, ◌≡◌}
+use Rattle.std.proofs.Common.{Err, Ok, Result, refl, ◌∙◌}
 use Rattle.std.specs.Prelude.{IfErr, OnOk}
 use Rattle.cf_lane.specs.Handled.{WritesLog}
 use Rattle.cf_links.specs.LinkValue.{LinkValue}

@@ -1,5 +1,5 @@
 -- Sessions in the order of their numbers, and facts of each element of a list.
-use Rattle.std.proofs.Common.{Bool, List, [], ap, arith, refl, subst, sym, true, false, ℕ, inl, inr, ◌++◌, ◌+◌, ◌<◌, ◌≤◌, ◌∙◌, ◌∷◌, ◌≡◌}
+use Rattle.std.proofs.Common.{Bool, List, [], arith, refl, true, false, ℕ, ◌++◌, ◌+◌, ◌<◌, ◌≤◌, ◌∷◌, ◌≡◌}
 use Rattle.std.specs.Prelude.{◌==◌}
 use Rattle.std.specs.List.{AllByRecursion}
 use Rattle.std.proofs.lemmas.Bool.{eqb-true}

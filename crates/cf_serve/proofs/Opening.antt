@@ -1,5 +1,5 @@
 -- The places that were opened, one after the other.
-use Rattle.std.proofs.Common.{List, None, Option, Some, [], ap, arith, length, refl, subst, suc, sym, zero, ℕ, ◌++◌, ◌+◌, ◌∙◌, ◌∷◌, ◌≡◌}
+use Rattle.std.proofs.Common.{List, Option, Some, [], ap, arith, length, refl, sym, ℕ, ◌++◌, ◌+◌, ◌∙◌, ◌∷◌, ◌≡◌}
 use Rattle.std.specs.Prelude.{option_map, slice_get}
 use Rattle.std.proofs.lemmas.List.{length-append}
 use Rattle.std.proofs.lemmas.Option.{same_Some}
@@ -43,7 +43,7 @@ opens_more places n told told1 told2 log log1 log2 m p at o e f = record {
   all = length-append o.moments (m ∷ []) ∙ ap (λ k. k + 1) o.all;
   tells = e ∙ ap (option_map (λ es. es ++ Opened n m ∷ [])) o.tells ∙ more_twice told (opened_from 0 o.moments) (Opened n m ∷ [])
       ∙ ap (λ (xs : List LinksEntry). option_map (λ es. es ++ xs) told)
-          (ap (λ k. opened_from 0 o.moments ++ Opened k m ∷ []) (sym o.all ∙ omega arith) ∙ sym (opened_more 0 o.moments m));
+      (ap (λ k. opened_from 0 o.moments ++ Opened k m ∷ []) (sym o.all ∙ omega arith) ∙ sym (opened_more 0 o.moments m));
   added = f ∙ ap (λ l. with_lines l (line_about p.asset.now p.at m Listen ∷ [])) o.added ∙ lines_both log (listen_lines places o.moments) (line_about p.asset.now p.at m Listen ∷ [])
       ∙ ap (with_lines log) (sym (lines_more places o.moments m p (ap (slice_get places) o.all ∙ at)));
 }

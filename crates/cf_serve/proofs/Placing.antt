@@ -1,6 +1,6 @@
 -- A session in its place: the list before it, and behind it.
-use Rattle.std.proofs.Common.{Bool, List, None, Option, Some, [], ap, arith, length, map, refl, subst, suc, sym, true, false, zero, ℕ, ◌++◌, ◌+◌, ◌<◌, ◌∙◌, ◌∷◌, ◌≡◌}
-use Rattle.std.specs.Prelude.{◌==◌, slice_get}
+use Rattle.std.proofs.Common.{List, Some, [], ap, arith, length, map, refl, subst, suc, sym, zero, ℕ, ◌++◌, ◌<◌, ◌∙◌, ◌∷◌, ◌≡◌}
+use Rattle.std.specs.Prelude.{slice_get}
 use Rattle.std.specs.List.{AllByRecursion, remove}
 use Rattle.std.proofs.Math.ListN.{get_or, set}
 use Rattle.std.proofs.lemmas.List.{length-map, map-append}

@@ -1,6 +1,6 @@
 -- What comes of asking for the controller of a session.
 use Rattle.std.proofs.Common.{Err, List, None, Ok, Option, Result, Some, [], ap, refl, subst, sym, ℕ, ◌++◌, ◌<◌, ◌∙◌, ◌∷◌, ◌≡◌}
-use Rattle.std.specs.Prelude.{IfOk, option_map}
+use Rattle.std.specs.Prelude.{IfOk}
 use Rattle.std.proofs.lemmas.List.{append-nil, append_assoc}
 use Rattle.cf_links.specs.Links.{LinksEntry, Of, SessionTold, with_answers, with_entry}
 use Rattle.cf_outside.specs.Pair.{Entry, met_at}
@@ -68,9 +68,14 @@ module _ (at : Listening) (most : ℕ) (client : Endpoint) where
       answers = does.answers;
       tells = does.tells;
       leaves = λ es own h.
-          let n : (es ≡ []) × (own ≡ []) = at_none o none es own h in
-          (does.lines, (does.added, subst (λ (xs : List Entry). EndsSo at most client (xs ++ does.answers) (own ++ does.lines) e) (sym n.0)
-              (subst (λ (ls : List (List ℕ)). EndsSo at most client does.answers (ls ++ does.lines) e) (sym n.1) does.leaves)));
+          let n : (es ≡ []) × (own ≡ []) = at_none o none es own h in (
+            does.lines,
+            (
+              does.added,
+              subst (λ (xs : List Entry). EndsSo at most client (xs ++ does.answers) (own ++ does.lines) e) (sym n.0)
+                  (subst (λ (ls : List (List ℕ)). EndsSo at most client does.answers (ls ++ does.lines) e) (sym n.1) does.leaves),
+            ),
+          );
     }
 
     pub ended_turn : (o : Option LinkedValue) (v : Reached) (e : SessionEnd) → o ≡ None → v ≡ reached.Ended e →

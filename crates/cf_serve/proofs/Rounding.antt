@@ -1,7 +1,7 @@
 -- The turns of a round, one after the other.
 use Rattle.std.proofs.Common.{Bool, List, None, Option, Some, [], ap, arith, length, map, refl, subst, sym, true, false, ℕ, ◌++◌, ◌+◌, ◌<◌, ◌≤◌, ◌∙◌, ◌∷◌, ◌≡◌, if◌then◌else◌}
 use Rattle.std.specs.Prelude.{option_map, ◌==◌}
-use Rattle.std.specs.List.{AllByRecursion, flat_map}
+use Rattle.std.specs.List.{flat_map}
 use Rattle.std.proofs.lemmas.Grind.{flat_map-append}
 use Rattle.std.proofs.lemmas.List.{append-nil, append_assoc, map-append, length-append}
 use Rattle.std.proofs.Math.Seq.{drop-append_seam, take-append_seam}
@@ -12,7 +12,7 @@ use Rattle.cf_links.specs.Service.{LosesSession}
 use Rattle.cf_relay.proofs.Lined.{lines_both, lines_none}
 use Rattle.cf_serve.proofs.Numbers.{all_map, all_zip, lower, others_after}
 use Rattle.cf_serve.specs.Phase.{Phase, phase_of}
-use Rattle.cf_serve.specs.Rounds.{AreTurns, IsTurn, Seat, TurnOf, stays, turn_entries}
+use Rattle.cf_serve.specs.Rounds.{AreTurns, Seat, TurnOf, stays, turn_entries}
 use Rattle.cf_serve.specs.Session.{Listening}
 use Rattle.cf_serve.specs.Table.{IsTable, Keeps, MayGo, MayLeave, StepDoes, TurnsBegin, TurnsDo, seats_of}
 use Rattle.cf_serve.specs.Served.{left_of}
@@ -120,7 +120,7 @@ module _ (places : List Listening) (most next : ℕ) (past : List TurnOf) (told 
         index' ≡ index + (if stays_on then 1 else 0) → TurnsBegin places most next past index' told told2 log log2 old new
     turns_step next' told2 log2 new stays_on index' same step is =
         let d = subst (λ n. StepDoes places most n (past ++ b.turns) index told1 told2 log1 log2 mid new stays_on) same
-            (step (past ++ b.turns) (subst (λ n. Keeps places most n (past ++ b.turns) mid) (sym same) b.keeps)) in
+        (step (past ++ b.turns) (subst (λ n. Keeps places most n (past ++ b.turns) mid) (sym same) b.keeps)) in
         subst (λ n. TurnsBegin places most next past n told told2 log log2 old new) (sym is) (turns_on told2 log2 new stays_on d)
 
 pub no_step : (index : ℕ) → index ≡ index + 0
@@ -148,6 +148,6 @@ pub left_more : (told mid after : Option (List LinksEntry)) (xs : List Served) (
 left_more told mid after xs x e f =
     f ∙ ap (option_map (λ es. es ++ Left x.number ∷ [])) e ∙ more_twice told (left_of (seats_of (map phase_of xs))) (Left x.number ∷ [])
     ∙ ap (λ (ls : List LinksEntry). option_map (λ es. es ++ ls) told)
-        (sym (ap (λ (ps : List Phase). left_of (seats_of ps)) (map-append phase_of xs (x ∷ []))
-            ∙ ap left_of (map-append (λ (p : Phase). p.seat) (map phase_of xs) (phase_of x ∷ []))
-            ∙ map-append (λ (s : Seat). Left s.session) (seats_of (map phase_of xs)) ((phase_of x).seat ∷ [])))
+    (sym (ap (λ (ps : List Phase). left_of (seats_of ps)) (map-append phase_of xs (x ∷ []))
+    ∙ ap left_of (map-append (λ (p : Phase). p.seat) (map phase_of xs) (phase_of x ∷ []))
+    ∙ map-append (λ (s : Seat). Left s.session) (seats_of (map phase_of xs)) ((phase_of x).seat ∷ [])))

@@ -2,12 +2,11 @@
 use Rattle.std.proofs.Common.{List, None, Option, Some, [], ap, refl, subst, sym, true, false, ℕ, ◌++◌, ◌∙◌, ◌∷◌, ◌≡◌, map}
 use Rattle.std.specs.Prelude.{Bool, is_some, not, option_map}
 use Rattle.std.proofs.lemmas.List.{append-nil, append_assoc}
-use Rattle.cf_lane.specs.Log.{with_lines}
 use Rattle.cf_links.specs.Links.{Left, LinksEntry, Of, Ready, SessionTold}
 use Rattle.cf_outside.specs.Pair.{Entry}
 use Rattle.cf_relay.proofs.Lined.{lines_none}
 use Rattle.cf_serve.proofs.Reaching.{told_as}
-use Rattle.cf_serve.specs.Phase.{LinkedValue, Phase, SeatDoes, StandsAs, TurnDoes, TurnLeaves}
+use Rattle.cf_serve.specs.Phase.{LinkedValue, Phase, SeatDoes, StandsAs, TurnDoes}
 use Rattle.cf_serve.specs.Rounds.{Seat, left_by}
 use Rattle.cf_serve.specs.Session.{Listening}
 use Rattle.cf_serve.specs.declared.end.SessionEnd.{SessionEnd}

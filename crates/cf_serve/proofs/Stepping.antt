@@ -1,16 +1,14 @@
 -- One step of a round: a session in its place had its turn.
-use Rattle.std.proofs.Common.{Bool, List, None, Option, Some, [], ap, arith, length, map, refl, subst, sym, true, false, ℕ, ◌++◌, ◌<◌, ◌≤◌, ◌∙◌, ◌∷◌, ◌≡◌, if◌then◌else◌}
-use Rattle.std.specs.Prelude.{Err, Ok, OnErr, Result, is_some, not, option_map, slice_get, ◌==◌}
+use Rattle.std.proofs.Common.{Bool, List, None, Option, Some, [], ap, arith, length, refl, subst, sym, true, false, ℕ, ◌++◌, ◌<◌, ◌≤◌, ◌∙◌, ◌∷◌, ◌≡◌}
+use Rattle.std.specs.Prelude.{Err, Ok, OnErr, Result, is_some, not, slice_get, ◌==◌}
 use Rattle.std.specs.List.{AllByRecursion}
 use Rattle.std.proofs.lemmas.Option.{same_Some}
-use Rattle.cf_lane.specs.Log.{with_lines}
 use Rattle.cf_links.specs.Links.{LinksEntry, LinksPlace}
 use Rattle.cf_links.specs.Service.{LosesSession}
-use Rattle.cf_outside.specs.Pair.{Entry}
-use Rattle.cf_serve.proofs.Keeping.{Leaves, keeps_end, keeps_stay}
+use Rattle.cf_serve.proofs.Keeping.{keeps_end, keeps_stay}
 use Rattle.cf_serve.proofs.Numbers.{after_it, all_back, all_front, all_join, all_map, all_zip, before_it, number_below, others_after, others_before, with_it, without_it, below}
 use Rattle.cf_serve.specs.Phase.{KeepsPlace, LinkedValue, MayTurn, Phase, SeatDoes, StandsAs, TurnLeaves}
-use Rattle.cf_serve.specs.Rounds.{Seat, TurnOf, answers_in, lines_in, stays, turn_entries}
+use Rattle.cf_serve.specs.Rounds.{Seat, TurnOf, answers_in, lines_in, stays}
 use Rattle.cf_serve.specs.Session.{Listening}
 use Rattle.cf_serve.specs.Table.{IsBetween, IsTable, Keeps, MayGo, MayLeave, StepDoes}
 use Rattle.cf_serve.specs.declared.end.SessionEnd.{SessionEnd}
@@ -53,9 +51,11 @@ module _ (places : List Listening) (most next : ℕ) (serves : ℕ → Bool) (ps
   leave_it new serves' same = subst (λ s. MayLeave s next (before ++ record { seat = it.seat; linked = new } ∷ after)) (sym same) (record {
     ordered = with_it 0 next before (record { seat = it.seat; linked = new }) after (before_it 0 next before it after ordered_it) (after_it 0 next before it after ordered_it);
     served = all_join (λ (p : Phase). serves p.seat.session ≡ true) before (record { seat = it.seat; linked = new } ∷ after)
-        (all_map (MayGo places most serves) (λ (p : Phase). serves p.seat.session ≡ true) before (λ p m. m.served) (all_front (MayGo places most serves) before (it ∷ after) each_it))
-        (may_go.served, all_map (MayGo places most serves) (λ (p : Phase). serves p.seat.session ≡ true) after (λ p m. m.served)
-            (all_back (MayGo places most serves) before (it ∷ after) each_it).1);
+        (all_map (MayGo places most serves) (λ (p : Phase). serves p.seat.session ≡ true) before (λ p m. m.served) (all_front (MayGo places most serves) before (it ∷ after) each_it)) (
+          may_go.served,
+          all_map (MayGo places most serves) (λ (p : Phase). serves p.seat.session ≡ true) after (λ p m. m.served)
+              (all_back (MayGo places most serves) before (it ∷ after) each_it).1,
+        );
   })
 
   -- it is gone, and the links have it no longer
@@ -66,7 +66,7 @@ module _ (places : List Listening) (most next : ℕ) (serves : ℕ → Bool) (ps
     each = all_zip (λ (q : Phase). (it.seat.session == q.seat.session) ≡ false) (MayGo places most serves) (MayGo places most serves') (before ++ after)
         (λ q other h. record { placed = h.placed; may = h.may; served = others q.seat.session other ∙ h.served })
         (all_join (λ (q : Phase). (it.seat.session == q.seat.session) ≡ false) before after
-            (others_before 0 it before (before_it 0 next before it after ordered_it)) (others_after next it after (after_it 0 next before it after ordered_it)))
+        (others_before 0 it before (before_it 0 next before it after ordered_it)) (others_after next it after (after_it 0 next before it after ordered_it)))
         (all_join (MayGo places most serves) before after (all_front (MayGo places most serves) before (it ∷ after) each_it) (all_back (MayGo places most serves) before (it ∷ after) each_it).1);
     free = λ session h. others session (below_next it.seat.session next session (number_below 0 next before it after ordered_it) h) ∙ table.free session h;
   }
@@ -111,8 +111,8 @@ module _ (places : List Listening) (most next : ℕ) (past : List TurnOf) (index
       TurnLeaves at most seat.client (answers_in seat.session past ++ t.answers) (lines_in seat.session past ++ t.lines) new t.end → LeavesIt seat t end
   turn_leaves t end is leaves =
       at_place places most seat.place at is_at
-          (λ (other : Listening). TurnLeaves other most seat.client (answers_in seat.session past ++ t.answers) (lines_in seat.session past ++ t.lines) new end)
-          (subst (λ e. TurnLeaves at most seat.client (answers_in seat.session past ++ t.answers) (lines_in seat.session past ++ t.lines) new e) is leaves)
+      (λ (other : Listening). TurnLeaves other most seat.client (answers_in seat.session past ++ t.answers) (lines_in seat.session past ++ t.lines) new end)
+      (subst (λ e. TurnLeaves at most seat.client (answers_in seat.session past ++ t.answers) (lines_in seat.session past ++ t.lines) new e) is leaves)
 
   abbrev with_seat : Seat → Option LinkedValue → List Phase
   with_seat s l = before ++ record { seat = s; linked = l } ∷ after
@@ -120,12 +120,12 @@ module _ (places : List Listening) (most next : ℕ) (past : List TurnOf) (index
   kept_on : (t : TurnOf) → t.seat ≡ seat → t.end ≡ None → LeavesIt seat t None → Keeps places most next (past ++ t ∷ []) (with_seat seat new)
   kept_on t is none leaves =
       subst (λ (s : Seat). IsBetween 0 next (with_seat s linked) → Keeps places most next past (with_seat s linked) → LeavesIt s t None → Keeps places most next (past ++ t ∷ []) (with_seat s new)) is
-          (λ o k l. keeps_stay places most next past t before after linked new o k none l) ordered keeps_it leaves
+      (λ o k l. keeps_stay places most next past t before after linked new o k none l) ordered keeps_it leaves
 
   kept_out : (t : TurnOf) (e : SessionEnd) → t.seat ≡ seat → t.end ≡ Some e → LeavesIt seat t (Some e) → Keeps places most next (past ++ t ∷ []) (before ++ after)
   kept_out t e is some leaves =
       subst (λ (s : Seat). IsBetween 0 next (with_seat s linked) → Keeps places most next past (with_seat s linked) → LeavesIt s t (Some e) → Keeps places most next (past ++ t ∷ []) (before ++ after)) is
-          (λ o k l. keeps_end places most next past t before after linked new o k e some l) ordered keeps_it leaves
+      (λ o k l. keeps_end places most next past t before after linked new o k e some l) ordered keeps_it leaves
 
   abbrev Does : Bool → Type 0
   Does stays_on = SeatDoes at most (answers_in seat.session past) (lines_in seat.session past) told told' log log'

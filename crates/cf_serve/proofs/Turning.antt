@@ -1,6 +1,6 @@
 -- What a turn leaves of a session, by what its relay did and by its last line.
-use Rattle.std.proofs.Common.{List, None, Option, Some, [], ap, inl, inr, refl, subst, suc, sym, true, ℕ, ◌++◌, ◌<◌, ◌∙◌, ◌∷◌, ◌≡◌}
-use Rattle.std.proofs.lemmas.List.{append-nil, append_assoc}
+use Rattle.std.proofs.Common.{List, None, Some, [], ap, inr, subst, sym, true, ℕ, ◌++◌, ◌<◌, ◌∙◌, ◌∷◌, ◌≡◌}
+use Rattle.std.proofs.lemmas.List.{append-nil}
 use Rattle.std.proofs.lemmas.Option.{same_Some}
 use Rattle.std.specs.Option.{option_or}
 use Rattle.cf_audit.specs.Line.{Begun, Close, Cut, Lost, Silent}
@@ -18,7 +18,6 @@ use Rattle.cf_relay.specs.Ends.{GivenAll, log_of}
 use Rattle.cf_relay.specs.Relaying.{RelayingValue, is_closed, queue_to}
 use Rattle.cf_relay.specs.Stands.{GivenPrefixes, IsCounted, StandsCut, StandsFor}
 use Rattle.cf_relay.specs.Turn.{AreItemsOf, BeginsStages, DoesStages, IsRelayed, Meeting, Telling, cut_at, stages, turns}
-use Rattle.cf_relay.specs.declared.done.RelayDone.{RelayDone}
 use Rattle.cf_relay.specs.declared.done.RelayEnd.TheVariants as ends
 use Rattle.cf_view.specs.declared.Endpoint.{Endpoint}
 use Rattle.cf_view.specs.declared.Side.{Side}

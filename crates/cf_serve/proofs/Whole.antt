@@ -1,9 +1,9 @@
 -- What a service did, from its rounds.
-use Rattle.std.proofs.Common.{Bool, List, None, Option, Some, [], ap, arith, length, map, inl, inr, refl, subst, sym, true, false, ℕ, ◌++◌, ◌+◌, ◌<◌, ◌∙◌, ◌∷◌, ◌≡◌, if◌then◌else◌}
-use Rattle.std.specs.Prelude.{Err, Ok, Result, option_map, slice_get, ◌==◌}
+use Rattle.std.proofs.Common.{Bool, List, None, Option, Some, [], ap, arith, length, map, inl, inr, refl, subst, sym, true, false, ℕ, ◌++◌, ◌+◌, ◌∙◌, ◌∷◌, ◌≡◌, if◌then◌else◌}
+use Rattle.std.specs.Prelude.{Err, Ok, Result, option_map, ◌==◌}
 use Rattle.std.specs.List.{AllByRecursion, flat_map}
 use Rattle.std.proofs.lemmas.Grind.{flat_map-append}
-use Rattle.std.proofs.lemmas.List.{append-nil, append_assoc, length-map}
+use Rattle.std.proofs.lemmas.List.{append-nil, append_assoc}
 use Rattle.cf_lane.specs.Log.{with_lines}
 use Rattle.cf_links.proofs.Projection.{answers_more}
 use Rattle.cf_links.specs.Links.{LinksEntry, Of, Ready, answers_of}
@@ -12,7 +12,7 @@ use Rattle.cf_relay.proofs.Lined.{lines_both}
 use Rattle.cf_serve.proofs.Leaving.{positive}
 use Rattle.cf_serve.proofs.Numbers.{all_map, all_zip}
 use Rattle.cf_serve.proofs.Rounding.{more_twice}
-use Rattle.cf_serve.proofs.Turning.{stands_so, told_first}
+use Rattle.cf_serve.proofs.Turning.{stands_so}
 use Rattle.cf_serve.specs.Phase.{LinkedValue, MayTurn, Phase, StandsAs, listenings}
 use Rattle.cf_serve.specs.Rounds.{AreRounds, AreTurns, Arrival, IsTurn, Round, Seat, TurnOf, answers_in, arrival_entries, left_by, round_entries, round_lines, turn_entries, turns_of}
 use Rattle.cf_serve.specs.Served.{IfEnded, IsClient, OpensDo, Serves, left_of, listen_lines, opened_from}
@@ -104,7 +104,7 @@ stands_session : (at : Listening) (most : ℕ) (es : List Entry) (own : List (Li
 stands_session at most es own None h may = inl h
 stands_session at most es own (Some v) h may =
     subst (λ (xs : List Entry). StandsSo at most xs own) (sym h.split)
-        (stands_so at most (positive v.now.idle most may.0.few) v.met h.moment h.answers v.now own h.stands h.count h.does may.0.few)
+    (stands_so at most (positive v.now.idle most may.0.few) v.met h.moment h.answers v.now own h.stands h.count h.does may.0.few)
 
 all_seats : (P : Seat → Type 0) (ps : List Phase) → AllByRecursion (λ (p : Phase). P p.seat) ps → AllByRecursion P (seats_of ps)
 all_seats P [] h = tt
@@ -119,22 +119,28 @@ module _ (places : List Place) (most : ℕ) (told told1 : Option (List LinksEntr
   pub serves_none : (count : ℕ) → OpensDo places count told told1 log log1 → Serves places most told told1 log log1
   serves_none count o = (
     opened_from 0 o.moments ++ [],
-    (listen_lines places o.moments ++ [],
-    (o.tells ∙ ap (λ (xs : List LinksEntry). option_map (λ es. es ++ xs) told) (sym (append-nil (opened_from 0 o.moments))),
-    (o.added ∙ ap (with_lines log) (sym (append-nil (listen_lines places o.moments))),
-    record {
-      moments = o.moments;
-      rounds = [];
-      next = 0;
-      standing = [];
-      told = refl;
-      logged = refl;
-      opened = inr refl;
-      in_turn = (refl, refl);
-      answers = λ k. own_of_all k (listenings places) o.moments [] 0 [] [] (refl, refl);
-      ended = tt;
-      stand = tt;
-    }))),
+    (
+      listen_lines places o.moments ++ [],
+      (
+        o.tells ∙ ap (λ (xs : List LinksEntry). option_map (λ es. es ++ xs) told) (sym (append-nil (opened_from 0 o.moments))),
+        (
+          o.added ∙ ap (with_lines log) (sym (append-nil (listen_lines places o.moments))),
+          record {
+            moments = o.moments;
+            rounds = [];
+            next = 0;
+            standing = [];
+            told = refl;
+            logged = refl;
+            opened = inr refl;
+            in_turn = (refl, refl);
+            answers = λ k. own_of_all k (listenings places) o.moments [] 0 [] [] (refl, refl);
+            ended = tt;
+            stand = tt;
+          },
+        ),
+      ),
+    ),
   )
 
   pub serves_all : (next : ℕ) (told2 told3 : Option (List LinksEntry)) (log2 : Option (List (List ℕ))) (serves : ℕ → Bool) (ps : List Phase) →
@@ -143,29 +149,35 @@ module _ (places : List Place) (most : ℕ) (told told1 : Option (List LinksEntr
       Serves places most told told3 log log2
   serves_all next told2 told3 log2 serves ps o r table left = (
     opened_from 0 o.moments ++ (flat_map round_entries r.rounds ++ left_of (seats_of ps)),
-    (listen_lines places o.moments ++ flat_map round_lines r.rounds,
-    (left ∙ ap (option_map (λ es. es ++ left_of (seats_of ps))) (r.tells ∙ ap (option_map (λ es. es ++ flat_map round_entries r.rounds)) o.tells
+    (
+      listen_lines places o.moments ++ flat_map round_lines r.rounds,
+      (
+        left ∙ ap (option_map (λ es. es ++ left_of (seats_of ps))) (r.tells ∙ ap (option_map (λ es. es ++ flat_map round_entries r.rounds)) o.tells
             ∙ more_twice told (opened_from 0 o.moments) (flat_map round_entries r.rounds))
-        ∙ more_twice told (opened_from 0 o.moments ++ flat_map round_entries r.rounds) (left_of (seats_of ps))
-        ∙ ap (λ (xs : List LinksEntry). option_map (λ es. es ++ xs) told) (append_assoc (opened_from 0 o.moments) (flat_map round_entries r.rounds) (left_of (seats_of ps))),
-    (r.added ∙ ap (λ l. with_lines l (flat_map round_lines r.rounds)) o.added ∙ lines_both log (listen_lines places o.moments) (flat_map round_lines r.rounds),
-    record {
-      moments = o.moments;
-      rounds = r.rounds;
-      next = next;
-      standing = seats_of ps;
-      told = refl;
-      logged = refl;
-      opened = inl o.all;
-      in_turn = r.in_turn;
-      answers = λ k. own_of_all k (listenings places) o.moments r.rounds next (seats_of ps) (seats_of ps) r.in_turn;
-      ended = all_map (λ (t : TurnOf). IfOver (listenings places) most (turns_of r.rounds) ps t t.end) (λ (t : TurnOf). IfEnded (listenings places) most (turns_of r.rounds) t t.end)
-          (turns_of r.rounds) (λ t h. ended_by (listenings places) most (turns_of r.rounds) ps t t.end h) r.keeps.over;
-      stand = all_seats (λ (s : Seat). IsClient (listenings places) most (turns_of r.rounds) s []) ps
-          (all_zip (IsHeld (listenings places) most (turns_of r.rounds)) (MayGo (listenings places) most serves)
-              (λ (p : Phase). IsClient (listenings places) most (turns_of r.rounds) p.seat []) ps
-              (λ p h m at is. stands_session at most _ _ p.linked (h.stands at is) (m.may at is)) r.keeps.held table.each);
-    }))),
+            ∙ more_twice told (opened_from 0 o.moments ++ flat_map round_entries r.rounds) (left_of (seats_of ps))
+            ∙ ap (λ (xs : List LinksEntry). option_map (λ es. es ++ xs) told) (append_assoc (opened_from 0 o.moments) (flat_map round_entries r.rounds) (left_of (seats_of ps))),
+        (
+          r.added ∙ ap (λ l. with_lines l (flat_map round_lines r.rounds)) o.added ∙ lines_both log (listen_lines places o.moments) (flat_map round_lines r.rounds),
+          record {
+            moments = o.moments;
+            rounds = r.rounds;
+            next = next;
+            standing = seats_of ps;
+            told = refl;
+            logged = refl;
+            opened = inl o.all;
+            in_turn = r.in_turn;
+            answers = λ k. own_of_all k (listenings places) o.moments r.rounds next (seats_of ps) (seats_of ps) r.in_turn;
+            ended = all_map (λ (t : TurnOf). IfOver (listenings places) most (turns_of r.rounds) ps t t.end) (λ (t : TurnOf). IfEnded (listenings places) most (turns_of r.rounds) t t.end)
+                (turns_of r.rounds) (λ t h. ended_by (listenings places) most (turns_of r.rounds) ps t t.end h) r.keeps.over;
+            stand = all_seats (λ (s : Seat). IsClient (listenings places) most (turns_of r.rounds) s []) ps
+                (all_zip (IsHeld (listenings places) most (turns_of r.rounds)) (MayGo (listenings places) most serves)
+                (λ (p : Phase). IsClient (listenings places) most (turns_of r.rounds) p.seat []) ps
+                (λ p h m at is. stands_session at most _ _ p.linked (h.stands at is) (m.may at is)) r.keeps.held table.each);
+          },
+        ),
+      ),
+    ),
   )
 
 pub keeps_start : (places : List Listening) (most : ℕ) → Keeps places most 0 [] []

@@ -5,7 +5,7 @@ use Rattle.cf_relay.specs.Answers.{given}
 use Rattle.cf_view.specs.declared.Endpoint.{Endpoint}
 use Rattle.cf_view.specs.declared.Side.{Side}
 use Rattle.std.specs.Prelude.{Bool, List, [], ◌∷◌, false, true, ℕ, ◌≡◌}
-use Rattle.cf_serve.specs.Rounds.{ends_of, own_lines}
+use Rattle.cf_serve.specs.Rounds.{ends_in, lines_in, turns_of}
 use Rattle.cf_serve.specs.Served.{IsServed}
 use Rattle.cf_serve.specs.Session.{IsSession, Listening}
 use Rattle.cf_serve.specs.declared.table.Place.{Place}

@@ -26,7 +26,7 @@ use std::alloc::Global;
 
 /// A relay whose controller was reached, and the client that was met.
 #[derive(Drop)]
-pub struct Linked {
+pub(crate) struct Linked {
     pub(crate) met: Endpoint,
     pub(crate) relaying: Relaying,
 }
@@ -34,7 +34,7 @@ pub struct Linked {
 /// A session: its number, the number of its listening place, the endpoint from which its client came, and its relay once the
 /// controller is reached.
 #[derive(Drop)]
-pub struct Served {
+pub(crate) struct Served {
     pub(crate) number: u64,
     pub(crate) place: usize,
     pub(crate) client: Endpoint,
@@ -44,11 +44,11 @@ pub struct Served {
 /// What a turn needs of its service: the asset of the session, the port at which its clients come, the moment of the round in
 /// microseconds, and how many answers `Idle` in a row end it.
 #[derive(Drop)]
-pub struct Terms<'a> {
-    pub asset: &'a Asset,
-    pub port: u16,
-    pub moment: u64,
-    pub most: u64,
+pub(crate) struct Terms<'a> {
+    pub(crate) asset: &'a Asset,
+    pub(crate) port: u16,
+    pub(crate) moment: u64,
+    pub(crate) most: u64,
 }
 
 /// What a session is made of as its controller is reached.
@@ -66,7 +66,11 @@ fn end_by(answer: Result<(), Stop>, closed: bool) -> Result<Option<SessionEnd>, 
     ensures write { OnErr result (answer ≡ Err Stop.Write) }
 {
     match answer {
-        Ok(()) => Ok(if closed { Some(SessionEnd::Closed) } else { None }),
+        Ok(()) => Ok(if closed {
+            Some(SessionEnd::Closed)
+        } else {
+            None
+        }),
         Err(Stop::Idle) => Ok(Some(SessionEnd::Silent)),
         Err(Stop::Link) => Ok(Some(SessionEnd::Lost)),
         Err(Stop::Cut(reason)) => Ok(Some(SessionEnd::Cut(reason))),
@@ -146,7 +150,12 @@ fn begin<L: Links, D: Desk>(
     match links.moment(session) {
         MomentAnswer::Told(moment) => {
             log_line(terms.asset, met, moment, What::Begun, desk)?;
-            let relaying = Relaying::begun(parts.lane, parts.to_client, parts.to_controller, moment);
+            let relaying = Relaying::begun(
+                parts.lane,
+                parts.to_client,
+                parts.to_controller,
+                moment,
+            );
             Ok(Reached::Begun(Linked { met, relaying }))
         }
         MomentAnswer::Failed => {
@@ -194,7 +203,7 @@ fn reach<L: Links, D: Desk>(
 
 impl Linked {
     /// A turn of the relay, and the line of its end where it is the last.
-    pub fn turn<L: Links, D: Desk>(
+    pub(crate) fn turn<L: Links, D: Desk>(
         &mut self,
         terms: &Terms<'_>,
         buf: &mut [u8],
@@ -218,7 +227,9 @@ impl Linked {
         ensures cause { HasCause (DeskValue.faults (D.value desk.old)) (DeskValue.faults (D.value desk.new)) (IsErr result) }
         ensures buffer { length buf.new ≡ 4096 }
     {
-        let answer = self.relaying.turn(terms.asset, terms.most, buf, session, links, desk);
+        let answer = self
+            .relaying
+            .turn(terms.asset, terms.most, buf, session, links, desk);
         let end = match end_by(answer, self.relaying.is_closed())? {
             Some(end) => end,
             None => return Ok(None),
@@ -231,7 +242,7 @@ impl Linked {
 
 impl Served {
     /// One turn: its controller is asked for, or its relay has its turn; and the last line where it ends.
-    pub fn turn<L: Links, D: Desk>(
+    pub(crate) fn turn<L: Links, D: Desk>(
         &mut self,
         alloc: Global,
         terms: &Terms<'_>,

@@ -49,7 +49,7 @@ pub(crate) fn place_of<'a>(places: &[Place<'a>], number: usize) -> Place<'a>
 }
 
 /// Gives a session its turn where something can move for it, and leaves it where it ends; answers whether it stays.
-pub fn turn_one<L: Service, D: Desk>(
+fn turn_one<L: Service, D: Desk>(
     served: &mut Served,
     alloc: Global,
     terms: &Terms<'_>,
@@ -91,14 +91,14 @@ pub fn turn_one<L: Service, D: Desk>(
 
 /// The sessions that stand, in the order in which they came, and the number of the next.
 #[derive(Drop)]
-pub struct Table {
+pub(crate) struct Table {
     pub(crate) sessions: Vec<Served>,
     pub(crate) next: u64,
 }
 
 impl Table {
     /// No sessions, and room for all that may stand.
-    pub fn new(alloc: Global) -> Result<Table, AllocError>
+    pub(crate) fn new(alloc: Global) -> Result<Table, AllocError>
         ensures none { IfOk result (λ table. (Table.sessions table).items ≡ []) }
         ensures next { IfOk result (λ table. Table.next table ≡ 0) }
         ensures room { IfOk result (λ table. 256 ≤ vec_capacity (Table.sessions table)) }
@@ -108,7 +108,7 @@ impl Table {
     }
 
     /// Leaves every session.
-    pub fn leave_all<L: Service>(&self, links: &mut L)
+    pub(crate) fn leave_all<L: Service>(&self, links: &mut L)
         requires leave { MayLeave (LinksPlace.serves (L.place links.old)) self.now.next (map phase_of self.now.sessions.items) }
         ensures told { L.told links.new ≡ option_map (λ es. es ++ left_of (seats_of (map phase_of self.now.sessions.items))) (L.told links.old) }
     {
@@ -118,7 +118,7 @@ impl Table {
     }
 
     /// Gives the session of a place its turn; it is taken out where it ends. Answers whether it stays.
-    pub fn turn_at<L: Service, D: Desk>(
+    pub(crate) fn turn_at<L: Service, D: Desk>(
         &mut self,
         index: usize,
         alloc: Global,
@@ -168,7 +168,7 @@ impl Table {
     }
 
     /// Gives each session its turn, in the order in which they came; those that end are taken out.
-    pub fn turns<L: Service, D: Desk>(
+    pub(crate) fn turns<L: Service, D: Desk>(
         &mut self,
         alloc: Global,
         places: &[Place<'_>],
@@ -311,7 +311,7 @@ impl Table {
     }
 
     /// One round: a client at most is taken at each place, and then each session has its turn.
-    pub fn round<L: Service, D: Desk>(
+    pub(crate) fn round<L: Service, D: Desk>(
         &mut self,
         alloc: Global,
         places: &[Place<'_>],
@@ -359,7 +359,7 @@ impl Table {
     }
 
     /// Round after round, until a line fails or the wait does.
-    pub fn rounds<L: Service, D: Desk>(
+    pub(crate) fn rounds<L: Service, D: Desk>(
         &mut self,
         alloc: Global,
         places: &[Place<'_>],

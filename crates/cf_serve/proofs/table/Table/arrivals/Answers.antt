@@ -1,4 +1,4 @@
-use Rattle.std.proofs.Common.{arith, map, ◌+◌}
+use Rattle.std.proofs.Common.{arith, map}
 use Rattle.cf_serve.proofs.Arriving.{arrive_first, arrive_then}
 use Rattle.cf_serve.proofs.Logging.{writes_both, writes_none}
 use Rattle.cf_serve.specs.Phase.{listenings, phase_of}

@@ -1,4 +1,4 @@
-use Rattle.std.proofs.Common.{map, take, ◌≡◌, ◌≤◌}
+use Rattle.std.proofs.Common.{take, ◌≡◌, ◌≤◌}
 use Rattle.std.specs.List.{sum_by}
 use Rattle.cf_serve.proofs.Counting.{served_is_of}
 use Rattle.cf_serve.proofs.table.Table.has_place.Given as goal

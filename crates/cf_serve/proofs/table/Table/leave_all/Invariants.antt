@@ -1,4 +1,4 @@
-use Rattle.std.proofs.Common.{List, drop, map, take, ◌++◌, ◌≡◌}
+use Rattle.std.proofs.Common.{drop, map, take, ◌++◌, ◌≡◌}
 use Rattle.std.specs.Prelude.{option_map}
 use Rattle.cf_links.specs.Links.{LinksPlace}
 use Rattle.cf_serve.specs.Phase.{phase_of}

@@ -1,4 +1,4 @@
-use Rattle.std.proofs.Common.{ap, false, map, not, subst, sym, true, ◌∙◌, ◌<◌, ◌≡◌, ◌++◌, ◌∷◌}
+use Rattle.std.proofs.Common.{ap, map, subst, sym, ◌∙◌, ◌<◌, ◌++◌, ◌∷◌}
 use Rattle.std.proofs.lemmas.List.{length-map}
 use Rattle.std.specs.Prelude.{Bool, option_map}
 use Rattle.std.proofs.Math.ListN.{set}
@@ -52,11 +52,11 @@ returns-else-not-stays-clause-table g c =
     let at = listening_at c.place_of-place.result in
     let stays = c.if-not-stays.false in
     subst (IsTable places c.args.most (LinksPlace.serves (g.L.Links.place c.turn_one.new.links)) c.args.self.now.next)
-        (ap (λ p. s.before ++ p ∷ s.after) (sym (ap phase_of c.turn_one.ensures.same)) ∙ sym (s.put c.turn_one.new.served))
-        (table_stays places c.args.most c.args.self.now.next serves (map phase_of items) s.before (phase_of served) s.after s.was c.requires.table
-            new (LinksPlace.serves (g.L.Links.place c.turn_one.new.links))
-            (same_serves served.number (g.L.Links.place c.args.links.now) (g.L.Links.place c.turn_one.new.links) c.in_ok-stays.stays stays c.in_ok-stays.ensures.place)
-            (at_place places c.args.most served.place at c.place_of-place.ensures.place (λ (o : Listening). MayTurn o c.args.most new) (c.in_ok-stays.ensures.may stays)))
+    (ap (λ p. s.before ++ p ∷ s.after) (sym (ap phase_of c.turn_one.ensures.same)) ∙ sym (s.put c.turn_one.new.served))
+    (table_stays places c.args.most c.args.self.now.next serves (map phase_of items) s.before (phase_of served) s.after s.was c.requires.table
+    new (LinksPlace.serves (g.L.Links.place c.turn_one.new.links))
+    (same_serves served.number (g.L.Links.place c.args.links.now) (g.L.Links.place c.turn_one.new.links) c.in_ok-stays.stays stays c.in_ok-stays.ensures.place)
+    (at_place places c.args.most served.place at c.place_of-place.ensures.place (λ (o : Listening). MayTurn o c.args.most new) (c.in_ok-stays.ensures.may stays)))
 
 pub returns-then-not-stays-clause-table : goal.returns-then-not-stays-clause-table
 returns-then-not-stays-clause-table g c =
@@ -67,10 +67,10 @@ returns-then-not-stays-clause-table g c =
     let serves = LinksPlace.serves (g.L.Links.place c.args.links.now) in
     let gone = c.if-not-stays.true in
     subst (IsTable places c.args.most (LinksPlace.serves (g.L.Links.place c.turn_one.new.links)) c.args.self.now.next)
-        (sym (ap (map phase_of) c.remove.ensures.items ∙ s.out c.turn_one.new.served))
-        (table_ends places c.args.most c.args.self.now.next serves (map phase_of items) s.before (phase_of served) s.after s.was c.requires.table
-            (LinksPlace.serves (g.L.Links.place c.turn_one.new.links))
-            (lost_one served.number (g.L.Links.place c.args.links.now) (g.L.Links.place c.turn_one.new.links) c.in_ok-stays.stays gone c.in_ok-stays.ensures.place).others)
+    (sym (ap (map phase_of) c.remove.ensures.items ∙ s.out c.turn_one.new.served))
+    (table_ends places c.args.most c.args.self.now.next serves (map phase_of items) s.before (phase_of served) s.after s.was c.requires.table
+    (LinksPlace.serves (g.L.Links.place c.turn_one.new.links))
+    (lost_one served.number (g.L.Links.place c.args.links.now) (g.L.Links.place c.turn_one.new.links) c.in_ok-stays.stays gone c.in_ok-stays.ensures.place).others)
 
 pub returns-else-not-stays-clause-does : goal.returns-else-not-stays-clause-does
 returns-else-not-stays-clause-does g c = λ past keeps.
@@ -89,17 +89,17 @@ returns-else-not-stays-clause-does g c = λ past keeps.
     let log = (g.D.Desk.value c.args.desk.now).lines in
     let log' = (g.D.Desk.value c.turn_one.new.desk).lines in
     let stood_so = stood places c.args.most c.args.self.now.next past c.args.index told told' log log' at before (phase_of served).seat (option_map linked_value served.linked) new s.after
-        (map phase_of items) s.was s.at ordered c.place_of-place.ensures.place keeps in
+    (map phase_of items) s.was s.at ordered c.place_of-place.ensures.place keeps in
     let does = c.in_ok-stays.ensures.does (answers_in served.number past) (lines_in served.number past) stood_so in
     let renamed = subst (λ q. SeatDoes at c.args.most (answers_in served.number past) (lines_in served.number past) told told' log log' (phase_of served) q c.in_ok-stays.stays)
-        (ap phase_of c.turn_one.ensures.same) does in
+    (ap phase_of c.turn_one.ensures.same) does in
     subst (λ (b : Bool). StepDoes places c.args.most c.args.self.now.next past c.args.index told told' log log' (map phase_of items) (map phase_of (set items c.args.index c.turn_one.new.served)) b) (sym stays)
     (step_stays places c.args.most c.args.self.now.next past c.args.index told told' log log' at before (phase_of served).seat (option_map linked_value served.linked) new s.after
-        (map phase_of items) s.was s.at ordered c.place_of-place.ensures.place keeps
-        (map phase_of (set items c.args.index c.turn_one.new.served))
-        (s.put c.turn_one.new.served ∙ ap (λ p. before ++ p ∷ s.after) (ap phase_of c.turn_one.ensures.same))
-        (subst (λ (b : Bool). SeatDoes at c.args.most (answers_in served.number past) (lines_in served.number past) told told' log log' (phase_of served)
-            (record (phase_of served) { linked = new }) b) stays renamed))
+    (map phase_of items) s.was s.at ordered c.place_of-place.ensures.place keeps
+    (map phase_of (set items c.args.index c.turn_one.new.served))
+    (s.put c.turn_one.new.served ∙ ap (λ p. before ++ p ∷ s.after) (ap phase_of c.turn_one.ensures.same))
+    (subst (λ (b : Bool). SeatDoes at c.args.most (answers_in served.number past) (lines_in served.number past) told told' log log' (phase_of served)
+    (record (phase_of served) { linked = new }) b) stays renamed))
 
 pub returns-then-not-stays-clause-does : goal.returns-then-not-stays-clause-does
 returns-then-not-stays-clause-does g c = λ past keeps.
@@ -118,16 +118,16 @@ returns-then-not-stays-clause-does g c = λ past keeps.
     let log = (g.D.Desk.value c.args.desk.now).lines in
     let log' = (g.D.Desk.value c.turn_one.new.desk).lines in
     let stood_so = stood places c.args.most c.args.self.now.next past c.args.index told told' log log' at before (phase_of served).seat (option_map linked_value served.linked) new s.after
-        (map phase_of items) s.was s.at ordered c.place_of-place.ensures.place keeps in
+    (map phase_of items) s.was s.at ordered c.place_of-place.ensures.place keeps in
     let does = c.in_ok-stays.ensures.does (answers_in served.number past) (lines_in served.number past) stood_so in
     let renamed = subst (λ q. SeatDoes at c.args.most (answers_in served.number past) (lines_in served.number past) told told' log log' (phase_of served) q c.in_ok-stays.stays)
-        (ap phase_of c.turn_one.ensures.same) does in
+    (ap phase_of c.turn_one.ensures.same) does in
     subst (λ (b : Bool). StepDoes places c.args.most c.args.self.now.next past c.args.index told told' log log' (map phase_of items) (map phase_of c.remove.new.self.items) b) (sym gone)
     (step_ends places c.args.most c.args.self.now.next past c.args.index told told' log log' at before (phase_of served).seat (option_map linked_value served.linked) new s.after
-        (map phase_of items) s.was s.at ordered c.place_of-place.ensures.place keeps
-        (map phase_of c.remove.new.self.items) (ap (map phase_of) c.remove.ensures.items ∙ s.out c.turn_one.new.served)
-        (subst (λ (b : Bool). SeatDoes at c.args.most (answers_in served.number past) (lines_in served.number past) told told' log log' (phase_of served)
-            (record (phase_of served) { linked = new }) b) gone renamed))
+    (map phase_of items) s.was s.at ordered c.place_of-place.ensures.place keeps
+    (map phase_of c.remove.new.self.items) (ap (map phase_of) c.remove.ensures.items ∙ s.out c.turn_one.new.served)
+    (subst (λ (b : Bool). SeatDoes at c.args.most (answers_in served.number past) (lines_in served.number past) told told' log log' (phase_of served)
+    (record (phase_of served) { linked = new }) b) gone renamed))
 
 pub returns-in_err-stays-clause-leave : goal.returns-in_err-stays-clause-leave
 returns-in_err-stays-clause-leave g c =
@@ -139,7 +139,7 @@ returns-in_err-stays-clause-leave g c =
     let new = option_map linked_value c.turn_one.new.served.linked in
     let after = LinksPlace.serves (g.L.Links.place c.turn_one.new.links) in
     on_err c.from_residual.result (MayLeave after c.args.self.now.next (map phase_of (set items c.args.index c.turn_one.new.served)))
-        (subst (MayLeave after c.args.self.now.next)
-            (ap (λ p. s.before ++ p ∷ s.after) (sym (ap phase_of c.turn_one.ensures.same)) ∙ sym (s.put c.turn_one.new.served))
-            (leave_it places c.args.most c.args.self.now.next serves (map phase_of items) s.before (phase_of served) s.after s.was c.requires.table
-                new after (ap (λ (p : LinksPlace). p.serves) c.in_err-stays.ensures.served)))
+    (subst (MayLeave after c.args.self.now.next)
+    (ap (λ p. s.before ++ p ∷ s.after) (sym (ap phase_of c.turn_one.ensures.same)) ∙ sym (s.put c.turn_one.new.served))
+    (leave_it places c.args.most c.args.self.now.next serves (map phase_of items) s.before (phase_of served) s.after s.was c.requires.table
+    new after (ap (λ (p : LinksPlace). p.serves) c.in_err-stays.ensures.served)))

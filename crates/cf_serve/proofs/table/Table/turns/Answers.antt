@@ -1,4 +1,4 @@
-use Rattle.std.proofs.Common.{ap, arith, map, refl, subst, sym, ◌∙◌, ◌+◌, ◌≡◌, if◌then◌else◌}
+use Rattle.std.proofs.Common.{ap, arith, map, refl, subst, sym, ◌∙◌, ◌+◌, if◌then◌else◌}
 use Rattle.std.specs.Prelude.{Bool, vec_len}
 use Rattle.cf_links.specs.Links.{LinksPlace}
 use Rattle.cf_serve.proofs.Logging.{writes_both, writes_none}
@@ -39,9 +39,9 @@ loop-index-preserved-then-branch g c =
           (c.turn_at.ensures.next ∙ i.next) c.in_ok-turn_at.ensures.table;
       does = λ past keeps.
           turns_step places c.args.most next past told log old c.loop-index.index (g.L.Links.told c.loop-index.links) (g.D.Desk.value c.loop-index.desk).lines
-              (map phase_of c.loop-index.self.sessions.items) (i.does past keeps) c.loop-index.self.next (g.L.Links.told c.turn_at.new.links)
-              (g.D.Desk.value c.turn_at.new.desk).lines (map phase_of c.turn_at.new.self.sessions.items) c.in_ok-turn_at.field-0 (c.loop-index.index + 1) i.next
-              c.in_ok-turn_at.ensures.does (ap (λ (b : Bool). c.loop-index.index + (if b then 1 else 0)) (sym c.if-branch.true));
+          (map phase_of c.loop-index.self.sessions.items) (i.does past keeps) c.loop-index.self.next (g.L.Links.told c.turn_at.new.links)
+          (g.D.Desk.value c.turn_at.new.desk).lines (map phase_of c.turn_at.new.self.sessions.items) c.in_ok-turn_at.field-0 (c.loop-index.index + 1) i.next
+          c.in_ok-turn_at.ensures.does (ap (λ (b : Bool). c.loop-index.index + (if b then 1 else 0)) (sym c.if-branch.true));
       next = c.turn_at.ensures.next ∙ i.next;
       room = c.turn_at.ensures.room ∙ i.room;
       within = within_on c.loop-index.index (vec_len c.loop-index.self.sessions) (vec_len c.turn_at.new.self.sessions) c.in_ok-turn_at.field-0 c.if-branch.true c.in_ok-turn_at.ensures.len
@@ -65,9 +65,9 @@ loop-index-preserved g c =
           (c.turn_at.ensures.next ∙ i.next) c.in_ok-turn_at.ensures.table;
       does = λ past keeps.
           turns_step places c.args.most next past told log old c.loop-index.index (g.L.Links.told c.loop-index.links) (g.D.Desk.value c.loop-index.desk).lines
-              (map phase_of c.loop-index.self.sessions.items) (i.does past keeps) c.loop-index.self.next (g.L.Links.told c.turn_at.new.links)
-              (g.D.Desk.value c.turn_at.new.desk).lines (map phase_of c.turn_at.new.self.sessions.items) c.in_ok-turn_at.field-0 c.loop-index.index i.next
-              c.in_ok-turn_at.ensures.does (no_step c.loop-index.index ∙ ap (λ (b : Bool). c.loop-index.index + (if b then 1 else 0)) (sym c.if-branch.false));
+          (map phase_of c.loop-index.self.sessions.items) (i.does past keeps) c.loop-index.self.next (g.L.Links.told c.turn_at.new.links)
+          (g.D.Desk.value c.turn_at.new.desk).lines (map phase_of c.turn_at.new.self.sessions.items) c.in_ok-turn_at.field-0 c.loop-index.index i.next
+          c.in_ok-turn_at.ensures.does (no_step c.loop-index.index ∙ ap (λ (b : Bool). c.loop-index.index + (if b then 1 else 0)) (sym c.if-branch.false));
       next = c.turn_at.ensures.next ∙ i.next;
       room = c.turn_at.ensures.room ∙ i.room;
       within = within_off c.loop-index.index (vec_len c.loop-index.self.sessions) (vec_len c.turn_at.new.self.sessions) c.in_ok-turn_at.field-0 c.if-branch.false c.in_ok-turn_at.ensures.len

@@ -2,7 +2,6 @@ use Rattle.std.proofs.Common.{List, length, map, true, ◌≡◌, ◌≤◌, ◌
 use Rattle.std.specs.Prelude.{vec_capacity, vec_len}
 use Rattle.cf_lane.specs.Handled.{WritesLog}
 use Rattle.cf_links.specs.Links.{LinksPlace}
-use Rattle.cf_outside.specs.Desk.{DeskValue}
 use Rattle.cf_serve.specs.Phase.{listenings, phase_of}
 use Rattle.cf_serve.specs.Rounds.{TurnOf}
 use Rattle.cf_serve.specs.Table.{IsTable, Keeps, TurnsBegin}
