@@ -1,4 +1,4 @@
--- What holds of every act that a command can have: IsActWithin, and ValuesAreSettled. This project's own.
+-- Steps of the proof: what holds of every act that a command can have: `IsActWithin` and `ValuesAreSettled`.
 use Rattle.std.specs.Prelude.{◌≡◌, pos, ◌≤ℤ◌, is_some, IfSome}
 use Rattle.cf_view.specs.declared.Act.{Act}
 use Rattle.cf_policy.specs.Within.{highest_code, highest_group, highest_point, lowest_value, highest_value}

@@ -144,7 +144,7 @@ octets_six a b c d e f ys p q r s t u o (suc (suc (suc (suc zero)))) = t
 octets_six a b c d e f ys p q r s t u o (suc (suc (suc (suc (suc zero))))) = u
 octets_six a b c d e f ys p q r s t u o (suc (suc (suc (suc (suc (suc i)))))) = o i
 
--- six octets that are right, and others behind them
+-- six octets that are right, and others after them
 right_six : (xs : List ℕ) → length xs ≡ size_of xs → is_right xs 0 (get_or xs 0 0) ≡ true → is_right xs 1 (get_or xs 1 0) ≡ true →
     is_right xs 2 (get_or xs 2 0) ≡ true →
     is_right xs 3 (get_or xs 3 0) ≡ true → is_right xs 4 (get_or xs 4 0) ≡ true → is_right xs 5 (get_or xs 5 0) ≡ true →

@@ -1,6 +1,5 @@
--- What a command does: an act for each information object, in order.
--- IEC 60870-5-101, section 7.2.5: an information object address of three octets, the low one first. That a command is judged by
--- acts, and the group of an act, are this project's own.
+-- What a command does: `acts`, an act for each information object, in order. IEC 60870-5-101, section 7.2.5: an information object
+-- address of three octets, the low one first. That a command is judged by acts, and the group of an act, are this project's own.
 use Rattle.std.specs.Prelude.{ℕ, ◌+◌, ◌*◌, ◌%◌, List, [], map, Option, Some, None}
 use Rattle.std.specs.List.{range_with_len}
 use Rattle.cf_view.specs.declared.Act.{Act}
@@ -23,9 +22,11 @@ act_of a e i =
       value = number_at e.number a.objects (object_place e i + 3);
     }
 
+-- an act for each information object of a type with this element, and none of a type that is not served
 abbrev pub acts_by : Option Element → AsduValue → List Act
 acts_by None a = []
 acts_by (Some e) a = map (act_of a e) (range_with_len 0 a.number)
 
+-- the acts of an ASDU, by the element of its type
 unfoldable pub acts : AsduValue → List Act
 acts a = acts_by (element_of a.kind) a

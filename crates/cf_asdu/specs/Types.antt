@@ -11,7 +11,7 @@ use Rattle.cf_asdu.specs.declared.element.Number.TheVariants as numbers
 abbrev pub element : ℕ → Number → Option Element
 element octets number = Some (record { octets = octets; number = number })
 
--- an element with seven octets of time behind it
+-- an element with seven octets of time after it
 abbrev pub with_time : ℕ → Number → Option Element
 with_time octets number = element (octets + 7) number
 

@@ -33,7 +33,7 @@ pub struct Asdu<'a> {
     pub objects: View<'a>,
 }
 
-/// Why octets are no command that is served. They are tested in this order.
+/// Why octets are no command that is served. They are tested in this order. The order is this project's own.
 #[derive(Clone, Copy)]
 pub enum AsduRefusal {
     /// They are fewer than nine.

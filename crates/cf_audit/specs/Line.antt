@@ -11,6 +11,7 @@ use Rattle.cf_audit.specs.declared.line.What.{What}
 use Rattle.cf_audit.specs.declared.line.What.TheVariants as what
 use Rattle.cf_audit.specs.declared.line.Line.{Line}
 
+-- what a line says happened
 pub data WhatValue : Type 0 where
   Begun : WhatValue
   Refuse : (rule : List ℕ) (reason : Reason) (act : Act) (replied : Bool) (unit : List ℕ) → WhatValue
@@ -22,6 +23,7 @@ pub data WhatValue : Type 0 where
   Lost Silent : (admitted refused : ℕ) → WhatValue
   NoMemory : WhatValue
 
+-- a line of the log: its moment in microseconds, the client, the name of the asset, and what happened
 pub record LineValue : Type 0 where
   pub moment : ℕ
   pub client : Endpoint

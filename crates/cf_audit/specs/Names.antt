@@ -9,16 +9,19 @@ use Rattle.cf_view.specs.declared.Side.TheVariants as side
 use Rattle.cf_audit.specs.declared.line.Why.{Why}
 use Rattle.cf_audit.specs.declared.line.Why.TheVariants as why
 
+-- the word of a side
 abbrev pub side_name : Side → List ℕ
 side_name side.Client = codes "client"
 side_name side.Controller = codes "controller"
 
+-- the word of the reason of a refusal
 abbrev pub reason_name : Reason → List ℕ
 reason_name reason.Function = codes "function"
 reason_name reason.Point = codes "point"
 reason_name reason.Value = codes "value"
 reason_name reason.Station = codes "station"
 
+-- the word of the reason for which a frame is stray
 abbrev pub why_name : Why → List ℕ
 why_name why.Address = codes "address"
 why_name why.Direction = codes "direction"
@@ -29,6 +32,7 @@ why_name why.Order = codes "order"
 why_name why.TooLong = codes "long"
 why_name why.Short = codes "short"
 
+-- the word of what breaks a stream
 abbrev pub break_name : Break → List ℕ
 break_name break.Protocol = codes "protocol"
 break_name break.Length = codes "length"
@@ -40,6 +44,7 @@ break_name break.ApduStart = codes "apdustart"
 break_name break.ApduLength = codes "apdulength"
 break_name break.Control = codes "control"
 
+-- the word that says whether a refused command has a reply
 abbrev pub mark : Bool → List ℕ
 mark true = codes "replied"
 mark false = codes "unanswered"

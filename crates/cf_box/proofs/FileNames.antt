@@ -23,7 +23,7 @@ names_step names rest name is some other =
     let tests : are_names (map (λ n. n.now) rest) ≡ are_names (map (λ n. n.now) (name ∷ rest)) = rw (← some, among) refl in
     tests ∙ ap (λ ns. are_names (map (λ n. n.now) ns)) (sym is)
 
--- the names behind the first are names
+-- the names after the first are names
 rest : (name : List ℕ) (others : List (List ℕ)) → are_names (name ∷ others) ≡ true → are_names others ≡ true
 rest name others named =
     (and_parts (not (list_any (λ o. bytes_eq name o) others)) (are_names others)

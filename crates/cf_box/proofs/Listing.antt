@@ -34,7 +34,7 @@ leads_first untold start h = tt
 leads_first absent start h = absurd h
 leads_first (holds all) start h = λ more last are. are
 
--- behind blocks that are passed over stand the records that stand before them
+-- after blocks that are passed over stand the records that stand before them
 passed_back : (all : List ℕ) (count : ℕ) (old new : Form) (from place : ℕ) (rs : List Record) (last : LastPlace) → PassesTo all count old from new place →
     AreRecords new place (drop place all) rs last → AreRecords old from (drop from all) rs last
 passed_back all zero old new from place rs last (same, here) are =
@@ -162,7 +162,7 @@ module _ {file : Content} {start : Form} {reader : ReaderValue} {number : ℕ} {
   all_put : {new : Option (List ℕ)} → new ≡ printed_with now gathered → new ≡ printed_with old all
   all_put put = put ∙ ap (λ text. printed_with text gathered) listed.was_put ∙ with_more old listed.put gathered ∙ ap (printed_with old) listed.lines
 
-  -- they are, and something else stands behind their records
+  -- they are, and something else stands after their records
   pub ends_at : (failed : Type 0) {new : Option (List ℕ)} (answer : Result Done Stop) (at : ℕ) (found : AtPlace) → StandsBehind file reader at found → IsLast found → new ≡ printed_with now gathered →
       (new ≡ printed_with old all → ListingAnswers listed.records (record { place = at; found = found }) old new failed answer) → HasListed file old new failed answer
   ends_at failed answer at found stands is put answers = record {
@@ -210,7 +210,7 @@ module _ {file : Content} {start : Form} {reader : ReaderValue} {number : ℕ} {
         );
       }
 
-  -- the lines that were gathered last were put, and something else stands behind their records; or their put failed
+  -- the lines that were gathered last were put, and something else stands after their records; or their put failed
   pub finished : {failed fails : Type 0} {new : Option (List ℕ)} (answer ended : Result Done Stop) (at : ℕ) (found : AtPlace) → StandsBehind file reader at found → IsLast found →
       (new ≡ printed_with old all → ListingAnswers listed.records (record { place = at; found = found }) old new failed ended) → (fails → failed) →
       ((answer ≡ ended) × (new ≡ printed_with now gathered)) ⊎ ((answer ≡ Err stop.WriteFault) × fails × ((k : ℕ) × (new ≡ printed_with now (take k gathered)))) →

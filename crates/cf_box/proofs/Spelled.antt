@@ -13,7 +13,7 @@ last_digit b n some short small =
     let low : (10 * b + n) % 10 ≡ n % 10 = omega arith in
     rw (decimal_step (10 * b + n) (omega arith) (omega arith), up, low) refl
 
--- six digits behind a one
+-- six digits after a one
 seven_spelled : (n : ℕ) → n < 1000000 →
     decimal (1000000 + n) ≡ 49 ∷ (48 + n / 100000) ∷ (48 + n / 10000 % 10) ∷ (48 + n / 1000 % 10) ∷ (48 + n / 100 % 10) ∷ (48 + n / 10 % 10) ∷ (48 + n % 10) ∷ []
 seven_spelled n small =
@@ -82,7 +82,7 @@ seven n small = ap length (seven_spelled n small)
 
 pub ruleset spelled = (append_assoc, length-append, take-append-drop)
 
--- nothing stands behind the last octet
+-- nothing stands after the last octet
 pub nothing_behind : (xs : List ℕ) (n : ℕ) → length xs ≤ n → drop n xs ≡ []
 nothing_behind xs n past = drop_of_length-le xs past
 
@@ -95,7 +95,7 @@ pub six_joined : (a b c d e f rest : List ℕ) {t u v w x y : List ℕ} → t �
 six_joined a b c d e f rest {t} {u} {v} {w} p q r s z o =
     behind rest (a ++ b ++ c ++ d ++ e) f (behind t (a ++ b ++ c ++ d) e (behind u (a ++ b ++ c) d (behind v (a ++ b) c (behind w a b o z) s) r) q) p
 
--- and nothing stands behind the first of them
+-- and nothing stands after the first of them
 pub line_joined : (a b c d e f rest : List ℕ) {t u v w x y : List ℕ} → rest ≡ [] → t ≡ f ++ rest → u ≡ e ++ t → v ≡ d ++ u → w ≡ c ++ v → x ≡ b ++ w → y ≡ a ++ x →
     y ≡ a ++ b ++ c ++ d ++ e ++ f
 line_joined a b c d e f rest none p q r s z o =

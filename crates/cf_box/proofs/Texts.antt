@@ -1,7 +1,7 @@
--- Texts put one behind the other.
+-- Texts put one after the other.
 use Rattle.std.proofs.Common.{◌≡◌, ℕ, List, ◌++◌, ap, ◌∙◌, append_assoc}
 
--- a text behind more, and more behind that
+-- a text after more, and more after that
 next : (t a b u v : List ℕ) → u ≡ t ++ a → v ≡ u ++ b → v ≡ t ++ (a ++ b)
 next t a b u v p q = q ∙ ap (λ x. x ++ b) p ∙ append_assoc t a b
 

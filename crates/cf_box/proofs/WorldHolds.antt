@@ -16,7 +16,7 @@ use Rattle.cf_box.proofs.RunHolds.{holds_from}
 use Rattle.cf_box.proofs.Statuses.{Explains, IsOf, Unprinted, capture_told, cut_told, explained, not_done, refusal_told}
 
 module _ (law : RunsHaveHeadline) (failed : Type 0) (status : ℕ) (sessions : ℕ) (policy : List ℕ) (names : RunNamesValue) (before middle after : Outside) where
-  -- behind the last printed text the files are the same
+  -- after the last printed text the files are the same
   still_made : (between : Outside) → after.files ≡ middle.files → HasMade sessions policy names before middle between → HasMade sessions policy names before after between
   still_made between same made = record {
     leaves = subst (λ f. LeavesWorld sessions (made_names policy names) before.files.content f.content) (sym same) made.leaves;

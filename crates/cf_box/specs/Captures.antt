@@ -35,6 +35,7 @@ module _ (Has : Content → Form → List Record → LastPlace → Type 0) (file
     pub records : List Record
     pub are_records : Has file form records (record { place = place; found = found })
 
+  -- the same at some place
   abbrev pub EndsSomewhere : AtPlace → Type 0
   EndsSomewhere found = (place : ℕ) × EndsAt found place
 

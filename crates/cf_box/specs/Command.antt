@@ -1,8 +1,9 @@
--- What the words ask for, and what each command needs.
+-- What the words ask for, `Command`, and what each command needs.
 use Rattle.std.specs.Prelude.{ℕ, List, [], ◌∷◌, Option, None, Some}
 use Rattle.cf_run.specs.RunCapture.{RunNamesValue}
 use Rattle.cf_sift.specs.Names.{SiftNamesValue}
 
+-- a command of the program, with the names of its files and its other words
 pub data Command : Type 0 where
   Check : (policy : List ℕ) → Command
   Compare : (policy other : List ℕ) → Command
@@ -30,7 +31,7 @@ policy_file (Relay policy asset port idles log) = Some policy
 policy_file (World seed sessions policy names) = None
 policy_file (Sift policy asset client names) = Some policy
 
--- the file from which it reads a second policy, behind the first
+-- the file from which it reads a second policy, after the first
 abbrev pub other_file : Command → Option (List ℕ)
 other_file (Compare policy other) = Some other
 other_file _ = None

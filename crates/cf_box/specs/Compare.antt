@@ -18,6 +18,7 @@ use Rattle.cf_box.specs.declared.ending.Done.TheVariants as done
 use Rattle.cf_box.specs.declared.ending.Stop.{Stop}
 use Rattle.cf_box.specs.declared.ending.Stop.TheVariants as stop
 
+-- the words after `compare`: the names of two policies
 abbrev pub compare_of : List (List ℕ) → Option Command
 compare_of (policy ∷ other ∷ []) = if are_names (policy ∷ other ∷ []) then Some (Compare policy other) else None
 compare_of _ = None

@@ -1,4 +1,4 @@
--- What is printed of an answer of no.
+-- What is printed of an answer of no: `denial_text`.
 use Rattle.std.specs.Prelude.{List, ℕ, ◌++◌, codes, decimal}
 use Rattle.cf_audit.specs.Text.{act_text}
 use Rattle.cf_review.specs.declared.Counts.{Counts}
@@ -7,7 +7,7 @@ use Rattle.cf_box.specs.Objection.{objected_text}
 use Rattle.cf_box.specs.declared.denial.Denial.{Denial}
 use Rattle.cf_box.specs.declared.denial.Denial.TheVariants as denial
 
--- a number behind its word, as a line
+-- a number after its word, as a line
 abbrev pub count_line : (word : List ℕ) → (number : ℕ) → List ℕ
 count_line word number = word ++ decimal number ++ codes "\n"
 

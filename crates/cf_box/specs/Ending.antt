@@ -1,4 +1,4 @@
--- How the program ends: the status of each ending, and what is printed.
+-- How the program ends: the status of each ending, `status_of`, and what is printed, `Reports`.
 use Rattle.std.specs.Prelude.{◌≡◌, ◌⊎◌, ℕ, List, ◌++◌, Option, None, Some, Result, Ok, Err, codes, decimal, take}
 use Rattle.cf_audit.specs.Text.{cut_text}
 use Rattle.cf_outside.specs.Faults.{Rose}
@@ -31,6 +31,7 @@ stop_status (stop.Denied why) = 15
 stop_status (stop.TooManyRules name) = 16
 stop_status (stop.TooManyCells name) = 17
 
+-- the status: 0 of a command that is done, and else that of its stop
 abbrev pub status_of : Result Done Stop → ℕ
 status_of (Ok d) = 0
 status_of (Err s) = stop_status s
@@ -98,6 +99,7 @@ stop_text (stop.Denied why) = Some (denial_text why)
 stop_text (stop.TooManyRules name) = Some (codes "too many rules " ++ name.bytes ++ codes "\n")
 stop_text (stop.TooManyCells name) = Some (codes "too many cells " ++ name.bytes ++ codes "\n")
 
+-- what is printed at the end, if anything is
 abbrev pub end_text : Result Done Stop → Option (List ℕ)
 end_text (Ok d) = done_text d
 end_text (Err s) = stop_text s

@@ -71,6 +71,7 @@ RefusesCapture (Run policy names) before r = RunRefuses (before.files.content na
 RefusesCapture (World seed sessions policy names) before r = before.files.content names.capture ≡ untold
 RefusesCapture _ before r = ⊥
 
+-- the capture of a command ends inside the record at this place: a line a command that reads one
 abbrev pub CutsCapture : Command → Outside → ℕ → Type 0
 CutsCapture (Packets capture) before place = ListingCuts (before.files.content capture) place
 CutsCapture (Judge policy capture) before place = WatchCuts (before.files.content capture) place

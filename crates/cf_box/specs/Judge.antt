@@ -25,6 +25,7 @@ use Rattle.cf_box.specs.declared.objection.Objected.{Objected}
 use Rattle.cf_box.specs.declared.objection.Told.{Told}
 use Rattle.cf_box.specs.declared.objection.Told.TheVariants as told
 
+-- the words after `judge`: the names of a policy and of a capture
 abbrev pub judge_of : List (List ℕ) → Option Command
 judge_of (policy ∷ capture ∷ []) = if are_names (policy ∷ capture ∷ []) then Some (Judge policy capture) else None
 judge_of _ = None
@@ -39,6 +40,7 @@ IsToldAs asset (complaint.Stray why) what = what ≡ told.Stray why
 IsToldAs asset (complaint.Refused decider reason) (told.Refused rule because) = (rule.bytes ≡ name_of asset.rules decider) × (because ≡ reason)
 IsToldAs asset (complaint.Refused decider reason) _ = ⊥
 
+-- what is told of an objection at an asset is the objection, with the asset's name in the place of its number
 pub record IsTold (asset : Asset) (o : Objection) (tells : Objected) : Type 0 where
   pub at_record : tells.at_record ≡ o.at_record
   pub client : tells.client ≡ o.client

@@ -1,4 +1,4 @@
--- Laws over every run and every capture: HasLaws. This project's own.
+-- Laws over every run and every capture: HasLaws.
 use Rattle.cf_isolation.specs.Isolated.{CapturesAreIsolated, CapturesHoldSessions, CapturesHoldToTheNext}
 use Rattle.cf_isolation.specs.Lives.{AlikeInLines, AlikeInRecords, EachHasRecords, EachLogged}
 use Rattle.cf_isolation.specs.Logged.{LogsAreIsolated, LogsHoldSessions, LogsHoldToTheNext}
@@ -11,6 +11,7 @@ use Rattle.cf_run.specs.Isolation.{RunsIsolateSessions}
 use Rattle.cf_run.specs.Records.{HaveOneTimedList}
 use Rattle.cf_selfjudged.specs.SelfJudged.{RunsAreUnobjected, WatchedRunsAreUnobjected}
 
+-- all laws over runs, captures and policies of which the program says something
 pub record HasLaws : Type 0 where
   -- what a session of a run sends and logs is fixed by its own packets and their moments
   pub isolated : RunsIsolateSessions

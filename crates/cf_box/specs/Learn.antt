@@ -1,5 +1,5 @@
--- `learn POLICY CAPTURE OUT`: the assets of a policy, with rules that allow exactly what a capture shows, are written as a document of
--- version 2. The main definition is `HoldsLearned`; what is watched is said in `cf_watch`, and what is learned in `cf_learn`.
+-- `learn POLICY CAPTURE OUT`: rules that allow exactly what a capture shows are written as a document of version 2: `HoldsLearned`.
+-- What is watched is said in `cf_watch`, and what is learned in `cf_learn`.
 use Rattle.std.specs.Prelude.{◌≡◌, ℕ, List, [], ◌∷◌, Option, None, Some, Result, Ok, Err, if◌then◌else◌}
 use Rattle.cf_learn.specs.Assets.{AreLearned, IsFirstTooMany}
 use Rattle.cf_policy.specs.Within.{IsWithin}
@@ -16,6 +16,7 @@ use Rattle.cf_box.specs.declared.ending.Stop.{Stop}
 use Rattle.cf_box.specs.declared.ending.Stop.TheVariants as stop
 use Rattle.cf_sift.specs.Outputs.{KeepsAllBut}
 
+-- the words after `learn`: the names of a policy, of a capture and of the policy that is written
 abbrev pub learn_of : List (List ℕ) → Option Command
 learn_of (policy ∷ capture ∷ out ∷ []) = if are_names (policy ∷ capture ∷ out ∷ []) then Some (Learn policy capture out) else None
 learn_of _ = None

@@ -36,6 +36,7 @@ pub record HasPolicyLimits : Type 0 where
   pub link_address : HIGHEST_LINK_ADDRESS ≡ 65519
   pub common_address : HIGHEST_COMMON_ADDRESS ≡ 65534
 
+-- the limits that are constants of the code, as numbers
 pub record HasLimits : Type 0 where
   -- letters of a stream
   pub letters : LETTER_LIMIT ≡ 2 ^ 30

@@ -1,5 +1,4 @@
--- `migrate POLICY OUT`: a policy is written as a document of version 2 that means the same. The main definition is
--- `KeepsMeaning`.
+-- `migrate POLICY OUT`: a policy is written as a document of version 2 that means the same: `KeepsMeaning`.
 use Rattle.std.specs.Prelude.{◌≡◌, ℕ, List, [], ◌∷◌, Option, None, Some, if◌then◌else◌}
 use Rattle.cf_policy.specs.declared.Policy.{Policy}
 use Rattle.cf_box.specs.Check.{ChangesNothing}
@@ -12,6 +11,7 @@ use Rattle.cf_box.specs.declared.ending.Stop.{Stop}
 use Rattle.cf_box.specs.declared.ending.Stop.TheVariants as stop
 use Rattle.cf_sift.specs.Outputs.{KeepsAllBut}
 
+-- the words after `migrate`: the name of a policy and that of the policy that is written
 abbrev pub migrate_of : List (List ℕ) → Option Command
 migrate_of (policy ∷ out ∷ []) = if are_names (policy ∷ out ∷ []) then Some (Migrate policy out) else None
 migrate_of _ = None

@@ -18,20 +18,25 @@ pub record SinkValue : Type 0 where
   pub text : Option (List ℕ)
   pub faults : ℕ
 
+-- the files, the sink and the pair, each with what it tells and its counts of faults
 pub record Outside : Type 0 where
   pub files : FilesValue
   pub sink : SinkValue
   pub pair : PairValue
 
+-- what the files tell, and their counts of faults
 abbrev pub files_value : {F : Type 0} → FilesOf F → F → FilesValue
 files_value F files = record { content = F.content files; read_faults = F.read_faults files; write_faults = F.write_faults files }
 
+-- what the sink tells, and its count of faults
 abbrev pub sink_value : {O : Type 0} → SinkOf O → O → SinkValue
 sink_value O out = record { text = O.text out; faults = O.faults out }
 
+-- the three together
 abbrev pub outside : FilesValue → SinkValue → PairValue → Outside
 outside files sink pair = record { files = files; sink = sink; pair = pair }
 
+-- what the three objects that the program is handed tell, and their counts of faults
 abbrev pub outside_value : {F O P : Type 0} → FilesOf F → SinkOf O → PairOf P → F → O → P → Outside
 outside_value F O P files out pair = outside (files_value F files) (sink_value O out) (pair_value P pair)
 

@@ -1,4 +1,4 @@
--- `packets CAPTURE`: the packets of a capture are listed, a line each (`PacketLine`).
+-- `packets CAPTURE`: the packets of a capture are listed, a line each (`PacketLine`): `Lists`.
 use Rattle.std.specs.Prelude.{◌≡◌, ◌≢◌, ◌⊎◌, ℕ, List, [], ◌∷◌, take, if◌then◌else◌, Option, None, Some, Result, Ok, Err}
 use Rattle.cf_outside.specs.Faults.{Rose}
 use Rattle.cf_outside.specs.Files.{Content}
@@ -22,6 +22,7 @@ use Rattle.cf_box.specs.declared.ending.Done.TheVariants as done
 use Rattle.cf_box.specs.declared.ending.Stop.{Stop}
 use Rattle.cf_box.specs.declared.ending.Stop.TheVariants as stop
 
+-- the words after `packets`: the name of a capture
 abbrev pub packets_of : List (List ℕ) → Option Command
 packets_of (capture ∷ []) = if are_names (capture ∷ []) then Some (Packets capture) else None
 packets_of _ = None
@@ -36,6 +37,7 @@ HasListedRecords file form records last = HasRecords file form records last
 abbrev pub ListingRefuses : Content → CaptureRefusal → Type 0
 ListingRefuses file r = Refuses HasListedRecords file r × (r ≢ refusal.Clock)
 
+-- the capture that is listed ends inside the record at this place
 abbrev pub ListingCuts : Content → (place : ℕ) → Type 0
 ListingCuts file place = EndsAt HasListedRecords file Cut place
 

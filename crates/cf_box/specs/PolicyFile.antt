@@ -1,4 +1,4 @@
--- The policy that a file holds, and the asset of a name.
+-- The policy that a file holds, `HasPolicy`, and the asset of a name, `FindsAsset`.
 use Rattle.std.specs.Prelude.{◌≡◌, ℕ, List, Option, Some, Result, Ok, Err, length, bytes_eq, find}
 use Rattle.std.specs.List.{sum_by}
 use Rattle.cf_outside.specs.Files.{Content, untold, absent, holds, IsPartly, IsWhole, content_after_write}

@@ -1,5 +1,5 @@
--- `review POLICY CAPTURE LOG`: all that a policy objects to in what clients sent in a capture, a line each. The main definition is
--- `HoldsReview`; what is watched is said in `cf_watch`, what is objected to in `cf_review`.
+-- `review POLICY CAPTURE LOG`: all that a policy objects to in what clients sent in a capture, a line each: `HoldsReview`. What is
+-- watched is said in `cf_watch`, what is objected to in `cf_review`.
 use Rattle.std.specs.Prelude.{◌≡◌, ◌≢◌, ℕ, List, [], ◌∷◌, map, Option, None, Some, Result, Ok, Err, if◌then◌else◌}
 use Rattle.cf_outside.specs.Files.{IsPartly, content_after_write}
 use Rattle.cf_policy.specs.declared.Policy.{Policy}
@@ -24,12 +24,14 @@ use Rattle.cf_box.specs.declared.ending.Done.TheVariants as done
 use Rattle.cf_box.specs.declared.ending.Stop.{Stop}
 use Rattle.cf_box.specs.declared.ending.Stop.TheVariants as stop
 
+-- the words after `review`: the names of a policy, of a capture and of a log
 abbrev pub review_of : List (List ℕ) → Option Command
 review_of (policy ∷ capture ∷ log ∷ []) = if are_names (policy ∷ capture ∷ log ∷ []) then Some (Review policy capture log) else None
 review_of _ = None
 
 -- ---- of a policy and a capture
 
+-- the remarks of a review that was made
 abbrev pub remarks_of : Reviewed → List RemarkValue
 remarks_of r = map remark_value r.remarks.items
 

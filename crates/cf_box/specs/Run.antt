@@ -1,4 +1,4 @@
--- `run POLICY CAPTURE OUT LOG`: a policy is run over a capture.
+-- `run POLICY CAPTURE OUT LOG`: a policy is run over a capture: `Runs`.
 use Rattle.std.specs.Prelude.{◌≡◌, ◌⊎◌, ℕ, List, [], ◌∷◌, Option, None, Some, Result, Ok, Err, if◌then◌else◌}
 use Rattle.cf_lane.specs.declared.limit.TheConstants.{LETTER_LIMIT}
 use Rattle.cf_outside.specs.Files.{Content}
@@ -23,19 +23,23 @@ use Rattle.cf_box.specs.declared.ending.Done.TheVariants as done
 use Rattle.cf_box.specs.declared.ending.Stop.{Stop}
 use Rattle.cf_box.specs.declared.ending.Stop.TheVariants as stop
 
+-- a run of these files, where each word is the name of one
 abbrev pub run_command : (policy capture out log : List ℕ) → Option Command
 run_command policy capture out log =
     if are_names (policy ∷ capture ∷ out ∷ log ∷ []) then Some (Run policy (record { capture = capture; out = out; log = log })) else None
 
+-- the words after `run`: the names of a policy, of a capture and of two outputs
 abbrev pub run_of : List (List ℕ) → Option Command
 run_of (policy ∷ capture ∷ out ∷ log ∷ []) = run_command policy capture out log
 run_of _ = None
 
 -- ---- why a capture is no input of a run
 
+-- the capture that is run is refused, for this reason
 abbrev pub RunRefuses : Content → CaptureRefusal → Type 0
 RunRefuses file r = Refuses HasRecords file r
 
+-- it ends inside the record at this place
 abbrev pub RunCuts : Content → (place : ℕ) → Type 0
 RunCuts file place = EndsAt HasRecords file Cut place
 

@@ -1,4 +1,4 @@
--- `sift POLICY ASSET CLIENT STREAM OUT REPLIES LOG`: the stored stream of one client is filtered.
+-- `sift POLICY ASSET CLIENT STREAM OUT REPLIES LOG`: the stored stream of one client is filtered: `Sifts`.
 use Rattle.std.specs.Prelude.{◌≡◌, ◌⊎◌, ℕ, List, ◌∷◌, [], Option, None, Some, if◌then◌else◌, option_and_then, option_map}
 use Rattle.cf_audit.specs.declared.line.CutReason.{CutReason}
 use Rattle.cf_lane.specs.History.{Element}
@@ -29,10 +29,12 @@ sift_command policy asset client names =
     option_map (λ c. Sift policy asset c names) (address client)
     else None
 
+-- the words that name the stream and the three outputs
 abbrev pub sift_names_of : List (List ℕ) → Option SiftNamesValue
 sift_names_of (stream ∷ out ∷ replies ∷ log ∷ []) = Some (record { stream = stream; out = out; replies = replies; log = log })
 sift_names_of _ = None
 
+-- the words after `sift`: a policy, an asset, the address of a client, and the four files
 abbrev pub sift_of : List (List ℕ) → Option Command
 sift_of (policy ∷ asset ∷ client ∷ files) = option_and_then (sift_command policy asset client) (sift_names_of files)
 sift_of _ = None

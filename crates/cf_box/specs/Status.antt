@@ -1,4 +1,4 @@
--- What a status tells, each by itself.
+-- What a status tells, each by itself, and `IsExactly` and `IsComplete`: when it must be one.
 use Rattle.std.specs.Prelude.{◌≡◌, ◌≢◌, ◌⊎◌, ℕ, List, [], drop, length, ◌≤◌, Option, None, Some, Ok, Err}
 use Rattle.cf_audit.specs.declared.line.CutReason.{CutReason}
 use Rattle.cf_lane.specs.Follows.{AreJudged}
@@ -41,33 +41,43 @@ abbrev pub OfCommand : Option Command → (Command → Type 0) → Type 0
 OfCommand None P = ⊥
 OfCommand (Some c) P = P c
 
+-- a policy of the command is refused
 abbrev pub RefusesItsPolicy : Option Command → Outside → Type 0
 RefusesItsPolicy words before = OfCommand words (λ c. (r : PolicyRefusal) × RefusesPolicy c before r)
 
+-- its policy has no asset of the name that it needs
 abbrev pub LacksItsAsset : Option Command → Outside → Type 0
 LacksItsAsset words before = OfCommand words (λ c. LacksAsset c before)
 
+-- its capture is refused
 abbrev pub RefusesItsCapture : Option Command → Outside → Type 0
 RefusesItsCapture words before = OfCommand words (λ c. (r : CaptureRefusal) × RefusesCapture c before r)
 
+-- its capture ends inside a record
 abbrev pub CutsItsCapture : Option Command → Outside → Type 0
 CutsItsCapture words before = OfCommand words (λ c. (place : ℕ) × CutsCapture c before place)
 
+-- its stream is cut
 abbrev pub CutsItsStream : Option Command → (before after : Outside) → Type 0
 CutsItsStream words before after = OfCommand words (λ c. (reason : CutReason) × CutsStream c before after.pair reason)
 
+-- its pair answered Idle too often
 abbrev pub EndsItsIdles : Option Command → (before after : Outside) → Type 0
 EndsItsIdles words before after = OfCommand words (λ c. EndsIdle c before after.pair)
 
+-- what it asks is not so
 abbrev pub DeniesWhatItAsks : Option Command → Outside → Type 0
 DeniesWhatItAsks words before = OfCommand words (λ c. (why : Denial) × Denies c before why)
 
+-- it has too much to compare
 abbrev pub ExceedsItsCells : Option Command → Outside → Type 0
 ExceedsItsCells words before = OfCommand words (λ c. (name : List ℕ) × ExceedsCells c before name)
 
+-- an asset would have too many rules
 abbrev pub ExceedsItsRules : Option Command → Outside → Type 0
 ExceedsItsRules words before = OfCommand words (λ c. (name : List ℕ) × ExceedsRules c before name)
 
+-- it asks something of the pair
 abbrev pub AsksItsPair : Option Command → Type 0
 AsksItsPair words = OfCommand words AsksPair
 
@@ -100,6 +110,7 @@ HasRecords bytes =
     × ((records : List Record) × (place : ℕ)
     × AreRecords form (first_place form) (drop (first_place form) bytes) records (record { place = place; found = FileEnd }))
 
+-- the same where each record is tested with its moment
 abbrev pub HasTimedRecords : List ℕ → Type 0
 HasTimedRecords bytes =
     (form : Form) × (form_of bytes ≡ Ok form)
@@ -224,6 +235,7 @@ pub record TellsRemark (policy capture : List ℕ) (before : Outside) : Type 0 w
   pub short : length bytes ≤ CAPTURE_LIMIT
   pub not_clean : NothingRemarked policy capture before → ⊥
 
+-- the command is a review that has a remark, and whose files are told and in form
 abbrev pub TellsRemarks : Command → Outside → Type 0
 TellsRemarks (Review policy capture log) before = TellsRemark policy capture before
 TellsRemarks _ before = ⊥
@@ -277,6 +289,7 @@ pub record IsExact (c : Command) (before after : Outside) (status : ℕ) : Type 
   pub denied : TellsDenial c before → ((status ≡ 15) ⊎ (status ≡ 17)) ⊎ Yields before after status
   pub remarked : TellsRemarks c before → (status ≡ 15) ⊎ YieldsWritten before after status
 
+-- the status is exact for the command that the words are, if they are one
 abbrev pub IsExactly : Option Command → (before after : Outside) → (status : ℕ) → Type 0
 IsExactly words before after status = (c : Command) → words ≡ Some c → IsExact c before after status
 

@@ -40,6 +40,7 @@ pub record WatchRefusesShort (file : Content) (r : CaptureRefusal) : Type 0 wher
 abbrev pub WatchRefuses : Content → CaptureRefusal → Type 0
 WatchRefuses file r = ((r ≡ refusal.Long) × IsLongerThan file CAPTURE_LIMIT) ⊎ WatchRefusesShort file r
 
+-- the capture that is watched ends inside the record at this place
 abbrev pub WatchCuts : Content → (place : ℕ) → Type 0
 WatchCuts file place = EndsAt file Cut place
 

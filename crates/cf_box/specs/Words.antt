@@ -17,7 +17,7 @@ use Rattle.cf_sift.specs.Names.{AreApart, sift_names_value}
 use Rattle.cf_box.specs.declared.command.Command.{Command as CommandFields}
 use Rattle.cf_box.specs.declared.command.Command.TheVariants as fields
 
--- the first word names the command, and the command says what the words behind it are
+-- the first word names the command, and the command says what the words after it are
 abbrev pub command_of : List (List ℕ) → Option Command
 command_of [] = None
 command_of (name ∷ words) =

@@ -1,5 +1,4 @@
--- `world SEED SESSIONS POLICY CAPTURE OUT LOG`: a policy and a capture are made from a number, and the policy is run over the
--- capture. The main definitions are `MakesAndRuns` and `WorldHolds`.
+-- `world SEED SESSIONS POLICY CAPTURE OUT LOG`: a policy and a capture are made from a number, and run: `MakesAndRuns` and `WorldHolds`.
 use Rattle.std.specs.Prelude.{◌≡◌, ◌≢◌, ◌⊎◌, ℕ, ◌-◌, ◌^◌, ◌≤◌, List, [], ◌∷◌, Option, None, Err, if◌then◌else◌, option_and_then, option_map}
 use Rattle.cf_run.specs.RunCapture.{AreApart, RunNamesValue}
 use Rattle.cf_world.specs.World.{LeavesWorld, MakesWorld, WorldNamesValue}
@@ -43,7 +42,7 @@ world_stop fault.NoMemory = stop.NoMemory
 world_stop fault.Write = stop.WriteFault
 
 module _ (sessions : ℕ) (policy : List ℕ) (names : RunNamesValue) (before after : Outside) where
-  -- the world was made, this stood between, and behind it the two files stayed as they were made
+  -- the world was made, this stood between, and after it the two files stayed as they were made
   pub record HasMade (between : Outside) : Type 0 where
     pub leaves : LeavesWorld sessions (made_names policy names) before.files.content after.files.content
     pub same_policy : after.files.content policy ≡ between.files.content policy

@@ -14,7 +14,7 @@ use crate::policy_file::{counted, load_policy};
 use cf_outside::Files;
 use std::alloc::Global;
 
-/// The word behind `check`.
+/// The word after `check`.
 pub(crate) fn read_check(words: &[String]) -> Option<Command<'_>>
     ensures command { option_map command_value result ≡ check_of (map string_bytes words.now) }
     ensures fit { IfSome result HasFitWords }

@@ -18,7 +18,7 @@ use cf_outside::Files;
 use cf_policy::Policy;
 use std::alloc::Global;
 
-/// The words behind `compare`.
+/// The words after `compare`.
 pub(crate) fn read_compare(words: &[String]) -> Option<Command<'_>>
     ensures command { option_map command_value result ≡ compare_of (map string_bytes words.now) }
     ensures fit { IfSome result HasFitWords }

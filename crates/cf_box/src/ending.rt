@@ -231,7 +231,7 @@ fn capture_number(refusal: CaptureRefusal) -> u64
     }
 }
 
-/// Pushes a number behind its word, as a line.
+/// Pushes a number after its word, as a line.
 pub(crate) fn push_count(text: &mut EndText, word: &str, number: u64)
     requires { length text.old.bytes + (length word.now + 21) ≤ 384 }
     ensures text { text.new.bytes ≡ text.old.bytes ++ count_line word.now number }

@@ -25,7 +25,7 @@ use cf_policy::{Asset, Decider, Policy, Rule};
 use cf_watch::{Flow, watch};
 use std::alloc::Global;
 
-/// The words behind `judge`.
+/// The words after `judge`.
 pub(crate) fn read_judge(words: &[String]) -> Option<Command<'_>>
     ensures command { option_map command_value result ≡ judge_of (map string_bytes words.now) }
     ensures fit { IfSome result HasFitWords }

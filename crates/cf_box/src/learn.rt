@@ -19,7 +19,7 @@ use cf_policy::Policy;
 use cf_watch::{Flow, watch};
 use std::alloc::Global;
 
-/// The words behind `learn`.
+/// The words after `learn`.
 pub(crate) fn read_learn(words: &[String]) -> Option<Command<'_>>
     ensures command { option_map command_value result ≡ learn_of (map string_bytes words.now) }
     ensures fit { IfSome result HasFitWords }

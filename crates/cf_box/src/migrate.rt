@@ -14,7 +14,7 @@ use crate::policy_file::{load_policy, write_policy};
 use cf_outside::Files;
 use std::alloc::Global;
 
-/// The words behind `migrate`.
+/// The words after `migrate`.
 pub(crate) fn read_migrate(words: &[String]) -> Option<Command<'_>>
     ensures command { option_map command_value result ≡ migrate_of (map string_bytes words.now) }
     ensures fit { IfSome result HasFitWords }

@@ -1,11 +1,10 @@
 //! What is told of an objection to what clients sent.
 ghost use Rattle.std.specs.Prelude.{◌≡◌, ◌≤◌, ◌+◌, ◌++◌, length};
-ghost use Rattle.cf_audit.specs.Names.{break_name, reason_name, why_name};
 ghost use Rattle.cf_box.specs.Objection.{objected_text, told_text};
 
 use crate::denial::AssetName;
 use crate::ending::EndText;
-use cf_audit::Why;
+use cf_audit::{Why, break_word, reason_word, why_word};
 use cf_view::{Break, Endpoint, Reason, push_endpoint, push_number, push_signed};
 
 /// What a flow is objected to for, with the name of the rule.
@@ -32,7 +31,7 @@ pub struct Objected {
     pub what: Told,
 }
 
-/// Pushes what is told of an objection, behind a word.
+/// Pushes what is told of an objection, after a word.
 pub(crate) fn push_objected(text: &mut EndText, objected: &Objected)
     requires { length text.old.bytes ≤ 8 }
     ensures text { text.new.bytes ≡ text.old.bytes ++ objected_text objected.now }

@@ -41,7 +41,7 @@ impl From<OpenFault> for Stop {
     }
 }
 
-/// The word behind `packets`.
+/// The word after `packets`.
 pub(crate) fn read_packets(words: &[String]) -> Option<Command<'_>>
     ensures command { option_map command_value result ≡ packets_of (map string_bytes words.now) }
     ensures fit { IfSome result HasFitWords }

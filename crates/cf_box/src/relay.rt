@@ -15,7 +15,7 @@ use cf_outside::{Files, Pair};
 use cf_relay::{RelayDone, RelayEnd, RelayFault};
 use std::alloc::Global;
 
-/// The words behind `relay`.
+/// The words after `relay`.
 pub(crate) fn read_relay(words: &[String]) -> Option<Command<'_>>
     ensures command { option_map command_value result ≡ relay_of (map string_bytes words.now) }
     ensures fit { IfSome result HasFitWords }

@@ -17,7 +17,7 @@ use cf_review::{Reviewed, count, review, write_lines};
 use cf_watch::watch_recording;
 use std::alloc::Global;
 
-/// The words behind `review`.
+/// The words after `review`.
 pub(crate) fn read_review(words: &[String]) -> Option<Command<'_>>
     ensures command { option_map command_value result ≡ review_of (map string_bytes words.now) }
     ensures fit { IfSome result HasFitWords }

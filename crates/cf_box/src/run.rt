@@ -39,7 +39,7 @@ impl From<RunFault> for Stop {
     }
 }
 
-/// The words behind `run`.
+/// The words after `run`.
 pub(crate) fn read_run(words: &[String]) -> Option<Command<'_>>
     ensures command { option_map command_value result ≡ run_of (map string_bytes words.now) }
     ensures fit { IfSome result HasFitWords }

@@ -32,7 +32,7 @@ impl From<SiftFault> for Stop {
     }
 }
 
-/// The words behind `sift`.
+/// The words after `sift`.
 pub(crate) fn read_sift(words: &[String]) -> Option<Command<'_>>
     ensures command { option_map command_value result ≡ sift_of (map string_bytes words.now) }
     ensures fit { IfSome result HasFitWords }

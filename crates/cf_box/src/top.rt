@@ -139,7 +139,7 @@ pub fn box_main<F: Files, O: Sink, P: Pair>(
     ensures cells { result ≡ 17 → ExceedsItsCells (command_of (map string_bytes words.now))
         (outside_value F.Files O.Sink P.Pair files.old out.old pair.old) }
 
-    // Where the input is told, a cause in it gives its status, whatever stands behind it in the order of the work.
+    // Where the input is told, a cause in it gives its status, whatever stands after it in the order of the work.
     ensures exact { IsExactly (command_of (map string_bytes words.now)) (outside_value F.Files O.Sink P.Pair files.old out.old pair.old)
         (outside_value F.Files O.Sink P.Pair files.new out.new pair.new) result }
 

@@ -32,7 +32,7 @@ impl From<WorldFault> for Stop {
     }
 }
 
-/// The words behind `world`.
+/// The words after `world`.
 #[tactic(auto, using(crate::proofs::FileNames::world_fit))]
 pub(crate) fn read_world(words: &[String]) -> Option<Command<'_>>
     ensures command { option_map command_value result ≡ world_of (map string_bytes words.now) }

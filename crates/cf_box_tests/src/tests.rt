@@ -12,7 +12,7 @@ fn same(rt: &impl Abort, row: &str, found: &str, wanted: &str) {
     assert!(rt; found == wanted, "{row}\nfound\n{found}");
 }
 
-/// What stands behind a word at the front of a line of a row; nothing where no line begins so.
+/// What stands after a word at the front of a line of a row; nothing where no line begins so.
 fn field<'a>(row: &'a str, word: &str) -> &'a str {
     for line in row.lines() {
         if let Some(rest) = line.strip_prefix(word) {

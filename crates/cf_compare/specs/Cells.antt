@@ -12,6 +12,7 @@ use Rattle.cf_compare.specs.declared.axis.Axis.{Axis}
 use Rattle.cf_compare.specs.declared.axis.Axis.TheVariants.{Clients, Groups, Points, Values}
 use Rattle.cf_compare.specs.declared.count.TheConstants.{CODES, MOST_CELLS}
 
+-- how many cells are compared at most
 abbrev pub most_cells : ℕ
 most_cells = MOST_CELLS
 
@@ -22,6 +23,7 @@ lowest Groups = pos 0
 lowest Points = pos 0
 lowest Values = lowest_value
 
+-- the greatest number on an axis
 abbrev pub highest : Axis → ℤ
 highest Clients = highest_address
 highest Groups = highest_group
@@ -35,6 +37,7 @@ axis_spans Groups r = r.groups
 axis_spans Points r = r.points
 axis_spans Values r = r.values
 
+-- the rule's codes have this code
 abbrev pub has_code : ℕ → Rule → Bool
 has_code code r = takes r.codes (pos code)
 
@@ -46,6 +49,7 @@ stated_spans axis rules = flat_map (axis_spans axis) rules
 abbrev pub turns : Span → List ℤ
 turns s = s.low ∷ (s.high +ℤ pos 1) ∷ []
 
+-- the number lies on the axis
 abbrev pub is_on : Axis → ℤ → Bool
 is_on axis n = int_le (lowest axis) n && int_le n (highest axis)
 

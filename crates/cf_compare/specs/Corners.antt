@@ -1,4 +1,4 @@
--- A list of the corners of an axis: AreCorners.
+-- Steps of the proof: a list of the corners of an axis: `AreCorners`.
 use Rattle.std.specs.Prelude.{◌≡◌, ℤ, List}
 use Rattle.std.specs.Set.{is_member}
 use Rattle.std.specs.Ordering.{int_eq, int_cmp}

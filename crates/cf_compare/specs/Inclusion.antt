@@ -58,7 +58,7 @@ IsValueUpTo None w = Unit {0}
 IsValueUpTo (Some m) None = ⊥
 IsValueUpTo (Some m) (Some n) = m ≤ℤ n
 
--- not behind the other by code, then client, group, point and value
+-- not after the other by code, then client, group, point and value
 abbrev pub IsUpTo : ℕ → Act → ℕ → Act → Type 0
 IsUpTo client act another later =
     IsLessOr act.code later.code

@@ -1,4 +1,5 @@
--- What the parts of a comparison say: of a code, of two assets, of an asset. Private functions alone cite it.
+-- Steps of the proof: what the parts of a comparison say: `IsCodeSearched` of a code, `AnswersFor` of two assets, `AnswersWith` of an
+-- asset. Private functions alone cite it.
 use Rattle.std.specs.Prelude.{◌≡◌, ℕ, ◌<◌, ◌≤◌, Option, Some, None}
 use Rattle.cf_view.specs.declared.base.Act.{Act}
 use Rattle.cf_policy.specs.declared.policy.Asset.{Asset}

@@ -1,4 +1,4 @@
--- What each part of the search computes: first_cell, read from the end. Inclusion says what is searched for.
+-- Steps of the proof: what each part of the search computes: `first_cell`, read from the end. Inclusion says what is searched for.
 use Rattle.std.specs.Prelude.{ℤ, Bool, false, not, ◌&&◌, if◌then◌else◌, List, [], ◌∷◌, filter, find, Option, Some, None, option_map}
 use Rattle.std.specs.Option.{option_map_or, option_or}
 use Rattle.cf_policy.specs.declared.policy.Rule.{Rule}

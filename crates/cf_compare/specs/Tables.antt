@@ -1,4 +1,4 @@
--- What a rule's tables say of the corners: AreTablesFor. Private functions alone cite it.
+-- Steps of the proof: what a rule's tables say of the corners: `AreTablesFor`. Private functions alone cite it.
 use Rattle.std.specs.Prelude.{◌≡◌, ℕ, ℤ, Bool, List, map, take}
 use Rattle.cf_policy.specs.declared.policy.Span.{Span}
 use Rattle.cf_policy.specs.declared.policy.Rule.{Rule}

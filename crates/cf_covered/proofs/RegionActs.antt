@@ -71,7 +71,7 @@ in_from g client act each =
     (and_from (covers g.groups (pos act.group)) _ each.groups
     (and_from (covers g.points (pos act.point)) (has_value g.values act.value) each.points each.values))
 
--- a number of a span is in the part with which the span begins, or behind it
+-- a number of a span is in the part with which the span begins, or after it
 beyond : (s part : Span) (n : ℤ) → part.low ≡ s.low → covers s n ≡ true
     → (covers part n ≡ true) ⊎ ((r : Span) × (behind s part.high ≡ Some r) × (covers r n ≡ true))
 beyond s part n begins h =

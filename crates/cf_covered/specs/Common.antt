@@ -1,4 +1,4 @@
--- Whether the lists of two rules but those of codes have a number in common each: have_common.
+-- Beside the proof: whether the lists of two rules but those of codes have a number in common each: `have_common`. Warnings go by it.
 use Rattle.std.specs.Prelude.{int_le, Bool, ◌&&◌, ◌||◌, List}
 use Rattle.std.specs.List.{list_any}
 use Rattle.cf_policy.specs.declared.policy.Span.{Span}

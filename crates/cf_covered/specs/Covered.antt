@@ -1,4 +1,5 @@
--- Rules that decide nothing that a command can have: DecidesNoCommand, and IsCover, which says what has all that they have.
+-- Beside the proof: rules that decide nothing that a command can have: `DecidesNoCommand`, and `IsCover`, which says what has all that
+-- they have. Warnings go by it.
 use Rattle.std.specs.Prelude.{◌≡◌, ◌≢◌, ℕ, ◌^◌, ◌<◌, List, [], ◌∷◌, Some, length, slice_get, true}
 use Rattle.std.specs.List.{list_any}
 use Rattle.cf_view.specs.declared.base.Act.{Act}

@@ -1,4 +1,4 @@
--- Regions of acts, and what settles them: AreSettled. Private functions alone cite it.
+-- Beside the proof: regions of acts, and what settles them: `AreSettled`. Private functions alone cite it.
 use Rattle.std.specs.Prelude.{◌≡◌, ℕ, ℤ, pos, ◌+ℤ◌, int_lt, Bool, true, ◌&&◌, if◌then◌else◌, List, [], ◌∷◌, Option, Some, None}
 use Rattle.std.specs.List.{flat_map, list_any}
 use Rattle.cf_view.specs.declared.base.Act.{Act}
@@ -11,7 +11,7 @@ use Rattle.cf_acts.specs.declared.Kind.{Kind}
 use Rattle.cf_acts.specs.Acts.{between, up_to, has_value}
 use Rattle.cf_covered.specs.declared.regions.Region.{Region}
 
--- the numbers of a span behind one
+-- the numbers of a span after one
 abbrev pub behind : Span → ℤ → Option Span
 behind s n = if int_lt n s.high then Some (record { low = n +ℤ pos 1; high = s.high }) else None
 
@@ -66,7 +66,7 @@ abbrev pub with_values : Region → Option Span → Option Region
 with_values g None = None
 with_values g (Some s) = Some (record g { values = Some s })
 
--- what a region has behind a part with which it begins
+-- what a region has after a part with which it begins
 abbrev pub rest : Region → Region → List Region
 rest g part = flat_map listed (
     with_clients g (behind g.clients part.clients.high)

@@ -55,7 +55,7 @@ pub(crate) fn lacked_region(rule: &Rule, region: &Region) -> Option<Region>
     Some(Region { values, ..*region })
 }
 
-/// Adds what a region has behind a part with which it begins.
+/// Adds what a region has after a part with which it begins.
 pub(crate) fn push_rest(
     left: &mut Vec<Region>,
     region: &Region,

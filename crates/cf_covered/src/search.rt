@@ -65,7 +65,7 @@ fn have_code_of(
 }
 
 /// Whether each act of some regions that a rule has is one of the others' too. A region whose lowest act the rule lacks, or has
-/// together with another rule, is settled as far as that goes on along each of its spans; what it has behind that is looked at next.
+/// together with another rule, is settled as far as that goes on along each of its spans; what it has after that is looked at next.
 fn are_settled(
     regions: Vec<Region>,
     others: &[&Rule],

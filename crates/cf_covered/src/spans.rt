@@ -56,7 +56,7 @@ pub(crate) fn lacked_part(spans: &Items<Span>, span: Span) -> Option<Span>
     })
 }
 
-/// The last number of a span before any of the others that begins behind its low end.
+/// The last number of a span before any of the others that begins after its low end.
 fn before_next(spans: &[Span], span: Span) -> i64
     ensures { All (λ s. span.low <ℤ s.low → result <ℤ s.low) spans.now }
 {
@@ -67,7 +67,7 @@ fn before_next(spans: &[Span], span: Span) -> i64
     high
 }
 
-/// A number, or the last before a span that begins behind the low end of another.
+/// A number, or the last before a span that begins after the low end of another.
 fn before(stated: &Span, span: &Span, high: i64) -> i64
     ensures not_above { result ≤ℤ high }
     ensures before { span.now.low <ℤ stated.now.low → result <ℤ stated.now.low }
@@ -103,7 +103,7 @@ pub(crate) fn lacked_values(spans: &Items<Span>, values: Option<Span>) -> Option
     }
 }
 
-/// The numbers of a span behind one.
+/// The numbers of a span after one.
 pub(crate) fn behind(span: Span, end: i64) -> Option<Span>
     ensures { result ≡ behind span end }
 {

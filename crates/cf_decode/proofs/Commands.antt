@@ -185,7 +185,7 @@ module _ (asset : Asset) (says : Says) where
   by_item earlier (Broke s because) f has = subst (Decides []) (sym has) (refl, refl)
 
 module _ (asset : Asset) (client : ℕ) where
-  -- the fate of the item behind earlier ones
+  -- the fate of the item after earlier ones
   fate_behind : (before earlier later : List Judged) (j : Judged) → HaveFates asset client before (earlier ++ j ∷ later) → HasFate asset client (before ++ earlier) (place_of j) j.fate
   fate_behind before [] later j fates = subst (λ b. HasFate asset client b (place_of j) j.fate) (sym (append-nil before)) fates.0
   fate_behind before (k ∷ earlier) later j fates =

@@ -1,5 +1,4 @@
--- The commands of a client, and that exactly those are admitted which the policy allows: the main definition is
--- `AdmitsWhatIsAllowed`, which stands last. This project's own.
+-- Beside the proof: that exactly those commands of a client are admitted which the policy allows: `AdmitsWhatIsAllowed`, which stands last.
 use Rattle.cf_lane.specs.Rates.{Says, says_at}
 use Rattle.cf_apci.specs.Apdu.{Ack, ApduValue, Control, Info}
 use Rattle.cf_audit.specs.declared.line.CutReason.{CutReason}

@@ -1,4 +1,4 @@
--- What goes to the controller by a frame of the client. IEEE 1815-2012, sections 8.2 and 9.2.
+-- What goes to the controller by a frame of the client: `passed_by_frame`. IEEE 1815-2012, sections 8.2 and 9.2.
 use Rattle.cf_decode.specs.Units.{Fragment, Passed, Whole}
 use Rattle.cf_dnplink.specs.LinkFrame.{FrameValue}
 use Rattle.cf_lane.specs.Dnp3.{is_data, whole_now}

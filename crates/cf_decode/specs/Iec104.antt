@@ -1,4 +1,4 @@
--- What goes to the controller by an APDU of the client. IEC 60870-5-104, section 5.
+-- What goes to the controller by an APDU of the client: `passed_by_apdu`. IEC 60870-5-104, section 5.
 use Rattle.cf_apci.specs.Apdu.{Ack, ApduValue}
 use Rattle.cf_decode.specs.Units.{Passed, Whole}
 use Rattle.cf_lane.specs.Iec104.{info_number, renumbered}

@@ -1,4 +1,5 @@
--- Any beginning of the stream to a controller decodes to the first of what was let through to it, in order. Read this file first.
+-- `MakesFirstOf`: any beginning of the stream to a controller decodes to the first of what was let through to it, in order. Read this
+-- file first.
 --
 -- What goes to the controller is a list, in the order of the judged items (`passed`): the commands that are admitted, what is
 -- carried beside them, and the S frames that refused commands leave. An ADU of Modbus and an APDU of IEC 60870-5-104 are one unit
@@ -9,7 +10,7 @@
 -- went, in order, and then a proper prefix of the next one, or nothing where none follows (`StreamDecodes`). Once it has put
 -- together the fragments of DNP3, it has the first of the list, in order, and then a proper prefix of the next (`FragmentsDecode`).
 --
--- Exactly those commands are admitted that the policy allows (`AdmitsWhatIsAllowed`, in `Commands`). This project's own.
+-- Exactly those commands are admitted that the policy allows (`AdmitsWhatIsAllowed`, in `Commands`).
 use Rattle.cf_decode.specs.Passed.{passed}
 use Rattle.cf_decode.specs.Received.{received, segments_in}
 use Rattle.cf_decode.specs.Units.{Fragment, Passed, Whole, start_behind, units_from, units_of}

@@ -1,4 +1,4 @@
--- What goes to the controller by an ADU of the client. Modbus Application Protocol V1.1b3.
+-- What goes to the controller by an ADU of the client: `passed_by_adu`. Modbus Application Protocol V1.1b3.
 use Rattle.cf_decode.specs.Units.{Passed, Whole}
 use Rattle.cf_lane.specs.Judged.{goes_on}
 use Rattle.cf_lane.specs.Unit.{Adu}

@@ -1,5 +1,5 @@
--- What goes to the controller of a session, one after the other: the main definition is `passed`, which stands last. Which
--- items go on is the fate of each (cf_lane, `Fate`). This project's own.
+-- What goes to the controller of a session, one after the other: the main definition is `passed`, which stands last. Which items go on
+-- is the fate of each (cf_lane, `Fate`).
 use Rattle.cf_decode.specs.Dnp3.{passed_by_frame}
 use Rattle.cf_decode.specs.Iec104.{passed_by_apdu}
 use Rattle.cf_decode.specs.Modbus.{passed_by_adu}

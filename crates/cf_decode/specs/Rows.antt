@@ -1,4 +1,4 @@
--- Worked rows of the definitions, evaluated: a check of the definitions alone.
+-- Beside the proof: worked rows of the definitions, evaluated, a check of the definitions alone: `RowsHold`.
 use Rattle.cf_apci.specs.Apdu.{Ack, Control, Info}
 use Rattle.cf_decode.specs.Passed.{passed}
 use Rattle.cf_decode.specs.Received.{received, segments_in}

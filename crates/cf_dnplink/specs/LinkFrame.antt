@@ -1,6 +1,6 @@
--- The data link frame of DNP3: 05 64, LENGTH, CONTROL, DESTINATION and SOURCE, two octets each and the low one first, and the
--- CRC of these eight; then the user octets in blocks of 16, the last one shorter, each followed by its CRC. LENGTH counts
--- control, addresses and user octets. IEEE 1815-2012, section 9.2. The main definition stands last: read from the end.
+-- The data link frame of DNP3, `SpellsFrame`: 05 64, LENGTH, CONTROL, DESTINATION and SOURCE, two octets each and the low one first,
+-- and the CRC of these eight; then the user octets in blocks of 16, the last one shorter, each followed by its CRC. LENGTH counts
+-- control, addresses and user octets. IEEE 1815-2012, section 9.2. It is read from the end.
 use Rattle.std.specs.Prelude.{◌≡◌, ℕ, zero, suc, ◌+◌, ◌/◌, ◌<◌, ◌≤◌, ◌^◌, nat_lt, if◌then◌else◌, List, [], ◌∷◌, ◌++◌, length, take, drop}
 use Rattle.cf_view.specs.Octets.{IsOctets, u16_le_octets}
 use Rattle.cf_view.specs.declared.Break.{Break}
@@ -8,7 +8,7 @@ use Rattle.cf_view.specs.declared.Break.TheVariants as break_
 use Rattle.cf_dnplink.specs.Crc.{crc_of}
 use Rattle.cf_dnplink.specs.declared.frame.Frame.{Frame}
 
--- octets and behind them their CRC, its low octet first
+-- octets and after them their CRC, its low octet first
 abbrev pub with_crc : List ℕ → List ℕ
 with_crc octets = octets ++ u16_le_octets (crc_of octets)
 

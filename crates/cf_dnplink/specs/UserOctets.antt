@@ -1,4 +1,4 @@
--- The user octets of a frame: its blocks without their CRCs. IEEE 1815-2012, section 9.2.
+-- The user octets of a frame, `user_of`: its blocks without their CRCs. IEEE 1815-2012, section 9.2.
 use Rattle.std.specs.Prelude.{ℕ, zero, suc, ◌+◌, ◌-◌, ◌/◌, min, List, [], ◌++◌, length, take, drop}
 
 -- those of the first n blocks, of 18 octets each but for the last

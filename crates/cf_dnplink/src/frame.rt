@@ -29,7 +29,7 @@ pub struct Frame<'a> {
     pub dest: u16,
     /// The address of the station that sent it.
     pub source: u16,
-    /// The user octets in blocks of 16, the last one shorter, each with its CRC behind it: 0 to 282 octets.
+    /// The user octets in blocks of 16, the last one shorter, each with its CRC after it: 0 to 282 octets.
     pub blocks: View<'a>,
 }
 

@@ -22,7 +22,7 @@ pub fn copy_user(frame: &Frame<'_>, out: &mut [u8])
     ensures { out.new ≡ user_of frame.now.blocks.bytes }
 {
     for i in 0..out.len() {
-        // The two octets of a CRC stand behind each 16.
+        // The two octets of a CRC stand after each 16.
         out[i] = frame.blocks.at(i + i / 16 * 2);
     }
 }

@@ -14,7 +14,7 @@ use Rattle.cf_dnpobj.specs.Fragment.{counted}
 use Rattle.cf_dnpobj.specs.Acts.{summed, header_count, header_acts, object_act, acts_in}
 use Rattle.cf_dnpobj.proofs.Headers.{headers_step}
 
--- the number behind some others
+-- the number after some others
 abbrev pub plus : ℕ → Result ℕ FragmentRefusal → Result ℕ FragmentRefusal
 plus n (Ok m) = Ok (n + m)
 plus n (Err e) = Err e

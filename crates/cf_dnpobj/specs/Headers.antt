@@ -1,5 +1,5 @@
--- Object headers with their objects: group, variation, qualifier, range, and the objects. IEEE 1815-2012, section 4.2.2. The main
--- definition is `headers_in`, which stands last.
+-- Object headers with their objects, `headers_in`, which stands last: group, variation, qualifier, range, and the objects. IEEE
+-- 1815-2012, section 4.2.2.
 use Rattle.std.specs.Prelude.{◌≡◌, ℕ, zero, suc, ◌+◌, ◌-◌, ◌≤◌, ◌&&◌, ◌||◌, ◌==◌, nat_lt, nat_le, if◌then◌else◌, Bool, List, [], ◌∷◌, length, take, drop, slice_index, Option, Some, None, Result, Ok, Err}
 use Rattle.cf_view.specs.Octets.{u16_le_at}
 use Rattle.cf_dnpobj.specs.declared.fragment.FragmentRefusal.{FragmentRefusal}

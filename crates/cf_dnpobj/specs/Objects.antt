@@ -1,6 +1,5 @@
--- The table of objects: which function codes take which objects with which qualifiers. IEEE 1815-2012, sections 4.2.2 (qualifier
--- codes and ranges) and 4.4 (function codes), and annex A (objects). Which of them are served is this project's own. The table
--- itself is `layout_of`.
+-- The table of objects, `layout_of`: which function codes take which objects with which qualifiers. IEEE 1815-2012, sections 4.2.2
+-- (qualifier codes and ranges) and 4.4 (function codes), and annex A (objects). Which of them are served is this project's own.
 use Rattle.std.specs.Prelude.{ℕ, ◌+◌, ◌*◌, ◌/◌, ◌==◌, ◌&&◌, ◌||◌, nat_le, Bool, if◌then◌else◌, Option, Some, None}
 use Rattle.cf_dnpobj.specs.declared.object.Layout.{Layout}
 use Rattle.cf_dnpobj.specs.declared.object.Layout.TheVariants as layout
@@ -19,10 +18,11 @@ is_command code = nat_le 3 code && nat_le code 6
 abbrev pub is_write : ℕ → Bool
 is_write code = code == 2
 
+-- the object has this group and this variation
 abbrev pub is_object : ℕ → ℕ → ℕ → ℕ → Bool
 is_object group variation g v = (group == g) && (variation == v)
 
--- The table: the objects that a code takes, and how they lie. Controls have their octets behind an index, written objects have
+-- The table: the objects that a code takes, and how they lie. Controls have their octets after an index, written objects have
 -- theirs one after the other or are bits, and the objects of every other code are only named.
 abbrev pub layout_of : ℕ → ℕ → ℕ → Option Layout
 layout_of code group variation =

@@ -142,7 +142,7 @@ pub fn each(code: u8, header: &View<'_>) -> usize
     }
 }
 
-/// The value of the object at a place behind its index, if it is one that is read.
+/// The value of the object at a place after its index, if it is one that is read.
 fn value_at(header: &View<'_>, place: usize) -> Option<i64>
     requires head { 3 ≤ length header.now.bytes }
     requires inside { place + value_size header.now.bytes ≤ length header.now.bytes }

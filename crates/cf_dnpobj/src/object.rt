@@ -2,10 +2,10 @@
 ghost use Rattle.std.specs.Prelude.{◌≡◌, ◌≤◌, ◌<◌, ◌+◌, ◌*◌, IfSome};
 ghost use Rattle.cf_dnpobj.specs.Objects.{is_function, is_command, is_write, is_object, layout_of, is_span, is_all, is_counted, is_indexed, takes, width, range_size, index_size, objects_size};
 
-/// How the objects of a header lie.
+/// How the objects of a header lie. IEEE 1815-2012, section 4.2.2.
 #[derive(Clone, Copy)]
 pub enum Layout {
-    /// Each has so many octets behind its index. Qualifiers 17 and 28.
+    /// Each has so many octets after its index. Qualifiers 17 and 28.
     Indexed(usize),
     /// Each has so many octets. Qualifiers 07 and 08.
     Listed(usize),

@@ -1,4 +1,4 @@
--- What an `Assembly` keeps of the segments so far, and what one more segment does to it. The main definition is `IsAssemblyOf`.
+-- Steps of the proof: what an `Assembly` keeps of the segments so far, `IsAssemblyOf`, and what one more segment does to it, `Steps`.
 use Rattle.std.specs.Prelude.{◌≡◌, ℕ, ◌+◌, ◌%◌, ◌==◌, Bool, true, if◌then◌else◌, List, [], ◌∷◌, ◌++◌, drop, Option, Some, None}
 use Rattle.cf_dnptrans.specs.declared.assembly.SegmentAnswer.{SegmentAnswer}
 use Rattle.cf_dnptrans.specs.declared.assembly.SegmentAnswer.TheVariants as answer_

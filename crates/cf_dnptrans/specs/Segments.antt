@@ -1,4 +1,4 @@
--- A fragment in segments of at most 249 octets. IEEE 1815-2012, section 8.2. The main definition stands last.
+-- A fragment in segments of at most 249 octets: `segments_of`, which stands last. IEEE 1815-2012, section 8.2.
 use Rattle.std.specs.Prelude.{ℕ, zero, suc, ◌+◌, ◌*◌, ◌/◌, ◌%◌, ◌==◌, if◌then◌else◌, List, [], ◌∷◌, length, take, drop}
 
 -- how many segments a fragment of len octets has

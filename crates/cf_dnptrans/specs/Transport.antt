@@ -1,4 +1,4 @@
--- The transport function of DNP3: the first octet of a segment has FIN 80, FIR 40 and a sequence of six bits; application
+-- The transport function of DNP3, `answer_to`: the first octet of a segment has FIN 80, FIR 40 and a sequence of six bits; application
 -- octets follow. IEEE 1815-2012, section 8.2. That a repeat is dropped, and the limit of 2,048 octets, are this project's own.
 --
 -- The segments of a side so far are a list, the newest first. Each is the list of its octets. The main definitions are
@@ -12,9 +12,11 @@ use Rattle.cf_dnptrans.specs.declared.assembly.DropReason.TheVariants as drop_
 abbrev pub is_final : List ℕ → Bool
 is_final s = nat_le 128 (slice_index s 0)
 
+-- it has the bit FIR
 abbrev pub is_first : List ℕ → Bool
 is_first s = slice_index s 0 / 64 % 2 == 1
 
+-- its sequence number, from 0 to 63
 abbrev pub sequence : List ℕ → ℕ
 sequence s = slice_index s 0 % 64
 
@@ -43,10 +45,12 @@ fitting octets = if nat_le (length octets) 2048 then Some octets else None
 abbrev pub made_of : List (List ℕ) → Option (List ℕ)
 made_of run = if is_linked run then fitting (octets_of run) else None
 
+-- the fragment that they make where the newest one has no FIN, so that it is not whole
 abbrev pub left_of : List (List ℕ) → Option (List ℕ)
 left_of [] = None
 left_of (s ∷ run) = if is_final s then None else made_of (s ∷ run)
 
+-- the sequence number of the newest segment of a run
 abbrev pub sequence_of : List (List ℕ) → ℕ
 sequence_of [] = 0
 sequence_of (s ∷ run) = sequence s
@@ -81,5 +85,6 @@ answer_of before last [] = answer_.Dropped drop_.Empty
 answer_of before last (o ∷ os) =
     if is_first (o ∷ os) then added os (o ∷ os) else continued before last (o ∷ os)
 
+-- what becomes of a segment after the earlier ones
 abbrev pub answer_to : List (List ℕ) → List ℕ → SegmentAnswer
 answer_to earlier s = answer_of (unfinished earlier) (last_sequence earlier) s

@@ -26,7 +26,7 @@ pub enum DropReason {
     TooLong,
 }
 
-/// What became of a segment.
+/// What became of a segment. IEEE 1815-2012, section 8.2; which segments are dropped is this project's own.
 #[derive(Clone, Copy)]
 pub enum SegmentAnswer {
     /// The fragment is whole.
@@ -37,7 +37,7 @@ pub enum SegmentAnswer {
     Dropped(DropReason),
 }
 
-/// The fragment of one side of a session that is put together from the segments of that side.
+/// The fragment of one side of a session that is put together from the segments of that side. IEEE 1815-2012, section 8.2.
 #[derive(Drop)]
 pub struct Assembly {
     buffer: Vec<u8>,
@@ -128,7 +128,7 @@ impl Assembly {
         self.add(self.len, user)
     }
 
-    /// Puts the octets of a segment behind the first `len`.
+    /// Puts the octets of a segment after the first `len`.
     fn add(&mut self, len: usize, user: &View<'_>) -> SegmentAnswer
         requires len { len ≤ length self.old.octets }
         requires user { 0 < length user.now.bytes }

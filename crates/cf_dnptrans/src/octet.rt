@@ -3,9 +3,9 @@ ghost use Rattle.std.specs.Prelude.{◌≡◌, ℕ, ◌/◌, ◌%◌, ◌==◌, 
 
 /// FIN: the segment is a fragment's last. IEEE 1815-2012, section 8.2.1.
 pub const FIN: u8 = 0x80;
-/// FIR: the segment is a fragment's first.
+/// FIR: the segment is a fragment's first. IEEE 1815-2012, section 8.2.
 pub const FIR: u8 = 0x40;
-/// Sequences count modulo 64.
+/// Sequences count modulo 64. IEEE 1815-2012, section 8.2.
 pub const MODULUS: u8 = 64;
 
 /// Whether FIN is set.

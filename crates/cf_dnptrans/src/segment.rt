@@ -16,7 +16,7 @@ pub fn segment_count(len: usize) -> usize
 }
 
 /// The first octet of segment `i`, counted from 0, of a fragment of `len` octets, where `seq` is the sequence of that segment.
-/// Behind it stand octets 249 i and on of the fragment, at most 249.
+/// After it stand octets 249 i and on of the fragment, at most 249.
 pub fn segment_octet(len: usize, i: usize, seq: u8) -> u8
     requires len { len ≤ 2056 }
     requires inside { i < count_of len }

@@ -1,4 +1,4 @@
--- Whether the lists of a rule have a number of a kind of acts each: meets.
+-- Beside the proof: whether the lists of a rule have a number of a kind of acts each: `meets`. Warnings go by it.
 use Rattle.std.specs.Prelude.{int_le, Bool, not, ◌&&◌, ◌||◌, List, Option, Some, None}
 use Rattle.std.specs.List.{list_any, list_all}
 use Rattle.cf_policy.specs.declared.policy.Span.{Span}

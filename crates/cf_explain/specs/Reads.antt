@@ -1,4 +1,4 @@
--- The reads of function 23 of Modbus, which have no value, and a rule: NamesReads and HasReads. This project's own.
+-- Beside the proof: the reads of function 23 of Modbus, which have no value, and a rule: `NamesReads` and `HasReads`. Warnings go by it.
 use Rattle.std.specs.Prelude.{◌≡◌, ℕ, ◌<◌, pos, true}
 use Rattle.cf_view.specs.declared.base.Act.{Act}
 use Rattle.cf_policy.specs.declared.policy.Protocol.{Protocol}

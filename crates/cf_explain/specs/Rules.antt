@@ -1,4 +1,4 @@
--- Rules that decide nothing, or less than they seem to: what a finding says of a rule is Holds.
+-- Beside the proof: rules that decide nothing, or less than they seem to: what a finding says of a rule is `Holds`. Warnings go by it.
 use Rattle.std.specs.Prelude.{◌≡◌, ◌≢◌, ℕ, ◌<◌, false, List, [], ◌∷◌, Option, Some, None, pos, take, position, true}
 use Rattle.std.specs.List.{list_any}
 use Rattle.cf_view.specs.declared.base.Act.{Act}

@@ -20,7 +20,7 @@ const HEADER_OCTETS: usize = 24;
 /// What ended the records of a capture.
 #[derive(Clone, Copy)]
 enum Last {
-    /// This stands behind them.
+    /// This stands after them.
     Found(NextRecord),
     /// One comes at a moment that no capture can have.
     TooLate,

@@ -84,7 +84,7 @@ fn client_fault(text: &str) -> Option<&'static str> {
     }
 }
 
-/// Why a text behind `@` is no name of a set, if it is none.
+/// Why a text after `@` is no name of a set, if it is none.
 fn set_fault(name: &str) -> Option<&'static str> {
     if name.is_empty() {
         return Some("behind @ stands the name of a set");

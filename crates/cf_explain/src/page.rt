@@ -46,7 +46,7 @@ impl Page {
         }
     }
 
-    /// Puts one piece behind the other.
+    /// Puts one piece after the other.
     pub(crate) fn push_all(&mut self, pieces: &[&str]) {
         for piece in pieces {
             self.push(piece);

@@ -17,7 +17,7 @@ pub(crate) struct TextPlace {
 }
 
 impl TextPlace {
-    /// The place behind so many bytes of a text.
+    /// The place after so many bytes of a text.
     pub(crate) fn behind(before: &[u8]) -> TextPlace {
         let mut place = TextPlace { line: 1, column: 1 };
         for byte in before {
@@ -84,7 +84,7 @@ fn text_has(alloc: Global, text: &[u8], target: &Target<'_>) -> Option<bool> {
     }
 }
 
-/// Whether what is looked for comes with the text behind a front: that text alone adds it.
+/// Whether what is looked for comes with the text after a front: that text alone adds it.
 fn comes_with(alloc: Global, front: &[u8], added: &[u8], target: &Target<'_>) -> bool {
     if text_has(alloc, front, target) != Some(false) {
         return false;
@@ -147,7 +147,7 @@ struct Section {
 }
 
 impl Section {
-    /// The section behind a line.
+    /// The section after a line.
     fn behind(self, look: Look<'_>) -> Section {
         match look {
             Look::Header("set") => {

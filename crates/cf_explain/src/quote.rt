@@ -5,7 +5,7 @@ use toml::Value;
 /// How many characters of a text are shown.
 const SHOWN: usize = 48;
 
-/// A text cut behind `SHOWN` characters. A control character stands as its escape.
+/// A text cut after `SHOWN` characters. A control character stands as its escape.
 pub(crate) fn push_shown(out: &mut Page, text: &str) {
     for character in text.chars().take(SHOWN) {
         push_character(out, character);

@@ -38,10 +38,10 @@ struct Report {
     count: u32,
 }
 
-/// A line for each warning about a policy that was read from a text: first the refusals behind rules that allow all that they name;
+/// A line for each warning about a policy that was read from a text: first the refusals after rules that allow all that they name;
 /// then a set that no rule names, or that has the points of an earlier one; then a rule that no command meets, a code that none
 /// brings, values where reads have none, a rule that earlier ones cover, points that never come, and likely slips. Twenty are
-/// written out, and behind them how many more there are. Where the document has sets, their number stands before what is said of
+/// written out, and after them how many more there are. Where the document has sets, their number stands before what is said of
 /// them. The text is empty where there is nothing to say.
 pub fn policy_warnings(
     alloc: Global,
@@ -147,7 +147,7 @@ fn push_set_name(out: &mut Page, number: usize, set: &Value) {
 /// Which warnings about rules are written.
 #[derive(Clone, Copy, PartialEq, Eq)]
 enum Order {
-    /// Refusals behind rules that allow.
+    /// Refusals after rules that allow.
     Silent,
     /// The others.
     Other,

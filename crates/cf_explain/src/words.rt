@@ -5,7 +5,7 @@ use crate::page::Page;
 use crate::quote::push_quoted;
 use std::alloc::{AllocError, Global};
 
-/// What a word behind a command is.
+/// What a word after a command is.
 #[derive(Clone, Copy)]
 enum Role {
     /// The name of a file, which is not empty and differs from the others.
@@ -18,7 +18,7 @@ enum Role {
     Number(u64, u64),
 }
 
-/// A word behind a command: what help calls it, and what it is.
+/// A word after a command: what help calls it, and what it is.
 #[derive(Clone, Copy)]
 struct Slot {
     name: &'static str,
@@ -117,7 +117,7 @@ static COMMANDS: [&str; 11] = [
     "world",
 ];
 
-/// The words behind a command, if it is one.
+/// The words after a command, if it is one.
 fn slots_of(command: &str) -> Option<&'static [Slot]> {
     match command {
         "sift" => Some(&SIFT_SLOTS),
@@ -135,7 +135,7 @@ fn slots_of(command: &str) -> Option<&'static [Slot]> {
     }
 }
 
-/// What is wrong with words that are no command: which word, and why. Behind it stands the form of the command that the
+/// What is wrong with words that are no command: which word, and why. After it stands the form of the command that the
 /// first word names, or the commands. Words that are a command get a message all the same.
 pub fn words_message(alloc: Global, words: &[String]) -> Result<String, AllocError> {
     let mut out = Page::new(alloc);
@@ -149,7 +149,7 @@ pub fn words_message(alloc: Global, words: &[String]) -> Result<String, AllocErr
     out.finish()
 }
 
-/// What is wrong with a word and those behind it. Behind `help` stands the command that is asked for.
+/// What is wrong with a word and those after it. After `help` stands the command that is asked for.
 fn push_asked(out: &mut Page, word: &str, rest: &[String]) {
     match rest {
         [asked] if word == "help" => push_no_command(out, asked.as_str()),
@@ -178,7 +178,7 @@ fn push_no_command(out: &mut Page, word: &str) {
     push_commands(out);
 }
 
-/// What is wrong with the words behind a command, and its form.
+/// What is wrong with the words after a command, and its form.
 fn push_command_fault(out: &mut Page, command: &str, slots: &[Slot], words: &[String]) {
     if slots.len() == words.len() {
         push_words_fault(out, command, slots, words);

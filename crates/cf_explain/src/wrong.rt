@@ -127,7 +127,7 @@ fn push_unknown_set(out: &mut Page, case: &Case<'_>, value: &Value) {
     push_keyed(out, case.name, value);
 }
 
-/// The name behind `@` of an entry that names a set.
+/// The name after `@` of an entry that names a set.
 fn set_named(entry: &Value) -> Option<&str> {
     match entry {
         Value::String(text) => text.strip_prefix("@"),

@@ -47,7 +47,7 @@ same_back [] ys (u ∷ us) vs n h = let size = ap length h in let both = length-
 same_back (x ∷ xs) ys [] vs n h = let size = ap length h in let both = length-append xs ys in absurd (omega (arith, n, size, both))
 same_back (x ∷ xs) ys (u ∷ us) vs n h = let tail : xs ++ ys ≡ us ++ vs = cc in same_back xs ys us vs n tail
 
--- behind the same number of events the same moments stand
+-- after the same number of events the same moments stand
 times_behind : (after others es ds : List Event) → length es ≡ length ds → times (after ++ es) ≡ times (others ++ ds) → times es ≡ times ds
 times_behind after others es ds n h =
     let m : Event → ℕ = λ e. e.input.moment in

@@ -25,7 +25,7 @@ filter_all q false [] h = refl
 filter_all q true (x ∷ xs) h = ap (λ b. cond b (x ∷ filter q xs) (filter q xs)) h.0 ∙ ap (λ ys. x ∷ ys) (filter_all q true xs h.1)
 filter_all q false (x ∷ xs) h = ap (λ b. cond b (x ∷ filter q xs) (filter q xs)) h.0 ∙ filter_all q false xs h.1
 
--- of a test of two parts the second one may come behind
+-- of a test of two parts the second one may come after
 and_one : {X : Type 0} (p q : X → Bool) (x : X) (xs : List X) (a : Bool) → p x ≡ a → filter (λ y. p y && q y) xs ≡ filter q (filter p xs) →
     cond (a && q x) (x ∷ filter (λ y. p y && q y) xs) (filter (λ y. p y && q y) xs) ≡ filter q (cond a (x ∷ filter p xs) (filter p xs))
 and_one p q x xs true e h = ap (λ ys. cond (q x) (x ∷ ys) ys) h

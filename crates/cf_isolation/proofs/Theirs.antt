@@ -68,7 +68,7 @@ none_first p xs h = past_none p xs (by _ refl h)
 -- ---- an element at a place, among those that pass
 
 module _ (p : Session → Bool) (keeps : (s : Session) (es : List SessionEvent) → p (record s { events = es }) ≡ p s) where
-  -- those that pass before it and behind it
+  -- those that pass before it and after it
   pub record Around (xs : List Session) (i : ℕ) (y : Session) : Type 0 where
     pub front : List Session
     pub back : List Session

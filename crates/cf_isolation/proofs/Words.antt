@@ -41,7 +41,7 @@ decimal_digits n h = (decimal_is_IsNumeral n h).0.1
 decimal_lacks : (c n : ℕ) → c < 48 → n < 2 ^ 64 → Lacks c (decimal n)
 decimal_lacks c n low h = digits_lack c (decimal n) low (decimal_digits n h)
 
--- the list up to such an octet, and that behind it
+-- the list up to such an octet, and that after it
 split_same : (c : ℕ) (xs us ys vs : List ℕ) → Lacks c xs → Lacks c us → xs ++ c ∷ ys ≡ us ++ c ∷ vs → (xs ≡ us) × (ys ≡ vs)
 split_same c [] [] ys vs h g e = let same : ys ≡ vs = cc in (refl, same)
 split_same c [] (u ∷ us) ys vs h g e = let same : c ≡ u = cc in absurd (never u (subst (λ x. (u == x) ≡ false) same g.0))

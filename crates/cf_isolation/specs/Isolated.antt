@@ -1,5 +1,5 @@
--- Isolation of the files: what is matched to a session fixes the records of the output capture between its two endpoints, and they are
--- what its own events sent. The main definitions are CapturesHoldSessions and CapturesAreIsolated. This project's own.
+-- Isolation of the files, `CapturesHoldSessions` and `CapturesAreIsolated`: what is matched to a session fixes the records of the
+-- output capture between its two endpoints, and they are what its own events sent.
 --
 -- A session's time in a run goes from the moment of the record in which it began to that of any record before the one in which the next
 -- session of its client and asset begins: the records that are considered, `HasSession` of `cf_run`. The next session of theirs has the
@@ -31,7 +31,7 @@ began_at has = has.first.input.moment
 abbrev pub seen_until : {flow : Flow} → {events : List Event} → HasSession flow events → ℕ
 seen_until has = last_moment (has.later ++ has.first ∷ has.earlier)
 
--- the event behind those that are considered. Where the next session of the same client and asset begins in it, its first half is the
+-- the event after those that are considered. Where the next session of the same client and asset begins in it, its first half is the
 -- last that this session has
 pub record NextEvent {flow : Flow} {events : List Event} (has : HasSession flow events) : Type 0 where
   pub after : List Event

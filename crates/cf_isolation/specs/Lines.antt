@@ -1,4 +1,4 @@
--- The lines of a log that name a client and an asset, from one moment to another: lines_naming. This project's own.
+-- The lines of a log that name a client and an asset, from one moment to another: lines_naming.
 --
 -- A line is its moment, its client, the name of its asset and what happened, with one space between them.
 use Rattle.std.specs.Prelude.{ℕ, ◌==◌, not, Bool, ◌&&◌, if◌then◌else◌, List, [], ◌∷◌, filter, bytes_eq}
@@ -7,11 +7,12 @@ use Rattle.cf_view.specs.Text.{endpoint_text}
 use Rattle.cf_view.specs.declared.Endpoint.{Endpoint}
 use Rattle.cf_isolation.specs.Records.{is_during}
 
--- the octets before the first space, and those behind it
+-- the octets before the first space, and those after it
 abbrev pub first_word : List ℕ → List ℕ
 first_word [] = []
 first_word (octet ∷ octets) = if octet == 32 then [] else octet ∷ first_word octets
 
+-- the octets after the first space
 abbrev pub behind_word : List ℕ → List ℕ
 behind_word [] = []
 behind_word (octet ∷ octets) = if octet == 32 then octets else behind_word octets
@@ -25,8 +26,10 @@ abbrev pub names_both : (client : Endpoint) → (name : List ℕ) → List ℕ �
 names_both client name line =
     bytes_eq (first_word (behind_word line)) (endpoint_text client) && bytes_eq (first_word (behind_word (behind_word line))) name
 
+-- the line names this client and this asset, and its moment is among these
 abbrev pub is_line_naming : (client : Endpoint) → (name : List ℕ) → (since until : ℕ) → List ℕ → Bool
 is_line_naming client name since until line = names_both client name line && is_during since until (moment_in line)
 
+-- the lines that do, in their order
 abbrev pub lines_naming : (client : Endpoint) → (name : List ℕ) → (since until : ℕ) → List (List ℕ) → List (List ℕ)
 lines_naming client name since until lines = filter (is_line_naming client name since until) lines

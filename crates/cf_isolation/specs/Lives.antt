@@ -1,5 +1,5 @@
 -- The life of each session of a run in the two output files: EachSent and EachLogged; and what two runs have alike: AlikeInRecords and
--- AlikeInLines. A session is one of `sessions_of` of `cf_run`, with its own events. This project's own.
+-- AlikeInLines. A session is one of `sessions_of` of `cf_run`, with its own events.
 --
 -- A life goes from the moment of the record in which the session began to before that of the record in which the next session of the
 -- same client and asset begins, or to the end.
@@ -31,6 +31,7 @@ abbrev pub own_sent : List SessionEvent → List Sent
 own_sent [] = []
 own_sent (event ∷ earlier) = own_sent earlier ++ (sent_first event ++ sent_second event)
 
+-- the lines that the session's own events logged, the oldest first
 abbrev pub own_logged : Flow → List SessionEvent → List (List ℕ)
 own_logged flow [] = []
 own_logged flow (event ∷ earlier) = own_logged flow earlier ++ (logged_first flow event ++ logged_second flow earlier event)
@@ -58,6 +59,7 @@ abbrev pub EachHasALife : Type 0
 EachHasALife =
     (events : List Event) (place : ℕ) (session : Session) → slice_get (sessions_of events) place ≡ Some session → HasLife session events
 
+-- the moment is in the life of a session that began at one moment, and after which these began
 abbrev pub is_in_life : (born : ℕ) → (later : List Session) → (moment : ℕ) → Bool
 is_in_life born [] moment = nat_le born moment
 is_in_life born (next ∷ later) moment = nat_le born moment && nat_lt moment (born_at next.events)
@@ -93,6 +95,7 @@ EachSent =
     (run : IsRun assets limit given out log summary) (session : Session) (life : HasLife session run.events) →
     sent_in_life session life ≡ own_sent session.events
 
+-- and the records of the output capture between them, in its life, are the records of that
 abbrev pub EachHasRecords : Type 0
 EachHasRecords =
     (assets : List Asset) (limit : ℕ) (given : List Input) (out log : List ℕ) (summary : Summary)

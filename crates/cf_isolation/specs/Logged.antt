@@ -1,5 +1,5 @@
--- Isolation of the logs: what is matched to a session fixes the lines of the log that name it, and they are what its own events logged.
--- The main definitions are LogsHoldSessions and LogsAreIsolated. A session's time is that of `Isolated`. This project's own.
+-- Isolation of the logs, `LogsHoldSessions` and `LogsAreIsolated`: what is matched to a session fixes the lines of the log that name
+-- it, and they are what its own events logged. A session's time is that of `Isolated`.
 use Rattle.std.specs.Prelude.{◌≡◌, ◌<◌, ℕ, List, ◌∷◌, ◌++◌, filter, length, IfOk}
 use Rattle.std.specs.List.{AllByRecursion}
 use Rattle.cf_packet.specs.Written.{HasRanges}

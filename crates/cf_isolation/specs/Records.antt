@@ -1,5 +1,5 @@
--- The packets of an output capture that go between two endpoints, in either direction, from one moment to another: sent_between; and the
--- records of the file that are these packets: records_between. This project's own.
+-- The packets of an output capture that go between two endpoints, in either direction, from one moment to another: sent_between; and
+-- the records of the file that are these packets: records_between.
 use Rattle.std.specs.Prelude.{ℕ, nat_le, Bool, false, ◌&&◌, ◌||◌, List, filter, Result, Ok, Err}
 use Rattle.cf_packet.specs.Packet.{PacketValue, read_record}
 use Rattle.cf_packet.specs.declared.packet.PacketRefusal.{PacketRefusal}
@@ -24,6 +24,7 @@ goes_between client asset packet = goes_from client asset packet || goes_from as
 abbrev pub is_sent_between : (client asset : Endpoint) → (since until : ℕ) → Sent → Bool
 is_sent_between client asset since until s = goes_between client asset s.packet && is_during since until s.moment
 
+-- the packets that were sent between the two, in their order
 abbrev pub sent_between : (client asset : Endpoint) → (since until : ℕ) → List Sent → List Sent
 sent_between client asset since until all = filter (is_sent_between client asset since until) all
 
@@ -32,8 +33,10 @@ abbrev pub is_packet_between : (client asset : Endpoint) → Result PacketValue 
 is_packet_between client asset (Ok packet) = goes_between client asset packet
 is_packet_between client asset (Err refusal) = false
 
+-- the record is such a packet, and its moment is among these
 abbrev pub is_record_between : (client asset : Endpoint) → (since until : ℕ) → Record → Bool
 is_record_between client asset since until r = is_packet_between client asset (read_record r.link r.body) && is_during since until r.stamp
 
+-- the records that are, in their order
 abbrev pub records_between : (client asset : Endpoint) → (since until : ℕ) → List Record → List Record
 records_between client asset since until records = filter (is_record_between client asset since until) records

@@ -1,4 +1,4 @@
--- What is found in the bytes of one flow: IsFoundIn. This project's own.
+-- Steps of the proof: what is found in the bytes of one flow: `IsFoundIn`.
 use Rattle.std.specs.Prelude.{◌≡◌, ◌+◌, ℕ, List, [], Some}
 use Rattle.std.specs.Option.{option_or}
 use Rattle.cf_lane.specs.Judged.{Judged}

@@ -1,4 +1,5 @@
--- What a reader of a client's bytes keeps, and what it answers about the unit at their front. This project's own.
+-- Steps of the proof: what a reader of a client's bytes keeps, `IsReaderOf`, and what it answers about the unit at their front,
+-- `IsFrontOf`.
 use Rattle.std.specs.Prelude.{◌≡◌, ◌<◌, ℕ, true, List, [], ◌∷◌, ◌++◌}
 use Rattle.cf_dnptrans.specs.AssemblyValue.{IsAssemblyOf}
 use Rattle.cf_lane.specs.Dnp3.{segments_of}
@@ -28,7 +29,7 @@ pub record IsReaderOf (asset : Asset) (client : ℕ) (earlier : List Judged) (r 
 abbrev pub HasWhole : Asset → Reader → Type 0
 HasWhole asset r = asset.protocol ≡ protocol.Dnp3 → r.assembly.whole ≡ true
 
--- a unit that counts for this, behind which the reader goes on
+-- a unit that counts for this, after which the reader goes on
 pub record TakesUnit
     (asset : Asset) (client : ℕ) (earlier : List Judged) (bytes : List ℕ) (found : Ruling) (used : ℕ) (new : Reader) : Type 0 where
   pub unit : UnitValue

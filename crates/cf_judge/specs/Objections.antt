@@ -1,5 +1,5 @@
 -- What is objected to in flows: IsJudgementOf. The first record with which something is wrong counts; in one record a conflict comes
--- before the items, and these in the order of the bytes. This project's own.
+-- before the items, and these in the order of the bytes.
 use Rattle.std.specs.Prelude.{◌≡◌, ◌+◌, ◌-◌, ◌^◌, min, ℕ, nat_lt, if◌then◌else◌, List, [], ◌∷◌, length, map, slice_get, Option, Some, None, option_map}
 use Rattle.std.specs.Option.{option_or}
 use Rattle.cf_lane.specs.Judged.{Judged, is_admitted, one_if}
@@ -15,15 +15,19 @@ use Rattle.cf_judge.specs.declared.judging.Judged.{Judged as Judgement}
 use Rattle.cf_judge.specs.declared.judging.Objection.{Objection}
 use Rattle.cf_judge.specs.declared.judging.Wrong.{Wrong}
 
+-- what is wrong with the record of this number
 abbrev pub wrong : ℕ → Complaint → Wrong
 wrong number what = record { number = number; what = what }
 
+-- what is wrong with an item of this fate, if anything is
 abbrev pub wrong_by_fate : (record_number : ℕ) → Fate → Option Wrong
 wrong_by_fate number f = option_map (wrong number) (complaint_of f)
 
+-- what is wrong with a judged item, if anything is: its moment is the number of its record
 abbrev pub wrong_in : Judged → Option Wrong
 wrong_in j = wrong_by_fate j.moment j.fate
 
+-- what is wrong where the bytes end, if they break there
 abbrev pub wrong_at : Ending → Option Wrong
 wrong_at Whole = None
 wrong_at (Breaks number reason) = Some (wrong number (complaint.Broken reason))
@@ -39,9 +43,11 @@ sooner None later = later
 sooner (Some a) None = Some a
 sooner (Some a) (Some b) = if nat_lt b.number a.number then Some b else Some a
 
+-- what is wrong by a conflict
 abbrev pub wrong_by : Conflict → Wrong
 wrong_by c = wrong c.at_record (complaint.Conflict c.position)
 
+-- the objection to a flow, by what is wrong in it
 abbrev pub objected : FlowValue → Wrong → Objection
 objected f w = record { at_record = w.number; client = f.client; asset = f.asset; what = w.what }
 
@@ -49,9 +55,11 @@ objected f w = record { at_record = w.number; client = f.client; asset = f.asset
 abbrev pub objection_by : FlowValue → Option Wrong → Option Objection
 objection_by f first = option_map (objected f) (sooner (option_map wrong_by f.conflict) first)
 
+-- the objection to a flow whose bytes have these items and end so
 abbrev pub objection_of : FlowValue → List Judged → Ending → Option Objection
 objection_of f js ending = objection_by f (first_wrong js ending)
 
+-- of two objections the one with the earlier record, and of two with one record the first
 abbrev pub earlier : Option Objection → Option Objection → Option Objection
 earlier None later = later
 earlier (Some a) None = Some a
@@ -68,6 +76,7 @@ abbrev pub IsReadBy : Option Asset → Reading → Type 0
 IsReadBy None r = ⊥
 IsReadBy (Some asset) r = AreRead asset r.flow.client.address [] r.flow.bytes r.flow.born r.judged r.ending
 
+-- each flow is read by the asset at its place of the policy
 abbrev pub AreReadBy : List Asset → List Reading → Type 0
 AreReadBy assets [] = Unit {0}
 AreReadBy assets (r ∷ rs) = IsReadBy (slice_get assets r.flow.asset) r × AreReadBy assets rs
@@ -82,6 +91,7 @@ abbrev pub admitted_in : List Judged → ℕ
 admitted_in [] = 0
 admitted_in (j ∷ js) = one_if (is_admitted j.fate) + admitted_in js
 
+-- how many admitted commands the flows have besides those counted, up to 2^64 - 1
 abbrev pub commands_in : ℕ → List Reading → ℕ
 commands_in count [] = count
 commands_in count (r ∷ rs) = commands_in (min (count + admitted_in r.judged) (2 ^ 64 - 1)) rs

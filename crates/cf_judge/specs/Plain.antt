@@ -1,5 +1,5 @@
--- The units of a client's bytes, each with its fate: AreRead. The fates are those of a lane, but that no rule is ever spent, and that an
--- APDU of IEC 60870-5-104 is judged by its ASDU alone. This project's own.
+-- The units of a client's bytes, each with its fate: AreRead. The fates are those of a lane, but that no rule is ever spent, and that
+-- an APDU of IEC 60870-5-104 is judged by its ASDU alone.
 use Rattle.std.specs.Prelude.{◌≡◌, ◌-◌, ◌<◌, ℕ, List, [], ◌∷◌, ◌++◌, drop, slice_index}
 use Rattle.cf_apci.specs.Apdu.{Ack, ApduValue, Control, Info}
 use Rattle.cf_dnplink.specs.LinkFrame.{FrameValue}
@@ -46,13 +46,14 @@ pub data Ending : Type 0 where
   Whole : Ending
   Breaks : (record_number : ℕ) → Break → Ending
 
+-- what follows the last unit: a proper prefix of one, or octets that break, and then the record of the octet that does
 abbrev pub HasEnding : Asset → (bytes born : List ℕ) → Ending → Type 0
 HasEnding asset bytes born Whole = IsPartial (SpellsUnit asset.protocol) bytes
 HasEnding asset bytes born (Breaks number reason) =
     (place : ℕ) × BreaksAt (SpellsUnit asset.protocol) bytes place × (reason ≡ unit_break asset.protocol place)
     × (number ≡ slice_index born place)
 
--- the units that follow each other in a client's bytes, behind earlier ones, and what follows them; each byte came with the record at its
+-- the units that follow each other in a client's bytes, after earlier ones, and what follows them; each byte came with the record at its
 -- place
 abbrev pub AreRead : Asset → ℕ → (earlier : List Judged) → (bytes born : List ℕ) → List Judged → Ending → Type 0
 AreRead asset client earlier bytes born [] ending = HasEnding asset bytes born ending

@@ -1,4 +1,4 @@
--- What a unit counts for, by its fate in a lane: ruling_of. The rated rules that a command used play no part. This project's own.
+-- What a unit counts for, by its fate in a lane: ruling_of. The rated rules that a command used play no part.
 use Rattle.std.specs.Prelude.{◌≡◌, ℕ, Option, None, Some}
 use Rattle.cf_lane.specs.Modbus.{HasCommandFate}
 use Rattle.cf_lane.specs.declared.fate.Fate.{Fate}

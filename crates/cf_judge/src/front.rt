@@ -60,7 +60,7 @@ impl Reader {
         Ok(Reader { index, assembly })
     }
 
-    /// What stands at the front of bytes behind those that were read. The asset is the same from unit to unit.
+    /// What stands at the front of bytes after those that were read. The asset is the same from unit to unit.
     pub fn next(&mut self, asset: &Asset, bytes: &View<'_>) -> Front
         ensures front { (client : ℕ) (earlier : List Judged) → IsReaderOf asset.now client earlier self.old
             → IsFrontOf asset.now client earlier bytes.now.bytes self.new result }

@@ -188,7 +188,7 @@ fn with_ruling(found: Found, number: u64, ruling: Ruling) -> Found
     }
 }
 
-/// What was found, with something that is wrong behind it.
+/// What was found, with something that is wrong after it.
 fn with_wrong(found: Found, wrong: Wrong) -> Found
     ensures { result ≡ with_wrong found wrong }
 {

@@ -203,7 +203,7 @@ module _ (p : Protocol) where
   nothing_tail : HasTail p []
   nothing_tail = ([], Left [], record { starts = refl; partial = nothing_unit p })
 
-  -- an element completes items behind any history
+  -- an element completes items after any history
   complete : (h : List Element) (e : Element) (us : List UnitValue) (t : Tail) → AreUnits p (bytes_of e.side h) us t → IsOctets e.letters.bytes → (now : List Placed) × Completes p h e now × AreAll p now
   complete h e us (Wrong reason) a o =
       let stays = subst (λ vs. AreUnits p (bytes_of e.side h ++ bytes_in e.side e) vs (Wrong reason)) (sym (append-nil us)) (units_stay p us (bytes_of e.side h) (bytes_in e.side e) reason a) in
@@ -233,7 +233,7 @@ module _ (p : Protocol) where
       } in
       (now, c, now_all p e.moment e.side e.letters.ended more.0 more.1 (units_spelled p more.0 (rest ++ e.letters.bytes) more.1 more.2))
 
--- ---- behind a cut nothing is judged
+-- ---- after a cut nothing is judged
 
 cut_step : (c : Option CutReason) (js : List Judged) (P Q : Type 0) (r : CutReason) → (cut_of js ≡ Some r → P → Q) → option_or c (cut_of js) ≡ Some r → GoesOnAfter c js P → GoesOnAfter c js Q
 cut_step None js P Q r on e g = on e g

@@ -84,7 +84,7 @@ bool_is false = inr refl
 with-nothing : (w : Stream) → with_bytes w [] ≡ w
 with-nothing w = ap (λ (xs : List ℕ). record w { bytes = xs }) (append-nil w.bytes)
 
--- what stands for a stream stands for it with more bytes, none of them behind an End
+-- what stands for a stream stands for it with more bytes, none of them after an End
 open_push : (q : Queue) (w : Stream) (bytes : List ℕ) → q.ended ≡ false → IsQueueOf q w → IsQueueOf (after_push q bytes) (with_bytes w bytes)
 open_push q w bytes o h = search (rules, common_steps)
 
@@ -440,7 +440,7 @@ goes_cut (Some x) r P e = refl
 
 module _ (asset : Asset) (h : List Element) (rests : Rests) (first own : Option (List (List ℕ))) (moment : ℕ) (s : Side) (piece bytes : List ℕ) (used n : ℕ) (old mid new : State)
     (is : bytes ≡ rest_of s rests ++ piece) (f : Follows asset h rests None first (over own old)) (a : Along asset moment s bytes used old mid) where
-  -- units up to one that cuts: the bytes behind it have units, which are dropped, and so is an End behind them
+  -- units up to one that cuts: the bytes after it have units, which are dropped, and so is an End after them
   pub fed_cut : (ended : Bool) (reason : CutReason) → TakesUnit asset moment s (drop used bytes) n (Some reason) mid new →
       ((us : List UnitValue) × (t : Tail) × AreUnits asset.protocol (drop n (drop used bytes)) us t) → (rests' : Rests) →
       AddsTo asset (h ++ letters_at moment s piece ended ∷ []) rests' (Some reason) first own old.lines new

@@ -44,7 +44,7 @@ module _ (p : Protocol) (free : IsPrefixFree (SpellsUnit p)) where
       ∙ ap (λ t. map (placed e.moment) (map (Took e.side) d.more ++ last_after c.was e.side e.letters.ended t)) are.1
       ∙ ap (λ t. map (placed e.moment) (map (Took e.side) d.more ++ last_after t e.side e.letters.ended d.tail)) were.1 ∙ sym d.is_items
 
-  -- behind a break there is nothing
+  -- after a break there is nothing
   stays : (us vs : List UnitValue) (xs ys : List ℕ) (reason : Break) (t : Tail) → AreUnits p xs us (Wrong reason) → AreUnits p (xs ++ ys) vs t → (us ≡ vs) × (Wrong reason ≡ t)
   stays us vs xs ys reason t a b = one_units us vs (xs ++ ys) (Wrong reason) t (units_stay p us xs ys reason a) b
 

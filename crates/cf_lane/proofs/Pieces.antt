@@ -10,7 +10,7 @@ use Rattle.std.proofs.lemmas.Bool.{cases_lt}
 use Rattle.std.proofs.lemmas.List.{drop-append-le, length-append, length-drop, take-append-le}
 
 module _ {U : Type 0} (Spells : U → List ℕ → Type 0) where
-  -- what begins the bytes begins them with more behind them
+  -- what begins the bytes begins them with more after them
   begins_longer : (xs ys : List ℕ) (u : U) (n : ℕ) → Begins Spells xs u n → Begins Spells (xs ++ ys) u n
   begins_longer xs ys u n b = record {
     inside = omega (arith, b.inside, length-append xs ys);
@@ -93,7 +93,7 @@ module _ {U : Type 0} (Spells : U → List ℕ → Type 0) where
   first_unit [] u xs left s = (u, s.0, s.1)
   first_unit (v ∷ us) u xs left s = (v, s.0, s.1)
 
-  -- units that begin behind a proper prefix of one reach past it
+  -- units that begin after a proper prefix of one reach past it
   pub covers_rest : IsPrefixFree Spells → (us : List U) (u : U) (rest piece : List ℕ) (n : ℕ) → IsPartial Spells rest →
       BeginsWithUnits Spells (us ++ u ∷ []) (rest ++ piece) (drop n (rest ++ piece)) → length rest ≤ n
   covers_rest free us u rest piece n partial s =

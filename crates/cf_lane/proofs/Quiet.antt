@@ -1,4 +1,4 @@
--- Nothing comes into the stream to a side behind the End of the other.
+-- Nothing comes into the stream to a side after the End of the other.
 use Rattle.cf_apci.specs.Apdu.{Ack, ApduValue, Control, Info}
 use Rattle.cf_dnplink.specs.LinkFrame.{FrameValue}
 use Rattle.cf_lane.proofs.Growth.{further, items_split}

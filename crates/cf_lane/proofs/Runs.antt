@@ -40,7 +40,7 @@ module _ (r : RequestValue) (i : ℕ) (act : Act) (here : slice_get (acts r) i �
   has_code inside =
       ⊎_elim (λ lt. ap (λ a. a.code) (sym (is_first lt))) (λ past. ap (λ a. a.code) (sym (is_second past inside))) (cases_lt i r.quantity)
 
-  -- the acts behind the first points are one run
+  -- the acts after the first points are one run
   pub second_run : (open_value : Bool) → r.quantity ≤ i → i < length (acts r) → AreRun (acts r) i (length (acts r) - 1) act open_value
   second_run open_value past inside = subst (λ a. AreRun (acts r) i (length (acts r) - 1) a open_value) (is_second past inside)
       (λ j from to.

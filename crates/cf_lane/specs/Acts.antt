@@ -1,4 +1,4 @@
--- What a policy makes of the acts of a command. This project's own.
+-- What a policy makes of the acts of a command: `fate_of_acts`.
 use Rattle.cf_lane.specs.declared.fate.Fate.{Fate}
 use Rattle.cf_lane.specs.declared.fate.Refusal.{Refusal}
 use Rattle.cf_lane.specs.Rates.{Says, is_place, rated, rated_place}
@@ -35,6 +35,7 @@ is_by all place (verdict.Refuse d why) = false
 abbrev pub used_by : List (ℕ × Rate) → Says → List Act → List Bool
 used_by all says acts = map (λ place. list_any (λ act. is_by all place (says act)) acts) (range_with_len 0 most_rated)
 
+-- a command without a refusal is admitted, with the rated rules that it used
 abbrev pub by_refusal : (used : List Bool) → Option Refusal → Fate
 by_refusal used None = fate.Admitted used
 by_refusal used (Some refusal) = fate.Refused refusal

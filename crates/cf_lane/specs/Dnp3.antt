@@ -1,5 +1,5 @@
--- DNP3 in the lane: which frames are served, the fate of a frame, what it puts into the stream to each side, and what its
--- line shows. IEEE 1815-2012; which frames are served, and fates, are this project's own.
+-- DNP3 in the lane: which frames are served (`stray_of`), the fate of a frame (`fate_of_frame`), what it puts into the stream to each
+-- side, and what its line shows. IEEE 1815-2012; which frames are served, and fates, are this project's own.
 use Rattle.cf_lane.specs.Rates.{Says}
 use Rattle.cf_audit.specs.declared.line.Why.{Why}
 use Rattle.cf_dnplink.specs.LinkFrame.{FrameValue}
@@ -39,23 +39,29 @@ use Rattle.cf_audit.specs.declared.line.Why.TheVariants as why
 abbrev pub has_direction : FrameValue → Bool
 has_direction f = nat_eq (f.control / 128 % 2) 1
 
+-- the bit PRM of a frame: it comes from a primary station
 abbrev pub is_primary : FrameValue → Bool
 is_primary f = nat_eq (f.control / 64 % 2) 1
 
+-- the function code of a frame
 abbrev pub link_code : FrameValue → ℕ
 link_code f = f.control % 16
 
+-- the frame of a side has the addresses of the asset: station and master, or the other way round
 abbrev pub has_addresses : Asset → Side → FrameValue → Bool
 has_addresses asset side.Client f = nat_eq f.dest asset.station && nat_eq f.source asset.master
 has_addresses asset side.Controller f = nat_eq f.dest asset.master && nat_eq f.source asset.station
 
+-- its bit DIR is that of its side
 abbrev pub has_right_direction : Side → FrameValue → Bool
 has_right_direction side.Client f = has_direction f
 has_right_direction side.Controller f = not (has_direction f)
 
+-- it carries user data without confirmation: function code 4
 abbrev pub is_data : FrameValue → Bool
 is_data f = is_primary f && nat_eq (link_code f) 4
 
+-- it asks for the link's status, or gives it, and has no user octets: function codes 9 and 11
 abbrev pub is_status : FrameValue → Bool
 is_status f = nat_eq (length (user_of f.blocks)) 0 && (if is_primary f then nat_eq (link_code f) 9 else nat_eq (link_code f) 11)
 
@@ -66,6 +72,7 @@ stray_of asset s f =
     else (if not (has_right_direction s f) then Some why.Direction
     else (if is_data f then None else (if is_status f then None else Some why.Code)))
 
+-- there is no reason
 abbrev pub is_none : Option Why → Bool
 is_none None = true
 is_none (Some why) = false
@@ -104,6 +111,7 @@ fate_of_read asset says code (Ok f) = if nat_eq f.code 0 then fate.Carried else 
 fate_of_read asset says code (Err refusal) =
     fate.Refused (record { decider = decider.Form; reason = form_reason refusal; act = act_of_code code 0 })
 
+-- the fate of a whole fragment: that of a controller is carried, that of a client is judged
 abbrev pub fate_of_fragment : Asset → Says → Side → List ℕ → Fate
 fate_of_fragment asset says side.Controller octets = fate.Carried
 fate_of_fragment asset says side.Client octets = fate_of_read asset says (slice_index octets 1) (read_octets octets)
@@ -135,6 +143,7 @@ fate_of_segment asset says s answers.More whole = fate.Lengthens
 fate_of_segment asset says s (answers.Dropped because) whole = fate.Stray (drop_why because)
 fate_of_segment asset says s answers.Whole whole = fate_of_whole asset says s whole
 
+-- the fate of a frame: it is stray, or ends a fragment, or lengthens one, or is carried
 abbrev pub fate_of_frame : Asset → Says → Side → List Judged → FrameValue → Option Why → Fate
 fate_of_frame asset says s earlier f (Some because) = fate.Stray because
 fate_of_frame asset says s earlier f None =
@@ -151,12 +160,14 @@ fragment_reply false (fate.Stray because) octets = []
 fragment_reply false fate.Lengthens octets = []
 fragment_reply false (fate.Cuts because) octets = []
 
+-- the fragments that go to a side by a fragment of a side: it goes on, or the client has a reply
 abbrev pub frame_fragment : Side → (ended : Bool) → Side → Fate → List (List ℕ) → List (List ℕ)
 frame_fragment side.Client ended side.Client f octets = fragment_reply ended f octets
 frame_fragment side.Client ended side.Controller f octets = if goes_on f then octets else []
 frame_fragment side.Controller ended side.Client f octets = if goes_on f then octets else []
 frame_fragment side.Controller ended side.Controller f octets = []
 
+-- the fragments that go to a side by a judged item
 abbrev pub fragment_in : Asset → Side → List Judged → Judged → Item → List (List ℕ)
 fragment_in asset to earlier j (Took s (Frame x)) =
     if is_data x then frame_fragment to (has_ended side.Controller earlier) s j.fate (whole_now asset s earlier x) else []

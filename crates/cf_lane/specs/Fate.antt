@@ -1,4 +1,4 @@
--- The fate of each item. This project's own.
+-- The fate of each item: `HasFate`.
 use Rattle.cf_lane.specs.Rates.{Says, says_at}
 use Rattle.cf_lane.specs.Dnp3.{fate_of_frame, stray_of}
 use Rattle.cf_lane.specs.Iec104.{fate_of_apdu}
@@ -21,6 +21,7 @@ HasUnitFate asset says earlier s (Adu a) f = HasAduFate asset says s a f
 HasUnitFate asset says earlier s (Frame x) f = f ≡ fate_of_frame asset says s earlier x (stray_of asset s x)
 HasUnitFate asset says earlier s (Apdu x) f = f ≡ fate_of_apdu asset says s earlier x
 
+-- the fate of an item: a unit is judged, an end is carried, and a break cuts
 abbrev pub HasItemFate : Asset → Says → List Judged → Item → Fate → Type 0
 HasItemFate asset says earlier (Took s unit) f = HasUnitFate asset says earlier s unit f
 HasItemFate asset says earlier (Ended s rest) f = f ≡ fate.Carried

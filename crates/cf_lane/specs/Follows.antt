@@ -1,4 +1,4 @@
--- What a lane, its two queues and the log stand for: the items of a whole history. This project's own.
+-- The judged items of a history, `AreJudged`, and when a lane, its two queues and the log stand for them: `Follows`.
 use Rattle.cf_audit.specs.declared.line.CutReason.{CutReason}
 use Rattle.cf_lane.specs.Fate.{HaveFates}
 use Rattle.cf_lane.specs.Handled.{Knows, State}
@@ -23,6 +23,7 @@ abbrev pub GoesOnAfter : Option CutReason → (later : List Judged) → (going :
 GoesOnAfter None later going = going
 GoesOnAfter (Some reason) later going = later ≡ []
 
+-- items are dropped only after one that cuts
 abbrev pub GoesOn : (judged : List Judged) → (dropped : List Placed) → Type 0
 GoesOn [] dropped = dropped ≡ []
 GoesOn (j ∷ js) dropped = GoesOnAfter (cut_by j.fate) js (GoesOn js dropped)
@@ -61,7 +62,7 @@ abbrev pub AreRests : Protocol → List Element → Rests → Option CutReason �
 AreRests p history rests None = IsRest p (bytes_of side.Client history) rests.client × IsRest p (bytes_of side.Controller history) rests.controller
 AreRests p history rests (Some reason) = Unit {0}
 
--- lane, queues and log stand for a history: the queues have the two streams, the log has the lines behind what it had
+-- lane, queues and log stand for a history: the queues have the two streams, the log has the lines after what it had
 -- first, and the cut is that of the history
 pub record Follows (asset : Asset) (history : List Element) (rests : Rests) (cut : Option CutReason) (first : Option (List (List ℕ))) (now : State) : Type 0 where
   pub judged : List Judged
@@ -84,13 +85,13 @@ pub record AddsTo (asset : Asset) (history : List Element) (rests : Rests) (cut 
   pub added : now.lines ≡ with_lines old more
   pub follows : Follows asset history rests cut first (over (with_lines own more) now)
 
--- an End may stand behind bytes in one element where the bytes cut: it is then no item
+-- an End may stand after bytes in one element where the bytes cut: it is then no item
 abbrev pub IsEndBehindCut : (ended : Bool) → Option CutReason → Type 0
 IsEndBehindCut false cut = Unit {0}
 IsEndBehindCut true None = ⊥
 IsEndBehindCut true (Some reason) = Unit {0}
 
--- a log has, behind what it had first, the first lines of a history's items, and the octets behind its last line are a beginning
+-- a log has, after what it had first, the first lines of a history's items, and the octets after its last line are a beginning
 -- of the lines that follow
 pub record Began (asset : Asset) (client : Endpoint) (history : List Element) (first log : Option (List (List ℕ))) (part : List ℕ) : Type 0 where
   pub judged : List Judged

@@ -1,5 +1,4 @@
--- What a frame of DNP3 does to the fragments of a lane, to its two queues and to the log. The main definition is `TakesFrame`.
--- This project's own.
+-- Steps of the proof: what a frame of DNP3 does to the fragments of a lane, to its two queues and to the log: `TakesFrame`.
 use Rattle.cf_lane.specs.Rates.{Says}
 use Rattle.cf_dnplink.specs.LinkFrame.{FrameValue}
 use Rattle.cf_dnptrans.specs.AssemblyValue.{AssemblyValue, IsAssemblyOf}

@@ -1,5 +1,5 @@
--- What a lane does with the units at the front of a side's bytes. Nothing here speaks of a history: the items before are
--- any items that lane and queues stand for.
+-- Steps of the proof: what a lane does with the units at the front of a side's bytes: `Handled` and `Steps`. Nothing here speaks of a
+-- history: the items before are any items that lane and queues stand for.
 use Rattle.cf_audit.specs.declared.line.CutReason.{CutReason}
 use Rattle.cf_lane.specs.Fate.{HaveFates}
 use Rattle.cf_lane.specs.Item.{Item, Took}
@@ -164,7 +164,7 @@ MayEnd side.Controller c k = c.pushed < 2 ^ 31
 abbrev pub HasAdded : List (List ℕ) → DeskValue → DeskValue → Type 0
 HasAdded more old new = new.lines ≡ with_lines old.lines more
 
--- a log has these lines; or it has none of them, and the octets behind its last line are a beginning of theirs
+-- a log has these lines; or it has none of them, and the octets after its last line are a beginning of theirs
 abbrev pub MayHaveMore : List (List ℕ) → (old log : Option (List (List ℕ))) → (part : List ℕ) → Type 0
 MayHaveMore more old log part = ((log ≡ old) × ((k : ℕ) × (part ≡ take k (concat more)))) ⊎ ((log ≡ with_lines old more) × (part ≡ []))
 

@@ -1,4 +1,4 @@
--- The history of a session: what was newly taken of each side, event by event, oldest first. This project's own.
+-- The history of a session, a list of `Element`: what was newly taken of each side, event by event, oldest first.
 use Rattle.cf_stream.specs.Stream.{Stream}
 use Rattle.cf_view.specs.declared.Side.{Side}
 use Rattle.std.specs.List.{list_any}
@@ -11,6 +11,7 @@ pub record Element : Type 0 where
   pub side : Side
   pub letters : Stream
 
+-- both are the same side
 abbrev pub is_side : Side → Side → Bool
 is_side side.Client side.Client = true
 is_side side.Client side.Controller = false
@@ -38,8 +39,10 @@ taken s es = record { bytes = bytes_of s es; ended = ended_of s es }
 abbrev pub bytes_at : ℕ → Side → List ℕ → Element
 bytes_at moment s bytes = record { moment = moment; side = s; letters = record { bytes = bytes; ended = false } }
 
+-- the End of a side, taken at a moment
 abbrev pub end_at : ℕ → Side → Element
 end_at moment s = record { moment = moment; side = s; letters = record { bytes = []; ended = true } }
 
+-- letters of a side, taken at a moment, with its End or without it
 abbrev pub letters_at : ℕ → Side → List ℕ → Bool → Element
 letters_at moment s bytes ended = record { moment = moment; side = s; letters = record { bytes = bytes; ended = ended } }

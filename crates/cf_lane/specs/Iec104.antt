@@ -1,5 +1,5 @@
--- IEC 104 in the lane: the fate of an APDU, what it puts into the stream to each side, and what its line shows.
--- IEC 60870-5-104; fates are this project's own.
+-- IEC 104 in the lane: the fate of an APDU (`fate_of_apdu`), what it puts into the stream to each side, and what its line shows. IEC
+-- 60870-5-104; fates are this project's own.
 use Rattle.cf_lane.specs.Rates.{Says}
 use Rattle.cf_apci.specs.Apdu.{Ack, ApduValue, Control, Info}
 use Rattle.cf_asdu.specs.Asdu.{AsduValue, refusal_reason, station_of}
@@ -54,6 +54,7 @@ fate_of_asdu asset says octets =
     else (if nat_eq (station_of octets) asset.station then fate_by_form asset says octets (asdus.first_refusal (asdu_in octets))
     else asdu_refused decider.Station reason.Station octets (station_of octets))
 
+-- the fate, but where the numbers cut
 abbrev pub or_cut : Option CutReason → Fate → Fate
 or_cut None f = f
 or_cut (Some because) f = fate.Cuts because
@@ -63,6 +64,7 @@ abbrev pub fate_of_info : Asset → Says → Side → List ℕ → Fate
 fate_of_info asset says side.Client asdu = fate_of_asdu asset says asdu
 fate_of_info asset says side.Controller asdu = fate.Carried
 
+-- the fate of an APDU: a control frame is carried, numbers may cut, and an I frame is judged
 abbrev pub fate_of_apdu : Asset → Says → Side → List Judged → ApduValue → Fate
 fate_of_apdu asset says s earlier (Control octet) = fate.Carried
 fate_of_apdu asset says s earlier (Ack receive) = or_cut (ack_cut s earlier receive) fate.Carried
@@ -73,6 +75,7 @@ abbrev pub ack_octets : Option ℕ → List ℕ
 ack_octets None = []
 ack_octets (Some receive) = apdu_spelling (Ack receive)
 
+-- the S frame that goes to the controller by a refused command, if one is owed
 abbrev pub ack_output : List Judged → Fate → ℕ → List ℕ
 ack_output earlier (fate.Refused refusal) receive = ack_octets (owed_ack (events_of earlier) receive)
 ack_output earlier fate.Carried receive = []
@@ -85,6 +88,7 @@ ack_output earlier (fate.Cuts because) receive = []
 abbrev pub stamped : Stamp → List ℕ → ApduValue
 stamped stamp asdu = Info stamp.send stamp.receive asdu
 
+-- the mirror that goes to the client by a refused command, with numbers of its own
 abbrev pub mirror_output : List Judged → Fate → ApduValue → List ℕ
 mirror_output earlier (fate.Refused refusal) (Info send receive asdu) =
     if has_mirror earlier asdu then apdu_spelling (stamped (mirror_stamp (events_of earlier)) (mirrored asdu)) else []
@@ -105,11 +109,13 @@ renumbered side.Client earlier (Info send receive asdu) = stamped (carried_stamp
 renumbered side.Client earlier (Ack receive) = Ack (controller_translated (events_of earlier) receive % 32768)
 renumbered side.Client earlier (Control octet) = Control octet
 
+-- the receive number of an APDU
 abbrev pub info_number : ApduValue → ℕ
 info_number (Info send receive asdu) = receive
 info_number (Ack receive) = receive
 info_number (Control octet) = 0
 
+-- what an APDU of a side puts into the stream to a side
 abbrev pub apdu_output : Side → List Judged → Fate → Side → ApduValue → List ℕ
 apdu_output side.Client earlier f side.Client a = mirror_output earlier f a
 apdu_output side.Client earlier f side.Controller a = if goes_on f then apdu_spelling (renumbered side.Client earlier a) else []

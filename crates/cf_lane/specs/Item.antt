@@ -1,4 +1,4 @@
--- What completes in the two streams of a session, in the order in which it completes. This project's own.
+-- What completes in the two streams of a session, in the order in which it completes: `AreItems`.
 use Rattle.cf_lane.specs.History.{Element, bytes_of}
 use Rattle.cf_lane.specs.Unit.{AreUnits, Left, Tail, UnitValue, Wrong}
 use Rattle.cf_policy.specs.declared.Protocol.{Protocol}
@@ -6,6 +6,7 @@ use Rattle.cf_view.specs.declared.Break.{Break}
 use Rattle.cf_view.specs.declared.Side.{Side}
 use Rattle.std.specs.Prelude.{Bool, List, [], false, length, map, true, ℕ, ◌++◌, ◌∷◌, ◌≡◌}
 
+-- what completes in the stream of a side: a unit, its End with so many octets left over, or a break
 pub data Item : Type 0 where
   -- a unit of a side. For DNP3 a frame: the fragment that it completes is a function of the frames before it
   Took : Side → UnitValue → Item
@@ -19,6 +20,7 @@ pub record Placed : Type 0 where
   pub moment : ℕ
   pub item : Item
 
+-- the item, completed at this moment
 abbrev pub placed : ℕ → Item → Placed
 placed moment item = record { moment = moment; item = item }
 

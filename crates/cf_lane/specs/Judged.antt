@@ -1,4 +1,4 @@
--- Items with their moments and fates, and what is counted of them. This project's own.
+-- Items with their moments and fates, `Judged`, and what is counted of them.
 use Rattle.cf_audit.specs.declared.line.CutReason.{CutReason}
 use Rattle.cf_lane.specs.History.{is_side}
 use Rattle.cf_lane.specs.Item.{Broke, Ended, Item, Placed, Took}
@@ -9,11 +9,13 @@ use Rattle.std.specs.Option.{option_or}
 use Rattle.std.specs.Prelude.{Bool, List, None, Option, Some, [], false, true, ℕ, ◌++◌, ◌∷◌}
 use Rattle.cf_lane.specs.declared.fate.Fate.TheVariants as fate
 
+-- an item that has its fate: when it completed, what it is, and what becomes of it
 pub record Judged : Type 0 where
   pub moment : ℕ
   pub item : Item
   pub fate : Fate
 
+-- the item without its fate
 abbrev pub place_of : Judged → Placed
 place_of j = record { moment = j.moment; item = j.item }
 
@@ -27,10 +29,12 @@ ends s (Broke of reason) = false
 abbrev pub has_ended : Side → List Judged → Bool
 has_ended s js = list_any (λ j. ends s j.item) js
 
+-- the fate is that of an admitted command
 abbrev pub is_admitted : Fate → Bool
 is_admitted (fate.Admitted used) = true
 is_admitted f = false
 
+-- the fate is that of a refused command
 abbrev pub is_refused : Fate → Bool
 is_refused (fate.Refused refusal) = true
 is_refused f = false
@@ -40,6 +44,7 @@ abbrev pub one_if : Bool → ℕ
 one_if true = 1
 one_if false = 0
 
+-- why an item of this fate cuts, if it does
 abbrev pub cut_by : Fate → Option CutReason
 cut_by (fate.Cuts reason) = Some reason
 cut_by f = None

@@ -1,4 +1,4 @@
--- What a lane keeps for its protocol, and how it stands for the earlier items. This project's own.
+-- Steps of the proof: what a lane keeps for its protocol, `KnowsWire`, and how it stands for the earlier items, `IsWireOf`.
 use Rattle.cf_dnptrans.specs.AssemblyValue.{AssemblyValue, IsAssemblyOf}
 use Rattle.cf_lane.specs.Dnp3.{segments_into, segments_of}
 use Rattle.cf_lane.specs.Judged.{Judged}
@@ -14,7 +14,7 @@ use Rattle.cf_policy.specs.declared.Protocol.TheVariants as protocol
 use Rattle.cf_view.specs.declared.Side.TheVariants as side
 use Rattle.cf_lane.specs.declared.wire.Wire.TheVariants as wire
 
--- the fragments are put together from the segments of their sides, and the sequences go on behind the segments that were sent
+-- the fragments are put together from the segments of their sides, and the sequences go on after the segments that were sent
 pub record KnowsFragments (asset : Asset) (f : Fragments) (earlier : List Judged) : Type 0 where
   pub client : IsAssemblyOf f.client (segments_of asset side.Client earlier)
   pub controller : IsAssemblyOf f.controller (segments_of asset side.Controller earlier)

@@ -1,4 +1,4 @@
--- What holds of every history. This project's own.
+-- Steps of the proof: what holds of every history: `HasOneJudgement`, `LanePassesAllowed` and `RatesHold`, and how a history goes on.
 use Rattle.cf_audit.specs.declared.line.CutReason.{CutReason}
 use Rattle.cf_lane.specs.Follows.{AreJudged, Follows, Rests}
 use Rattle.cf_lane.specs.Handled.{State}
@@ -25,7 +25,7 @@ HasOneJudgement =
     (asset : Asset) (client : ℕ) (h : List Element) (js ks : List Judged) →
     AreJudged asset client h js → AreJudged asset client h ks → js ≡ ks
 
--- where a history has judged items, it has some with any octets of a side behind it, and with an End behind them. So each
+-- where a history has judged items, it has some with any octets of a side after it, and with an End after them. So each
 -- history of octets has judged items
 abbrev pub JudgementsGoOn : Type 0
 JudgementsGoOn =
@@ -88,7 +88,7 @@ StreamsGoOn =
     (asset : Asset) (client : Endpoint) (h more : List Element) (js ks : List Judged) →
     AreJudged asset client.address h js → AreJudged asset client.address (h ++ more) ks → GoOn asset client js ks
 
--- behind the End of a side that has no more bytes nothing comes into the stream to the other side
+-- after the End of a side that has no more bytes nothing comes into the stream to the other side
 abbrev pub QuietBehindEnd : Type 0
 QuietBehindEnd =
     (asset : Asset) (client : ℕ) (h more : List Element) (js ms : List Judged) (to : Side) →

@@ -1,4 +1,4 @@
--- When a stream has grown too long: limit_cut. This project's own.
+-- When a stream has grown too long: limit_cut.
 use Rattle.cf_audit.specs.declared.line.CutReason.{CutReason}
 use Rattle.cf_lane.specs.History.{Element, taken}
 use Rattle.cf_stream.specs.Stream.{Stream, letter_count}

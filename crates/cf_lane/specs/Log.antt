@@ -1,4 +1,4 @@
--- The lines of the log: one for each refused command, each stray frame, and bytes that are left at an end. This project's own.
+-- The lines of the log, `lines`: one for each refused command, each stray frame, and bytes that are left at an end.
 use Rattle.cf_audit.specs.Line.{Begun, Close, Cut, Full, LineValue, Listen, Lost, NoMemory, Partial, Refuse, Silent, Stray, Unreached, WhatValue}
 use Rattle.cf_audit.specs.Text.{line_text}
 use Rattle.cf_lane.specs.Dnp3.{frame_octets, is_fragment_unfinished}
@@ -62,6 +62,7 @@ end_lines asset client moment s false zero = []
 end_lines asset client moment s true zero = line_about asset client moment (Partial s 0) ∷ []
 end_lines asset client moment s unfinished (suc n) = line_about asset client moment (Partial s (suc n)) ∷ []
 
+-- the lines of an item: of a unit by its fate, of an End where octets are left over, of a break none
 abbrev pub item_lines : Asset → Endpoint → List Judged → Judged → Item → List (List ℕ)
 item_lines asset client earlier j (Took s unit) =
     unit_lines asset client j.moment (is_some_bytes (output asset side.Client earlier j)) s (command_octets asset earlier s unit) j.fate

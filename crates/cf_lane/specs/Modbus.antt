@@ -1,5 +1,5 @@
--- Modbus in the lane: the fate of an ADU, what it puts into the stream to each side, and what its line shows.
--- Modbus Application Protocol V1.1b3; fates are this project's own.
+-- Modbus in the lane: the fate of an ADU (`HasAduFate`), what it puts into the stream to each side, and what its line shows. Modbus
+-- Application Protocol V1.1b3; fates are this project's own.
 use Rattle.cf_lane.specs.Rates.{Says}
 use Rattle.cf_lane.specs.Acts.{fate_of_acts}
 use Rattle.cf_lane.specs.Judged.{goes_on}
@@ -27,6 +27,7 @@ whole_act a point = record { code = slice_index a.pdu 0; group = 0; point = poin
 abbrev pub station_refusal : AduValue → Refusal
 station_refusal a = record { decider = decider.Station; reason = reason.Station; act = whole_act a a.unit }
 
+-- the refusal of a request whose form is not served
 abbrev pub form_refusal : AduValue → RequestRefusal → Refusal
 form_refusal a refusal = record { decider = decider.Form; reason = refusal_reason refusal; act = whole_act a 0 }
 
@@ -51,6 +52,7 @@ adu_reply false (fate.Stray because) a = []
 adu_reply false fate.Lengthens a = []
 adu_reply false (fate.Cuts because) a = []
 
+-- what an ADU of a side puts into the stream to a side: itself, or a reply
 abbrev pub adu_output : Side → (ended : Bool) → Side → Fate → AduValue → List ℕ
 adu_output side.Client ended side.Client f a = adu_reply ended f a
 adu_output side.Client ended side.Controller f a = if goes_on f then spelling a else []

@@ -32,11 +32,13 @@ command_event (fate.Stray because) receive mirrored = []
 command_event fate.Lengthens receive mirrored = []
 command_event (fate.Cuts because) receive mirrored = []
 
+-- what an APDU of the client is to the numbers
 abbrev pub client_event : List Judged → Fate → ApduValue → List Event
 client_event earlier f (Info send receive asdu) = command_event f receive (has_mirror earlier asdu)
 client_event earlier f (Ack receive) = ClientAck receive ∷ []
 client_event earlier f (Control octet) = control_event octet
 
+-- what an APDU of the controller is to the numbers
 abbrev pub controller_event : ApduValue → List Event
 controller_event (Info send receive asdu) = Carried receive ∷ []
 controller_event (Ack receive) = ControllerAck receive ∷ []
@@ -67,6 +69,7 @@ abbrev pub info_refusal : Side → List Event → (send receive : ℕ) → Optio
 info_refusal side.Client events send receive = client_refusal events send receive
 info_refusal side.Controller events send receive = controller_refusal events send receive
 
+-- what is wrong with the receive number of a side, if anything is
 abbrev pub ack_refusal : Side → List Event → (receive : ℕ) → Option NumberRefusal
 ack_refusal side.Client events receive = client_ack_refusal events receive
 ack_refusal side.Controller events receive = controller_ack_refusal events receive
@@ -76,5 +79,6 @@ abbrev pub info_cut : Side → List Judged → (send receive : ℕ) → Option C
 info_cut s earlier send receive =
     if may_send s (events_of earlier) then number_cut s (info_refusal s (events_of earlier) send receive) else Some (cut.NotStarted s)
 
+-- why that cuts, if it does
 abbrev pub ack_cut : Side → List Judged → (receive : ℕ) → Option CutReason
 ack_cut s earlier receive = number_cut s (ack_refusal s (events_of earlier) receive)

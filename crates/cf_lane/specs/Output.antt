@@ -1,4 +1,4 @@
--- The stream to each side: the spellings of what goes there, in order. This project's own.
+-- The stream to each side, `outputs`: the spellings of what goes there, in order.
 use Rattle.cf_lane.specs.Dnp3.{frame_output}
 use Rattle.cf_lane.specs.Iec104.{apdu_output}
 use Rattle.cf_lane.specs.Item.{Broke, Ended, Item, Took}
@@ -17,11 +17,13 @@ unit_output asset to earlier j s (Adu a) = adu_output to (has_ended side.Control
 unit_output asset to earlier j s (Frame x) = frame_output asset to earlier j s x
 unit_output asset to earlier j s (Apdu a) = apdu_output to earlier j.fate s a
 
+-- what an item puts into the stream to a side: an End and a break nothing
 abbrev pub item_output : Asset → Side → List Judged → Judged → Item → List ℕ
 item_output asset to earlier j (Took s unit) = unit_output asset to earlier j s unit
 item_output asset to earlier j (Ended s rest) = []
 item_output asset to earlier j (Broke s because) = []
 
+-- what a judged item puts into the stream to a side
 abbrev pub output : Asset → Side → List Judged → Judged → List ℕ
 output asset to earlier j = item_output asset to earlier j j.item
 
@@ -29,6 +31,7 @@ output asset to earlier j = item_output asset to earlier j j.item
 abbrev pub outputs : Asset → Side → List Judged → List Judged → List ℕ
 outputs asset to earlier js = in_turn (output asset to) earlier js
 
+-- the other side
 abbrev pub other : Side → Side
 other side.Client = side.Controller
 other side.Controller = side.Client

@@ -1,5 +1,5 @@
--- What of a history goes to the controller, in the policy's words: of the client's commands those that are allowed, and what is
--- no command. This project's own.
+-- What of a history goes to the controller, in the policy's words, `Passes`: of the client's commands those that are allowed, and what
+-- is no command.
 use Rattle.cf_apci.specs.Apdu.{Ack, ApduValue, Control, Info}
 use Rattle.cf_asdu.specs.Asdu.{first_refusal, station_of}
 use Rattle.cf_audit.specs.declared.line.CutReason.{CutReason}
@@ -63,6 +63,7 @@ abbrev pub confirms : Result FragmentValue FragmentRefusal → Bool
 confirms (Ok f) = nat_eq f.code 0
 confirms (Err refusal) = false
 
+-- a confirmation goes, and another fragment exactly where the policy allows it
 abbrev pub CommandGoes : (confirming : Bool) → Asset → Says → List Judged → List ℕ → (List ℕ → Type 0) → List ℕ → Type 0
 CommandGoes true asset says earlier octets Rest out = Leaves (fragment_frames asset side.Controller earlier octets) Rest out
 CommandGoes false asset says earlier octets Rest out =
@@ -73,6 +74,7 @@ abbrev pub FragmentGoes : (short : Bool) → Asset → Says → List Judged → 
 FragmentGoes true asset says earlier octets Rest out = Leaves [] Rest out
 FragmentGoes false asset says earlier octets Rest out = CommandGoes (confirms (read_octets octets)) asset says earlier octets Rest out
 
+-- a fragment that is whole goes so, and where none is whole nothing does
 abbrev pub WholeGoes : (whole : List (List ℕ)) → Asset → Says → List Judged → (List ℕ → Type 0) → List ℕ → Type 0
 WholeGoes [] asset says earlier Rest out = Leaves [] Rest out
 WholeGoes (octets ∷ none) asset says earlier Rest out = FragmentGoes (nat_lt (length octets) 2) asset says earlier octets Rest out
@@ -90,10 +92,12 @@ InfoGoes None asset says earlier receive asdu Rest out =
     Goes (IsAllowedAsdu asset says asdu) (apdu_spelling (stamped (admitted_stamp (events_of earlier) receive) asdu)) (ack_octets (owed_ack (events_of earlier) receive))
     Rest out
 
+-- an S frame goes with its number translated, and nothing does where its number cuts
 abbrev pub AckGoes : (cut : Option CutReason) → List Judged → (receive : ℕ) → (List ℕ → Type 0) → List ℕ → Type 0
 AckGoes (Some because) earlier receive Rest out = Leaves [] Rest out
 AckGoes None earlier receive Rest out = Leaves (apdu_spelling (Ack (client_translated (events_of earlier) receive % 32768))) Rest out
 
+-- an APDU of the client goes so, by its format
 abbrev pub ApduGoes : Asset → Says → List Judged → ApduValue → (List ℕ → Type 0) → List ℕ → Type 0
 ApduGoes asset says earlier (Info send receive asdu) Rest out =
     InfoGoes (info_cut side.Client earlier send receive) asset says earlier receive asdu Rest out
@@ -109,7 +113,7 @@ ItemGoes asset says earlier (Took side.Controller u) Rest out = Leaves [] Rest o
 ItemGoes asset says earlier (Ended s n) Rest out = Leaves [] Rest out
 ItemGoes asset says earlier (Broke s b) Rest out = Leaves [] Rest out
 
--- what items put there one after the other, behind the earlier ones
+-- what items put there one after the other, after the earlier ones
 abbrev pub Passes : Asset → ℕ → (earlier js : List Judged) → List ℕ → Type 0
 Passes asset client earlier [] out = out ≡ []
 Passes asset client earlier (j ∷ js) out = ItemGoes asset (says_at asset client earlier j.moment) earlier j.item (Passes asset client (earlier ++ j ∷ []) js) out

@@ -1,5 +1,4 @@
--- What an APDU does to the numbers, the queues and the log of an IEC 60870-5-104 lane, whatever items came before it: the main
--- definition is TakesApdu.
+-- Steps of the proof: what an APDU does to numbers, queues and log of an IEC 60870-5-104 lane, whatever came before it: `TakesApdu`.
 use Rattle.cf_lane.specs.Rates.{Says}
 use Rattle.cf_apci.specs.Apdu.{ApduValue}
 use Rattle.cf_asdu.specs.Mirror.{mirrored}

@@ -1,4 +1,4 @@
--- Worked exchanges, evaluated: a check of the definitions alone.
+-- Beside the proof: worked exchanges, evaluated, a check of the definitions alone: `RowsHold`.
 use Rattle.cf_lane.specs.Rates.{says_at}
 use Rattle.cf_apci.specs.Apdu.{Ack, ApduValue, Control, Info}
 use Rattle.cf_dnplink.specs.Crc.{crc_of}

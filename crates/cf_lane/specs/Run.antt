@@ -1,4 +1,4 @@
--- Acts of a command that are judged together: HaveVerdict, AreRun.
+-- Steps of the proof: acts of a command that are judged together: `HaveVerdict` and `AreRun`.
 use Rattle.cf_lane.specs.Rates.{Says}
 use Rattle.cf_policy.specs.declared.Verdict.{Verdict}
 use Rattle.cf_view.specs.declared.Act.{Act}

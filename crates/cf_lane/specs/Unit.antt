@@ -1,4 +1,4 @@
--- The units of the three protocols: one line a protocol in each definition. This project's own.
+-- The units of the three protocols, `UnitValue`: one line a protocol in each definition.
 use Rattle.cf_apci.specs.Apdu.{ApduValue, SpellsApdu, apdu_break}
 use Rattle.cf_dnplink.specs.LinkFrame.{FrameValue, SpellsFrame, frame_break}
 use Rattle.cf_dnplink.specs.UserOctets.{user_of}
@@ -19,11 +19,13 @@ frame_spelling f = link.spelling f.control f.dest f.source (user_of f.blocks)
 abbrev pub apdu_spelling : ApduValue → List ℕ
 apdu_spelling a = apci.spelling a
 
+-- a unit of one of the three protocols
 pub data UnitValue : Type 0 where
   Adu : AduValue → UnitValue
   Frame : FrameValue → UnitValue
   Apdu : ApduValue → UnitValue
 
+-- its octets
 abbrev pub unit_spelling : UnitValue → List ℕ
 unit_spelling (Adu a) = spelling a
 unit_spelling (Frame f) = frame_spelling f

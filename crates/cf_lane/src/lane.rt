@@ -30,10 +30,15 @@ use std::marker::Model;
 /// each side into its queue.
 #[derive(Drop)]
 pub struct Lane {
+    /// The client, by whose address rules decide and which lines name.
     pub(crate) client: Endpoint,
+    /// How many commands were admitted.
     pub(crate) admitted: u64,
+    /// How many commands were refused.
     pub(crate) refused: u64,
+    /// The asset's rules for the client, and the moments at which those with a rate were used.
     pub(crate) rules: Rules,
+    /// What the protocol needs of earlier units: fragments of DNP3, numbers of IEC 60870-5-104.
     pub(crate) wire: Wire,
 }
 

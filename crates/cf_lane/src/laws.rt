@@ -17,7 +17,7 @@ pub fn judgements_go_on()
 }
 
 /// However the bytes of a side are cut at one moment, their items are the same, and so are the judged items of each history
-/// with them; bytes without letters change nothing, and an End behind bytes is of their element.
+/// with them; bytes without letters change nothing, and an End after bytes is of their element.
 pub fn pieces_join()
     ensures items { PiecesJoin }
     ensures judged { JudgedJoin }
@@ -31,7 +31,7 @@ pub fn grows_little()
     ensures { GrowsLittle }
 {}
 
-/// Where a history goes on, the two streams and the log go on; behind the End of a side nothing comes into the stream to the
+/// Where a history goes on, the two streams and the log go on; after the End of a side nothing comes into the stream to the
 /// other.
 pub fn streams_go_on()
     ensures go_on { StreamsGoOn }

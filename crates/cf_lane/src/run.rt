@@ -120,7 +120,7 @@ pub(crate) fn takes_any_value(asset: &Asset, index: &CodeIndex, request: &Reques
     index.takes_any_value(asset, u16::from(request.code))
 }
 
-/// The verdict about the act of place `i`, and the place behind acts that have the same.
+/// The verdict about the act of place `i`, and the place after acts that have the same.
 fn judge_run(
     asset: &Asset,
     index: &CodeIndex,

@@ -30,7 +30,7 @@ contains_mapped f (z ∷ xs) y (zero, lt, e) = (z, first z xs, e)
 contains_mapped f (z ∷ xs) y (suc k, lt, e) =
     let r = contains_mapped f xs y (k, omega (arith, lt), e) in let inside = r.1.1 in (r.0, (suc r.1.0, omega (arith, inside), r.1.2), r.2)
 
--- an element of two lists behind two others, of which the first and the third, and the second and the fourth, belong together
+-- an element of two lists after two others, of which the first and the third, and the second and the fourth, belong together
 pub apart : {X : Type 0} (a b c d : List X) (x : X) → Contains ((a ++ b) ++ (c ++ d)) x → Contains (a ++ c) x ⊎ Contains (b ++ d) x
 apart a b c d x h = ⊎_elim
     (λ front. ⊎_elim

@@ -156,7 +156,7 @@ module _ (asset : Asset) (client : ℕ) (bytes : List ℕ) where
         all : AreUnits asset.protocol bytes r.units t.tail
         all = behind asset.protocol r.units bytes (drop place bytes) t.tail r.starts (subst (λ xs. AreUnits asset.protocol xs [] t.tail) lent t.are)
 
--- the bytes as they were read when the front behind a place was told: a unit, whose acts are added, or none
+-- the bytes as they were read when the front after a place was told: a unit, whose acts are added, or none
 abbrev pub IsToldAt : (asset : Asset) (client : ℕ) (bytes : List ℕ) (place : ℕ) (assembly : AssemblyValue) (old seen : List Seen) → Option ℕ → Type 0
 IsToldAt asset client bytes place assembly old seen (Some used) = (0 < used) × ReadTo asset client bytes (place + used) assembly old seen
 IsToldAt asset client bytes place assembly old seen None = Adds asset.protocol client (IsShown asset bytes) old seen

@@ -16,6 +16,7 @@ use Rattle.cf_learn.specs.Rules.{AreLearnedFrom, MakesTooMany}
 use Rattle.cf_learn.specs.Seen.{seen_of}
 use Rattle.cf_learn.specs.Shown.{IsSeen}
 
+-- the asset with other rules
 abbrev pub with_rules : Asset → List Rule → Asset
 with_rules asset rules = record asset { rules = rules }
 

@@ -1,4 +1,4 @@
--- What a reader adds for what stands at the front of a client's bytes: TakesFront. This project's own.
+-- Steps of the proof: what a reader adds for what stands at the front of a client's bytes: `TakesFront`.
 use Rattle.std.specs.Prelude.{◌≡◌, ℕ, ◌<◌, ◌↔◌, List, [], ◌∷◌, ◌++◌, map, Contains, Option, Some, None}
 use Rattle.std.specs.List.{flat_map}
 use Rattle.cf_acts.specs.Commands.{IsOfCommand}

@@ -33,6 +33,7 @@ gathered goes_in with_one begun held [] = held ∷ []
 gathered goes_in with_one begun held (x ∷ xs) =
     if goes_in held x then gathered goes_in with_one begun (with_one held x) xs else held ∷ gathered goes_in with_one begun (begun x) xs
 
+-- the same from the first item on; nothing is gathered of no items
 abbrev pub all_gathered : {A B : Type 0} → (B → A → Bool) → (B → A → B) → (A → B) → List A → List B
 all_gathered goes_in with_one begun [] = []
 all_gathered goes_in with_one begun (x ∷ xs) = gathered goes_in with_one begun (begun x) xs
@@ -41,9 +42,11 @@ all_gathered goes_in with_one begun (x ∷ xs) = gathered goes_in with_one begun
 abbrev pub is_next : Run → Seen → Bool
 is_next run s = is_same_kind run.kind s.kind && ((s.point == run.high) || (s.point == run.high + 1))
 
+-- the run up to the point of what was seen
 abbrev pub longer_run : Run → Seen → Run
 longer_run run s = record run { high = s.point }
 
+-- the run of one point
 abbrev pub run_of : Seen → Run
 run_of s = record { kind = s.kind; low = s.point; high = s.point }
 
@@ -51,6 +54,7 @@ run_of s = record { kind = s.kind; low = s.point; high = s.point }
 abbrev pub runs_of : List Seen → List Run
 runs_of = all_gathered is_next longer_run run_of
 
+-- a run as a span of a rule
 abbrev pub span_of : Run → Span
 span_of run = record { low = pos run.low; high = pos run.high }
 
@@ -63,25 +67,32 @@ pub record Part : Type 0 where
 abbrev pub goes_in : Part → Run → Bool
 goes_in part run = is_same_kind part.kind run.kind && nat_lt (length part.points) MOST_RUNS
 
+-- the part with one run more
 abbrev pub longer_part : Part → Run → Part
 longer_part part run = record part { points = part.points ++ span_of run ∷ [] }
 
+-- the part of one run
 abbrev pub part_of : Run → Part
 part_of run = record { kind = run.kind; points = span_of run ∷ [] }
 
+-- the parts of runs in their order, each as full as it may be
 abbrev pub parts_of : List Run → List Part
 parts_of = all_gathered goes_in longer_part part_of
 
+-- the span of one number
 abbrev pub whole_span : ℤ → Span
 whole_span n = record { low = n; high = n }
 
+-- the spans of a value: none without one
 abbrev pub value_spans : Option ℤ → List Span
 value_spans None = []
 value_spans (Some n) = whole_span n ∷ []
 
+-- the name of the rule of a number: r1, r2 and so on
 abbrev pub rule_name : ℕ → List ℕ
 rule_name number = codes "r" ++ decimal number
 
+-- the rule of a number that allows what a part states
 abbrev pub rule_of : ℕ → Part → Rule
 rule_of number part = record {
   name = rule_name number;
@@ -99,6 +110,7 @@ unfoldable pub numbered_rules : ℕ → List Part → List Rule
 numbered_rules number [] = []
 numbered_rules number (part ∷ parts) = rule_of (number + 1) part ∷ numbered_rules (number + 1) parts
 
+-- the rules of runs, numbered from 1
 abbrev pub rules_of_runs : List Run → List Rule
 rules_of_runs runs = numbered_rules 0 (parts_of runs)
 

@@ -17,6 +17,7 @@ seen_of client act = record { kind = record { client = client; code = act.code; 
 abbrev pub act_of : Seen → Act
 act_of s = record { code = s.kind.code; group = s.kind.group; point = s.point; value = s.kind.value }
 
+-- both have no value, or the same one
 abbrev pub is_same_value : Option ℤ → Option ℤ → Bool
 is_same_value None None = true
 is_same_value (Some m) (Some n) = int_eq m n

@@ -1,5 +1,5 @@
 -- What flows show of an asset: IsSeen. The commands are those that the readers of the protocols read, with the asset's station; the
--- frames, segments and fragments of DNP3 are put together as the filter does it. This project's own. Read from the end.
+-- frames, segments and fragments of DNP3 are put together as the filter does it. Read from the end.
 use Rattle.std.specs.Prelude.{◌≡◌, ◌≢◌, ℕ, Bool, ◌&&◌, List, [], ◌∷◌, ◌++◌, map, Ok, Contains}
 use Rattle.std.specs.List.{flat_map}
 use Rattle.cf_apci.specs.Apdu.{Ack, ApduValue, Control, Info}
@@ -28,6 +28,7 @@ pub data Message : Type 0 where
   Fragment : (octets : List ℕ) → Message
   Asdu : (octets : List ℕ) → Message
 
+-- the message that one unit is, if it is one; those of DNP3 are made of several frames
 abbrev pub message_in : UnitValue → List Message
 message_in (Adu a) = Request a ∷ []
 message_in (Frame x) = []

@@ -45,7 +45,7 @@ broken_after now firsts outs old mid new sent octets h = record {
   part = subst (λ (f : SentValue → List ℕ). BeginsNext f now h.left new.packet_part) octets h.part;
 }
 
--- and with others behind them
+-- and with others after them
 nothing_next : (octets : SentValue → List ℕ) (now : ℕ) (more : List PacketValue) (part : List ℕ) → part ≡ [] → BeginsNext octets now more part
 nothing_next octets now [] part h = h
 nothing_next octets now (p ∷ ps) part h = (0, h)

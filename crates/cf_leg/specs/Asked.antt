@@ -1,4 +1,4 @@
--- Lists of events in which the same is asked of an end, whatever it sent. The main definition is `AllAsked`.
+-- Steps of the proof: lists of events in which the same is asked of an end, whatever it sent: `AllAsked`.
 use Rattle.std.specs.Prelude.{◌≡◌, List, [], ◌∷◌}
 use Rattle.cf_leg.specs.Event.{Came, Nothing, Greeting, Packet, Ending, Unspoken, Spoke, Cut, LegEvent}
 

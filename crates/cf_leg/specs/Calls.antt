@@ -1,4 +1,5 @@
--- What the calls of a leg do.
+-- Steps of the proof: what the calls of a leg do: `Clocked`, `Heard`, `Spoken`, `Greeted` and `CutOff`, and what stands where the desk
+-- broke one off.
 use Rattle.std.specs.Prelude.{◌≡◌, ℕ, ◌+◌, ◌%◌, ◌^◌, ◌-◌, ◌<◌, nat_lt, nat_le, ◌≤◌, min, max, not, ◌&&◌, ◌||◌, if◌then◌else◌, Bool, true, false, List, [], ◌∷◌, ◌++◌, length, Option, Some, None, ℤ, pos, ◌+ℤ◌}
 use Rattle.cf_outside.specs.Desk.{DeskValue, SentValue}
 use Rattle.cf_outq.specs.SendQueue.{Queue, carried, queue_length, after_acked, after_shown}
@@ -282,7 +283,7 @@ pub record Widens (roomy : Bool) (old new : Window) : Type 0 where
   pub near : new.edge ≤ base_of old + 16384
 
 -- ---- calls that the desk broke off: each sent the first segments of a list that it may send, of which a beginning of the
--- next one stands behind them
+-- next one stands after them
 
 -- the segment with the letters of a piece
 pub record PieceBreaks (way : Way) (t : Told) (queue : Queue) (piece : Piece) (now : ℕ) (before after : DeskValue) : Type 0 where

@@ -1,4 +1,4 @@
--- What a TCP end sends: the segments of each event, given the events before it.
+-- What a TCP end sends, `IsRight` of one event: its segments, given the events before it.
 use Rattle.std.specs.Prelude.{MatchBool, ◌≡◌, ℕ, ◌+◌, ◌-◌, ◌%◌, ◌^◌, ◌<◌, ◌≤◌, ◌==◌, min, max, nat_lt, not, Bool, true, false, ◌&&◌, ◌||◌, if◌then◌else◌, List, [], ◌∷◌, length, Option, Some, None}
 use Rattle.cf_packet.specs.Packet.{PacketValue}
 use Rattle.cf_stream.specs.FirstCopy.{first_copy, IsTaken}
@@ -15,6 +15,7 @@ use Rattle.cf_leg.specs.declared.ends.Way.{Way}
 use Rattle.cf_leg.specs.declared.ends.Role.{Role}
 use Rattle.cf_leg.specs.declared.ends.Role.TheVariants as role
 
+-- how many letters an end lets in at most: the greatest window
 abbrev pub window_size : ℕ
 window_size = 16384
 
@@ -24,25 +25,31 @@ abbrev pub send_mss : Option ℕ → ℕ
 send_mss None = 536
 send_mss (Some mss) = min 1460 (max 64 mss)
 
+-- the maximum segment size that a packet tells, if it does
 abbrev pub mss_in : Option PacketValue → Option ℕ
 mss_in None = None
 mss_in (Some p) = p.mss
 
+-- the maximum segment size that the peer told, if it did
 abbrev pub peer_mss : Role → List LegEvent → Option ℕ
 peer_mss (role.Active own) es = mss_in (syn_ack own es)
 peer_mss (role.Passive other mss) es = mss
 
+-- the endpoints of the end's segments, and the sequence numbers of both SYNs
 abbrev pub way_of : Ends → List LegEvent → Way
 way_of ends es = record { source = ends.own; dest = ends.peer; own = own_number ends.role es; other = peer_number ends.role es }
 
 -- ---- greetings: the SYN of an active leg, the SYN ACK of a passive one
 
+-- the SYN of an end, with a sequence number
 abbrev pub syn : Ends → ℕ → PacketValue
 syn ends number = record { source = ends.own; dest = ends.peer; seq = number; ack = 0; flags = 2; window = window_size; mss = Some 1460; text = [] }
 
+-- the SYN ACK of an end for a peer's SYN with the first number, with the second as its own
 abbrev pub syn_ack_for : Ends → ℕ → ℕ → PacketValue
 syn_ack_for ends other number = record { source = ends.own; dest = ends.peer; seq = number; ack = sequence_number other 0; flags = 18; window = window_size; mss = Some 1460; text = [] }
 
+-- the packet is the greeting of an end with this role: its SYN, or a SYN ACK with any number of its own
 abbrev pub IsGreeting : Ends → Role → PacketValue → Type 0
 IsGreeting ends (role.Active own) p = p ≡ syn ends own
 IsGreeting ends (role.Passive other mss) p = p ≡ syn_ack_for ends other p.seq
@@ -70,6 +77,7 @@ Pieces way t whole mss edge from (p ∷ ps) =
 abbrev pub to_tell : Told → ℕ → Bool → Told
 to_tell before count roomy = record { base = count; edge = if roomy then count + window_size else before.edge }
 
+-- another base or another edge was told
 abbrev pub differs : Told → Told → Bool
 differs t u = not (t.base == u.base) || not (t.edge == u.edge)
 
@@ -81,9 +89,11 @@ SaysIf way t due whole mss edge from outs =
     (Pieces way t whole mss edge from outs)
     (outs ≡ (if due then segment way t (sequence_number way.own from) no_letters ∷ [] else []))
 
+-- the same, where an acknowledgment is due if one is owed, or if the base or the edge differs from what was told
 abbrev pub Says : Way → Told → Told → Bool → Stream → ℕ → ℕ → ℕ → List PacketValue → Type 0
 Says way before t owes whole mss edge from outs = SaysIf way t (owes || differs before t) whole mss edge from outs
 
+-- what an open end says, after the letters that it has taken
 pub record SpeaksOpen (ends : Ends) (es : List LegEvent) (e : LegEvent) (whole : Stream) (roomy : Bool) (outs : List PacketValue) : Type 0 where
   -- the letters taken, those of the event included
   pub taken : Stream
@@ -91,6 +101,7 @@ pub record SpeaksOpen (ends : Ends) (es : List LegEvent) (e : LegEvent) (whole :
   pub says : Says (way_of ends (e ∷ es)) (told_at ends.role es e) (to_tell (told_at ends.role es e) (letter_count taken) roomy) (owed ends.role es e)
       whole (send_mss (peer_mss ends.role (e ∷ es))) (shown ends.role (e ∷ es)) (letters_sent_at ends.role es e) outs
 
+-- an open end says so, and one that is not open sends nothing
 abbrev pub Speaks : Ends → List LegEvent → LegEvent → Stream → Bool → List PacketValue → Type 0
 Speaks ends es e whole roomy outs =
     MatchBool (opened ends.role (e ∷ es)) (SpeaksOpen ends es e whole roomy outs) (outs ≡ [])
@@ -103,6 +114,7 @@ abbrev pub again : Option PacketValue → List PacketValue
 again None = []
 again (Some p) = p ∷ []
 
+-- the segment that an open end repeats
 abbrev pub repeat_open : Ends → List LegEvent → PacketValue
 repeat_open ends es =
     let from = acked ends.role es in
@@ -111,6 +123,7 @@ repeat_open ends es =
     then segment (way_of ends es) (told ends.role es) (sequence_number (own_number ends.role es) from) (piece (stream_after es) (send_mss (peer_mss ends.role es)) sent from)
     else segment (way_of ends es) (told ends.role es) ((own_number ends.role es + from) % 2 ^ 32) no_letters
 
+-- the segments that an end repeats: one, or none where it has sent no greeting
 abbrev pub repeats : Ends → List LegEvent → List PacketValue
 repeats ends es = if opened ends.role es then repeat_open ends es ∷ [] else again (greeting es)
 
@@ -120,6 +133,7 @@ fired_at ends es e = if fires ends.role es e && nat_lt (tries ends.role es) 6 th
 
 -- ---- the RST of a cut
 
+-- an RST with this sequence number, acknowledgment number and control bits
 abbrev pub rst : Ends → ℕ → ℕ → ℕ → PacketValue
 rst ends number ack flags = record { source = ends.own; dest = ends.peer; seq = number; ack = ack; flags = flags; window = 0; mss = None; text = [] }
 
@@ -151,10 +165,12 @@ empties (p ∷ ps) = (if letters_of p == 0 then 1 else 0) + empties ps
 
 -- ---- all of an event
 
+-- a greeting is the one of the end's role, and the end has sent none before
 abbrev pub Greets : Ends → List LegEvent → Came → Type 0
 Greets ends es (Greeting p) = IsGreeting ends ends.role p × (is_greeted es ≡ false)
 Greets ends es _ = Unit {0}
 
+-- the end of an event: nothing is asked of one that is not over
 abbrev pub EndsBy : Ends → List LegEvent → LegEvent → Ending → Type 0
 EndsBy ends es e Unspoken = Unit {0}
 EndsBy ends es e (Spoke whole roomy outs) = Speaks ends es e whole roomy outs

@@ -1,4 +1,4 @@
--- The packets that a desk got.
+-- The packets that a desk got: `with_segments`, and `BreaksOff` where it failed amid them.
 use Rattle.std.specs.Prelude.{◌≡◌, ℕ, List, [], ◌∷◌, ◌++◌, take, Option}
 use Rattle.cf_outside.specs.Desk.{DeskValue, SentValue, with_item}
 use Rattle.cf_packet.specs.Packet.{PacketValue}
@@ -21,7 +21,7 @@ abbrev pub BeginsNext : (SentValue → List ℕ) → ℕ → List PacketValue �
 BeginsNext octets moment [] part = part ≡ []
 BeginsNext octets moment (p ∷ ps) part = (k : ℕ) × (part ≡ take k (octets (record { moment = moment; bytes = spelled p })))
 
--- of these segments the first ones went out before the desk failed, and behind them stands a beginning of the next one
+-- of these segments the first ones went out before the desk failed, and after them stands a beginning of the next one
 pub record BreaksOff (moment : ℕ) (outs : List PacketValue) (old new : DeskValue) : Type 0 where
   pub gone : List PacketValue
   pub left : List PacketValue

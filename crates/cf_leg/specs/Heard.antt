@@ -1,5 +1,6 @@
--- What a packet is to a TCP end. RFC 9293, section 3.10.7, and RFC 5961, sections 3 to 5, whose challenge ACKs also answer
--- segments that RFC 9293 would drop; where the two leave a choice, the rule is this project's own.
+-- What a packet is to a TCP end: `answer_to`. RFC 9293, section 3.10.7, and RFC 5961, sections 3 to 5, whose challenge ACKs also answer
+-- segments that RFC 9293 would drop; where the two leave a choice, the rule is this project's own. A table of the
+-- answers stands above `answer_to` in `src/heard.rt`.
 use Rattle.std.specs.Prelude.{ℕ, ◌==◌, max, nat_lt, not, Bool, true, false, ◌&&◌, ◌||◌, if◌then◌else◌, List, [], ◌∷◌, ℤ, pos, ◌+ℤ◌, int_lt, int_le}
 use Rattle.cf_packet.specs.Packet.{PacketValue}
 use Rattle.cf_stream.specs.FirstCopy.{Offer}
@@ -18,6 +19,7 @@ use Rattle.cf_leg.specs.declared.ends.LegAnswer.TheVariants as answer
 abbrev pub text_place : EndState → PacketValue → ℤ
 text_place at p = position p.seq at.other at.told.base
 
+-- up to which place a packet acknowledges
 abbrev pub ack_place : EndState → PacketValue → ℤ
 ack_place at p = position p.ack at.own at.sent
 
@@ -28,9 +30,11 @@ in_reach t at n =
     if n == 0 then int_le (pos t.base) at && int_le at (pos t.edge)
     else nat_lt t.base t.edge && (int_lt at (pos t.edge) && int_lt (pos t.base) (at +ℤ pos n))
 
+-- the letters of a packet are in reach
 abbrev pub is_in_reach : EndState → PacketValue → Bool
 is_in_reach at p = in_reach at.told (text_place at p) (letters_of p)
 
+-- the place is this number
 abbrev pub is_at : ℤ → ℕ → Bool
 is_at z n = int_le z (pos n) && int_le (pos n) z
 
@@ -69,9 +73,11 @@ open_answer at p =
     else if int_lt (pos at.sent) (ack_place at p) then answer.Challenged
     else answer.Counted
 
+-- what a packet is to an end
 abbrev pub answer_to : EndState → PacketValue → LegAnswer
 answer_to at p = if at.is_open then open_answer at p else first_answer at p
 
+-- the packet opens the end, by its answer
 abbrev pub is_opening : LegAnswer → Bool
 is_opening answer.Opened = true
 is_opening _ = false
@@ -87,10 +93,12 @@ abbrev pub counts_open : EndState → PacketValue → Bool
 counts_open at p =
     (has_ack p && not (has_syn p || has_rst p)) && (is_in_reach at p && int_le (ack_place at p) (pos at.sent))
 
+-- a packet on an end that is not open counts: where it opens a passive one
 abbrev pub counts_first : Role → EndState → PacketValue → Bool
 counts_first (role.Active own) at p = false
 counts_first (role.Passive other mss) at p = is_opening (first_answer at p)
 
+-- the packet counts
 abbrev pub counts : EndState → PacketValue → Bool
 counts at p = if at.is_open then counts_open at p else counts_first at.role at p
 
@@ -118,6 +126,7 @@ abbrev pub counts_in : EndState → Came → Bool
 counts_in at (Packet p) = counts at p
 counts_in at _ = false
 
+-- an acknowledgment is owed to what came
 abbrev pub owes_in : EndState → Came → Bool
 owes_in at (Packet p) = owes_for at.role p (answer_to at p)
 owes_in at _ = false
@@ -127,6 +136,7 @@ abbrev pub acked_by : EndState → Came → ℕ → ℕ
 acked_by at (Packet p) before = if counts at p then max before (place_or_zero (ack_place at p)) else before
 acked_by at _ before = before
 
+-- the greatest edge shown, after what came
 abbrev pub shown_by : EndState → Came → ℕ → ℕ
 shown_by at (Packet p) before =
     if counts at p then max before (place_or_zero (ack_place at p +ℤ pos p.window))
@@ -134,6 +144,7 @@ shown_by at (Packet p) before =
     else before
 shown_by at _ before = before
 
+-- the letters offered, after what came: those of a packet that counts, with the edge told before it
 abbrev pub offers_by : EndState → Came → List Offer → List Offer
 offers_by at (Packet p) earlier =
     if counts at p then record { at = text_place at p; text = letters_in p; edge = at.told.edge } ∷ earlier else earlier
@@ -153,19 +164,24 @@ end_state_if is_open r es e = record {
   sent = letters_sent_at r es e;
 }
 
+-- the end is open after these events
 abbrev pub opened : Role → List LegEvent → Bool
 opened r [] = false
 opened r (e ∷ es) = opened r es || opens (end_state_if (opened r es) r es e) e.came
 
+-- the end as the packet half of an event finds it
 abbrev pub end_state : Role → List LegEvent → LegEvent → EndState
 end_state r es e = end_state_if (opened r es) r es e
 
+-- what came in an event counts
 abbrev pub counted : Role → List LegEvent → LegEvent → Bool
 counted r es e = counts_in (end_state r es e) e.came
 
+-- what came in an event opens the end
 abbrev pub opening : Role → List LegEvent → LegEvent → Bool
 opening r es e = opens (end_state r es e) e.came
 
+-- an acknowledgment is owed to what came in an event
 abbrev pub owed : Role → List LegEvent → LegEvent → Bool
 owed r es e = owes_in (end_state r es e) e.came
 
@@ -174,6 +190,7 @@ abbrev pub acked : Role → List LegEvent → ℕ
 acked r [] = 0
 acked r (e ∷ es) = acked_by (end_state r es e) e.came (acked r es)
 
+-- the greatest edge that the peer has shown
 abbrev pub shown : Role → List LegEvent → ℕ
 shown r [] = 0
 shown r (e ∷ es) = shown_by (end_state r es e) e.came (shown r es)

@@ -1,5 +1,5 @@
--- What a leg keeps of its connection (RFC 9293, section 3.3.1, calls it the transmission control block), and when it
--- stands for the events so far.
+-- Steps of the proof: what a leg keeps of its connection, `LegValue` (RFC 9293, section 3.3.1, calls it the transmission control
+-- block), and when it stands for the events so far, `IsLegOf`.
 use Rattle.std.specs.Prelude.{◌≡◌, ℕ, ◌+◌, ◌^◌, ◌<◌, ◌≤◌, nat_lt, Bool, true, false, if◌then◌else◌, List, [], ◌∷◌}
 use Rattle.cf_outq.specs.SendQueue.{Queue, queue_length}
 use Rattle.cf_rebuild.specs.ReceiveWindow.{Window, base_of}

@@ -1,4 +1,4 @@
--- What all segments of an end carry, taken together. The main definition is `IsOneStream`, read from the end.
+-- Steps of the proof: what all segments of an end carry, taken together: `IsOneStream`, read from the end.
 use Rattle.std.specs.Prelude.{ℕ, ◌^◌, ◌≤◌, List, [], ◌∷◌, Option, None}
 use Rattle.std.specs.Option.{option_or}
 use Rattle.cf_packet.specs.Packet.{PacketValue}

@@ -1,5 +1,5 @@
--- The retransmission timer of a TCP end. RFC 9293, section 3.8.1, and RFC 6298, section 5, without a measured round trip:
--- one second, doubled up to 32; this is this project's own choice. Moments are in microseconds.
+-- The retransmission timer of a TCP end: `due` and `fires`. RFC 9293, section 3.8.1, and RFC 6298, section 5, without a measured round
+-- trip: one second, doubled up to 32; this is this project's own choice. Moments are in microseconds.
 use Rattle.std.specs.Prelude.{ℕ, ◌+◌, ◌*◌, ◌^◌, min, nat_lt, nat_le, not, Bool, ◌&&◌, ◌||◌, if◌then◌else◌, List, [], ◌∷◌, length}
 use Rattle.cf_stream.specs.Stream.{letter_count}
 use Rattle.cf_leg.specs.Event.{LegEvent, moment, stream_after}
@@ -9,6 +9,7 @@ use Rattle.cf_leg.specs.declared.ends.ClockAnswer.{ClockAnswer}
 use Rattle.cf_leg.specs.declared.ends.ClockAnswer.TheVariants as answer
 use Rattle.cf_leg.specs.declared.ends.Role.{Role}
 
+-- a second in microseconds
 abbrev pub second : ℕ
 second = 1000000
 
@@ -24,6 +25,7 @@ armed r es = if opened r es then nat_lt (acked r es) (letter_count (stream_after
 abbrev pub rises : Role → List LegEvent → LegEvent → Bool
 rises r es e = nat_lt (acked r es) (acked r (e ∷ es)) || nat_lt (shown r es) (shown r (e ∷ es))
 
+-- the event starts the timer anew: it arms the end, or its packet counts and acknowledges or shows more
 abbrev pub refreshes : Role → List LegEvent → LegEvent → Bool
 refreshes r es e = (armed r (e ∷ es) && not (armed r es)) || (counted r es e && rises r es e)
 

@@ -1,4 +1,4 @@
--- What the peer of an end was told and sent, read from the segments that went out.
+-- What the peer of an end was told, `told`, and how far it was sent to, `letters_sent`, read from the segments that went out.
 use Rattle.std.specs.Prelude.{ℕ, ◌+◌, ◌==◌, max, not, Bool, ◌&&◌, if◌then◌else◌, List, [], ◌∷◌, Option, Some, None, pos, ◌+ℤ◌}
 use Rattle.std.specs.Option.{option_or, is_some}
 use Rattle.cf_packet.specs.Packet.{PacketValue}
@@ -14,13 +14,16 @@ abbrev pub greeting_in : Came → Option PacketValue
 greeting_in (Greeting p) = Some p
 greeting_in _ = None
 
+-- the greeting that an end sent in some events, if it did
 abbrev pub greeting : List LegEvent → Option PacketValue
 greeting [] = None
 greeting (e ∷ es) = option_or (greeting es) (greeting_in e.came)
 
+-- it has sent one
 abbrev pub is_greeted : List LegEvent → Bool
 is_greeted es = is_some (greeting es)
 
+-- the sequence number of a packet, 0 where there is none
 abbrev pub seq_of : Option PacketValue → ℕ
 seq_of None = 0
 seq_of (Some p) = p.seq
@@ -34,6 +37,7 @@ abbrev pub syn_ack_in : ℕ → Bool → Came → Option PacketValue
 syn_ack_in own greeted (Packet p) = if greeted && answers_syn own p then Some p else None
 syn_ack_in own greeted _ = None
 
+-- the SYN ACK that opened an active end, if one did
 abbrev pub syn_ack : ℕ → List LegEvent → Option PacketValue
 syn_ack own [] = None
 syn_ack own (e ∷ es) = option_or (syn_ack own es) (syn_ack_in own (is_greeted es) e.came)
@@ -43,6 +47,7 @@ abbrev pub own_number : Role → List LegEvent → ℕ
 own_number (role.Active own) es = own
 own_number (role.Passive other mss) es = seq_of (greeting es)
 
+-- the sequence number of the peer's SYN, 0 as long as it is not known
 abbrev pub peer_number : Role → List LegEvent → ℕ
 peer_number (role.Active own) es = seq_of (syn_ack own es)
 peer_number (role.Passive other mss) es = other
@@ -54,10 +59,12 @@ told_by other t p =
     (let base = place_or_zero (position p.ack other t.base) in record { base = base; edge = base + p.window })
     else t
 
+-- the base and the edge told after segments, the oldest one first
 abbrev pub told_by_all : ℕ → Told → List PacketValue → Told
 told_by_all other t [] = t
 told_by_all other t (p ∷ ps) = told_by_all other (told_by other t p) ps
 
+-- the base and the edge told after events
 abbrev pub told : Role → List LegEvent → Told
 told r [] = record { base = 0; edge = 0 }
 told r (e ∷ es) =
@@ -69,10 +76,12 @@ letters_sent_by own before p =
     if letters_of p == 0 then before
     else max before (place_or_zero (position p.seq own before +ℤ pos (letters_of p)))
 
+-- how many places segments have sent, the oldest one first
 abbrev pub letters_sent_by_all : ℕ → ℕ → List PacketValue → ℕ
 letters_sent_by_all own before [] = before
 letters_sent_by_all own before (p ∷ ps) = letters_sent_by_all own (letters_sent_by own before p) ps
 
+-- how many places the segments of events have sent
 abbrev pub letters_sent : Role → List LegEvent → ℕ
 letters_sent r [] = 0
 letters_sent r (e ∷ es) =
@@ -82,5 +91,6 @@ letters_sent r (e ∷ es) =
 abbrev pub told_at : Role → List LegEvent → LegEvent → Told
 told_at r es e = told_by_all (peer_number r es) (told r es) e.fired
 
+-- how many places were sent as the packet half of an event begins
 abbrev pub letters_sent_at : Role → List LegEvent → LegEvent → ℕ
 letters_sent_at r es e = letters_sent_by_all (own_number r es) (letters_sent r es) e.fired

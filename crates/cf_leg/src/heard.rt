@@ -195,7 +195,32 @@ fn open_answer(at: &EndState, packet: &Packet<'_>) -> LegAnswer
     }
 }
 
-/// What becomes of a packet.
+/// What becomes of a packet: of the rows for the end's phase and role, the first that has the packet decides. Sections are of
+/// RFC 9293, and RFC 5961 has the challenges. SND.NXT is `sent`; RCV.NXT and RCV.NXT + RCV.WND are `told`, the base and the edge.
+///
+/// | end | packet | answer | section |
+/// |---|---|---|---|
+/// | active, made | any | Ignored | this project's own |
+/// | active, greeted (SYN-SENT) | RST with ACK, SEG.ACK = ISS + 1 | Reset | 3.10.7.3, second |
+/// | | any other RST | Ignored | 3.10.7.3, second |
+/// | | SYN with ACK, SEG.ACK = ISS + 1 | Opened | 3.10.7.3, first and fourth; its text and FIN are not taken: this project's own |
+/// | | any other | Ignored | this project's own: no reset is sent, and no simultaneous open is taken |
+/// | passive, made or greeted (SYN-RECEIVED) | RST, SEG.SEQ = IRS + 1 | Reset | 3.10.7.4, second; RFC 5961, section 3 |
+/// | | any other RST | Ignored | this project's own: no challenge before the end is open |
+/// | passive, greeted | ACK without SYN, in reach, SEG.ACK = ISS + 1 | Opened | 3.10.7.4, first and fifth |
+/// | passive, made or greeted | any other | Ignored | this project's own |
+/// | open | RST, SEG.SEQ = RCV.NXT | Reset | 3.10.7.4, second; RFC 5961, section 3 |
+/// | | RST past RCV.NXT and below the edge | Challenged | 3.10.7.4, second; RFC 5961, section 3 |
+/// | | any other RST | Ignored | 3.10.7.4, first and second |
+/// | | SYN | Challenged | 3.10.7.4, fourth; RFC 5961, section 4 |
+/// | | without ACK | Ignored | 3.10.7.4, fifth |
+/// | | not in reach | Challenged | 3.10.7.4, first |
+/// | | SEG.ACK above SND.NXT | Challenged | 3.10.7.4, fifth; RFC 5961, section 5 |
+/// | | any other | Counted | 3.10.7.4, fifth, seventh and eighth |
+///
+/// In reach is a packet with a letter in the window; or one without letters whose SEG.SEQ is from RCV.NXT to the edge, both
+/// included, which is more than section 3.10.7.4, table 6, lets in. An acknowledgment below SND.UNA counts, however old. Both
+/// are this project's own, and so is that RST, SYN and ACK are asked for before the place.
 pub(crate) fn answer_to(at: &EndState, packet: &Packet<'_>) -> LegAnswer
     requires told { (at.now.told.base ≤ 2 ^ 31) × (at.now.told.edge ≤ 2 ^ 31) }
     requires sent { at.now.sent ≤ 2 ^ 31 }

@@ -28,20 +28,33 @@ const WINDOW: u64 = 16_384;
 /// A second, in microseconds.
 const SECOND: u64 = 1_000_000;
 
-/// One end of a TCP connection. Its queue is handed in.
+/// One end of a TCP connection: what RFC 9293, section 3.3.1, calls its transmission control block. Its queue is handed in,
+/// and has SND.UNA and SND.NXT. Places count letters from 0, the one after a SYN: place p has the sequence number ISS + 1 + p.
 #[derive(Drop)]
 pub struct Leg {
+    /// The endpoints of both sides, and which of them sent the SYN.
     ends: Ends,
+    /// The state of the connection, as far as an end tells states apart.
     phase: Phase,
+    /// ISS, the sequence number of the end's own SYN. That of a passive end is 0 until it greets.
     own: u32,
+    /// IRS, the sequence number of the peer's SYN. That of an active end is 0 until a SYN ACK opens it.
     other: u32,
+    /// SendMSS, the most octets of text in one segment: from 64 to 1,460 (section 3.7.1; the bounds are this project's own).
     mss: usize,
+    /// What was received. Its base is RCV.NXT; its edge is RCV.NXT + RCV.WND, as the peer was told them last.
     window: Rebuild,
+    /// RCV.NXT as the peer was told it last, as a place. The window's base is ahead of it from a packet to the next speech.
     base: u64,
+    /// The greatest SND.UNA + SND.WND that the peer has shown, as a place. It never falls, though SND.WND may shrink.
     shown: u64,
+    /// An ACK is owed to the packet of this event (section 3.10.7). The speech that ends the event sends it, and clears this.
     owes: bool,
+    /// The retransmission timer runs (section 3.8.1; RFC 6298, section 5): something was unanswered after the last speech.
     running: bool,
+    /// When the timer expires, in microseconds. It tells nothing where the timer does not run.
     deadline: u64,
+    /// How often the timer has expired since a packet counted or opened the end: from 0 to 6, and the next time gives up.
     fired: u32,
 }
 

@@ -166,7 +166,7 @@ pub(crate) fn send_new<D: Desk>(
     ensures cause { HasCause (DeskValue.faults (D.value desk.old)) (DeskValue.faults (D.value desk.new)) (IsErr result) }
 {
     let mut some = false;
-    // Its place is one of the queue's, which are at most 2^31.
+    // The fact: the place of a piece is one of the queue's, which are at most 2^31.
     let _sent = queue.sent();
     while let Some(piece) = queue.next_piece(mss) {
         send_piece(way, told, queue, piece, now, desk)?;

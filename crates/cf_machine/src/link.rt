@@ -69,7 +69,7 @@ impl<'a, R: Net + Clock + Eprint + AllocGlobal> LinkPair<'a, R> {
         self.fault.as_ref()
     }
 
-    /// Leaves both sides, behind the last call; what was given to them gets there.
+    /// Leaves both sides, after the last call; what was given to them gets there.
     pub fn leave(&mut self) {
         if let Some(streams) = &mut self.streams {
             streams.leave();

@@ -18,7 +18,7 @@ pub struct Peer<S: Read + Write + OpenStream + AsRawFd + Drop> {
     stream: S,
     /// A read may find bytes, the end or a failure; else the system says when it will.
     may_read: bool,
-    /// What comes has ended or failed, be it behind bytes that were not read.
+    /// What comes has ended or failed, be it after bytes that were not read.
     is_ending: bool,
     /// It was asked for bytes in this turn.
     is_asked: bool,

@@ -1,5 +1,5 @@
--- Lists of calls of a queue, with their answers. The newest call stands first, so that what was before a call is the
--- list after it.
+-- Steps of the proof: lists of calls of a queue, with their answers: `IsQueueRun`. The newest call stands first, so that what was
+-- before a call is the list after it.
 use Rattle.std.specs.Prelude.{◌≡◌, ℕ, ◌+◌, ◌-◌, ◌^◌, ◌<◌, ◌≤◌, false, List, [], ◌∷◌, ◌++◌, length, take, drop, Option, Some, ℤ, pos, ◌≤ℤ◌}
 use Rattle.cf_stream.specs.Position.{place_or_zero}
 use Rattle.cf_stream.specs.Stream.{Stream, Letter, no_letters, with_bytes, with_end, letters}

@@ -1,4 +1,5 @@
--- The queue of what one TCP end has to send.
+-- Steps of the proof: the queue of what one TCP end has to send, `Queue`, and when it stands for the list of all that was pushed,
+-- `IsQueueOf`.
 --
 -- Its counts are of letters from the first one on. RFC 9293, section 3.3.1, has them as sequence numbers: acked is
 -- SND.UNA, sent is SND.NXT, and shown is the greatest SND.UNA + SND.WND that the peer has told.

@@ -16,13 +16,20 @@ const CAPACITY: usize = 131_072;
 /// The letters that one TCP end has to send: bytes, and then End once it is closed. It keeps what was not acknowledged.
 ///
 /// Places count letters from 0, in the order in which they were pushed. No call but `new` takes memory.
+/// RFC 9293, sections 3.3.1 and 3.8; its room is this project's own.
 #[derive(Drop)]
 pub struct Outq {
+    /// The bytes from SND.UNA on: those that were pushed and not acknowledged.
     ring: HeapCircularBuffer<u8>,
+    /// How many bytes were ever pushed.
     pushed: u64,
+    /// End was pushed, the letter that FIN carries.
     ended: bool,
+    /// SND.UNA as a place (RFC 9293, section 3.3.1): how many letters the peer has acknowledged.
     acked: u64,
+    /// SND.NXT as a place: how many letters went out at least once.
     sent: u64,
+    /// The greatest SND.UNA + SND.WND that the peer has shown, as a place: no letter at or past it goes out.
     shown: u64,
 }
 

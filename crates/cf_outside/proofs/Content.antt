@@ -24,7 +24,7 @@ with_appended-piece c xs at count = rw (with_appended-twice, ← take-add at cou
 
 pub ruleset append_laws = (with_appended-twice, with_appended-nothing, with_appended-piece)
 
--- what was read so far, and what was read behind it
+-- what was read so far, and what was read after it
 pub begins_more : (c : Content) (xs piece : List ℕ) → BeginsWith c xs → HasAt c (length xs) piece → BeginsWith c (xs ++ piece)
 begins_more untold xs piece begins here = tt
 begins_more absent xs piece begins here = absurd here

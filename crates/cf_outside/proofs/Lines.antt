@@ -76,7 +76,7 @@ lines_from-part part (x ∷ y ∷ ys) (suc k) h =
       | false ↦ λ e. elim (lines_from-part part' (y ∷ ys) k e) [ inl none ↦ inl none | inr all ↦ inr (ap (λ l. x ∷ l) all) ]
     ] h
 
--- the lines of a text, and what stands behind them, are the text
+-- the lines of a text, and what stands after them, are the text
 pub lines_from-rest : (part xs : List ℕ) → concat (lines_from part xs) ++ rest_from part xs ≡ part ++ xs
 lines_from-rest part [] = sym (append-nil part)
 lines_from-rest part (x ∷ xs) =
@@ -92,7 +92,7 @@ pub nothing : (xs : List ℕ) → is_nothing xs ≡ true → xs ≡ []
 nothing [] h = refl
 nothing (x ∷ xs) h = cc
 
--- a line that is put behind whole lines is one more line
+-- a line that is put after whole lines is one more line
 pub file_lines-line : (file : Content) (text : List ℕ) → is_line text ≡ true → ends_with_line file ≡ true →
     file_lines (with_appended file text) ≡ with_item text (file_lines file)
 file_lines-line untold text h e = refl
@@ -105,18 +105,18 @@ ends_with_line-line untold text h e = refl
 ends_with_line-line absent text h e = refl
 ends_with_line-line (holds all) text h e = rw (rest_from-append [] all text, nothing _ e, rest_from-line [] text h) refl
 
--- the part behind the last line stays nothing
+-- the part after the last line stays nothing
 pub file_part-line : (file : Content) (text : List ℕ) → is_line text ≡ true → ends_with_line file ≡ true →
     file_part (with_appended file text) ≡ file_part file
 file_part-line untold text h e = refl
 file_part-line absent text h e = refl
 file_part-line (holds all) text h e = rw (rest_from-append [] all text, nothing _ e, rest_from-line [] text h) refl
 
--- what has no line stands behind the last one
+-- what has no line stands after the last one
 rest_from-none : (part xs : List ℕ) → lines_from part xs ≡ [] → rest_from part xs ≡ part ++ xs
 rest_from-none part xs none = ap (λ ls. concat ls ++ rest_from part xs) (sym none) ∙ lines_from-rest part xs
 
--- some octets of a line add no line and stand behind the last one, or they are the line
+-- some octets of a line add no line and stand after the last one, or they are the line
 pub file_lines-part : (file : Content) (text : List ℕ) (k : ℕ) → is_line text ≡ true → ends_with_line file ≡ true →
     ((file_lines (with_appended file (take k text)) ≡ file_lines file)
     × ((j : ℕ) × (file_part (with_appended file (take k text)) ≡ take j text)))

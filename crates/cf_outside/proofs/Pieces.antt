@@ -29,7 +29,7 @@ filled_length a k xs ys p q =
       length-drop a xs,
     )
 
--- what was read so far and what was read behind it
+-- what was read so far and what was read after it
 more_at : (file : Content) (place a : ℕ) (xs ys : List ℕ) → length xs ≡ a → HasRead file place xs → HasAt file (place + a) ys → HasRead file place (xs ++ ys)
 more_at untold place a xs ys l h g = tt
 more_at absent place a xs ys l h g = absurd g

@@ -15,7 +15,7 @@ pub record SentValue : Type 0 where
   pub bytes : List ℕ
 
 -- what a desk tells: its two lists, each where it tells it, whether it may be called, and how often a call failed; the octets
--- that stand behind the last whole packet and behind the last whole line, and the octets of a packet where it keeps them; and
+-- that stand after the last whole packet and after the last whole line, and the octets of a packet where it keeps them; and
 -- of a desk over lent files the reference that it writes through, how often a read failed there, the names of its own files,
 -- and every file behind that reference
 pub record DeskValue : Type 0 where
@@ -35,7 +35,7 @@ pub record DeskValue : Type 0 where
 abbrev pub with_item : {A : Type 0} → A → Option (List A) → Option (List A)
 with_item item items = option_map (λ all. all ++ item ∷ []) items
 
--- an item was added; after a failure it may have been added all the same, and else a beginning of its octets may stand behind
+-- an item was added; after a failure it may have been added all the same, and else a beginning of its octets may stand after
 -- the last whole item
 abbrev pub Adds : {A : Type 0} → A → (octets : List ℕ) → Option (List A) → Option (List A) → (part : List ℕ) → WriteAnswer → Type 0
 Adds item octets old new part write.Done = new ≡ with_item item old
@@ -83,7 +83,7 @@ pub record PutsLine (text : List ℕ) (old new : DeskValue) (answer : WriteAnswe
   pub keeps : KeepsDesk old new
 
 -- a desk that writes a log alone, through lent files: it tells the log's lines and no packets, and is whole where no call
--- failed and nothing stands behind the log's last line feed, since the next line would else join it
+-- failed and nothing stands after the log's last line feed, since the next line would else join it
 abbrev pub line_desk : (failed : Bool) → (lender : GName) → (faults reads : ℕ) → (log : List ℕ) → (List ℕ → Content) → DeskValue
 line_desk failed lender faults reads log content = record {
   packets = None;

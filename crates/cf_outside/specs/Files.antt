@@ -6,6 +6,7 @@ use Rattle.cf_outside.specs.declared.files.ReadAnswer.TheVariants as read
 use Rattle.cf_outside.specs.declared.files.WriteAnswer.{WriteAnswer}
 use Rattle.cf_outside.specs.declared.files.WriteAnswer.TheVariants as write
 
+-- what is told of a file: nothing, that there is none, or what it holds
 pub data Content : Type 0 where
   -- nothing, as real files
   untold : Content

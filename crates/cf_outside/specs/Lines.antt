@@ -1,5 +1,4 @@
--- The lines of a text: each ends with the line feed that is its last octet and its only one. The main definitions are
--- `is_line` and `file_lines`.
+-- Steps of the proof: the lines of a text, each of which ends with its only line feed: `is_line` and `file_lines`.
 use Rattle.std.specs.Prelude.{ℕ, ◌==◌, Bool, true, false, Option, None, Some, List, [], ◌∷◌, ◌++◌, if◌then◌else◌}
 use Rattle.cf_outside.specs.Files.{Content, untold, absent, holds}
 
@@ -18,7 +17,7 @@ abbrev pub lines_from : List ℕ → List ℕ → List (List ℕ)
 lines_from part [] = []
 lines_from part (byte ∷ bytes) = if byte == 10 then (part ++ byte ∷ []) ∷ lines_from [] bytes else lines_from (part ++ byte ∷ []) bytes
 
--- what stands behind its last line feed
+-- what stands after its last line feed
 abbrev pub rest_from : List ℕ → List ℕ → List ℕ
 rest_from part [] = part
 rest_from part (byte ∷ bytes) = if byte == 10 then rest_from [] bytes else rest_from (part ++ byte ∷ []) bytes
@@ -29,7 +28,7 @@ file_lines untold = None
 file_lines absent = None
 file_lines (holds all) = Some (lines_from [] all)
 
--- what stands behind the last line feed of a file, as far as it is told
+-- what stands after the last line feed of a file, as far as it is told
 abbrev pub file_part : Content → List ℕ
 file_part untold = []
 file_part absent = []

@@ -1,5 +1,5 @@
--- What a desk in memory holds, and what its calls do to it. The main definitions are `MemoryDeskValue`, `desk_in_memory`, and
--- `MemoryEmits` and `MemoryPutsLine`, one for each call.
+-- Beside the proof: what a desk in memory holds, `MemoryDeskValue`, and what its calls do to it. The main definitions are that,
+-- `desk_in_memory`, and `MemoryEmits` and `MemoryPutsLine`, one for each call.
 use Rattle.std.specs.Prelude.{◌≡◌, ◌≢◌, ◌⊎◌, ℕ, ◌==◌, if◌then◌else◌, None, Some}
 use Rattle.std.specs.Prelude.{List, [], ◌∷◌, ◌++◌, map, string_bytes}
 use Rattle.cf_outside.specs.Desk.{SentValue, DeskValue}
@@ -47,7 +47,7 @@ desk_in_memory desk = record {
   content = λ _. untold;
 }
 
--- a list behind a failure by the script, which adds the item all the same where it leaves more than 0
+-- a list after a failure by the script, which adds the item all the same where it leaves more than 0
 abbrev pub with_left : {A : Type 0} → ℕ → A → List A → List A
 with_left left item items = if left == 0 then items else items ++ item ∷ []
 

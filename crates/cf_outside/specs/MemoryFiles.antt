@@ -1,5 +1,5 @@
--- What files in memory hold, and what the calls do to them. The main definitions are `MemoryFilesValue`, and `MemoryReads`,
--- `MemoryCreates`, `MemoryAppends` and `MemoryGoesOn`, one for each call.
+-- Beside the proof: what files in memory hold, `MemoryFilesValue`, and what the calls do to them: `MemoryReads`, `MemoryCreates`,
+-- `MemoryAppends` and `MemoryGoesOn`, one for each call.
 use Rattle.std.specs.Prelude.{◌≡◌, ◌≢◌, ◌⊎◌, ◌≤◌, ℕ, min, Option, None, Some, IsSome, List, [], ◌++◌, length, take, drop}
 use Rattle.std.specs.declared.alloc.Global.{Global}
 use Rattle.std.specs.declared.vec.Vec.{Vec}
@@ -52,7 +52,7 @@ file_rest untold at = []
 file_rest absent at = []
 file_rest (holds all) at = drop at all
 
--- a read of a file: as many bytes as there are and the buffer takes, which keeps what stood behind them; it fails where it is
+-- a read of a file: as many bytes as there are and the buffer takes, which keeps what stood after them; it fails where it is
 -- scripted or there is no such file, and takes no memory
 abbrev pub MemoryReads : List ℕ → ℕ → List ℕ → List ℕ → MemoryFilesValue → MemoryFilesValue → ReadAnswer → Type 0
 MemoryReads name at before after old new (read.Got n) =

@@ -1,5 +1,5 @@
--- What a pair in memory holds, and what the calls do to it. The main definitions are `MemoryPairValue`, and `MemoryMeets`,
--- `MemoryTellsMoment`, `MemoryTakes`, `MemoryGives` and `MemoryFinishes`, one for each call.
+-- Beside the proof: what a pair in memory holds, `MemoryPairValue`, and what the calls do to it: `MemoryMeets`, `MemoryTellsMoment`,
+-- `MemoryTakes`, `MemoryGives` and `MemoryFinishes`, one for each call.
 use Rattle.std.specs.Prelude.{◌≡◌, ◌⊎◌, ◌≤◌, ℕ, ◌+◌, min, Bool, false, IsTrue, None, IsSome}
 use Rattle.std.specs.Prelude.{List, [], ◌∷◌, ◌++◌, length, take, drop, map}
 use Rattle.cf_view.specs.declared.Endpoint.{Endpoint}
@@ -115,7 +115,7 @@ with_idle pair = record pair { idles = counted pair.idles }
 abbrev pub with_moment : MemoryPairValue → MemoryPairValue
 with_moment pair = record pair { moments_told = counted pair.moments_told }
 
--- a pair behind a call that was answered
+-- a pair after a call that was answered
 abbrev pub with_answer : Entry → MemoryPairValue → MemoryPairValue
 with_answer entry pair = record pair { entries = pair.entries ++ entry ∷ []; counts = after_call pair.counts }
 
@@ -145,7 +145,7 @@ MemoryTellsMoment old new moment.Failed = MemoryFails old new
 abbrev pub moved_of : MemoryPairValue → ℕ → ℕ
 moved_of pair count = min count (move_limit pair.pieces (counted pair.moves))
 
--- the next bytes of a side are taken into the front of a buffer, which keeps what stood behind them
+-- the next bytes of a side are taken into the front of a buffer, which keeps what stood after them
 abbrev pub MemoryTakes : Side → List ℕ → List ℕ → MemoryPairValue → MemoryPairValue → TakeAnswer → Type 0
 MemoryTakes side before after old new (taken.Got n) =
     (next_fail old.counts ≡ None) × (is_idle old ≡ false) × (1 ≤ n) × (n ≡ moved_of old (min (length (left_of old side)) (length before)))

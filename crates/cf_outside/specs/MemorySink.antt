@@ -1,4 +1,4 @@
--- What a sink in memory holds, and what a put does to it. The main definition is `MemoryPuts`.
+-- Beside the proof: what a sink in memory holds, `MemorySinkValue`, and what a put does to it, `MemoryPuts`.
 use Rattle.std.specs.Prelude.{◌≡◌, ◌≢◌, ◌⊎◌, ◌++◌, ℕ, List, None, Some, [], take}
 use Rattle.cf_outside.specs.Memory.{Counts, next_fail, after_call, after_fault, after_lack}
 use Rattle.cf_outside.specs.declared.memory_sink.MemorySink.{MemorySink}

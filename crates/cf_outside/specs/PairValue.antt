@@ -9,5 +9,6 @@ pub record PairValue : Type 0 where
   pub faults : ℕ
   pub idles : ℕ
 
+-- what a pair tells, with its counts of faults and of idle answers
 abbrev pub pair_value : {P : Type 0} → PairOf P → P → PairValue
 pair_value P pair = record { told = P.told pair; faults = P.faults pair; idles = P.idles pair }

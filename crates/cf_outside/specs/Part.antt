@@ -1,4 +1,4 @@
--- A part of a file, read into a buffer: IsFilled.
+-- Steps of the proof: a part of a file, read into a buffer: `IsFilled`.
 use Rattle.std.specs.Prelude.{◌≡◌, ℕ, List, length, take, drop}
 use Rattle.cf_outside.specs.Files.{Content, untold, absent, holds}
 

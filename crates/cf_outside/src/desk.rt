@@ -29,7 +29,7 @@ pub trait Desk {
 }
 
 /// Writes a log alone, through lent files, and counts their failed writes. It tells the lines of the log, and no packets. It
-/// is whole where `failed` is false and nothing stands behind the last line feed of the log, which the next line would else
+/// is whole where `failed` is false and nothing stands after the last line feed of the log, which the next line would else
 /// join. This project's own.
 #[derive(Drop)]
 pub struct LineDesk<'a, F> {

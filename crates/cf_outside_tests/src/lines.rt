@@ -15,7 +15,7 @@ pub(crate) fn call_in(line: &str) -> (&str, &str) {
     rows::row(line).unwrap_or((line, ""))
 }
 
-/// The first word of a text, and what stands behind it.
+/// The first word of a text, and what stands after it.
 pub(crate) fn parted(text: &str) -> (&str, &str) {
     text.split_once(' ').unwrap_or((text, ""))
 }

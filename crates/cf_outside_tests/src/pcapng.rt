@@ -9,7 +9,7 @@ use std::process::Abort;
 
 /// Octets, and what they say. `section`: whether they begin as a pcapng file, 1 or 0; `new`: the block that they begin, to a new
 /// reader; `next`: the block that they begin, to the reader of the row before; `size`: its length, to that reader; `all`: how many
-/// octets are left behind the blocks there that are passed over; `interface`: what is described of the interface of that number. A
+/// octets are left after the blocks there that are passed over; `interface`: what is described of the interface of that number. A
 /// record tells its stamp, its link kind, its block's length and its octets.
 const BLOCKS: &str = "
 section 0a0d0d0a = section 1
@@ -181,7 +181,7 @@ fn interface_text(rt: &impl Abort, alloc: Global, interface: Option<Interface>) 
     .expect(rt, "memory")
 }
 
-/// How many octets are left behind the blocks that follow each other in these and are passed over.
+/// How many octets are left after the blocks that follow each other in these and are passed over.
 fn left(reader: &mut Reader, octets: &[u8]) -> usize {
     let mut rest = octets;
     for _ in 0..octets.len() {

@@ -243,7 +243,7 @@ fn is_right(queue: &Outq, piece: Piece, bytes: &[u8], out: &mut [u8]) -> bool
     &*out == &bytes[from..from + piece.len] && (!piece.end || from + piece.len == bytes.len())
 }
 
-/// Takes all pieces that there are, and tells the place behind them. Each begins where the one before it ended.
+/// Takes all pieces that there are, and tells the place after them. Each begins where the one before it ended.
 fn take_pieces(rt: &impl Abort, queue: &mut Outq, mss: usize, bytes: &[u8], out: &mut [u8]) {
     assert!(rt; mss > 0);
     for _piece in 0..200_000 {

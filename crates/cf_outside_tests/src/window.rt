@@ -6,8 +6,8 @@ use std::alloc::Global;
 use std::process::Abort;
 
 /// Blocks, each on a new window: calls, and what they answer. `last` is an offer with End. A state is the base and the pending
-/// bytes, with `end` where End was taken. The first block goes step by step; behind it come bytes below the base and past the
-/// edge, offers over earlier and later ones, End behind a gap, where a letter is kept and before one, at the edge and before the
+/// bytes, with `end` where End was taken. The first block goes step by step; after it come bytes below the base and past the
+/// edge, offers over earlier and later ones, End after a gap, where a letter is kept and before one, at the edge and before the
 /// first place, and what was consumed on the way.
 const WINDOWS: &str = "open 10
 offer 4 4546

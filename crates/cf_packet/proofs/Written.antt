@@ -126,7 +126,7 @@ length_options (Some m) text = omega arith
 pub length_segment : (p : PacketValue) (checksum : ℕ) → length (segment_with checksum p) ≡ segment_length p
 length_segment p checksum = omega (arith, length_options p.mss p.text)
 
--- the options and the text behind 20 octets
+-- the options and the text after 20 octets
 options_again : (s : List ℕ) (mss : Option ℕ) (text : List ℕ) → text_at s ≡ 20 + 4 * option_words mss → drop 20 s ≡ option_octets mss ++ text → options s ≡ option_octets mss
 options_again s None text e f = rw e refl
 options_again s (Some m) text e f = rw (e, f) refl

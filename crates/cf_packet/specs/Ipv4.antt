@@ -7,7 +7,7 @@ use Rattle.cf_packet.specs.Checksum.{is_right}
 use Rattle.cf_packet.specs.declared.packet.PacketRefusal.{PacketRefusal}
 use Rattle.cf_packet.specs.declared.packet.PacketRefusal.TheVariants as refusal
 
--- what stands behind the Ethernet header of 14 octets, if its type is that of IPv4. RFC 894
+-- what stands after the Ethernet header of 14 octets, if its type is that of IPv4. RFC 894
 abbrev pub ethernet_payload : List ℕ → Option (List ℕ)
 ethernet_payload octets =
     if nat_lt (length octets) 14 then None
@@ -19,6 +19,7 @@ abbrev pub payload : LinkKind → List ℕ → Option (List ℕ)
 payload link.Ethernet octets = ethernet_payload octets
 payload link.RawIp octets = Some octets
 
+-- the field Version
 abbrev pub version : List ℕ → ℕ
 version packet = slice_index packet 0 / 16
 
@@ -26,25 +27,31 @@ version packet = slice_index packet 0 / 16
 abbrev pub ihl : List ℕ → ℕ
 ihl packet = slice_index packet 0 % 16
 
+-- the length of the header in octets, by the field IHL
 abbrev pub header_length : List ℕ → ℕ
 header_length packet = ihl packet * 4
 
+-- the field Total Length, in octets
 abbrev pub total_length : List ℕ → ℕ
 total_length packet = u16_be_at packet 2
 
--- the third of the three flags, and the 13 bits behind them
+-- the third of the three flags, and the 13 bits after them
 abbrev pub more_fragments : List ℕ → ℕ
 more_fragments packet = u16_be_at packet 6 / 8192 % 2
 
+-- the field Fragment Offset, in units of eight octets
 abbrev pub fragment_offset : List ℕ → ℕ
 fragment_offset packet = u16_be_at packet 6 % 8192
 
+-- the field Protocol
 abbrev pub protocol : List ℕ → ℕ
 protocol packet = slice_index packet 9
 
+-- the field Source Address
 abbrev pub source_address : List ℕ → ℕ
 source_address packet = u32_be_at packet 12
 
+-- the field Destination Address
 abbrev pub destination_address : List ℕ → ℕ
 destination_address packet = u32_be_at packet 16
 
@@ -56,13 +63,16 @@ data_octets packet = slice_range packet (header_length packet) (total_length pac
 abbrev pub is_other_version : List ℕ → Bool
 is_other_version packet = nat_lt 0 (length packet) && not (version packet == 4)
 
+-- there are fewer octets than a header has, or than the header says
 abbrev pub is_short : List ℕ → Bool
 is_short packet =
     nat_lt (length packet) 20 || (nat_lt (length packet) (header_length packet) || nat_lt (length packet) (total_length packet))
 
+-- the header says that it is shorter than 20 octets, or longer than the packet
 abbrev pub is_bad_header : List ℕ → Bool
 is_bad_header packet = nat_lt (ihl packet) 5 || nat_lt (total_length packet) (header_length packet)
 
+-- the packet is a fragment of a datagram
 abbrev pub is_fragment : List ℕ → Bool
 is_fragment packet = not (more_fragments packet == 0) || not (fragment_offset packet == 0)
 

@@ -63,6 +63,7 @@ abbrev pub read_after_header : List ℕ → Option PacketRefusal → Result Pack
 read_after_header packet (Some r) = Err r
 read_after_header packet None = segment_in (source_address packet) (destination_address packet) (data_octets packet)
 
+-- the segment of an IPv4 packet, or why there is none
 abbrev pub read_ipv4 : List ℕ → Result PacketValue PacketRefusal
 read_ipv4 packet = read_after_header packet (header_refusal packet)
 
@@ -71,5 +72,6 @@ abbrev pub read_payload : Option (List ℕ) → Result PacketValue PacketRefusal
 read_payload None = Err refusal.NotIpv4
 read_payload (Some packet) = read_ipv4 packet
 
+-- the segment in the octets of a record of this link type, or why there is none
 abbrev pub read_record : LinkKind → List ℕ → Result PacketValue PacketRefusal
 read_record link octets = read_payload (payload link octets)

@@ -3,15 +3,19 @@ use Rattle.std.specs.Prelude.{ℕ, zero, suc, ◌*◌, ◌/◌, ◌%◌, ◌==�
 use Rattle.cf_view.specs.Octets.{u16_be_at, u32_be_at, u16_be_octets, u32_be_octets}
 use Rattle.cf_packet.specs.Checksum.{is_right}
 
+-- the field Source Port
 abbrev pub source_port : List ℕ → ℕ
 source_port segment = u16_be_at segment 0
 
+-- the field Destination Port
 abbrev pub destination_port : List ℕ → ℕ
 destination_port segment = u16_be_at segment 2
 
+-- the field Sequence Number
 abbrev pub sequence_number : List ℕ → ℕ
 sequence_number segment = u32_be_at segment 4
 
+-- the field Acknowledgment Number
 abbrev pub acknowledgment_number : List ℕ → ℕ
 acknowledgment_number segment = u32_be_at segment 8
 
@@ -19,6 +23,7 @@ acknowledgment_number segment = u32_be_at segment 8
 abbrev pub data_offset : List ℕ → ℕ
 data_offset segment = slice_index segment 12 / 16
 
+-- where the text begins, by the field Data Offset
 abbrev pub text_at : List ℕ → ℕ
 text_at segment = data_offset segment * 4
 
@@ -26,12 +31,15 @@ text_at segment = data_offset segment * 4
 abbrev pub control_bits : List ℕ → ℕ
 control_bits segment = slice_index segment 13 % 64
 
+-- the field Window
 abbrev pub window_field : List ℕ → ℕ
 window_field segment = u16_be_at segment 14
 
+-- the octets of the options
 abbrev pub options : List ℕ → List ℕ
 options segment = slice_range segment 20 (text_at segment)
 
+-- the octets of the text
 abbrev pub text_octets : List ℕ → List ℕ
 text_octets segment = drop (text_at segment) segment
 
@@ -45,6 +53,7 @@ abbrev pub pseudo_header : ℕ → ℕ → ℕ → List ℕ
 pseudo_header source destination length =
     u32_be_octets source ++ u32_be_octets destination ++ 0 ∷ 6 ∷ u16_be_octets length
 
+-- the checksum of a segment between two addresses is right
 abbrev pub is_right_segment : ℕ → ℕ → List ℕ → Bool
 is_right_segment source destination segment = is_right (pseudo_header source destination (length segment) ++ segment)
 

@@ -24,6 +24,7 @@ abbrev pub option_octets : Option ℕ → List ℕ
 option_octets None = []
 option_octets (Some mss) = 2 ∷ 4 ∷ u16_be_octets mss
 
+-- how many words of four octets the options take
 abbrev pub option_words : Option ℕ → ℕ
 option_words None = 0
 option_words (Some mss) = 1
@@ -39,6 +40,7 @@ segment_header checksum p =
     ++ (5 + option_words p.mss) * 16 ∷ p.flags ∷ u16_be_octets p.window ++ u16_be_octets checksum ++ u16_be_octets 0
     ++ option_octets p.mss
 
+-- the octets of a segment with this checksum
 abbrev pub segment_with : ℕ → PacketValue → List ℕ
 segment_with checksum p = segment_header checksum p ++ p.text
 
@@ -53,9 +55,11 @@ abbrev pub segment_checksum : PacketValue → ℕ
 segment_checksum p =
     checksum_of (pseudo_header p.source.address p.dest.address (segment_length p) ++ segment_with 0 p)
 
+-- the checksum of the IPv4 header
 abbrev pub header_checksum : PacketValue → ℕ
 header_checksum p = checksum_of (header_with 0 p)
 
+-- the octets of a packet, with both checksums
 abbrev pub packet_octets : PacketValue → List ℕ
 packet_octets p = header_with (header_checksum p) p ++ segment_with (segment_checksum p) p
 

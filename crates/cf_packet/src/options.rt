@@ -27,7 +27,7 @@ fn is_mss(size: usize, octets: &[u8]) -> bool
     octets[0] == 2 && size == 4
 }
 
-/// What stands behind the first octets.
+/// What stands after the first octets.
 fn behind<'a>(size: usize, octets: &'a [u8]) -> &'a [u8]
     requires { size ≤ length octets.now }
     ensures { result.now ≡ drop size octets.now }

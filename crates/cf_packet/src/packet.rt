@@ -4,15 +4,15 @@ use cf_view::Endpoint;
 
 /// No more data from the sender. RFC 9293, section 3.1, as the other five.
 pub const FIN: u8 = 0x01;
-/// Synchronize sequence numbers.
+/// Synchronize sequence numbers. RFC 9293, section 3.1.
 pub const SYN: u8 = 0x02;
-/// Reset the connection.
+/// Reset the connection. RFC 9293, section 3.1.
 pub const RST: u8 = 0x04;
-/// Push function.
+/// Push function. RFC 9293, section 3.1.
 pub const PSH: u8 = 0x08;
-/// The acknowledgment field is significant.
+/// The acknowledgment field is significant. RFC 9293, section 3.1.
 pub const ACK: u8 = 0x10;
-/// The urgent pointer field is significant.
+/// The urgent pointer field is significant. RFC 9293, section 3.1.
 pub const URG: u8 = 0x20;
 
 /// A TCP segment with the addresses of its IPv4 packet. RFC 791, section 3.1, and RFC 9293, section 3.1. Fields that
@@ -38,6 +38,7 @@ pub struct Packet<'a> {
 }
 
 /// Why the octets of a record are no TCP segment in an IPv4 packet. They are tested in this order.
+/// The order is this project's own.
 #[derive(Clone, Copy)]
 pub enum PacketRefusal {
     /// An Ethernet header is cut or its type is not 0800, or the version is not 4.

@@ -24,7 +24,7 @@ pub fn read_packet<'a>(link: &LinkKind, bytes: &'a [u8]) -> Result<Packet<'a>, P
     }
 }
 
-/// What stands behind an Ethernet header, if its type is that of IPv4.
+/// What stands after an Ethernet header, if its type is that of IPv4.
 fn ethernet_payload<'a>(octets: &'a [u8]) -> Option<&'a [u8]>
     ensures { option_copied result ≡ ethernet_payload octets.now }
 {

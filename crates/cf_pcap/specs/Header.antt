@@ -11,6 +11,7 @@ use Rattle.cf_pcap.specs.declared.header.TheConstants.{MICROSECONDS, NANOSECONDS
 abbrev pub u16_at : Bool → List ℕ → ℕ → ℕ
 u16_at big_endian octets i = if big_endian then u16_be_at octets i else u16_le_at octets i
 
+-- the number of four octets at a place, in the byte order of the file
 abbrev pub u32_at : Bool → List ℕ → ℕ → ℕ
 u32_at big_endian octets i = if big_endian then u32_be_at octets i else u32_le_at octets i
 
@@ -44,6 +45,7 @@ header_of octets =
 abbrev pub output_header : Header
 output_header = record { big_endian = false; nanos = false; link = link.RawIp }
 
+-- the header of a file that is written: version 2.4, little-endian, microseconds, raw IP
 abbrev pub output_octets : List ℕ
 output_octets =
     u32_le_octets MICROSECONDS ++ u16_le_octets 2 ++ u16_le_octets 4 ++ u32_le_octets 0 ++ u32_le_octets 0

@@ -4,7 +4,7 @@ ghost use Rattle.cf_pcap.specs.Header.{fields_of, header_of, is_magic, u16_at, u
 
 use cf_view::{LinkKind, View};
 
-/// What the header of a capture file says about its records.
+/// What the header of a capture file says about its records. draft-ietf-opsawg-pcap, section 4.
 #[derive(Clone, Copy)]
 pub struct Header {
     /// Whether numbers stand with their high octet first.
@@ -15,7 +15,7 @@ pub struct Header {
     pub link: LinkKind,
 }
 
-/// Why octets begin no capture file that is read. They are tested in this order.
+/// Why octets begin no capture file that is read. They are tested in this order. The order is this project's own.
 #[derive(Clone, Copy, PartialEq, Eq, Debug)]
 pub enum HeaderRefusal {
     /// There are fewer than 24 octets.
@@ -28,9 +28,9 @@ pub enum HeaderRefusal {
     LinkType,
 }
 
-/// The magic of files whose fractions are microseconds.
+/// The magic of files whose fractions are microseconds. draft-ietf-opsawg-pcap, section 4.
 pub const MICROSECONDS: u32 = 0xA1B2_C3D4;
-/// The magic of files whose fractions are nanoseconds.
+/// The magic of files whose fractions are nanoseconds. draft-ietf-opsawg-pcap, section 4.
 pub const NANOSECONDS: u32 = 0xA1B2_3C4D;
 
 /// The header that begins a capture file of these octets. draft-ietf-opsawg-pcap, section 4; zone, accuracy and snap

@@ -8,7 +8,7 @@ use cf_view::View;
 /// The captured octets that a record has at most. This project's own.
 pub const CAPTURED_LIMIT: u32 = 262_144;
 
-/// What octets of a file say about the record that they begin.
+/// What octets of a file say about the record that they begin. draft-ietf-opsawg-pcap, section 5.
 #[derive(Drop)]
 pub enum RecordAnswer<'a> {
     /// A record.
@@ -20,7 +20,7 @@ pub enum RecordAnswer<'a> {
         /// How many octets it takes, its head included.
         used: usize,
     },
-    /// The record goes on behind the octets. It takes so many in all: 16 while its head is not whole.
+    /// The record goes on after the octets. It takes so many in all: 16 while its head is not whole.
     Need(usize),
     /// The captured length is above `CAPTURED_LIMIT`.
     TooLong,

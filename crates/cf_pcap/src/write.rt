@@ -32,7 +32,7 @@ pub fn write_record_head(moment: u64, len: u32, out: &mut [u8; 16])
     requires moment { moment < moment_limit }
     requires short { len ≤ CAPTURED_LIMIT }
     ensures octets { out.new ≡ head_octets moment len }
-    // With the octets behind it, it is read again, whatever follows.
+    // With the octets after it, it is read again, whatever follows.
     ensures again { (body rest : List ℕ) → length body ≡ len → record_of output_header (out.new ++ body ++ rest) ≡ Whole moment body (16 + len) }
 {
     write_head(moment, len, out);

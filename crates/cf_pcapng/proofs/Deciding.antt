@@ -53,7 +53,7 @@ module _ (interfaces : List Interface) (big : Bool) (xs : List ℕ) where
   abbrev told_length : ℕ
   told_length = length_at big xs
 
-  -- the tests behind the first three
+  -- the tests after the first three
   abbrev rest : Found
   rest =
       if nat_lt (length xs) told_length then Needs told_length

@@ -33,7 +33,7 @@ options_end big xs e =
     within_enough (length xs) (suc (length xs)) big xs (omega arith) (omega arith)
     ∙ ap (λ f. with_first f (λ size. options_within (length xs) big (drop size xs))) e
 
--- the first one, and those behind it
+-- the first one, and those after it
 pub options_step : (big : Bool) (xs : List ℕ) (o : BlockOptionValue) (size : ℕ) → first_option big xs ≡ Some (o, size) →
     options_of big xs ≡ o ∷ options_of big (drop size xs)
 options_step big xs o size e =
@@ -60,7 +60,7 @@ only_options big xs (o ∷ os) (size, e, behind) =
 pub one_list_of_options : HaveOneListOfOptions
 one_list_of_options big xs = (are_within (length xs) big xs (omega arith), only_options big xs)
 
--- behind an option that does not say the unit of time, what is left says what all say
+-- after an option that does not say the unit of time, what is left says what all say
 pub goes_on : (big : Bool) (xs : List ℕ) (o : BlockOptionValue) (size n said : ℕ) → Some (o, size) ≡ first_option big xs → length xs - size ≤ n →
     ((o.code == 9) && (length o.value == 1)) ≡ false → resolution_of (options_of big xs) ≡ said → resolution_of (options_of big (take n (drop size xs))) ≡ said
 goes_on big xs o size n said e l other is =

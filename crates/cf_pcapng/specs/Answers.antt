@@ -1,4 +1,4 @@
--- What contracts see of the answers about a block.
+-- Steps of the proof: what contracts see of the answers about a block: `answer_of`, and `block_size_value` of those about its length.
 use Rattle.std.specs.Prelude.{◌≡◌, ℕ, ◌+◌, ◌≤◌, ◌<◌, Bool, List, length, slice_range}
 use Rattle.cf_pcapng.specs.declared.block.BlockSize.{BlockSize}
 use Rattle.cf_pcapng.specs.declared.block.BlockSize.TheVariants as size

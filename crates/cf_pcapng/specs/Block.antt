@@ -51,6 +51,7 @@ unfoldable pub order_at : Bool → List ℕ → Bool
 order_at big_endian octets = if is_section octets then nat_lt 11 (length octets) && (u32_be_at octets 8 == BYTE_ORDER) else big_endian
 
 module _ (big_endian : Bool) (octets : List ℕ) where
+  -- the kind of the block, by its type
   unfoldable pub kind_at : BlockKind
   kind_at =
       if is_section octets then kind.Section
@@ -58,6 +59,7 @@ module _ (big_endian : Bool) (octets : List ℕ) where
       else if u32_at big_endian octets 0 == ENHANCED_PACKET then kind.Packet
       else kind.Other
 
+  -- its first Block Total Length
   unfoldable pub length_at : ℕ
   length_at = u32_at big_endian octets 4
 
@@ -69,7 +71,7 @@ module _ (big_endian : Bool) (octets : List ℕ) where
   unfoldable pub is_wrong_section : Bool
   is_wrong_section = is_section octets && not ((u32_at big_endian octets 8 == BYTE_ORDER) && (u16_at big_endian octets 12 == 1))
 
-  -- an interface description: its link type, and its options behind octet 16
+  -- an interface description: its link type, and its options after octet 16
   unfoldable pub interface_at : Interface
   interface_at = record {
     link = u16_at big_endian octets 8;
@@ -80,9 +82,11 @@ module _ (big_endian : Bool) (octets : List ℕ) where
   unfoldable pub number_at : ℕ
   number_at = u32_at big_endian octets 8
 
+  -- the timestamp of an enhanced packet, in the units of its interface
   unfoldable pub ticks_at : ℕ
   ticks_at = u32_at big_endian octets 12 * 4294967296 + u32_at big_endian octets 16
 
+  -- the Captured Packet Length of an enhanced packet
   unfoldable pub captured_at : ℕ
   captured_at = u32_at big_endian octets 20
 
@@ -106,6 +110,7 @@ abbrev pub is_served : Option Interface → Bool
 is_served None = false
 is_served (Some interface) = (interface.link == 1) || (interface.link == 101)
 
+-- the link type of an interface, raw IP where there is none
 abbrev pub link_of : Option Interface → LinkKind
 link_of None = link.RawIp
 link_of (Some interface) = if interface.link == 1 then link.Ethernet else link.RawIp
@@ -183,5 +188,6 @@ block_at section octets = block_in section.interfaces (order_at section.big_endi
 unfoldable pub size_in : Bool → List ℕ → Found
 size_in big_endian octets = first_that_applies (first_tests big_endian octets) (Is Other (length_at big_endian octets))
 
+-- the tests of the length alone, in the byte order of the block
 abbrev pub size_at : Section → List ℕ → Found
 size_at section octets = size_in (order_at section.big_endian octets) octets

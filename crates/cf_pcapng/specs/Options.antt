@@ -24,12 +24,12 @@ first_option big_endian octets =
     else if nat_lt (length octets) size then None
     else Some (record { code = u16_at big_endian octets 0; value = slice_range octets 4 (4 + count) }, size)
 
--- an option, and those behind it
+-- an option, and those after it
 abbrev pub with_first : Option (BlockOptionValue × ℕ) → (ℕ → List BlockOptionValue) → List BlockOptionValue
 with_first None behind = []
 with_first (Some (option, size)) behind = option ∷ behind size
 
--- these options follow each other from the front, and behind them there is none
+-- these options follow each other from the front, and after them there is none
 abbrev pub AreOptions : Bool → List ℕ → List BlockOptionValue → Type 0
 AreOptions big_endian octets [] = first_option big_endian octets ≡ None
 AreOptions big_endian octets (option ∷ options) =
@@ -40,6 +40,7 @@ abbrev pub options_within : (count : ℕ) → Bool → List ℕ → List BlockOp
 options_within zero big_endian octets = []
 options_within (suc count) big_endian octets = with_first (first_option big_endian octets) (λ size. options_within count big_endian (drop size octets))
 
+-- the options in these octets, up to the end of the list
 abbrev pub options_of : Bool → List ℕ → List BlockOptionValue
 options_of big_endian octets = options_within (length octets) big_endian octets
 

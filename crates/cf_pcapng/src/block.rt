@@ -14,7 +14,7 @@ pub const SECTION_HEADER: u32 = 0x0A0D_0D0A;
 pub const INTERFACE_DESCRIPTION: u32 = 1;
 /// The type of an enhanced packet. Section 4.3.
 pub const ENHANCED_PACKET: u32 = 6;
-/// The magic of a section header, in the byte order of its section.
+/// The magic of a section header, in the byte order of its section. draft-ietf-opsawg-pcapng, section 4.1.
 pub const BYTE_ORDER: u32 = 0x1A2B_3C4D;
 
 /// The octets that a block has at most. This project's own.
@@ -22,18 +22,20 @@ pub const BLOCK_LIMIT: u32 = 16_777_216;
 /// The interfaces that a section has at most. This project's own.
 pub const INTERFACE_LIMIT: usize = 64;
 
-/// The captured length of a packet is above `CAPTURED_LIMIT`.
+/// The captured length of a packet is above `CAPTURED_LIMIT`. This project's own number.
 pub const REFUSED_LENGTH: u8 = 5;
 /// The length of a block is not allowed, its second length differs, or the bytes of a packet do not fit it.
+/// This project's own number.
 pub const REFUSED_BLOCK: u8 = 9;
-/// A section header has a wrong magic, or another major version than 1.
+/// A section header has a wrong magic, or another major version than 1. This project's own number.
 pub const REFUSED_SECTION: u8 = 10;
 /// A section has too many interfaces; or a packet's is not described, or of a link type that is not read.
+/// This project's own number.
 pub const REFUSED_INTERFACE: u8 = 11;
-/// The unit of time of a packet's interface is not read.
+/// The unit of time of a packet's interface is not read. This project's own number.
 pub const REFUSED_RESOLUTION: u8 = 12;
 
-/// An interface of a section.
+/// An interface of a section. draft-ietf-opsawg-pcapng, section 4.2.
 #[derive(Clone, Copy)]
 pub struct Interface {
     /// What stands before the IPv4 packets: 1 is Ethernet, 101 raw IP.
@@ -42,7 +44,7 @@ pub struct Interface {
     pub resolution: u8,
 }
 
-/// What octets of a file say about the length of the block that they begin.
+/// What octets of a file say about the length of the block that they begin. draft-ietf-opsawg-pcapng, section 3.1.
 #[derive(Clone, Copy)]
 pub enum BlockSize {
     /// The block takes so many octets.
@@ -53,7 +55,7 @@ pub enum BlockSize {
     Refused(u8),
 }
 
-/// What a block says whose octets are all there.
+/// What a block says whose octets are all there. draft-ietf-opsawg-pcapng, section 4.
 #[derive(Drop)]
 pub enum WholeBlock<'a> {
     /// A section begins, in this byte order.
@@ -72,7 +74,7 @@ pub enum WholeBlock<'a> {
     Refused(u8),
 }
 
-/// The types of blocks that are read.
+/// The types of blocks that are read. draft-ietf-opsawg-pcapng, section 4.
 #[derive(Clone, Copy)]
 pub enum BlockKind {
     /// A section header.

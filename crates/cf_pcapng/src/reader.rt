@@ -14,7 +14,7 @@ use cf_view::{LinkKind, NoMemory};
 use std::alloc::Global;
 use std::marker::Model;
 
-/// What octets of a file say about the block that they begin.
+/// What octets of a file say about the block that they begin. draft-ietf-opsawg-pcapng, section 4.
 #[derive(Drop)]
 pub enum BlockAnswer<'a> {
     /// An enhanced packet.
@@ -30,13 +30,14 @@ pub enum BlockAnswer<'a> {
     },
     /// Any other block, of so many octets.
     Passed(usize),
-    /// The block goes on behind the octets. It takes so many in all: 12, or 28 of a section header, while its length is not told.
+    /// The block goes on after the octets. It takes so many in all: 12, or 28 of a section header, while its length is not told.
     Need(usize),
     /// The block is refused, by this number.
     Refused(u8),
 }
 
 /// Reads a file block by block, and keeps the byte order and the interfaces of a section.
+/// draft-ietf-opsawg-pcapng, section 3.
 #[derive(Drop)]
 pub struct Reader {
     big_endian: bool,
@@ -90,8 +91,8 @@ impl Reader {
         size_in(order_in(self.big_endian, bytes), bytes)
     }
 
-    /// The block that begins these octets, which follow the blocks that were read; a file's first block is a section header. draft-ietf-opsawg-pcapng,
-    /// section 3.1. Takes no memory. A refusal and `Need` change nothing.
+    /// The block that begins these octets, which follow the blocks that were read; a file's first block is a section header.
+    /// draft-ietf-opsawg-pcapng, section 3.1. Takes no memory. A refusal and `Need` change nothing.
     pub fn next_block<'a>(&mut self, bytes: &'a [u8]) -> BlockAnswer<'a>
         ensures found { block_answer_value result ≡ answer_of (block_at self.old bytes.now) }
         ensures section { self.new ≡ after_found self.old (block_at self.old bytes.now) }

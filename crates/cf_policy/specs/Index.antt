@@ -1,4 +1,4 @@
--- The rules of an asset by the codes that they name for one client: IsIndexOf.
+-- Steps of the proof: the rules of an asset by the codes that they name for one client: `IsIndexOf`.
 use Rattle.std.specs.Prelude.{◌≡◌, ℕ, ◌+◌, ◌<◌, ◌⊎◌, ◌↔◌, pos, Bool, true, false, not, ◌&&◌, if◌then◌else◌, List, Option, None, Some, take, slice_get, option_and_then, AllPairs, Contains}
 use Rattle.std.specs.List.{Any, list_any, position}
 use Rattle.std.specs.Option.{option_map_or}

@@ -9,6 +9,7 @@ use Rattle.cf_policy.specs.declared.policy.Verdict.{Verdict}
 use Rattle.cf_policy.specs.declared.policy.Verdict.TheVariants as verdict
 use Rattle.cf_policy.specs.Verdict.{has_act, verdict_of}
 
+-- the verdict allows the act
 abbrev pub IsAllowed : Verdict → Type 0
 IsAllowed (verdict.Allow n) = Unit {0}
 IsAllowed _ = ⊥
@@ -36,7 +37,7 @@ abbrev pub IsDecidedByRule : Verdict → Type 0
 IsDecidedByRule (verdict.Refuse decider.Default why) = ⊥
 IsDecidedByRule _ = Unit {0}
 
--- the asset with one more rule behind the others
+-- the asset with one more rule after the others
 abbrev pub with_rule : Asset → Rule → Asset
 with_rule asset rule = record asset { rules = asset.rules ++ rule ∷ [] }
 

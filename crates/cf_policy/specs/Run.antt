@@ -1,4 +1,4 @@
--- Acts that differ in the point alone: HasOneVerdict; and in the value: TakesAnyValue.
+-- Steps of the proof: acts that differ in the point alone: `HasOneVerdict`; and in the value: `TakesAnyValue`.
 use Rattle.std.specs.Prelude.{◌≡◌, ◌&&◌, ℕ, ◌≤◌, ℤ, Bool, Option, not, pos}
 use Rattle.std.specs.List.{list_any}
 use Rattle.cf_view.specs.declared.base.Act.{Act}

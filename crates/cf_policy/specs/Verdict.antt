@@ -58,6 +58,7 @@ numbered rules n = option_map (λ r. (n, r)) (slice_get rules n)
 abbrev pub first_rule : List Rule → ℕ → Act → Option (ℕ × Rule)
 first_rule rules client act = option_and_then (numbered rules) (first_number rules client act)
 
+-- the action is to allow
 abbrev pub is_allow : Action → Bool
 is_allow Allow = true
 is_allow Refuse = false
@@ -81,6 +82,7 @@ abbrev pub by_rule : ℕ → Rule → Action → Verdict
 by_rule n r Allow = verdict.Allow n
 by_rule n r Refuse = verdict.Refuse (decider.Rule n) (rule_reason r)
 
+-- the verdict of the rule that was found, and without one a refusal by default
 abbrev pub decided : Option (ℕ × Rule) → Reason → Verdict
 decided (Some p) otherwise = by_rule p.0 p.1 p.1.action
 decided None otherwise = verdict.Refuse decider.Default otherwise

@@ -16,39 +16,50 @@ use Rattle.cf_policy.specs.Names.{is_name, is_reserved}
 abbrev pub most_assets : ℕ
 most_assets = MOST_ASSETS
 
+-- how many rules an asset has at most
 abbrev pub most_rules : ℕ
 most_rules = MOST_RULES
 
+-- how many spans a list of a rule has at most
 abbrev pub most_spans : ℕ
 most_spans = MOST_SPANS
 
+-- the greatest address of a client
 abbrev pub highest_address : ℤ
 highest_address = HIGHEST_ADDRESS
 
+-- the greatest code
 abbrev pub highest_code : ℤ
 highest_code = HIGHEST_CODE
 
+-- the greatest group
 abbrev pub highest_group : ℤ
 highest_group = HIGHEST_GROUP
 
+-- the greatest point
 abbrev pub highest_point : ℤ
 highest_point = HIGHEST_POINT
 
+-- the least value
 abbrev pub lowest_value : ℤ
 lowest_value = LOWEST_VALUE
 
+-- the greatest value
 abbrev pub highest_value : ℤ
 highest_value = HIGHEST_VALUE
 
 abbrev pub longest_name : ℕ
 longest_name = LONGEST_NAME
 
+-- how many commands a rate allows at most
 abbrev pub highest_most : ℕ
 highest_most = HIGHEST_MOST
 
+-- the longest time of a rate, in seconds
 abbrev pub longest_rate : ℕ
 longest_rate = LONGEST_RATE
 
+-- how many rules of an asset have a rate at most
 abbrev pub most_rated : ℕ
 most_rated = MOST_RATED
 
@@ -58,11 +69,13 @@ lowest_station Modbus = 0
 lowest_station Dnp3 = 0
 lowest_station Iec104 = 1
 
+-- the greatest station of a protocol
 abbrev pub highest_station : Protocol → ℕ
 highest_station Modbus = HIGHEST_UNIT
 highest_station Dnp3 = HIGHEST_LINK_ADDRESS
 highest_station Iec104 = HIGHEST_COMMON_ADDRESS
 
+-- the greatest master of a protocol: 0 but for DNP3
 abbrev pub highest_master : Protocol → ℕ
 highest_master Modbus = 0
 highest_master Dnp3 = HIGHEST_LINK_ADDRESS
@@ -79,6 +92,7 @@ pub record AreSpansWithin (low high : ℤ) (spans : List Span) : Type 0 where
   pub count : length spans ≤ most_spans
   pub each : All (IsSpanWithin low high) spans
 
+-- both numbers of a rate are in their ranges
 pub record IsRateWithin (rate : Rate) : Type 0 where
   pub some : 1 ≤ rate.most
   pub most : rate.most ≤ highest_most
@@ -95,6 +109,7 @@ HasRateWithin Refuse (Some rate) = ⊥
 abbrev pub rated_count : List Rule → ℕ
 rated_count rules = count_by (λ r. is_some r.rate) rules
 
+-- a rule has a name of its own, some codes, each list within its range, and a rate only where it allows
 pub record IsRuleWithin (r : Rule) : Type 0 where
   pub name : is_name r.name ≡ true
   pub own : is_reserved r.name ≡ false
@@ -107,12 +122,14 @@ pub record IsRuleWithin (r : Rule) : Type 0 where
   pub values : AreSpansWithin lowest_value highest_value r.values
   pub rate : HasRateWithin r.action r.rate
 
+-- the rules of an asset: not too many, each in form, with names that differ, and not too many with a rate
 pub record AreRulesWithin (rules : List Rule) : Type 0 where
   pub count : length rules ≤ most_rules
   pub each : All IsRuleWithin rules
   pub names : AllPairs (λ r s. r.name ≢ s.name) rules
   pub rated : rated_count rules ≤ most_rated
 
+-- an asset has a name, an endpoint, and a station and a master in the ranges of its protocol
 pub record IsAssetWithin (a : Asset) : Type 0 where
   pub name : is_name a.name ≡ true
   pub address : a.endpoint.address < 2 ^ 32
@@ -123,6 +140,7 @@ pub record IsAssetWithin (a : Asset) : Type 0 where
   pub master : a.master ≤ highest_master a.protocol
   pub rules : AreRulesWithin a.rules
 
+-- the assets of a policy: not too many, each in form, with names and endpoints that differ
 pub record AreAssetsWithin (assets : List Asset) : Type 0 where
   pub count : length assets ≤ most_assets
   pub each : All IsAssetWithin assets

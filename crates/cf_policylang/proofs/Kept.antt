@@ -65,14 +65,14 @@ name_if p ms =
 
 -- ---- lists that are read in order
 
--- what was read so far, n in number: each keeps Each, and each is apart from those behind it
+-- what was read so far, n in number: each keeps Each, and each is apart from those after it
 record AreRead (n : ℕ) {X : Type 0} (Each : X → Type 0) (Apart : X → X → Type 0) (Also : List X → Type 0) (xs : List X) : Type 0 where
   count : length xs ≡ n
   each : All Each xs
   apart : AllPairs Apart xs
   also : Also xs
 
--- what comes behind those that were read
+-- what comes after those that were read
 record IsNext {X : Type 0} (Each : X → Type 0) (Apart : X → X → Type 0) (Also : List X → Type 0) (seen : List X) (x : X) : Type 0 where
   within : Each x
   apart : All (λ y. Apart y x) seen

@@ -84,7 +84,7 @@ module _ (e : Entries) (k : Key) (p : Place) (spell : Span → Data) (Fit : Span
   spans_if_any_read [] few h = refl
   spans_if_any_read (s ∷ ss) few h = spans_read (s ∷ ss) (omega arith) few h
 
--- ---- tables, each of which is read behind those before it
+-- ---- tables, each of which is read after those before it
 
 module _ {X : Type 0} (k : Key) (p : Place) (read : ℕ → List X → Members → Tested X) (spell : X → Members) (whole : List X)
     (reads : (n : ℕ) (before : List X) (x : X) (after : List X) → whole ≡ before ++ (x ∷ after) → read n before (spell x) ≡ Ok x) where

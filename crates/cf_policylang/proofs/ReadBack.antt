@@ -61,7 +61,7 @@ lacks_mark mark [] h = refl
 lacks_mark mark (c ∷ cs) h =
     rw (not_here c cs mark (h 0 c (omega arith)), lacks_mark mark cs (λ i d lt. h (suc i) d (omega (arith, lt)))) refl
 
--- the first mark is the one behind a text without it
+-- the first mark is the one after a text without it
 pub finds_mark : (mark front back : List ℕ) → split_at_mark (46 ∷ mark) ((46 ∷ mark) ++ back) ≡ Some ([], back) → IsPlain front
     → split_at_mark (46 ∷ mark) (front ++ ((46 ∷ mark) ++ back)) ≡ Some (front, back)
 finds_mark mark [] back at_front h = at_front

@@ -114,7 +114,7 @@ own_sets n (l ∷ ls) room h =
     All-cons IsOwnSet (record { name = set_text n; points = l }) (sets_of (n + 1) ls)
     (record { form = set_text_is_name n (omega arith); points = All-head IsSetList l ls h }) (own_sets (n + 1) ls (omega arith) (All-tail IsSetList l ls h))
 
--- no set behind n has the name of this one
+-- no set after n has the name of this one
 names_behind : (m n : ℕ) (ls : List (List Span)) → m < n → n + length ls ≤ 64 → All (λ t. set_text m ≢ t.name) (sets_of n ls)
 names_behind m n [] h room = All-nil (λ (t : PointSet). set_text m ≢ t.name)
 names_behind m n (l ∷ ls) h room =

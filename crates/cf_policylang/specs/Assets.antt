@@ -18,6 +18,7 @@ use Rattle.cf_policylang.specs.Fields.{name}
 use Rattle.cf_policylang.specs.Rules.{rules}
 use Rattle.cf_policylang.specs.Tested.{Tested, and_then, refused, or_refused, at_asset, at_document}
 
+-- the keys that an asset may have
 abbrev pub asset_keys : List Key
 asset_keys = key.Name ∷ key.Address ∷ key.Port ∷ key.Protocol ∷ key.Station ∷ key.Master ∷ key.Rule ∷ []
 
@@ -25,10 +26,12 @@ asset_keys = key.Name ∷ key.Address ∷ key.Port ∷ key.Protocol ∷ key.Stat
 abbrev pub is_asset_taken : List Asset → List ℕ → Bool
 is_asset_taken seen text = list_any (λ a. bytes_eq a.name text) seen
 
+-- the name of an asset, which no earlier one has
 abbrev pub asset_name : Place → List Asset → Members → Tested (List ℕ)
 asset_name place seen members =
     and_then (name place members) (λ text. if is_asset_taken seen text then refused cause.Duplicate key.Name place else Ok text)
 
+-- the address of an asset
 abbrev pub asset_address : Place → Members → Tested ℕ
 asset_address place members =
     and_then (required key.Address place members) (λ value.
@@ -40,6 +43,7 @@ number_at key low high place members =
     and_then (required key place members) (λ value.
     and_then (as_number key place value) (λ z. or_refused cause.BadRange key place (number_in low high z)))
 
+-- both have the same address and the same port
 abbrev pub is_same_endpoint : Endpoint → Endpoint → Bool
 is_same_endpoint a b = (a.address == b.address) && (a.port == b.port)
 
@@ -55,6 +59,7 @@ endpoint place seen members =
     let own : Endpoint = record { address = own_address; port = own_port } in
     if is_endpoint_taken seen own then refused cause.Duplicate key.Port place else Ok own))
 
+-- the protocol of a word
 abbrev pub protocol_of : List ℕ → Option Protocol
 protocol_of text =
     if bytes_eq text (codes "modbus") then Some Modbus
@@ -62,6 +67,7 @@ protocol_of text =
     else if bytes_eq text (codes "iec104") then Some Iec104
     else None
 
+-- the protocol of an asset
 abbrev pub protocol : Place → Members → Tested Protocol
 protocol place members =
     and_then (required key.Protocol place members) (λ value.
@@ -76,7 +82,7 @@ abbrev pub master : Protocol → Place → Members → Tested ℕ
 master Dnp3 place members = number_at key.Master 0 (highest_master Dnp3) place members
 master _ place members = no_master place members
 
--- the asset of this number, from 1, behind those that were read
+-- the asset of this number, from 1, after those that were read
 abbrev pub asset : Named → ℕ → List Asset → Members → Tested Asset
 asset named n seen members =
     let place = at_asset n in
@@ -96,6 +102,6 @@ asset named n seen members =
       rules = own_rules;
     })))))))
 
--- the assets in their order, behind n that were read
+-- the assets in their order, after n that were read
 abbrev pub assets_from : Named → ℕ → Items → List Asset → Tested (List Asset)
 assets_from named n items seen = tables_from key.Asset at_document (asset named) n items seen

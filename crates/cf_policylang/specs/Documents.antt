@@ -18,6 +18,7 @@ use Rattle.cf_policylang.specs.Tested.{Tested, and_then, refused, or_refused, at
 use Rattle.cf_policy.specs.Within.{most_assets}
 use Rattle.cf_policylang.specs.declared.documents.TheConstants.{LONGEST_TEXT}
 
+-- the keys that a document of a version may have
 abbrev pub document_keys : Edition → List Key
 document_keys edition.First = key.Version ∷ key.Asset ∷ []
 document_keys edition.Second = key.Version ∷ key.Asset ∷ key.Set ∷ []
@@ -26,6 +27,7 @@ document_keys edition.Second = key.Version ∷ key.Asset ∷ key.Set ∷ []
 abbrev pub edition_of : ℤ → Option Edition
 edition_of z = if int_eq z (pos 1) then Some edition.First else if int_eq z (pos 2) then Some edition.Second else None
 
+-- the version of a document
 abbrev pub version : Members → Tested Edition
 version members =
     and_then (required key.Version at_document members) (λ value.
@@ -38,6 +40,7 @@ asset_items members =
     and_then (as_array_of kind.Table key.Asset at_document value) (λ items.
     if nat_lt most_assets (count items) then refused cause.TooMany key.Asset at_document else Ok items))
 
+-- the policy of a document: its version, its keys, its sets and its assets, tested in this order
 abbrev pub document : Members → Tested Policy
 document members =
     and_then (version members) (λ own_edition.

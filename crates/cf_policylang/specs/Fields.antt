@@ -1,5 +1,5 @@
--- The keys of a table and the kinds of their values, as they are tested. This project's own; tables and values are
--- those of TOML 1.1.
+-- The keys of a table and the kinds of their values, as they are tested: `required`, `as_text`, `as_number` and `as_table`. The tests
+-- are this project's own; tables and values are those of TOML 1.1.
 use Rattle.std.specs.Prelude.{ℕ, ◌+◌, ℤ, pos, negsuc, Bool, true, false, not, ◌&&◌, ◌||◌, nat_le, if◌then◌else◌, List, [], ◌∷◌, ◌++◌, Option, Some, None, Ok, bytes_eq}
 use Rattle.std.specs.List.{list_any}
 use Rattle.toml.specs.Data.{Data, string, integer, array, table, Items, no_items, item, Members, no_members, member, get_member}
@@ -26,17 +26,21 @@ has_other known (member text value members) = not (is_among known text) || has_o
 abbrev pub stated : Key → Members → Option Data
 stated key members = get_member (key_text key) members
 
+-- the value of a key that must be there
 abbrev pub required : Key → Place → Members → Tested Data
 required key place members = or_refused cause.MissingKey key place (stated key members)
 
+-- a value that must be a text
 abbrev pub as_text : Key → Place → Data → Tested (List ℕ)
 as_text key place (string s) = Ok s
 as_text key place _ = refused cause.WrongKind key place
 
+-- a value that must be an integer
 abbrev pub as_number : Key → Place → Data → Tested ℤ
 as_number key place (integer z) = Ok z
 as_number key place _ = refused cause.WrongKind key place
 
+-- a value that must be a table
 abbrev pub as_table : Key → Place → Data → Tested Members
 as_table key place (table members) = Ok members
 as_table key place _ = refused cause.WrongKind key place
@@ -60,6 +64,7 @@ abbrev pub all_kind : Kind → Items → Bool
 all_kind key no_items = true
 all_kind key (item value items) = is_kind key value && all_kind key items
 
+-- how many values an array has
 abbrev pub count : Items → ℕ
 count no_items = 0
 count (item value items) = 1 + count items
@@ -74,7 +79,7 @@ abbrev pub number_in : ℕ → ℕ → ℤ → Option ℕ
 number_in low high (pos n) = if nat_le low n && nat_le n high then Some n else None
 number_in low high (negsuc n) = None
 
--- the tables of an array in their order, behind n that were read: read gets the number of each, from 1, and what was
+-- the tables of an array in their order, after n that were read: read gets the number of each, from 1, and what was
 -- read before it
 abbrev pub tables_from : {X : Type 0} → Key → Place → (ℕ → List X → Members → Tested X) → ℕ → Items → List X → Tested (List X)
 tables_from key place read n no_items seen = Ok seen

@@ -28,6 +28,7 @@ key_text key.Most = codes "most"
 key_text key.Seconds = codes "seconds"
 key_text key.Set = codes "set"
 
+-- the number of a cause of refusal, as it is printed
 abbrev pub cause_number : Cause → ℕ
 cause_number cause.NotToml = 1
 cause_number cause.UnknownKey = 2

@@ -33,13 +33,14 @@ address_span key place text =
 abbrev pub code_span : ℤ → Option Span
 code_span z = option_and_then (λ n. span n n) (within (pos 0) highest_code z)
 
+-- the span of one entry of a list
 abbrev pub entry : Entries → Key → Place → Data → Tested Span
 entry entries.Addresses key place value = and_then (as_text key place value) (λ text. address_span key place text)
 entry entries.Codes key place value = and_then (as_number key place value) (λ z. or_refused cause.BadRange key place (code_span z))
 entry (entries.Numbers low high) key place value =
     and_then (as_text key place value) (λ text. or_refused cause.BadRange key place (number_span low high text))
 
--- the entries in their order, behind those before them
+-- the entries in their order, after those before them
 abbrev pub entries_from : Entries → Key → Place → Items → List Span → Tested (List Span)
 entries_from entries key place no_items seen = Ok seen
 entries_from entries key place (item value items) seen =
@@ -57,6 +58,7 @@ listed kind key place value =
 abbrev pub spans : Entries → Key → Place → Data → Tested (List Span)
 spans entries key place value = and_then (listed (kind_of entries) key place value) (λ items. entries_from entries key place items [])
 
+-- the spans of a list, none where the key is not there
 abbrev pub spans_if_any : Entries → Key → Place → Option Data → Tested (List Span)
 spans_if_any entries key place None = Ok []
 spans_if_any entries key place (Some value) = spans entries key place value

@@ -1,4 +1,4 @@
--- A policy as a document of version 2: migrated.
+-- Steps of the proof: a policy as a document of version 2: `migrated`.
 use Rattle.std.specs.Prelude.{pos, Bool, not, ◌&&◌, nat_lt, if◌then◌else◌, List, [], ◌∷◌, ◌++◌, length, map, flat_map}
 use Rattle.std.specs.List.{list_any}
 use Rattle.toml.specs.Data.{integer, array, Items, Members, no_members}
@@ -17,7 +17,7 @@ all_points assets = flat_map (λ a. map (λ r. r.points) a.rules) assets
 abbrev pub has_list : List (List Span) → List Span → Bool
 has_list lists points = list_any (λ l. are_same l points) lists
 
--- a list gets a set if it is stated and has none, while there is room, and a rule behind has it too
+-- a list gets a set if it is stated and has none, while there is room, and a later rule has it too
 abbrev pub gets_set : List (List Span) → List Span → List (List Span) → Bool
 gets_set seen points later =
     nat_lt (length seen) MOST_SETS && (not (is_empty points) && (not (has_list seen points) && has_list later points))

@@ -6,11 +6,11 @@ use Rattle.std.specs.Str.Parse.{signed_digits_value}
 use Rattle.cf_policy.specs.declared.policy.Span.{Span}
 
 -- the number that the text's digits write, if the text is how that number is printed: decimal digits without leading
--- zeros, behind a `-` if it is below zero
+-- zeros, after a `-` if it is below zero
 abbrev pub printed_number : List ℕ → Option ℤ
 printed_number text = let z = signed_digits_value 10 text in if bytes_eq text (signed_decimal z) then Some z else None
 
--- a `+`, or a zero before another digit or behind `-`, which no number has as it is printed
+-- a `+`, or a zero before another digit or after `-`, which no number has as it is printed
 abbrev pub has_spare : List ℕ → Bool
 has_spare text =
     starts_with nat_eq text (codes "+")
@@ -20,10 +20,11 @@ has_spare text =
 abbrev pub within : ℤ → ℤ → ℤ → Option ℤ
 within low high z = if int_le low z && int_le z high then Some z else None
 
+-- the number of a text, where it lies in the range
 abbrev pub printed_number_in : ℤ → ℤ → List ℕ → Option ℤ
 printed_number_in low high text = option_and_then (within low high) (printed_number text)
 
--- what stands before and what stands behind the first place at which the mark stands
+-- what stands before and what stands after the first place at which the mark stands
 abbrev pub split_at_mark : List ℕ → List ℕ → Option (List ℕ × List ℕ)
 split_at_mark mark [] = None
 split_at_mark mark (b ∷ bs) =
@@ -44,6 +45,7 @@ number_span low high text =
     let both = ends text in
     option_and_then (λ a. option_and_then (span a) (printed_number_in low high both.1)) (printed_number_in low high both.0)
 
+-- an octet of a dotted address
 abbrev pub octet : List ℕ → Option ℕ
 octet text = option_map nat_abs (printed_number_in (pos 0) (pos 255) text)
 
@@ -51,6 +53,7 @@ octet text = option_map nat_abs (printed_number_in (pos 0) (pos 255) text)
 abbrev pub joined : ℕ → ℕ → ℕ → ℕ → ℕ
 joined a b c d = ((a * 256 + b) * 256 + c) * 256 + d
 
+-- the address of four octets, each a text
 abbrev pub octets : List ℕ → List ℕ → List ℕ → List ℕ → Option ℕ
 octets a b c d =
     option_and_then (λ i. option_and_then (λ j. option_and_then (λ k. option_map (joined i j k) (octet d)) (octet c)) (octet b)) (octet a)

@@ -22,6 +22,7 @@ use Rattle.cf_policylang.specs.Sets.{rule_points}
 use Rattle.cf_policylang.specs.Tested.{Tested, and_then, refused, or_refused, at_asset, at_rule}
 use Rattle.cf_policy.specs.Within.{most_rules}
 
+-- the keys that a rule may have
 abbrev pub rule_keys : List Key
 rule_keys = key.Name ∷ key.Action ∷ key.Clients ∷ key.Codes ∷ key.Groups ∷ key.Points ∷ key.Values ∷ key.Most ∷ key.Seconds ∷ []
 
@@ -29,16 +30,19 @@ rule_keys = key.Name ∷ key.Action ∷ key.Clients ∷ key.Codes ∷ key.Groups
 abbrev pub is_rule_taken : List Rule → List ℕ → Bool
 is_rule_taken seen text = is_reserved text || list_any (λ r. bytes_eq r.name text) seen
 
+-- the name of a rule, which no earlier one of the asset has
 abbrev pub rule_name : Place → List Rule → Members → Tested (List ℕ)
 rule_name place seen members =
     and_then (name place members) (λ text. if is_rule_taken seen text then refused cause.Duplicate key.Name place else Ok text)
 
+-- the action of a word
 abbrev pub action_of : List ℕ → Option Action
 action_of text =
     if bytes_eq text (codes "allow") then Some Allow
     else if bytes_eq text (codes "refuse") then Some Refuse
     else None
 
+-- the action of a rule
 abbrev pub action : Place → Members → Tested Action
 action place members =
     and_then (required key.Action place members) (λ value.
@@ -48,16 +52,19 @@ action place members =
 abbrev pub client_spans : Place → Members → Tested (List Span)
 client_spans place members = optional_spans entries.Addresses key.Clients place members
 
+-- the codes of a rule, which must be there
 abbrev pub code_spans : Place → Members → Tested (List Span)
 code_spans place members = and_then (required key.Codes place members) (λ value. spans entries.Codes key.Codes place value)
 
+-- the groups of a rule, if it states any
 abbrev pub group_spans : Place → Members → Tested (List Span)
 group_spans place members = optional_spans (entries.Numbers (pos 0) highest_group) key.Groups place members
 
+-- the values of a rule, if it states any
 abbrev pub value_spans : Place → Members → Tested (List Span)
 value_spans place members = optional_spans (entries.Numbers lowest_value highest_value) key.Values place members
 
--- a rule behind those of its asset that were read
+-- a rule after those of its asset that were read
 abbrev pub rule : Named → Place → List Rule → Members → Tested Rule
 rule named place seen members =
     if has_other rule_keys members then refused cause.UnknownKey key.Nothing place else
@@ -80,7 +87,7 @@ rule named place seen members =
       rate = own_rate;
     })))))))))
 
--- the rules of the asset of this number in their order, behind n that were read
+-- the rules of the asset of this number in their order, after n that were read
 abbrev pub rules_from : Named → ℕ → ℕ → Items → List Rule → Tested (List Rule)
 rules_from named a n items seen = tables_from key.Rule (at_asset a) (λ m. rule named (at_rule a m)) n items seen
 
@@ -91,5 +98,6 @@ rule_items place (Some value) =
     and_then (as_array_of kind.Table key.Rule place value) (λ items.
     if nat_lt most_rules (count items) then refused cause.TooMany key.Rule place else Ok items)
 
+-- the rules of an asset, tested in their order
 abbrev pub rules : Named → ℕ → Members → Tested (List Rule)
 rules named a members = and_then (rule_items (at_asset a) (stated key.Rule members)) (λ items. rules_from named a 0 items [])

@@ -23,6 +23,7 @@ use Rattle.cf_policylang.specs.Tested.{Tested, and_then, refused, or_refused, at
 
 -- ---- the sets of a document
 
+-- the keys that a set may have
 abbrev pub set_keys : List Key
 set_keys = key.Name ∷ key.Points ∷ []
 
@@ -30,6 +31,7 @@ set_keys = key.Name ∷ key.Points ∷ []
 abbrev pub is_set_taken : List PointSet → List ℕ → Bool
 is_set_taken seen text = list_any (λ s. bytes_eq s.name text) seen
 
+-- the name of a set, which no earlier one has
 abbrev pub set_name : Place → List PointSet → Members → Tested (List ℕ)
 set_name place seen members =
     and_then (name place members) (λ text. if is_set_taken seen text then refused cause.Duplicate key.Name place else Ok text)
@@ -39,7 +41,7 @@ abbrev pub set_points : Place → Members → Tested (List Span)
 set_points place members =
     and_then (required key.Points place members) (λ value. spans (entries.Numbers (pos 0) highest_point) key.Points place value)
 
--- a set behind those that were read
+-- a set after those that were read
 abbrev pub set : Place → List PointSet → Members → Tested PointSet
 set place seen members =
     if has_other set_keys members then refused cause.UnknownKey key.Nothing place else
@@ -47,7 +49,7 @@ set place seen members =
     and_then (set_points place members) (λ own_points.
     Ok (record { name = own_name; points = own_points })))
 
--- the sets in their order, behind n that were read
+-- the sets in their order, after n that were read
 abbrev pub sets_from : ℕ → Items → List PointSet → Tested (List PointSet)
 sets_from n items seen = tables_from key.Set at_document (λ m. set (at_set m)) n items seen
 
@@ -58,12 +60,13 @@ set_items (Some value) =
     and_then (as_array_of kind.Table key.Set at_document value) (λ items.
     if nat_lt MOST_SETS (count items) then refused cause.TooMany key.Set at_document else Ok items)
 
+-- the sets of a document, tested in their order
 abbrev pub sets : Members → Tested (List PointSet)
 sets members = and_then (set_items (stated key.Set members)) (λ items. sets_from 0 items [])
 
 -- ---- the points of a rule
 
--- the name behind the mark of an entry that names a set, which version 2 alone has
+-- the name after the mark of an entry that names a set, which version 2 alone has
 abbrev pub named_in : Edition → List ℕ → Option (List ℕ)
 named_in edition.First text = None
 named_in edition.Second text = if starts_with nat_eq text (codes "@") then Some (drop 1 text) else None
@@ -87,11 +90,12 @@ abbrev pub entry_spans : List PointSet → Place → List ℕ → Option (List �
 entry_spans sets place text (Some set) = set_spans sets place set
 entry_spans sets place text None = own_span place text
 
+-- the spans of one entry of a rule's points: its own, or those of the set that it names
 abbrev pub point_entry : Named → Place → Data → Tested (List Span)
 point_entry named place value =
     and_then (as_text key.Points place value) (λ text. entry_spans named.sets place text (named_in named.edition text))
 
--- the spans of the entries in their order, behind those before them
+-- the spans of the entries in their order, after those before them
 abbrev pub points_from : Named → Place → Items → List Span → Tested (List Span)
 points_from named place no_items seen = Ok seen
 points_from named place (item value items) seen =
@@ -104,6 +108,7 @@ stated_points named place value =
     and_then (points_from named place items []) (λ own.
     if nat_lt most_spans (length own) then refused cause.TooMany key.Points place else Ok own))
 
+-- the points of a rule, none where the key is not there
 abbrev pub points_if_any : Named → Place → Option Data → Tested (List Span)
 points_if_any named place None = Ok []
 points_if_any named place (Some value) = stated_points named place value

@@ -8,17 +8,20 @@ use Rattle.cf_policylang.specs.declared.refusal.PolicyFault.TheVariants.{NoMemor
 use Rattle.cf_policylang.specs.declared.refusal.PolicyRefusal.{PolicyRefusal}
 use Rattle.cf_policylang.specs.Keys.{cause_number}
 
+-- a value, or the first refusal
 abbrev pub Tested : Type 0 → Type 0
 Tested A = Result A PolicyRefusal
 
--- the tests of next come behind those before, of which a refusal decides
+-- the tests of next come after those before, of which a refusal decides
 abbrev pub and_then : {A B : Type 0} → Tested A → (A → Tested B) → Tested B
 and_then (Ok x) next = next x
 and_then (Err r) next = Err r
 
+-- the refusal of a key at a place, by its cause
 abbrev pub refusal : Cause → Key → Place → PolicyRefusal
 refusal cause key place = record { number = cause_number cause; key = key; asset = place.asset; rule = place.rule }
 
+-- the same as the end of the tests
 abbrev pub refused : {A : Type 0} → Cause → Key → Place → Tested A
 refused cause key place = Err (refusal cause key place)
 
@@ -35,9 +38,11 @@ at_document = record { asset = 0; rule = 0 }
 abbrev pub at_set : ℕ → Place
 at_set n = record { asset = 0; rule = n }
 
+-- the place of an asset, counted from 1
 abbrev pub at_asset : ℕ → Place
 at_asset n = record { asset = n; rule = 0 }
 
+-- the place of a rule of an asset, both counted from 1
 abbrev pub at_rule : ℕ → ℕ → Place
 at_rule n m = record { asset = n; rule = m }
 

@@ -47,7 +47,7 @@ pub(crate) fn assets_from(
     Ok(Items::new(assets))
 }
 
-/// The asset of this number, from 1, behind those that were read.
+/// The asset of this number, from 1, after those that were read.
 fn asset(
     alloc: Global,
     named: &Named,

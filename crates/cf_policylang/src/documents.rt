@@ -15,7 +15,7 @@ use std::alloc::Global;
 use toml::Table;
 use toml::value::Array;
 
-/// The most bytes that a policy's text has.
+/// The most bytes that a policy's text has. This project's own limit.
 pub const LONGEST_TEXT: usize = 4_194_304;
 
 const FIRST_KEYS: [Key; 2] = [Key::Version, Key::Asset];

@@ -135,7 +135,7 @@ fn push_set(
     Ok(())
 }
 
-/// Whether a list gets a set: it is stated and has none, there is room, and a rule behind has it too.
+/// Whether a list gets a set: it is stated and has none, there is room, and a later rule has it too.
 fn gets_set(seen: &[Items<Span>], points: &[Span], later: &[Items<Span>]) -> bool
     ensures set { result ≡ gets_set seen.now points.now later.now }
     ensures room { IsTrue result → length seen.now < MOST_SETS }

@@ -62,7 +62,7 @@ fn octet(text: &str) -> Option<u32>
     Some(octet as u32)
 }
 
-/// What stands before and what stands behind the first place at which the mark stands.
+/// What stands before and what stands after the first place at which the mark stands.
 fn split_at_mark<'a>(mark: &str, text: &'a str) -> Option<(&'a str, &'a str)>
     requires { 0 < length mark.now }
     ensures { option_map (λ p. (p.0.now, p.1.now)) result ≡ split_at_mark mark.now text.now }

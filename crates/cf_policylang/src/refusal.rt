@@ -111,7 +111,7 @@ impl Cause {
     }
 }
 
-/// The first refusal of a policy's text, in the order of its tests.
+/// The first refusal of a policy's text, in the order of its tests. This project's own.
 #[derive(Clone, Copy, PartialEq, Eq, Debug)]
 pub struct PolicyRefusal {
     /// The number of its cause.
@@ -152,7 +152,7 @@ pub fn push_refusal<const N: usize>(out: &mut ArrayString<N>, refusal: &PolicyRe
     push_u32(out, refusal.rule);
 }
 
-/// Why no policy was read.
+/// Why no policy was read. This project's own.
 #[derive(Clone, Copy, PartialEq, Eq, Debug, Error)]
 pub enum PolicyFault {
     /// Memory ran out.

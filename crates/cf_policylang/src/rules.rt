@@ -33,7 +33,7 @@ const RULE_KEYS: [Key; 9] = [
     Key::Seconds,
 ];
 
-/// A rule behind those of its asset that were read.
+/// A rule after those of its asset that were read.
 fn rule(
     alloc: Global,
     named: &Named,

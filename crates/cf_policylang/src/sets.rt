@@ -17,7 +17,7 @@ use std::alloc::Global;
 use toml::value::Array;
 use toml::{Table, Value};
 
-/// The most sets of a document.
+/// The most sets of a document. This project's own limit.
 pub const MOST_SETS: usize = 64;
 
 /// The version of a document.
@@ -86,7 +86,7 @@ fn sets_from(alloc: Global, array: &Array) -> Result<Items<PointSet>, PolicyFaul
     Ok(Items::new(sets))
 }
 
-/// A set behind those that were read.
+/// A set after those that were read.
 fn set(
     alloc: Global,
     place: Place,
@@ -190,7 +190,7 @@ fn push_points(
     }
 }
 
-/// The name behind the mark of an entry that names a set.
+/// The name after the mark of an entry that names a set.
 fn named_in(edition: Edition, text: &str) -> Option<&str>
     ensures { option_map (λ n. n.now) result ≡ named_in edition text.now }
 {

@@ -1,4 +1,4 @@
--- The capture file of sent packets is read as these packets at these moments: RunsAreReadBack, read from the end. This project's own.
+-- The capture file of sent packets is read as these packets at these moments: RunsAreReadBack, read from the end.
 use Rattle.std.specs.Prelude.{◌≡◌, ℕ, ◌<◌, ◌≤◌, ◌^◌, List, drop, length, map, Ok}
 use Rattle.std.specs.List.{AllByRecursion}
 use Rattle.cf_leg.specs.Emitted.{spelled}

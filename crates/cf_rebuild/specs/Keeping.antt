@@ -1,4 +1,4 @@
--- What bytes that are offered do to the slots of a ring: KeepsText, and what stays beside them.
+-- Steps of the proof: what bytes that are offered do to the slots of a ring: `KeepsText`, and what stays beside them.
 use Rattle.std.specs.Prelude.{◌≡◌, ℕ, ◌+◌, ◌-◌, ◌<◌, ◌≤◌, ◌⊎◌, List, length, slice_index, Some}
 use Rattle.std.specs.Option.{option_or}
 use Rattle.cf_stream.specs.Stream.{Byte}

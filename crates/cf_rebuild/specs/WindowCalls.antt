@@ -1,4 +1,5 @@
--- Lists of calls of a window. The newest call stands first, so that what was before a call is the list after it.
+-- Steps of the proof: lists of calls of a window: `IsWindowRun`. The newest call stands first, so that what was before a call is the
+-- list after it.
 use Rattle.std.specs.Prelude.{◌≡◌, ℕ, ◌+◌, ◌^◌, ◌≤◌, List, [], ◌∷◌, length, ℤ, pos, ◌≤ℤ◌}
 use Rattle.cf_stream.specs.FirstCopy.{Offer}
 use Rattle.cf_stream.specs.Position.{place_or_zero}

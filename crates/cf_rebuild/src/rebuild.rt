@@ -14,14 +14,22 @@ use std::marker::Model;
 ///
 /// Places count letters from 0, the one after the peer's SYN. No call but `new` takes memory, and none moves a byte that
 /// it keeps: the letter at place p has slot p mod 32,768.
+/// RFC 9293, sections 3.3.1 and 3.10.7.4; that a letter which came ahead of its turn stays is this project's own.
 #[derive(Drop)]
 pub struct Rebuild {
+    /// A bit for each slot, 64 a word, low bits first: a byte is kept there.
     kept: Vec<u64>,
+    /// A bit for each slot alike: End is kept there.
     ends: Vec<u64>,
+    /// The byte of each of the 32,768 slots.
     bytes: Vec<u8>,
+    /// How many bytes were taken and not consumed. RCV.NXT as a place is `consumed + ready`, and one more where `ended` holds.
     ready: usize,
+    /// How many bytes were consumed since the beginning: the place of the first byte that is kept.
     consumed: u64,
+    /// RCV.NXT + RCV.WND as the peer was told it, as a place (RFC 9293, section 3.3.1): no letter at or past it is kept.
     edge: u64,
+    /// End was taken: the letter that FIN carries, and all before it.
     ended: bool,
 }
 

@@ -60,6 +60,7 @@ pub record IsTold (asset : Asset) (client : Endpoint) (earlier : List Judged) (j
       ≡ lines asset client [] earlier
       ++ (line_about asset client j.moment (refusal_line asset refusal (is_some_bytes replied) octets) ∷ lines asset client (earlier ++ j ∷ []) later)
 
+-- so it is of each refused command of every history
 abbrev pub RefusedAreTold : Type 0
 RefusedAreTold =
     (asset : Asset) (client : Endpoint) (history : List Element) (earlier later : List Judged) (j : Judged) (refusal : Refusal) →

@@ -1,4 +1,4 @@
--- A side that is asked, with the limit tested behind it.
+-- A side that is asked, with the limit tested after it.
 use Rattle.std.proofs.Common.{Err, List, None, Ok, Option, Result, [], ap, arith, inl, inr, length, refl, subst, sym, ℕ, ◌+◌, ◌<◌, ◌∙◌, ◌∷◌, ◌≡◌, ◌≤◌}
 use Rattle.std.specs.Prelude.{IfErr, OnOk}
 use Rattle.std.specs.Result.{IsErrAnd}

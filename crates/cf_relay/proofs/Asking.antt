@@ -1,4 +1,4 @@
--- Asking a side, and the limit behind it, is a stage that is done, or one that breaks off.
+-- Asking a side, and the limit after it, is a stage that is done, or one that breaks off.
 use Rattle.std.proofs.Common.{Err, List, None, Ok, Option, Result, Some, [], ap, arith, false, inl, inr, refl, subst, sym, ℕ, ◌++◌, ◌+◌, ◌<◌, ◌∙◌, ◌∷◌, ◌≡◌, ◌≤◌, ◌||◌}
 use Rattle.std.specs.Prelude.{IfErr, OnOk}
 use Rattle.std.specs.List.{list_any}

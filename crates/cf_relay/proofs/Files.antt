@@ -9,7 +9,7 @@ use Rattle.cf_outside.specs.Files.{Content, IsPartly, absent, content_after_crea
 use Rattle.cf_outside.specs.Lines.{ends_with_line, file_lines, file_part, lines_from, rest_from}
 use Rattle.cf_outside.specs.Pair.{Entry}
 use Rattle.cf_policy.specs.declared.Asset.{Asset}
-use Rattle.cf_relay.proofs.Ending.{empty_judged, relayed_none}
+use Rattle.cf_relay.proofs.Starting.{empty_judged, relayed_none}
 use Rattle.cf_relay.specs.Closing.{BeginsLines}
 use Rattle.cf_relay.specs.Ends.{EndsAs, IsMemoryEnd, IsFileTold, IsWriteEnd, LogContents, RelayEnds, file_log}
 use Rattle.cf_relay.specs.declared.done.RelayDone.{RelayDone}
@@ -116,7 +116,7 @@ both_true false b e = e
 cons_head : (x y : List ℕ) → (let l : List (List ℕ) = x ∷ [] in l) ≡ y ∷ [] → x ≡ y
 cons_head x y e = cc
 
--- what stands in a file behind the last write through a lent reference
+-- what stands in a file after the last write through a lent reference
 pub last_content : {F : Type 0} (content : F → List ℕ → Content) (x now : F) (log log' : List ℕ) (P : Content → Type 0) → x ≡ now → (let l : List (List ℕ) = log' ∷ [] in l) ≡ log ∷ [] → P (content now log') → P (content x log)
 last_content content x now log log' P last name p =
     subst (λ z. P (content z log)) (sym last) (subst (λ n. P (content now n)) (cons_head log' log name) p)

@@ -1,8 +1,8 @@
--- The interface of lemmas for the crates above: Ending, Lined and Stages.
+-- The interface of lemmas for the crates above: Lined, Stages, Starting and Turned.
 mod Asked
 mod Asking
 mod Doing
-pub mod Ending
+mod Ending
 mod Files
 mod Gave
 mod Giving
@@ -15,5 +15,7 @@ mod Scenes
 mod Serving
 pub mod Stages
 mod Standing
+pub mod Starting
 mod Taking
+pub mod Turned
 mod Turning

@@ -204,7 +204,7 @@ not_open : (b : Bool) → (b ≡ false → ⊥) → b ≡ true
 not_open true passed = refl
 not_open false passed = absurd (passed refl)
 
--- a turn moves something, or both sides are closed behind it
+-- a turn moves something, or both sides are closed after it
 moves_all : (most : ℕ) (a b c d : RelayingValue) → ListensOrRests most a b → ServesOrRests side.Controller most b c → ServesOrRests side.Client most c d → (progress most a < progress most d) ⊎ AreClosed d
 moves_all most a b c d (inl l) (inl m) (inl n) = inl (omega (arith, l, m, n))
 moves_all most a b c d (inl l) (inl m) (inr (none, v, same, closed)) = inl (omega (arith, l, m, unmoved_progress most c d v))

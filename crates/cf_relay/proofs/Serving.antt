@@ -115,7 +115,7 @@ give_breaks asset most s old new links links' desk few to stands r why was cause
 
 -- ---- the calls of a side that is served
 
--- a queue that is short of the limit, and has room for its bytes behind the letters that were acknowledged
+-- a queue that is short of the limit, and has room for its bytes after the letters that were acknowledged
 record IsWithinLimit (q : Queue) : Type 0 where
   pub short : queue_length q < LETTER_LIMIT
   pub fits : length q.kept + q.acked ≤ queue_length q

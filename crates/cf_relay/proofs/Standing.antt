@@ -1,4 +1,4 @@
--- A relay stands for the longer list: behind answers that add nothing to the history, and behind an answer of a side that was
+-- A relay stands for the longer list: after answers that add nothing to the history, and after an answer of a side that was
 -- asked.
 use Rattle.cf_lane.specs.Rings.{KnowsRules}
 use Rattle.std.proofs.Common.{Bool, List, None, Option, Some, [], ap, arith, cond, drop, false, inl, inr, length, refl, subst, sym, true, ℕ, ◌++◌, ◌+◌, ◌∙◌, ◌∷◌, ◌≡◌, ◌||◌, ◌⊎◌}
@@ -273,7 +273,7 @@ module _ (law : StreamsGoOn) (asset : Asset) (first : Option (List (List ℕ))) 
     history_is : history_of es ++ element_of old.moment answer ≡ history_of (es ++ answer ∷ [])
     history_is = ap (λ m. history_of es ++ element_of m answer) st.moment ∙ sym one_history
 
-    -- cut by an item, or by the limit behind it
+    -- cut by an item, or by the limit after it
     pub stands_cut : (reason : CutReason) → ((js : List Judged) → cut_of js ≡ cut → IsQueueOf new.to_client (stream_to asset side.Client js) → IsQueueOf new.to_controller (stream_to asset side.Controller js) →
         cut_at asset (es ++ answer ∷ []) js ≡ Some reason) → StandsCut asset first (es ++ answer ∷ []) new own_left reason
     stands_cut reason is_cut =

@@ -7,7 +7,7 @@ use Rattle.cf_relay.specs.Scene.{DoesBetween, Scene, StopsBetween}
 use Rattle.cf_relay.specs.Turn.{Finishing, Giving, Stage, Taking, Telling, turn}
 use Rattle.cf_relay.specs.declared.stop.Stop.{Stop}
 
--- the stages behind the moment, behind what the client sends, and behind what both send
+-- the stages after the moment, after what the client sends, and after what both send
 abbrev behind_moment : List Stage
 behind_moment = Taking side.Client ∷ Taking side.Controller ∷ Giving side.Controller ∷ Finishing side.Controller ∷ Giving side.Client ∷ Finishing side.Client ∷ []
 

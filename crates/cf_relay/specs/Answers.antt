@@ -1,5 +1,5 @@
--- What the list of a pair's answers says, oldest first: the client, the moments, the history, what was given to a side,
--- which sides were closed, and how many answers Idle stand at its end. The main definition is `history_of`. This project's own.
+-- What the list of a pair's answers says, oldest first: the history, `history_of`; the client, the moments, what was given to a side,
+-- which sides were closed, and how many answers Idle stand at its end.
 use Rattle.cf_lane.specs.History.{Element, bytes_at, end_at, is_side}
 use Rattle.cf_outside.specs.Pair.{Ended, Entry, Finished, Got, Idle, Met, Moment, Took}
 use Rattle.cf_view.specs.declared.Endpoint.{Endpoint}
@@ -27,6 +27,7 @@ abbrev pub first_of : List Endpoint → Endpoint
 first_of [] = record { address = 0; port = 0 }
 first_of (client ∷ clients) = client
 
+-- the client of a list of answers: the first that was met
 abbrev pub client_of : List Entry → Endpoint
 client_of es = first_of (flat_map met_in es)
 
@@ -40,9 +41,11 @@ told_in (Ended s) = []
 told_in (Idle s) = []
 told_in (Finished s) = []
 
+-- the moments told by a list of answers
 abbrev pub moments : List Entry → List ℕ
 moments es = flat_map told_in es
 
+-- the greatest of some moments, 0 where there is none
 abbrev pub greatest : List ℕ → ℕ
 greatest [] = 0
 greatest (m ∷ ms) = max m (greatest ms)
@@ -61,10 +64,12 @@ element_of moment (Ended s) = end_at moment s ∷ []
 element_of moment (Idle s) = []
 element_of moment (Finished s) = []
 
+-- the history of the later answers, after the earlier ones
 abbrev pub history_after : (earlier later : List Entry) → List Element
 history_after earlier [] = []
 history_after earlier (e ∷ es) = element_of (moment_of earlier) e ++ history_after (earlier ++ e ∷ []) es
 
+-- the history of a list of answers
 abbrev pub history_of : List Entry → List Element
 history_of es = history_after [] es
 
@@ -78,6 +83,7 @@ given_in s (Ended of) = []
 given_in s (Idle of) = []
 given_in s (Finished of) = []
 
+-- all bytes that were given to a side, in their order
 abbrev pub given : Side → List Entry → List ℕ
 given s es = flat_map (given_in s) es
 
@@ -91,6 +97,7 @@ closes s (Ended of) = false
 closes s (Idle of) = false
 closes s (Finished of) = is_side s of
 
+-- the side was closed for sending in the list
 abbrev pub is_finished : Side → List Entry → Bool
 is_finished s es = list_any (closes s) es
 
@@ -108,9 +115,11 @@ idle_after run (Ended of) = 0
 idle_after run (Idle of) = suc run
 idle_after run (Finished of) = run
 
+-- how many there are after more answers
 abbrev pub idles_after : ℕ → List Entry → ℕ
 idles_after run [] = run
 idles_after run (e ∷ es) = idles_after (idle_after run e) es
 
+-- how many there are at the end of a list
 abbrev pub idle_run : List Entry → ℕ
 idle_run es = idles_after 0 es

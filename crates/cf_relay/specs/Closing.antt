@@ -1,4 +1,4 @@
--- What the last line of a relay does to its desk, and what it answers. This project's own.
+-- Steps of the proof: what the last line of a relay does to its desk, and what it answers: `ClosesWith` and `StopsWith`.
 use Rattle.cf_audit.specs.Line.{Close, Cut}
 use Rattle.cf_lane.specs.Handled.{HasAdded, MayHaveAdded}
 use Rattle.cf_lane.specs.Log.{line_about, with_lines}
@@ -42,12 +42,12 @@ StopsWith asset client now stop.Write old new result = (result ≡ Err fault.Wri
 StopsWith asset client now (stop.Cut reason) old new result =
     EndsWith (line_about asset client now.moment (Cut reason)) (done_by now (ends.Cut reason)) old new result
 
--- a log has, behind what it had, the first of these lines, and then a beginning of the lines that follow
+-- a log has, after what it had, the first of these lines, and then a beginning of the lines that follow
 abbrev pub BeginsLines : (base lines : Option (List (List ℕ))) → (part : List ℕ) → List (List ℕ) → Type 0
 BeginsLines base lines part ls = (count some : ℕ) × (lines ≡ with_lines base (take count ls)) ×
     (part ≡ take some (concat (drop count ls)))
 
--- a log as a desk tells it, behind what it had
+-- a log as a desk tells it, after what it had
 abbrev pub desk_log : (base : Option (List (List ℕ))) → DeskValue → LogContents
 desk_log base desk = record {
   Holds = λ ls. (desk.lines ≡ with_lines base ls) × (desk.whole ≡ true);

@@ -1,4 +1,4 @@
--- What the answers of a relay mean, and what then stands in its log. The main definition is `RelayEnds`. This project's own.
+-- What the answers of a relay mean, and what then stands in its log. The main definition is `RelayEnds`.
 use Rattle.cf_audit.specs.Line.{Begun, Close, Cut}
 use Rattle.cf_audit.specs.declared.line.CutReason.{CutReason}
 use Rattle.cf_lane.specs.Follows.{AreJudged}
@@ -32,9 +32,11 @@ open_lines asset client (moment ∷ later) = line_about asset client moment Begu
 abbrev pub log_of : Asset → List Entry → List Judged → List (List ℕ)
 log_of asset es js = open_lines asset (client_of es) (moments es) ++ lines asset (client_of es) [] js
 
+-- the line of the closing, at the greatest moment told
 abbrev pub close_line : Asset → List Entry → (admitted refused : ℕ) → List ℕ
 close_line asset es admitted refused = line_about asset (client_of es) (moment_of es) (Close admitted refused)
 
+-- the line of the cut, at the greatest moment told
 abbrev pub cut_line : Asset → List Entry → CutReason → List ℕ
 cut_line asset es reason = line_about asset (client_of es) (moment_of es) (Cut reason)
 
@@ -105,7 +107,7 @@ pub record IsWriteEnd (asset : Asset) (listen most : ℕ) (log : LogContents) (e
   pub is_last : IsLastLine asset es judged last
   pub begins : log.Begins (log_of asset es judged ++ last)
 
--- memory was wanting: before the log was created, or behind the meeting, where the log is empty
+-- memory was wanting: before the log was created, or after the meeting, where the log is empty
 abbrev pub IsMemoryEnd : Asset → (listen : ℕ) → (created same : Type 0) → List Entry → Type 0
 IsMemoryEnd asset listen created same es =
     ((es ≡ []) × same) ⊎ (((client : Endpoint) × (es ≡ met_at listen asset.endpoint client ∷ [])) × created)
@@ -142,6 +144,7 @@ IdlesRoseAt most before now ends.Done = Unit {0}
 IdlesRoseAt most before now ends.IdleEnd = RoseBy most before now
 IdlesRoseAt most before now (ends.Cut reason) = Unit {0}
 
+-- the pair's count of idle answers rose by as many as the answer says; of a fault nothing is said
 abbrev pub IdlesRose : (most : ℕ) → (before now : ℕ) → Result RelayDone RelayFault → Type 0
 IdlesRose most before now (Ok done) = IdlesRoseAt most before now done.end
 IdlesRose most before now (Err fault) = Unit {0}

@@ -1,4 +1,4 @@
--- What giving does to a queue and to a pair. This project's own.
+-- Steps of the proof: what giving does to a queue and to the links of a session: `Gave` and `FinishesBy`.
 use Rattle.cf_links.specs.Links.{SessionTold, with_answers}
 use Rattle.cf_outq.specs.SendQueue.{Queue}
 use Rattle.cf_outside.specs.Pair.{Entry, Finished}

@@ -9,3 +9,4 @@ pub mod Sides
 pub mod Stands
 pub mod Taken
 pub mod Turn
+pub mod Turned

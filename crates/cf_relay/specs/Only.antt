@@ -1,4 +1,4 @@
--- What a contract sees of a pair as the links of one session: only_links. This project's own.
+-- Steps of the proof: what a contract sees of a pair as the links of one session: `only_links`.
 use Rattle.cf_links.specs.LinkValue.{LinkValue}
 use Rattle.cf_links.specs.Links.{LinksEntry, Of}
 use Rattle.cf_outside.specs.Pair.{Entry}

@@ -1,4 +1,4 @@
--- What a contract sees of a relay between two stages: RelayingValue. This project's own.
+-- Steps of the proof: what a contract sees of a relay between two stages: `RelayingValue`.
 use Rattle.cf_lane.specs.Follows.{Rests}
 use Rattle.cf_lane.specs.Handled.{IsLaneOf, LaneValue, State, debt, state}
 use Rattle.cf_lane.specs.Output.{other}

@@ -1,5 +1,4 @@
--- What was done between two places of the code: stages that are done, DoesBetween, or that break off, StopsBetween. This
--- project's own.
+-- What was done between two places of the code: stages that are done, DoesBetween, or that break off, StopsBetween.
 use Rattle.cf_lane.specs.Handled.{WritesLog}
 use Rattle.cf_links.specs.LinkValue.{LinkValue, link_value}
 use Rattle.cf_links.specs.Links.{with_answers}

@@ -1,4 +1,4 @@
--- One thing for each side, and what it ends as where that of a side is lent.
+-- Steps of the proof: one thing for each side (`of_side`), and what it ends as where that of a side is lent (`LendsSide`).
 use Rattle.std.specs.Borrow.{Fml, Lends, MutBor, RattleType}
 use Rattle.cf_view.specs.declared.Side.{Side}
 use Rattle.cf_view.specs.declared.Side.TheVariants as side

@@ -1,5 +1,4 @@
--- What a relay keeps between two stages stands for the list of answers: StandsFor; and what it stands for as it stops. This
--- project's own.
+-- What a relay keeps between two stages stands for the list of answers: StandsFor; and what it stands for as it stops.
 use Rattle.cf_audit.specs.declared.line.CutReason.{CutReason}
 use Rattle.cf_lane.specs.Follows.{Began, Follows, no_rests}
 use Rattle.cf_lane.specs.Handled.{IsLaneOf, LaneValue, debt, state}
@@ -60,6 +59,7 @@ pub record IsNewLane (asset : Asset) (client : Endpoint) (lane : LaneValue) : Ty
 abbrev pub IsPrefix : List ℕ → List ℕ → Type 0
 IsPrefix xs all = (more : List ℕ) × (all ≡ xs ++ more)
 
+-- each side was given a beginning of the stream to it
 abbrev pub GivenPrefixes : Asset → List Entry → List Judged → Type 0
 GivenPrefixes asset es js = (s : Side) → IsPrefix (given s es) (outputs asset s [] js)
 

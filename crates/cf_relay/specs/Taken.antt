@@ -1,4 +1,4 @@
--- What taking does to a lane, its queues and its log. This project's own.
+-- Steps of the proof: what taking does to a lane, its queues and its log: `TakesBy`.
 use Rattle.cf_audit.specs.declared.line.CutReason.{CutReason}
 use Rattle.cf_lane.specs.Follows.{AddsTo, BeganApart, BeganApartWithin, Follows, Rests, over, rest_of, with_rest}
 use Rattle.cf_lane.specs.Handled.{IsLaneOf, IsOpen, State, debt}
@@ -44,7 +44,7 @@ pub record OnlyPushed (old new : Queue) : Type 0 where
   pub sent : new.sent ≡ old.sent
   pub shown : new.shown ≡ old.shown
 
--- whether a side has ended, behind an answer
+-- whether a side has ended, after an answer
 abbrev pub ended_after : Side → Entry → Bool → Bool
 ended_after s (Met meeting) ended = ended
 ended_after s (Moment moment) ended = ended

@@ -1,5 +1,4 @@
--- The turns of a relay, as what its pair's list may say. The main definitions are `turn`, `IsStage`, `DoesStages` and
--- `IsRelayed`. This project's own.
+-- The turns of a relay, as what its pair's list may say. The main definitions are `turn`, `IsStage`, `DoesStages` and `IsRelayed`.
 --
 -- The list is the meeting, one moment, and then turns of seven stages. Each stage adds answers to the list under conditions
 -- on the list so far alone. The list may break off before a stage, or within the gives of one. (The code keeps two queues,
@@ -59,6 +58,7 @@ IsTakeAnswer s (Ended of) = of ≡ s
 IsTakeAnswer s (Idle of) = of ≡ s
 IsTakeAnswer s (Finished of) = ⊥
 
+-- the list is not empty
 abbrev pub HasBytes : List ℕ → Type 0
 HasBytes [] = ⊥
 HasBytes (x ∷ xs) = Unit {0}
@@ -93,6 +93,7 @@ pub record MayFinish (asset : Asset) (s : Side) (es : List Entry) (js : List Jud
   pub ends : (queue_of asset s es js).ended ≡ true
   pub first : is_finished s es ≡ false
 
+-- a stage of a relay: meeting, telling the moment, taking from a side, giving to a side, or closing it
 pub data Stage : Type 0 where
   -- at a port
   Meeting : ℕ → Stage
@@ -148,7 +149,7 @@ DoesStages asset most (stage ∷ later) before answers =
     (now next : List Entry) × (answers ≡ now ++ next) × IsStage asset most stage before now × DoesStages asset most later
     (before ++ now) next
 
--- the stages, broken off before one of them, within one, or behind the last
+-- the stages, broken off before one of them, within one, or after the last
 abbrev pub BeginsStages : Asset → (most : ℕ) → List Stage → (before answers : List Entry) → Type 0
 BeginsStages asset most [] before answers = answers ≡ []
 BeginsStages asset most (stage ∷ later) before answers =

@@ -1,4 +1,5 @@
-//! A pair of byte streams, one to a client and one to its controller, relayed in turns through the lane.
+//! Two byte streams, one to a client and one to its controller, relayed in turns through the lane: those of one session of many,
+//! turn by turn, or a pair until it ends.
 #![tactic(auto)]
 
 mod done;

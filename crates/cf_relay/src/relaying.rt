@@ -28,8 +28,8 @@ use cf_outside::{Desk, MomentAnswer};
 use cf_policy::Asset;
 use cf_view::Side;
 
-/// A relay between two stages: its lane, and for each side the queue to it, the bytes of it that are no whole unit, and how many
-/// of its letters were taken.
+/// A relay between two stages: its lane, and for each side the queue to it, the bytes of it that are no whole unit, and how
+/// many of its letters were taken.
 #[derive(Drop)]
 pub struct Relaying {
     pub(crate) lane: Lane,
@@ -45,7 +45,8 @@ pub struct Relaying {
 }
 
 impl Relaying {
-    /// A relay that has met its client and was told its first moment, in microseconds: nothing of either side was taken yet.
+    /// A relay that has met its client and was told its first moment, in microseconds, with a new lane and two new queues.
+    /// Nothing of either side was taken yet, and the line of its beginning is the caller's to write.
     pub fn begun(lane: Lane, to_client: Outq, to_controller: Outq, moment: u64) -> Relaying
         requires to_client { to_client ≡ empty }
         requires to_controller { to_controller ≡ empty }

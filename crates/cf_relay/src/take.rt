@@ -47,7 +47,7 @@ impl Heard {
     }
 }
 
-/// Keeps what is left behind so many bytes of a rest and the bytes after it.
+/// Keeps what is left after so many bytes of a rest and the bytes after it.
 fn keep_rest(rest: &mut ArrayVec<u8, REST>, bytes: &[u8], used: usize)
     requires used { used ≤ length (rest.old.items ++ bytes.now) }
     requires little { length (drop used (rest.old.items ++ bytes.now)) ≤ 300 }
@@ -62,7 +62,7 @@ fn keep_rest(rest: &mut ArrayVec<u8, REST>, bytes: &[u8], used: usize)
     let _ = rest.try_extend_from_slice(&left[..count]);
 }
 
-/// Hands the lane what a side gave, behind the rest of it.
+/// Hands the lane what a side gave, after the rest of it.
 fn feed_lane<D: Desk>(
     lane: &mut Lane,
     asset: &Asset,

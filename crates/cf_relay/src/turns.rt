@@ -81,10 +81,10 @@ impl Relaying {
     }
 
     /// One turn of a session: the moment; what the client and then the controller sends, at most 4,096 bytes each; what is
-    /// queued for the controller and then for the client, until a queue is empty or its side answers `Idle`. Lines of items go
-    /// to the desk, with the greatest moment told, in microseconds. `most` answers `Idle`, with none between them that moves a letter, stop
-    /// it. The buffer has 4,096 bytes; what stands in it does not matter. After an error no further turn is made, and the last line, as
-    /// that of a cut, is the caller's to write.
+    /// queued for the controller and then for the client, until a queue is empty or its side answers `Idle`. The lines of items
+    /// go to the desk, with the greatest moment told so far, in microseconds. As many answers `Idle` as `most`, with none
+    /// between them that moves a letter, stop it. The buffer has 4,096 bytes, and what stands in it does not matter. After an
+    /// error no further turn is made, and the last line, such as that of a cut, is the caller's to write.
     pub fn turn<L: Links, D: Desk>(
         &mut self,
         asset: &Asset,

@@ -39,7 +39,8 @@ impl Closes {
     }
 }
 
-/// How many sessions of a run neither closed nor were cut, by what was counted and its LOG. Nothing where LOG cannot be read. Changes no file.
+/// How many sessions of a run neither closed nor were cut, by what was counted and its LOG. Nothing where LOG cannot be read.
+/// Changes no file.
 pub fn left_open<F: Files>(files: &mut F, log: &str, summary: &Summary) -> Option<u64>
     ensures same { F.content files.new ≡ F.content files.old }
     ensures writes { F.write_faults files.new ≡ F.write_faults files.old }

@@ -32,7 +32,7 @@ impl Dropped {
 }
 
 /// The records of a capture by why they are dropped, where there is one and none is a packet. Nothing where one is, and the records
-/// behind it are not read; nor where the capture is refused or cut, or cannot be read. Changes no file.
+/// after it are not read; nor where the capture is refused or cut, or cannot be read. Changes no file.
 pub fn dropped_alone<F: Files>(alloc: Global, files: &mut F, capture: &str) -> Option<Dropped>
     ensures same { F.content files.new ≡ F.content files.old }
     ensures writes { F.write_faults files.new ≡ F.write_faults files.old }

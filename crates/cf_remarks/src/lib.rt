@@ -1,4 +1,4 @@
-//! What a run cannot know, and why records were dropped, said in words. CAPTURE, and OUT beside it, are read again behind a run: both
+//! What a run cannot know, and why records were dropped, said in words. CAPTURE, and OUT beside it, are read again after a run: both
 //! are in the order of time, and OUT has all that the box sent. It is proved that each call ends and changes no file; of the counts
 //! nothing is, and they are meant as follows. This project's own.
 //!
@@ -12,7 +12,7 @@
 //!   Segments with RST are neither.
 //! - A packet belongs to a connection whose SYN is not there where it comes before any SYN of its pair. A packet is of no asset where
 //!   not exactly one of its endpoints is an asset's. Both counts are exact: each such packet is of no session.
-//! - Behind `learn` the commands of each client to each asset are those with the asset's station whose form is read, up to where its
+//! - After `learn` the commands of each client to each asset are those with the asset's station whose form is read, up to where its
 //!   connection breaks; what is left out beside them is counted by why.
 //! - How many sessions never closed is what the summary counts without those that were cut and those that LOG says closed.
 #![tactic(auto)]

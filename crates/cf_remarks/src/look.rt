@@ -73,7 +73,7 @@ pub fn look_again<F: Files, G: Files>(
     }
 }
 
-/// Sees all records of CAPTURE, each behind what the box sent before its moment, and says whether both files could be read so far.
+/// Sees all records of CAPTURE, each after what the box sent before its moment, and says whether both files could be read so far.
 fn see_all<F: Files, G: Files>(
     seen: &mut Seen,
     assets: &[Asset],
@@ -114,7 +114,7 @@ fn see_all<F: Files, G: Files>(
     }
 }
 
-/// Sees what the box sent before a moment, from the record on that was read last, and answers what stands behind it; nothing where
+/// Sees what the box sent before a moment, from the record on that was read last, and answers what stands after it; nothing where
 /// OUT cannot be read on, or memory ran out.
 fn see_sent<F: Files>(
     seen: &mut Seen,
@@ -145,7 +145,7 @@ fn see_sent<F: Files>(
     }
 }
 
-/// What stands behind the packets that the box sent, if it is their end.
+/// What stands after the packets that the box sent, if it is their end.
 fn behind(found: NextRecord) -> Option<NextRecord> {
     match found {
         NextRecord::End => Some(found),

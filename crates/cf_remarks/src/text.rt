@@ -63,7 +63,7 @@ impl Lines {
         }
     }
 
-    /// Puts a line, behind the word with which each remark begins.
+    /// Puts a line, after the word with which each remark begins.
     pub(crate) fn put(&mut self, pieces: &[Piece<'_>]) {
         self.begin();
         self.push_all(pieces);

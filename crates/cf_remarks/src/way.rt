@@ -5,7 +5,7 @@ use cf_packet::{ACK, FIN, Packet, RST, SYN};
 /// What the box sent towards one side of a session so far, as OUT has it.
 #[derive(Clone, Copy)]
 pub(crate) struct Way {
-    /// The sequence number behind the last letter that was sent, if something was. RFC 9293, section 3.3.1: SND.NXT.
+    /// The sequence number after the last letter that was sent, if something was. RFC 9293, section 3.3.1: SND.NXT.
     pub(crate) reached: Option<u32>,
     /// The greatest acknowledgment and window together, if one was told. RFC 9293, section 3.3.1: RCV.NXT + RCV.WND.
     pub(crate) edge: Option<u32>,
@@ -70,7 +70,7 @@ fn letters_of(packet: &Packet<'_>) -> u32 {
     text + u32::from(has(packet, SYN)) + u32::from(has(packet, FIN))
 }
 
-/// The sequence number behind a packet.
+/// The sequence number after a packet.
 fn end_of(packet: &Packet<'_>) -> u32 {
     packet.seq.wrapping_add(letters_of(packet))
 }

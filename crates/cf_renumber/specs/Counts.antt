@@ -1,5 +1,5 @@
--- Counts of the I frames of an IEC 60870-5-104 session, and what a number of 15 bits stands for: the main definitions are the
--- stamps and the refusals, which stand last. IEC 60870-5-104, section 5.1: N(S) counts the frames that were sent, N(R) those that
+-- Counts of the I frames of an IEC 60870-5-104 session, and what a number of 15 bits stands for: stamps, as `admitted_stamp`, and
+-- refusals, as `client_refusal`, which stand last. IEC 60870-5-104, section 5.1: N(S) counts the frames that were sent, N(R) those that
 -- were received, both modulo 32768. That a firewall between the two sides renumbers both is this project's own.
 --
 -- What went on so far is a list of events, the newest first, so that what was before an event is the list after it. The
@@ -58,12 +58,15 @@ is_controllers origins.Mirror = false
 abbrev pub from_client : List Event → ℕ
 from_client events = length (client_frames events)
 
+-- how many I frames went to the controller
 abbrev pub to_controller : List Event → ℕ
 to_controller events = count_by is_admitted (client_frames events)
 
+-- how many I frames the controller sent
 abbrev pub from_controller : List Event → ℕ
 from_controller events = count_by is_controllers (frames_to_client events)
 
+-- how many I frames went to the client, the controller's and mirrors
 abbrev pub to_client : List Event → ℕ
 to_client events = length (frames_to_client events)
 
@@ -192,6 +195,7 @@ unacked_by_controller events = from_client events - covered_by (acked_by_control
 abbrev pub client_ack_refusal : List Event → ℕ → Option NumberRefusal
 client_ack_refusal events nr = receive_refusal (acked_by_client events) (to_client events) nr
 
+-- what is wrong with a receive number of the controller, if anything is
 abbrev pub controller_ack_refusal : List Event → ℕ → Option NumberRefusal
 controller_ack_refusal events nr = receive_refusal (acked_by_controller events) (to_controller events) nr
 

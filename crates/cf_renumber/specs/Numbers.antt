@@ -1,4 +1,4 @@
--- What is kept of the frames of a session to number the next ones: the main definition is IsNumbersOf.
+-- Steps of the proof: what is kept of the frames of a session to number the next ones: `IsNumbersOf`.
 use Rattle.std.specs.Prelude.{◌≡◌, ℕ, ◌+◌, ◌-◌, ◌%◌, ◌<◌, ◌≤◌, if◌then◌else◌, Bool, true, false, List, [], ◌∷◌, ◌++◌, length, drop, Option, Some, None, count_by, nat_lt}
 use Rattle.cf_renumber.specs.declared.answer.Stamp.{Stamp}
 use Rattle.cf_renumber.specs.declared.mark.Fate.{Fate}

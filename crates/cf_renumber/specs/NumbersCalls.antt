@@ -1,5 +1,5 @@
--- Lists of calls with their answers, the newest first: the main definitions are NumbersStep, which each call keeps, and
--- AllAnswered, which every list of calls in order then is.
+-- Steps of the proof: lists of calls with their answers, the newest first: `NumbersStep`, which each call keeps, and `AllAnswered`,
+-- which every list of calls in order then is.
 use Rattle.std.specs.Prelude.{◌≡◌, ℕ, ◌%◌, Bool, List, [], ◌∷◌, Option, Some, None, Result, Ok, Err}
 use Rattle.cf_view.specs.declared.Side.{Side}
 use Rattle.cf_renumber.specs.declared.answer.Stamp.{Stamp}

@@ -19,22 +19,30 @@ use std::marker::Model;
 const CAPACITY: usize = 4_096;
 
 /// The numbers of the I frames of one session, on both legs. It keeps a mark of each frame that is not acknowledged.
+/// IEC 60870-5-104, section 5.1; that both legs are numbered apart is this project's own.
 #[derive(Drop)]
 pub struct Numbers {
+    /// The client's STARTDT act has come: the controller may send I frames.
     started: bool,
+    /// It has come, and no STOPDT act since: the client may send I frames.
     running: bool,
-    /// Of the client's frames, from the first one on that the controller has not acknowledged, and the admitted ones
-    /// among them.
+    /// Of the client's frames, from the first one on that the controller has not acknowledged: what became of each.
     fates: HeapCircularBuffer<Fate>,
+    /// How many of these were admitted.
     admits: u16,
-    /// Of the frames to the client, from the first one on that it has not acknowledged, and the controller's ones among
-    /// them.
+    /// Of the frames to the client, from the first one on that it has not acknowledged: whose each is.
     origins: HeapCircularBuffer<Origin>,
+    /// How many of these are the controller's.
     controllers: u16,
+    /// V(R) towards the client (IEC 60870-5-104, section 5.1): the N(S) of its next frame. Numbers here are modulo 32768.
     received: u16,
+    /// V(S) towards the controller: the N(S) of the next frame that goes there.
     admitted: u16,
+    /// V(R) towards the controller: the N(S) of its next frame.
     carried: u16,
+    /// V(S) towards the client: the N(S) of the next frame that goes there, of the controller's or a mirror.
     sent: u16,
+    /// Where a frame of the client came that is not judged yet: how many of the controller's frames its N(R) acknowledges anew.
     owed: Option<u16>,
 }
 

@@ -26,7 +26,7 @@ use Rattle.cf_review.specs.Remark.{Broken, RemarkValue}
 use Rattle.cf_review.specs.Review.{AddsReview, conflict_remarks, flow_remarks, matters, remark_on, remarks_by, remarks_on, unit_remarks}
 use Rattle.cf_audit.specs.declared.line.Why.{Why}
 
--- with these units in front, those from a place on are those of the flow; the remarks on these units stand behind some others
+-- with these units in front, those from a place on are those of the flow; the remarks on these units stand after some others
 pub record SoFar (asset : Asset) (f : FlowValue) (start : List RemarkValue) (at : ℕ) (r : Reader) (admitted : ℕ) (remarks : List RemarkValue) : Type 0 where
   pub units : List Judged
   pub leads : (js : List Judged) (ending : Ending) → AreRead asset f.client.address units (drop at f.bytes) (drop at f.born) js ending → AreRead asset f.client.address [] f.bytes f.born (units ++ js) ending
@@ -87,7 +87,7 @@ so_far_first asset f start remarks r h told = record {
 }
 
 module _ (asset : Asset) (f : FlowValue) (start : List RemarkValue) (at : ℕ) (r : Reader) (admitted : ℕ) (remarks : List RemarkValue) (so : SoFar asset f start at r admitted remarks) where
-  -- what an add behind the others does to the whole
+  -- what an add after the others does to the whole
   told_more : (more new : List RemarkValue) → new ≡ remarks ++ more → new ≡ start ++ (conflict_remarks f f.conflict ++ (in_turn (unit_remarks asset f) [] so.units ++ more))
   told_more more new is =
       let c = conflict_remarks f f.conflict in

@@ -87,7 +87,7 @@ watched_fall assets (r ∷ earlier) =
 
 -- ---- so the bytes come in their order
 
--- behind more packets there are no fewer bytes
+-- after more packets there are no fewer bytes
 no_fewer : (newer older : List Carried) (xs ys : List ℕ) → HasBytes older xs → HasBytes (newer ++ older) ys → length xs ≤ length ys
 no_fewer newer older xs ys h k =
     let both : map offer_of (newer ++ older) ≡ map offer_of newer ++ map offer_of older = map-append offer_of newer older in
@@ -100,7 +100,7 @@ no_fewer newer older xs ys h k =
 tails : (x y : Carried) (xs ys : List Carried) → x ∷ xs ≡ y ∷ ys → xs ≡ ys
 tails x y xs ys e = cc
 
--- of two parts of a list that go to its end, one is behind the first element of the other, or the other is in it
+-- of two parts of a list that go to its end, one is after the first element of the other, or the other is in it
 parted : (a b : List Carried) (x y : Carried) (xs ys : List Carried) → a ++ x ∷ xs ≡ b ++ y ∷ ys → ((c : List Carried) × (xs ≡ c ++ y ∷ ys)) ⊎ ((c : List Carried) × (y ∷ ys ≡ c ++ x ∷ xs))
 parted [] [] x y xs ys e = inr ([], sym e)
 parted [] (z ∷ b) x y xs ys e = inl (b, tails x z xs (b ++ y ∷ ys) e)

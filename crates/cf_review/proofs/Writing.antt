@@ -23,7 +23,7 @@ module _ (assets : List Asset) (stamps : List ℕ) where
   text_append [] ys = refl
   text_append (x ∷ xs) ys = ap (λ t. remark_line assets stamps x ++ t) (text_append xs ys) ∙ sym (append_assoc (remark_line assets stamps x) (review_text assets stamps xs) (review_text assets stamps ys))
 
-  -- the text of the remarks up to a place and that of those behind it
+  -- the text of the remarks up to a place and that of those after it
   pub text_split : (remarks : List Remark) (i : ℕ) →
       review_text assets stamps (map remark_value remarks)
       ≡ review_text assets stamps (map remark_value (take i remarks)) ++ review_text assets stamps (map remark_value (drop i remarks))
@@ -50,7 +50,7 @@ moved_on front piece line left before now c d e told file more m = (
   m.file ∙ ap (λ x. with_appended x m.front) file ∙ with_appended-twice c front m.front,
 )
 
--- a beginning of what waits behind what was moved is a beginning of the text
+-- a beginning of what waits after what was moved is a beginning of the text
 pub partly_moved : (front piece before behind all : List ℕ) (k : ℕ) (c d e : Content) → front ++ piece ≡ before → all ≡ before ++ behind → d ≡ with_appended c front → e ≡ with_appended d (take k piece) →
     (x : ℕ) × (e ≡ with_appended c (take x all))
 partly_moved front piece before behind all k c d e told split file failed =

@@ -1,4 +1,4 @@
--- How much there is in a review: counts_of. This project's own.
+-- How much there is in a review: counts_of.
 use Rattle.std.specs.Prelude.{◌==◌, ◌+◌, ◌-◌, ◌^◌, ℕ, Bool, List, count_by, map, min}
 use Rattle.cf_policy.specs.declared.Decider.{Decider}
 use Rattle.cf_policy.specs.declared.Decider.TheVariants as decider
@@ -33,6 +33,7 @@ kind_number kind.Stray = 4
 kind_number kind.Conflict = 5
 kind_number kind.Broken = 6
 
+-- the remark is of this kind
 abbrev pub is_kind : Kind → MatterValue → Bool
 is_kind k what = kind_number k == kind_number (kind_of what)
 
@@ -40,6 +41,7 @@ is_kind k what = kind_number k == kind_number (kind_of what)
 abbrev pub count_of : List RemarkValue → Kind → ℕ
 count_of remarks k = count_by (λ r. is_kind k r.what) remarks
 
+-- the counts of a review, by its flows, its admitted commands and its remarks; the sum of commands stands still at 2^64 - 1
 abbrev pub counts_by : (flows admitted : ℕ) → List RemarkValue → Counts
 counts_by flows admitted remarks = record {
   flows = flows;

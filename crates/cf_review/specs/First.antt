@@ -1,4 +1,4 @@
--- What a review has to do with the judge: JudgeTellsTheFirst. This project's own.
+-- What a review has to do with the judge: JudgeTellsTheFirst.
 use Rattle.std.specs.Prelude.{◌≡◌, List, [], ◌∷◌, length, Option, None, Some, option_map}
 use Rattle.std.specs.List.{AllByRecursion}
 use Rattle.std.specs.List.Sorted.{IsNonDecreasingBy}
@@ -21,9 +21,11 @@ complaint_by (Stray because) = complaint.Stray because
 complaint_by (Broken reason) = complaint.Broken reason
 complaint_by (Conflict position) = complaint.Conflict position
 
+-- a remark as the judge tells it
 abbrev pub objection_by : RemarkValue → Objection
 objection_by r = record { at_record = r.at_record; client = r.client; asset = r.asset; what = complaint_by r.what }
 
+-- the first of some remarks, if there is one
 abbrev pub first_of : List RemarkValue → Option RemarkValue
 first_of [] = None
 first_of (r ∷ rs) = Some r

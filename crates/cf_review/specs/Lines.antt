@@ -1,4 +1,4 @@
--- The lines of a review: review_text. The words are those of the log of a session, and of the judge. This project's own.
+-- The lines of a review: review_text. The words are those of the log of a session, and of the judge.
 use Rattle.std.specs.Prelude.{◌≡◌, ◌-◌, ℕ, List, [], ◌++◌, codes, false, get_or, slice_get, Option, Some, None}
 use Rattle.std.specs.Fmt.{signed_decimal}
 use Rattle.std.specs.List.{flat_map}
@@ -28,6 +28,7 @@ matter_line asset client moment (Conflict position) = other_line asset client mo
 abbrev pub stamp_of : (stamps : List ℕ) → (record_number : ℕ) → ℕ
 stamp_of stamps number = get_or stamps (number - 1) 0
 
+-- the line of a remark, where its asset is known
 abbrev pub line_by : Option Asset → (stamps : List ℕ) → RemarkValue → List ℕ
 line_by None stamps r = []
 line_by (Some asset) stamps r = matter_line asset r.client (stamp_of stamps r.at_record) r.what
@@ -36,6 +37,7 @@ line_by (Some asset) stamps r = matter_line asset r.client (stamp_of stamps r.at
 abbrev pub remark_line : List Asset → (stamps : List ℕ) → RemarkValue → List ℕ
 remark_line assets stamps r = line_by (slice_get assets r.asset) stamps r
 
+-- the lines of remarks, in their order
 abbrev pub review_text : List Asset → (stamps : List ℕ) → List RemarkValue → List ℕ
 review_text assets stamps remarks = flat_map (remark_line assets stamps) remarks
 

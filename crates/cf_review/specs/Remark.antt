@@ -1,4 +1,4 @@
--- What a contract sees of a `Remark`: RemarkValue. This project's own.
+-- What a contract sees of a `Remark`: RemarkValue.
 use Rattle.std.specs.Prelude.{ℕ, ℤ, List}
 use Rattle.cf_audit.specs.declared.line.Why.{Why}
 use Rattle.cf_lane.specs.declared.fate.Refusal.{Refusal}
@@ -22,11 +22,13 @@ pub record RemarkValue : Type 0 where
   pub asset : ℕ
   pub what : MatterValue
 
+-- what a remark is about, without where its octets lie in memory
 abbrev pub matter_value : Matter → MatterValue
 matter_value (matter.Refused refusal octets) = Refused refusal octets.items
 matter_value (matter.Stray because) = Stray because
 matter_value (matter.Broken reason) = Broken reason
 matter_value (matter.Conflict position) = Conflict position
 
+-- a remark, without where its octets lie in memory
 abbrev pub remark_value : Remark → RemarkValue
 remark_value r = record { at_record = r.at_record; client = r.client; asset = r.asset; what = matter_value r.what }

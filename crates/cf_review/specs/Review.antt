@@ -1,5 +1,5 @@
 -- All that is objected to in flows, in the order of the records: IsReviewOf. In one record a conflict comes before the items of its
--- flow, these in the order of the bytes, and flows in their order. This project's own.
+-- flow, these in the order of the bytes, and flows in their order.
 use Rattle.std.specs.Prelude.{◌≡◌, ◌==◌, ℕ, Bool, List, [], ◌∷◌, ◌++◌, length, map, take, slice_get, Option, Some, None}
 use Rattle.std.specs.List.{filter, flat_map}
 use Rattle.std.specs.List.Sorted.{IsNonDecreasingBy}
@@ -40,10 +40,12 @@ matters octets (fate.Cuts because) = []
 abbrev pub unit_remarks : Asset → FlowValue → (earlier : List Judged) → Judged → List RemarkValue
 unit_remarks asset f earlier j = map (remark_on f j.moment) (matters (octets_of asset earlier j.item) j.fate)
 
+-- the remark of an end of a flow's bytes: one where they break
 abbrev pub end_remarks : FlowValue → Ending → List RemarkValue
 end_remarks f Whole = []
 end_remarks f (Breaks number reason) = remark_on f number (Broken reason) ∷ []
 
+-- the remark of a flow's conflict, if it has one
 abbrev pub conflict_remarks : FlowValue → Option ConflictOf → List RemarkValue
 conflict_remarks f None = []
 conflict_remarks f (Some c) = remark_on f c.at_record (Conflict c.position) ∷ []
@@ -52,7 +54,7 @@ conflict_remarks f (Some c) = remark_on f c.at_record (Conflict c.position) ∷ 
 abbrev pub flow_remarks : Asset → FlowValue → List Judged → Ending → List RemarkValue
 flow_remarks asset f js ending = conflict_remarks f f.conflict ++ (in_turn (unit_remarks asset f) [] js ++ end_remarks f ending)
 
--- the bytes of a flow are some units and an ending, and these are the remarks behind others on it, with so many commands allowed
+-- the bytes of a flow are some units and an ending, and these are the remarks after others on it, with so many commands allowed
 pub record AddsReview (asset : Asset) (f : FlowValue) (old new : List RemarkValue) (admitted : ℕ) : Type 0 where
   pub judged : List Judged
   pub ending : Ending
@@ -69,6 +71,7 @@ remarks_by (Some asset) r = flow_remarks asset r.flow r.judged r.ending
 abbrev pub remarks_on : List Asset → List Reading → List RemarkValue
 remarks_on assets readings = flat_map (λ r. remarks_by (slice_get assets r.flow.asset) r) readings
 
+-- the remark is of the record of this number
 abbrev pub is_at : (record_number : ℕ) → RemarkValue → Bool
 is_at number r = r.at_record == number
 

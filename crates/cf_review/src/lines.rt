@@ -64,7 +64,7 @@ fn append_lines<F: Files>(
     append_all(files, log, piece.as_slice())
 }
 
-/// Puts a line behind those that wait. Where it has no room there, these are appended to a file before.
+/// Puts a line after those that wait. Where it has no room there, these are appended to a file before.
 fn put<F: Files>(
     piece: &mut ArrayVec<u8, PIECE>,
     line: &[u8],

@@ -158,7 +158,7 @@ fn add_conflict(flow: &Flow, remarks: &mut Vec<Remark>) -> Result<(), NoMemory>
     }
 }
 
-/// Adds what is objected to in a unit of these octets, behind which the reader stands.
+/// Adds what is objected to in a unit of these octets, after which the reader stands.
 fn add_unit(
     reader: &Reader,
     asset: &Asset,

@@ -14,7 +14,7 @@ ghost use Rattle.cf_review.specs.Remark.{matter_value, remark_value};
 
 use crate::remark::{Matter, Remark};
 use arrayvec::ArrayString;
-use cf_audit::{Line, What, Why, write_line};
+use cf_audit::{Line, What, Why, break_word, write_line};
 use cf_lane::Refusal;
 use cf_policy::{Asset, Decider, Rule};
 use cf_view::{Break, Endpoint, Side, View, push_endpoint, push_moment, push_signed};

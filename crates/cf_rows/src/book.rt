@@ -25,7 +25,7 @@ impl Book {
         }
     }
 
-    /// Takes a block that is no row: `unit`, `policy` or `exchange` and a name, and behind that line what it names. A block
+    /// Takes a block that is no row: `unit`, `policy` or `exchange` and a name, and after that line what it names. A block
     /// that begins with `#` is a remark.
     pub fn take(&mut self, block: &str) -> Result<(), Fault> {
         let (head, body) = block.split_once('\n').unwrap_or((block, ""));

@@ -39,7 +39,7 @@ pub fn difference(
     Ok(Some(format!(in alloc; "other than {what}")?))
 }
 
-/// Whether this is what a row says that is printed: all of it, or what stands behind the number of records.
+/// Whether this is what a row says that is printed: all of it, or what stands after the number of records.
 fn is_printed(book: &Book, row: &Row, printed: &[u8]) -> Result<bool, Fault> {
     let Some(counted) = row.text(book.alloc, "counted:")? else {
         let wanted = row.text(book.alloc, "printed:")?;

@@ -104,7 +104,7 @@ fn files_of(book: &Book, row: &Row) -> Result<MemoryFiles, Fault> {
     Ok(files)
 }
 
-/// The policy `p`, with the text before `=>` replaced by that behind it, in which `/` stands for a line feed.
+/// The policy `p`, with the text before `=>` replaced by that after it, in which `/` stands for a line feed.
 fn edited(book: &Book, edit: &str) -> Result<Vec<u8>, Fault> {
     let (old, new) = edit.split_once("=>").ok_or(Fault::Wanted(Wanted::Edit))?;
     let policy = book.policies.get("p").ok_or(Fault::Wanted(Wanted::Edit))?;

@@ -11,7 +11,7 @@ pub fn octets(book: &Book, spelled: &str) -> Result<Vec<u8>, Fault> {
     Ok(all)
 }
 
-/// Puts the octets of a text behind others.
+/// Puts the octets of a text after others.
 pub fn push_octets(book: &Book, spelled: &str, all: &mut Vec<u8>) -> Result<(), Fault> {
     for token in spelled.split(' ') {
         match token.split_once('@') {

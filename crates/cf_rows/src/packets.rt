@@ -34,7 +34,7 @@ struct Flow {
 }
 
 /// `c` is the client 10.0.0.5:49152 and `k` the controller to it, `d` the client 10.0.0.6:49152 and `j` the controller to
-/// that; a number behind the letter counts ports.
+/// that; a number after the letter counts ports.
 fn ends(row: &Row, who: &str) -> Result<Flow, Fault> {
     let number = who.trim_start_matches(['c', 'k', 'd', 'j']);
     let number = if number.is_empty() { "1" } else { number };
@@ -217,7 +217,7 @@ pub fn capture(book: &Book, row: &Row) -> Result<Vec<u8>, Fault> {
     Ok(capture)
 }
 
-/// The first line of what goes out that does not stand at its place in an output, or what is behind the last.
+/// The first line of what goes out that does not stand at its place in an output, or what is after the last.
 pub fn wrong_packet<'a>(book: &Book, row: &'a Row, out: &[u8]) -> Result<Option<&'a str>, Fault> {
     let Some(mut left) = out.strip_prefix(header(LinkKind::RawIp).as_slice()) else {
         return Ok(Some("the header"));

@@ -1,4 +1,4 @@
-//! A row: the lines of its block behind those of the exchange that it comes after.
+//! A row: the lines of its block after those of the exchange that it comes after.
 
 use crate::book::Book;
 use crate::fault::{Fault, Wanted};
@@ -46,7 +46,7 @@ const KEYS: [&str; 34] = [
     "answers:",
 ];
 
-/// What stands behind each key of a row, line by line, and whom its packets come from.
+/// What stands after each key of a row, line by line, and whom its packets come from.
 #[derive(Drop)]
 pub struct Row {
     lines: BTreeMap<String, Vec<String>>,
@@ -165,7 +165,7 @@ fn endpoint(spelled: &str) -> Result<Endpoint, Fault> {
 }
 
 impl Row {
-    /// What stands behind a key, line by line.
+    /// What stands after a key, line by line.
     pub fn all(&self, key: &str) -> &[String] {
         match self.lines.get(key) {
             Some(lines) => lines.as_slice(),
@@ -173,7 +173,7 @@ impl Row {
         }
     }
 
-    /// What stands behind a key first.
+    /// What stands after a key first.
     pub fn field(&self, key: &str) -> Option<&str> {
         self.all(key).first().map(|line| line.as_str())
     }

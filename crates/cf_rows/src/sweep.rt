@@ -129,7 +129,7 @@ fn is_beginning(book: &Book, left: &Left, whole: &Left) -> Result<bool, Fault> {
     Ok(begins && is_made_in_order(left, whole) && is_whole_where_read(left))
 }
 
-/// Whether the policy and the capture of a world are beginnings, each of which is whole where the file behind it is there.
+/// Whether the policy and the capture of a world are beginnings, each of which is whole where the file after it is there.
 fn is_made_in_order(left: &Left, whole: &Left) -> bool {
     let mut right = true;
     let mut later = left.file("o").is_some();
@@ -148,7 +148,7 @@ fn is_made_in_order(left: &Left, whole: &Left) -> bool {
     right
 }
 
-/// Whether what a run over a capture, or a world, left behind a failed read are whole records and whole lines.
+/// Whether what a run over a capture, or a world, left after a failed read are whole records and whole lines.
 fn is_whole_where_read(left: &Left) -> bool {
     let (Some(out), Some(log)) = (left.file("o"), left.file("l")) else {
         return true;

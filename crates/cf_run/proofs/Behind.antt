@@ -1,4 +1,4 @@
--- What a reader found, as what stands behind the blocks that it passed over.
+-- What a reader found, as what stands after the blocks that it passed over.
 use Rattle.std.proofs.Common.{◌≡◌, ℕ, ◌^◌, ◌≤◌, List, drop, arith}
 use Rattle.cf_outside.specs.Files.{Content, untold, absent, holds}
 use Rattle.cf_run.specs.Capture.{AtPlace, Cut, FileEnd, Fits, Large, Refused, TooLong, at_place}
@@ -9,7 +9,7 @@ use Rattle.cf_run.specs.declared.form.Form.{Form}
 use Rattle.cf_run.specs.declared.form.Form.TheVariants as form
 use Rattle.cf_run.specs.declared.record_reader.NextRecord.TheVariants as answer
 
--- behind blocks that are passed over this stands at a place
+-- after blocks that are passed over this stands at a place
 abbrev pub StandsBehind : Content → ReaderValue → ℕ → AtPlace → Type 0
 StandsBehind untold old place found = Unit {0}
 StandsBehind absent old place found = ⊥

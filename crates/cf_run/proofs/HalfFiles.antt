@@ -21,7 +21,7 @@ use Rattle.cf_run.specs.RunCapture.{HoldsOctets}
 use Rattle.cf_run.proofs.Items.{items-rest}
 use Rattle.cf_run.proofs.OutputFiles.{both, packet_in-spelled}
 
--- a whole file has nothing behind its last record or line
+-- a whole file has nothing after its last record or line
 pub no_packet_part : (file : Content) → ends_with_record file ≡ true → packet_part file ≡ []
 no_packet_part untold e = refl
 no_packet_part absent e = refl
@@ -36,7 +36,7 @@ some_if : (b : Bool) (items packets : List SentValue) → (if b then Some items 
 some_if true items packets e = (refl, cc)
 some_if false items packets e = cc
 
--- a file with packets is its header, their records, and what stands behind them
+-- a file with packets is its header, their records, and what stands after them
 file_is : (file : Content) (packets : List SentValue) → file_packets file ≡ Some packets → file ≡ holds (output_octets ++ (flat_map record_octets packets ++ packet_part file))
 file_is untold packets h = cc
 file_is absent packets h = cc
@@ -56,7 +56,7 @@ log_is (holds all) lines h = ap holds (sym (lines_from-rest [] all) ∙ ap (λ l
     some_same : {A : Type 0} {x y : A} → Some x ≡ Some y → x ≡ y
     some_same e = cc
 
--- what stands behind whole things is a beginning of the octets that come next
+-- what stands after whole things is a beginning of the octets that come next
 part_taken : (next was now : List ℕ) → was ≡ [] → IsPartOf next was now → (some : ℕ) × (now ≡ take some next)
 part_taken next was now none (inl same) = (0, same ∙ none)
 part_taken next was now none (inr part) = part

@@ -37,7 +37,7 @@ module _ {A : Type 0} (unit : List ℕ → Option A) where
       λ j h. ap unit (append_assoc part (x ∷ []) (take j xs)) ∙ none (suc j) (omega arith) in
       rw first (items-part p xs k later)
 
-  -- what has no item stands behind the last one
+  -- what has no item stands after the last one
   pub part-none : (part text : List ℕ) (k : ℕ) → ((j : ℕ) → j ≤ k → unit (part ++ take j text) ≡ None) →
       part_from unit part (take k text) ≡ part ++ take k text
   part-none part text zero none = sym (append-nil part)
@@ -62,7 +62,7 @@ module _ {A : Type 0} (unit : List ℕ → Option A) where
       let (a, b) = items-one p y ys item (ap unit (append_assoc part (x ∷ []) (y ∷ ys)) ∙ whole) later in
       (rw first a, rw first b)
 
-  -- the items as they are spelled, and what stands behind them, are the octets
+  -- the items as they are spelled, and what stands after them, are the octets
   module _ (spell : A → List ℕ) (is_spelled : (octets : List ℕ) (item : A) → unit octets ≡ Some item → octets ≡ spell item) where
     rest_by : (p xs : List ℕ) (u : Option A) → unit p ≡ u → flat_map spell (items_from unit p xs) ++ part_from unit p xs ≡ p ++ xs →
         flat_map spell (items_from unit [] xs) ++ part_from unit [] xs ≡ xs →

@@ -36,7 +36,7 @@ spelled_by octets packet TooLong e = cc
 pub packet_in-spelled : (octets : List ℕ) (packet : SentValue) → packet_in octets ≡ Some packet → octets ≡ record_octets packet
 packet_in-spelled octets packet e = spelled_by octets packet (record_of output_header octets) e
 
--- octets that end inside the head of a record, or behind it, are none
+-- octets that end inside the head of a record, or after it, are none
 in_head : (octets : List ℕ) → length octets < 16 → packet_in octets ≡ None
 in_head octets few = grind (arith, nat_tests)
 
@@ -103,7 +103,7 @@ packet_part-record (holds all) octets sent r e =
     let (t, d) = headed all octets h in
     rw (d, part-append packet_in [] (drop 24 all) octets, nothing _ n, (one octets sent r).1) refl
 
--- some octets of a record add no packet and stand behind the last one, or they are the record
+-- some octets of a record add no packet and stand after the last one, or they are the record
 pub file_packets-part : (file : Content) (octets : List ℕ) (sent : SentValue) (k : ℕ) → IsRecord octets sent → ends_with_record file ≡ true →
     ((file_packets (with_appended file (take k octets)) ≡ file_packets file)
     × ((j : ℕ) × (packet_part (with_appended file (take k octets)) ≡ take j octets)))

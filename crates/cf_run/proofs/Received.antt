@@ -98,7 +98,7 @@ module _ (assets : List Asset) (limit now place : ℕ) (from : Side) (packet : P
   abbrev pub after : Entry
   after = record { session = y; asset = x.asset; due = due }
 
-  -- the entries behind the call, by whether the session stays
+  -- the entries after the call, by whether the session stays
   abbrev pub entries_by : Bool → List Entry
   entries_by true = slice_set entries place after
   entries_by false = remove entries place

@@ -57,7 +57,7 @@ in_time least used r early = grind (arith, nat_tests)
 pub too_late : (least used : ℕ) (r : Record) → 2 ^ 32 * 1000000 ≤ moment_from least r → timed least (Fits r used) ≡ Clock
 too_late least used r late = grind (arith, nat_tests)
 
--- behind blocks that are passed over stand the records that stand before them
+-- after blocks that are passed over stand the records that stand before them
 passed_back : (all : List ℕ) (count : ℕ) (old form : Form) (least from place : ℕ) (rs : List Record) (last : LastPlace) → PassesTo all count old from form place →
     AreTimed form least place (drop place all) rs last → AreTimed old least from (drop from all) rs last
 passed_back all zero old form least from place rs last (same, here) are =
@@ -130,8 +130,8 @@ whole_first out log content o l = rw (record_end_first (content out) o, line_end
 
 -- ---- the loop
 
--- what holds of the files before and now, behind the records that were read, where the next moment is this one at least: each was
--- an event, and what they sent and logged was put behind the header of the one file and into the empty other
+-- what holds of the files before and now, after the records that were read, where the next moment is this one at least: each was
+-- an event, and what they sent and logged was put after the header of the one file and into the empty other
 pub record SoFar (assets : List Asset) (limit : ℕ) (names : RunNamesValue) (before now : List ℕ → Content) (start : Form) (least : ℕ)
     (reader : ReaderValue) (engine : EngineValue) : Type 0 where
   pub has_form : HasForm (before names.capture) (Ok start)
@@ -227,7 +227,7 @@ module _ {assets : List Asset} {limit : ℕ} {names : RunNamesValue} {before now
           are_inputs = ap (λ i. inputs_of a.events ++ i ∷ []) same_input ∙ sym (a.given (r ∷ []));
         }
 
-    -- what is told of the files, behind the events so far
+    -- what is told of the files, after the events so far
     told_behind : (packets : List Sent) (lines : List (List ℕ)) → files_told names.out names.log after ≡ with_both (files_told names.out names.log files) packets lines →
         files_told names.out names.log after ≡ with_both (files_told names.out names.log before) (sent a.events ++ packets) (logged a.events ++ lines)
     told_behind packets lines h =
@@ -294,7 +294,7 @@ module _ {assets : List Asset} {limit : ℕ} {names : RunNamesValue} {before now
         } in
         subst (λ f. LeavesRun assets limit names before f a.records engine.summary) (sym still) held
 
-    -- something else stands behind them
+    -- something else stands after them
     pub runs_to : (found : AtPlace) {files : List ℕ → Content} {last : AtPlace} {place : ℕ} {summary : Summary} → files ≡ now → (at : ℕ) → StandsBehind (now names.capture) reader at found →
         timed least found ≡ last → IsLast last → place ≡ at → summary ≡ engine.summary → RunsTo assets limit names before files last place summary
     runs_to found {files} {last} {place} {summary} still at stands e is p s =

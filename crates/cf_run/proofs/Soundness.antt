@@ -54,7 +54,7 @@ lives life.Closed h = tt
 lives life.Expired h = cc
 lives (life.Cut because) h = cc
 
--- the session at a place, and the lists before and behind it
+-- the session at a place, and the lists before and after it
 pub first_of : (table : List Entry) (place : ℕ) → place < length table →
     (entry : Entry) × (slice_get table place ≡ Some entry) × (drop place table ≡ entry ∷ drop (place + 1) table) × (take (place + 1) table ≡ take place table ++ entry ∷ [])
 first_of [] place h = absurd (omega (arith, h))

@@ -271,6 +271,6 @@ drop-removed xs i h =
     let size : length (take i xs) ≡ i = length-take-le i xs (omega arith) in
     ap (drop i) (removed_is xs i) ∙ ap (λ n. drop n (take i xs ++ drop (i + 1) xs)) (sym size) ∙ drop-append_seam (take i xs) (drop (i + 1) xs)
 
--- the lists before and behind a place fix what is left without it
+-- the lists before and after a place fix what is left without it
 pub removed_same : {A : Type 0} (xs ys : List A) (i : ℕ) → take i xs ≡ take i ys → drop (i + 1) xs ≡ drop (i + 1) ys → remove xs i ≡ remove ys i
 removed_same xs ys i front back = removed_is xs i ∙ ap (λ l. l ++ drop (i + 1) xs) front ∙ ap (λ l. take i ys ++ l) back ∙ sym (removed_is ys i)

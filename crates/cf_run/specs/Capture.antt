@@ -81,7 +81,7 @@ by_size (Needs count) place octets found = Cut
 by_size (Refuses number) place octets found = refused_by number
 by_size (Is one used) place octets found = if is_past place used octets then Large else by_block found
 
--- the tests of the block at a place, behind those of its section, in their order, without that of a packet's moment: its type and its
+-- the tests of the block at a place, after those of its section, in their order, without that of a packet's moment: its type and its
 -- first length stand in its first eight octets
 abbrev pub section_at : Section → ℕ → List ℕ → AtPlace
 section_at section place octets =
@@ -91,11 +91,12 @@ section_at section place octets =
 
 -- ---- both
 
+-- what stands at a place of a file, in either form
 abbrev pub at_place : Form → ℕ → List ℕ → AtPlace
 at_place (form.Classic header) place octets = classic_at header place octets
 at_place (form.Blocks section) place octets = section_at section place octets
 
--- the form as it is behind what stands there: a block may begin a section, or describe an interface
+-- the form as it is after what stands there: a block may begin a section, or describe an interface
 abbrev pub form_behind : Form → List ℕ → Form
 form_behind (form.Classic header) octets = form.Classic header
 form_behind (form.Blocks section) octets = form.Blocks (after_found section (block_at section octets))
@@ -105,6 +106,7 @@ pub record LastPlace : Type 0 where
   pub place : ℕ
   pub found : AtPlace
 
+-- it ends the records: neither a record nor a block that is passed over
 abbrev pub IsLast : AtPlace → Type 0
 IsLast (Fits r used) = ⊥
 IsLast (Passes used) = ⊥

@@ -1,4 +1,4 @@
--- How a summary in memory counts one event: counted. It is what `Summary` says of the events. This project's own.
+-- Steps of the proof: how a summary in memory counts one event: `counted`. It is what `Summary` says of the events.
 use Rattle.std.specs.Prelude.{ℕ, ◌+◌}
 use Rattle.cf_run.specs.Summary.{capped}
 use Rattle.cf_run.specs.declared.second_half.Outcome.{Outcome}

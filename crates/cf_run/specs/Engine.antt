@@ -1,4 +1,4 @@
--- What the sessions in memory stand for: AreAll; and what the first half of an event does to them: TickAll. This project's own.
+-- Steps of the proof: what the sessions in memory stand for, `AreAll`, and what the first half of an event does to them, `TickAll`.
 use Rattle.std.specs.Prelude.{◌≡◌, ℕ, Bool, true, false, ◌+◌, ◌≤◌, List, [], ◌∷◌, ◌++◌, take, drop, count_by, slice_get, None, Some}
 use Rattle.std.specs.List.{All, flat_map}
 use Rattle.cf_leg.specs.Event.{moment}

@@ -1,5 +1,5 @@
--- What the code makes of the sessions in memory: where one stands, and what a packet is to them. It is what `Table` says of the
--- sessions that they stand for. This project's own.
+-- What the code makes of the sessions in memory, `entry_match`: where one stands, and what a packet is to them. It is what `Table` says
+-- of the sessions that they stand for.
 use Rattle.std.specs.Prelude.{ℕ, ◌-◌, nat_lt, Bool, true, false, ◌&&◌, if◌then◌else◌, List, length, position, slice_get, Option, Some, None}
 use Rattle.std.specs.List.{remove}
 use Rattle.std.specs.Option.{is_some}

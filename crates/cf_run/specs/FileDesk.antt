@@ -1,4 +1,4 @@
--- What a desk over two files tells: file_desk. This project's own.
+-- Steps of the proof: what a desk over two files tells: `file_desk`.
 use Rattle.std.specs.Prelude.{ℕ, ◌&&◌, not, Bool, true, None, Some, List, [], ◌∷◌, bytes_eq}
 use Rattle.std.specs.Borrow.{GName}
 use Rattle.cf_outside.specs.Desk.{DeskValue}

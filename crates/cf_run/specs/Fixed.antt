@@ -1,4 +1,4 @@
--- The records fix a run: RecordsFixRuns. This project's own.
+-- The records fix a run: RecordsFixRuns.
 use Rattle.std.specs.Prelude.{◌≡◌, ℕ, List}
 use Rattle.cf_policy.specs.declared.Asset.{Asset}
 use Rattle.cf_run.specs.Run.{IsRun, inputs_of}

@@ -31,7 +31,7 @@ form_of octets =
     else Ok (form.Blocks no_section))
     else classic_form (header_of octets)
 
--- where the first record or block stands: behind the header of a classic file, and at the front of a pcapng file, whose first
+-- where the first record or block stands: after the header of a classic file, and at the front of a pcapng file, whose first
 -- section header is its first block
 abbrev pub first_place : Form → ℕ
 first_place (form.Classic found) = 24

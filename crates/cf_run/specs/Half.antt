@@ -1,4 +1,4 @@
--- A half of an event, and what the desk has that failed amid it: IsHalfOf and BreaksHalf. This project's own.
+-- A half of an event, and what the desk has that failed amid it: IsHalfOf and BreaksHalf.
 use Rattle.std.specs.Prelude.{◌≡◌, ◌⊎◌, ◌-◌, ℕ, List, [], ◌++◌, slice_get, Result, Ok, Err}
 use Rattle.std.specs.List.{concat, flat_map}
 use Rattle.cf_outside.specs.Desk.{DeskValue}
@@ -45,7 +45,7 @@ abbrev pub BeginsSession : List Asset → List Session → Result PacketValue Pa
 BeginsSession assets table (Err refusal) = ⊥
 BeginsSession assets table (Ok packet) = (flow : Flow) × (match_of assets table packet ≡ Begins flow)
 
--- that first half, where the packet behind it begins a session
+-- that first half, where the packet after it begins a session
 pub record IsHalfBeforeBeginning (assets : List Asset) (before : List Session) (input : Input) (half : Half) : Type 0 where
   pub ticks : List SessionEvent
   pub are : AreTicks (tick_of input) (kept (tick_of input) before) ticks
@@ -56,6 +56,7 @@ pub record IsHalfBeforeBeginning (assets : List Asset) (before : List Session) (
 abbrev pub IsSecondHalf : List Asset → (limit : ℕ) → List Session → Input → Half → Type 0
 IsSecondHalf assets limit before input half = (event : Event) × (event.input ≡ input) × IsEvent assets limit before event × (half ≡ second_half before event)
 
+-- a half that the event of a record may have at this table
 abbrev pub IsHalfOf : List Asset → (limit : ℕ) → List Session → Input → Half → Type 0
 IsHalfOf assets limit before input half = IsFirstHalf before input half ⊎ IsSecondHalf assets limit before input half
 

@@ -1,12 +1,12 @@
 -- The headline, of all sessions of a run at every moment: HasHeadline. Read this file first.
 --
--- In one session all segments that went towards the controller carry one letter per place of its stream, so whatever copies it
--- takes, it puts together a beginning of one stream; and that decodes to the first of what was let through to it, in order, and
--- then to a proper prefix of the next. What was let through is the list `passed` of the items that the policy's meaning judged;
--- these are the items of all letters that were taken of the client by first copies (`cf_session`, `AreTaken`), and of what the
--- controller sent. And it is said how far: where its last event did not cut a session, each open end has sent as many letters as its
--- stream has below the greatest edge that its peer showed. Amid an event an end has sent fewer of the same segments, in their order,
--- and what is put together of fewer segments is put together of all (`cf_session`, `FewerPartsAreEnough`). This project's own.
+-- In one session all segments that went towards the controller carry one letter per place of its stream, so whatever copies it takes,
+-- it puts together a beginning of one stream; and that decodes to the first of what was let through to it, in order, and then to a
+-- proper prefix of the next. What was let through is the list `passed` of the items that the policy's meaning judged; these are the
+-- items of all letters that were taken of the client by first copies (`cf_session`, `AreTaken`), and of what the controller sent. And
+-- it is said how far: where its last event did not cut a session, each open end has sent as many letters as its stream has below the
+-- greatest edge that its peer showed. Amid an event an end has sent fewer of the same segments, in their order, and what is put
+-- together of fewer segments is put together of all (`cf_session`, `FewerPartsAreEnough`).
 use Rattle.std.specs.Prelude.{◌≡◌, ℕ, ◌^◌, ◌≤◌, false, List, [], ◌∷◌}
 use Rattle.cf_decode.specs.Laws.{MakesFirstOf}
 use Rattle.cf_decode.specs.Passed.{passed}

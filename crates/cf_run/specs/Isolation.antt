@@ -1,5 +1,5 @@
--- Isolation: what is matched to a session fixes all that it sends and logs, whatever else the capture holds. The main definition
--- is RunsIsolateSessions, read from the end. This project's own.
+-- Isolation, `RunsIsolateSessions`, read from the end: what is matched to a session fixes all that it sends and logs, whatever else the
+-- capture holds.
 --
 -- A session is named by its client and its asset's endpoint: a table has at most one of them. Lists of events have the newest one
 -- first.
@@ -35,6 +35,7 @@ matched_by client asset table packet (Begins flow) = None
 matched_by client asset table packet Full = None
 matched_by client asset table packet Outside = None
 
+-- the packet of a record, where it is matched to the session of this client and asset
 abbrev pub matched_in : List Asset → (client asset : Endpoint) → List Session → Result PacketValue PacketRefusal → Option PacketValue
 matched_in assets client asset table (Err refusal) = None
 matched_in assets client asset table (Ok packet) = matched_by client asset table packet (match_of assets table packet)
@@ -86,7 +87,7 @@ NoneBegins client asset (event ∷ earlier) = (begins_theirs client asset event.
 pub record HasSession (flow : Flow) (events : List Event) : Type 0 where
   -- the events after those that are considered
   pub after : List Event
-  -- those that are considered, behind the one in which it begins
+  -- those that are considered, after the one in which it begins
   pub later : List Event
   pub first : Event
   -- the events before it begins
@@ -102,6 +103,7 @@ sent_over client asset first earlier [] = sent_in_second first
 sent_over client asset first earlier (event ∷ later) =
     sent_over client asset first earlier later ++ sent_by client asset (table_after (later ++ first ∷ earlier)) event
 
+-- what a session sent in the events from its beginning on
 abbrev pub session_sent : {events : List Event} → (flow : Flow) → HasSession flow events → List Sent
 session_sent flow has = sent_over (client_of flow) flow.asset.endpoint has.first has.earlier has.later
 
@@ -111,12 +113,13 @@ logged_over client asset first earlier [] = logged_in_second (table_after earlie
 logged_over client asset first earlier (event ∷ later) =
     logged_over client asset first earlier later ++ logged_by client asset (table_after (later ++ first ∷ earlier)) event
 
+-- what a session logged in the events from its beginning on
 abbrev pub session_logged : {events : List Event} → (flow : Flow) → HasSession flow events → List (List ℕ)
 session_logged flow has = logged_over (client_of flow) flow.asset.endpoint has.first has.earlier has.later
 
 -- ---- two runs
 
--- at each of the events behind the beginning the same packet is matched to both sessions, or none to either
+-- at each of the events after the beginning the same packet is matched to both sessions, or none to either
 abbrev pub AreMatched : List Asset → (client asset : Endpoint) → (here there : List Event) → (events others : List Event) → Type 0
 AreMatched assets client asset here there [] [] = Unit {0}
 AreMatched assets client asset here there [] (other ∷ others) = ⊥
@@ -125,10 +128,12 @@ AreMatched assets client asset here there (event ∷ events) (other ∷ others) 
     (matched_to assets client asset (table_after (events ++ here)) event ≡ matched_to assets client asset (table_after (others ++ there)) other)
     × AreMatched assets client asset here there events others
 
+-- in each event after their beginning both sessions are matched the same packet, or none
 abbrev pub AreMatchedAlike : {events others : List Event} → List Asset → (flow : Flow) → HasSession flow events → HasSession flow others → Type 0
 AreMatchedAlike assets flow one other =
     AreMatched assets (client_of flow) flow.asset.endpoint (one.first ∷ one.earlier) (other.first ∷ other.earlier) one.later other.later
 
+-- the moments of records
 abbrev pub moments_of : List Input → List ℕ
 moments_of inputs = map (λ i. i.moment) inputs
 

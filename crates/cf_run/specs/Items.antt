@@ -1,5 +1,4 @@
--- Items that follow each other in octets, each spelled by octets of which no beginning spells one: items_from. This project's
--- own.
+-- Steps of the proof: items that follow each other in octets, each spelled by octets of which no beginning spells one: `items_from`.
 use Rattle.std.specs.Prelude.{ℕ, Option, None, Some, List, [], ◌∷◌, ◌++◌}
 
 -- the items, by what the octets since the last item are
@@ -7,13 +6,13 @@ abbrev pub next_item : {A : Type 0} → Option A → List A → List A → List 
 next_item None more fresh = more
 next_item (Some item) more fresh = item ∷ fresh
 
--- the items of octets behind a part of one, by what spells an item
+-- the items of octets after a part of one, by what spells an item
 abbrev pub items_from : {A : Type 0} → (List ℕ → Option A) → List ℕ → List ℕ → List A
 items_from unit part [] = []
 items_from unit part (octet ∷ octets) =
     next_item (unit (part ++ octet ∷ [])) (items_from unit (part ++ octet ∷ []) octets) (items_from unit [] octets)
 
--- what stands behind the last item
+-- what stands after the last item
 abbrev pub next_part : {A : Type 0} → Option A → List ℕ → List ℕ → List ℕ
 next_part None more fresh = more
 next_part (Some item) more fresh = fresh

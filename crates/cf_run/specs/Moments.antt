@@ -1,4 +1,4 @@
--- The moments of a file's records: moments; and its records where each is tested with its moment: AreTimed. This project's own.
+-- The moments of a file's records: moments; and its records where each is tested with its moment: AreTimed.
 use Rattle.std.specs.Prelude.{◌≡◌, ℕ, ◌+◌, ◌*◌, ◌^◌, max, nat_lt, if◌then◌else◌, List, [], ◌∷◌, drop, Option, Some, None}
 use Rattle.cf_pcap.specs.Record.{moment_limit}
 use Rattle.cf_run.specs.Capture.{AtPlace, Clock, Cut, FileEnd, Fits, IsLast, Large, LastPlace, Passes, Record, Refused, TooLong, at_place, form_behind, records_among}
@@ -44,6 +44,7 @@ AreTimedPieces file_form least place octets (None ∷ more) last =
     (used : ℕ) × (timed least (at_place file_form place octets) ≡ Passes used)
     × AreTimedPieces (form_behind file_form octets) least (place + used) (drop used octets) more last
 
+-- these are the records, each tested with its moment, of which none is below the least one
 abbrev pub AreTimed : Form → (least place : ℕ) → List ℕ → List Record → LastPlace → Type 0
 AreTimed file_form least place octets records last =
     (pieces : List (Option Record)) × AreTimedPieces file_form least place octets pieces last × (records ≡ records_among pieces)

@@ -40,7 +40,7 @@ file_packets untold = None
 file_packets absent = None
 file_packets (holds all) = if has_header all then Some (items_from packet_in [] (drop 24 all)) else None
 
--- what stands behind its last whole record, as far as it is told
+-- what stands after its last whole record, as far as it is told
 abbrev pub packet_part : Content → List ℕ
 packet_part untold = []
 packet_part absent = []

@@ -1,4 +1,4 @@
--- What is read at one place of a file: FindsPiece.
+-- Steps of the proof: what is read at one place of a file: `FindsPiece`.
 use Rattle.std.specs.Prelude.{◌≡◌, ℕ, ◌+◌, ◌^◌, ◌<◌, ◌≤◌, false, List, drop, length, slice_range, Result, Ok, Err}
 use Rattle.cf_outside.specs.Files.{Content, untold, absent, holds}
 use Rattle.cf_pcap.specs.Record.{captured_at}
@@ -23,7 +23,7 @@ EndsAs next.Large found = found ≡ Large
 EndsAs next.Failed found = ⊥
 EndsAs (next.Whole stamp) found = ⊥
 
--- a piece says what stands at a place of octets, and the form is then what it is behind it; a failed read leaves it as it was
+-- a piece says what stands at a place of octets, and the form is then what it is after it; a failed read leaves it as it was
 abbrev pub PieceAs : (old : Form) → ℕ → List ℕ → (new : Form) → (buffer : List ℕ) → Piece → Type 0
 PieceAs old place octets new buffer (piece.Record stamp link from to used) =
     (at_place old place octets ≡ Fits (record { stamp = stamp; link = link; body = slice_range buffer from to }) used) × (new ≡ form_behind old octets)
@@ -62,7 +62,7 @@ IsNoRecord (next.Refused refusal) = Unit {0}
 IsNoRecord next.Large = Unit {0}
 IsNoRecord next.Failed = Unit {0}
 
--- behind a record a reader goes on
+-- after a record a reader goes on
 abbrev pub GoesOn : NextRecord → (from to : ℕ) → Type 0
 GoesOn (next.Whole stamp) from to = from < to
 GoesOn next.End from to = from ≤ to

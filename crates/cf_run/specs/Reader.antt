@@ -1,4 +1,4 @@
--- What a reader of a capture file finds: OpensAs and FindsRecord. This project's own.
+-- What a reader of a capture file finds: OpensAs and FindsRecord.
 use Rattle.std.specs.Prelude.{◌≡◌, ℕ, zero, suc, ◌+◌, List, drop, Result, Ok, Err}
 use Rattle.cf_outside.specs.Files.{Content, untold, absent, holds}
 use Rattle.cf_view.specs.declared.LinkKind.{LinkKind}
@@ -11,8 +11,8 @@ use Rattle.cf_run.specs.declared.record_reader.NextRecord.TheVariants as next
 use Rattle.cf_run.specs.declared.record_reader.OpenFault.{OpenFault}
 use Rattle.cf_run.specs.declared.record_reader.OpenFault.TheVariants as fault
 
--- what a contract sees of a `RecordReader`: the form of its file as its octets so far tell it, where the next record or block begins, and the
--- link kind and the captured octets of the last record
+-- what a contract sees of a `RecordReader`: the form of its file as its octets so far tell it, where the next record or block begins,
+-- and the link kind and the captured octets of the last record
 pub record ReaderValue : Type 0 where
   pub form : Form
   pub place : ℕ
@@ -44,7 +44,7 @@ module _ (all : List ℕ) where
   StopsAt old new found =
       (count : ℕ) × PassesTo count old.form old.place new.form new.place × (at_place new.form new.place (drop new.place all) ≡ found)
 
-  -- what it finds is what stands there; behind a record it goes on
+  -- what it finds is what stands there; after a record it goes on
   abbrev pub Finds : (old new : ReaderValue) → NextRecord → Type 0
   Finds old new (next.Whole stamp) =
       (count : ℕ) × (file_form : Form) × (place : ℕ) × (used : ℕ) × PassesTo count old.form old.place file_form place

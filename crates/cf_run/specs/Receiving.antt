@@ -1,4 +1,4 @@
--- What the second half of an event does to the sessions in memory: ReceivesOne. This project's own.
+-- Steps of the proof: what the second half of an event does to the sessions in memory: `ReceivesOne`.
 use Rattle.std.specs.Prelude.{◌≡◌, ℕ, ◌+◌, ◌-◌, ◌≤◌, ◌&&◌, Bool, true, List, [], ◌∷◌, Option, Some, None, Result, Ok, Err, filter, slice_get}
 use Rattle.std.specs.Option.{is_some}
 use Rattle.cf_packet.specs.Packet.{PacketValue}

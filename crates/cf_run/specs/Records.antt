@@ -1,4 +1,4 @@
--- Laws of the records of a capture file and of their moments, of either form.
+-- Laws of the records of a capture file, `HaveOneList`, and of their moments, `HaveOneTimedList`, of either form.
 use Rattle.std.specs.Prelude.{◌≡◌, ℕ, ◌+◌, ◌*◌, ◌^◌, ◌<◌, max, List, [], ◌∷◌, slice_get, Some}
 use Rattle.cf_run.specs.Capture.{AreRecords, LastPlace, Record}
 use Rattle.cf_run.specs.Moments.{AreTimed, first_moment, moments}
@@ -17,6 +17,7 @@ HaveOneList =
     (file_form : Form) (place : ℕ) (octets : List ℕ) (rs ss : List Record) (e g : LastPlace) →
     AreRecords file_form place octets rs e → AreRecords file_form place octets ss g → (rs ≡ ss) × (e ≡ g)
 
+-- octets have one list of timed records, and one end
 abbrev pub HaveOneTimedList : Type 0
 HaveOneTimedList =
     (file_form : Form) (least place : ℕ) (octets : List ℕ) (rs ss : List Record) (e g : LastPlace) →

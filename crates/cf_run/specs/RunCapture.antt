@@ -1,4 +1,4 @@
--- A run over a capture file: RunsAs says what its answer means, and what then stands in the files. This project's own.
+-- A run over a capture file: RunsAs says what its answer means, and what then stands in the files.
 use Rattle.std.specs.Prelude.{◌≡◌, ◌≢◌, ◌⊎◌, ℕ, List, [], ◌∷◌, ◌++◌, drop, take, Result, Ok, Err}
 use Rattle.std.specs.List.{concat}
 use Rattle.cf_outside.specs.Desk.{IsNoneOf}
@@ -96,7 +96,7 @@ module _ (assets : List Asset) (limit : ℕ) (names : RunNamesValue) (before aft
     pub are_records : HasRecords (before names.capture) form records (record { place = place; found = found })
     pub leaves : LeavesRun records summary
 
-  -- a read failed behind records that were run over
+  -- a read failed after records that were run over
   pub record RunsPartly : Type 0 where
     pub form : Form
     pub has_form : HasForm (before names.capture) (Ok form)
@@ -129,7 +129,7 @@ module _ (assets : List Asset) (limit : ℕ) (names : RunNamesValue) (before aft
     pub octets_log : ℕ
     pub in_log : HoldsOctets (before names.log) (after names.log) (concat (logged events ++ half.logged_before) ++ take octets_log (concat half.logged))
 
-  -- memory ran out behind the first half of that event, where its packet begins a session
+  -- memory ran out after the first half of that event, where its packet begins a session
   pub record StopsBetween : Type 0 where
     pub events : List Event
     pub input : Input

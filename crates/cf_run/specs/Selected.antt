@@ -1,5 +1,5 @@
--- The output of an event, selected by its moments: IsSelected. So the file of what was sent, read by moments alone, is the list
--- of what the events sent. This project's own.
+-- The output of an event, selected by its moments: IsSelected. So the file of what was sent, read by moments alone, is the list of what
+-- the events sent.
 use Rattle.std.specs.Prelude.{◌≡◌, ℕ, ◌+◌, ◌≤◌, ◌==◌, List, [], ◌∷◌, filter}
 use Rattle.cf_policy.specs.declared.Asset.{Asset}
 use Rattle.cf_session.specs.Sent.{Sent}
@@ -9,6 +9,7 @@ use Rattle.cf_run.specs.Trace.{AreEvents, Event, sent, sent_in_first, sent_in_se
 abbrev pub with_moment : ℕ → List Sent → List Sent
 with_moment moment all = filter (λ s. s.moment == moment) all
 
+-- the moment of the newest event, 0 where there is none
 abbrev pub last_moment : List Event → ℕ
 last_moment [] = 0
 last_moment (event ∷ earlier) = event.input.moment

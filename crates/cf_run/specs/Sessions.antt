@@ -1,5 +1,4 @@
--- All sessions of a run, and what holds of each: SessionsAreRight, SessionsHaveOneStream and SessionsAreIsolated. This project's
--- own.
+-- All sessions of a run, and what holds of each: SessionsAreRight, SessionsHaveOneStream and SessionsAreIsolated.
 use Rattle.std.specs.Prelude.{◌≡◌, ℕ, ◌^◌, ◌≤◌, Bool, not, List, [], ◌∷◌, ◌++◌, filter, map, slice_get, Option, None, Some}
 use Rattle.cf_policy.specs.declared.Asset.{Asset}
 use Rattle.cf_session.specs.Event.{AreEvents as AreSessionEvents}
@@ -11,6 +10,7 @@ use Rattle.cf_run.specs.Trace.{AreEvents, Begun, Event, Received, Went, kept, st
 
 -- ---- those in the table, and those that left it
 
+-- the session's last event cut it, so that it leaves the table
 abbrev pub leaves : Session → Bool
 leaves session = not (stays session)
 
@@ -32,6 +32,7 @@ left_in table event =
     ++ (filter leaves (with_events (kept (tick_of event.input) table) event.ticks)
     ++ left_by_packet event.received (ticked event.ticks (tick_of event.input) table))
 
+-- the sessions that left the table in some events, in the order in which they left
 abbrev pub gone_after : List Event → List Session
 gone_after [] = []
 gone_after (event ∷ earlier) = gone_after earlier ++ left_in (table_after earlier) event
@@ -50,6 +51,7 @@ HasEvents limit flow (event ∷ earlier) = AreSessionEvents flow limit (event �
 abbrev pub IsRight : (limit : ℕ) → Session → Type 0
 IsRight limit session = HasEvents limit session.flow session.events
 
+-- so it is of each session of a list
 abbrev pub Each : (Session → Type 0) → List Session → Type 0
 Each P [] = Unit {0}
 Each P (session ∷ table) = P session × Each P table
@@ -72,6 +74,7 @@ SessionsHaveOneStream = (assets : List Asset) (limit : ℕ) (events : List Event
 -- ---- isolation: a session of one run and one of another that have one flow and are given the same packets at the same moments
 -- are the same in all that they send and log, whatever else the two captures hold
 
+-- two sessions have one flow, and are given the same packets at the same moments
 pub record AreAlike (one other : Session) : Type 0 where
   pub flow : one.flow ≡ other.flow
   pub same : map given one.events ≡ map given other.events

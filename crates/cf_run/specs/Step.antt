@@ -1,4 +1,4 @@
--- One event over the table in memory: Steps; and what an engine stands for: IsEngineOf. This project's own.
+-- Steps of the proof: one event over the table in memory, `Steps`; and what an engine stands for, `IsEngineOf`.
 use Rattle.std.specs.Prelude.{◌≡◌, ◌≤◌, ◌-◌, ◌^◌, ℕ, List, ◌∷◌, ◌++◌, Result, count_by, length}
 use Rattle.cf_packet.specs.Packet.{PacketValue}
 use Rattle.cf_packet.specs.declared.packet.PacketRefusal.{PacketRefusal}

@@ -1,4 +1,4 @@
--- What is counted over events: summary_of. This project's own.
+-- What is counted over events: summary_of.
 use Rattle.std.specs.Prelude.{ℕ, ◌+◌, ◌-◌, ◌^◌, min, Bool, true, false, if◌then◌else◌, List, [], ◌∷◌, length, count_by, Option, Some, None, slice_get}
 use Rattle.cf_session.specs.Session.{work_of}
 use Rattle.cf_session.specs.Work.{Work, no_work}
@@ -6,6 +6,7 @@ use Rattle.cf_run.specs.Table.{Session}
 use Rattle.cf_run.specs.Trace.{Begun, Dropped, Event, NoRoom, NoSession, Received, Went, behind, is_cut, table_after, tick_of, ticked}
 use Rattle.cf_run.specs.declared.summary.Summary.{Summary}
 
+-- 1 where it holds, and else 0
 abbrev pub one_if : Bool → ℕ
 one_if holds = if holds then 1 else 0
 
@@ -14,6 +15,7 @@ abbrev pub work_before : Option Session → Work
 work_before None = no_work
 work_before (Some session) = work_of (behind session.events)
 
+-- how many more commands of a kind the packet's session has after the event than before it
 abbrev pub decided_in : (Work → ℕ) → List Session → Received → ℕ
 decided_in count table (Went place event) = count event.work - count (work_before (slice_get table place))
 decided_in count table _ = 0
@@ -24,26 +26,32 @@ decided_in count table _ = 0
 abbrev pub found : List Session → Event → List Session
 found before event = ticked event.ticks (tick_of event.input) before
 
+-- the record was no packet
 abbrev pub was_dropped : Received → Bool
 was_dropped Dropped = true
 was_dropped _ = false
 
+-- the packet was of no session
 abbrev pub was_outside : Received → Bool
 was_outside NoSession = true
 was_outside _ = false
 
+-- the packet would have begun a session, and the table was full
 abbrev pub found_no_room : Received → Bool
 found_no_room NoRoom = true
 found_no_room _ = false
 
+-- the packet began a session
 abbrev pub has_begun : Received → Bool
 has_begun (Begun flow event) = true
 has_begun _ = false
 
+-- the packet's session was cut
 abbrev pub was_cut : Received → Bool
 was_cut (Went place event) = is_cut event.cut
 was_cut _ = false
 
+-- how many sessions an event cut, in both of its halves
 abbrev pub cuts_in : List Session → Event → ℕ
 cuts_in before event = count_by (λ t. is_cut t.cut) event.ticks + one_if (was_cut event.received)
 
@@ -58,6 +66,7 @@ total count (event ∷ earlier) = total count earlier + count (table_after earli
 abbrev pub capped : ℕ → ℕ
 capped n = min n (2 ^ 64 - 1)
 
+-- the counts of events, each up to 2^64 - 1
 abbrev pub summary_of : List Event → Summary
 summary_of events = record {
   records = capped (length events);

@@ -1,5 +1,4 @@
--- The table of sessions, and to which of them a packet goes: match_of. The sessions stand in the order of their beginning. This
--- project's own.
+-- The table of sessions, and to which of them a packet goes: match_of. The sessions stand in the order of their beginning.
 use Rattle.std.specs.Prelude.{ℕ, ◌==◌, nat_lt, not, Bool, true, ◌&&◌, ◌||◌, if◌then◌else◌, List, length, find, position, slice_get, Option, Some, None}
 use Rattle.std.specs.List.{list_any, remove}
 use Rattle.cf_leg.specs.Segment.{has_ack, has_fin, has_rst, has_syn}
@@ -19,6 +18,7 @@ pub record Session : Type 0 where
 abbrev pub table_size : ℕ
 table_size = 256
 
+-- both have the same address and the same port
 abbrev pub same_endpoint : Endpoint → Endpoint → Bool
 same_endpoint a b = (a.address == b.address) && (a.port == b.port)
 
@@ -71,10 +71,12 @@ abbrev pub goes_from_controller : Option ℕ → Match
 goes_from_controller (Some place) = Goes place side.Controller
 goes_from_controller None = Outside
 
+-- the session of its client, where there is one
 abbrev pub goes_from_client : Option ℕ → (controller : Option ℕ) → Match
 goes_from_client (Some place) controller = Goes place side.Client
 goes_from_client None controller = goes_from_controller controller
 
+-- the session of a packet, by its two endpoints
 abbrev pub goes : List Session → PacketValue → Match
 goes table packet = goes_from_client (place_of packet.source packet.dest table) (place_of packet.dest packet.source table)
 
@@ -90,6 +92,7 @@ begins table packet (Some asset) =
     if is_closed_at table (place_of packet.source packet.dest table) then begins_or_full table (record { asset = asset; syn = packet })
     else goes table packet
 
+-- what a packet is to a table
 abbrev pub match_of : List Asset → List Session → PacketValue → Match
 match_of assets table packet =
     if may_begin assets packet then begins table packet (asset_at assets packet.dest) else goes table packet

@@ -1,5 +1,5 @@
--- What happens, record by record: each record of a capture is one event, which fires the timers that are due and then handles
--- the packet. The main definitions are `Event` and `AreEvents`, and `sent` and `logged`. This project's own.
+-- What happens, record by record: `Event` and `AreEvents`, and what is `sent` and `logged`. Each record of a capture is one event,
+-- which fires the timers that are due and then handles the packet.
 --
 -- Lists of events have the newest one first, so that what was before an event is the list after it.
 use Rattle.std.specs.Prelude.{◌≡◌, ℕ, zero, suc, ◌-◌, not, Bool, true, false, List, [], ◌∷◌, ◌++◌, filter, slice_get, Option, Some, None, Result, Ok, Err}
@@ -45,6 +45,7 @@ tick_of input = input.moment - 1
 
 -- ---- the table
 
+-- there is a cut
 abbrev pub is_cut : Option CutReason → Bool
 is_cut None = false
 is_cut (Some because) = true
@@ -54,6 +55,7 @@ abbrev pub ends_cut : List SessionEvent → Bool
 ends_cut [] = false
 ends_cut (event ∷ earlier) = is_cut event.cut
 
+-- the session's last event did not cut it
 abbrev pub stays : Session → Bool
 stays session = not (ends_cut session.events)
 
@@ -76,12 +78,13 @@ abbrev pub replaced : SessionEvent → List SessionEvent → List SessionEvent
 replaced event [] = event ∷ []
 replaced event (half ∷ earlier) = event ∷ earlier
 
+-- the table where the newest event of the session at this place went on
 abbrev pub with_event_at : (place : ℕ) → SessionEvent → List Session → List Session
 with_event_at place event [] = []
 with_event_at zero event (session ∷ table) = record session { events = replaced event session.events } ∷ table
 with_event_at (suc place) event (session ∷ table) = session ∷ with_event_at place event table
 
--- the table behind the packet: a new session stands last, and the closed one of its flow is gone; a session that was cut is gone
+-- the table after the packet: a new session stands last, and the closed one of its flow is gone; a session that was cut is gone
 abbrev pub after_received : Received → List Session → List Session
 after_received (Begun flow event) table = without (client_of flow) flow.asset.endpoint table ++ record { flow = flow; events = event ∷ [] } ∷ []
 after_received (Went place event) table = filter stays (with_event_at place event table)
@@ -105,6 +108,7 @@ abbrev pub GoesOnWith : (limit : ℕ) → Side → PacketValue → SessionEvent 
 GoesOnWith limit from packet event flow [] = ⊥
 GoesOnWith limit from packet event flow (half ∷ earlier) = IsPacket flow limit earlier half from packet event
 
+-- so it is of the session at a place
 abbrev pub GoesOnAt : (limit : ℕ) → Side → PacketValue → SessionEvent → Option Session → Type 0
 GoesOnAt limit from packet event None = ⊥
 GoesOnAt limit from packet event (Some session) = GoesOnWith limit from packet event session.flow session.events
@@ -117,10 +121,12 @@ Receives limit tick table packet (Goes place from) (Went at event) = (at ≡ pla
 Receives limit tick table packet Outside NoSession = Unit {0}
 Receives limit tick table packet _ _ = ⊥
 
+-- a record without a packet is dropped
 abbrev pub ReceivesRecord : List Asset → (limit tick : ℕ) → List Session → Result PacketValue PacketRefusal → Received → Type 0
 ReceivesRecord assets limit tick table (Err refusal) received = received ≡ Dropped
 ReceivesRecord assets limit tick table (Ok packet) received = Receives limit tick table packet (match_of assets table packet) received
 
+-- an event is right after the table before it: each session has its first half, and the packet is received
 pub record IsEvent (assets : List Asset) (limit : ℕ) (before : List Session) (event : Event) : Type 0 where
   pub ticks : AreTicks (tick_of event.input) (kept (tick_of event.input) before) event.ticks
   pub received : ReceivesRecord assets limit (tick_of event.input) (ticked event.ticks (tick_of event.input) before) event.input.packet event.received
@@ -138,19 +144,23 @@ logged_ticks [] events = []
 logged_ticks (session ∷ table) [] = []
 logged_ticks (session ∷ table) (event ∷ events) = logged_first session.flow event ++ logged_ticks table events
 
+-- what is sent in the second half
 abbrev pub sent_received : Received → List Sent
 sent_received (Begun flow event) = sent_second event
 sent_received (Went place event) = sent_second event
 sent_received _ = []
 
+-- the earlier events, without the newest one
 abbrev pub behind : List SessionEvent → List SessionEvent
 behind [] = []
 behind (event ∷ earlier) = earlier
 
+-- the lines of the second half of a session at a place
 abbrev pub logged_at : Option Session → SessionEvent → List (List ℕ)
 logged_at None event = []
 logged_at (Some session) event = logged_second session.flow (behind session.events) event
 
+-- the lines of the second half
 abbrev pub logged_received : List Session → Received → List (List ℕ)
 logged_received table (Begun flow event) = logged_second flow [] event
 logged_received table (Went place event) = logged_at (slice_get table place) event
@@ -160,12 +170,15 @@ logged_received table _ = []
 abbrev pub sent_in_first : Event → List Sent
 sent_in_first event = flat_map sent_first event.ticks
 
+-- what is sent in the second half of an event
 abbrev pub sent_in_second : Event → List Sent
 sent_in_second event = sent_received event.received
 
+-- the lines of the first half of an event
 abbrev pub logged_in_first : (before : List Session) → Event → List (List ℕ)
 logged_in_first before event = logged_ticks (kept (tick_of event.input) before) event.ticks
 
+-- the lines of the second half of an event
 abbrev pub logged_in_second : (before : List Session) → Event → List (List ℕ)
 logged_in_second before event = logged_received (ticked event.ticks (tick_of event.input) before) event.received
 
@@ -174,6 +187,7 @@ abbrev pub sent : List Event → List Sent
 sent [] = []
 sent (event ∷ earlier) = sent earlier ++ (sent_in_first event ++ sent_in_second event)
 
+-- all lines of events, the oldest first
 abbrev pub logged : List Event → List (List ℕ)
 logged [] = []
 logged (event ∷ earlier) = logged earlier ++ (logged_in_first (table_after earlier) event ++ logged_in_second (table_after earlier) event)

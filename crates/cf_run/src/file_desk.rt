@@ -11,7 +11,7 @@ use cf_view::push_bytes;
 
 /// Writes packets to one file and lines to another, through lent files, with one append a call, and counts their failed
 /// writes. It is whole where `failed` is false, the two names differ, OUT has a header and whole records alone, and nothing
-/// stands behind the last line feed of the log. This project's own.
+/// stands after the last line feed of the log. This project's own.
 #[derive(Drop)]
 pub struct FileDesk<'a, F> {
     /// The files that it writes through.

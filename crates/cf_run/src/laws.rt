@@ -27,7 +27,7 @@ pub fn moments_rise()
     ensures first { BeginAtTwo }
     ensures next { GoOnByTwo }
     ensures below { StayBelowTheLimit }
-    // A record at 4294967295.999999 seconds is the last one: whatever stands behind it is refused.
+    // A record at 4294967295.999999 seconds is the last one: whatever stands after it is refused.
     ensures last { NoneAfterTheLastMoment }
 {}
 

@@ -151,7 +151,7 @@ impl RecordReader {
         &self.buffer[self.from..self.to]
     }
 
-    /// Reads the next record, and goes on behind it. Blocks that are none are passed over. Changes no file. Where no record is there,
+    /// Reads the next record, and goes on after it. Blocks that are none are passed over. Changes no file. Where no record is there,
     /// the place is that of what is there.
     pub fn next<F: Files>(&mut self, files: &mut F, name: &str) -> NextRecord
         ensures found { FindsRecord (F.content files.old name.now) self.old self.new result }
@@ -188,7 +188,7 @@ impl RecordReader {
     }
 }
 
-/// Passes blocks over from a place on, and reads what stands behind them.
+/// Passes blocks over from a place on, and reads what stands after them.
 fn piece_behind<F: Files>(
     files: &mut F,
     name: &str,

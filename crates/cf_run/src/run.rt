@@ -100,7 +100,7 @@ impl From<StepFault> for RunFault {
 /// that were read give. After `NoMemory` no file is changed, or they have what these records give and the first half of the next
 /// event, whose packet would have begun a session. After `Write` a creation or the append of the header was not done, or they
 /// have what the records before give, what comes of the next event before one of its halves, and of that half a beginning:
-/// nothing is written behind the fault. After every other answer they have what the whole records before the place give.
+/// nothing is written after the fault. After every other answer they have what the whole records before the place give.
 pub fn run_capture<F: Files>(
     alloc: Global,
     policy: &Policy,

@@ -1,4 +1,4 @@
--- The assets as values: pump_asset, rtu_asset.
+-- Beside the proof: the assets of the tests as values: `pump_asset` and `rtu_asset`.
 use Rattle.std.specs.Prelude.{None, pos, [], ◌∷◌, codes}
 use Rattle.cf_policy.specs.declared.policy.Action.TheVariants.{Allow}
 use Rattle.cf_policy.specs.declared.policy.Asset.{Asset}

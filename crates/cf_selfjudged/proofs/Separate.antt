@@ -63,7 +63,7 @@ module _ (number asset : ℕ) (p : PacketValue) where
   some_pair [] i h = absurd (none-some i h)
   some_pair (w ∷ ws) i h = some_pair_by w ws (last_place p.source asset ws) (Mine w) i (some_pair ws) (none_pair ws) h
 
-  -- where there is a flow behind, the first one stays
+  -- where a flow follows, the first one stays
   behind_to : (w : Watched) (ws : List Watched) (i : ℕ) (o : Option Watched) → goes_to number asset (suc i) p o (w ∷ ws) ≡ w ∷ goes_to number asset i p o ws
   behind_to w ws i None = refl
   behind_to w ws i (Some f) = elim (cases_Bool (begins_anew p f)) [ inl a ↦ rw a refl | inr a ↦ rw a refl ]

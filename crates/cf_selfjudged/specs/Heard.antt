@@ -1,4 +1,4 @@
--- The watched flows of a capture of sent packets are those of these packets: WatchedAreHeard. This project's own.
+-- Steps of the proof: the watched flows of a capture of sent packets are those of these packets: `WatchedAreHeard`.
 use Rattle.std.specs.Prelude.{◌≡◌, ◌+◌, ℕ, List, [], ◌∷◌, map, reverse}
 use Rattle.std.specs.List.{AllByRecursion}
 use Rattle.cf_run.specs.Capture.{Record}

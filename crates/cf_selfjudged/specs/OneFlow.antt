@@ -1,4 +1,4 @@
--- What a watcher sees of one session: OneFlowIsUnobjected. This project's own.
+-- Steps of the proof: what a watcher sees of one session: `OneFlowIsUnobjected`.
 use Rattle.std.specs.Prelude.{◌≡◌, ◌≤◌, ◌^◌, ◌++◌, ℕ, List, [], ◌∷◌, map, Option, None}
 use Rattle.std.specs.List.{AllByRecursion}
 use Rattle.cf_leg.specs.Event.{LegEvent, sent_in}

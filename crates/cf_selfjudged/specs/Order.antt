@@ -1,4 +1,4 @@
--- No SYN stands behind a packet with ACK: SynsFirst. This project's own.
+-- Steps of the proof: no SYN comes after a packet with ACK: `SynsFirst`.
 use Rattle.std.specs.Prelude.{◌≡◌, ◌||◌, Bool, true, false, List, [], ◌∷◌}
 use Rattle.cf_leg.specs.Segment.{has_ack, has_syn}
 use Rattle.cf_packet.specs.Packet.{PacketValue}

@@ -1,5 +1,5 @@
--- The watched flows of one client and one asset, by the packets that go from the one to the other: pairs_on; and by the sessions whose
--- packets these are: sessions_on. This project's own.
+-- Steps of the proof: the watched flows of one client and one asset, by the packets that go from the one to the other, `pairs_on`; and
+-- by the sessions whose packets these are, `sessions_on`.
 use Rattle.std.specs.Prelude.{◌≡◌, ℕ, false, true, List, [], ◌∷◌, map, if◌then◌else◌}
 use Rattle.std.specs.List.{AllByRecursion}
 use Rattle.cf_leg.specs.Emits.{syn}

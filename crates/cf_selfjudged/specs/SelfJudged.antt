@@ -1,4 +1,4 @@
--- What a run sends has no objection. The main definition is RunsAreUnobjected. This project's own.
+-- What a run sends has no objection. The main definition is RunsAreUnobjected.
 --
 -- Its output capture, watched over the assets of its own policy, has flows, each the letters that went from one client to one asset. A
 -- judge of the same policy reads them by the verdict on each act, and finds no conflict of letters, no octet that no unit has in its

@@ -1,5 +1,4 @@
--- The watched flows of one client and one asset are those of the packets from the one to the other, whatever else is heard:
--- FlowsAreOfTheirPackets. This project's own.
+-- Steps of the proof: the watched flows of one client and one asset are of their packets alone: `FlowsAreOfTheirPackets`.
 use Rattle.std.specs.Prelude.{◌≡◌, ◌&&◌, ◌==◌, ℕ, Bool, false, List, [], ◌∷◌, ◌++◌, filter, Option, Some, None, Ok, if◌then◌else◌}
 use Rattle.cf_packet.specs.Packet.{PacketValue}
 use Rattle.cf_policy.specs.declared.Asset.{Asset}

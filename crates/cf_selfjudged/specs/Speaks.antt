@@ -1,4 +1,4 @@
--- What a session sends to its controller, as a list of packets that may be heard: SessionsSpeak. This project's own.
+-- Steps of the proof: what a session sends to its controller, as a list of packets that may be heard: `SessionsSpeak`.
 use Rattle.std.specs.Prelude.{◌≡◌, ℕ, List, ◌∷◌, map}
 use Rattle.cf_session.specs.Event.{AreEvents}
 use Rattle.cf_session.specs.Session.{Flow, SessionEvent, controllers}

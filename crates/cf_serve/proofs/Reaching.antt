@@ -4,7 +4,7 @@ use Rattle.std.specs.Prelude.{IfOk}
 use Rattle.std.proofs.lemmas.List.{append-nil, append_assoc}
 use Rattle.cf_links.specs.Links.{LinksEntry, Of, SessionTold, with_answers, with_entry}
 use Rattle.cf_outside.specs.Pair.{Entry, met_at}
-use Rattle.cf_relay.proofs.Ending.{empty_judged, relayed_met}
+use Rattle.cf_relay.proofs.Starting.{empty_judged, relayed_met}
 use Rattle.cf_view.specs.declared.Endpoint.{Endpoint}
 use Rattle.cf_view.specs.declared.WriteFault.{WriteFault}
 use Rattle.cf_serve.specs.Phase.{LinkedValue, ReachDoes, StandsAs, TurnDoes}

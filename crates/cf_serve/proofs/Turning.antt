@@ -11,7 +11,7 @@ use Rattle.cf_lane.specs.Log.{line_about, lines, with_lines}
 use Rattle.cf_lane.specs.Output.{stream_to}
 use Rattle.cf_lane.specs.declared.limit.TheConstants.{LETTER_LIMIT}
 use Rattle.cf_outside.specs.Pair.{Entry, Moment, met_at}
-use Rattle.cf_relay.proofs.Ending.{start_does}
+use Rattle.cf_relay.proofs.Starting.{start_does}
 use Rattle.cf_relay.proofs.Stages.{does_broken, does_then, goes_on}
 use Rattle.cf_relay.specs.Answers.{given, history_of}
 use Rattle.cf_relay.specs.Ends.{GivenAll, log_of}

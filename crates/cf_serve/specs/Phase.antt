@@ -47,7 +47,7 @@ abbrev pub listening_of : Terms → Listening
 listening_of terms = record { asset = terms.asset.now; port = terms.port }
 
 -- the controller was reached, and so many turns were made
-pub record HasTurned (at : Listening) (most : ℕ) (es : List Entry) (own : List (List ℕ)) (v : LinkedValue) : Type 0 where
+pub record StandsLinked (at : Listening) (most : ℕ) (es : List Entry) (own : List (List ℕ)) (v : LinkedValue) : Type 0 where
   pub moment : ℕ
   pub count : ℕ
   pub answers : List Entry
@@ -59,7 +59,7 @@ pub record HasTurned (at : Listening) (most : ℕ) (es : List Entry) (own : List
 -- what is kept of a session stands for its own answers and its own lines
 abbrev pub StandsAs : Listening → (most : ℕ) → List Entry → (own : List (List ℕ)) → Option LinkedValue → Type 0
 StandsAs at most es own None = (es ≡ []) × (own ≡ [])
-StandsAs at most es own (Some v) = HasTurned at most es own v
+StandsAs at most es own (Some v) = StandsLinked at most es own v
 
 -- what lets a session be given one turn more, whatever its list
 abbrev pub MayTurn : Listening → (most : ℕ) → Option LinkedValue → Type 0
@@ -82,7 +82,7 @@ pub record TurnDoes (at : Listening) (most : ℕ) (client : Endpoint) (told told
 -- what came of asking for a controller: nothing yet, a relay that has made no turn, or an end
 abbrev pub ReachLeaves : Listening → (most : ℕ) → (client : Endpoint) → List Entry → (own : List (List ℕ)) → Reached → Type 0
 ReachLeaves at most client es own reached.Waiting = (es ≡ []) × (own ≡ [])
-ReachLeaves at most client es own (reached.Begun linked) = HasTurned at most es own (linked_value linked)
+ReachLeaves at most client es own (reached.Begun linked) = StandsLinked at most es own (linked_value linked)
 ReachLeaves at most client es own (reached.Ended end) = EndsSo at most client es own end
 
 -- asking for it adds answers and lines, behind those of the session before

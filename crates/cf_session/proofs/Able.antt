@@ -116,7 +116,7 @@ cut_next own peer r leg q e es s =
     let t = taken_of (ends_by own peer r) leg q (record e { ending = Unspoken } ∷ es) s in
     can_cut own peer r es e t.0 (right_of (ends_by own peer r) leg q (record e { ending = Unspoken }) es s) t.1
 
--- where the client may be greeted, it can speak behind that
+-- where the client may be greeted, it can speak after that
 pub can_answer : (f : Flow) (number : Option ℕ) (leg : LegValue) (q : Queue) (e : LegEvent) (es : List LegEvent) (whole : Stream) (roomy : Bool) → MayGreet number e es → IsLegBetween (client_ends f) leg q (record e { ending = Unspoken } ∷ es) →
     (outs : List PacketValue) × IsRight (client_ends f) es (record e { came = came_greeted f number e.came; ending = Spoke whole roomy outs })
 can_answer f number leg q e es whole roomy may s =

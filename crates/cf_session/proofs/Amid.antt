@@ -22,7 +22,7 @@ pub on_err : {T E : Type 0} (r : Result T E) {P : Type 0} → P → OnErr r P
 on_err (Ok x) h = tt
 on_err (Err e) h = h
 
--- ---- what stands behind the last whole packet or line
+-- ---- what stands after the last whole packet or line
 
 -- a beginning of octets is one of more octets
 pub part_longer : (next more was now : List ℕ) → IsPartOf next was now → IsPartOf (next ++ more) was now
@@ -42,7 +42,7 @@ parts_none a = record { packet_part = refl; line_part = refl }
 pub parts_both : (a b c : DeskValue) → KeepsParts a b → KeepsParts b c → KeepsParts a c
 parts_both a b c x y = record { packet_part = y.packet_part ∙ x.packet_part; line_part = y.line_part ∙ x.line_part }
 
--- ---- amid packets and lines, and others behind and before them
+-- ---- amid packets and lines, and others after and before them
 
 pub amid_before : (a b : List Sent) (x y : List (List ℕ)) (old new : DeskValue) → BreaksAmid a x old new → BreaksAmid (a ++ b) (x ++ y) old new
 amid_before a b x y old new h = record {

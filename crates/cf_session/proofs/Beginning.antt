@@ -54,7 +54,7 @@ first_of : (begin : EventsBegin) (ends : Ends) (number tick : ℕ) (c c1 c2 : Le
 first_of begin ends number tick c c1 c2 q q2 b0 b1 b2 role s queue g p e1 e2 =
     subst (λ n. Begun1 n number tick c2 q2 b0 b2) s.is (first_own begin number tick c c1 c2 q q2 b0 b1 b2 (ap (λ (n : Ends). n.role) s.is ∙ role) s.stands queue g p e1 e2)
 
--- the moment of a beginning is one behind its tick
+-- the moment of a beginning is one after its tick
 pub moment_later : (now : ℕ) → 1 ≤ now → now ≡ (now - 1) + 1
 moment_later now h = omega (arith, h)
 

@@ -109,7 +109,7 @@ module _ (f : Flow) (es : List SessionEvent) (t : SessionEvent) (s0 : SessionVal
     pub hear_failed : BreaksPacket f s0.limit es t s p d0 d1
     hear_failed = by_cut (packet_cut f s0.limit es half) refl
 
--- ---- behind them
+-- ---- after them
 
 module _ {f : Flow} {es : List SessionEvent} {t : SessionEvent} {s0 : SessionValue} {s : Side} {p : PacketValue} {s1 : SessionValue} {given : LegAnswer} {cut : Option CutReason} {now : ℕ}
     (d0 d1 : DeskValue) (heard : HeardAt f es t s0 s p s1 given cut (told d0) (told d1) now) (parts : KeepsParts d0 d1) (octets : d1.octets ≡ d0.octets) where

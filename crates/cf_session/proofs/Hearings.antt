@@ -66,7 +66,7 @@ end_stays : (b c : Bool) → c ≡ true → cond b true c ≡ cond false true c
 end_stays true c e = sym e
 end_stays false c e = refl
 
--- nothing is taken behind an End
+-- nothing is taken after an End
 pub newly_none : (l : Stream) (old new : Window) (t : Stream) → old.ended ≡ true → Continues old new → new.pending ≡ old.pending ++ l.bytes → old.ended ≡ t.ended → with_letters t l ≡ with_letters t no_letters
 newly_none l old new t o k pending same =
     let none : l.bytes ≡ [] = append_cancel_left old.pending l.bytes [] (sym pending ∙ ap (λ (s : Stream). s.bytes) (k.unread.ended o) ∙ sym (append-nil old.pending)) in

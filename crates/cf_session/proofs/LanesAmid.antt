@@ -25,7 +25,7 @@ use Rattle.cf_session.specs.Told.{told, with_both}
 use Rattle.cf_session.specs.Turn.{FollowsAmid}
 use Rattle.cf_session.specs.Work.{Work, fed_at, work_by}
 
--- the octets behind others
+-- the octets after others
 octets_behind : (xs ys : List ℕ) → IsOctets (xs ++ ys) → IsOctets ys
 octets_behind xs ys o = subst IsOctets (drop-append_seam xs ys) (IsOctets-drop (xs ++ ys) (length xs) o)
 

@@ -1,5 +1,5 @@
--- What stands on a desk that failed amid a call of a session: a beginning of what the right event sends and logs in that half.
--- The main definition is `BreaksAmid`, and below it stands one for each call. This project's own.
+-- What stands on a desk that failed amid a call of a session, `BreaksAmid`: a beginning of what the right event sends and logs in that
+-- half. Below it stands one for each call.
 use Rattle.std.specs.Prelude.{◌≡◌, ◌⊎◌, ℕ, false, List, [], ◌++◌, take}
 use Rattle.std.specs.List.{concat, flat_map}
 use Rattle.cf_outside.specs.Desk.{DeskValue, SentValue}
@@ -14,7 +14,7 @@ use Rattle.cf_session.specs.Told.{emitted, told, with_both}
 abbrev pub octets_of : (SentValue → List ℕ) → List Sent → List ℕ
 octets_of octets sent = flat_map (λ s. octets (emitted s)) sent
 
--- behind what stands whole there stands what stood there before, or a beginning of the octets that come next
+-- after what stands whole there stands what stood there before, or a beginning of the octets that come next
 abbrev pub IsPartOf : (next was now : List ℕ) → Type 0
 IsPartOf next was now = (now ≡ was) ⊎ ((some : ℕ) × (now ≡ take some next))
 
@@ -30,7 +30,7 @@ pub record BreaksAmid (sent : List Sent) (lines : List (List ℕ)) (old new : De
   pub packet_part : IsPartOf (octets_of old.octets left) old.packet_part new.packet_part
   pub line_part : IsPartOf (concat missing) old.line_part new.line_part
 
--- what stands behind the last whole packet and the last whole line is as it was, as after each call that did not fail
+-- what stands after the last whole packet and the last whole line is as it was, as after each call that did not fail
 pub record KeepsParts (old new : DeskValue) : Type 0 where
   pub packet_part : new.packet_part ≡ old.packet_part
   pub line_part : new.line_part ≡ old.line_part

@@ -1,5 +1,5 @@
--- Why an event cuts a session. Places of one event stand in the order tick, packet, items, limit, and in a tick the
--- controller's leg stands before the client's. The main definitions are `clock_cut` and `packet_cut`. This project's own.
+-- Why an event cuts a session: `clock_cut` and `packet_cut`. Places of one event stand in the order tick, packet, items, limit, and in
+-- a tick the controller's leg stands before the client's.
 use Rattle.std.specs.Prelude.{ℕ, nat_lt, not, Bool, true, false, ◌&&◌, if◌then◌else◌, List, ◌∷◌, Option, None, Some}
 use Rattle.std.specs.Option.{option_or}
 use Rattle.cf_audit.specs.declared.CutReason.{CutReason}
@@ -23,6 +23,7 @@ use Rattle.cf_session.specs.Session.{Flow, SessionEvent, client_ends, clients, c
 abbrev pub gives_up : Role → (earlier : List LegEvent) → LegEvent → Bool
 gives_up r earlier event = fires r earlier event && not (nat_lt (tries r earlier) 6)
 
+-- why the first half cuts: an end that gives up, the controller's first
 abbrev pub clock_cut : Flow → (earlier : List SessionEvent) → SessionEvent → Option CutReason
 clock_cut flow earlier event =
     if gives_up (controller_ends flow).role (controllers earlier) event.controller then Some (reason.NoAnswer side.Controller)
@@ -31,6 +32,7 @@ clock_cut flow earlier event =
 
 -- ---- the second half
 
+-- the answer to a packet is that it resets
 abbrev pub is_reset : LegAnswer → Bool
 is_reset answer.Reset = true
 is_reset _ = false
@@ -41,6 +43,7 @@ resets r earlier event Nothing = false
 resets r earlier event (Greeting packet) = false
 resets r earlier event (Packet packet) = is_reset (answer_to (end_state r earlier event) packet)
 
+-- why a packet that resets its leg cuts
 abbrev pub reset_cut : Flow → (earlier : List SessionEvent) → SessionEvent → Option CutReason
 reset_cut flow earlier event =
     if resets (client_ends flow).role (clients earlier) event.client event.client.came then Some reason.ResetByClient

@@ -1,6 +1,5 @@
--- What each event of a session must be, given those before it. Nothing here speaks of another session: each definition reads
--- the flow, the limit of letters, the session's earlier events and the event. The main definition is `AreEvents`, read from
--- the end. This project's own.
+-- What each event of a session must be, given those before it: `AreEvents`, read from the end. Nothing here speaks of another session:
+-- each definition reads the flow, the limit of letters, the session's earlier events and the event.
 use Rattle.std.specs.Prelude.{◌≡◌, ℕ, ◌⊎◌, not, Bool, true, false, ◌&&◌, if◌then◌else◌, List, [], ◌∷◌, Option, None, Some}
 use Rattle.cf_audit.specs.declared.CutReason.{CutReason}
 use Rattle.cf_lane.specs.History.{Element, ended_of, taken}
@@ -16,7 +15,7 @@ use Rattle.cf_session.specs.Cuts.{clock_cut, gives_up, packet_cut}
 use Rattle.cf_session.specs.Session.{Flow, SessionEvent, client_ends, client_of, clients, controller_ends, controllers, has_room, history, work_of}
 use Rattle.cf_session.specs.Work.{Works, fed_at, no_work}
 
--- the event of each leg is right after that leg's earlier ones. None is behind an event that a cut broke off
+-- the event of each leg is right after that leg's earlier ones. None is after an event that a cut broke off
 pub record AreRight (flow : Flow) (earlier : List SessionEvent) (event : SessionEvent) : Type 0 where
   pub controller : IsRight (controller_ends flow) (controllers earlier) event.controller
   pub client : IsRight (client_ends flow) (clients earlier) event.client
@@ -27,9 +26,11 @@ IsBrokenOff ending = (rst : PacketValue) × (ending ≡ Cut rst)
 
 -- ---- the beginning: the box sends its SYN to the controller
 
+-- the SYN that the box sends to the controller, with the number of the client's own
 abbrev pub greets_controller : Flow → Came
 greets_controller flow = Greeting (syn (controller_ends flow) flow.syn.seq)
 
+-- the first event of a session: the SYN goes out, and nothing else happens
 pub record IsBeginning (flow : Flow) (tick : ℕ) (event : SessionEvent) : Type 0 where
   pub right : AreRight flow [] event
   -- the speech says nothing, and starts the timer of the SYN
@@ -46,6 +47,7 @@ abbrev pub EndsTick : (cut : Option CutReason) → Ending → Type 0
 EndsTick None ending = ending ≡ Unspoken
 EndsTick (Some because) ending = IsBrokenOff ending
 
+-- the first half of a later event: both clock calls, and a cut where an end gives up
 pub record IsTick (flow : Flow) (earlier : List SessionEvent) (tick : ℕ) (event : SessionEvent) : Type 0 where
   pub right : AreRight flow earlier event
   pub controller_tick : event.controller.tick ≡ tick
@@ -69,10 +71,12 @@ abbrev pub came_controller : (from : Side) → PacketValue → Came
 came_controller side.Client packet = Nothing
 came_controller side.Controller packet = Packet packet
 
+-- what comes at the client's end: its own packet, or its greeting as the controller's end opens
 abbrev pub came_client : Flow → (from : Side) → PacketValue → (opens : Bool) → Came
 came_client flow side.Client packet opens = Packet packet
 came_client flow side.Controller packet opens = if opens then Greeting (syn_ack_for (client_ends flow) flow.syn.seq packet.seq) else Nothing
 
+-- nothing is cut
 abbrev pub is_none : Option CutReason → Bool
 is_none None = true
 is_none (Some because) = false
@@ -95,6 +99,7 @@ EndsPacket (Some because) stream roomy ending = IsBrokenOff ending
 abbrev pub GoesOn : (half event : LegEvent) → Type 0
 GoesOn half event = (event.tick ≡ half.tick) × (event.ticked ≡ half.ticked)
 
+-- the second half: it goes on with the first, its packet comes at the end of its side, and what is taken is fed to the lane
 pub record IsPacket (flow : Flow) (limit : ℕ) (earlier : List SessionEvent) (half : SessionEvent) (from : Side) (packet : PacketValue) (event : SessionEvent) : Type 0 where
   pub right : AreRight flow earlier event
   pub controller_on : GoesOn half.controller event.controller
@@ -102,7 +107,7 @@ pub record IsPacket (flow : Flow) (limit : ℕ) (earlier : List SessionEvent) (h
   pub controller_came : event.controller.came ≡ came_controller from packet
   pub client_came : event.client.came ≡ came_client flow from packet (opening (controller_ends flow).role (controllers earlier) event.controller && is_none event.cut)
   pub fed : AreFed (moment event.client) from event.fed
-  -- nothing is taken behind an End
+  -- nothing is taken after an End
   pub unended : ended_of from (history earlier) ≡ true → event.fed ≡ []
   pub taken : AreTaken flow (event ∷ earlier)
   pub work : Works flow.asset (client_of flow) (history (event ∷ earlier)) event.work

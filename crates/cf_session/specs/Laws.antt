@@ -1,5 +1,5 @@
--- What holds over every list of right events of a session. The main definitions are `EventsAreFixed`,
--- `WorkIsOfTheTaken` and `HasOneStream`. This project's own.
+-- What holds over every list of right events of a session. The main definitions are `EventsAreFixed`, `WorkIsOfTheTaken` and
+-- `HasOneStream`.
 use Rattle.std.specs.Prelude.{◌≡◌, ℕ, ◌+◌, ◌^◌, ◌≤◌, min, true, false, List, [], ◌∷◌, ◌++◌, length, map, slice_get, Option, None, Some, ℤ}
 use Rattle.cf_leg.specs.Event.{Came, Greeting, LegEvent, Nothing, Packet, sent_in}
 use Rattle.cf_leg.specs.Heard.{opened, shown}
@@ -27,6 +27,7 @@ pub record Given : Type 0 where
   pub from_client : Option PacketValue
   pub from_controller : Option PacketValue
 
+-- what an event is given, by its two ends
 abbrev pub given : SessionEvent → Given
 given event = record { tick = event.client.tick; from_client = packet_in event.client.came; from_controller = packet_in event.controller.came }
 

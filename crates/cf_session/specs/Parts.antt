@@ -1,4 +1,4 @@
--- When the parts of a session in memory stand for its events. The main definition is `AreParts`. This project's own.
+-- Steps of the proof: when the parts of a session in memory stand for its events: `AreParts`.
 use Rattle.std.specs.Prelude.{◌≡◌, ℕ, List, ◌∷◌, ◌-◌, max, Option}
 use Rattle.cf_lane.specs.Follows.{AreJudged, AreRests, Rests}
 use Rattle.cf_lane.specs.Handled.{Knows, LaneValue, state}

@@ -1,5 +1,5 @@
--- A session: a client, an asset, and what happened, event by event. The main definitions are `Flow` and `SessionEvent`, and
--- `has_room`, `is_closed` and `is_expired`, which read a session's events alone. This project's own.
+-- A session: a client, an asset, and what happened, event by event. The main definitions are `Flow` and `SessionEvent`, and `has_room`,
+-- `is_closed` and `is_expired`, which read a session's events alone.
 --
 -- Lists of events have the newest one first, so that what was before an event is the list after it.
 use Rattle.std.specs.Prelude.{ℕ, ◌+◌, ◌-◌, ◌==◌, nat_le, Bool, false, ◌&&◌, if◌then◌else◌, List, [], ◌∷◌, ◌++◌, map, Option, None, Some}
@@ -22,6 +22,7 @@ pub record Flow : Type 0 where
   pub asset : Asset
   pub syn : PacketValue
 
+-- the client: the source of the SYN
 abbrev pub client_of : Flow → Endpoint
 client_of flow = flow.syn.source
 
@@ -29,6 +30,7 @@ client_of flow = flow.syn.source
 abbrev pub controller_ends : Flow → Ends
 controller_ends flow = record { own = flow.syn.source; peer = flow.asset.endpoint; role = role.Active flow.syn.seq }
 
+-- the end towards the client, which has the controller's endpoint
 abbrev pub client_ends : Flow → Ends
 client_ends flow = record { own = flow.asset.endpoint; peer = flow.syn.source; role = role.Passive flow.syn.seq flow.syn.mss }
 
@@ -48,6 +50,7 @@ pub record SessionEvent : Type 0 where
 abbrev pub controllers : List SessionEvent → List LegEvent
 controllers events = map (λ e. e.controller) events
 
+-- the events of the end towards the client
 abbrev pub clients : List SessionEvent → List LegEvent
 clients events = map (λ e. e.client) events
 
@@ -56,18 +59,22 @@ abbrev pub history : List SessionEvent → List Element
 history [] = []
 history (event ∷ earlier) = history earlier ++ event.fed
 
+-- what the lane has made of all that was taken in these events
 abbrev pub work_of : List SessionEvent → Work
 work_of [] = no_work
 work_of (event ∷ earlier) = event.work
 
 -- ---- room: in both directions at most 16,384 letters are not acknowledged
 
+-- the greatest window, and so the letters of a stream that may wait for an acknowledgment with room left
 abbrev pub window_size : ℕ
 window_size = 16384
 
+-- no more letters of a stream than a window has are without acknowledgment
 abbrev pub is_short : Stream → (acknowledged : ℕ) → Bool
 is_short stream acknowledged = nat_le (letter_count stream - acknowledged) window_size
 
+-- both streams have room
 abbrev pub has_room : Flow → List SessionEvent → Bool
 has_room flow events =
     is_short (work_of events).to_client (acked (client_ends flow).role (clients events))
@@ -79,6 +86,7 @@ has_room flow events =
 abbrev pub is_done : Stream → (acknowledged : ℕ) → Bool
 is_done stream acknowledged = stream.ended && (acknowledged == letter_count stream)
 
+-- both Ends were taken, and both streams are acknowledged
 abbrev pub is_closed : Flow → List SessionEvent → Bool
 is_closed flow events =
     (ended_of side.Client (history events) && ended_of side.Controller (history events))
@@ -91,6 +99,7 @@ closed_at flow [] = None
 closed_at flow (event ∷ earlier) =
     option_or (closed_at flow earlier) (if is_closed flow (event ∷ earlier) then Some (moment event.client) else None)
 
+-- the session was closed after one of these events
 abbrev pub was_closed : Flow → List SessionEvent → Bool
 was_closed flow events = is_some (closed_at flow events)
 

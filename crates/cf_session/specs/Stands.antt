@@ -1,5 +1,5 @@
--- What a session in memory stands for, and what its calls do. The main definitions are `IsSessionOf` and `IsSound`, and
--- `Begins`, `TicksBy` and `HearsBy`, one for each call. This project's own.
+-- Steps of the proof: what a session in memory stands for, `IsSessionOf` and `IsSound`, and what its calls do: `Begins`, `TicksBy` and
+-- `HearsBy`, one for each call.
 use Rattle.std.specs.Prelude.{◌≡◌, ◌≢◌, ℕ, ◌+◌, ◌-◌, ◌*◌, ◌^◌, min, ◌<◌, ◌≤◌, Bool, true, false, List, [], ◌∷◌, length, Option, None, Some}
 use Rattle.cf_lane.specs.Handled.{IsLaneOf, debt}
 use Rattle.cf_leg.specs.Calls.{due_of as leg_due}

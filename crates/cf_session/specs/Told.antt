@@ -1,5 +1,4 @@
--- What a desk tells of the packets and lines that a session puts there. The main definition is `with_both`. This project's
--- own.
+-- What a desk tells of the packets and lines that a session puts there. The main definition is `with_both`.
 use Rattle.std.specs.Prelude.{ℕ, List, ◌++◌, map, Option, option_map}
 use Rattle.cf_leg.specs.Emitted.{spelled}
 use Rattle.cf_outside.specs.Desk.{DeskValue, SentValue}

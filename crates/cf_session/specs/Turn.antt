@@ -1,4 +1,4 @@
--- What the steps of a call do, over the parts of a session. This project's own.
+-- Steps of the proof: what the steps of a call do, over the parts of a session: `Hearing`, `GreetsClient`, `SaysBoth` and `CutsBoth`.
 use Rattle.std.specs.Prelude.{◌≡◌, ◌≢◌, ℕ, ◌+◌, ◌*◌, ◌^◌, ◌<◌, ◌≤◌, Bool, true, false, List, [], ◌∷◌, ◌++◌, length, nat_le, ◌-◌, ◌&&◌, ◌==◌, not, if◌then◌else◌, Option, None, Some}
 use Rattle.std.specs.Option.{is_some}
 use Rattle.cf_audit.specs.Line.{Close, Cut as CutLine}
@@ -130,7 +130,7 @@ pub record KeepsRoom (s : Side) (old new : Window) (lane lane' : LaneValue) (c c
   pub own_ended : (own_queue s c' k').ended ≡ (own_queue s c k).ended
   pub other_ended : new.ended ≡ false → (other_queue s c' k').ended ≡ (other_queue s c k).ended
   pub other_pushed : IsPushed (other_queue s c k) (other_queue s c' k')
-  -- behind End nothing comes
+  -- after End nothing comes
   pub still : old.ended ≡ true → (base_of new ≡ base_of old) × (queue_length c' ≡ queue_length c) × (queue_length k' ≡ queue_length k)
 
 -- a packet of a side was heard after the earlier events of its leg, in an event, and its letters were handed over

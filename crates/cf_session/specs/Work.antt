@@ -1,5 +1,4 @@
--- What a lane makes of all that was taken of two sides. The main definition is `Works`, read from the end. This project's
--- own.
+-- What a lane makes of all that was taken of two sides. The main definition is `Works`, read from the end.
 use Rattle.std.specs.Prelude.{◌≡◌, ℕ, ◌==◌, count_by, if◌then◌else◌, List, [], ◌∷◌, Option, None}
 use Rattle.cf_audit.specs.declared.CutReason.{CutReason}
 use Rattle.cf_lane.specs.Follows.{AreJudged}
@@ -30,6 +29,7 @@ pub record Work : Type 0 where
   -- why the first item that cuts does so
   pub cut : Option CutReason
 
+-- nothing was taken, and nothing made of it
 abbrev pub no_work : Work
 no_work = record { to_client = no_letters; to_controller = no_letters; log = []; admitted = 0; refused = 0; cut = None }
 

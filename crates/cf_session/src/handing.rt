@@ -66,12 +66,13 @@ fn feed_lane<D: Desk>(
     pieces_join();
     streams_go_on();
     judgements_go_on();
+    // The fact: the bytes are octets.
     let _len = bytes.len();
     let fed = lane.feed(asset, now, side, bytes, to_client, to_controller, desk)?;
     Ok(fed)
 }
 
-/// Hands the End of a side to the lane, behind bytes that were handed over at the same moment, perhaps none.
+/// Hands the End of a side to the lane, after bytes that were handed over at the same moment, perhaps none.
 fn end_lane<D: Desk>(
     lane: &mut Lane,
     asset: &Asset,
@@ -115,6 +116,7 @@ fn pending_of<'a>(leg: &'a Leg) -> View<'a>
     ensures value { result.bytes ≡ leg.now.window.pending }
     ensures bounds { IsWindow leg.now.window }
 {
+    // The fact: the window keeps its bounds.
     let _base = leg.window().base();
     leg.window().pending()
 }
@@ -124,6 +126,7 @@ pub(crate) fn has_ended(leg: &Leg) -> bool
     ensures value { result ≡ leg.now.window.ended }
     ensures bounds { IsWindow leg.now.window }
 {
+    // The fact: the window keeps its bounds.
     let _base = leg.window().base();
     leg.window().ended()
 }

@@ -108,6 +108,7 @@ pub(crate) fn hear<D: Desk>(
 {
     let had_ended = has_ended(leg);
     let answer = take_in(leg, now, side, packet, to_client, to_controller);
+    // The fact: the window keeps its bounds.
     let _ended = has_ended(leg);
     if had_ended {
         return Ok(Heard { answer, cut: None });

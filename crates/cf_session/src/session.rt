@@ -27,16 +27,24 @@ use cf_view::{Endpoint, NoMemory, WriteFault};
 use std::alloc::Global;
 use std::marker::Model;
 
-/// One session. All its memory is taken as it begins.
+/// One session. All its memory is taken as it begins. This project's own.
 #[derive(Drop)]
 pub struct Session {
+    /// The end towards the client, a passive one. It has the endpoint of the controller.
     pub(crate) client: Leg,
+    /// The end towards the controller, an active one. It has the endpoint of the client.
     pub(crate) controller: Leg,
+    /// What takes both streams apart, and judges what is in them.
     pub(crate) lane: Lane,
+    /// What goes to the client: the send queue of its end, with SND.UNA and SND.NXT.
     pub(crate) to_client: Outq,
+    /// What goes to the controller: the send queue of its end, with SND.UNA and SND.NXT.
     pub(crate) to_controller: Outq,
+    /// The moment in microseconds at which both Ends were taken and both streams acknowledged, once that is so.
     pub(crate) closed: Option<u64>,
+    /// The number of letters of a stream, End counted, at which the session is cut: from 1 to 2^30.
     pub(crate) limit: u64,
+    /// The endpoint of the client, which the lines of the log name.
     pub(crate) source: Endpoint,
 }
 
@@ -48,7 +56,7 @@ impl Model for Session {
     ghost view = { λ a. record { client = a.client; controller = a.controller; lane = a.lane; to_client = a.to_client; to_controller = a.to_controller; closed = a.closed; limit = a.limit; source = a.source } };
 }
 
-/// Why no session began.
+/// Why no session began. This project's own.
 #[derive(Clone, Copy)]
 pub enum BeginFault {
     /// Nothing was sent or logged.

@@ -100,6 +100,7 @@ impl Session {
         ensures whole { OnOk result (DeskValue.whole (D.value desk.new) ≡ true) }
         ensures cause { HasCause (DeskValue.faults (D.value desk.old)) (DeskValue.faults (D.value desk.new)) (IsErr result) }
     {
+        // The fact: both windows keep their bounds.
         let _ended = (has_ended(&self.client), has_ended(&self.controller));
         let roomy = is_roomy(&self.to_client, &self.to_controller);
         self.controller

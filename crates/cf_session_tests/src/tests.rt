@@ -28,12 +28,12 @@ fn same(rt: &impl Abort, place: &Place<'_>, found: &str, wanted: &str) {
     assert!(rt; found == wanted, "{}, {}: {}", place.row, place.line, found);
 }
 
-/// The name of a row, and what stands behind it.
+/// The name of a row, and what stands after it.
 fn named(block: &str) -> (&str, &str) {
     block.trim().split_once('\n').unwrap_or((block, ""))
 }
 
-/// What stands behind a word, in the first line that begins with it.
+/// What stands after a word, in the first line that begins with it.
 fn field<'a>(lines: &'a str, word: &str) -> Option<&'a str> {
     lines.lines().find_map(|line| line.strip_prefix(word))
 }

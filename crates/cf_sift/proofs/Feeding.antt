@@ -20,7 +20,7 @@ module _ (asset : Asset) (h : List Element) (r r' : Rests) (first : Option (List
     of_lines = f.of_lines;
   }
 
-  -- behind a cut no rest is of account
+  -- after a cut no rest is of account
   pub with_cut : (cut : Option CutReason) (reason : CutReason) → cut ≡ Some reason → Follows asset h r cut first s → Follows asset h r' (Some reason) first s
   with_cut cut reason is f = cut_rests reason (subst (λ c. Follows asset h r c first s) is f)
 

@@ -10,7 +10,7 @@ use Rattle.cf_outside.specs.Lines.{ends_with_line, file_lines, file_part, lines_
 use Rattle.cf_outside.proofs.Lines.{lines_from-rest, nothing}
 use Rattle.cf_sift.specs.Sifted.{BeginsLines, HasLines, HasLinesThen}
 
--- octets are their whole lines and what stands behind them
+-- octets are their whole lines and what stands after them
 octets_are : (all : List ℕ) → all ≡ concat (lines_from [] all) ++ rest_from [] all
 octets_are all = sym (lines_from-rest [] all)
 
@@ -50,7 +50,7 @@ lines_begun (holds all) (holds x) ls count some f is part =
           ∙ ap (λ xs. all ++ xs) (begins ls count some)),
     )
 
--- lines, and octets behind them that are a beginning of more
+-- lines, and octets after them that are a beginning of more
 pub lines_then : (first now : Content) (ls more : List (List ℕ)) (k : ℕ) → ends_with_line first ≡ true →
     file_lines now ≡ with_lines (file_lines first) ls → file_part now ≡ take k (concat more) → HasLinesThen ls more first now
 lines_then untold now ls more k f is part = tt

@@ -55,7 +55,7 @@ module _ {X : Type 0} where
   same_fronts (x ∷ f) (y ∷ g) d e is = let rest = same_fronts f g d e cc in cc
 
 module _ (one : HasOneJudgement) (asset : Asset) (client : ℕ) where
-  -- a history that is not cut, and no more behind one more element
+  -- a history that is not cut, and no more after one more element
   pub uncut_more : (h : List Element) (e : Element) (judged : List Judged) → IsUncut asset client h → AreJudged asset client (h ++ e ∷ []) judged →
       cut_behind asset (h ++ e ∷ []) judged ≡ None → IsUncut asset client (h ++ e ∷ [])
   uncut_more h e judged uncut are none front back ks is are_ks =
@@ -80,7 +80,7 @@ module _ (one : HasOneJudgement) (asset : Asset) (client : ℕ) where
     all = all;
   }
 
-  -- where two histories go up to their cuts, neither goes on behind the other
+  -- where two histories go up to their cuts, neither goes on after the other
   no_more : (whole h k : List Element) (cut other : Option CutReason) (js ks : List Judged) (m d : List Element) → (x : GoesUpTo asset client whole cut h js) →
       (y : GoesUpTo asset client whole other k ks) → k ≡ h ++ m → x.later ≡ m ++ d → m ≡ []
   no_more whole h k cut other js ks m d x y goes later =
@@ -135,7 +135,7 @@ full_piece (x ∷ xs) rest full =
     ∙ ap (λ l. bytes_at 0 side.Client (x ∷ xs) ∷ (pieces_within (length (xs ++ rest)) l ++ end_at 0 side.Client ∷ [])) behind
     ∙ ap (λ l. bytes_at 0 side.Client (x ∷ xs) ∷ (l ++ end_at 0 side.Client ∷ [])) (enough (length (xs ++ rest)) (length rest) rest (omega (arith, size)) (omega arith))
 
--- a piece that is not empty, behind which nothing follows
+-- a piece that is not empty, after which nothing follows
 pub last_piece : (piece : List ℕ) → 0 < length piece → length piece ≤ 4096 → stored_history piece ≡ bytes_at 0 side.Client piece ∷ end_at 0 side.Client ∷ []
 last_piece [] some short = absurd (omega (arith, some))
 last_piece (x ∷ xs) some short =

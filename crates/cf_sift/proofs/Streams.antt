@@ -40,7 +40,7 @@ take_own n d p is =
       | inr more ↦ take_all (length p) d (omega (arith, size)) ∙ sym (take_all n d more) ∙ sym is
     ]
 
--- what is read behind the beginning of a file goes on with it
+-- what is read after the beginning of a file goes on with it
 pub read_more : (file : Content) (bytes p : List ℕ) → BeginsWith file bytes → IsFilled file (length bytes) 4096 p → BeginsWith file (bytes ++ p)
 read_more file bytes p begins filled = begins_more file bytes p begins (at file filled)
   where
@@ -64,7 +64,7 @@ pub filled_at : (file now : Content) (place at size : ℕ) (p : List ℕ) → no
 filled_at file now place at size p same is full filled =
     subst (λ n. IsFilled file n 4096 p) (sym is) (subst (λ n. IsFilled file place n p) full (subst (λ f. IsFilled f place size p) same filled))
 
--- a stream goes on behind its beginning
+-- a stream goes on after its beginning
 pub stream_of : (file : Content) (bytes : List ℕ) → BeginsWith file bytes → (rest : List ℕ) × HasStream file (bytes ++ rest)
 stream_of untold bytes begins = ([], tt)
 stream_of absent bytes begins = ([], append-nil bytes ∙ empty bytes begins)
@@ -251,7 +251,7 @@ module _ (asset : Asset) (client : Endpoint) (names : SiftNamesValue) (first : L
                   (of_client new (t.history ++ element ∷ []) after.by_item last after.sifting_of) after.is_cut (λ e. cc);
             }
 
-        -- behind a piece that does not cut
+        -- after a piece that does not cut
         uncut_piece : (new : List ℕ → Content) (last : Sifting) (after : IsSiftingAfter asset client names first new (t.history ++ bytes_at 0 side.Client p ∷ []) None last) →
             IsUncut asset client.address (t.history ++ bytes_at 0 side.Client p ∷ [])
         uncut_piece new last after =
@@ -291,7 +291,7 @@ module _ (asset : Asset) (client : Endpoint) (names : SiftNamesValue) (first : L
             IsUncut asset client.address (t.history ++ bytes_at 0 side.Client p ∷ [])
         uncut_last = uncut_piece
 
-    -- behind all pieces stands End
+    -- after all pieces stands End
     module _ (old now : List ℕ → Content) (sifting : Sifting) (bytes : List ℕ) (h : List Element) (whole : IsWhole (old names.stream) bytes)
         (begins : stored_history bytes ≡ h ++ end_at 0 side.Client ∷ []) (f : IsSiftingOf asset client names first now h None sifting) (uncut : IsUncut asset client.address h) where
       pub end_stops : (new : List ℕ → Content) → ElementFails asset client names first new h f.follows.judged (end_at 0 side.Client) →

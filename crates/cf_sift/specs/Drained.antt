@@ -1,4 +1,4 @@
--- What a call does that moves a queue's bytes to the end of a file: Drains.
+-- Steps of the proof: what a call does that moves a queue's bytes to the end of a file: `Drains`.
 use Rattle.std.specs.Prelude.{◌≡◌, ℕ, List, [], ◌++◌, take}
 use Rattle.cf_outq.specs.SendQueue.{Queue}
 use Rattle.cf_outside.specs.Files.{Content, with_appended}

@@ -1,4 +1,4 @@
--- What holds of every history. This project's own.
+-- Steps of the proof: the cut of every history is one: `HasOneCut`.
 use Rattle.std.specs.Prelude.{◌≡◌, ℕ, List, Option}
 use Rattle.cf_audit.specs.declared.line.CutReason.{CutReason}
 use Rattle.cf_lane.specs.History.{Element}

@@ -13,7 +13,7 @@ module _ (before after : List ℕ → Content) where
   AreCreated [] = Unit {0}
   AreCreated (name ∷ names) = (after name ≡ content_after_create (before name)) × AreCreated names
 
-  -- the creation of one failed: those before it were created, it is as it was or empty, and those behind it are as they were
+  -- the creation of one failed: those before it were created, it is as it was or empty, and those after it are as they were
   abbrev pub CreationFails : List (List ℕ) → Type 0
   CreationFails [] = ⊥
   CreationFails (name ∷ names) =

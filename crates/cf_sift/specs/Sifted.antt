@@ -24,7 +24,7 @@ use Rattle.cf_sift.specs.declared.sift.SiftFault.TheVariants as fault
 abbrev pub stored_client : ℕ → Endpoint
 stored_client address = record { address = address; port = 0 }
 
--- a log has these lines behind what it had first, as far as it is told
+-- a log has these lines after what it had first, as far as it is told
 abbrev pub HasLines : List (List ℕ) → (first now : Content) → Type 0
 HasLines more untold now = Unit {0}
 HasLines more absent now = Unit {0}
@@ -52,7 +52,7 @@ cut_lines asset client None = []
 cut_lines asset client (Some reason) = line_about asset client 0 (Cut reason) ∷ []
 
 module _ (asset : Asset) (client : Endpoint) (names : SiftNamesValue) (first now : List ℕ → Content) where
-  -- behind what it had first, OUT has what these items put into the stream to the controller
+  -- after what it had first, OUT has what these items put into the stream to the controller
   abbrev pub HasOut : List Judged → Type 0
   HasOut judged = now names.out ≡ with_appended (first names.out) (outputs asset side.Controller [] judged)
 
@@ -66,12 +66,13 @@ module _ (asset : Asset) (client : Endpoint) (names : SiftNamesValue) (first now
   abbrev pub HasReplies : List Judged → Type 0
   HasReplies judged = now names.replies ≡ with_appended (first names.replies) (outputs asset side.Client [] judged)
 
+  -- or all of the earlier replies, and a beginning of what follows
   abbrev pub GoesOnReplies : (before judged : List Judged) → Type 0
   GoesOnReplies before judged =
       (k : ℕ) × (length (outputs asset side.Client [] before) ≤ k)
       × (now names.replies ≡ with_appended (first names.replies) (take k (outputs asset side.Client [] judged)))
 
-  -- LOG has their lines, and these behind them
+  -- LOG has their lines, and these after them
   abbrev pub HasLog : List Judged → (more : List (List ℕ)) → Type 0
   HasLog judged more = HasLines (lines asset client [] judged ++ more) (first names.log) (now names.log)
 
@@ -125,7 +126,7 @@ module _ (asset : Asset) (client : Endpoint) (names : SiftNamesValue) (first now
     pub of_replies : HasReplies judged
     pub of_log : HasLogThen judged (cut_lines asset client (Some reason))
 
-  -- a write failed at an element, and nothing was written behind it
+  -- a write failed at an element, and nothing was written after it
   abbrev pub ElementFails : (earlier : List Element) (before : List Judged) (element : Element) → Type 0
   ElementFails earlier before element =
       LineFails earlier before element ⊎ OutFails earlier before element ⊎ RepliesFail earlier before element ⊎ CutLineFails earlier element

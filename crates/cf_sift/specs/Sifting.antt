@@ -1,4 +1,4 @@
--- What is kept between two elements of a stored stream, and what it stands for: IsSiftingOf.
+-- Steps of the proof: what is kept between two elements of a stored stream, and what it stands for: `IsSiftingOf`.
 use Rattle.std.specs.Prelude.{◌≡◌, ◌⊎◌, ◌++◌, ◌∷◌, ℕ, ◌+◌, ◌^◌, ◌<◌, ◌≤◌, true, false, List, [], length, Option, None}
 use Rattle.cf_audit.specs.declared.line.CutReason.{CutReason}
 use Rattle.cf_lane.specs.Follows.{Began, BeganWithin, Follows, Rests, rest_of}
@@ -55,7 +55,7 @@ module _ (asset : Asset) (client : Endpoint) (names : SiftNamesValue) (first now
     pub ends : sifting.to_controller.ended ≡ ended_of side.Client history
     pub quiet : letter_count (taken side.Controller history) ≡ 0
 
-  -- so it is after an element, behind which the history is cut so
+  -- so it is after an element, after which the history is cut so
   pub record IsSiftingAfter (history : List Element) (cut : Option CutReason) (sifting : Sifting) : Type 0 where
     pub by_item : Option CutReason
     pub sifting_of : IsSiftingOf history by_item sifting

@@ -1,4 +1,4 @@
--- The history of a stored stream, stored_history, and how far a history goes: GoesUpTo. This project's own.
+-- The history of a stored stream, stored_history, and how far a history goes: GoesUpTo.
 use Rattle.std.specs.Prelude.{◌≡◌, ℕ, zero, suc, List, [], ◌∷◌, ◌++◌, length, take, drop, Option, None}
 use Rattle.std.specs.Option.{option_or}
 use Rattle.cf_audit.specs.declared.line.CutReason.{CutReason}
@@ -21,7 +21,7 @@ pieces_within (suc most) (x ∷ xs) = bytes_at 0 side.Client (take 4096 (x ∷ x
 abbrev pub stored_history : List ℕ → List Element
 stored_history bytes = pieces_within (length bytes) bytes ++ end_at 0 side.Client ∷ []
 
--- why a history is cut behind its last element, if it is: by an item, or else by the length of a stream
+-- why a history is cut after its last element, if it is: by an item, or else by the length of a stream
 abbrev pub cut_behind : Asset → List Element → List Judged → Option CutReason
 cut_behind asset history judged =
     option_or (cut_of judged) (limit_cut LETTER_LIMIT history (stream_to asset side.Client judged) (stream_to asset side.Controller judged))
@@ -32,7 +32,7 @@ IsUncut asset client history =
     (front back : List Element) (judged : List Judged) → history ≡ front ++ back → AreJudged asset client front judged →
     cut_behind asset front judged ≡ None
 
--- a history goes up to these elements, which have these judged items: up to the first element behind which it is cut, or to
+-- a history goes up to these elements, which have these judged items: up to the first element after which it is cut, or to
 -- its end where it is not
 pub record GoesUpTo (asset : Asset) (client : ℕ) (whole : List Element) (cut : Option CutReason) (history : List Element)
     (judged : List Judged) : Type 0 where

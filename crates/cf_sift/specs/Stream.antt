@@ -1,4 +1,4 @@
--- What is read of a stored stream, piece by piece.
+-- What is read of a stored stream, piece by piece: `HasStream`.
 use Rattle.std.specs.Prelude.{◌≡◌, ℕ, List, []}
 use Rattle.cf_outside.specs.Files.{Content, untold, absent, holds}
 

@@ -1,5 +1,5 @@
--- How far a stored stream was taken: IsTakenWhole, ReadStops and WriteStops. The files are as they were before its first piece
--- (`old`) and as they are now, and `first` is what the outputs had before they got anything.
+-- Steps of the proof: how far a stored stream was taken: `IsTakenWhole`, `ReadStops` and `WriteStops`. The files are as they were
+-- before its first piece (`old`) and as they are now, and `first` is what the outputs had before they got anything.
 use Rattle.std.specs.Prelude.{◌≡◌, ℕ, List, [], ◌∷◌, ◌++◌, length, Option, None}
 use Rattle.cf_audit.specs.declared.line.CutReason.{CutReason}
 use Rattle.cf_lane.specs.Follows.{AreJudged}

@@ -71,11 +71,11 @@ impl From<NoMemory> for SiftFault {
 
 /// Filters the stored stream of a client with this address, whose port is not known, at moment 0. All memory is taken first.
 /// Then the outputs are created: those towards the controller, towards the client, and the log. Then the stream is read in
-/// pieces of 4,096 bytes, the last one shorter, and its End behind them; what a piece puts out is written before the next is
-/// read. The stream is cut as a session of its lane is, or behind a piece by the length of its streams; the line of the cut is
+/// pieces of 4,096 bytes, the last one shorter, and its End after them; what a piece puts out is written before the next is
+/// read. The stream is cut as a session of its lane is, or after a piece by the length of its streams; the line of the cut is
 /// the last one.
 ///
-/// `NoMemory`: every file is as it was. `Read`, `Write`: nothing is written behind the fault.
+/// `NoMemory`: every file is as it was. `Read`, `Write`: nothing is written after the fault.
 pub fn sift_stream<F: Files>(
     alloc: Global,
     asset: &Asset,

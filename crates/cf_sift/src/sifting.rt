@@ -79,7 +79,7 @@ impl Sifting {
         limit_cut(LETTER_LIMIT, &lengths)
     }
 
-    /// Hands a piece of the client's bytes to the lane, at moment 0, behind those that it left.
+    /// Hands a piece of the client's bytes to the lane, at moment 0, after those that it left.
     pub(crate) fn feed<F: Files>(
         &mut self,
         asset: &Asset,
@@ -197,7 +197,7 @@ impl Sifting {
     }
 }
 
-/// Feeds a client's bytes at moment 0: those that were left, and a piece behind them.
+/// Feeds a client's bytes at moment 0: those that were left, and a piece after them.
 fn feed_lane<F: Files>(
     lane: &mut Lane,
     asset: &Asset,
@@ -297,7 +297,7 @@ fn end_lane<F: Files>(
     )
 }
 
-/// What is left of bytes in two parts behind so many.
+/// What is left of bytes in two parts after so many.
 fn left_over(rest: &[u8], piece: &[u8], used: usize) -> ArrayVec<u8, REST>
     requires used { used ≤ length (rest.now ++ piece.now) }
     requires left { length (drop used (rest.now ++ piece.now)) < 300 }

@@ -70,7 +70,7 @@ pub(crate) fn take_stream<F: Files>(
     }
 }
 
-/// Takes a piece, and moves what it puts into the two streams to their files. Says why the stream is cut behind it.
+/// Takes a piece, and moves what it puts into the two streams to their files. Says why the stream is cut after it.
 fn take_piece<F: Files>(
     sifting: &mut Sifting,
     asset: &Asset,
@@ -103,7 +103,7 @@ fn take_piece<F: Files>(
     Ok(cut.or(sifting.length_cut()))
 }
 
-/// Takes the End of a stream. Says why the stream is cut behind it.
+/// Takes the End of a stream. Says why the stream is cut after it.
 fn take_end<F: Files>(
     sifting: &mut Sifting,
     asset: &Asset,

@@ -3,14 +3,17 @@
 -- places that count from 0, are this project's own.
 use Rattle.std.specs.Prelude.{◌≡◌, ℕ, suc, ◌+◌, ◌-◌, ◌≤◌, ◌==◌, nat_lt, Bool, true, false, ◌&&◌, if◌then◌else◌, List, [], ◌∷◌, ◌++◌, length, map, take, drop, slice_index, Option, Some, None, ℤ, pos, negsuc}
 
+-- bytes in their order, and whether End stands after them
 pub record Stream : Type 0 where
   pub bytes : List ℕ
   pub ended : Bool
 
+-- a byte, or End
 pub data Letter : Type 0 where
   Byte : ℕ → Letter
   End : Letter
 
+-- a stream as it begins
 abbrev pub no_letters : Stream
 no_letters = record { bytes = []; ended = false }
 
@@ -22,6 +25,7 @@ with_bytes s bytes = record s { bytes = s.bytes ++ bytes }
 abbrev pub with_end : Stream → Stream
 with_end s = record s { ended = true }
 
+-- how many letters a stream has, End included
 abbrev pub letter_count : Stream → ℕ
 letter_count s = length s.bytes + (if s.ended then 1 else 0)
 

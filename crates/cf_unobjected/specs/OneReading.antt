@@ -1,4 +1,4 @@
--- The octets of a flow are read in one way: ReadingsAreOne. This project's own.
+-- Steps of the proof: the octets of a flow are read in one way: `ReadingsAreOne`.
 use Rattle.std.specs.Prelude.{◌≡◌, ℕ, List, []}
 use Rattle.cf_judge.specs.Plain.{AreRead, Ending}
 use Rattle.cf_lane.specs.Judged.{Judged}

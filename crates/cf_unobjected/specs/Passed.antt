@@ -1,4 +1,4 @@
--- What is let through to a controller is nothing that a judge would object to: PassedAreRight. This project's own.
+-- Steps of the proof: what is let through to a controller is nothing that a judge would object to: `PassedAreRight`.
 use Rattle.std.specs.Prelude.{◌≡◌, ◌≤◌, Bool, ℕ, List, true, false, None, length}
 use Rattle.std.specs.List.{AllByRecursion}
 use Rattle.cf_decode.specs.Passed.{passed}

@@ -18,7 +18,7 @@ module _ {U : Type 0} (Spells : U → List ℕ → Type 0) where
       (starts.0, starts.1, begins_with_more vs u (drop starts.0 stream) rest n starts.2 begins)
 
 module _ {U : Type 0} (Spells : U → List ℕ → Type 0) (free : IsPrefixFree Spells) where
-  -- two lists of units of one stream, with no unit behind either, are one list
+  -- two lists of units of one stream, with no unit after either, are one list
   same_units : (us vs : List U) (stream r t : List ℕ) → BeginsWithUnits Spells us stream r → BeginsWithUnits Spells vs stream t →
       ((u : U) (n : ℕ) → Begins Spells r u n → ⊥) → ((u : U) (n : ℕ) → Begins Spells t u n → ⊥) → (us ≡ vs) × (r ≡ t)
   same_units [] [] stream r t a b no_more none = (refl, sym a ∙ b)

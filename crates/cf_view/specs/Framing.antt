@@ -1,4 +1,4 @@
--- What stands at the front of a stream of units, for any grammar.
+-- What stands at the front of a stream of units, for any grammar: `Begins`, `IsPartial` and `BreaksAt`.
 --
 -- A grammar is a relation Spells: the octets are, all of them, a unit that is u. A reason says for a place in
 -- a unit which break an octet there makes that no unit has in that place.

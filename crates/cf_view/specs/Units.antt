@@ -1,4 +1,4 @@
--- The units of a whole stream, for any grammar.
+-- The units of a whole stream, for any grammar: `IsUnitsThenRest` and `IsUnitsThenBreak`.
 use Rattle.std.specs.Prelude.{◌≡◌, ℕ, ◌⊎◌, List, [], ◌∷◌, drop}
 use Rattle.cf_view.specs.Framing.{Begins, IsPartial, BreaksAt}
 

@@ -23,7 +23,7 @@ leads_first untold start h = tt
 leads_first absent start h = absurd h
 leads_first (holds all) start h = λ more last are. are
 
--- behind blocks that are passed over stand the records that stand before them
+-- after blocks that are passed over stand the records that stand before them
 passed_back : (all : List ℕ) (count : ℕ) (old new : Form) (from place : ℕ) (rs : List Record) (last : LastPlace) → PassesTo all count old from new place →
     AreRecords new place (drop place all) rs last → AreRecords old from (drop from all) rs last
 passed_back all zero old new from place rs last (same, here) are =

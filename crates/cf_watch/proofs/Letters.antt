@@ -11,7 +11,7 @@ use Rattle.cf_watch.specs.Kept.{letter_value, stream_of}
 use Rattle.cf_watch.specs.declared.letter.Letter.{Letter as Heard}
 use Rattle.cf_watch.specs.declared.letter.Letter.TheVariants as heard
 
--- a place lies before z, or so many behind it
+-- a place lies before z, or so many after it
 abbrev pub StandsTo : ℤ → ℕ → Type 0
 StandsTo z p = (pos p <ℤ z) ⊎ ((k : ℕ) × (pos p ≡ z +ℤ pos k))
 
@@ -55,7 +55,7 @@ at_all xs k h = grind (arith, nat_tests, h)
 pub at_byte : (xs : List ℕ) (ended : Bool) (k : ℕ) → k < length xs → letter_at (record { bytes = xs; ended = ended }) k ≡ Some (Byte (get_or xs k 0))
 at_byte xs ended k h = grind (arith, nat_tests, h)
 
--- the letters of bytes at a place, and of what follows them behind
+-- the letters of bytes at a place, and of what follows them
 pub from_append : (z : ℤ) (xs ys : List ℕ) (ended : Bool) (p : ℕ) →
     letter_from z (record { bytes = xs ++ ys; ended = ended }) p
     ≡ option_or (letter_from z (record { bytes = xs; ended = false }) p) (letter_from (z +ℤ pos (length xs)) (record { bytes = ys; ended = ended }) p)
@@ -89,7 +89,7 @@ is_behind z s p l h =
       | inr (k, e) ↦ omega (arith, ints, e)
     ]
 
--- behind bytes there is none of them
+-- after bytes there is none of them
 pub none_of_bytes : (z : ℤ) (xs : List ℕ) (s : Stream) (p : ℕ) (l : Letter) → letter_from (z +ℤ pos (length xs)) s p ≡ Some l → letter_from z (record { bytes = xs; ended = false }) p ≡ None
 none_of_bytes z xs s p l h =
     let b : (z +ℤ pos (length xs)) ≤ℤ pos p = is_behind (z +ℤ pos (length xs)) s p l h in

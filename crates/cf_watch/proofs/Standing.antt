@@ -1,4 +1,4 @@
--- A flow in memory behind one more packet.
+-- A flow in memory after one more packet.
 use Rattle.std.proofs.Common.{◌≡◌, ◌≢◌, ◌==◌, ◌+◌, ◌-◌, ◌<◌, ◌≤◌, ◌+ℤ◌, ◌≤ℤ◌, ◌⊎◌, ℕ, ℤ, zero, suc, pos, negsuc, Bool, true, false, nat_lt, List, [], ◌∷◌, ◌++◌, length, get_or, replicate, slice_get, Option, Some, None, refl, sym, ap, ◌∙◌, inl, inr, arith, subst, length-append}
 use Rattle.std.proofs.lemmas.Bool.{cases_lt, true≢false, false≢true}
 use Rattle.std.proofs.lemmas.Bool.Decides.{nat_tests}
@@ -39,7 +39,7 @@ end_le z n p k h e =
 none_past : (s : Stream) (k : ℕ) → letter_count s ≤ k → letter_at s k ≡ None
 none_past s k h = none_past_by s.bytes s.ended k h
 
--- behind the last letter there is none
+-- after the last letter there is none
 past_end : (z : ℤ) (s : Stream) (p : ℕ) → end_after z (letter_count s) ≤ p → letter_from z s p ≡ None
 past_end z s p h =
     elim (stands_to z p) [
@@ -57,7 +57,7 @@ offered_all c p =
 known_byte : (bytes : List ℕ) (a : BTreeMap ℕ Heard) (p : ℕ) → p < length bytes → known bytes a p ≡ Some (Byte (get_or bytes p 0))
 known_byte bytes a p h = let e : nat_lt p (length bytes) ≡ true = grind (arith, nat_tests, h) in rw e refl
 
--- what is known is taken, where no byte stands behind it
+-- what is known is taken, where no byte stands after it
 taken_by : (bytes : List ℕ) (a : BTreeMap ℕ Heard) (copy : ℕ → Option Letter) → ((p : ℕ) → known bytes a p ≡ copy p) → (o : Option Letter) → copy (length bytes) ≡ o →
     ((b : ℕ) → o ≢ Some (Byte b)) → (ended : Bool) × IsTaken copy (record { bytes = bytes; ended = ended })
 taken_by bytes a copy h (Some (Byte b)) e stops = absurd (stops b refl)

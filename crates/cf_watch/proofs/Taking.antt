@@ -45,7 +45,7 @@ grows_both number old mid new g h =
 
 -- ---- conflicts
 
--- letters in front and those behind, and both
+-- letters in front and those after, and both
 record AreParts (f g : ℕ → Option Letter) (c d e : Carried) : Type 0 where
   front_number : c.number ≡ e.number
   back_number : d.number ≡ e.number
@@ -197,7 +197,7 @@ pub none_of : (k : Option Conflict) → is_some k ≡ false → k ≡ None
 none_of None h = refl
 none_of (Some k) h = absurd (true≢false h)
 
--- the byte that came ahead goes behind the others
+-- the byte that came ahead goes after the others
 pub knows_on : (old bytes : List ℕ) (b : ℕ) (a c : BTreeMap ℕ Heard) → bytes ≡ old ++ b ∷ [] → TakesOut (length old) b a c → (p : ℕ) → known bytes c p ≡ known old a p
 knows_on old bytes b a c e t p =
     let n : length bytes ≡ length old + 1 = ap length e ∙ length_push old b in

@@ -1,5 +1,5 @@
--- What the packets of one flow carried, and what a watcher knows of it: the bytes, the record with which each came, and the first
--- conflict. The newest packet stands first. This project's own; positions are those of RFC 9293, section 3.4.
+-- What the packets of one flow carried, and what a watcher knows of it: the bytes, `HasBytes`, the record with which each came,
+-- `AreBorn`, and the first conflict, `HasConflict`. The newest packet stands first. Positions are those of RFC 9293, section 3.4.
 use Rattle.std.specs.Prelude.{◌≡◌, ◌≢◌, ◌==◌, ◌<◌, ◌≤◌, ◌+ℤ◌, ℕ, ℤ, pos, max, List, [], ◌∷◌, ◌++◌, length, map, slice_get, if◌then◌else◌, Option, Some, None}
 use Rattle.cf_stream.specs.FirstCopy.{IsTaken, Offer, first_copy}
 use Rattle.cf_stream.specs.Position.{place_or_zero}
@@ -12,10 +12,11 @@ pub record Carried : Type 0 where
   pub at : ℤ
   pub text : Stream
 
--- the place behind the last of so many letters from a place on; 0 where none stands from place 0 on
+-- the place after the last of so many letters from a place on; 0 where none stands from place 0 on
 abbrev pub end_after : (at : ℤ) (count : ℕ) → ℕ
 end_after at count = if count == 0 then 0 else place_or_zero (at +ℤ pos count)
 
+-- the place after the last letter of a packet
 abbrev pub end_of : Carried → ℕ
 end_of c = end_after c.at (letter_count c.text)
 
@@ -75,6 +76,7 @@ pub record IsConflictWith (copy : ℕ → Option Letter) (c : Carried) (conflict
   pub here : Differs copy c place
   pub lowest : (p : ℕ) → Differs copy c p → place ≤ p
 
+-- the conflict of a packet, or that it has none
 abbrev pub IsConflictOf : (ℕ → Option Letter) → Carried → Option Conflict → Type 0
 IsConflictOf copy c None = (p : ℕ) → Differs copy c p → ⊥
 IsConflictOf copy c (Some conflict) = IsConflictWith copy c conflict

@@ -1,4 +1,4 @@
--- Which flows a watcher answers for those that were watched: AreFlowsOf. This project's own.
+-- Which flows a watcher answers for those that were watched: AreFlowsOf.
 use Rattle.std.specs.Prelude.{◌≡◌, List, [], ◌∷◌}
 use Rattle.cf_watch.specs.Carried.{AreBorn, HasBytes, HasConflict}
 use Rattle.cf_watch.specs.Watched.{Watched}

@@ -1,4 +1,4 @@
--- What a contract sees of a `Flow`: FlowValue. This project's own.
+-- What a contract sees of a `Flow`: FlowValue.
 use Rattle.std.specs.Prelude.{◌≡◌, ◌<◌, ℕ, List, length, Option}
 use Rattle.cf_policy.specs.declared.Asset.{Asset}
 use Rattle.cf_view.specs.declared.Endpoint.{Endpoint}

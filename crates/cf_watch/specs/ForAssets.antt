@@ -1,4 +1,4 @@
--- Each flow of a capture is to an asset of the policy: AreForAssets. This project's own.
+-- Steps of the proof: each flow of a capture is to an asset of the policy: `AreForAssets`.
 use Rattle.std.specs.Prelude.{List}
 use Rattle.std.specs.List.{AllByRecursion}
 use Rattle.cf_run.specs.Capture.{Record}

@@ -1,4 +1,4 @@
--- What a watcher keeps of a flow in memory, and what the letters of a packet do to it: Takes. This project's own.
+-- Steps of the proof: what a watcher keeps of a flow in memory, and what the letters of a packet do to it: `Takes`.
 use Rattle.std.specs.Prelude.{◌≡◌, ◌≢◌, ◌+◌, ℕ, nat_lt, if◌then◌else◌, List, [], ◌∷◌, ◌++◌, length, replicate, slice_index, true, false, Option, Some, option_map}
 use Rattle.std.specs.BTreeMap.{BTreeMap, btree_map_len, get}
 use Rattle.std.specs.Option.{option_or}

@@ -1,4 +1,4 @@
--- What a watcher sees where all packets of a flow carry the letters of one stream: CarryOneStream. This project's own.
+-- Steps of the proof: what a watcher sees where all packets of a flow carry the letters of one stream: `CarryOneStream`.
 use Rattle.std.specs.Prelude.{◌≡◌, ◌++◌, ℕ, List, None}
 use Rattle.std.specs.List.{AllByRecursion}
 use Rattle.cf_stream.specs.Stream.{Carries, Stream}

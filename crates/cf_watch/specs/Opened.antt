@@ -1,4 +1,4 @@
--- Why a capture that was not opened is not watched. This project's own.
+-- Steps of the proof: why a capture that was not opened is not watched: `open_fault`.
 use Rattle.cf_run.specs.declared.record_reader.OpenFault.{OpenFault}
 use Rattle.cf_run.specs.declared.record_reader.OpenFault.TheVariants as opened
 use Rattle.cf_watch.specs.declared.fault.WatchFault.{WatchFault}

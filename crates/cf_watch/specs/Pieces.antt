@@ -1,4 +1,4 @@
--- Which numbers pieces stand for: born_of. A piece is of the bytes from its place on, up to that of the next one. This project's own.
+-- Steps of the proof: which numbers pieces stand for: `born_of`. A piece is of the bytes from its place on, up to that of the next one.
 use Rattle.std.specs.Prelude.{◌≡◌, ◌<◌, ◌≤◌, ◌-◌, ◌++◌, ◌∷◌, [], ℕ, zero, suc, nat_le, if◌then◌else◌, List, length, get_or}
 use Rattle.std.specs.List.Sorted.{IsNonDecreasingBy}
 use Rattle.cf_watch.specs.declared.born.Piece.{Piece}

@@ -1,4 +1,4 @@
--- How flows in memory stand for those that were watched. This project's own.
+-- Steps of the proof: how flows in memory stand for those that were watched: `IsWatchOf`.
 use Rattle.std.specs.Prelude.{◌≡◌, ◌*◌, ◌≤◌, ◌^◌, ℕ, List, length, slice_get, Some}
 use Rattle.std.specs.BTreeMap.{BTreeMap, get}
 use Rattle.std.specs.Ordering.{nat_cmp, ordering_then}

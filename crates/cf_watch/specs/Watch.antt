@@ -1,4 +1,4 @@
--- What a watcher answers about a capture file: WatchesAs. This project's own.
+-- What a watcher answers about a capture file: WatchesAs.
 use Rattle.std.specs.Prelude.{◌≡◌, ℕ, List, map, reverse, drop, Result, Ok, Err}
 use Rattle.cf_outside.specs.Files.{Content, IsAtEnd, IsLongerThan, absent, holds, untold}
 use Rattle.cf_policy.specs.declared.Asset.{Asset}

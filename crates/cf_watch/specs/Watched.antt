@@ -1,5 +1,5 @@
 -- The watched flows of a capture: watched. A flow is a client endpoint and an asset; each SYN that begins it anew begins another.
--- Packets of a flow before its first SYN are not used, nor are packets to no asset. This project's own.
+-- Packets of a flow before its first SYN are not used, nor are packets to no asset.
 use Rattle.std.specs.Prelude.{◌==◌, ◌+◌, ◌+ℤ◌, ℕ, ℤ, suc, pos, zero, Bool, true, false, not, ◌&&◌, ◌||◌, if◌then◌else◌, List, [], ◌∷◌, ◌++◌, length, set, slice_get, Option, Some, None, Result, Ok, Err}
 use Rattle.cf_packet.specs.Packet.{PacketValue, read_record}
 use Rattle.cf_packet.specs.declared.packet.PacketRefusal.{PacketRefusal}
@@ -23,10 +23,11 @@ pub record Watched : Type 0 where
 
 -- ---- one packet
 
--- where the text of a packet begins: a SYN has a number, and the text begins behind it
+-- where the text of a packet begins: a SYN has a number, and the text begins after it
 abbrev pub text_place : (origin top : ℕ) → PacketValue → ℤ
 text_place origin top packet = position_of packet.seq origin top +ℤ (if has_syn packet then pos 1 else pos 0)
 
+-- what a packet carries, read near the greatest place carried so far
 abbrev pub carried_by : (number origin top : ℕ) → PacketValue → Carried
 carried_by number origin top packet =
     record { number = number; at = text_place origin top packet; text = letters_in packet }
@@ -62,15 +63,18 @@ last_place client asset (f ∷ flows) = later_place (last_place client asset flo
 abbrev pub begins_anew : PacketValue → Watched → Bool
 begins_anew packet f = is_opening packet && not ((packet.seq == f.origin) && not f.answered)
 
+-- a packet of a flow at a place begins it anew, or goes on with it
 abbrev pub goes_to : (number asset place : ℕ) → PacketValue → Option Watched → List Watched → List Watched
 goes_to number asset place packet None flows = flows
 goes_to number asset place packet (Some f) flows =
     if begins_anew packet f then flows ++ begun_by number asset packet ∷ [] else set flows place (with_packet number packet f)
 
+-- a packet without such a flow begins one where it is a SYN, and else is not used
 abbrev pub goes_at : (number asset : ℕ) → PacketValue → (last : Option ℕ) → List Watched → List Watched
 goes_at number asset packet None flows = if is_opening packet then flows ++ begun_by number asset packet ∷ [] else flows
 goes_at number asset packet (Some place) flows = goes_to number asset place packet (slice_get flows place) flows
 
+-- the flows after a packet to an asset, or to none
 abbrev pub goes : (number : ℕ) → PacketValue → (asset : Option ℕ) → List Watched → List Watched
 goes number packet None flows = flows
 goes number packet (Some asset) flows = goes_at number asset packet (last_place packet.source asset flows) flows

@@ -47,7 +47,7 @@ impl Born {
         }
     }
 
-    /// Puts a number behind the others.
+    /// Puts a number after the others.
     pub(crate) fn push(&mut self, number: u64) -> Result<(), NoMemory>
         requires number { number < 2 ^ 32 }
         ensures { OnOk result (self.new ≡ self.old ++ number ∷ []) }

@@ -21,7 +21,7 @@ fn letter_at(bytes: &[u8], ahead: &Ahead, place: u64) -> Option<Letter>
     ahead.get(&place).copied()
 }
 
-/// Puts a byte behind the others.
+/// Puts a byte after the others.
 fn push(flow: &mut Flow, number: u64, byte: u8) -> Result<(), NoMemory>
     requires number { number < 2 ^ 32 }
     ensures grows { OnOk result (Grows number flow.old flow.new) }

@@ -10,7 +10,7 @@ use cf_view::Endpoint;
 pub struct Conflict {
     /// The number, counted from 1, of the record that has the later packet.
     pub at_record: u64,
-    /// The position, counted from 0 for the letter behind the SYN, and at least 0.
+    /// The position, counted from 0 for the letter after the SYN, and at least 0.
     pub position: i64,
 }
 

@@ -49,7 +49,7 @@ fn position(seq: u32, origin: u32, base: u64) -> i64
     }
 }
 
-/// Where the text of a packet begins: behind the number of a SYN.
+/// Where the text of a packet begins: after the number of a SYN.
 pub(crate) fn text_place(packet: &Packet<'_>, origin: u32, top: u64) -> i64
     requires { top ≤ 2 ^ 60 }
     ensures value { result ≡ text_place origin top (packet_value packet.now) }

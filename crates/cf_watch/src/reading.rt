@@ -112,7 +112,7 @@ fn is_long<F: Files>(name: &str, files: &mut F) -> Option<bool>
     }
 }
 
-/// Keeps a stamp behind the others, where stamps are kept.
+/// Keeps a stamp after the others, where stamps are kept.
 fn keep_stamp(stamps: Stamps, kept: &mut Vec<u64>, stamp: u64) -> Result<(), NoMemory>
     ensures { OnOk result (stamps ≡ Stamps.Kept → kept.new.items ≡ kept.old.items ++ stamp ∷ []) }
 {

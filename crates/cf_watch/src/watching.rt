@@ -72,7 +72,7 @@ fn hear(
     Ok(())
 }
 
-/// How many letters a text has, with End behind it or not.
+/// How many letters a text has, with End after it or not.
 fn letters_in(text: &[u8], ended: bool) -> u64
     requires { length text.now ≤ 65535 }
     ensures count { result ≡ letter_count (record { bytes = text.now; ended = ended }) }
@@ -262,7 +262,7 @@ impl Watch {
         Ok(())
     }
 
-    /// Adds a flow behind the others.
+    /// Adds a flow after the others.
     fn add(&mut self, flow: Flow, trail: Trail) -> Result<(), NoMemory>
         ensures flows { OnOk result (self.new.flows.items ≡ self.old.flows.items ++ flow ∷ []) }
         ensures trails { OnOk result (self.new.trails.items ≡ self.old.trails.items ++ trail ∷ []) }

@@ -16,7 +16,7 @@ use Rattle.cf_run.specs.declared.Form.TheVariants as form
 use Rattle.cf_world.specs.Capture.{AreApart, HasPacket, IsCaptureOf}
 use Rattle.cf_world.specs.Making.{AreMade, IsMade, least_after, record_octets, records_octets}
 
--- one more record behind the others
+-- one more record after the others
 pub made_more : (least : ℕ) (rs : List Record) (r : Record) → AreMade least rs → least_after least rs ≤ r.stamp → IsMade r → AreMade least (rs ++ r ∷ [])
 made_more least [] r made later is = (later, is, tt)
 made_more least (q ∷ rs) r (a, b, made) later is = (a, b, made_more (q.stamp + 2000) rs r made later is)

@@ -124,7 +124,7 @@ holds_part before first after begun part =
 holds_nothing : (before after : Content) → IsPartly output_octets before after → HoldsCapturePart before after
 holds_nothing before after partly = record { octets = output_octets; records = []; is_capture = is_capture [] tt (omega arith); in_file = partly }
 
--- the policy was written, and the capture was begun behind it
+-- the policy was written, and the capture was begun after it
 module _ (sessions : ℕ) (names : WorldNamesValue) (before mid first : List ℕ → Content) (apart : names.policy ≢ names.capture)
     (policy : HoldsPolicy (before names.policy) (mid names.policy)) (kept : KeepsOthers names.policy before mid) (begun : KeepsOthers names.capture mid first) where
   untouched : mid names.capture ≡ before names.capture
@@ -140,7 +140,7 @@ module _ (sessions : ℕ) (names : WorldNamesValue) (before mid first : List ℕ
     capture = holds_nothing (before names.capture) (first names.capture) (subst (λ file. IsPartly output_octets file (first names.capture)) untouched partly);
   }
 
-  -- records were made behind its header
+  -- records were made after its header
   pub world_made : (after : List ℕ → Content) (result : Result Unit WorldFault) → first names.capture ≡ content_after_write (mid names.capture) output_octets →
       KeepsOthers names.capture first after → AppendsRecords sessions (first names.capture) (after names.capture) result → MakesWorld sessions names before after result
   world_made after (Ok _) header others all = record {

@@ -34,7 +34,7 @@ AreApart least [] = Unit {0}
 AreApart least (r ∷ rs) = (least ≤ r.stamp) × AreApart (r.stamp + 2000) rs
 
 -- a capture file of these records alone: its header is the one that is written, each record is allowed and has its moment, each
--- is a packet, and the file ends behind the last one
+-- is a packet, and the file ends after the last one
 pub record IsCaptureOf (records : List Record) (octets : List ℕ) : Type 0 where
   pub header : take 24 octets ≡ output_octets
   pub read : header_of octets ≡ Ok output_header

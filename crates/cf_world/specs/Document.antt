@@ -54,6 +54,7 @@ w1 = asset_with (codes "w1") (controller 2 20000) Dnp3 10 1 (ok_rule (from_to 5 
 abbrev pub w2 : Asset
 w2 = asset_with (codes "w2") (controller 3 2404) Iec104 1 0 (ok_rule (from_to 45 45) (from_to 6 6) (from_to 1000 1009))
 
+-- the policy of a world: an asset a protocol
 abbrev pub made_policy : Policy
 made_policy = record { assets = w0 ∷ w1 ∷ w2 ∷ [] }
 

@@ -1,5 +1,4 @@
 -- Between whom the sessions of a world are: client_endpoint and controller_endpoint; session i, from 0, uses asset i mod 3.
--- This project's own.
 use Rattle.std.specs.Prelude.{ℕ, ◌+◌, ◌%◌, ◌==◌, if◌then◌else◌}
 use Rattle.cf_view.specs.declared.Endpoint.{Endpoint}
 

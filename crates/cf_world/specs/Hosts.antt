@@ -1,4 +1,4 @@
--- What the hosts take of what they hear, and what they owe. This project's own.
+-- Steps of the proof: what the hosts take of what they hear, `TakesInside`, and what they owe, `StaysOwed`.
 use Rattle.std.specs.Prelude.{◌≡◌, ◌≤◌, ◌⊎◌, ℕ, false}
 use Rattle.cf_world.specs.declared.end.HostEnd.{HostEnd}
 use Rattle.cf_world.specs.declared.end.Phase.TheVariants as phase

@@ -1,4 +1,4 @@
--- The making of a capture, record by record: AppendsRecords says what the records append to its file. This project's own.
+-- Steps of the proof: the making of a capture, record by record: `AppendsRecords` says what the records append to its file.
 use Rattle.std.specs.Prelude.{◌≡◌, ◌≤◌, ◌<◌, ◌⊎◌, ℕ, ◌+◌, ◌*◌, List, [], ◌∷◌, ◌++◌, Result, Ok, Err, length, take}
 use Rattle.std.specs.List.{flat_map}
 use Rattle.cf_outside.specs.Files.{Content, with_appended}
@@ -45,7 +45,7 @@ abbrev pub AreMade : (least : ℕ) → List Record → Type 0
 AreMade least [] = Unit {0}
 AreMade least (r ∷ rs) = (least ≤ r.stamp) × IsMade r × AreMade (r.stamp + 2000) rs
 
--- the least stamp of a record behind these
+-- the least stamp of a record after these
 abbrev pub least_after : (least : ℕ) → List Record → ℕ
 least_after least [] = least
 least_after least (r ∷ rs) = least_after (r.stamp + 2000) rs
@@ -75,7 +75,7 @@ abbrev pub AppendsRecords : (sessions : ℕ) → (old new : Content) → Result 
 AppendsRecords sessions old new (Ok _) = AppendsAll sessions old new
 AppendsRecords sessions old new (Err fault) = AppendsPart old new
 
--- a packet that is sent behind a moment, with which so many of the sessions have begun
+-- a packet that is sent after a moment, with which so many of the sessions have begun
 pub record IsSent (begun sessions last moment after : ℕ) (packet : List ℕ) : Type 0 where
   pub later : last + 2000 ≤ moment
   pub soon : moment ≤ last + 10000000

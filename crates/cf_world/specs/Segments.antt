@@ -1,4 +1,4 @@
--- The segments of the hosts: IsPacketOf. RFC 9293, section 3.1.
+-- Steps of the proof: the segments of the hosts: `IsPacketOf`. RFC 9293, section 3.1.
 use Rattle.std.specs.Prelude.{◌≡◌, ℕ, List, Ok}
 use Rattle.cf_packet.specs.Packet.{PacketValue, read_record}
 use Rattle.cf_pcap.specs.Header.{output_header}

@@ -1,4 +1,4 @@
--- What the hosts tell as a desk: nothing. silent_desk. This project's own.
+-- Steps of the proof: what the hosts tell as a desk, which is nothing: `silent_desk`.
 use Rattle.std.specs.Prelude.{true, [], None}
 use Rattle.cf_outside.specs.Desk.{DeskValue}
 use Rattle.cf_outside.specs.Files.{untold}

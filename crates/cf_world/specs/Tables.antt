@@ -1,4 +1,4 @@
--- The table that the document of a world is, as it is made: document_table. Tables and values are those of TOML 1.1.
+-- Steps of the proof: the table that the document of a world is, as it is made: `document_table`. Tables and values are those of TOML 1.1.
 use Rattle.std.specs.Prelude.{ℕ, ℤ, pos, List, codes}
 use Rattle.std.specs.Ordering.{match_ordering, nat_cmp}
 use Rattle.std.specs.Cmp.Lexicographic.{slice_cmp}

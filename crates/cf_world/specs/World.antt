@@ -1,4 +1,4 @@
--- What the making of a world leaves in its two files: MakesWorld. This project's own.
+-- What the making of a world leaves in its two files: MakesWorld.
 use Rattle.std.specs.Prelude.{◌≡◌, ◌<◌, ◌⊎◌, ℕ, List, [], ◌∷◌, length, Result, Ok, Err}
 use Rattle.cf_outside.specs.Desk.{IsNoneOf}
 use Rattle.cf_outside.specs.Files.{Content, IsPartly, content_after_write}

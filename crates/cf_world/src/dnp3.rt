@@ -46,7 +46,7 @@ impl Dnp3Master {
         Some(direct_operate(self.commands.next()?))
     }
 
-    /// The next command behind an answer.
+    /// The next command after an answer.
     pub(crate) fn hear(&mut self, heard: &[u8]) -> Reaction {
         match first_unit(next_frame(View::one(heard)), heard) {
             Ok((_, used)) => Reaction::goes_on(used, self.command()),

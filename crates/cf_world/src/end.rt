@@ -54,7 +54,7 @@ enum Taken {
 #[derive(Drop)]
 pub(crate) struct HostEnd {
     phase: Phase,
-    /// The sequence number behind all that it said.
+    /// The sequence number after all that it said.
     next: u32,
     /// The sequence number of the next octet that it takes.
     expected: u32,

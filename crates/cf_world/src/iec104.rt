@@ -90,7 +90,7 @@ impl Iec104Client {
         spelled(&Apdu::Control(START_ACT))
     }
 
-    /// The next command behind the confirmation of the start, or behind an answer.
+    /// The next command after the confirmation of the start, or after an answer.
     pub(crate) fn hear(&mut self, heard: &[u8]) -> Reaction {
         match first_unit(next_apdu(View::one(heard)), heard) {
             Ok((unit, used)) => match unit {

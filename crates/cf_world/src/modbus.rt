@@ -32,7 +32,7 @@ impl ModbusMaster {
         Some(write_register(self.commands.next()?))
     }
 
-    /// The next command behind an answer.
+    /// The next command after an answer.
     pub(crate) fn hear(&mut self, heard: &[u8]) -> Reaction {
         match first_unit(next_adu(View::one(heard)), heard) {
             Ok((_, used)) => Reaction::goes_on(used, self.command()),

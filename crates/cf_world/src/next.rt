@@ -37,7 +37,7 @@ pub(crate) enum Next {
     Ends,
 }
 
-/// What comes next, behind a record at the moment `last`, where so many sessions have begun of so many and so many segments were
+/// What comes next, after a record at the moment `last`, where so many sessions have begun of so many and so many segments were
 /// lost since then. A packet that is sent stands in place of what `packet` held.
 pub(crate) fn comes_next(
     hosts: &mut Hosts,
@@ -65,7 +65,7 @@ pub(crate) fn comes_next(
     }
 }
 
-/// Whether a segment may be lost behind so many that were.
+/// Whether a segment may be lost after so many that were.
 fn chance_after(losses: u32) -> Chance
     ensures { result ≡ Chance.MayLose → losses < MOST_LOSSES }
 {
@@ -76,7 +76,7 @@ fn chance_after(losses: u32) -> Chance
     }
 }
 
-/// The moment of a record behind one at the moment `last`, of a segment that is ready at a moment.
+/// The moment of a record after one at the moment `last`, of a segment that is ready at a moment.
 fn moment_of(ready: u64, last: u64) -> u64
     requires { last ≤ 10000000000000 }
     ensures later { last + 2000 ≤ result }

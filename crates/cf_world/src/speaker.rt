@@ -21,7 +21,7 @@ pub(crate) enum Reaction {
 }
 
 impl Reaction {
-    /// A client goes on behind a unit of so many octets: it says its next message, or closes where there is none.
+    /// A client goes on after a unit of so many octets: it says its next message, or closes where there is none.
     pub(crate) fn goes_on(used: usize, next: Option<Message>) -> Self {
         match next {
             Some(message) => Reaction::Says { used, message },

@@ -19,7 +19,7 @@ use thiserror::Error;
 /// How many records a capture has at most. This project's own.
 pub const RECORD_LIMIT: u32 = 1_000_000;
 
-/// The files of a world, both written. The two names differ.
+/// The files of a world, both written. The two names differ. This project's own.
 #[derive(Clone, Copy, Debug)]
 pub struct WorldNames<'a> {
     /// The text of the policy.
@@ -28,7 +28,7 @@ pub struct WorldNames<'a> {
     pub capture: &'a str,
 }
 
-/// Why a world was not made.
+/// Why a world was not made. This project's own.
 #[derive(Clone, Copy, PartialEq, Eq, Debug, Error)]
 pub enum WorldFault {
     /// Memory ran out.
@@ -63,7 +63,7 @@ impl From<WriteFault> for WorldFault {
 
 /// Makes a policy of three assets, one of each protocol, and a capture of so many sessions, from 1 to 200, which hosts made
 /// against the engine under that policy. Session i, from 0, is between the client 10.1.0.(i+1), port 40,000 + i, and asset i
-/// mod 3. The same seed and number give the same two files. The policy is created first, and nothing is written behind a
+/// mod 3. The same seed and number give the same two files. The policy is created first, and nothing is written after a
 /// fault. This project's own.
 pub fn make_world<F: Files>(
     alloc: Global,

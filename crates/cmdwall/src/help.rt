@@ -339,7 +339,7 @@ pub enum Topic {
     World,
 }
 
-/// What the words ask of `main`: the text of help, also with a command before or behind that word, or the version.
+/// What the words ask of `main`: the text of help, also with a command before or after that word, or the version.
 pub fn question_of(words: &[String]) -> Asked {
     match words {
         [word] => question_alone(word.as_str()),

@@ -1,4 +1,4 @@
-//! What standard error says behind work that was done: what a run cannot know, and why a capture shows nothing.
+//! What standard error says after work that was done: what a run cannot know, and why a capture shows nothing.
 
 use crate::why::policy_again;
 use cf_machine::{Gather, RealFiles};

@@ -14,7 +14,7 @@ use std::fmt::Write;
 use std::test::Fail;
 
 /// A row has an asset; what the client sends before its end; the moments that are told, in microseconds; how many octets each move moves at
-/// most; the calls that answer that nothing came, and those that fail. Behind `gives` stand the answer; how many answers of the pair there
+/// most; the calls that answer that nothing came, and those that fail. After `gives` stand the answer; how many answers of the pair there
 /// were, and how many of them that nothing came, where the row says it; what the client and the controller were given; and the log. The
 /// controller sends nothing, and the relay ends after five answers of each side that nothing came.
 const ROWS: &str = "nothing comes, and the relay ends

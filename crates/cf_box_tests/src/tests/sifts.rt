@@ -8,7 +8,7 @@ use std::alloc::Global;
 use std::fmt::Write;
 use std::test::Fail;
 
-/// A row has the stream, the output as it was before, and the call of the files that fails; behind `gives` stand the answer, the output,
+/// A row has the stream, the output as it was before, and the call of the files that fails; after `gives` stand the answer, the output,
 /// the replies, and the log.
 const ROWS: &str = "what came before a break is written, and then its line
 stream: 000100000006010600320064 000100000006010600280064 00020001

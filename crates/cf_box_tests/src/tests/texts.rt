@@ -65,7 +65,7 @@ fn document_is_a_policy(rt: HostRuntime) -> Result<(), Fail> {
 
 /// A row: a seed, a host of its world of one session, and how many of its first texts follow: where each starts in its stream, and its
 /// octets. A command and its echo have 12 octets, and the third command, which no controller hears, is refused. A draw is for the next
-/// text of the client or the controller, in turn, but that behind the third command is for the client again. A text goes whole; by 3 in
+/// text of the client or the controller, in turn, but that after the third command is for the client again. A text goes whole; by 3 in
 /// two halves; by 4 so, the second first; by 5 twice; by 6 whole, and then its second half with all bits inverted; by 7 not, and then
 /// again by the next draw. So some texts start below the one before, some places are carried twice with equal octets, and some with two
 /// different ones.

@@ -6,7 +6,7 @@ use cf_world::{WorldNames, make_world};
 use std::alloc::Global;
 use std::test::Fail;
 
-/// A row: the seed and the sessions of a world, and what is printed of its run behind the number of records, ` / ` between its lines: of a
+/// A row: the seed and the sessions of a world, and what is printed of its run after the number of records, ` / ` between its lines: of a
 /// session's fifteen commands ten are admitted and five are refused, and nothing else happens.
 const ROWS: &str =
     "7 1 => dropped 0 / outside 0 / full 0 / sessions 1 / admitted 10 / refused 5 / cuts 0

@@ -118,7 +118,7 @@ c3 01 3c02 5c 01000100 = Parameter
 c3 01 3c02 86 01000100 = Parameter
 c3 01 3c02 ff 01000100 = Parameter";
 
-/// Headers that are cut off at each octet, and one behind a whole one.
+/// Headers that are cut off at each octet, and one after a whole one.
 const CUT_OFF: &str = "\
 c3 01 3c = Parameter
 c3 01 3c02 = Parameter

@@ -8,7 +8,7 @@ use std::alloc::Global;
 use std::fmt::Write;
 use std::process::Abort;
 
-/// Asserts of each row that what `found` appends of its octets, and of the word behind a comma, is what the row wants.
+/// Asserts of each row that what `found` appends of its octets, and of the word after a comma, is what the row wants.
 pub(crate) fn each_row<F: Fn(&[u8], &str, &mut String)>(
     rt: &impl Abort,
     alloc: Global,

@@ -1,5 +1,5 @@
 //! A change of a policy's text: `WORD: TEXT`, the policy with TEXT in place of the line of that word; several such with ` | ` between
-//! them; behind `text:` a whole text; or behind `octets:` its octets. ` / ` ends a line of TEXT, and `FRONT * N PART * END` has PART N
+//! them; after `text:` a whole text; or after `octets:` its octets. ` / ` ends a line of TEXT, and `FRONT * N PART * END` has PART N
 //! times.
 use cf_samples::rows::octets;
 use std::alloc::{AllocError, Global};

@@ -12,7 +12,7 @@ use std::alloc::Global;
 use std::fmt::Write;
 use std::test::Fail;
 
-/// A policy with a word before each line that the rows replace. `more` stands before the first asset, `last` behind it.
+/// A policy with a word before each line that the rows replace. `more` stands before the first asset, `last` after it.
 const LINES: &str = r#"version: version = 1
 more:
 : [[asset]]
@@ -216,7 +216,7 @@ fn octets(alloc: Global, changes: &str) -> Result<Vec<u8>, Fail> {
     policy_octets(alloc, LINES, &changes)
 }
 
-/// Entries of a list, each behind this front, that do not touch.
+/// Entries of a list, each after this front, that do not touch.
 fn entries(alloc: Global, front: &str) -> Result<String, Fail> {
     let mut text = String::new(alloc);
     for place in 0..64u32 {

@@ -137,7 +137,7 @@ fn bytes_of(alloc: Global, text: &str) -> Result<Vec<u8>, Fail> {
     Ok(bytes)
 }
 
-/// A request of the pump with two numbers behind its code.
+/// A request of the pump with two numbers after its code.
 fn push_command(bytes: &mut Vec<u8>, code: u8, first: u16, second: u16) -> Result<(), AllocError> {
     let [a, b] = first.to_be_bytes();
     let [c, d] = second.to_be_bytes();

@@ -7,7 +7,7 @@ use cf_view::{Act, Break, Reason, Side, View};
 use std::alloc::Global;
 use std::test::Fail;
 
-/// A row: what happened to a client of `pump`, and its line behind the moment, the client and the asset. A refusal gives the rule, the
+/// A row: what happened to a client of `pump`, and its line after the moment, the client and the asset. A refusal gives the rule, the
 /// reason, the value of a write to point 40 (`-` for none), whether it was answered, and the octets of the command.
 pub(super) const ROWS: &str = "Refuse set Value 501 answered ab*12
 refuse set value code 6 group 0 point 40 value 501 replied abababababababababababab
@@ -121,7 +121,7 @@ fn small(given: &str, place: usize) -> u16 {
     word(given, place).parse::<u16>().unwrap_or(0)
 }
 
-/// The line of what happened, behind its moment, client and asset, which are always the same.
+/// The line of what happened, after its moment, client and asset, which are always the same.
 pub(super) fn line(alloc: Global, given: &str) -> Result<String, Fail> {
     let unit = octets(alloc, word(given, 5))?;
     let what = what(given, &unit);

@@ -177,7 +177,7 @@ pub(super) fn capture(alloc: Global, given: &str) -> Result<String, Fail> {
     }
 }
 
-/// A row: the names of outputs that were begun, and behind `|` of those that were left, and what stands in them.
+/// A row: the names of outputs that were begun, and after `|` of those that were left, and what stands in them.
 pub(super) const OUTPUTS: &str = "|
 no file was changed
 

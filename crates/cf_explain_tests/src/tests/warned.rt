@@ -19,7 +19,7 @@ action: action = "allow"
 lists:
 more:"#;
 
-/// A row: the protocol, the lists of rule 1 and what stands behind it, and then each warning and a point.
+/// A row: the protocol, the lists of rule 1 and what stands after it, and then each warning and a point.
 pub(super) const ROWS: &str = r#"lists: codes = [99]
 p:8:1: warning: asset 1 "x", rule 1 "a": no command meets it: code 99 is not served; codes of Modbus are 1 to 6, 15, 16, 22 and 23
 .
@@ -237,7 +237,7 @@ protocol: protocol = "iec104" | lists: codes = [103] / points = ["16777216"]
 p:8:1: warning: asset 1 "x", rule 1 "a": no command meets it: code 103 has no points but 0 to 16777215
 ."#;
 
-/// The warnings about a policy, and a point behind the last line.
+/// The warnings about a policy, and a point after the last line.
 pub(super) fn warnings(alloc: Global, changes: &str) -> Result<String, Fail> {
     let octets = policy_octets(alloc, LINES, changes)?;
     let policy = read_policy(alloc, &octets)?;

@@ -14,8 +14,9 @@ use cf_dnpobj::{Fragment, FragmentRefusal, act_at, act_count, read_fragment};
 use cf_policy::{Asset, Decider};
 use cf_view::{Reason, Side, View};
 
-/// The fate of a fragment of 2 to 2,048 octets of the client of the index: a confirmation goes on, and every other one is a command. Its form is
-/// read, then each act is judged in its order; the first that is not allowed decides. This project's own order.
+/// The fate of a fragment of 2 to 2,048 octets of the client of the index: a confirmation goes on, and every other one is a
+/// command. Its form is read, then each act is judged in its order; the first that is not allowed decides. This project's own
+/// order.
 pub(crate) fn judge_fragment(asset: &Asset, rules: &Rules, moment: u64, octets: &View<'_>) -> Fate
     requires at_least { 2 ≤ length octets.now.bytes }
     requires at_most { length octets.now.bytes ≤ 2048 }

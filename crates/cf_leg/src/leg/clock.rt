@@ -73,6 +73,7 @@ impl Leg {
         ensures whole { OnOk result (DeskValue.whole (D.value desk.new) ≡ true) }
         ensures cause { HasCause (DeskValue.faults (D.value desk.old)) (DeskValue.faults (D.value desk.new)) (IsErr result) }
     {
+        // The fact: the window and what was told keep their bounds.
         let _told = self.told();
         if self.is_open() {
             return self.send_oldest(now, queue, desk);
@@ -146,6 +147,7 @@ impl Leg {
         if self.is_spent() {
             return Ok(ClockAnswer::NoAnswer);
         }
+        // The fact: the marks of the queue stand in their order.
         let _acked = acked_of(queue);
         let answer = self.send_again(now, queue, desk)?;
         self.fire(now);

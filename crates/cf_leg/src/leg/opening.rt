@@ -28,6 +28,7 @@ impl Leg {
         ensures window { IsWindow self.old.window }
         ensures new { self.new ≡ greeted_as self.old number now }
     {
+        // The fact: the window keeps its bounds.
         let _edge = self.window.edge();
         self.own = number;
         self.phase = Phase::Greeted;

@@ -89,7 +89,7 @@ fn capture(rt: &impl Abort, alloc: Global, lines: &str) -> Vec<u8> {
     all
 }
 
-/// What a run answered, and the files behind it.
+/// What a run answered, and the files after it.
 fn left(
     rt: &impl Abort,
     alloc: Global,

@@ -2,7 +2,7 @@
 //!
 //! `opens: active` has the SYN of an end that sends one, `opens: passive` that of the peer of an end that answers it, at the same
 //! moment; a `silent` one does not. `origins:` are the numbers of the SYNs of the client and the controller, 1000 and 5000 where
-//! they are not given. Then each line is an event, and the lines `<` behind it are what went out in it.
+//! they are not given. Then each line is an event, and the lines `<` after it are what went out in it.
 //!
 //! - `> PACKET = ANSWER`: a packet comes, the end gives an answer, and speaks unless its peer has reset it; `hears` has no speech.
 //! - `speaks MOMENT OCTETS End`: these octets are pushed, and End, and the end speaks; both may be missing. `shut` is a speech

@@ -3,7 +3,7 @@
 //! - `asset:` names one of the two samples, or `sub`, which allows single commands to point 1000.
 //! - `> MOMENT c OCTETS | OCTETS = USED cut REASON`: octets of the client come, or of the controller, `k`, in one slice or in two;
 //!   so many of them are used, and the session is cut, or not.
-//! - `> MOMENT c End REST = ended`: the client ends, behind so many octets that were not used.
+//! - `> MOMENT c End REST = ended`: the client ends, after so many octets that were not used.
 //! - `CONTROLLER:`, `CLIENT:`, `log` and `printed:` are what was put out, logged and counted.
 ghost use Rattle.std.specs.Prelude.{◌≡◌, IfOk, true};
 ghost use Rattle.cf_lane.specs.Handled.{IsOpen};
@@ -221,7 +221,7 @@ fn feeds(rt: &impl Abort, scene: &mut Scene, now: u64, side: Side, bytes: View<'
         .expect(rt, "fed")
 }
 
-/// A side ends, behind so many octets that were not used.
+/// A side ends, after so many octets that were not used.
 fn ends(rt: &impl Abort, scene: &mut Scene, now: u64, side: Side, rest: u32) {
     assert!(rt; scene.desk.faults == 0);
     assert!(rt; is_open(side, &scene.to_client, &scene.to_controller));

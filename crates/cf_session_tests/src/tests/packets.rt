@@ -65,7 +65,7 @@ pub fn read_origins(rt: &impl Abort, spelled: &str) -> Origins {
     }
 }
 
-/// A moment in microseconds, and what stands behind it.
+/// A moment in microseconds, and what stands after it.
 pub fn moment<'a>(rt: &impl Abort, line: &'a str) -> (u64, &'a str) {
     let (moment, rest) = line.split_once(' ').unwrap_or((line, ""));
     let (seconds, micros) = moment.split_once('.').expect(rt, line);
@@ -102,7 +102,7 @@ fn flags(rt: &impl Abort, letters: &str) -> u8 {
     flags
 }
 
-/// The packet that a line spells behind its moment.
+/// The packet that a line spells after its moment.
 pub fn read_segment(rt: &impl Abort, alloc: Global, origins: &Origins, spelled: &str) -> Segment {
     let mut fields = spelled.splitn(6, ' ');
     let is_client = fields.next() == Some("c");
@@ -129,7 +129,7 @@ pub fn read_segment(rt: &impl Abort, alloc: Global, origins: &Origins, spelled: 
     }
 }
 
-/// The octets of the packet that a line spells behind its moment; `ip` and octets are a packet as it stands.
+/// The octets of the packet that a line spells after its moment; `ip` and octets are a packet as it stands.
 pub fn packet(rt: &impl Abort, alloc: Global, origins: &Origins, spelled: &str) -> Vec<u8> {
     if let Some(spelled) = spelled.strip_prefix("ip ") {
         return octets(alloc, spelled).expect(rt, spelled);

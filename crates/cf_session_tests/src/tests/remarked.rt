@@ -1,6 +1,6 @@
 //! Remarks on runs. A row has the packets of a capture of Ethernet frames, as the lines of an exchange spell them; `bad` before one
 //! changes its last octet, `cut` leaves that out, and `frame` and octets are a frame as it stands. What is wanted are the remarks, or
-//! `nothing`; behind them `alone`, where no record is a packet. SYNs have the numbers 1000 and 5000.
+//! `nothing`; after them `alone`, where no record is a packet. SYNs have the numbers 1000 and 5000.
 
 use super::packets::{Origins, moment, packet};
 use super::sessions::policy;

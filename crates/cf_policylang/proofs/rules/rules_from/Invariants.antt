@@ -3,7 +3,7 @@ use Rattle.toml.specs.View.{items_view}
 use Rattle.cf_policylang.specs.Rules.{rules_from}
 use Rattle.cf_policylang.proofs.rules.rules_from.Given as goal
 
--- what is left, read behind what was read, means what the whole does
+-- what is left, read after what was read, means what the whole does
 abbrev pub invariant-loop-index : goal.invariant-loop-index
 invariant-loop-index l =
     rules_from l.named l.asset l.index (items_view (drop l.index l.array.items)) l.rules.items

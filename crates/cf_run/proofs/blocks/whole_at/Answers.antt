@@ -19,7 +19,7 @@ stood section place size octets all f e near fits is =
     let past : is_past place size all ≡ false = grind (arith, nat_tests, long) in
     section_whole section place all size fits past ∙ ap (λ o. by_block (answer_of (block_at section o))) (sym e) ∙ ap by_block (sym is)
 
--- the form behind it
+-- the form after it
 behind : (section new : Section) (size : ℕ) (octets all : List ℕ) (place : ℕ) → octets ≡ take size all → SizeFits section place all size →
     new ≡ after_found section (block_at section octets) → form.Blocks new ≡ form.Blocks (after_found section (block_at section all))
 behind section new size octets all place e fits is =

@@ -85,7 +85,7 @@ module _ (g : Over) (c : In-Some g) (client : Endpoint) (first : List ℕ → Co
     piece_is_cut last cut why is taken = piece_cuts asset client names first one old now c.pieces.at c.pieces.sifting t piece filled new last why (omega (arith, size, some)) short
         (subst (λ k. IsSiftingAfter asset client names first new (t.history ++ element ∷ []) k last) is (taken client first t.history t.sifting_of))
 
-    -- nothing cuts behind it
+    -- nothing cuts after it
     module _ (last : Sifting) (cut : Option CutReason) (is : cut ≡ None) (taken : TakesElement asset names element c.pieces.sifting last now new cut) where
       after : IsSiftingAfter asset client names first new (t.history ++ element ∷ []) None last
       after = subst (λ k. IsSiftingAfter asset client names first new (t.history ++ element ∷ []) k last) is (taken client first t.history t.sifting_of)

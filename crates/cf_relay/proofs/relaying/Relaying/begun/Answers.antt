@@ -1,6 +1,6 @@
 use Rattle.std.proofs.Common.{[], subst, sym, ◌∷◌}
 use Rattle.cf_outside.specs.Pair.{Moment, met_at}
-use Rattle.cf_relay.proofs.Ending.{begun_is, first_stands}
+use Rattle.cf_relay.proofs.Starting.{begun_is, first_stands}
 use Rattle.cf_relay.specs.Relaying.{RelayingValue}
 use Rattle.cf_relay.specs.Stands.{StandsFor}
 use Rattle.cf_relay.proofs.relaying.Relaying.begun.Goals as goal

@@ -1,0 +1,36 @@
+-- Steps of the proof: a relay between two turns, `HasTurned`, and one that stopped within a turn, `HasStopped`, each over lines
+-- of its own.
+use Rattle.cf_audit.specs.Line.{Begun}
+use Rattle.cf_lane.specs.Log.{line_about, with_lines}
+use Rattle.cf_outside.specs.Pair.{Entry, Moment, met_at}
+use Rattle.cf_policy.specs.declared.Asset.{Asset}
+use Rattle.cf_view.specs.declared.Endpoint.{Endpoint}
+use Rattle.std.specs.Prelude.{List, Option, [], ℕ, ◌<◌, ◌∷◌}
+use Rattle.cf_relay.specs.Relaying.{RelayingValue}
+use Rattle.cf_relay.specs.Stands.{StandsFor, StandsStopped}
+use Rattle.cf_relay.specs.Turn.{BeginsStages, DoesStages, turns}
+use Rattle.cf_relay.specs.declared.stop.Stop.{Stop}
+
+-- the list of a relay of a port: a client is met beside the controller, a moment is told, and then there are these answers
+abbrev pub begun_list : Asset → (listen : ℕ) → Endpoint → (moment : ℕ) → List Entry → List Entry
+begun_list asset listen client moment answers = met_at listen asset.endpoint client ∷ Moment moment ∷ answers
+
+-- the lines with which it begins: what stood there, and the line of its beginning
+abbrev pub begun_lines : Asset → Endpoint → (moment : ℕ) → (base : Option (List (List ℕ))) → Option (List (List ℕ))
+begun_lines asset client moment base = with_lines base (line_about asset client moment Begun ∷ [])
+
+-- it has made so many turns, and goes on
+pub record HasTurned (asset : Asset) (listen most : ℕ) (client : Endpoint) (moment : ℕ) (base : Option (List (List ℕ)))
+    (answers : List Entry) (now : RelayingValue) (own : Option (List (List ℕ))) : Type 0 where
+  pub count : ℕ
+  pub does : DoesStages asset most (turns count) (begun_list asset listen client moment []) answers
+  pub stands : StandsFor asset (begun_lines asset client moment base) (begun_list asset listen client moment answers) now own
+  pub few : now.idle < most
+
+-- it stopped within a turn; a line that failed left a part after its own lines
+pub record HasStopped (asset : Asset) (listen most : ℕ) (client : Endpoint) (moment : ℕ) (base : Option (List (List ℕ)))
+    (answers : List Entry) (why : Stop) (now : RelayingValue) (own : Option (List (List ℕ))) (part : List ℕ) : Type 0 where
+  pub count : ℕ
+  pub breaks : BeginsStages asset most (turns count) (begun_list asset listen client moment []) answers
+  pub some : 0 < most
+  pub stands : StandsStopped asset most (begun_lines asset client moment base) (begun_list asset listen client moment answers) why now own part
