@@ -1,12 +1,14 @@
 -- One step of a round: a session in its place had its turn.
-use Rattle.std.proofs.Common.{Bool, List, None, Option, Some, [], ap, arith, length, refl, subst, sym, true, false, ℕ, ◌++◌, ◌<◌, ◌≤◌, ◌∙◌, ◌∷◌, ◌≡◌}
+use Rattle.std.proofs.Common.{Bool, List, None, Option, Some, [], ap, arith, length, refl, subst, sym, true, false, ℕ, ◌++◌, ◌<◌, ◌≤◌}
+use Rattle.std.proofs.Common.{◌∙◌, ◌∷◌, ◌≡◌}
 use Rattle.std.specs.Prelude.{Err, Ok, OnErr, Result, is_some, not, slice_get, ◌==◌}
 use Rattle.std.specs.List.{AllByRecursion}
 use Rattle.std.proofs.lemmas.Option.{same_Some}
 use Rattle.cf_links.specs.Links.{LinksEntry, LinksPlace}
 use Rattle.cf_links.specs.Service.{LosesSession}
 use Rattle.cf_serve.proofs.Keeping.{keeps_end, keeps_stay}
-use Rattle.cf_serve.proofs.Numbers.{after_it, all_back, all_front, all_join, all_map, all_zip, before_it, number_below, others_after, others_before, with_it, without_it, below}
+use Rattle.cf_serve.proofs.Numbers.{after_it, all_back, all_front, all_join, all_map, all_zip, before_it, number_below, others_after}
+use Rattle.cf_serve.proofs.Numbers.{others_before, with_it, without_it, below}
 use Rattle.cf_serve.specs.Phase.{KeepsPlace, LinkedValue, MayTurn, Phase, SeatDoes, StandsAs, TurnLeaves}
 use Rattle.cf_serve.specs.Rounds.{Seat, TurnOf, answers_in, lines_in, stays}
 use Rattle.cf_serve.specs.Session.{Listening}

@@ -37,8 +37,11 @@ EachIsAlone =
 abbrev pub IsolatesSessions : Type 0
 IsolatesSessions =
     (places others : List Place) (at : Listening) (most : ℕ) (entries other_entries : List LinksEntry) (lines other_lines : List (List ℕ))
-    (one : IsServed places most entries lines) (two : IsServed others most other_entries other_lines) (k l : ℕ) (client other_client : Endpoint)
+    (one : IsServed places most entries lines) (two : IsServed others most other_entries other_lines) (k l : ℕ)
+    (client other_client : Endpoint)
     → IsSession at most client (answers_of k entries) (lines_in k (turns_of one.rounds)) (ends_in k (turns_of one.rounds))
     → IsSession at most other_client (answers_of l other_entries) (lines_in l (turns_of two.rounds)) (ends_in l (turns_of two.rounds))
-    → answers_of k entries ≡ answers_of l other_entries → ends_in k (turns_of one.rounds) ≡ ends_in l (turns_of two.rounds) → AreRelayed (ends_in l (turns_of two.rounds))
-    → ((s : Side) → given s (answers_of k entries) ≡ given s (answers_of l other_entries)) × (lines_in k (turns_of one.rounds) ≡ lines_in l (turns_of two.rounds))
+    → answers_of k entries ≡ answers_of l other_entries → ends_in k (turns_of one.rounds) ≡ ends_in l (turns_of two.rounds)
+    → AreRelayed (ends_in l (turns_of two.rounds))
+    → ((s : Side) → given s (answers_of k entries) ≡ given s (answers_of l other_entries))
+    × (lines_in k (turns_of one.rounds) ≡ lines_in l (turns_of two.rounds))

@@ -11,7 +11,8 @@ use Rattle.cf_relay.specs.Turn.{DoesStages, turns}
 use Rattle.cf_view.specs.declared.Endpoint.{Endpoint}
 use Rattle.cf_relay.specs.declared.stop.Stop.{Stop}
 use Rattle.cf_relay.specs.declared.stop.Stop.TheVariants as stop
-use Rattle.std.specs.Prelude.{Bool, Err, List, None, Ok, Result, false, true, Option, Some, [], is_some, map, not, option_map, ℕ, ◌++◌, ◌∷◌, ◌≡◌}
+use Rattle.std.specs.Prelude.{Bool, Err, List, None, Ok, Result, false, true, Option, Some, [], is_some, map, not, option_map, ℕ}
+use Rattle.std.specs.Prelude.{◌++◌, ◌∷◌, ◌≡◌}
 use Rattle.cf_serve.specs.Rounds.{IsTurn, Seat, TurnOf, turn_entries}
 use Rattle.cf_serve.specs.Session.{EndsSo, Listening}
 use Rattle.cf_serve.specs.declared.end.SessionEnd.{SessionEnd}
@@ -67,7 +68,8 @@ MayTurn at most None = Unit {0}
 MayTurn at most (Some v) = IsSound at.asset most v.now × (AreClosed v.now → ⊥)
 
 -- what a turn leaves: a session that stands, or one that ended
-abbrev pub TurnLeaves : Listening → (most : ℕ) → (client : Endpoint) → List Entry → (own : List (List ℕ)) → Option LinkedValue → Option SessionEnd → Type 0
+abbrev pub TurnLeaves : Listening → (most : ℕ) → (client : Endpoint) → List Entry → (own : List (List ℕ)) → Option LinkedValue
+    → Option SessionEnd → Type 0
 TurnLeaves at most client es own linked None = StandsAs at most es own linked
 TurnLeaves at most client es own linked (Some end) = EndsSo at most client es own end
 

@@ -9,7 +9,8 @@ use Rattle.cf_links.specs.Links.{Came, Left, LinksEntry, Of, Ready, Woke}
 use Rattle.cf_outside.specs.Pair.{Entry}
 use Rattle.cf_view.specs.declared.Endpoint.{Endpoint}
 use Rattle.std.specs.List.{flat_map, sum_by}
-use Rattle.std.specs.Prelude.{Bool, List, None, Option, Some, [], false, if◌then◌else◌, length, map, nat_lt, option_to_list, slice_get, ℕ, ◌&&◌, ◌++◌, ◌+◌}
+use Rattle.std.specs.Prelude.{Bool, List, None, Option, Some, [], false, if◌then◌else◌, length, map, nat_lt, option_to_list}
+use Rattle.std.specs.Prelude.{slice_get, ℕ, ◌&&◌, ◌++◌, ◌+◌}
 use Rattle.std.specs.Prelude.{◌∷◌, ◌≡◌, ◌≤◌, ◌==◌, true}
 use Rattle.cf_serve.specs.Session.{Listening}
 use Rattle.cf_serve.specs.declared.end.SessionEnd.{SessionEnd}
@@ -125,7 +126,8 @@ pub record IsRound (places : List Listening) (next : ℕ) (standing : List Seat)
   pub stay : standing_after ≡ flat_map stays r.turns
 
 -- one after the other, from the next number and the sessions that stand to those behind the last
-abbrev pub AreRounds : List Listening → (next : ℕ) → (standing : List Seat) → List Round → (next_after : ℕ) → (standing_after : List Seat) → Type 0
+abbrev pub AreRounds : List Listening → (next : ℕ) → (standing : List Seat) → List Round → (next_after : ℕ)
+    → (standing_after : List Seat) → Type 0
 AreRounds places next standing [] next_after standing_after = (next_after ≡ next) × (standing_after ≡ standing)
 AreRounds places next standing (r ∷ rs) next_after standing_after =
     (n : ℕ) × ((s : List Seat) × (IsRound places next standing r n s × AreRounds places n s rs next_after standing_after))

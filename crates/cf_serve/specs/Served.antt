@@ -53,7 +53,8 @@ pub record IsServed (places : List Place) (most : ℕ) (entries : List LinksEntr
   pub stand : AllByRecursion (λ (s : Seat). IsClient (listenings places) most (turns_of rounds) s []) standing
 
 -- places were opened, from the first on
-pub record OpensDo (places : List Place) (count : ℕ) (told told_after : Option (List LinksEntry)) (log log_after : Option (List (List ℕ))) : Type 0 where
+pub record OpensDo (places : List Place) (count : ℕ) (told told_after : Option (List LinksEntry))
+    (log log_after : Option (List (List ℕ))) : Type 0 where
   pub moments : List ℕ
   pub all : length moments ≡ count
   pub tells : told_after ≡ option_map (λ entries. entries ++ opened_from 0 moments) told

@@ -38,7 +38,8 @@ with_last own last = record { Holds = λ all. own ≡ all ++ last ∷ []; Begins
 abbrev pub StandsSo : Listening → (most : ℕ) → List Entry → (own : List (List ℕ)) → Type 0
 StandsSo at most es own =
     ((es ≡ []) × (own ≡ []))
-    ⊎ ((turns : ℕ) × (DoesStages at.asset most (stages at.port turns) [] es × ((goes : IsUnstopped at.asset most es) × (own ≡ log_of at.asset es goes.judged))))
+    ⊎ ((turns : ℕ) × (DoesStages at.asset most (stages at.port turns) [] es
+    × ((goes : IsUnstopped at.asset most es) × (own ≡ log_of at.asset es goes.judged))))
 
 -- a connection failed, which adds nothing to the answers; the line of it is the last
 pub record IsLostEnd (at : Listening) (most : ℕ) (es : List Entry) (own : List (List ℕ)) : Type 0 where
@@ -56,7 +57,8 @@ EndsSo at most client es own end.Silent =
 EndsSo at most client es own end.Lost = IsLostEnd at most es own
 EndsSo at most client es own end.Unreached = (es ≡ []) × ((moment : ℕ) × (own ≡ line_about at.asset client moment Unreached ∷ []))
 EndsSo at most client es own end.NoMemory =
-    (met : Endpoint) × ((es ≡ met_at at.port at.asset.endpoint met ∷ []) × ((moment : ℕ) × (own ≡ line_about at.asset met moment NoMemory ∷ [])))
+    (met : Endpoint) × ((es ≡ met_at at.port at.asset.endpoint met ∷ [])
+    × ((moment : ℕ) × (own ≡ line_about at.asset met moment NoMemory ∷ [])))
 
 -- by its own answers and its own lines alone
 abbrev pub IsSession : Listening → (most : ℕ) → (client : Endpoint) → List Entry → (own : List (List ℕ)) → List SessionEnd → Type 0

@@ -3,10 +3,12 @@ use Rattle.cf_links.specs.Links.{LinksEntry}
 use Rattle.cf_lane.specs.Log.{with_lines}
 use Rattle.cf_view.specs.declared.Endpoint.{Endpoint}
 use Rattle.std.specs.List.{AllByRecursion, flat_map}
-use Rattle.std.specs.Prelude.{Bool, Err, Ok, Result, List, None, Option, Some, [], false, if◌then◌else◌, length, map, option_map, slice_get, true, ℕ, ◌++◌, ◌+◌, ◌<◌}
+use Rattle.std.specs.Prelude.{Bool, Err, Ok, Result, List, None, Option, Some, [], false, if◌then◌else◌, length, map, option_map}
+use Rattle.std.specs.Prelude.{slice_get, true, ℕ, ◌++◌, ◌+◌, ◌<◌}
 use Rattle.std.specs.Prelude.{◌∷◌, ◌≡◌, ◌≤◌, ◌==◌}
 use Rattle.cf_serve.specs.Phase.{MayTurn, Phase, StandsAs}
-use Rattle.cf_serve.specs.Rounds.{AreArrivals, AreRounds, AreTurns, Arrival, IsRound, IsTurn, Round, Seat, TurnOf, answers_in, arrival_entries, ends_in, lines_in, round_entries, round_lines, stays, turn_entries, turns_of}
+use Rattle.cf_serve.specs.Rounds.{AreArrivals, AreRounds, AreTurns, Arrival, IsRound, IsTurn, Round, Seat, TurnOf, answers_in}
+use Rattle.cf_serve.specs.Rounds.{arrival_entries, ends_in, lines_in, round_entries, round_lines, stays, turn_entries, turns_of}
 use Rattle.cf_serve.specs.Session.{EndsSo, Listening}
 use Rattle.cf_serve.specs.declared.end.SessionEnd.{SessionEnd}
 use Rattle.cf_serve.specs.declared.fault.ServeFault.{ServeFault}
@@ -88,7 +90,8 @@ pub record TurnsDo (places : List Listening) (most next : ℕ) (past : List Turn
   pub keeps : Keeps places most next (past ++ turns) new
 
 -- the first of them had theirs, the rest not yet
-pub record TurnsBegin (places : List Listening) (most next : ℕ) (past : List TurnOf) (index : ℕ) (told told_after : Option (List LinksEntry))
+pub record TurnsBegin (places : List Listening) (most next : ℕ) (past : List TurnOf) (index : ℕ)
+    (told told_after : Option (List LinksEntry))
     (log log_after : Option (List (List ℕ))) (old new : List Phase) : Type 0 where
   pub done : List Phase
   pub rest : List Phase

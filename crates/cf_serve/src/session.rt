@@ -10,7 +10,8 @@ ghost use Rattle.cf_outq.specs.SendQueue.{empty};
 ghost use Rattle.cf_outside.specs.Pair.{met_at};
 ghost use Rattle.cf_policy.specs.Within.{IsAssetWithin};
 ghost use Rattle.cf_relay.specs.Stands.{IsNewLane};
-ghost use Rattle.cf_serve.specs.Phase.{IsSoundBegun, MayTurn, Phase, ReachDoes, TurnDoes, end_of, last_value, linked_value, listening_of, phase_of};
+ghost use Rattle.cf_serve.specs.Phase.{IsSoundBegun, MayTurn, Phase, ReachDoes, TurnDoes, end_of, last_value, linked_value};
+ghost use Rattle.cf_serve.specs.Phase.{listening_of, phase_of};
 ghost use Rattle.cf_view.specs.declared.Endpoint.{Endpoint as EndpointOf};
 
 use crate::end::SessionEnd;

@@ -1,5 +1,6 @@
 //! The sessions of a service that stand, and their turns in a round.
-ghost use Rattle.std.specs.Prelude.{◌≡◌, ◌<◌, ◌≤◌, ◌+◌, ◌-◌, false, ◌^◌, ◌++◌, ◌∷◌, [], if◌then◌else◌, IfOk, Err, IsErr, List, OnErr, OnOk, Some, length, map, option_map, slice_get, true, vec_capacity, vec_len, ℕ};
+ghost use Rattle.std.specs.Prelude.{◌≡◌, ◌<◌, ◌≤◌, ◌+◌, ◌-◌, false, ◌^◌, ◌++◌, ◌∷◌, [], if◌then◌else◌, IfOk, Err, IsErr, List, OnErr};
+ghost use Rattle.std.specs.Prelude.{OnOk, Some, length, map, option_map, slice_get, true, vec_capacity, vec_len, ℕ};
 ghost use Rattle.cf_lane.specs.Handled.{WritesLog};
 ghost use Rattle.cf_links.specs.Links.{LinksPlace};
 ghost use Rattle.cf_outside.specs.Desk.{DeskValue};
@@ -9,7 +10,8 @@ ghost use Rattle.cf_policy.specs.Within.{IsAssetWithin};
 ghost use Rattle.cf_serve.specs.Phase.{KeepsPlace, MayTurn, Phase, SeatDoes, StandsAs, listening_at, listening_of, listenings, phase_of};
 ghost use Rattle.cf_serve.specs.Served.{left_of};
 ghost use Rattle.cf_serve.specs.Rounds.{TurnOf, has_place};
-ghost use Rattle.cf_serve.specs.Table.{Arrive, IfWhole, IsTable, Keeps, MayLeave, RoundDoes, RoundsDo, StepDoes, TurnsDo, new_phase, seats_of};
+ghost use Rattle.cf_serve.specs.Table.{Arrive, IfWhole, IsTable, Keeps, MayLeave, RoundDoes, RoundsDo, StepDoes, TurnsDo, new_phase};
+ghost use Rattle.cf_serve.specs.Table.{seats_of};
 ghost use Rattle.cf_serve.specs.declared.table.Place.{Place as PlaceOf};
 ghost use Rattle.std.specs.List.{AllByRecursion};
 
@@ -69,7 +71,8 @@ fn turn_one<L: Service, D: Desk>(
         → StandsAs (listening_of terms.now) terms.now.most es own (Phase.linked (phase_of served.old))
         → SeatDoes (listening_of terms.now) terms.now.most es own (L.told links.old) (L.told links.new)
         (DeskValue.lines (D.value desk.old)) (DeskValue.lines (D.value desk.new)) (phase_of served.old) (phase_of served.new) stays) }
-    ensures may { IfOk result (λ stays. stays ≡ true → MayTurn (listening_of terms.now) terms.now.most (Phase.linked (phase_of served.new))) }
+    ensures may { IfOk result (λ stays. stays ≡ true
+        → MayTurn (listening_of terms.now) terms.now.most (Phase.linked (phase_of served.new))) }
     ensures same { served.new ≡ record served.old { linked = served.new.linked } }
     ensures whole { OnOk result (DeskValue.whole (D.value desk.new) ≡ true) }
     ensures log { WritesLog (D.value desk.old) (D.value desk.new) }
@@ -110,7 +113,8 @@ impl Table {
     /// Leaves every session.
     pub(crate) fn leave_all<L: Service>(&self, links: &mut L)
         requires leave { MayLeave (LinksPlace.serves (L.place links.old)) self.now.next (map phase_of self.now.sessions.items) }
-        ensures told { L.told links.new ≡ option_map (λ es. es ++ left_of (seats_of (map phase_of self.now.sessions.items))) (L.told links.old) }
+        ensures told { L.told links.new
+            ≡ option_map (λ es. es ++ left_of (seats_of (map phase_of self.now.sessions.items))) (L.told links.old) }
     {
         for served in self.sessions.iter() {
             links.leave(served.number);
@@ -145,7 +149,8 @@ impl Table {
             (map phase_of self.old.sessions.items) (map phase_of self.new.sessions.items) stays) }
         ensures room { vec_capacity self.new.sessions ≡ vec_capacity self.old.sessions }
         ensures len { IfOk result (λ stays. vec_len self.new.sessions + (if stays then 0 else 1) ≡ vec_len self.old.sessions) }
-        ensures leave { OnErr result (MayLeave (LinksPlace.serves (L.place links.new)) self.new.next (map phase_of self.new.sessions.items)) }
+        ensures leave { OnErr result (MayLeave (LinksPlace.serves (L.place links.new)) self.new.next
+            (map phase_of self.new.sessions.items)) }
         ensures next { self.new.next ≡ self.old.next }
         ensures whole { OnOk result (DeskValue.whole (D.value desk.new) ≡ true) }
         ensures log { WritesLog (D.value desk.old) (D.value desk.new) }
@@ -189,7 +194,8 @@ impl Table {
             → TurnsDo (listenings places.now) most self.old.next past (L.told links.old) (L.told links.new)
             (DeskValue.lines (D.value desk.old)) (DeskValue.lines (D.value desk.new))
             (map phase_of self.old.sessions.items) (map phase_of self.new.sessions.items)) }
-        ensures leave { OnErr result (MayLeave (LinksPlace.serves (L.place links.new)) self.new.next (map phase_of self.new.sessions.items)) }
+        ensures leave { OnErr result (MayLeave (LinksPlace.serves (L.place links.new)) self.new.next
+            (map phase_of self.new.sessions.items)) }
         ensures next { self.new.next ≡ self.old.next }
         ensures room { vec_capacity self.new.sessions ≡ vec_capacity self.old.sessions }
         ensures whole { OnOk result (DeskValue.whole (D.value desk.new) ≡ true) }
@@ -296,8 +302,8 @@ impl Table {
         ensures table { (most : ℕ) → IsTable (listenings places.now) most (LinksPlace.serves (L.place links.old)) self.old.next
             (map phase_of self.old.sessions.items) → IsTable (listenings places.now) most (LinksPlace.serves (L.place links.new))
             self.new.next (map phase_of self.new.sessions.items) }
-        ensures does { OnOk result ((most : ℕ) → Arrive (listenings places.now) most moment 0 (length places.now) self.old.next self.new.next
-            (L.told links.old) (L.told links.new) (DeskValue.lines (D.value desk.old)) (DeskValue.lines (D.value desk.new))
+        ensures does { OnOk result ((most : ℕ) → Arrive (listenings places.now) most moment 0 (length places.now) self.old.next
+            self.new.next (L.told links.old) (L.told links.new) (DeskValue.lines (D.value desk.old)) (DeskValue.lines (D.value desk.new))
             (map phase_of self.old.sessions.items) (map phase_of self.new.sessions.items)) }
         ensures room { vec_capacity self.old.sessions ≤ vec_capacity self.new.sessions }
         ensures whole { OnOk result (DeskValue.whole (D.value desk.new) ≡ true) }
@@ -333,7 +339,8 @@ impl Table {
             → RoundDoes (listenings places.now) most self.old.next self.new.next past (L.told links.old) (L.told links.new)
             (DeskValue.lines (D.value desk.old)) (DeskValue.lines (D.value desk.new))
             (map phase_of self.old.sessions.items) (map phase_of self.new.sessions.items)) }
-        ensures leave { OnErr result (MayLeave (LinksPlace.serves (L.place links.new)) self.new.next (map phase_of self.new.sessions.items)) }
+        ensures leave { OnErr result (MayLeave (LinksPlace.serves (L.place links.new)) self.new.next
+            (map phase_of self.new.sessions.items)) }
         ensures room { vec_capacity self.old.sessions ≤ vec_capacity self.new.sessions }
         ensures whole { OnOk result (DeskValue.whole (D.value desk.new) ≡ true) }
         ensures log { WritesLog (D.value desk.old) (D.value desk.new) }
