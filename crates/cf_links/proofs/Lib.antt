@@ -1,2 +1,3 @@
 -- The interface of lemmas for the crates above: Projection.
 pub mod Projection
+mod Room

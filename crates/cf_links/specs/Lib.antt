@@ -1,4 +1,5 @@
 pub mod Laws
 pub mod LinkValue
 pub mod Links
+pub mod MemoryLinks
 pub mod Service

@@ -4,8 +4,10 @@
 
 mod laws;
 mod links;
+mod memory_links;
 mod service;
 
 pub use laws::sessions_are_apart;
 pub use links::{Links, ReachAnswer};
+pub use memory_links::{LinksTold, MemoryClient, MemoryLinks};
 pub use service::{ArriveAnswer, Service};

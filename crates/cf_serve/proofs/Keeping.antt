@@ -1,0 +1,177 @@
+-- One turn more: what it does to the sessions that stand, and to those that ended.
+use Rattle.std.proofs.Common.{Bool, List, None, Option, Some, [], ap, refl, subst, sym, true, false, ℕ, ◌++◌, ◌<◌, ◌∙◌, ◌∷◌, ◌≡◌}
+use Rattle.std.proofs.Common.{if◌then◌else◌}
+use Rattle.std.specs.Prelude.{◌==◌, option_to_list, slice_get}
+use Rattle.std.specs.List.{AllByRecursion}
+use Rattle.std.proofs.lemmas.Bool.{eq-eqb, eqb-false}
+use Rattle.std.proofs.lemmas.Grind.{flat_map-append}
+use Rattle.std.proofs.lemmas.List.{append-nil}
+use Rattle.cf_outside.specs.Pair.{Entry}
+use Rattle.cf_serve.proofs.Numbers.{after_it, all_back, all_front, all_join, all_map, all_zip, before_it, differs, number_below}
+use Rattle.cf_serve.proofs.Numbers.{others_after, others_before}
+use Rattle.cf_serve.specs.Phase.{LinkedValue, Phase, StandsAs, TurnLeaves}
+use Rattle.cf_serve.specs.Rounds.{TurnOf, answers_in, ends_in, lines_in, part}
+use Rattle.cf_serve.specs.Session.{EndsSo, Listening}
+use Rattle.cf_serve.specs.Table.{IfOver, IsBetween, IsHeld, IsOver, Keeps}
+use Rattle.cf_serve.specs.declared.end.SessionEnd.{SessionEnd}
+
+-- ---- what a session has of the turns
+
+module _ {A : Type 0} (of : TurnOf → List A) where
+  own_one : (k : ℕ) (t : TurnOf) (b : Bool) → (t.seat.session == k) ≡ b → part of k (t ∷ []) ≡ (if b then of t else [])
+  own_one k t b e = append-nil (if t.seat.session == k then of t else []) ∙ ap (λ (x : Bool). if x then of t else []) e
+
+  pub part_own : (k : ℕ) (past : List TurnOf) (t : TurnOf) → (t.seat.session == k) ≡ true → part of k (past ++ t ∷ []) ≡ part of k past ++ of t
+  part_own k past t e =
+      flat_map-append (λ (u : TurnOf). if u.seat.session == k then of u else []) past (t ∷ []) ∙ ap (λ xs. part of k past ++ xs) (own_one k t true e)
+
+  pub part_other : (k : ℕ) (past : List TurnOf) (t : TurnOf) → (t.seat.session == k) ≡ false → part of k (past ++ t ∷ []) ≡ part of k past
+  part_other k past t e =
+      flat_map-append (λ (u : TurnOf). if u.seat.session == k then of u else []) past (t ∷ []) ∙ ap (λ xs. part of k past ++ xs) (own_one k t false e)
+      ∙ append-nil (part of k past)
+
+  pub part_none : (k : ℕ) (past : List TurnOf) → AllByRecursion (λ (t : TurnOf). (t.seat.session == k) ≡ false) past → part of k past ≡ []
+  part_none k [] h = refl
+  part_none k (t ∷ past) (e, h) = ap (λ (x : Bool). (if x then of t else []) ++ part of k past) e ∙ part_none k past h
+
+module _ (places : List Listening) (most : ℕ) (past : List TurnOf) (t : TurnOf) where
+  -- a session of another number
+  held_other : (p : Phase) → (t.seat.session == p.seat.session) ≡ false → IsHeld places most past p → IsHeld places most (past ++ t ∷ []) p
+  held_other p other h = record {
+    no_end = part_other (λ (u : TurnOf). option_to_list u.end) p.seat.session past t other ∙ h.no_end;
+    stands = λ at is.
+        subst (λ (es : List Entry). StandsAs at most es (lines_in p.seat.session (past ++ t ∷ [])) p.linked)
+        (sym (part_other (λ (u : TurnOf). u.answers) p.seat.session past t other))
+        (subst (λ (ls : List (List ℕ)). StandsAs at most (answers_in p.seat.session past) ls p.linked)
+        (sym (part_other (λ (u : TurnOf). u.lines) p.seat.session past t other)) (h.stands at is));
+  }
+
+  over_other : (u : TurnOf) (ps qs : List Phase) (e : SessionEnd) → (t.seat.session == u.seat.session) ≡ false →
+      AllByRecursion (λ (p : Phase). (p.seat.session == u.seat.session) ≡ false) qs → IsOver places most past ps u e → IsOver places most (past ++ t ∷ []) qs u e
+  over_other u ps qs e other gone h = record {
+    gone = gone;
+    one_end = part_other (λ (x : TurnOf). option_to_list x.end) u.seat.session past t other ∙ h.one_end;
+    ends = λ at is.
+        subst (λ (es : List Entry). EndsSo at most u.seat.client es (lines_in u.seat.session (past ++ t ∷ [])) e)
+        (sym (part_other (λ (x : TurnOf). x.answers) u.seat.session past t other))
+        (subst (λ (ls : List (List ℕ)). EndsSo at most u.seat.client (answers_in u.seat.session past) ls e)
+        (sym (part_other (λ (x : TurnOf). x.lines) u.seat.session past t other)) (h.ends at is));
+  }
+
+  -- the turn of this session leaves so much
+  abbrev pub Leaves : Option LinkedValue → Option SessionEnd → Type 0
+  Leaves linked end = (at : Listening) → slice_get places t.seat.place ≡ Some at →
+      TurnLeaves at most t.seat.client (answers_in t.seat.session past ++ t.answers) (lines_in t.seat.session past ++ t.lines) linked end
+
+  own_answers : answers_in t.seat.session (past ++ t ∷ []) ≡ answers_in t.seat.session past ++ t.answers
+  own_answers = part_own (λ (u : TurnOf). u.answers) t.seat.session past t (eq-eqb t.seat.session t.seat.session refl)
+
+  own_lines : lines_in t.seat.session (past ++ t ∷ []) ≡ lines_in t.seat.session past ++ t.lines
+  own_lines = part_own (λ (u : TurnOf). u.lines) t.seat.session past t (eq-eqb t.seat.session t.seat.session refl)
+
+  own_ends : ends_in t.seat.session past ≡ [] → ends_in t.seat.session (past ++ t ∷ []) ≡ option_to_list t.end
+  own_ends none =
+      part_own (λ (u : TurnOf). option_to_list u.end) t.seat.session past t (eq-eqb t.seat.session t.seat.session refl)
+      ∙ ap (λ (xs : List SessionEnd). xs ++ option_to_list t.end) none
+
+  held_own : (linked : Option LinkedValue) → t.end ≡ None → ends_in t.seat.session past ≡ [] → Leaves linked None →
+      IsHeld places most (past ++ t ∷ []) (record { seat = t.seat; linked = linked })
+  held_own linked stands none leaves = record {
+    no_end = own_ends none ∙ ap option_to_list stands;
+    stands = λ at is.
+        subst (λ (es : List Entry). StandsAs at most es (lines_in t.seat.session (past ++ t ∷ [])) linked) (sym own_answers)
+        (subst (λ (ls : List (List ℕ)). StandsAs at most (answers_in t.seat.session past ++ t.answers) ls linked) (sym own_lines) (leaves at is));
+  }
+
+  over_own : (linked : Option LinkedValue) (qs : List Phase) (e : SessionEnd) → t.end ≡ Some e → ends_in t.seat.session past ≡ [] →
+      AllByRecursion (λ (p : Phase). (p.seat.session == t.seat.session) ≡ false) qs → Leaves linked (Some e) → IsOver places most (past ++ t ∷ []) qs t e
+  over_own linked qs e ended none gone leaves = record {
+    gone = gone;
+    one_end = own_ends none ∙ ap option_to_list ended;
+    ends = λ at is.
+        subst (λ (es : List Entry). EndsSo at most t.seat.client es (lines_in t.seat.session (past ++ t ∷ [])) e) (sym own_answers)
+        (subst (λ (ls : List (List ℕ)). EndsSo at most t.seat.client (answers_in t.seat.session past ++ t.answers) ls e) (sym own_lines) (leaves at is));
+  }
+
+flip : (a b : ℕ) → (a == b) ≡ false → (b == a) ≡ false
+flip a b h = differs b a (λ e. eqb-false a b h (sym e))
+
+module _ (places : List Listening) (most next : ℕ) (past : List TurnOf) (t : TurnOf) (before after : List Phase) (linked new : Option LinkedValue)
+    (ordered : IsBetween 0 next (before ++ record { seat = t.seat; linked = linked } ∷ after))
+    (keeps : Keeps places most next past (before ++ record { seat = t.seat; linked = linked } ∷ after)) where
+  abbrev it : Option LinkedValue → Phase
+  it l = record { seat = t.seat; linked = l }
+
+  abbrev IsOther : Phase → Type 0
+  IsOther q = (t.seat.session == q.seat.session) ≡ false
+
+  other_before : AllByRecursion IsOther before
+  other_before = others_before 0 (it linked) before (before_it 0 next before (it linked) after ordered)
+
+  other_after : AllByRecursion IsOther after
+  other_after = others_after next (it linked) after (after_it 0 next before (it linked) after ordered)
+
+  early : AllByRecursion (λ (u : TurnOf). u.seat.session < next) (past ++ t ∷ [])
+  early = all_join (λ (u : TurnOf). u.seat.session < next) past (t ∷ []) keeps.early (number_below 0 next before (it linked) after ordered, tt)
+
+  held_it : IsHeld places most past (it linked)
+  held_it = (all_back (IsHeld places most past) before (it linked ∷ after) keeps.held).0
+
+  held_before : AllByRecursion (IsHeld places most (past ++ t ∷ [])) before
+  held_before = all_zip IsOther (IsHeld places most past) (IsHeld places most (past ++ t ∷ [])) before (held_other places most past t) other_before
+      (all_front (IsHeld places most past) before (it linked ∷ after) keeps.held)
+
+  held_after : AllByRecursion (IsHeld places most (past ++ t ∷ [])) after
+  held_after = all_zip IsOther (IsHeld places most past) (IsHeld places most (past ++ t ∷ [])) after (held_other places most past t) other_after
+      (all_back (IsHeld places most past) before (it linked ∷ after) keeps.held).1
+
+  -- those that ended before
+  module _ (qs : List Phase) (fewer : (u : TurnOf) → AllByRecursion (λ (p : Phase). (p.seat.session == u.seat.session) ≡ false) (before ++ it linked ∷ after) →
+      AllByRecursion (λ (p : Phase). (p.seat.session == u.seat.session) ≡ false) qs) where
+    over_by : (u : TurnOf) (o : Option SessionEnd) → IfOver places most past (before ++ it linked ∷ after) u o → IfOver places most (past ++ t ∷ []) qs u o
+    over_by u None h = tt
+    over_by u (Some e) h =
+        over_other places most past t u (before ++ it linked ∷ after) qs e
+        (all_back (λ (p : Phase). (p.seat.session == u.seat.session) ≡ false) before (it linked ∷ after) h.gone).0 (fewer u h.gone) h
+
+    over_past : AllByRecursion (λ (u : TurnOf). IfOver places most (past ++ t ∷ []) qs u u.end) past
+    over_past = all_map (λ (u : TurnOf). IfOver places most past (before ++ it linked ∷ after) u u.end) (λ (u : TurnOf). IfOver places most (past ++ t ∷ []) qs u u.end) past
+        (λ u h. over_by u u.end h) keeps.over
+
+    over_all : IfOver places most (past ++ t ∷ []) qs t t.end → AllByRecursion (λ (u : TurnOf). IfOver places most (past ++ t ∷ []) qs u u.end) (past ++ t ∷ [])
+    over_all last = all_join (λ (u : TurnOf). IfOver places most (past ++ t ∷ []) qs u u.end) past (t ∷ []) over_past (last, tt)
+
+  -- it stays
+  same_gone : (u : TurnOf) → AllByRecursion (λ (p : Phase). (p.seat.session == u.seat.session) ≡ false) (before ++ it linked ∷ after) →
+      AllByRecursion (λ (p : Phase). (p.seat.session == u.seat.session) ≡ false) (before ++ it new ∷ after)
+  same_gone u h =
+      let back = all_back (λ (p : Phase). (p.seat.session == u.seat.session) ≡ false) before (it linked ∷ after) h in
+      all_join (λ (p : Phase). (p.seat.session == u.seat.session) ≡ false) before (it new ∷ after)
+      (all_front (λ (p : Phase). (p.seat.session == u.seat.session) ≡ false) before (it linked ∷ after) h) (back.0, back.1)
+
+  pub keeps_stay : t.end ≡ None → Leaves places most past t new None → Keeps places most next (past ++ t ∷ []) (before ++ it new ∷ after)
+  keeps_stay stands leaves = record {
+    early = early;
+    held = all_join (IsHeld places most (past ++ t ∷ [])) before (it new ∷ after) held_before (held_own places most past t new stands held_it.no_end leaves, held_after);
+    over = over_all (before ++ it new ∷ after) same_gone (subst (λ o. IfOver places most (past ++ t ∷ []) (before ++ it new ∷ after) t o) (sym stands) tt);
+  }
+
+  -- it ended
+  fewer_gone : (u : TurnOf) → AllByRecursion (λ (p : Phase). (p.seat.session == u.seat.session) ≡ false) (before ++ it linked ∷ after) →
+      AllByRecursion (λ (p : Phase). (p.seat.session == u.seat.session) ≡ false) (before ++ after)
+  fewer_gone u h =
+      let back = all_back (λ (p : Phase). (p.seat.session == u.seat.session) ≡ false) before (it linked ∷ after) h in
+      all_join (λ (p : Phase). (p.seat.session == u.seat.session) ≡ false) before after
+      (all_front (λ (p : Phase). (p.seat.session == u.seat.session) ≡ false) before (it linked ∷ after) h) back.1
+
+  own_gone : AllByRecursion (λ (p : Phase). (p.seat.session == t.seat.session) ≡ false) (before ++ after)
+  own_gone = all_map IsOther (λ (p : Phase). (p.seat.session == t.seat.session) ≡ false) (before ++ after) (λ p h. flip t.seat.session p.seat.session h)
+      (all_join IsOther before after other_before other_after)
+
+  pub keeps_end : (e : SessionEnd) → t.end ≡ Some e → Leaves places most past t new (Some e) → Keeps places most next (past ++ t ∷ []) (before ++ after)
+  keeps_end e ended leaves = record {
+    early = early;
+    held = all_join (IsHeld places most (past ++ t ∷ [])) before after held_before held_after;
+    over = over_all (before ++ after) fewer_gone
+        (subst (λ o. IfOver places most (past ++ t ∷ []) (before ++ after) t o) (sym ended) (over_own places most past t new (before ++ after) e ended held_it.no_end own_gone leaves));
+  }

@@ -1,0 +1,55 @@
+-- Round after round.
+use Rattle.std.proofs.Common.{Err, List, Option, [], ap, refl, subst, sym, ℕ, ◌++◌, ◌∙◌, ◌∷◌, ◌≡◌}
+use Rattle.std.specs.Prelude.{option_map}
+use Rattle.std.specs.List.{flat_map}
+use Rattle.std.proofs.lemmas.List.{append-nil, append_assoc}
+use Rattle.cf_lane.specs.Log.{with_lines}
+use Rattle.cf_links.specs.Links.{LinksEntry}
+use Rattle.cf_relay.proofs.Lined.{lines_both, lines_none}
+use Rattle.cf_serve.proofs.Rounding.{flat_one, more_none, more_twice}
+use Rattle.cf_serve.specs.Phase.{Phase}
+use Rattle.cf_serve.specs.Rounds.{AreRounds, IsRound, Round, Seat, TurnOf, round_entries, round_lines, turns_of}
+use Rattle.cf_serve.specs.Session.{Listening}
+use Rattle.cf_serve.specs.Table.{IfWhole, Keeps, RoundDoes, RoundsDo, seats_of}
+use Rattle.cf_serve.specs.declared.fault.ServeFault.{ServeFault}
+use Rattle.cf_serve.specs.declared.fault.ServeFault.TheVariants as fault
+
+rounds_more : (places : List Listening) (next : ℕ) (standing : List Seat) (rs : List Round) (n : ℕ) (mid : List Seat) (r : Round) (n' : ℕ) (after : List Seat) →
+    AreRounds places next standing rs n mid → IsRound places n mid r n' after → AreRounds places next standing (rs ++ r ∷ []) n' after
+rounds_more places next standing [] n mid r n' after (p, q) is =
+    (n', (after, (subst (λ k. IsRound places k standing r n' after) p (subst (λ (s : List Seat). IsRound places n s r n' after) q is), (refl, refl))))
+rounds_more places next standing (x ∷ rs) n mid r n' after (k, (s, (one, later))) is =
+    (k, (s, (one, rounds_more places k s rs n mid r n' after later is)))
+
+module _ (places : List Listening) (most next : ℕ) (past : List TurnOf) (told : Option (List LinksEntry)) (log : Option (List (List ℕ))) (old : List Phase) where
+  pub rounds_none : Keeps places most next past old → RoundsDo places most next next past told told log log old old
+  rounds_none keeps = record {
+    rounds = [];
+    tells = more_none told;
+    added = lines_none log;
+    in_turn = (refl, refl);
+    keeps = subst (λ (p : List TurnOf). Keeps places most next p old) (sym (append-nil past)) keeps;
+  }
+
+  pub rounds_then : (next1 next2 : ℕ) (told1 told2 : Option (List LinksEntry)) (log1 log2 : Option (List (List ℕ))) (mid new : List Phase) →
+      RoundsDo places most next next1 past told told1 log log1 old mid →
+      ((p : List TurnOf) → Keeps places most next1 p mid → RoundDoes places most next1 next2 p told1 told2 log1 log2 mid new) →
+      RoundsDo places most next next2 past told told2 log log2 old new
+  rounds_then next1 next2 told1 told2 log1 log2 mid new a round =
+      let b = round (past ++ turns_of a.rounds) a.keeps in
+      record {
+        rounds = a.rounds ++ b.round ∷ [];
+        tells = b.tells ∙ ap (option_map (λ es. es ++ round_entries b.round)) a.tells ∙ more_twice told (flat_map round_entries a.rounds) (round_entries b.round)
+            ∙ ap (λ (xs : List LinksEntry). option_map (λ es. es ++ xs) told) (sym (flat_one round_entries a.rounds b.round));
+        added = b.added ∙ ap (λ l. with_lines l (round_lines b.round)) a.added ∙ lines_both log (flat_map round_lines a.rounds) (round_lines b.round)
+            ∙ ap (with_lines log) (sym (flat_one round_lines a.rounds b.round));
+        in_turn = rounds_more places next (seats_of old) a.rounds next1 (seats_of mid) b.round next2 (seats_of new) a.in_turn b.is_round;
+        keeps = subst (λ (p : List TurnOf). Keeps places most next2 p new)
+            (append_assoc past (turns_of a.rounds) b.round.turns ∙ ap (λ (xs : List TurnOf). past ++ xs) (sym (flat_one (λ (r : Round). r.turns) a.rounds b.round))) b.keeps;
+      }
+
+-- a fault: either the wait's, or not
+pub if_loop : (P : Type 0) (f : ServeFault) → (f ≡ fault.Loop → P) → IfWhole (Err f) P
+if_loop P fault.Loop h = h refl
+if_loop P fault.Write h = tt
+if_loop P fault.NoMemory h = tt

@@ -1,0 +1,211 @@
+-- What a service did, from its rounds.
+use Rattle.std.proofs.Common.{Bool, List, None, Option, Some, [], ap, arith, length, map, inl, inr, refl, subst, sym, true, false, ℕ}
+use Rattle.std.proofs.Common.{◌++◌, ◌+◌, ◌∙◌, ◌∷◌, ◌≡◌, if◌then◌else◌}
+use Rattle.std.specs.Prelude.{Err, Ok, Result, option_map, ◌==◌}
+use Rattle.std.specs.List.{AllByRecursion, flat_map}
+use Rattle.std.proofs.lemmas.Grind.{flat_map-append}
+use Rattle.std.proofs.lemmas.List.{append-nil, append_assoc}
+use Rattle.cf_lane.specs.Log.{with_lines}
+use Rattle.cf_links.proofs.Projection.{answers_more}
+use Rattle.cf_links.specs.Links.{LinksEntry, Of, Ready, answers_of}
+use Rattle.cf_outside.specs.Pair.{Entry}
+use Rattle.cf_relay.proofs.Lined.{lines_both}
+use Rattle.cf_serve.proofs.Leaving.{positive}
+use Rattle.cf_serve.proofs.Numbers.{all_map, all_zip}
+use Rattle.cf_serve.proofs.Rounding.{more_twice}
+use Rattle.cf_serve.proofs.Turning.{stands_so}
+use Rattle.cf_serve.specs.Phase.{LinkedValue, MayTurn, Phase, StandsAs, listenings}
+use Rattle.cf_serve.specs.Rounds.{AreRounds, AreTurns, Arrival, IsTurn, Round, Seat, TurnOf, answers_in, arrival_entries, left_by}
+use Rattle.cf_serve.specs.Rounds.{round_entries, round_lines, turn_entries, turns_of}
+use Rattle.cf_serve.specs.Served.{IfEnded, IsClient, OpensDo, Serves, left_of, listen_lines, opened_from}
+use Rattle.cf_serve.specs.Session.{Listening, StandsSo}
+use Rattle.cf_serve.specs.Table.{IfOver, IfWhole, IsHeld, IsTable, Keeps, MayGo, RoundsDo, seats_of}
+use Rattle.cf_serve.specs.declared.end.SessionEnd.{SessionEnd}
+use Rattle.cf_serve.specs.declared.fault.ServeFault.{ServeFault}
+use Rattle.cf_serve.specs.declared.fault.ServeFault.TheVariants as fault
+use Rattle.cf_serve.specs.declared.table.Place.{Place}
+
+-- ---- a session's answers, out of those of all
+
+module _ (k : ℕ) where
+  of_left : (s : ℕ) (o : Option SessionEnd) → answers_of k (left_by s o) ≡ []
+  of_left s None = refl
+  of_left s (Some e) = refl
+
+  of_own : (s : ℕ) (b : Bool) (xs : List Entry) → (s == k) ≡ b → answers_of k (map (Of s) xs) ≡ (if b then xs else [])
+  of_own s true [] e = refl
+  of_own s false [] e = refl
+  of_own s true (x ∷ xs) e = ap (λ (c : Bool). (if c then x ∷ [] else []) ++ answers_of k (map (Of s) xs)) e ∙ ap (λ ys. x ∷ ys) (of_own s true xs e)
+  of_own s false (x ∷ xs) e = ap (λ (c : Bool). (if c then x ∷ [] else []) ++ answers_of k (map (Of s) xs)) e ∙ of_own s false xs e
+
+  abbrev own_of : TurnOf → List Entry
+  own_of t = if t.seat.session == k then t.answers else []
+
+  nothing : (b : Bool) (xs : List Entry) → xs ≡ [] → (if b then xs else []) ≡ []
+  nothing true xs e = e
+  nothing false xs e = refl
+
+  of_ready : (t : TurnOf) → answers_of k (Ready t.seat.session ∷ (map (Of t.seat.session) t.answers ++ left_by t.seat.session t.end)) ≡ own_of t
+  of_ready t =
+      answers_more k (map (Of t.seat.session) t.answers) (left_by t.seat.session t.end)
+      ∙ ap (λ xs. answers_of k (map (Of t.seat.session) t.answers) ++ xs) (of_left t.seat.session t.end) ∙ append-nil (answers_of k (map (Of t.seat.session) t.answers))
+      ∙ of_own t.seat.session (t.seat.session == k) t.answers refl
+
+  of_turn : (t : TurnOf) (ready : Bool) → t.ready ≡ ready → IsTurn t → answers_of k (turn_entries t) ≡ own_of t
+  of_turn t true is idle =
+      ap (λ (b : Bool). answers_of k (if b then Ready t.seat.session ∷ (map (Of t.seat.session) t.answers ++ left_by t.seat.session t.end) else [])) is ∙ of_ready t
+  of_turn t false is idle =
+      ap (λ (b : Bool). answers_of k (if b then Ready t.seat.session ∷ (map (Of t.seat.session) t.answers ++ left_by t.seat.session t.end) else [])) is
+      ∙ sym (nothing (t.seat.session == k) t.answers (idle is).0)
+
+  of_turns : (ts : List TurnOf) → AreTurns ts → answers_of k (flat_map turn_entries ts) ≡ answers_in k ts
+  of_turns [] are = refl
+  of_turns (t ∷ ts) (is, are) =
+      answers_more k (turn_entries t) (flat_map turn_entries ts) ∙ ap (λ xs. xs ++ answers_of k (flat_map turn_entries ts)) (of_turn t t.ready refl is)
+      ∙ ap (λ xs. own_of t ++ xs) (of_turns ts are)
+
+  of_arrivals : (cs : List Arrival) → answers_of k (flat_map arrival_entries cs) ≡ []
+  of_arrivals [] = refl
+  of_arrivals (c ∷ cs) = of_arrivals cs
+
+  of_round : (r : Round) → AreTurns r.turns → answers_of k (round_entries r) ≡ answers_in k r.turns
+  of_round r are =
+      answers_more k (flat_map arrival_entries r.arrivals) (flat_map turn_entries r.turns)
+      ∙ ap (λ xs. xs ++ answers_of k (flat_map turn_entries r.turns)) (of_arrivals r.arrivals) ∙ of_turns r.turns are
+
+  of_rounds : (places : List Listening) (next : ℕ) (standing : List Seat) (rs : List Round) (n : ℕ) (after : List Seat) → AreRounds places next standing rs n after →
+      answers_of k (flat_map round_entries rs) ≡ answers_in k (turns_of rs)
+  of_rounds places next standing [] n after are = refl
+  of_rounds places next standing (r ∷ rs) n after (m, (s, (one, later))) =
+      answers_more k (round_entries r) (flat_map round_entries rs)
+      ∙ ap (λ xs. xs ++ answers_of k (flat_map round_entries rs)) (of_round r one.each)
+      ∙ ap (λ xs. answers_in k r.turns ++ xs) (of_rounds places m s rs n after later)
+      ∙ sym (flat_map-append own_of r.turns (turns_of rs))
+
+  of_opened : (place : ℕ) (ms : List ℕ) → answers_of k (opened_from place ms) ≡ []
+  of_opened place [] = refl
+  of_opened place (m ∷ ms) = of_opened (place + 1) ms
+
+  of_all_left : (ss : List Seat) → answers_of k (left_of ss) ≡ []
+  of_all_left [] = refl
+  of_all_left (s ∷ ss) = of_all_left ss
+
+  pub own_of_all : (places : List Listening) (ms : List ℕ) (rs : List Round) (n : ℕ) (standing ss : List Seat) → AreRounds places 0 [] rs n standing →
+      answers_of k (opened_from 0 ms ++ (flat_map round_entries rs ++ left_of ss)) ≡ answers_in k (turns_of rs)
+  own_of_all places ms rs n standing ss are =
+      answers_more k (opened_from 0 ms) (flat_map round_entries rs ++ left_of ss)
+      ∙ ap (λ xs. xs ++ answers_of k (flat_map round_entries rs ++ left_of ss)) (of_opened 0 ms)
+      ∙ answers_more k (flat_map round_entries rs) (left_of ss)
+      ∙ ap (λ xs. answers_of k (flat_map round_entries rs) ++ xs) (of_all_left ss)
+      ∙ append-nil (answers_of k (flat_map round_entries rs))
+      ∙ of_rounds places 0 [] rs n standing are
+
+-- ---- what stands, and what ended
+
+stands_session : (at : Listening) (most : ℕ) (es : List Entry) (own : List (List ℕ)) (o : Option LinkedValue) → StandsAs at most es own o → MayTurn at most o → StandsSo at most es own
+stands_session at most es own None h may = inl h
+stands_session at most es own (Some v) h may =
+    subst (λ (xs : List Entry). StandsSo at most xs own) (sym h.split)
+    (stands_so at most (positive v.now.idle most may.0.few) v.met h.moment h.answers v.now own h.stands h.count h.does may.0.few)
+
+all_seats : (P : Seat → Type 0) (ps : List Phase) → AllByRecursion (λ (p : Phase). P p.seat) ps → AllByRecursion P (seats_of ps)
+all_seats P [] h = tt
+all_seats P (p ∷ ps) (x, h) = (x, all_seats P ps h)
+
+ended_by : (places : List Listening) (most : ℕ) (past : List TurnOf) (ps : List Phase) (t : TurnOf) (o : Option SessionEnd) → IfOver places most past ps t o → IfEnded places most past t o
+ended_by places most past ps t None h = tt
+ended_by places most past ps t (Some e) h = (h.one_end, λ at is. (refl, h.ends at is))
+
+module _ (places : List Place) (most : ℕ) (told told1 : Option (List LinksEntry)) (log log1 : Option (List (List ℕ))) where
+  -- a place could not be listened at
+  pub serves_none : (count : ℕ) → OpensDo places count told told1 log log1 → Serves places most told told1 log log1
+  serves_none count o = (
+    opened_from 0 o.moments ++ [],
+    (
+      listen_lines places o.moments ++ [],
+      (
+        o.tells ∙ ap (λ (xs : List LinksEntry). option_map (λ es. es ++ xs) told) (sym (append-nil (opened_from 0 o.moments))),
+        (
+          o.added ∙ ap (with_lines log) (sym (append-nil (listen_lines places o.moments))),
+          record {
+            moments = o.moments;
+            rounds = [];
+            next = 0;
+            standing = [];
+            told = refl;
+            logged = refl;
+            opened = inr refl;
+            in_turn = (refl, refl);
+            answers = λ k. own_of_all k (listenings places) o.moments [] 0 [] [] (refl, refl);
+            ended = tt;
+            stand = tt;
+          },
+        ),
+      ),
+    ),
+  )
+
+  pub serves_all : (next : ℕ) (told2 told3 : Option (List LinksEntry)) (log2 : Option (List (List ℕ))) (serves : ℕ → Bool) (ps : List Phase) →
+      OpensDo places (length places) told told1 log log1 → RoundsDo (listenings places) most 0 next [] told1 told2 log1 log2 [] ps →
+      IsTable (listenings places) most serves next ps → told3 ≡ option_map (λ es. es ++ left_of (seats_of ps)) told2 →
+      Serves places most told told3 log log2
+  serves_all next told2 told3 log2 serves ps o r table left = (
+    opened_from 0 o.moments ++ (flat_map round_entries r.rounds ++ left_of (seats_of ps)),
+    (
+      listen_lines places o.moments ++ flat_map round_lines r.rounds,
+      (
+        left ∙ ap (option_map (λ es. es ++ left_of (seats_of ps))) (r.tells ∙ ap (option_map (λ es. es ++ flat_map round_entries r.rounds)) o.tells
+            ∙ more_twice told (opened_from 0 o.moments) (flat_map round_entries r.rounds))
+            ∙ more_twice told (opened_from 0 o.moments ++ flat_map round_entries r.rounds) (left_of (seats_of ps))
+            ∙ ap (λ (xs : List LinksEntry). option_map (λ es. es ++ xs) told) (append_assoc (opened_from 0 o.moments) (flat_map round_entries r.rounds) (left_of (seats_of ps))),
+        (
+          r.added ∙ ap (λ l. with_lines l (flat_map round_lines r.rounds)) o.added ∙ lines_both log (listen_lines places o.moments) (flat_map round_lines r.rounds),
+          record {
+            moments = o.moments;
+            rounds = r.rounds;
+            next = next;
+            standing = seats_of ps;
+            told = refl;
+            logged = refl;
+            opened = inl o.all;
+            in_turn = r.in_turn;
+            answers = λ k. own_of_all k (listenings places) o.moments r.rounds next (seats_of ps) (seats_of ps) r.in_turn;
+            ended = all_map (λ (t : TurnOf). IfOver (listenings places) most (turns_of r.rounds) ps t t.end) (λ (t : TurnOf). IfEnded (listenings places) most (turns_of r.rounds) t t.end)
+                (turns_of r.rounds) (λ t h. ended_by (listenings places) most (turns_of r.rounds) ps t t.end h) r.keeps.over;
+            stand = all_seats (λ (s : Seat). IsClient (listenings places) most (turns_of r.rounds) s []) ps
+                (all_zip (IsHeld (listenings places) most (turns_of r.rounds)) (MayGo (listenings places) most serves)
+                (λ (p : Phase). IsClient (listenings places) most (turns_of r.rounds) p.seat []) ps
+                (λ p h m at is. stands_session at most _ _ p.linked (h.stands at is) (m.may at is)) r.keeps.held table.each);
+          },
+        ),
+      ),
+    ),
+  )
+
+pub keeps_start : (places : List Listening) (most : ℕ) → Keeps places most 0 [] []
+keeps_start places most = record { early = tt; held = tt; over = tt }
+
+pub table_start : (places : List Listening) (most : ℕ) (serves : ℕ → Bool) → ((session : ℕ) → serves session ≡ false) → IsTable places most serves 0 []
+table_start places most serves free = record { ordered = omega arith; each = tt; free = λ session h. free session }
+
+pub whole_one : {A B : Type 0} (r : Result Unit ServeFault) → IfWhole r A → (A → B) → IfWhole r B
+whole_one (Ok u) a f = f a
+whole_one (Err fault.Loop) a f = f a
+whole_one (Err fault.Write) a f = tt
+whole_one (Err fault.NoMemory) a f = tt
+
+pub whole_two : {A B C : Type 0} (r : Result Unit ServeFault) → IfWhole r A → IfWhole r B → (A → B → C) → IfWhole r C
+whole_two (Ok u) a b f = f a b
+whole_two (Err fault.Loop) a b f = f a b
+whole_two (Err fault.Write) a b f = tt
+whole_two (Err fault.NoMemory) a b f = tt
+
+module _ (places : List Listening) (most next : ℕ) (told told' : Option (List LinksEntry)) (log log' : Option (List (List ℕ))) (ps : List Phase) where
+  abbrev pub FromThere : ℕ → ℕ → List Phase → Type 0
+  FromThere m n q = (past : List TurnOf) → Keeps places m n past q → RoundsDo places m n next past told told' log log' q ps
+
+  -- from an empty table on
+  pub from_start : (m n : ℕ) (q : List Phase) → m ≡ most → n ≡ 0 → q ≡ [] → FromThere m n q → RoundsDo places most 0 next [] told told' log log' [] ps
+  from_start m n q e f p d =
+      let x : FromThere most 0 [] = subst (λ y. FromThere most 0 y) p (subst (λ y. FromThere most y q) f (subst (λ y. FromThere y n q) e d)) in
+      x [] (keeps_start places most)

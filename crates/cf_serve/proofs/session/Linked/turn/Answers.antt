@@ -1,0 +1,40 @@
+use Rattle.std.proofs.Common.{sym, ◌∙◌}
+use Rattle.cf_links.specs.LinkValue.{link_value}
+use Rattle.cf_relay.specs.Relaying.{relaying_value}
+use Rattle.cf_serve.proofs.Leaving.{ending, few_ok, last_same, positive, said, standing}
+use Rattle.cf_serve.proofs.Logging.{turn_writes, writes_both}
+use Rattle.cf_serve.specs.Phase.{listening_of}
+use Rattle.cf_serve.proofs.session.Linked.turn.Goals as goal
+
+pub returns-in-None-clause-does : goal.returns-in-None-clause-does
+returns-in-None-clause-does g c = λ client.
+    standing (listening_of c.args.terms.now) c.args.terms.now.most (positive _ _ c.requires.may.0.few) client c.args.self.now.met
+    (relaying_value c.args.self.now.relaying) (relaying_value c.turn-answer.new.self)
+    (link_value g.L.Links c.args.session c.args.links.now) (link_value g.L.Links c.args.session c.turn-answer.new.links)
+    (g.D.Desk.value c.args.desk.now) (g.D.Desk.value c.turn-answer.new.desk)
+    c.turn-answer.result c.is_closed.result c.turn-answer.ensures.goes (sym c.in_ok-end.ensures.end ∙ c.in-None.is) c.in_ok-end.ensures.fine
+
+pub returns-in_err-log_line-clause-log : goal.returns-in_err-log_line-clause-log
+returns-in_err-log_line-clause-log g c =
+    writes_both _ _ _
+    (turn_writes _ _ _ _ _ _ _ _ c.turn-answer.result c.turn-answer.ensures.goes c.turn-answer.ensures.stops)
+    c.in_err-log_line.ensures.log
+
+pub returns-clause-does : goal.returns-clause-does
+returns-clause-does g c = λ client.
+    ending (listening_of c.args.terms.now) c.args.terms.now.most (positive _ _ c.requires.may.0.few) client c.args.self.now.met
+    (relaying_value c.args.self.now.relaying) (relaying_value c.turn-answer.new.self)
+    (link_value g.L.Links c.args.session c.args.links.now) (link_value g.L.Links c.args.session c.turn-answer.new.links)
+    (g.D.Desk.value c.args.desk.now) (g.D.Desk.value c.turn-answer.new.desk) (g.D.Desk.value c.log_line.new.desk)
+    c.turn-answer.result c.is_closed.result c.in-Some.end c.turn-answer.ensures.goes
+    (few_ok _ _ _ c.turn-answer.result c.turn-answer.ensures.sound) c.turn-answer.ensures.stops c.is_closed.ensures
+    (sym c.in_ok-end.ensures.end ∙ c.in-Some.is)
+    (said c.args.terms.now.asset.now c.args.self.now.met _ _ _ _ (g.D.Desk.value c.turn-answer.new.desk) (g.D.Desk.value c.log_line.new.desk) c.moment.ensures
+    (c.last_what-what.ensures ∙ last_same c.in-Some.end _ _ _ _ c.admitted.ensures c.refused.ensures)
+    c.in_ok-log_line.ensures.lines)
+
+pub returns-clause-log : goal.returns-clause-log
+returns-clause-log g c =
+    writes_both _ _ _
+    (turn_writes _ _ _ _ _ _ _ _ c.turn-answer.result c.turn-answer.ensures.goes c.turn-answer.ensures.stops)
+    c.in_ok-log_line.ensures.log

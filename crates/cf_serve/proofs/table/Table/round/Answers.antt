@@ -1,0 +1,36 @@
+use Rattle.std.proofs.Common.{length, map, subst, sym}
+use Rattle.cf_links.specs.Links.{LinksPlace}
+use Rattle.cf_serve.proofs.Arriving.{round_is}
+use Rattle.cf_serve.proofs.Rounding.{may_leave}
+use Rattle.cf_serve.specs.Phase.{listenings, phase_of}
+use Rattle.cf_serve.specs.Table.{IsTable, RoundDoes}
+use Rattle.cf_serve.proofs.table.Table.round.Goals as goal
+
+pub returns-in-Err-clause-leave : goal.returns-in-Err-clause-leave
+returns-in-Err-clause-leave g c =
+    let ps = map phase_of c.args.self.now.sessions.items in
+    let places = listenings c.args.places.now in
+    let woken = subst (λ (p : LinksPlace). IsTable places c.args.most p.serves c.args.self.now.next ps) (sym c.in-Told.ensures.place) c.requires.table in
+    may_leave places c.args.most c.arrivals.new.self.next (LinksPlace.serves (g.L.Links.place c.arrivals.new.links)) (map phase_of c.arrivals.new.self.sessions.items)
+    (c.arrivals.ensures.table c.args.most woken)
+
+pub turns-requires-clause-table : goal.turns-requires-clause-table
+turns-requires-clause-table g c =
+    let ps = map phase_of c.args.self.now.sessions.items in
+    let places = listenings c.args.places.now in
+    let woken = subst (λ (p : LinksPlace). IsTable places c.args.most p.serves c.args.self.now.next ps) (sym c.in-Told.ensures.place) c.requires.table in
+    c.arrivals.ensures.table c.args.most woken
+
+pub returns-in-Ok-turns-clause-does : goal.returns-in-Ok-turns-clause-does
+returns-in-Ok-turns-clause-does g c = λ past keeps.
+    let ps = map phase_of c.args.self.now.sessions.items in
+    let mid = map phase_of c.arrivals.new.self.sessions.items in
+    let new = map phase_of c.turns.new.self.sessions.items in
+    let places = listenings c.args.places.now in
+    let a = c.in-Ok.ensures.does c.args.most in
+    let b = c.in-Ok-turns.ensures.does past (a.keeps past keeps) in
+    subst (λ n. RoundDoes places c.args.most c.args.self.now.next n past (g.L.Links.told c.args.links.now) (g.L.Links.told c.turns.new.links)
+    (g.D.Desk.value c.args.desk.now).lines (g.D.Desk.value c.turns.new.desk).lines ps new) (sym c.turns.ensures.next)
+    (round_is places c.args.most c.in-Told.moment c.args.self.now.next (g.L.Links.told c.wait.new.self) (g.D.Desk.value c.args.desk.now).lines ps
+    (length c.args.places.now) c.arrivals.new.self.next (g.L.Links.told c.args.links.now) (g.L.Links.told c.arrivals.new.links) (g.L.Links.told c.turns.new.links)
+    (g.D.Desk.value c.arrivals.new.desk).lines (g.D.Desk.value c.turns.new.desk).lines mid new past c.in-Told.ensures.entry a b)

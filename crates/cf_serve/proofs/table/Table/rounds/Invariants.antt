@@ -1,0 +1,21 @@
+use Rattle.std.proofs.Common.{List, map, true, ◌≡◌, ◌≤◌}
+use Rattle.std.specs.Prelude.{vec_capacity}
+use Rattle.cf_lane.specs.Handled.{WritesLog}
+use Rattle.cf_links.specs.Links.{LinksPlace}
+use Rattle.cf_serve.specs.Phase.{listenings, phase_of}
+use Rattle.cf_serve.specs.Rounds.{TurnOf}
+use Rattle.cf_serve.specs.Table.{IsTable, Keeps, RoundsDo}
+use Rattle.cf_serve.proofs.table.Table.rounds.Given as goal
+
+abbrev pub invariant-loop : goal.invariant-loop
+invariant-loop g l =
+    record {
+      table : IsTable (listenings l.fn.places) l.fn.most (LinksPlace.serves (g.L.Links.place l.links)) l.self.next (map phase_of l.self.sessions.items);
+      does : (past : List TurnOf) → Keeps (listenings l.fn.places) l.fn.most l.fn.self.next past (map phase_of l.fn.self.sessions.items) →
+          RoundsDo (listenings l.fn.places) l.fn.most l.fn.self.next l.self.next past (g.L.Links.told l.fn.links) (g.L.Links.told l.links)
+          (g.D.Desk.value l.fn.desk).lines (g.D.Desk.value l.desk).lines (map phase_of l.fn.self.sessions.items) (map phase_of l.self.sessions.items);
+      room : vec_capacity l.fn.self.sessions ≤ vec_capacity l.self.sessions;
+      whole : (g.D.Desk.value l.desk).whole ≡ true;
+      log : WritesLog (g.D.Desk.value l.fn.desk) (g.D.Desk.value l.desk);
+      later : (g.D.Desk.value l.fn.desk).faults ≤ (g.D.Desk.value l.desk).faults;
+    }

@@ -1,0 +1,27 @@
+use Rattle.std.proofs.Common.{List, length, map, true, ◌≡◌, ◌≤◌, ◌-◌}
+use Rattle.std.specs.Prelude.{vec_capacity, vec_len}
+use Rattle.cf_lane.specs.Handled.{WritesLog}
+use Rattle.cf_links.specs.Links.{LinksPlace}
+use Rattle.cf_serve.specs.Phase.{listenings, phase_of}
+use Rattle.cf_serve.specs.Rounds.{TurnOf}
+use Rattle.cf_serve.specs.Table.{IsTable, Keeps, TurnsBegin}
+use Rattle.cf_serve.proofs.table.Table.turns.Given as goal
+
+abbrev pub invariant-loop-index : goal.invariant-loop-index
+invariant-loop-index g l =
+    record {
+      table : IsTable (listenings l.fn.places) l.fn.most (LinksPlace.serves (g.L.Links.place l.links)) l.fn.self.next (map phase_of l.self.sessions.items);
+      does : (past : List TurnOf) → Keeps (listenings l.fn.places) l.fn.most l.fn.self.next past (map phase_of l.fn.self.sessions.items) →
+          TurnsBegin (listenings l.fn.places) l.fn.most l.fn.self.next past l.index (g.L.Links.told l.fn.links) (g.L.Links.told l.links)
+          (g.D.Desk.value l.fn.desk).lines (g.D.Desk.value l.desk).lines (map phase_of l.fn.self.sessions.items) (map phase_of l.self.sessions.items);
+      next : l.self.next ≡ l.fn.self.next;
+      room : vec_capacity l.self.sessions ≡ vec_capacity l.fn.self.sessions;
+      within : l.index ≤ vec_len l.self.sessions;
+      whole : (g.D.Desk.value l.desk).whole ≡ true;
+      log : WritesLog (g.D.Desk.value l.fn.desk) (g.D.Desk.value l.desk);
+      later : (g.D.Desk.value l.fn.desk).faults ≤ (g.D.Desk.value l.desk).faults;
+      buffer : length l.buf ≡ 4096;
+    }
+
+abbrev pub decreases-loop-index : goal.decreases-loop-index
+decreases-loop-index g l = vec_len l.self.sessions - l.index

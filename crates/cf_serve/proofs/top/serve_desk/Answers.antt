@@ -1,0 +1,29 @@
+use Rattle.std.proofs.Common.{Err, ap, map, subst, ◌*◌}
+use Rattle.cf_links.specs.Links.{LinksPlace}
+use Rattle.cf_serve.proofs.Whole.{from_start, serves_all, serves_none, whole_one, whole_two}
+use Rattle.cf_serve.specs.Phase.{listenings, phase_of}
+use Rattle.cf_serve.specs.Table.{IsTable}
+use Rattle.cf_serve.proofs.top.serve_desk.Goals as goal
+
+pub returns-in-Err-open_places-clause-serves : goal.returns-in-Err-open_places-clause-serves
+returns-in-Err-open_places-clause-serves g c =
+    whole_one (Err c.in-Err-open_places.fault) c.in-Err-open_places.ensures.does
+    (λ d. serves_none c.args.places.now (2 * c.args.seconds) (g.L.Links.told c.args.links.now) (g.L.Links.told c.open_places.new.links)
+    (g.D.Desk.value c.args.desk.now).lines (g.D.Desk.value c.open_places.new.desk).lines d.0 d.1)
+
+pub returns-clause-serves : goal.returns-clause-serves
+returns-clause-serves g c =
+    let places = listenings c.args.places.now in
+    let most = 2 * c.args.seconds in
+    let same = ap (λ n. 2 * n) c.from-most.ensures in
+    let ps = map phase_of c.rounds-ended.new.self.sessions.items in
+    let next = c.rounds-ended.new.self.next in
+    let serves = LinksPlace.serves (g.L.Links.place c.rounds-ended.new.links) in
+    whole_two c.rounds-ended.result c.rounds-ended.ensures.does c.rounds-ended.ensures.table
+    (λ d t. serves_all c.args.places.now most (g.L.Links.told c.args.links.now) (g.L.Links.told c.open_places.new.links)
+    (g.D.Desk.value c.args.desk.now).lines (g.D.Desk.value c.open_places.new.desk).lines next (g.L.Links.told c.rounds-ended.new.links)
+    (g.L.Links.told c.leave_all.new.links) (g.D.Desk.value c.rounds-ended.new.desk).lines serves ps c.in-Ok-open_places.ensures.all
+    (from_start places most next (g.L.Links.told c.open_places.new.links) (g.L.Links.told c.rounds-ended.new.links)
+    (g.D.Desk.value c.open_places.new.desk).lines (g.D.Desk.value c.rounds-ended.new.desk).lines ps (2 * c.from-most.result) c.in-Ok.table.next
+    (map phase_of c.in-Ok.table.sessions.items) same c.in-Ok.ensures.next (ap (map phase_of) c.in-Ok.ensures.none) d)
+    (subst (λ m. IsTable places m serves next ps) same t) c.leave_all.ensures.told)

@@ -1,0 +1,47 @@
+-- Laws of a service. The main definitions are `EachIsAlone` and `IsolatesSessions`. This project's own.
+use Rattle.cf_links.specs.Links.{LinksEntry, answers_of}
+use Rattle.cf_outside.specs.Pair.{Entry}
+use Rattle.cf_relay.specs.Answers.{given}
+use Rattle.cf_view.specs.declared.Endpoint.{Endpoint}
+use Rattle.cf_view.specs.declared.Side.{Side}
+use Rattle.std.specs.Prelude.{Bool, List, [], ◌∷◌, false, true, ℕ, ◌≡◌}
+use Rattle.cf_serve.specs.Rounds.{ends_in, lines_in, turns_of}
+use Rattle.cf_serve.specs.Served.{IsServed}
+use Rattle.cf_serve.specs.Session.{IsSession, Listening}
+use Rattle.cf_serve.specs.declared.table.Place.{Place}
+use Rattle.cf_serve.specs.declared.end.SessionEnd.{SessionEnd}
+use Rattle.cf_serve.specs.declared.end.SessionEnd.TheVariants as end
+
+-- the session was a relay: its controller was reached, and memory was not wanting
+abbrev pub was_relayed : SessionEnd → Bool
+was_relayed end.Closed = true
+was_relayed (end.Cut reason) = true
+was_relayed end.Silent = true
+was_relayed end.Lost = true
+was_relayed end.Unreached = false
+was_relayed end.NoMemory = false
+
+-- it stands, or it ended and was a relay
+abbrev pub AreRelayed : List SessionEnd → Type 0
+AreRelayed [] = Unit {0}
+AreRelayed (end ∷ ends) = was_relayed end ≡ true
+
+-- what a session puts in the log follows from its own answers and from how it ended, whatever the other sessions do
+abbrev pub EachIsAlone : Type 0
+EachIsAlone =
+    (at : Listening) (most : ℕ) (client other_client : Endpoint) (es : List Entry) (own other : List (List ℕ)) (ends : List SessionEnd)
+    → AreRelayed ends → IsSession at most client es own ends → IsSession at most other_client es other ends → own ≡ other
+
+-- two services, a session of each of the same place: where their own answers and their ends are the same, each side was given the same,
+-- and their lines are the same. The other sessions, their number and their order may differ in every way
+abbrev pub IsolatesSessions : Type 0
+IsolatesSessions =
+    (places others : List Place) (at : Listening) (most : ℕ) (entries other_entries : List LinksEntry) (lines other_lines : List (List ℕ))
+    (one : IsServed places most entries lines) (two : IsServed others most other_entries other_lines) (k l : ℕ)
+    (client other_client : Endpoint)
+    → IsSession at most client (answers_of k entries) (lines_in k (turns_of one.rounds)) (ends_in k (turns_of one.rounds))
+    → IsSession at most other_client (answers_of l other_entries) (lines_in l (turns_of two.rounds)) (ends_in l (turns_of two.rounds))
+    → answers_of k entries ≡ answers_of l other_entries → ends_in k (turns_of one.rounds) ≡ ends_in l (turns_of two.rounds)
+    → AreRelayed (ends_in l (turns_of two.rounds))
+    → ((s : Side) → given s (answers_of k entries) ≡ given s (answers_of l other_entries))
+    × (lines_in k (turns_of one.rounds) ≡ lines_in l (turns_of two.rounds))

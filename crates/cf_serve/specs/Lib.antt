@@ -1,0 +1,6 @@
+pub mod Laws
+pub mod Phase
+pub mod Rounds
+pub mod Served
+pub mod Session
+pub mod Table

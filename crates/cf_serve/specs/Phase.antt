@@ -1,0 +1,144 @@
+-- A session of a service between two rounds, and what a turn does to it. The main definitions are `StandsAs` and `TurnDoes`. This
+-- project's own.
+use Rattle.cf_audit.specs.Line.{Begun, Close, Cut, Lost, NoMemory, Silent, Unreached, WhatValue}
+use Rattle.cf_lane.specs.Log.{line_about, with_lines}
+use Rattle.cf_links.specs.Links.{LinksEntry, LinksPlace, SessionTold, with_answers}
+use Rattle.cf_links.specs.Service.{LosesSession}
+use Rattle.cf_outside.specs.Pair.{Entry, Moment, met_at}
+use Rattle.cf_relay.specs.Relaying.{AreClosed, IsSound, RelayingValue, relaying_value}
+use Rattle.cf_relay.specs.Stands.{StandsFor}
+use Rattle.cf_relay.specs.Turn.{DoesStages, turns}
+use Rattle.cf_view.specs.declared.Endpoint.{Endpoint}
+use Rattle.cf_relay.specs.declared.stop.Stop.{Stop}
+use Rattle.cf_relay.specs.declared.stop.Stop.TheVariants as stop
+use Rattle.std.specs.Prelude.{Bool, Err, List, None, Ok, Result, false, true, Option, Some, [], is_some, map, not, option_map, ℕ}
+use Rattle.std.specs.Prelude.{◌++◌, ◌∷◌, ◌≡◌}
+use Rattle.cf_serve.specs.Rounds.{IsTurn, Seat, TurnOf, turn_entries}
+use Rattle.cf_serve.specs.Session.{EndsSo, Listening}
+use Rattle.cf_serve.specs.declared.end.SessionEnd.{SessionEnd}
+use Rattle.cf_serve.specs.declared.end.SessionEnd.TheVariants as end
+use Rattle.cf_serve.specs.declared.session.Linked.{Linked}
+use Rattle.cf_serve.specs.declared.session.Reached.{Reached}
+use Rattle.cf_serve.specs.declared.session.Reached.TheVariants as reached
+use Rattle.cf_serve.specs.declared.session.Served.{Served}
+use Rattle.cf_serve.specs.declared.session.Terms.{Terms}
+use Rattle.cf_serve.specs.declared.table.Place.{Place}
+
+-- a relay whose controller was reached, and the client that was met
+pub record LinkedValue : Type 0 where
+  pub met : Endpoint
+  pub now : RelayingValue
+
+abbrev pub linked_value : Linked → LinkedValue
+linked_value linked = record { met = linked.met; now = relaying_value linked.relaying }
+
+-- a session: its seat, and its relay once the controller is reached
+pub record Phase : Type 0 where
+  pub seat : Seat
+  pub linked : Option LinkedValue
+
+abbrev pub phase_of : Served → Phase
+phase_of served = record {
+  seat = record { session = served.number; place = served.place; client = served.client };
+  linked = option_map linked_value served.linked;
+}
+
+-- the asset and the port of a session
+abbrev pub listening_of : Terms → Listening
+listening_of terms = record { asset = terms.asset.now; port = terms.port }
+
+-- the controller was reached, and so many turns were made
+pub record StandsLinked (at : Listening) (most : ℕ) (es : List Entry) (own : List (List ℕ)) (v : LinkedValue) : Type 0 where
+  pub moment : ℕ
+  pub count : ℕ
+  pub answers : List Entry
+  pub split : es ≡ met_at at.port at.asset.endpoint v.met ∷ Moment moment ∷ answers
+  pub does : DoesStages at.asset most (turns count) (met_at at.port at.asset.endpoint v.met ∷ Moment moment ∷ []) answers
+  pub stands : StandsFor at.asset (Some (line_about at.asset v.met moment Begun ∷ []))
+      (met_at at.port at.asset.endpoint v.met ∷ Moment moment ∷ answers) v.now (Some own)
+
+-- what is kept of a session stands for its own answers and its own lines
+abbrev pub StandsAs : Listening → (most : ℕ) → List Entry → (own : List (List ℕ)) → Option LinkedValue → Type 0
+StandsAs at most es own None = (es ≡ []) × (own ≡ [])
+StandsAs at most es own (Some v) = StandsLinked at most es own v
+
+-- what lets a session be given one turn more, whatever its list
+abbrev pub MayTurn : Listening → (most : ℕ) → Option LinkedValue → Type 0
+MayTurn at most None = Unit {0}
+MayTurn at most (Some v) = IsSound at.asset most v.now × (AreClosed v.now → ⊥)
+
+-- what a turn leaves: a session that stands, or one that ended
+abbrev pub TurnLeaves : Listening → (most : ℕ) → (client : Endpoint) → List Entry → (own : List (List ℕ)) → Option LinkedValue
+    → Option SessionEnd → Type 0
+TurnLeaves at most client es own linked None = StandsAs at most es own linked
+TurnLeaves at most client es own linked (Some end) = EndsSo at most client es own end
+
+-- a turn adds answers, and lines to the log, whatever came before
+pub record TurnDoes (at : Listening) (most : ℕ) (client : Endpoint) (told told_after : SessionTold) (log log_after : Option (List (List ℕ)))
+    (old new : Option LinkedValue) (end : Option SessionEnd) : Type 0 where
+  pub answers : List Entry
+  pub tells : told_after ≡ with_answers told answers
+  pub leaves : (es : List Entry) (own : List (List ℕ)) → StandsAs at most es own old →
+      (lines : List (List ℕ)) × ((log_after ≡ with_lines log lines) × TurnLeaves at most client (es ++ answers) (own ++ lines) new end)
+
+-- what came of asking for a controller: nothing yet, a relay that has made no turn, or an end
+abbrev pub ReachLeaves : Listening → (most : ℕ) → (client : Endpoint) → List Entry → (own : List (List ℕ)) → Reached → Type 0
+ReachLeaves at most client es own reached.Waiting = (es ≡ []) × (own ≡ [])
+ReachLeaves at most client es own (reached.Begun linked) = StandsLinked at most es own (linked_value linked)
+ReachLeaves at most client es own (reached.Ended end) = EndsSo at most client es own end
+
+-- asking for it adds answers and lines, behind those of the session before
+pub record ReachDoes (at : Listening) (most : ℕ) (client : Endpoint) (before : List Entry) (told told_after : SessionTold)
+    (log log_after : Option (List (List ℕ))) (reached : Reached) : Type 0 where
+  pub answers : List Entry
+  pub lines : List (List ℕ)
+  pub tells : told_after ≡ with_answers told answers
+  pub added : log_after ≡ with_lines log lines
+  pub leaves : ReachLeaves at most client (before ++ answers) lines reached
+
+-- a relay that begins may have its turns
+abbrev pub IsSoundBegun : Listening → (most : ℕ) → Reached → Type 0
+IsSoundBegun at most reached.Waiting = Unit {0}
+IsSoundBegun at most (reached.Begun linked) = MayTurn at most (Some (linked_value linked))
+IsSoundBegun at most (reached.Ended end) = Unit {0}
+
+-- how a session ends by what its relay answered, where that is no failed write
+abbrev pub end_of : Result Unit Stop → (closed : Bool) → Option SessionEnd
+end_of (Ok done) true = Some end.Closed
+end_of (Ok done) false = None
+end_of (Err stop.Idle) closed = Some end.Silent
+end_of (Err stop.Link) closed = Some end.Lost
+end_of (Err stop.Write) closed = None
+end_of (Err (stop.Cut reason)) closed = Some (end.Cut reason)
+
+-- what the last line of a session says
+abbrev pub last_value : SessionEnd → (admitted refused : ℕ) → WhatValue
+last_value end.Closed admitted refused = Close admitted refused
+last_value (end.Cut reason) admitted refused = Cut reason
+last_value end.Silent admitted refused = Silent admitted refused
+last_value end.Lost admitted refused = Lost admitted refused
+last_value end.Unreached admitted refused = Unreached
+last_value end.NoMemory admitted refused = NoMemory
+
+-- the assets that are served, each with the port at which its clients come
+abbrev pub listening_at : Place → Listening
+listening_at place = record { asset = place.asset.now; port = place.at.port }
+
+abbrev pub listenings : List Place → List Listening
+listenings places = map listening_at places
+
+-- what a round is to one session, whatever came before: a turn where it is ready, and else nothing
+pub record SeatDoes (at : Listening) (most : ℕ) (es : List Entry) (own : List (List ℕ)) (told told_after : Option (List LinksEntry))
+    (log log_after : Option (List (List ℕ))) (old new : Phase) (stays : Bool) : Type 0 where
+  pub turn : TurnOf
+  pub seat : turn.seat ≡ old.seat
+  pub is_turn : IsTurn turn
+  pub tells : told_after ≡ option_map (λ entries. entries ++ turn_entries turn) told
+  pub added : log_after ≡ with_lines log turn.lines
+  pub ended : is_some turn.end ≡ not stays
+  pub leaves : TurnLeaves at most old.seat.client (es ++ turn.answers) (own ++ turn.lines) new.linked turn.end
+
+-- a session that ended was left, and any other is served as before
+abbrev pub KeepsPlace : (session : ℕ) → LinksPlace → LinksPlace → (stays : Bool) → Type 0
+KeepsPlace session old new true = new ≡ old
+KeepsPlace session old new false = LosesSession session old new

@@ -1,0 +1,133 @@
+-- The rounds of a service: what the links answered and what the log got, in the order of the loop. The main definitions are `Round`,
+-- `round_entries`, `round_lines` and `AreRounds`. This project's own.
+--
+-- In a round at most one client is taken at each listening place, and then each session that stands has one place, in the order in
+-- which the sessions came: a turn where the links say that something can move for it, and else nothing.
+use Rattle.cf_audit.specs.Line.{Full}
+use Rattle.cf_lane.specs.Log.{line_about}
+use Rattle.cf_links.specs.Links.{Came, Left, LinksEntry, Of, Ready, Woke}
+use Rattle.cf_outside.specs.Pair.{Entry}
+use Rattle.cf_view.specs.declared.Endpoint.{Endpoint}
+use Rattle.std.specs.List.{flat_map, sum_by}
+use Rattle.std.specs.Prelude.{Bool, List, None, Option, Some, [], false, if◌then◌else◌, length, map, nat_lt, option_to_list}
+use Rattle.std.specs.Prelude.{slice_get, ℕ, ◌&&◌, ◌++◌, ◌+◌}
+use Rattle.std.specs.Prelude.{◌∷◌, ◌≡◌, ◌≤◌, ◌==◌, true}
+use Rattle.cf_serve.specs.Session.{Listening}
+use Rattle.cf_serve.specs.declared.end.SessionEnd.{SessionEnd}
+
+-- a session's number, that of the listening place to which its client came, and the endpoint from which it came
+pub record Seat : Type 0 where
+  pub session : ℕ
+  pub place : ℕ
+  pub client : Endpoint
+
+-- a client that came and was taken
+pub record Arrival : Type 0 where
+  pub seat : Seat
+  pub lines : List (List ℕ)
+
+-- what a round was to one session: its answers, the lines that it got, and its end where this was its last
+pub record TurnOf : Type 0 where
+  pub seat : Seat
+  pub ready : Bool
+  pub answers : List Entry
+  pub lines : List (List ℕ)
+  pub end : Option SessionEnd
+
+-- a round, and the moment at which it began
+pub record Round : Type 0 where
+  pub moment : ℕ
+  pub arrivals : List Arrival
+  pub turns : List TurnOf
+
+abbrev pub left_by : ℕ → Option SessionEnd → List LinksEntry
+left_by session None = []
+left_by session (Some end) = Left session ∷ []
+
+abbrev pub turn_entries : TurnOf → List LinksEntry
+turn_entries t =
+    if t.ready then Ready t.seat.session ∷ (map (Of t.seat.session) t.answers ++ left_by t.seat.session t.end) else []
+
+abbrev pub arrival_entries : Arrival → List LinksEntry
+arrival_entries a = Came a.seat.session a.seat.place a.seat.client ∷ []
+
+-- the answers of a round, in the order of the loop
+abbrev pub round_entries : Round → List LinksEntry
+round_entries r = Woke r.moment ∷ (flat_map arrival_entries r.arrivals ++ flat_map turn_entries r.turns)
+
+-- and its lines
+abbrev pub round_lines : Round → List (List ℕ)
+round_lines r = flat_map (λ (a : Arrival). a.lines) r.arrivals ++ flat_map (λ (t : TurnOf). t.lines) r.turns
+
+-- the turns of some rounds, in their order
+abbrev pub turns_of : List Round → List TurnOf
+turns_of rounds = flat_map (λ (r : Round). r.turns) rounds
+
+-- what one session has of some turns
+abbrev pub part : {A : Type 0} → (TurnOf → List A) → (session : ℕ) → List TurnOf → List A
+part of session past = flat_map (λ (t : TurnOf). if t.seat.session == session then of t else []) past
+
+-- its answers, its lines, and its ends, of which there is one at most
+abbrev pub answers_in : (session : ℕ) → List TurnOf → List Entry
+answers_in session past = part (λ (t : TurnOf). t.answers) session past
+
+abbrev pub lines_in : (session : ℕ) → List TurnOf → List (List ℕ)
+lines_in session past = part (λ (t : TurnOf). t.lines) session past
+
+abbrev pub ends_in : (session : ℕ) → List TurnOf → List SessionEnd
+ends_in session past = part (λ (t : TurnOf). option_to_list t.end) session past
+
+-- a session that is not ready has no answer, no line and no end
+abbrev pub IsTurn : TurnOf → Type 0
+IsTurn t = t.ready ≡ false → (t.answers ≡ []) × ((t.lines ≡ []) × (t.end ≡ None))
+
+abbrev pub AreTurns : List TurnOf → Type 0
+AreTurns [] = Unit {0}
+AreTurns (t ∷ ts) = IsTurn t × AreTurns ts
+
+-- how many of them are of a listening place
+abbrev pub is_of : (place : ℕ) → Seat → ℕ
+is_of place seat = if seat.place == place then 1 else 0
+
+abbrev pub count_of : (place : ℕ) → List Seat → ℕ
+count_of place standing = sum_by (is_of place) standing
+
+-- there is a place for one more client: fewer than 256 sessions stand, and fewer than 32 of that listening place
+abbrev pub has_place : List Seat → (place : ℕ) → Bool
+has_place standing place = nat_lt (length standing) 256 && nat_lt (count_of place standing) 32
+
+-- the line of a client that took the last place
+abbrev pub full_line : Option Listening → Endpoint → (moment : ℕ) → List (List ℕ)
+full_line None client moment = []
+full_line (Some at) client moment = line_about at.asset client moment Full ∷ []
+
+abbrev pub full_lines : List Listening → (moment : ℕ) → (standing : List Seat) → (place : ℕ) → Endpoint → List (List ℕ)
+full_lines places moment standing place client = if has_place standing place then [] else full_line (slice_get places place) client moment
+
+-- from a listening place on, each at its own: numbers count up, each client has a place, and one that took the last has its line
+abbrev pub AreArrivals : List Listening → (moment : ℕ) → (from next : ℕ) → (standing : List Seat) → List Arrival → Type 0
+AreArrivals places moment from next standing [] = Unit {0}
+AreArrivals places moment from next standing (a ∷ more) =
+    (from ≤ a.seat.place) × ((a.seat.session ≡ next) × ((has_place standing a.seat.place ≡ true)
+    × ((a.lines ≡ full_lines places moment (standing ++ a.seat ∷ []) a.seat.place a.seat.client)
+    × AreArrivals places moment (a.seat.place + 1) (next + 1) (standing ++ a.seat ∷ []) more)))
+
+-- the sessions that stand behind a round
+abbrev pub stays : TurnOf → List Seat
+stays t = elim t.end [ None ↦ t.seat ∷ [] | Some end ↦ [] ]
+
+-- each session that stands, and each that came, has one place in the round
+pub record IsRound (places : List Listening) (next : ℕ) (standing : List Seat) (r : Round) (next_after : ℕ)
+    (standing_after : List Seat) : Type 0 where
+  pub arrive : AreArrivals places r.moment 0 next standing r.arrivals
+  pub in_turn : map (λ (t : TurnOf). t.seat) r.turns ≡ standing ++ map (λ (a : Arrival). a.seat) r.arrivals
+  pub each : AreTurns r.turns
+  pub counts : next_after ≡ next + length r.arrivals
+  pub stay : standing_after ≡ flat_map stays r.turns
+
+-- one after the other, from the next number and the sessions that stand to those behind the last
+abbrev pub AreRounds : List Listening → (next : ℕ) → (standing : List Seat) → List Round → (next_after : ℕ)
+    → (standing_after : List Seat) → Type 0
+AreRounds places next standing [] next_after standing_after = (next_after ≡ next) × (standing_after ≡ standing)
+AreRounds places next standing (r ∷ rs) next_after standing_after =
+    (n : ℕ) × ((s : List Seat) × (IsRound places next standing r n s × AreRounds places n s rs next_after standing_after))

@@ -1,0 +1,67 @@
+-- What a service did: its rounds, and each session by itself. The main definition is `IsServed`. This project's own.
+use Rattle.cf_audit.specs.Line.{Listen}
+use Rattle.cf_lane.specs.Log.{line_about, with_lines}
+use Rattle.cf_links.specs.Links.{Left, LinksEntry, Opened, answers_of}
+use Rattle.std.specs.List.{AllByRecursion, flat_map}
+use Rattle.std.specs.Prelude.{List, None, Option, Some, [], length, map, option_map, slice_get, ℕ, ◌++◌, ◌+◌, ◌∷◌, ◌≡◌, ◌⊎◌}
+use Rattle.cf_serve.specs.Phase.{listenings}
+use Rattle.cf_serve.specs.Rounds.{AreRounds, Round, Seat, TurnOf, answers_in, ends_in, lines_in, round_entries, round_lines, turns_of}
+use Rattle.cf_serve.specs.Session.{IsSession, Listening}
+use Rattle.cf_serve.specs.declared.end.SessionEnd.{SessionEnd}
+use Rattle.cf_serve.specs.declared.table.Place.{Place}
+
+-- the places that were opened, each at its moment
+abbrev pub opened_from : (place : ℕ) → (moments : List ℕ) → List LinksEntry
+opened_from place [] = []
+opened_from place (moment ∷ moments) = Opened place moment ∷ opened_from (place + 1) moments
+
+-- and their lines
+abbrev pub listen_lines : List Place → (moments : List ℕ) → List (List ℕ)
+listen_lines [] moments = []
+listen_lines (place ∷ places) [] = []
+listen_lines (place ∷ places) (moment ∷ moments) = line_about place.asset.now place.at moment Listen ∷ listen_lines places moments
+
+-- the sessions that stand at last are left
+abbrev pub left_of : List Seat → List LinksEntry
+left_of standing = map (λ (s : Seat). Left s.session) standing
+
+-- a client that came is a session by its own answers and its own lines alone
+abbrev pub IsClient : List Listening → (most : ℕ) → List TurnOf → Seat → List SessionEnd → Type 0
+IsClient places most past seat ends =
+    (at : Listening) → slice_get places seat.place ≡ Some at
+    → IsSession at most seat.client (answers_in seat.session past) (lines_in seat.session past) ends
+
+-- the last turn of a session that ended, and that end alone
+abbrev pub IfEnded : List Listening → (most : ℕ) → List TurnOf → TurnOf → Option SessionEnd → Type 0
+IfEnded places most past t None = Unit {0}
+IfEnded places most past t (Some end) = (ends_in t.seat.session past ≡ end ∷ []) × IsClient places most past t.seat (end ∷ [])
+
+-- what a service did until it stopped, where no write failed: the list of the links, and the lines of the log
+pub record IsServed (places : List Place) (most : ℕ) (entries : List LinksEntry) (lines : List (List ℕ)) : Type 0 where
+  pub moments : List ℕ
+  pub rounds : List Round
+  pub next : ℕ
+  pub standing : List Seat
+  pub told : entries ≡ opened_from 0 moments ++ (flat_map round_entries rounds ++ left_of standing)
+  pub logged : lines ≡ listen_lines places moments ++ flat_map round_lines rounds
+  -- no round begins before every place was opened
+  pub opened : (length moments ≡ length places) ⊎ (rounds ≡ [])
+  pub in_turn : AreRounds (listenings places) 0 [] rounds next standing
+  -- each session's own answers are those of its turns
+  pub answers : (session : ℕ) → answers_of session entries ≡ answers_in session (turns_of rounds)
+  pub ended : AllByRecursion (λ (t : TurnOf). IfEnded (listenings places) most (turns_of rounds) t t.end) (turns_of rounds)
+  pub stand : AllByRecursion (λ (s : Seat). IsClient (listenings places) most (turns_of rounds) s []) standing
+
+-- places were opened, from the first on
+pub record OpensDo (places : List Place) (count : ℕ) (told told_after : Option (List LinksEntry))
+    (log log_after : Option (List (List ℕ))) : Type 0 where
+  pub moments : List ℕ
+  pub all : length moments ≡ count
+  pub tells : told_after ≡ option_map (λ entries. entries ++ opened_from 0 moments) told
+  pub added : log_after ≡ with_lines log (listen_lines places moments)
+
+-- the links told so many entries more, and the log has so many lines more, which are those of a service
+abbrev pub Serves : List Place → (most : ℕ) → (told after : Option (List LinksEntry)) → (log log' : Option (List (List ℕ))) → Type 0
+Serves places most told after log log' =
+    (entries : List LinksEntry) × ((lines : List (List ℕ)) × ((after ≡ option_map (λ es. es ++ entries) told)
+    × ((log' ≡ with_lines log lines) × IsServed places most entries lines)))

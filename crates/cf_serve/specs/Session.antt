@@ -1,0 +1,66 @@
+-- One session of a service, by its own answers and its own lines. The main definition is `IsSession`. This project's own.
+use Rattle.cf_audit.specs.Line.{Lost, NoMemory, Silent, Unreached}
+use Rattle.cf_lane.specs.Log.{line_about}
+use Rattle.cf_outside.specs.Pair.{Entry, met_at}
+use Rattle.cf_policy.specs.declared.Asset.{Asset}
+use Rattle.cf_relay.specs.Answers.{client_of, moment_of}
+use Rattle.cf_relay.specs.Ends.{IsCutEnd, IsDone, IsIdleEnd, IsLinkEnd, LogContents, log_of}
+use Rattle.cf_relay.specs.Stands.{IsCounted}
+use Rattle.cf_relay.specs.Turn.{DoesStages, IsUnstopped, stages}
+use Rattle.cf_relay.specs.declared.done.RelayDone.{RelayDone}
+use Rattle.cf_view.specs.declared.Endpoint.{Endpoint}
+use Rattle.std.specs.Prelude.{List, [], ℕ, ◌++◌, ◌∷◌, ◌≡◌, ◌⊎◌}
+use Rattle.cf_serve.specs.declared.end.SessionEnd.{SessionEnd}
+use Rattle.cf_serve.specs.declared.end.SessionEnd.TheVariants as end
+
+-- an asset that is served, and the port at which its clients come
+pub record Listening : Type 0 where
+  pub asset : Asset
+  pub port : ℕ
+
+-- the last line of a session that went silent, and of one whose connection failed: the greatest moment that it told, and its
+-- numbers of commands
+abbrev pub silent_line : Asset → List Entry → (admitted refused : ℕ) → List ℕ
+silent_line asset es admitted refused = line_about asset (client_of es) (moment_of es) (Silent admitted refused)
+
+abbrev pub lost_line : Asset → List Entry → (admitted refused : ℕ) → List ℕ
+lost_line asset es admitted refused = line_about asset (client_of es) (moment_of es) (Lost admitted refused)
+
+-- a session's own lines are just these
+abbrev pub own_log : (own : List (List ℕ)) → LogContents
+own_log own = record { Holds = λ all. own ≡ all; Begins = λ all. all ≡ own }
+
+-- they are these and one more
+abbrev pub with_last : (own : List (List ℕ)) → (last : List ℕ) → LogContents
+with_last own last = record { Holds = λ all. own ≡ all ++ last ∷ []; Begins = λ all. all ≡ own }
+
+-- a session that stands: its controller is not reached yet, or it has made so many turns, and its lines are those of their items
+abbrev pub StandsSo : Listening → (most : ℕ) → List Entry → (own : List (List ℕ)) → Type 0
+StandsSo at most es own =
+    ((es ≡ []) × (own ≡ []))
+    ⊎ ((turns : ℕ) × (DoesStages at.asset most (stages at.port turns) [] es
+    × ((goes : IsUnstopped at.asset most es) × (own ≡ log_of at.asset es goes.judged))))
+
+-- a connection failed, which adds nothing to the answers; the line of it is the last
+pub record IsLostEnd (at : Listening) (most : ℕ) (es : List Entry) (own : List (List ℕ)) : Type 0 where
+  pub admitted : ℕ
+  pub refused : ℕ
+  pub ended : IsLinkEnd at.asset at.port most (with_last own (lost_line at.asset es admitted refused)) es
+  pub counts : IsCounted ended.goes.judged admitted refused
+
+-- a session that ended: it is a relay of its own that ended so; or its controller was not reached, or memory was wanting as it was
+abbrev pub EndsSo : Listening → (most : ℕ) → (client : Endpoint) → List Entry → (own : List (List ℕ)) → SessionEnd → Type 0
+EndsSo at most client es own end.Closed = (done : RelayDone) × IsDone at.asset at.port most (own_log own) es done
+EndsSo at most client es own (end.Cut reason) = (done : RelayDone) × IsCutEnd at.asset at.port most (own_log own) es done reason
+EndsSo at most client es own end.Silent =
+    (done : RelayDone) × IsIdleEnd at.asset at.port most (with_last own (silent_line at.asset es done.admitted done.refused)) es done
+EndsSo at most client es own end.Lost = IsLostEnd at most es own
+EndsSo at most client es own end.Unreached = (es ≡ []) × ((moment : ℕ) × (own ≡ line_about at.asset client moment Unreached ∷ []))
+EndsSo at most client es own end.NoMemory =
+    (met : Endpoint) × ((es ≡ met_at at.port at.asset.endpoint met ∷ [])
+    × ((moment : ℕ) × (own ≡ line_about at.asset met moment NoMemory ∷ [])))
+
+-- by its own answers and its own lines alone
+abbrev pub IsSession : Listening → (most : ℕ) → (client : Endpoint) → List Entry → (own : List (List ℕ)) → List SessionEnd → Type 0
+IsSession at most client es own [] = StandsSo at most es own
+IsSession at most client es own (end ∷ more) = (more ≡ []) × EndsSo at most client es own end

@@ -1,0 +1,151 @@
+-- The sessions that stand, as a list, and what they stand for. The main definitions are `IsTable` and `Keeps`. This project's own.
+use Rattle.cf_links.specs.Links.{LinksEntry}
+use Rattle.cf_lane.specs.Log.{with_lines}
+use Rattle.cf_view.specs.declared.Endpoint.{Endpoint}
+use Rattle.std.specs.List.{AllByRecursion, flat_map}
+use Rattle.std.specs.Prelude.{Bool, Err, Ok, Result, List, None, Option, Some, [], false, if◌then◌else◌, length, map, option_map}
+use Rattle.std.specs.Prelude.{slice_get, true, ℕ, ◌++◌, ◌+◌, ◌<◌}
+use Rattle.std.specs.Prelude.{◌∷◌, ◌≡◌, ◌≤◌, ◌==◌}
+use Rattle.cf_serve.specs.Phase.{MayTurn, Phase, StandsAs}
+use Rattle.cf_serve.specs.Rounds.{AreArrivals, AreRounds, AreTurns, Arrival, IsRound, IsTurn, Round, Seat, TurnOf, answers_in}
+use Rattle.cf_serve.specs.Rounds.{arrival_entries, ends_in, lines_in, round_entries, round_lines, stays, turn_entries, turns_of}
+use Rattle.cf_serve.specs.Session.{EndsSo, Listening}
+use Rattle.cf_serve.specs.declared.end.SessionEnd.{SessionEnd}
+use Rattle.cf_serve.specs.declared.fault.ServeFault.{ServeFault}
+use Rattle.cf_serve.specs.declared.fault.ServeFault.TheVariants as fault
+
+-- numbers count up, from one on and below another
+abbrev pub IsBetween : (low high : ℕ) → List Phase → Type 0
+IsBetween low high [] = low ≤ high
+IsBetween low high (p ∷ ps) = (low ≤ p.seat.session) × IsBetween (p.seat.session + 1) high ps
+
+-- what lets a session be given a turn
+pub record MayGo (places : List Listening) (most : ℕ) (serves : ℕ → Bool) (p : Phase) : Type 0 where
+  pub placed : p.seat.place < length places
+  pub may : (at : Listening) → slice_get places p.seat.place ≡ Some at → MayTurn at most p.linked
+  pub served : serves p.seat.session ≡ true
+
+-- the sessions that stand, in the order of their numbers; the links have them, and none of a number from `next` on
+pub record IsTable (places : List Listening) (most : ℕ) (serves : ℕ → Bool) (next : ℕ) (ps : List Phase) : Type 0 where
+  pub ordered : IsBetween 0 next ps
+  pub each : AllByRecursion (MayGo places most serves) ps
+  pub free : (session : ℕ) → next ≤ session → serves session ≡ false
+
+-- what lets them be left: the links have each
+pub record MayLeave (serves : ℕ → Bool) (next : ℕ) (ps : List Phase) : Type 0 where
+  pub ordered : IsBetween 0 next ps
+  pub served : AllByRecursion (λ (p : Phase). serves p.seat.session ≡ true) ps
+
+-- a session that stands is kept by what it had of the turns so far
+pub record IsHeld (places : List Listening) (most : ℕ) (past : List TurnOf) (p : Phase) : Type 0 where
+  pub no_end : ends_in p.seat.session past ≡ []
+  pub stands : (at : Listening) → slice_get places p.seat.place ≡ Some at
+      → StandsAs at most (answers_in p.seat.session past) (lines_in p.seat.session past) p.linked
+
+-- a session that ended has had this end, and stands no longer
+pub record IsOver (places : List Listening) (most : ℕ) (past : List TurnOf) (ps : List Phase) (t : TurnOf) (end : SessionEnd) : Type 0 where
+  pub gone : AllByRecursion (λ (p : Phase). (p.seat.session == t.seat.session) ≡ false) ps
+  pub one_end : ends_in t.seat.session past ≡ end ∷ []
+  pub ends : (at : Listening) → slice_get places t.seat.place ≡ Some at
+      → EndsSo at most t.seat.client (answers_in t.seat.session past) (lines_in t.seat.session past) end
+
+abbrev pub IfOver : List Listening → (most : ℕ) → List TurnOf → List Phase → TurnOf → Option SessionEnd → Type 0
+IfOver places most past ps t None = Unit {0}
+IfOver places most past ps t (Some end) = IsOver places most past ps t end
+
+-- the turns so far are those of these sessions, and of sessions that ended, all with numbers below `next`
+pub record Keeps (places : List Listening) (most : ℕ) (next : ℕ) (past : List TurnOf) (ps : List Phase) : Type 0 where
+  pub early : AllByRecursion (λ (t : TurnOf). t.seat.session < next) past
+  pub held : AllByRecursion (IsHeld places most past) ps
+  pub over : AllByRecursion (λ (t : TurnOf). IfOver places most past ps t t.end) past
+
+-- a session in its place had its turn: it stays there, or it is there no longer
+pub record StepDoes (places : List Listening) (most next : ℕ) (past : List TurnOf) (index : ℕ) (told told_after : Option (List LinksEntry))
+    (log log_after : Option (List (List ℕ))) (old new : List Phase) (stays_on : Bool) : Type 0 where
+  pub before : List Phase
+  pub it : Phase
+  pub after : List Phase
+  pub left : List Phase
+  pub was : old ≡ before ++ it ∷ after
+  pub at : length before ≡ index
+  pub is : new ≡ before ++ (left ++ after)
+  pub turn : TurnOf
+  pub seat : turn.seat ≡ it.seat
+  pub is_turn : IsTurn turn
+  pub tells : told_after ≡ option_map (λ entries. entries ++ turn_entries turn) told
+  pub added : log_after ≡ with_lines log turn.lines
+  pub stay : map (λ (p : Phase). p.seat) left ≡ stays turn
+  pub count : length left ≡ (if stays_on then 1 else 0)
+  pub keeps : Keeps places most next (past ++ turn ∷ []) new
+
+-- each session that stands had its turn, in their order
+pub record TurnsDo (places : List Listening) (most next : ℕ) (past : List TurnOf) (told told_after : Option (List LinksEntry))
+    (log log_after : Option (List (List ℕ))) (old new : List Phase) : Type 0 where
+  pub turns : List TurnOf
+  pub tells : told_after ≡ option_map (λ entries. entries ++ flat_map turn_entries turns) told
+  pub added : log_after ≡ with_lines log (flat_map (λ (t : TurnOf). t.lines) turns)
+  pub in_turn : map (λ (t : TurnOf). t.seat) turns ≡ map (λ (p : Phase). p.seat) old
+  pub each : AreTurns turns
+  pub stay : map (λ (p : Phase). p.seat) new ≡ flat_map stays turns
+  pub keeps : Keeps places most next (past ++ turns) new
+
+-- the first of them had theirs, the rest not yet
+pub record TurnsBegin (places : List Listening) (most next : ℕ) (past : List TurnOf) (index : ℕ)
+    (told told_after : Option (List LinksEntry))
+    (log log_after : Option (List (List ℕ))) (old new : List Phase) : Type 0 where
+  pub done : List Phase
+  pub rest : List Phase
+  pub was : new ≡ done ++ rest
+  pub at : length done ≡ index
+  pub turns : List TurnOf
+  pub tells : told_after ≡ option_map (λ entries. entries ++ flat_map turn_entries turns) told
+  pub added : log_after ≡ with_lines log (flat_map (λ (t : TurnOf). t.lines) turns)
+  pub in_turn : map (λ (t : TurnOf). t.seat) turns ++ map (λ (p : Phase). p.seat) rest ≡ map (λ (p : Phase). p.seat) old
+  pub each : AreTurns turns
+  pub stay : map (λ (p : Phase). p.seat) done ≡ flat_map stays turns
+  pub keeps : Keeps places most next (past ++ turns) new
+
+-- the seats of the sessions that stand
+abbrev pub seats_of : List Phase → List Seat
+seats_of ps = map (λ (p : Phase). p.seat) ps
+
+-- a session whose controller is not reached yet
+abbrev pub new_phase : (session place : ℕ) → Endpoint → Phase
+new_phase session place client = record { seat = record { session = session; place = place; client = client }; linked = None }
+
+-- clients that came at the places from one on and below another, each in the table from here on
+pub record Arrive (places : List Listening) (most moment from upto next next_after : ℕ) (told told_after : Option (List LinksEntry))
+    (log log_after : Option (List (List ℕ))) (old new : List Phase) : Type 0 where
+  pub arrivals : List Arrival
+  pub tells : told_after ≡ option_map (λ entries. entries ++ flat_map arrival_entries arrivals) told
+  pub added : log_after ≡ with_lines log (flat_map (λ (a : Arrival). a.lines) arrivals)
+  pub come : AreArrivals places moment from next (seats_of old) arrivals
+  pub below : AllByRecursion (λ (a : Arrival). a.seat.place < upto) arrivals
+  pub seats : seats_of new ≡ seats_of old ++ map (λ (a : Arrival). a.seat) arrivals
+  pub counts : next_after ≡ next + length arrivals
+  pub keeps : (past : List TurnOf) → Keeps places most next past old → Keeps places most next_after past new
+
+-- a whole round, whatever came before
+pub record RoundDoes (places : List Listening) (most next next_after : ℕ) (past : List TurnOf) (told told_after : Option (List LinksEntry))
+    (log log_after : Option (List (List ℕ))) (old new : List Phase) : Type 0 where
+  pub round : Round
+  pub tells : told_after ≡ option_map (λ entries. entries ++ round_entries round) told
+  pub added : log_after ≡ with_lines log (round_lines round)
+  pub is_round : IsRound places next (seats_of old) round next_after (seats_of new)
+  pub keeps : Keeps places most next_after (past ++ round.turns) new
+
+-- round after round
+pub record RoundsDo (places : List Listening) (most next next_after : ℕ) (past : List TurnOf) (told told_after : Option (List LinksEntry))
+    (log log_after : Option (List (List ℕ))) (old new : List Phase) : Type 0 where
+  pub rounds : List Round
+  pub tells : told_after ≡ option_map (λ entries. entries ++ flat_map round_entries rounds) told
+  pub added : log_after ≡ with_lines log (flat_map round_lines rounds)
+  pub in_turn : AreRounds places next (seats_of old) rounds next_after (seats_of new)
+  pub keeps : Keeps places most next_after (past ++ turns_of rounds) new
+
+-- the service goes on, or its wait failed: all rounds were whole
+abbrev pub IfWhole : Result Unit ServeFault → Type 0 → Type 0
+IfWhole (Ok done) all = all
+IfWhole (Err fault.Loop) all = all
+IfWhole (Err fault.Write) all = Unit {0}
+IfWhole (Err fault.NoMemory) all = Unit {0}

@@ -1,0 +1,20 @@
+//! How a session of a service ends.
+
+use cf_audit::CutReason;
+
+/// How a session ended. This project's own.
+#[derive(Clone, Copy)]
+pub enum SessionEnd {
+    /// Both sides have ended, and were given all that was for them.
+    Closed,
+    /// An item, or the limit of a stream, cut it.
+    Cut(CutReason),
+    /// Nothing moved for as long as the words allow.
+    Silent,
+    /// A connection failed, or was reset.
+    Lost,
+    /// The controller took no connection.
+    Unreached,
+    /// Memory was wanting as the controller was reached.
+    NoMemory,
+}

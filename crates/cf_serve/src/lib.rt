@@ -1,0 +1,15 @@
+//! A service: many clients and their controllers over one loop, each session a relay of its own.
+#![tactic(auto)]
+
+mod end;
+mod fault;
+mod laws;
+mod session;
+mod table;
+mod top;
+
+pub use end::SessionEnd;
+pub use fault::ServeFault;
+pub use laws::sessions_are_isolated;
+pub use table::Place;
+pub use top::serve_desk;

@@ -1,0 +1,284 @@
+//! A session of a service, and its turns.
+ghost use Rattle.std.specs.Prelude.{◌≡◌, ◌<◌, ◌∷◌, [], IfOk, IsErr, Err, None, OnErr, OnOk, Some, length, true};
+ghost use Rattle.cf_audit.specs.Line.{what_value};
+ghost use Rattle.cf_lane.specs.Handled.{WritesLog};
+ghost use Rattle.cf_links.specs.LinkValue.{told_of};
+ghost use Rattle.cf_links.specs.Links.{LinksPlace};
+ghost use Rattle.cf_outside.specs.Desk.{DeskValue};
+ghost use Rattle.cf_outside.specs.Faults.{HasCause};
+ghost use Rattle.cf_outq.specs.SendQueue.{empty};
+ghost use Rattle.cf_outside.specs.Pair.{met_at};
+ghost use Rattle.cf_policy.specs.Within.{IsAssetWithin};
+ghost use Rattle.cf_relay.specs.Stands.{IsNewLane};
+ghost use Rattle.cf_serve.specs.Phase.{IsSoundBegun, MayTurn, Phase, ReachDoes, TurnDoes, end_of, last_value, linked_value};
+ghost use Rattle.cf_serve.specs.Phase.{listening_of, phase_of};
+ghost use Rattle.cf_view.specs.declared.Endpoint.{Endpoint as EndpointOf};
+
+use crate::end::SessionEnd;
+use cf_audit::What;
+use cf_lane::Lane;
+use cf_links::{Links, ReachAnswer};
+use cf_outq::Outq;
+use cf_outside::{Desk, MomentAnswer};
+use cf_policy::Asset;
+use cf_relay::{Relaying, Stop, log_line};
+use cf_view::{Endpoint, NoMemory, WriteFault};
+use std::alloc::Global;
+
+/// A relay whose controller was reached, and the client that was met.
+#[derive(Drop)]
+pub(crate) struct Linked {
+    pub(crate) met: Endpoint,
+    pub(crate) relaying: Relaying,
+}
+
+/// A session: its number, the number of its listening place, the endpoint from which its client came, and its relay once the
+/// controller is reached.
+#[derive(Drop)]
+pub(crate) struct Served {
+    pub(crate) number: u64,
+    pub(crate) place: usize,
+    pub(crate) client: Endpoint,
+    pub(crate) linked: Option<Linked>,
+}
+
+/// What a turn needs of its service: the asset of the session, the port at which its clients come, the moment of the round in
+/// microseconds, and how many answers `Idle` in a row end it.
+#[derive(Drop)]
+pub(crate) struct Terms<'a> {
+    pub(crate) asset: &'a Asset,
+    pub(crate) port: u16,
+    pub(crate) moment: u64,
+    pub(crate) most: u64,
+}
+
+/// What a session is made of as its controller is reached.
+#[derive(Drop)]
+struct Parts {
+    lane: Lane,
+    to_client: Outq,
+    to_controller: Outq,
+}
+
+/// How a session ends by what its relay answered; `closed` says whether both its sides are.
+fn end_by(answer: Result<(), Stop>, closed: bool) -> Result<Option<SessionEnd>, WriteFault>
+    ensures end { IfOk result (λ end. end ≡ end_of answer closed) }
+    ensures fine { OnOk result (answer ≡ Err Stop.Write → ⊥) }
+    ensures write { OnErr result (answer ≡ Err Stop.Write) }
+{
+    match answer {
+        Ok(()) => Ok(if closed {
+            Some(SessionEnd::Closed)
+        } else {
+            None
+        }),
+        Err(Stop::Idle) => Ok(Some(SessionEnd::Silent)),
+        Err(Stop::Link) => Ok(Some(SessionEnd::Lost)),
+        Err(Stop::Cut(reason)) => Ok(Some(SessionEnd::Cut(reason))),
+        Err(Stop::Write) => Err(WriteFault),
+    }
+}
+
+/// What the last line of a session says, with its numbers of commands.
+fn last_what(end: SessionEnd, admitted: u64, refused: u64) -> What<'static>
+    ensures { what_value result ≡ last_value end admitted refused }
+{
+    match end {
+        SessionEnd::Closed => What::Close { admitted, refused },
+        SessionEnd::Cut(reason) => What::Cut(reason),
+        SessionEnd::Silent => What::Silent { admitted, refused },
+        SessionEnd::Lost => What::Lost { admitted, refused },
+        SessionEnd::Unreached => What::Unreached,
+        SessionEnd::NoMemory => What::NoMemory,
+    }
+}
+
+/// What came of asking for a session's controller.
+#[derive(Drop)]
+enum Reached {
+    Waiting,
+    Begun(Linked),
+    Ended(SessionEnd),
+}
+
+/// The lane of a session and its two queues, with all their memory.
+fn make_parts(alloc: Global, asset: &Asset, met: Endpoint) -> Result<Parts, NoMemory>
+    requires within { IsAssetWithin asset.now }
+    ensures lane { IfOk result (λ parts. IsNewLane asset.now met (Parts.lane parts)) }
+    ensures to_client { IfOk result (λ parts. Parts.to_client parts ≡ empty) }
+    ensures to_controller { IfOk result (λ parts. Parts.to_controller parts ≡ empty) }
+{
+    let lane = Lane::new(alloc, asset, met)?;
+    let to_client = Outq::new(alloc)?;
+    let to_controller = Outq::new(alloc)?;
+    Ok(Parts {
+        lane,
+        to_client,
+        to_controller,
+    })
+}
+
+/// Begins the relay of a session whose controller was reached: its memory, its first moment, and its open line.
+fn begin<L: Links, D: Desk>(
+    alloc: Global,
+    session: u64,
+    met: Endpoint,
+    terms: &Terms<'_>,
+    links: &mut L,
+    desk: &mut D,
+) -> Result<Reached, WriteFault>
+    requires serves { LinksPlace.serves (L.place links.old) session ≡ true }
+    requires within { IsAssetWithin terms.now.asset.now }
+    requires most { 0 < terms.now.most }
+    requires whole { DeskValue.whole (D.value desk.old) ≡ true }
+    ensures place { L.place links.new ≡ L.place links.old }
+    ensures does { IfOk result (λ reached. (client : EndpointOf) → ReachDoes (listening_of terms.now) terms.now.most client
+        (met_at terms.now.port terms.now.asset.now.endpoint met ∷ [])
+        (told_of L.Links session links.old) (told_of L.Links session links.new)
+        (DeskValue.lines (D.value desk.old)) (DeskValue.lines (D.value desk.new)) reached) }
+    ensures may { IfOk result (λ reached. IsSoundBegun (listening_of terms.now) terms.now.most reached) }
+    ensures whole { OnOk result (DeskValue.whole (D.value desk.new) ≡ true) }
+    ensures log { WritesLog (D.value desk.old) (D.value desk.new) }
+    ensures cause { HasCause (DeskValue.faults (D.value desk.old)) (DeskValue.faults (D.value desk.new)) (IsErr result) }
+{
+    let parts = match make_parts(alloc, terms.asset, met) {
+        Ok(parts) => parts,
+        Err(_) => {
+            log_line(terms.asset, met, terms.moment, What::NoMemory, desk)?;
+            return Ok(Reached::Ended(SessionEnd::NoMemory));
+        }
+    };
+    match links.moment(session) {
+        MomentAnswer::Told(moment) => {
+            log_line(terms.asset, met, moment, What::Begun, desk)?;
+            let relaying = Relaying::begun(
+                parts.lane,
+                parts.to_client,
+                parts.to_controller,
+                moment,
+            );
+            Ok(Reached::Begun(Linked { met, relaying }))
+        }
+        MomentAnswer::Failed => {
+            let what = What::Lost {
+                admitted: 0,
+                refused: 0,
+            };
+            log_line(terms.asset, met, 0, what, desk)?;
+            Ok(Reached::Ended(SessionEnd::Lost))
+        }
+    }
+}
+
+/// Asks for the controller of a session.
+fn reach<L: Links, D: Desk>(
+    alloc: Global,
+    session: u64,
+    client: Endpoint,
+    terms: &Terms<'_>,
+    links: &mut L,
+    desk: &mut D,
+) -> Result<Reached, WriteFault>
+    requires serves { LinksPlace.serves (L.place links.old) session ≡ true }
+    requires within { IsAssetWithin terms.now.asset.now }
+    requires most { 0 < terms.now.most }
+    requires whole { DeskValue.whole (D.value desk.old) ≡ true }
+    ensures place { L.place links.new ≡ L.place links.old }
+    ensures does { IfOk result (λ reached. ReachDoes (listening_of terms.now) terms.now.most client []
+        (told_of L.Links session links.old) (told_of L.Links session links.new)
+        (DeskValue.lines (D.value desk.old)) (DeskValue.lines (D.value desk.new)) reached) }
+    ensures may { IfOk result (λ reached. IsSoundBegun (listening_of terms.now) terms.now.most reached) }
+    ensures whole { OnOk result (DeskValue.whole (D.value desk.new) ≡ true) }
+    ensures log { WritesLog (D.value desk.old) (D.value desk.new) }
+    ensures cause { HasCause (DeskValue.faults (D.value desk.old)) (DeskValue.faults (D.value desk.new)) (IsErr result) }
+{
+    match links.meet(session, terms.port, terms.asset.endpoint) {
+        ReachAnswer::Met(met) => begin(alloc, session, met, terms, links, desk),
+        ReachAnswer::Waiting => Ok(Reached::Waiting),
+        ReachAnswer::Failed => {
+            log_line(terms.asset, client, terms.moment, What::Unreached, desk)?;
+            Ok(Reached::Ended(SessionEnd::Unreached))
+        }
+    }
+}
+
+impl Linked {
+    /// A turn of the relay, and the line of its end where it is the last.
+    pub(crate) fn turn<L: Links, D: Desk>(
+        &mut self,
+        terms: &Terms<'_>,
+        buf: &mut [u8],
+        session: u64,
+        links: &mut L,
+        desk: &mut D,
+    ) -> Result<Option<SessionEnd>, WriteFault>
+        requires serves { LinksPlace.serves (L.place links.old) session ≡ true }
+        requires within { IsAssetWithin terms.now.asset.now }
+        requires may { MayTurn (listening_of terms.now) terms.now.most (Some (linked_value self.old)) }
+        requires whole { DeskValue.whole (D.value desk.old) ≡ true }
+        requires buffer { length buf.old ≡ 4096 }
+        ensures place { L.place links.new ≡ L.place links.old }
+        ensures does { IfOk result (λ end. (client : EndpointOf) → TurnDoes (listening_of terms.now) terms.now.most client
+            (told_of L.Links session links.old) (told_of L.Links session links.new)
+            (DeskValue.lines (D.value desk.old)) (DeskValue.lines (D.value desk.new))
+            (Some (linked_value self.old)) (Some (linked_value self.new)) end) }
+        ensures may { IfOk result (λ end. end ≡ None → MayTurn (listening_of terms.now) terms.now.most (Some (linked_value self.new))) }
+        ensures whole { OnOk result (DeskValue.whole (D.value desk.new) ≡ true) }
+        ensures log { WritesLog (D.value desk.old) (D.value desk.new) }
+        ensures cause { HasCause (DeskValue.faults (D.value desk.old)) (DeskValue.faults (D.value desk.new)) (IsErr result) }
+        ensures buffer { length buf.new ≡ 4096 }
+    {
+        let answer = self
+            .relaying
+            .turn(terms.asset, terms.most, buf, session, links, desk);
+        let end = match end_by(answer, self.relaying.is_closed())? {
+            Some(end) => end,
+            None => return Ok(None),
+        };
+        let what = last_what(end, self.relaying.admitted(), self.relaying.refused());
+        log_line(terms.asset, self.met, self.relaying.moment(), what, desk)?;
+        Ok(Some(end))
+    }
+}
+
+impl Served {
+    /// One turn: its controller is asked for, or its relay has its turn; and the last line where it ends.
+    pub(crate) fn turn<L: Links, D: Desk>(
+        &mut self,
+        alloc: Global,
+        terms: &Terms<'_>,
+        buf: &mut [u8],
+        links: &mut L,
+        desk: &mut D,
+    ) -> Result<Option<SessionEnd>, WriteFault>
+        requires serves { LinksPlace.serves (L.place links.old) self.old.number ≡ true }
+        requires within { IsAssetWithin terms.now.asset.now }
+        requires most { 0 < terms.now.most }
+        requires may { MayTurn (listening_of terms.now) terms.now.most (Phase.linked (phase_of self.old)) }
+        requires whole { DeskValue.whole (D.value desk.old) ≡ true }
+        requires buffer { length buf.old ≡ 4096 }
+        ensures place { L.place links.new ≡ L.place links.old }
+        ensures does { IfOk result (λ end. TurnDoes (listening_of terms.now) terms.now.most self.old.client
+            (told_of L.Links self.old.number links.old) (told_of L.Links self.old.number links.new)
+            (DeskValue.lines (D.value desk.old)) (DeskValue.lines (D.value desk.new))
+            (Phase.linked (phase_of self.old)) (Phase.linked (phase_of self.new)) end) }
+        ensures may { IfOk result (λ end. end ≡ None → MayTurn (listening_of terms.now) terms.now.most (Phase.linked (phase_of self.new))) }
+        ensures same { self.new ≡ record self.old { linked = self.new.linked } }
+        ensures whole { OnOk result (DeskValue.whole (D.value desk.new) ≡ true) }
+        ensures log { WritesLog (D.value desk.old) (D.value desk.new) }
+        ensures cause { HasCause (DeskValue.faults (D.value desk.old)) (DeskValue.faults (D.value desk.new)) (IsErr result) }
+        ensures buffer { length buf.new ≡ 4096 }
+    {
+        match &mut self.linked {
+            Some(linked) => linked.turn(terms, buf, self.number, links, desk),
+            None => match reach(alloc, self.number, self.client, terms, links, desk)? {
+                Reached::Waiting => Ok(None),
+                Reached::Ended(end) => Ok(Some(end)),
+                Reached::Begun(linked) => {
+                    self.linked = Some(linked);
+                    Ok(None)
+                }
+            },
+        }
+    }
+}

@@ -1,0 +1,405 @@
+//! The sessions of a service that stand, and their turns in a round.
+ghost use Rattle.std.specs.Prelude.{◌≡◌, ◌<◌, ◌≤◌, ◌+◌, ◌-◌, false, ◌^◌, ◌++◌, ◌∷◌, [], if◌then◌else◌, IfOk, Err, IsErr, List, OnErr};
+ghost use Rattle.std.specs.Prelude.{OnOk, Some, length, map, option_map, slice_get, true, vec_capacity, vec_len, ℕ};
+ghost use Rattle.cf_lane.specs.Handled.{WritesLog};
+ghost use Rattle.cf_links.specs.Links.{LinksPlace};
+ghost use Rattle.cf_outside.specs.Desk.{DeskValue};
+ghost use Rattle.cf_outside.specs.Faults.{HasCause, Rose};
+ghost use Rattle.cf_outside.specs.Pair.{Entry};
+ghost use Rattle.cf_policy.specs.Within.{IsAssetWithin};
+ghost use Rattle.cf_serve.specs.Phase.{KeepsPlace, MayTurn, Phase, SeatDoes, StandsAs, listening_at, listening_of, listenings, phase_of};
+ghost use Rattle.cf_serve.specs.Served.{left_of};
+ghost use Rattle.cf_serve.specs.Rounds.{TurnOf, has_place};
+ghost use Rattle.cf_serve.specs.Table.{Arrive, IfWhole, IsTable, Keeps, MayLeave, RoundDoes, RoundsDo, StepDoes, TurnsDo, new_phase};
+ghost use Rattle.cf_serve.specs.Table.{seats_of};
+ghost use Rattle.cf_serve.specs.declared.table.Place.{Place as PlaceOf};
+ghost use Rattle.std.specs.List.{AllByRecursion};
+
+use crate::fault::ServeFault;
+use crate::session::{Served, Terms};
+use cf_audit::What;
+use cf_links::{ArriveAnswer, Service};
+use cf_outside::{Desk, MomentAnswer};
+use cf_policy::Asset;
+use cf_relay::log_line;
+use cf_view::{Endpoint, WriteFault};
+use std::alloc::{AllocError, Global};
+
+/// How many sessions stand at most. This project's own choice.
+const SESSION_LIMIT: usize = 256;
+
+/// How many of them are of one listening place at most, so that the clients of one asset keep no others out. This project's own
+/// choice.
+const PLACE_LIMIT: usize = 32;
+
+/// An asset that is served, and the address and the port of this machine at which its clients come.
+#[derive(Clone, Copy)]
+pub struct Place<'a> {
+    pub asset: &'a Asset,
+    pub at: Endpoint,
+}
+
+/// A listening place by its number.
+pub(crate) fn place_of<'a>(places: &[Place<'a>], number: usize) -> Place<'a>
+    requires number { number < length places.now }
+    requires within { AllByRecursion (λ place. IsAssetWithin (PlaceOf.asset place).now) places.now }
+    ensures is { slice_get places.now number ≡ Some result }
+    ensures place { slice_get (listenings places.now) number ≡ Some (listening_at result) }
+    ensures within { IsAssetWithin result.asset.now }
+{
+    places[number]
+}
+
+/// Gives a session its turn where something can move for it, and leaves it where it ends; answers whether it stays.
+fn turn_one<L: Service, D: Desk>(
+    served: &mut Served,
+    alloc: Global,
+    terms: &Terms<'_>,
+    buf: &mut [u8],
+    links: &mut L,
+    desk: &mut D,
+) -> Result<bool, WriteFault>
+    requires serves { LinksPlace.serves (L.place links.old) served.old.number ≡ true }
+    requires within { IsAssetWithin terms.now.asset.now }
+    requires most { 0 < terms.now.most }
+    requires may { MayTurn (listening_of terms.now) terms.now.most (Phase.linked (phase_of served.old)) }
+    requires whole { DeskValue.whole (D.value desk.old) ≡ true }
+    requires buffer { length buf.old ≡ 4096 }
+    ensures place { IfOk result (λ stays. KeepsPlace served.old.number (L.place links.old) (L.place links.new) stays) }
+    ensures served { OnErr result (L.place links.new ≡ L.place links.old) }
+    ensures does { IfOk result (λ stays. (es : List Entry) (own : List (List ℕ))
+        → StandsAs (listening_of terms.now) terms.now.most es own (Phase.linked (phase_of served.old))
+        → SeatDoes (listening_of terms.now) terms.now.most es own (L.told links.old) (L.told links.new)
+        (DeskValue.lines (D.value desk.old)) (DeskValue.lines (D.value desk.new)) (phase_of served.old) (phase_of served.new) stays) }
+    ensures may { IfOk result (λ stays. stays ≡ true
+        → MayTurn (listening_of terms.now) terms.now.most (Phase.linked (phase_of served.new))) }
+    ensures same { served.new ≡ record served.old { linked = served.new.linked } }
+    ensures whole { OnOk result (DeskValue.whole (D.value desk.new) ≡ true) }
+    ensures log { WritesLog (D.value desk.old) (D.value desk.new) }
+    ensures cause { HasCause (DeskValue.faults (D.value desk.old)) (DeskValue.faults (D.value desk.new)) (IsErr result) }
+    ensures buffer { length buf.new ≡ 4096 }
+{
+    let number = served.number;
+    if !links.is_ready(number) {
+        return Ok(true);
+    }
+    match served.turn(alloc, terms, buf, links, desk)? {
+        None => Ok(true),
+        Some(_) => {
+            links.leave(number);
+            Ok(false)
+        }
+    }
+}
+
+/// The sessions that stand, in the order in which they came, and the number of the next.
+#[derive(Drop)]
+pub(crate) struct Table {
+    pub(crate) sessions: Vec<Served>,
+    pub(crate) next: u64,
+}
+
+impl Table {
+    /// No sessions, and room for all that may stand.
+    pub(crate) fn new(alloc: Global) -> Result<Table, AllocError>
+        ensures none { IfOk result (λ table. (Table.sessions table).items ≡ []) }
+        ensures next { IfOk result (λ table. Table.next table ≡ 0) }
+        ensures room { IfOk result (λ table. 256 ≤ vec_capacity (Table.sessions table)) }
+    {
+        let sessions = Vec::with_capacity(alloc, SESSION_LIMIT)?;
+        Ok(Table { sessions, next: 0 })
+    }
+
+    /// Leaves every session.
+    pub(crate) fn leave_all<L: Service>(&self, links: &mut L)
+        requires leave { MayLeave (LinksPlace.serves (L.place links.old)) self.now.next (map phase_of self.now.sessions.items) }
+        ensures told { L.told links.new
+            ≡ option_map (λ es. es ++ left_of (seats_of (map phase_of self.now.sessions.items))) (L.told links.old) }
+    {
+        for served in self.sessions.iter() {
+            links.leave(served.number);
+        }
+    }
+
+    /// Gives the session of a place its turn; it is taken out where it ends. Answers whether it stays.
+    pub(crate) fn turn_at<L: Service, D: Desk>(
+        &mut self,
+        index: usize,
+        alloc: Global,
+        places: &[Place<'_>],
+        moment: u64,
+        most: u64,
+        buf: &mut [u8],
+        links: &mut L,
+        desk: &mut D,
+    ) -> Result<bool, WriteFault>
+        requires index { index < length self.old.sessions.items }
+        requires table { IsTable (listenings places.now) most (LinksPlace.serves (L.place links.old)) self.old.next
+            (map phase_of self.old.sessions.items) }
+        requires within { AllByRecursion (λ place. IsAssetWithin (PlaceOf.asset place).now) places.now }
+        requires most { 0 < most }
+        requires whole { DeskValue.whole (D.value desk.old) ≡ true }
+        requires buffer { length buf.old ≡ 4096 }
+        ensures table { OnOk result (IsTable (listenings places.now) most (LinksPlace.serves (L.place links.new)) self.new.next
+            (map phase_of self.new.sessions.items)) }
+        ensures does { IfOk result (λ stays. (past : List TurnOf)
+            → Keeps (listenings places.now) most self.old.next past (map phase_of self.old.sessions.items)
+            → StepDoes (listenings places.now) most self.old.next past index (L.told links.old) (L.told links.new)
+            (DeskValue.lines (D.value desk.old)) (DeskValue.lines (D.value desk.new))
+            (map phase_of self.old.sessions.items) (map phase_of self.new.sessions.items) stays) }
+        ensures room { vec_capacity self.new.sessions ≡ vec_capacity self.old.sessions }
+        ensures len { IfOk result (λ stays. vec_len self.new.sessions + (if stays then 0 else 1) ≡ vec_len self.old.sessions) }
+        ensures leave { OnErr result (MayLeave (LinksPlace.serves (L.place links.new)) self.new.next
+            (map phase_of self.new.sessions.items)) }
+        ensures next { self.new.next ≡ self.old.next }
+        ensures whole { OnOk result (DeskValue.whole (D.value desk.new) ≡ true) }
+        ensures log { WritesLog (D.value desk.old) (D.value desk.new) }
+        ensures cause { HasCause (DeskValue.faults (D.value desk.old)) (DeskValue.faults (D.value desk.new)) (IsErr result) }
+        ensures buffer { length buf.new ≡ 4096 }
+    {
+        let served = &mut self.sessions[index];
+        let place = place_of(places, served.place);
+        let terms = Terms {
+            asset: place.asset,
+            port: place.at.port,
+            moment,
+            most,
+        };
+        let stays = turn_one(served, alloc, &terms, buf, links, desk)?;
+        if !stays {
+            self.sessions.remove(index);
+        }
+        Ok(stays)
+    }
+
+    /// Gives each session its turn, in the order in which they came; those that end are taken out.
+    pub(crate) fn turns<L: Service, D: Desk>(
+        &mut self,
+        alloc: Global,
+        places: &[Place<'_>],
+        moment: u64,
+        most: u64,
+        links: &mut L,
+        desk: &mut D,
+    ) -> Result<(), WriteFault>
+        requires table { IsTable (listenings places.now) most (LinksPlace.serves (L.place links.old)) self.old.next
+            (map phase_of self.old.sessions.items) }
+        requires within { AllByRecursion (λ place. IsAssetWithin (PlaceOf.asset place).now) places.now }
+        requires most { 0 < most }
+        requires whole { DeskValue.whole (D.value desk.old) ≡ true }
+        ensures table { OnOk result (IsTable (listenings places.now) most (LinksPlace.serves (L.place links.new)) self.new.next
+            (map phase_of self.new.sessions.items)) }
+        ensures does { OnOk result ((past : List TurnOf)
+            → Keeps (listenings places.now) most self.old.next past (map phase_of self.old.sessions.items)
+            → TurnsDo (listenings places.now) most self.old.next past (L.told links.old) (L.told links.new)
+            (DeskValue.lines (D.value desk.old)) (DeskValue.lines (D.value desk.new))
+            (map phase_of self.old.sessions.items) (map phase_of self.new.sessions.items)) }
+        ensures leave { OnErr result (MayLeave (LinksPlace.serves (L.place links.new)) self.new.next
+            (map phase_of self.new.sessions.items)) }
+        ensures next { self.new.next ≡ self.old.next }
+        ensures room { vec_capacity self.new.sessions ≡ vec_capacity self.old.sessions }
+        ensures whole { OnOk result (DeskValue.whole (D.value desk.new) ≡ true) }
+        ensures log { WritesLog (D.value desk.old) (D.value desk.new) }
+        ensures cause { HasCause (DeskValue.faults (D.value desk.old)) (DeskValue.faults (D.value desk.new)) (IsErr result) }
+    {
+        let mut buf = [0u8; 4096];
+        let mut index = 0;
+        while index < self.sessions.len() {
+            if self.turn_at(index, alloc, places, moment, most, &mut buf, links, desk)? {
+                index += 1;
+            }
+        }
+        Ok(())
+    }
+
+    /// Whether there is a place for one more client of a listening place.
+    fn has_place(&self, place: usize) -> bool
+        ensures { result ≡ has_place (seats_of (map phase_of self.now.sessions.items)) place }
+    {
+        let mut count = 0;
+        for served in self.sessions.iter() {
+            if served.place == place {
+                count += 1;
+            }
+        }
+        self.sessions.len() < SESSION_LIMIT && count < PLACE_LIMIT
+    }
+
+    /// Takes a client at one place, where one came and there is a place for it.
+    fn arrive<L: Service, D: Desk>(
+        &mut self,
+        place: usize,
+        places: &[Place<'_>],
+        moment: u64,
+        links: &mut L,
+        desk: &mut D,
+    ) -> Result<(), WriteFault>
+        requires place { place < length places.now }
+        requires few { length places.now ≤ 256 }
+        requires room { 256 ≤ vec_capacity self.old.sessions }
+        requires free { (session : ℕ) → self.old.next ≤ session → LinksPlace.serves (L.place links.old) session ≡ false }
+        requires within { AllByRecursion (λ place. IsAssetWithin (PlaceOf.asset place).now) places.now }
+        requires whole { DeskValue.whole (D.value desk.old) ≡ true }
+        ensures table { (most : ℕ) → IsTable (listenings places.now) most (LinksPlace.serves (L.place links.old)) self.old.next
+            (map phase_of self.old.sessions.items) → IsTable (listenings places.now) most (LinksPlace.serves (L.place links.new))
+            self.new.next (map phase_of self.new.sessions.items) }
+        ensures free { (session : ℕ) → self.new.next ≤ session → LinksPlace.serves (L.place links.new) session ≡ false }
+        ensures does { OnOk result ((most : ℕ) → Arrive (listenings places.now) most moment place (place + 1) self.old.next self.new.next
+            (L.told links.old) (L.told links.new) (DeskValue.lines (D.value desk.old)) (DeskValue.lines (D.value desk.new))
+            (map phase_of self.old.sessions.items) (map phase_of self.new.sessions.items)) }
+        ensures room { vec_capacity self.old.sessions ≤ vec_capacity self.new.sessions }
+        ensures whole { OnOk result (DeskValue.whole (D.value desk.new) ≡ true) }
+        ensures log { WritesLog (D.value desk.old) (D.value desk.new) }
+        ensures cause { HasCause (DeskValue.faults (D.value desk.old)) (DeskValue.faults (D.value desk.new)) (IsErr result) }
+    {
+        if self.next == u64::MAX || !self.has_place(place) {
+            return Ok(());
+        }
+        let client = match links.arrive(place as u32, self.next) {
+            ArriveAnswer::Came(client) => client,
+            ArriveAnswer::Nobody => return Ok(()),
+        };
+        self.take_in(place, client);
+        if self.has_place(place) {
+            return Ok(());
+        }
+        let at = place_of(places, place);
+        log_line(at.asset, client, moment, What::Full, desk)
+    }
+
+    /// A client has its place in the table, under the next number.
+    fn take_in(&mut self, place: usize, client: Endpoint)
+        requires room { vec_len self.old.sessions < vec_capacity self.old.sessions }
+        requires next { self.old.next < 2 ^ 64 - 1 }
+        ensures items { map phase_of self.new.sessions.items ≡ map phase_of self.old.sessions.items
+            ++ new_phase self.old.next place client ∷ [] }
+        ensures next { self.new.next ≡ self.old.next + 1 }
+        ensures room { vec_capacity self.old.sessions ≤ vec_capacity self.new.sessions }
+    {
+        let served = Served {
+            number: self.next,
+            place,
+            client,
+            linked: None,
+        };
+        let _ = self.sessions.push(served);
+        self.next += 1;
+    }
+
+    /// Takes a client at each listening place that has one, and a place for it.
+    fn arrivals<L: Service, D: Desk>(
+        &mut self,
+        places: &[Place<'_>],
+        moment: u64,
+        links: &mut L,
+        desk: &mut D,
+    ) -> Result<(), WriteFault>
+        requires few { length places.now ≤ 256 }
+        requires room { 256 ≤ vec_capacity self.old.sessions }
+        requires free { (session : ℕ) → self.old.next ≤ session → LinksPlace.serves (L.place links.old) session ≡ false }
+        requires within { AllByRecursion (λ place. IsAssetWithin (PlaceOf.asset place).now) places.now }
+        requires whole { DeskValue.whole (D.value desk.old) ≡ true }
+        ensures table { (most : ℕ) → IsTable (listenings places.now) most (LinksPlace.serves (L.place links.old)) self.old.next
+            (map phase_of self.old.sessions.items) → IsTable (listenings places.now) most (LinksPlace.serves (L.place links.new))
+            self.new.next (map phase_of self.new.sessions.items) }
+        ensures does { OnOk result ((most : ℕ) → Arrive (listenings places.now) most moment 0 (length places.now) self.old.next
+            self.new.next (L.told links.old) (L.told links.new) (DeskValue.lines (D.value desk.old)) (DeskValue.lines (D.value desk.new))
+            (map phase_of self.old.sessions.items) (map phase_of self.new.sessions.items)) }
+        ensures room { vec_capacity self.old.sessions ≤ vec_capacity self.new.sessions }
+        ensures whole { OnOk result (DeskValue.whole (D.value desk.new) ≡ true) }
+        ensures log { WritesLog (D.value desk.old) (D.value desk.new) }
+        ensures cause { HasCause (DeskValue.faults (D.value desk.old)) (DeskValue.faults (D.value desk.new)) (IsErr result) }
+    {
+        for place in 0..places.len() {
+            self.arrive(place, places, moment, links, desk)?;
+        }
+        Ok(())
+    }
+
+    /// One round: a client at most is taken at each place, and then each session has its turn.
+    pub(crate) fn round<L: Service, D: Desk>(
+        &mut self,
+        alloc: Global,
+        places: &[Place<'_>],
+        most: u64,
+        links: &mut L,
+        desk: &mut D,
+    ) -> Result<(), ServeFault>
+        requires few { length places.now ≤ 256 }
+        requires room { 256 ≤ vec_capacity self.old.sessions }
+        requires table { IsTable (listenings places.now) most (LinksPlace.serves (L.place links.old)) self.old.next
+            (map phase_of self.old.sessions.items) }
+        requires within { AllByRecursion (λ place. IsAssetWithin (PlaceOf.asset place).now) places.now }
+        requires most { 0 < most }
+        requires whole { DeskValue.whole (D.value desk.old) ≡ true }
+        ensures table { OnOk result (IsTable (listenings places.now) most (LinksPlace.serves (L.place links.new)) self.new.next
+            (map phase_of self.new.sessions.items)) }
+        ensures does { OnOk result ((past : List TurnOf)
+            → Keeps (listenings places.now) most self.old.next past (map phase_of self.old.sessions.items)
+            → RoundDoes (listenings places.now) most self.old.next self.new.next past (L.told links.old) (L.told links.new)
+            (DeskValue.lines (D.value desk.old)) (DeskValue.lines (D.value desk.new))
+            (map phase_of self.old.sessions.items) (map phase_of self.new.sessions.items)) }
+        ensures leave { OnErr result (MayLeave (LinksPlace.serves (L.place links.new)) self.new.next
+            (map phase_of self.new.sessions.items)) }
+        ensures room { vec_capacity self.old.sessions ≤ vec_capacity self.new.sessions }
+        ensures whole { OnOk result (DeskValue.whole (D.value desk.new) ≡ true) }
+        ensures log { WritesLog (D.value desk.old) (D.value desk.new) }
+        ensures write { HasCause (DeskValue.faults (D.value desk.old)) (DeskValue.faults (D.value desk.new))
+            (result ≡ Err ServeFault.Write) }
+        ensures loops { result ≡ Err ServeFault.Loop → Rose (L.round_faults links.old) (L.round_faults links.new) }
+        ensures still { result ≡ Err ServeFault.Loop → (self.new ≡ self.old) × (L.told links.new ≡ L.told links.old)
+            × (D.value desk.new ≡ D.value desk.old) × (L.place links.new ≡ L.place links.old) }
+        ensures memory { result ≡ Err ServeFault.NoMemory → ⊥ }
+    {
+        let moment = match links.wait() {
+            MomentAnswer::Told(moment) => moment,
+            MomentAnswer::Failed => return Err(ServeFault::Loop),
+        };
+        match self.arrivals(places, moment, links, desk) {
+            Ok(()) => {}
+            Err(_) => return Err(ServeFault::Write),
+        }
+        match self.turns(alloc, places, moment, most, links, desk) {
+            Ok(()) => Ok(()),
+            Err(_) => Err(ServeFault::Write),
+        }
+    }
+
+    /// Round after round, until a line fails or the wait does.
+    pub(crate) fn rounds<L: Service, D: Desk>(
+        &mut self,
+        alloc: Global,
+        places: &[Place<'_>],
+        most: u64,
+        links: &mut L,
+        desk: &mut D,
+    ) -> Result<(), ServeFault>
+        requires few { length places.now ≤ 256 }
+        requires room { 256 ≤ vec_capacity self.old.sessions }
+        requires table { IsTable (listenings places.now) most (LinksPlace.serves (L.place links.old)) self.old.next
+            (map phase_of self.old.sessions.items) }
+        requires within { AllByRecursion (λ place. IsAssetWithin (PlaceOf.asset place).now) places.now }
+        requires most { 0 < most }
+        requires whole { DeskValue.whole (D.value desk.old) ≡ true }
+        ensures table { IfWhole result (IsTable (listenings places.now) most (LinksPlace.serves (L.place links.new)) self.new.next
+            (map phase_of self.new.sessions.items)) }
+        ensures does { IfWhole result ((past : List TurnOf)
+            → Keeps (listenings places.now) most self.old.next past (map phase_of self.old.sessions.items)
+            → RoundsDo (listenings places.now) most self.old.next self.new.next past (L.told links.old) (L.told links.new)
+            (DeskValue.lines (D.value desk.old)) (DeskValue.lines (D.value desk.new))
+            (map phase_of self.old.sessions.items) (map phase_of self.new.sessions.items)) }
+        ensures leave { MayLeave (LinksPlace.serves (L.place links.new)) self.new.next (map phase_of self.new.sessions.items) }
+        ensures log { WritesLog (D.value desk.old) (D.value desk.new) }
+        ensures write { HasCause (DeskValue.faults (D.value desk.old)) (DeskValue.faults (D.value desk.new))
+            (result ≡ Err ServeFault.Write) }
+        ensures memory { result ≡ Err ServeFault.NoMemory → ⊥ }
+    {
+        for _ in 0..u64::MAX {
+            match self.round(alloc, places, most, links, desk) {
+                Ok(()) => {}
+                Err(fault) => return Err(fault),
+            }
+        }
+        Ok(())
+    }
+}

@@ -1,0 +1,91 @@
+//! The service: the places are opened, and then round follows round.
+ghost use Rattle.std.specs.Prelude.{◌≡◌, ◌≤◌, ◌*◌, Err, OnOk, false, length, true, ℕ};
+ghost use Rattle.std.specs.List.{AllByRecursion};
+ghost use Rattle.cf_lane.specs.Handled.{WritesLog};
+ghost use Rattle.cf_links.specs.Links.{LinksPlace};
+ghost use Rattle.cf_outside.specs.Desk.{DeskValue};
+ghost use Rattle.cf_outside.specs.Faults.{HasCause};
+ghost use Rattle.cf_policy.specs.Within.{IsAssetWithin};
+ghost use Rattle.cf_serve.specs.Served.{OpensDo, Serves};
+ghost use Rattle.cf_serve.specs.Table.{IfWhole};
+ghost use Rattle.cf_serve.specs.declared.table.Place.{Place as PlaceOf};
+
+use crate::fault::ServeFault;
+use crate::table::{Place, Table, place_of};
+use cf_audit::What;
+use cf_links::Service;
+use cf_outside::{Desk, MomentAnswer};
+use cf_relay::log_line;
+use std::alloc::Global;
+
+/// Listens at each place, and says so in the log.
+fn open_places<L: Service, D: Desk>(
+    places: &[Place<'_>],
+    links: &mut L,
+    desk: &mut D,
+) -> Result<(), ServeFault>
+    requires few { length places.now ≤ 256 }
+    requires within { AllByRecursion (λ place. IsAssetWithin (PlaceOf.asset place).now) places.now }
+    requires whole { DeskValue.whole (D.value desk.old) ≡ true }
+    ensures place { L.place links.new ≡ L.place links.old }
+    ensures all { OnOk result (OpensDo places.now (length places.now) (L.told links.old) (L.told links.new)
+        (DeskValue.lines (D.value desk.old)) (DeskValue.lines (D.value desk.new))) }
+    ensures does { IfWhole result ((count : ℕ) × OpensDo places.now count (L.told links.old) (L.told links.new)
+        (DeskValue.lines (D.value desk.old)) (DeskValue.lines (D.value desk.new))) }
+    ensures whole { OnOk result (DeskValue.whole (D.value desk.new) ≡ true) }
+    ensures log { WritesLog (D.value desk.old) (D.value desk.new) }
+    ensures write { HasCause (DeskValue.faults (D.value desk.old)) (DeskValue.faults (D.value desk.new))
+        (result ≡ Err ServeFault.Write) }
+    ensures memory { result ≡ Err ServeFault.NoMemory → ⊥ }
+{
+    for number in 0..places.len() {
+        let place = place_of(places, number);
+        let moment = match links.listen(number as u32, place.at) {
+            MomentAnswer::Told(moment) => moment,
+            MomentAnswer::Failed => return Err(ServeFault::Loop),
+        };
+        match log_line(place.asset, place.at, moment, What::Listen, desk) {
+            Ok(()) => {}
+            Err(_) => return Err(ServeFault::Write),
+        }
+    }
+    Ok(())
+}
+
+/// Serves the clients that come at some places, each session between its client and the controller of its asset, until a line of the
+/// log fails, or a place cannot be listened at, or the wait fails. Each line goes to the desk as it comes. A session in which nothing
+/// moves goes after twice `seconds` answers `Idle` of its own in a row. At most 256 sessions stand, and 32 of one place.
+/// `seconds` is from 1 to 1,000,000; there are at most 256 places. Whatever the answer, every session is left. This project's own.
+pub fn serve_desk<L: Service, D: Desk>(
+    alloc: Global,
+    places: &[Place<'_>],
+    seconds: u32,
+    links: &mut L,
+    desk: &mut D,
+) -> Result<(), ServeFault>
+    requires few { length places.now ≤ 256 }
+    requires within { AllByRecursion (λ place. IsAssetWithin (PlaceOf.asset place).now) places.now }
+    requires seconds { (1 ≤ seconds) × (seconds ≤ 1000000) }
+    requires free { (session : ℕ) → LinksPlace.serves (L.place links.old) session ≡ false }
+    requires whole { DeskValue.whole (D.value desk.old) ≡ true }
+    ensures serves { IfWhole result (Serves places.now (2 * seconds) (L.told links.old) (L.told links.new)
+        (DeskValue.lines (D.value desk.old)) (DeskValue.lines (D.value desk.new))) }
+    ensures log { WritesLog (D.value desk.old) (D.value desk.new) }
+    ensures write { HasCause (DeskValue.faults (D.value desk.old)) (DeskValue.faults (D.value desk.new))
+        (result ≡ Err ServeFault.Write) }
+    ensures memory { result ≡ Err ServeFault.NoMemory → (L.told links.new ≡ L.told links.old)
+        × (D.value desk.new ≡ D.value desk.old) }
+{
+    let mut table = match Table::new(alloc) {
+        Ok(table) => table,
+        Err(_) => return Err(ServeFault::NoMemory),
+    };
+    match open_places(places, links, desk) {
+        Ok(()) => {}
+        Err(fault) => return Err(fault),
+    }
+    let most = 2 * u64::from(seconds);
+    let ended = table.rounds(alloc, places, most, links, desk);
+    table.leave_all(links);
+    ended
+}
