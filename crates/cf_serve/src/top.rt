@@ -55,9 +55,10 @@ fn open_places<L: Service, D: Desk>(
 }
 
 /// Serves the clients that come at some places, each session between its client and the controller of its asset, until a line of the
-/// log fails, or a place cannot be listened at, or the wait fails. Each line goes to the desk as it comes. A session in which nothing
-/// moves goes after twice `seconds` answers `Idle` of its own in a row. At most 256 sessions stand, and 32 of one place.
-/// `seconds` is from 1 to 1,000,000; there are at most 256 places. Whatever the answer, every session is left. This project's own.
+/// log fails, or a place cannot be listened at, or the wait fails, or 2^64 - 1 rounds were made. Each line goes to the desk as it comes.
+/// A session in which nothing moves goes after twice `seconds` answers `Idle` of its own in a row. At most 256 sessions stand, and 32 of
+/// one place. `seconds` is from 1 to 1,000,000; there are at most 256 places. Sessions that still stand are left as it stops; where a
+/// line failed no clause says how far it came. This project's own.
 pub fn serve_desk<L: Service, D: Desk>(
     alloc: Global,
     places: &[Place<'_>],
@@ -93,7 +94,8 @@ pub fn serve_desk<L: Service, D: Desk>(
 }
 
 /// Serves as `serve_desk` does, with a log that is gone on with: it is made where it is not there, and a last line without a line feed
-/// gets one first. This project's own.
+/// gets one first. `Write`: the log could not be gone on with, or a line of it failed. `Loop`: a place cannot be listened at, or the
+/// wait failed. `NoMemory`: memory was wanting before anything was asked of the links. This project's own.
 pub fn serve<L: Service, F: Files>(
     alloc: Global,
     places: &[Place<'_>],
