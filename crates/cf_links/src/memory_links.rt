@@ -65,7 +65,13 @@ pub struct MemoryLinks {
 
 impl MemoryLinks {
     /// No clients, no script, and every count 0. Takes no memory.
-    pub fn new(alloc: Global) -> Self {
+    pub fn new(alloc: Global) -> Self
+        ensures clients { result.clients.items ≡ [] }
+        ensures told { result.told.items ≡ [] }
+        ensures free { (session : ℕ) → serves_in result session ≡ false }
+        ensures counts { (result.faults ≡ 0) × (result.round_faults ≡ 0) × (result.idles ≡ 0) × (result.lacks ≡ 0) }
+        ensures script { (result.clock ≡ 0) × (result.step ≡ 0) × (result.rounds ≡ 0) }
+    {
         MemoryLinks {
             clients: Vec::new(alloc),
             stands: Vec::new(alloc),

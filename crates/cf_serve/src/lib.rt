@@ -12,4 +12,4 @@ pub use end::SessionEnd;
 pub use fault::ServeFault;
 pub use laws::sessions_are_isolated;
 pub use table::Place;
-pub use top::serve_desk;
+pub use top::{serve, serve_desk};

@@ -5,6 +5,8 @@ ghost use Rattle.cf_lane.specs.Handled.{WritesLog};
 ghost use Rattle.cf_links.specs.Links.{LinksPlace};
 ghost use Rattle.cf_outside.specs.Desk.{DeskValue};
 ghost use Rattle.cf_outside.specs.Faults.{HasCause};
+ghost use Rattle.cf_outside.specs.Files.{KeepsOthers, content_gone_on};
+ghost use Rattle.cf_outside.specs.Lines.{file_lines};
 ghost use Rattle.cf_policy.specs.Within.{IsAssetWithin};
 ghost use Rattle.cf_serve.specs.Served.{OpensDo, Serves};
 ghost use Rattle.cf_serve.specs.Table.{IfWhole};
@@ -14,7 +16,7 @@ use crate::fault::ServeFault;
 use crate::table::{Place, Table, place_of};
 use cf_audit::What;
 use cf_links::Service;
-use cf_outside::{Desk, MomentAnswer};
+use cf_outside::{Desk, Files, LineDesk, MomentAnswer, WriteAnswer};
 use cf_relay::log_line;
 use std::alloc::Global;
 
@@ -53,9 +55,10 @@ fn open_places<L: Service, D: Desk>(
 }
 
 /// Serves the clients that come at some places, each session between its client and the controller of its asset, until a line of the
-/// log fails, or a place cannot be listened at, or the wait fails. Each line goes to the desk as it comes. A session in which nothing
-/// moves goes after twice `seconds` answers `Idle` of its own in a row. At most 256 sessions stand, and 32 of one place.
-/// `seconds` is from 1 to 1,000,000; there are at most 256 places. Whatever the answer, every session is left. This project's own.
+/// log fails, or a place cannot be listened at, or the wait fails, or 2^64 - 1 rounds were made. Each line goes to the desk as it comes.
+/// A session in which nothing moves goes after twice `seconds` answers `Idle` of its own in a row. At most 256 sessions stand, and 32 of
+/// one place. `seconds` is from 1 to 1,000,000; there are at most 256 places. Sessions that still stand are left as it stops; where a
+/// line failed no clause says how far it came. This project's own.
 pub fn serve_desk<L: Service, D: Desk>(
     alloc: Global,
     places: &[Place<'_>],
@@ -88,4 +91,38 @@ pub fn serve_desk<L: Service, D: Desk>(
     let ended = table.rounds(alloc, places, most, links, desk);
     table.leave_all(links);
     ended
+}
+
+/// Serves as `serve_desk` does, with a log that is gone on with: it is made where it is not there, and a last line without a line feed
+/// gets one first. `Write`: the log could not be gone on with, or a line of it failed. `Loop`: a place cannot be listened at, or the
+/// wait failed. `NoMemory`: memory was wanting before anything was asked of the links. This project's own.
+pub fn serve<L: Service, F: Files>(
+    alloc: Global,
+    places: &[Place<'_>],
+    seconds: u32,
+    log: &str,
+    links: &mut L,
+    files: &mut F,
+) -> Result<(), ServeFault>
+    requires few { length places.now ≤ 256 }
+    requires within { AllByRecursion (λ place. IsAssetWithin (PlaceOf.asset place).now) places.now }
+    requires seconds { (1 ≤ seconds) × (seconds ≤ 1000000) }
+    requires free { (session : ℕ) → LinksPlace.serves (L.place links.old) session ≡ false }
+    ensures serves { IfWhole result (Serves places.now (2 * seconds) (L.told links.old) (L.told links.new)
+        (file_lines (content_gone_on (F.content files.old log.now))) (file_lines (F.content files.new log.now))) }
+    ensures write { HasCause (F.write_faults files.old) (F.write_faults files.new) (result ≡ Err ServeFault.Write) }
+    ensures reads { F.read_faults files.new ≡ F.read_faults files.old }
+    ensures others { KeepsOthers log.now (F.content files.old) (F.content files.new) }
+    ensures memory { result ≡ Err ServeFault.NoMemory → L.told links.new ≡ L.told links.old }
+{
+    match files.go_on(log) {
+        WriteAnswer::Done => {}
+        WriteAnswer::Failed => return Err(ServeFault::Write),
+    }
+    let mut desk = LineDesk {
+        files,
+        log,
+        failed: false,
+    };
+    serve_desk(alloc, places, seconds, links, &mut desk)
 }
