@@ -45,11 +45,12 @@ answer_in session (Left other) = []
 abbrev pub answers_of : (session : ℕ) → List LinksEntry → List Entry
 answers_of session es = flat_map (answer_in session) es
 
--- what no call on a session changes: the sessions that the object has, and the reference through which it reaches what is lent
--- to it
+-- what no call on a session changes: the sessions that the object has, the reference through which it reaches what is lent to it,
+-- and how often a call that is of no session failed
 pub record LinksPlace : Type 0 where
   pub serves : ℕ → Bool
   pub lender : Option GName
+  pub round_faults : ℕ
 
 -- the whole list, where it is told, as a session adds to it
 pub record SessionTold : Type 0 where

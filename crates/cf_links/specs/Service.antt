@@ -1,6 +1,7 @@
 -- What links tell of sessions that come and go. The main definitions are `Opens`, `Wakes`, `Arrives`, `TellsReady` and `Leaves`, one
--- for each call, and `ChangesPlace`. This project's own.
+-- for each call, and `FaultsPlace` and `ChangesPlace`. This project's own.
 use Rattle.std.specs.Prelude.{◌≡◌, ◌==◌, ℕ, Bool, true, false, List, [], ◌∷◌, ◌++◌, Option, option_map}
+use Rattle.cf_outside.specs.Pair.{FaultsBy}
 use Rattle.cf_outside.specs.declared.pair.MomentAnswer.{MomentAnswer}
 use Rattle.cf_outside.specs.declared.pair.MomentAnswer.TheVariants as moment
 use Rattle.cf_links.specs.Links.{Came, Left, LinksEntry, LinksPlace, Opened, Ready, Woke}
@@ -35,17 +36,26 @@ TellsReady session old new false = new ≡ old
 abbrev pub Leaves : (session : ℕ) → Option (List LinksEntry) → Option (List LinksEntry) → Type 0
 Leaves session old new = new ≡ with_more old (Left session)
 
+-- the sessions stay, and the lender; the count of failures of calls that are of no session rises where this one failed, and there
+-- alone
+pub record FaultsPlace (old new : LinksPlace) (failed : Type 0) : Type 0 where
+  pub serves : new.serves ≡ old.serves
+  pub lender : new.lender ≡ old.lender
+  pub round : FaultsBy old.round_faults new.round_faults failed
+
 -- the object has the session besides; every other one that it had it has still
 pub record GetsSession (session : ℕ) (old new : LinksPlace) : Type 0 where
   pub served : new.serves session ≡ true
   pub others : (other : ℕ) → (session == other) ≡ false → new.serves other ≡ old.serves other
   pub lender : new.lender ≡ old.lender
+  pub round : new.round_faults ≡ old.round_faults
 
 -- the object does not have the session any more; every other one that it had it has still
 pub record LosesSession (session : ℕ) (old new : LinksPlace) : Type 0 where
   pub gone : new.serves session ≡ false
   pub others : (other : ℕ) → (session == other) ≡ false → new.serves other ≡ old.serves other
   pub lender : new.lender ≡ old.lender
+  pub round : new.round_faults ≡ old.round_faults
 
 -- a session was added where a client came
 abbrev pub ChangesPlace : (session : ℕ) → LinksPlace → LinksPlace → ArriveAnswer → Type 0

@@ -18,7 +18,7 @@ pub enum ReachAnswer {
 }
 
 /// The streams of sessions, each named by its number. What the object tells of its answers, in their order over all sessions,
-/// is optional. Neither count falls; each stays where a `u64` ends. This project's own interface.
+/// is optional. No count falls; each stays where a `u64` ends. This project's own interface.
 pub trait Links {
     /// The answers so far but the failed ones, where the object tells them.
     ghost told: { Self → Option (List LinksEntry) };
@@ -29,7 +29,8 @@ pub trait Links {
     /// How often the answer was `Idle`.
     ghost idles: { Self → ℕ };
 
-    /// Which sessions the object has, and the reference that it writes through, where it writes through one.
+    /// Which sessions the object has, the reference that it writes through, where it writes through one, and how often a call that is
+    /// of no session failed.
     ghost place: { Self → LinksPlace };
 
     /// Asks whether the controller of a session is reached, as the listening port and the peer of its meeting.

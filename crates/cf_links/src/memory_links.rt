@@ -222,7 +222,7 @@ impl Links for MemoryLinks {
 
     ghost idles = { λ l. l.idles };
 
-    ghost place = { λ l. record { serves = serves_in l; lender = None } };
+    ghost place = { λ l. record { serves = serves_in l; lender = None; round_faults = l.round_faults } };
 
     fn meet(&mut self, session: u64, listen: u16, peer: Endpoint) -> ReachAnswer {
         if self.make_room().is_err() {
@@ -347,8 +347,6 @@ impl Links for MemoryLinks {
 }
 
 impl Service for MemoryLinks {
-    ghost round_faults = { λ l. l.round_faults };
-
     fn listen(&mut self, place: u32, _at: Endpoint) -> MomentAnswer {
         if self.deaf == Some(place) || !self.is_roomy() || self.make_room().is_err() {
             self.round_faults = self.round_faults.saturating_add(1);

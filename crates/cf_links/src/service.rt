@@ -1,8 +1,7 @@
 //! Links whose sessions come at listening places and go.
-ghost use Rattle.std.specs.Prelude.{◌≡◌, ℕ, false, true};
-ghost use Rattle.cf_outside.specs.Pair.{FaultsBy};
+ghost use Rattle.std.specs.Prelude.{◌≡◌, false, true};
 ghost use Rattle.cf_links.specs.Links.{LinksPlace};
-ghost use Rattle.cf_links.specs.Service.{Arrives, ChangesPlace, Leaves, LosesSession, Opens, TellsReady, Wakes};
+ghost use Rattle.cf_links.specs.Service.{Arrives, ChangesPlace, FaultsPlace, Leaves, LosesSession, Opens, TellsReady, Wakes};
 
 use crate::links::Links;
 use cf_outside::MomentAnswer;
@@ -18,16 +17,13 @@ pub enum ArriveAnswer {
 }
 
 /// Links whose sessions come at listening places, each named by its number from 0, and go when they are left. None of these calls
-/// changes the counts of the calls on a session. This project's own interface.
+/// changes the counts of the calls on a session. How often `listen` or `wait` failed is a count of its own, `round_faults` of `place`:
+/// it rises in such calls alone. This project's own interface.
 pub trait Service: Links {
-    /// How often `listen` or `wait` failed. It rises in such calls alone.
-    ghost round_faults: { Self → ℕ };
-
     /// Listens for clients at an address and a port of this machine, from here on, and tells the moment in microseconds.
     fn listen(&mut self, place: u32, at: Endpoint) -> MomentAnswer
         ensures entry { Opens place (Self.told self.old) (Self.told self.new) result }
-        ensures cause { FaultsBy (round_faults self.old) (round_faults self.new) (result ≡ MomentAnswer.Failed) }
-        ensures place { Self.place self.new ≡ Self.place self.old }
+        ensures place { FaultsPlace (Self.place self.old) (Self.place self.new) (result ≡ MomentAnswer.Failed) }
         ensures faults { Self.faults self.new ≡ Self.faults self.old }
         ensures idles { Self.idles self.new ≡ Self.idles self.old };
 
@@ -35,8 +31,7 @@ pub trait Service: Links {
     /// moment in microseconds.
     fn wait(&mut self) -> MomentAnswer
         ensures entry { Wakes (Self.told self.old) (Self.told self.new) result }
-        ensures cause { FaultsBy (round_faults self.old) (round_faults self.new) (result ≡ MomentAnswer.Failed) }
-        ensures place { Self.place self.new ≡ Self.place self.old }
+        ensures place { FaultsPlace (Self.place self.old) (Self.place self.new) (result ≡ MomentAnswer.Failed) }
         ensures faults { Self.faults self.new ≡ Self.faults self.old }
         ensures idles { Self.idles self.new ≡ Self.idles self.old };
 
@@ -45,7 +40,6 @@ pub trait Service: Links {
         requires unused { LinksPlace.serves (Self.place self.old) session ≡ false }
         ensures entry { Arrives session place (Self.told self.old) (Self.told self.new) result }
         ensures place { ChangesPlace session (Self.place self.old) (Self.place self.new) result }
-        ensures round { round_faults self.new ≡ round_faults self.old }
         ensures faults { Self.faults self.new ≡ Self.faults self.old }
         ensures idles { Self.idles self.new ≡ Self.idles self.old };
 
@@ -54,7 +48,6 @@ pub trait Service: Links {
         requires serves { LinksPlace.serves (Self.place self.old) session ≡ true }
         ensures entry { TellsReady session (Self.told self.old) (Self.told self.new) result }
         ensures place { Self.place self.new ≡ Self.place self.old }
-        ensures round { round_faults self.new ≡ round_faults self.old }
         ensures faults { Self.faults self.new ≡ Self.faults self.old }
         ensures idles { Self.idles self.new ≡ Self.idles self.old };
 
@@ -63,7 +56,6 @@ pub trait Service: Links {
         requires serves { LinksPlace.serves (Self.place self.old) session ≡ true }
         ensures entry { Leaves session (Self.told self.old) (Self.told self.new) }
         ensures place { LosesSession session (Self.place self.old) (Self.place self.new) }
-        ensures round { round_faults self.new ≡ round_faults self.old }
         ensures faults { Self.faults self.new ≡ Self.faults self.old }
         ensures idles { Self.idles self.new ≡ Self.idles self.old };
 }

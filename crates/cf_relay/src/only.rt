@@ -29,7 +29,7 @@ impl<'a, P: Pair> Links for OnlyPair<'a, P> {
 
     ghost idles = { λ o. P.idles o.pair.now };
 
-    ghost place = { λ o. record { serves = λ session. session == 0; lender = Some o.pair.ghost_name } };
+    ghost place = { λ o. record { serves = λ session. session == 0; lender = Some o.pair.ghost_name; round_faults = 0 } };
 
     fn meet(&mut self, _session: u64, listen: u16, peer: Endpoint) -> ReachAnswer {
         match self.pair.meet(listen, peer) {

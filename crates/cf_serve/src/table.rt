@@ -4,8 +4,8 @@ ghost use Rattle.std.specs.Prelude.{OnOk, Some, length, map, option_map, slice_g
 ghost use Rattle.cf_lane.specs.Handled.{WritesLog};
 ghost use Rattle.cf_links.specs.Links.{LinksPlace};
 ghost use Rattle.cf_outside.specs.Desk.{DeskValue};
-ghost use Rattle.cf_outside.specs.Faults.{HasCause, Rose};
-ghost use Rattle.cf_outside.specs.Pair.{Entry};
+ghost use Rattle.cf_outside.specs.Faults.{HasCause};
+ghost use Rattle.cf_outside.specs.Pair.{Entry, FaultsBy};
 ghost use Rattle.cf_policy.specs.Within.{IsAssetWithin};
 ghost use Rattle.cf_serve.specs.Phase.{KeepsPlace, MayTurn, Phase, SeatDoes, StandsAs, listening_at, listening_of, listenings, phase_of};
 ghost use Rattle.cf_serve.specs.Served.{left_of};
@@ -67,6 +67,7 @@ fn turn_one<L: Service, D: Desk>(
     requires buffer { length buf.old ≡ 4096 }
     ensures place { IfOk result (λ stays. KeepsPlace served.old.number (L.place links.old) (L.place links.new) stays) }
     ensures served { OnErr result (L.place links.new ≡ L.place links.old) }
+    ensures round { LinksPlace.round_faults (L.place links.new) ≡ LinksPlace.round_faults (L.place links.old) }
     ensures does { IfOk result (λ stays. (es : List Entry) (own : List (List ℕ))
         → StandsAs (listening_of terms.now) terms.now.most es own (Phase.linked (phase_of served.old))
         → SeatDoes (listening_of terms.now) terms.now.most es own (L.told links.old) (L.told links.new)
@@ -115,6 +116,7 @@ impl Table {
         requires leave { MayLeave (LinksPlace.serves (L.place links.old)) self.now.next (map phase_of self.now.sessions.items) }
         ensures told { L.told links.new
             ≡ option_map (λ es. es ++ left_of (seats_of (map phase_of self.now.sessions.items))) (L.told links.old) }
+        ensures round { LinksPlace.round_faults (L.place links.new) ≡ LinksPlace.round_faults (L.place links.old) }
     {
         for served in self.sessions.iter() {
             links.leave(served.number);
@@ -152,6 +154,7 @@ impl Table {
         ensures leave { OnErr result (MayLeave (LinksPlace.serves (L.place links.new)) self.new.next
             (map phase_of self.new.sessions.items)) }
         ensures next { self.new.next ≡ self.old.next }
+        ensures round { LinksPlace.round_faults (L.place links.new) ≡ LinksPlace.round_faults (L.place links.old) }
         ensures whole { OnOk result (DeskValue.whole (D.value desk.new) ≡ true) }
         ensures log { WritesLog (D.value desk.old) (D.value desk.new) }
         ensures cause { HasCause (DeskValue.faults (D.value desk.old)) (DeskValue.faults (D.value desk.new)) (IsErr result) }
@@ -197,6 +200,7 @@ impl Table {
         ensures leave { OnErr result (MayLeave (LinksPlace.serves (L.place links.new)) self.new.next
             (map phase_of self.new.sessions.items)) }
         ensures next { self.new.next ≡ self.old.next }
+        ensures round { LinksPlace.round_faults (L.place links.new) ≡ LinksPlace.round_faults (L.place links.old) }
         ensures room { vec_capacity self.new.sessions ≡ vec_capacity self.old.sessions }
         ensures whole { OnOk result (DeskValue.whole (D.value desk.new) ≡ true) }
         ensures log { WritesLog (D.value desk.old) (D.value desk.new) }
@@ -244,6 +248,7 @@ impl Table {
             (map phase_of self.old.sessions.items) → IsTable (listenings places.now) most (LinksPlace.serves (L.place links.new))
             self.new.next (map phase_of self.new.sessions.items) }
         ensures free { (session : ℕ) → self.new.next ≤ session → LinksPlace.serves (L.place links.new) session ≡ false }
+        ensures round { LinksPlace.round_faults (L.place links.new) ≡ LinksPlace.round_faults (L.place links.old) }
         ensures does { OnOk result ((most : ℕ) → Arrive (listenings places.now) most moment place (place + 1) self.old.next self.new.next
             (L.told links.old) (L.told links.new) (DeskValue.lines (D.value desk.old)) (DeskValue.lines (D.value desk.new))
             (map phase_of self.old.sessions.items) (map phase_of self.new.sessions.items)) }
@@ -302,6 +307,7 @@ impl Table {
         ensures table { (most : ℕ) → IsTable (listenings places.now) most (LinksPlace.serves (L.place links.old)) self.old.next
             (map phase_of self.old.sessions.items) → IsTable (listenings places.now) most (LinksPlace.serves (L.place links.new))
             self.new.next (map phase_of self.new.sessions.items) }
+        ensures round { LinksPlace.round_faults (L.place links.new) ≡ LinksPlace.round_faults (L.place links.old) }
         ensures does { OnOk result ((most : ℕ) → Arrive (listenings places.now) most moment 0 (length places.now) self.old.next
             self.new.next (L.told links.old) (L.told links.new) (DeskValue.lines (D.value desk.old)) (DeskValue.lines (D.value desk.new))
             (map phase_of self.old.sessions.items) (map phase_of self.new.sessions.items)) }
@@ -346,9 +352,11 @@ impl Table {
         ensures log { WritesLog (D.value desk.old) (D.value desk.new) }
         ensures write { HasCause (DeskValue.faults (D.value desk.old)) (DeskValue.faults (D.value desk.new))
             (result ≡ Err ServeFault.Write) }
-        ensures loops { result ≡ Err ServeFault.Loop → Rose (L.round_faults links.old) (L.round_faults links.new) }
+        ensures loops { FaultsBy (LinksPlace.round_faults (L.place links.old)) (LinksPlace.round_faults (L.place links.new))
+            (result ≡ Err ServeFault.Loop) }
         ensures still { result ≡ Err ServeFault.Loop → (self.new ≡ self.old) × (L.told links.new ≡ L.told links.old)
-            × (D.value desk.new ≡ D.value desk.old) × (L.place links.new ≡ L.place links.old) }
+            × (D.value desk.new ≡ D.value desk.old)
+            × (LinksPlace.serves (L.place links.new) ≡ LinksPlace.serves (L.place links.old)) }
         ensures memory { result ≡ Err ServeFault.NoMemory → ⊥ }
     {
         let moment = match links.wait() {
@@ -392,6 +400,8 @@ impl Table {
         ensures log { WritesLog (D.value desk.old) (D.value desk.new) }
         ensures write { HasCause (DeskValue.faults (D.value desk.old)) (DeskValue.faults (D.value desk.new))
             (result ≡ Err ServeFault.Write) }
+        ensures loops { FaultsBy (LinksPlace.round_faults (L.place links.old)) (LinksPlace.round_faults (L.place links.new))
+            (result ≡ Err ServeFault.Loop) }
         ensures memory { result ≡ Err ServeFault.NoMemory → ⊥ }
     {
         for _ in 0..u64::MAX {

@@ -7,6 +7,7 @@ ghost use Rattle.cf_outside.specs.Desk.{DeskValue};
 ghost use Rattle.cf_outside.specs.Faults.{HasCause};
 ghost use Rattle.cf_outside.specs.Files.{KeepsOthers, content_gone_on};
 ghost use Rattle.cf_outside.specs.Lines.{file_lines};
+ghost use Rattle.cf_outside.specs.Pair.{FaultsBy};
 ghost use Rattle.cf_policy.specs.Within.{IsAssetWithin};
 ghost use Rattle.cf_serve.specs.Served.{OpensDo, Serves};
 ghost use Rattle.cf_serve.specs.Table.{IfWhole};
@@ -29,7 +30,7 @@ fn open_places<L: Service, D: Desk>(
     requires few { length places.now ≤ 256 }
     requires within { AllByRecursion (λ place. IsAssetWithin (PlaceOf.asset place).now) places.now }
     requires whole { DeskValue.whole (D.value desk.old) ≡ true }
-    ensures place { L.place links.new ≡ L.place links.old }
+    ensures served { LinksPlace.serves (L.place links.new) ≡ LinksPlace.serves (L.place links.old) }
     ensures all { OnOk result (OpensDo places.now (length places.now) (L.told links.old) (L.told links.new)
         (DeskValue.lines (D.value desk.old)) (DeskValue.lines (D.value desk.new))) }
     ensures does { IfWhole result ((count : ℕ) × OpensDo places.now count (L.told links.old) (L.told links.new)
@@ -38,6 +39,8 @@ fn open_places<L: Service, D: Desk>(
     ensures log { WritesLog (D.value desk.old) (D.value desk.new) }
     ensures write { HasCause (DeskValue.faults (D.value desk.old)) (DeskValue.faults (D.value desk.new))
         (result ≡ Err ServeFault.Write) }
+    ensures loops { FaultsBy (LinksPlace.round_faults (L.place links.old)) (LinksPlace.round_faults (L.place links.new))
+        (result ≡ Err ServeFault.Loop) }
     ensures memory { result ≡ Err ServeFault.NoMemory → ⊥ }
 {
     for number in 0..places.len() {
@@ -76,6 +79,8 @@ pub fn serve_desk<L: Service, D: Desk>(
     ensures log { WritesLog (D.value desk.old) (D.value desk.new) }
     ensures write { HasCause (DeskValue.faults (D.value desk.old)) (DeskValue.faults (D.value desk.new))
         (result ≡ Err ServeFault.Write) }
+    ensures loops { FaultsBy (LinksPlace.round_faults (L.place links.old)) (LinksPlace.round_faults (L.place links.new))
+        (result ≡ Err ServeFault.Loop) }
     ensures memory { result ≡ Err ServeFault.NoMemory → (L.told links.new ≡ L.told links.old)
         × (D.value desk.new ≡ D.value desk.old) }
 {
@@ -113,6 +118,8 @@ pub fn serve<L: Service, F: Files>(
     ensures write { HasCause (F.write_faults files.old) (F.write_faults files.new) (result ≡ Err ServeFault.Write) }
     ensures reads { F.read_faults files.new ≡ F.read_faults files.old }
     ensures others { KeepsOthers log.now (F.content files.old) (F.content files.new) }
+    ensures loops { FaultsBy (LinksPlace.round_faults (L.place links.old)) (LinksPlace.round_faults (L.place links.new))
+        (result ≡ Err ServeFault.Loop) }
     ensures memory { result ≡ Err ServeFault.NoMemory → L.told links.new ≡ L.told links.old }
 {
     match files.go_on(log) {

@@ -1,11 +1,14 @@
 use Rattle.std.proofs.Common.{arith, refl, ◌∙◌}
+use Rattle.cf_links.specs.Links.{LinksPlace}
+use Rattle.cf_serve.proofs.Faulting.{told_keeps}
 use Rattle.cf_serve.proofs.Logging.{writes_both, writes_none}
 use Rattle.cf_serve.proofs.Opening.{opens_more, opens_none}
 use Rattle.cf_serve.proofs.top.open_places.Goals as goal
 
 pub loop-number-init : goal.loop-number-init
 loop-number-init g c = record {
-  place = refl;
+  served = refl;
+  round = refl;
   does = opens_none c.args.places.now (g.L.Links.told c.args.links.now) (g.D.Desk.value c.args.desk.now).lines;
   whole = c.requires.whole;
   log = writes_none (g.D.Desk.value c.args.desk.now);
@@ -16,7 +19,9 @@ pub loop-number-preserved : goal.loop-number-preserved
 loop-number-preserved g c =
     let i = c.loop-number.invariant in
     record {
-      place = c.listen.ensures.place ∙ i.place;
+      served = c.listen.ensures.place.serves ∙ i.served;
+      round = told_keeps (LinksPlace.round_faults (g.L.Links.place c.loop-number.links)) (LinksPlace.round_faults (g.L.Links.place c.listen.new.self)) c.in-Told.moment
+          c.in-Told.ensures.place.round ∙ i.round;
       does = opens_more c.args.places.now c.loop-number.number (g.L.Links.told c.args.links.now) (g.L.Links.told c.loop-number.links) (g.L.Links.told c.listen.new.self)
           (g.D.Desk.value c.args.desk.now).lines (g.D.Desk.value c.loop-number.desk).lines (g.D.Desk.value c.log_line.new.desk).lines c.in-Told.moment
           c.place_of-place.result c.place_of-place.ensures.is i.does c.in-Told.ensures.entry c.in-Ok.ensures.lines;

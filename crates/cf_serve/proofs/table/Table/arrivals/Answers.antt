@@ -1,4 +1,4 @@
-use Rattle.std.proofs.Common.{arith, map}
+use Rattle.std.proofs.Common.{arith, map, refl, ◌∙◌}
 use Rattle.cf_serve.proofs.Arriving.{arrive_first, arrive_then}
 use Rattle.cf_serve.proofs.Logging.{writes_both, writes_none}
 use Rattle.cf_serve.specs.Phase.{listenings, phase_of}
@@ -10,6 +10,7 @@ loop-place-init g c = record {
   table = λ most t. t;
   does = λ most. arrive_first (listenings c.args.places.now) most c.args.moment c.args.self.now.next (g.L.Links.told c.args.links.now)
       (g.D.Desk.value c.args.desk.now).lines (map phase_of c.args.self.now.sessions.items);
+  round = refl;
   room = omega arith;
   whole = c.requires.whole;
   log = writes_none (g.D.Desk.value c.args.desk.now);
@@ -26,6 +27,7 @@ loop-place-preserved g c =
           (g.D.Desk.value c.args.desk.now).lines (map phase_of c.args.self.now.sessions.items) c.loop-place.place c.loop-place.self.next c.arrive.new.self.next
           (g.L.Links.told c.loop-place.links) (g.L.Links.told c.arrive.new.links) (g.D.Desk.value c.loop-place.desk).lines (g.D.Desk.value c.arrive.new.desk).lines
           (map phase_of c.loop-place.self.sessions.items) (map phase_of c.arrive.new.self.sessions.items) (i.does most) (c.in_ok-arrive.ensures.does most);
+      round = c.arrive.ensures.round ∙ i.round;
       room = omega (arith, i.room, c.arrive.ensures.room);
       whole = c.in_ok-arrive.ensures.whole;
       log = writes_both (g.D.Desk.value c.args.desk.now) (g.D.Desk.value c.loop-place.desk) (g.D.Desk.value c.arrive.new.desk) i.log c.arrive.ensures.log;

@@ -22,6 +22,7 @@ loop-served-preserved g c =
       leave = leave_one c.args.self.now.next (g.L.Links.place c.loop-served.links) (g.L.Links.place c.leave.new.self) (phase_of x) (map phase_of (drop (i + 1) xs))
           (subst (λ ys. MayLeave (LinksPlace.serves (g.L.Links.place c.loop-served.links)) c.args.self.now.next (map phase_of ys)) rest c.loop-served.invariant.leave)
           c.leave.ensures.place;
+      round = c.leave.ensures.place.round ∙ c.loop-served.invariant.round;
       told = left_more (g.L.Links.told c.args.links.now) (g.L.Links.told c.loop-served.links) (g.L.Links.told c.leave.new.self) (take i xs) x c.loop-served.invariant.told c.leave.ensures.entry
           ∙ ap (λ ys. option_map (λ es. es ++ left_of (seats_of (map phase_of ys))) (g.L.Links.told c.args.links.now)) (sym front);
     }

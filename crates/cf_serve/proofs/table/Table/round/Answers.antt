@@ -1,4 +1,4 @@
-use Rattle.std.proofs.Common.{length, map, subst, sym}
+use Rattle.std.proofs.Common.{Bool, length, map, subst, sym, ℕ}
 use Rattle.cf_links.specs.Links.{LinksPlace}
 use Rattle.cf_serve.proofs.Arriving.{round_is}
 use Rattle.cf_serve.proofs.Rounding.{may_leave}
@@ -10,7 +10,7 @@ pub returns-in-Err-clause-leave : goal.returns-in-Err-clause-leave
 returns-in-Err-clause-leave g c =
     let ps = map phase_of c.args.self.now.sessions.items in
     let places = listenings c.args.places.now in
-    let woken = subst (λ (p : LinksPlace). IsTable places c.args.most p.serves c.args.self.now.next ps) (sym c.in-Told.ensures.place) c.requires.table in
+    let woken = subst (λ (s : ℕ → Bool). IsTable places c.args.most s c.args.self.now.next ps) (sym c.in-Told.ensures.place.serves) c.requires.table in
     may_leave places c.args.most c.arrivals.new.self.next (LinksPlace.serves (g.L.Links.place c.arrivals.new.links)) (map phase_of c.arrivals.new.self.sessions.items)
     (c.arrivals.ensures.table c.args.most woken)
 
@@ -18,7 +18,7 @@ pub turns-requires-clause-table : goal.turns-requires-clause-table
 turns-requires-clause-table g c =
     let ps = map phase_of c.args.self.now.sessions.items in
     let places = listenings c.args.places.now in
-    let woken = subst (λ (p : LinksPlace). IsTable places c.args.most p.serves c.args.self.now.next ps) (sym c.in-Told.ensures.place) c.requires.table in
+    let woken = subst (λ (s : ℕ → Bool). IsTable places c.args.most s c.args.self.now.next ps) (sym c.in-Told.ensures.place.serves) c.requires.table in
     c.arrivals.ensures.table c.args.most woken
 
 pub returns-in-Ok-turns-clause-does : goal.returns-in-Ok-turns-clause-does

@@ -1,5 +1,6 @@
-use Rattle.std.proofs.Common.{arith, map}
+use Rattle.std.proofs.Common.{arith, map, ◌∙◌}
 use Rattle.cf_links.specs.Links.{LinksPlace}
+use Rattle.cf_serve.proofs.Faulting.{ok_keeps}
 use Rattle.cf_serve.proofs.Logging.{writes_both}
 use Rattle.cf_serve.proofs.Rounding.{may_leave}
 use Rattle.cf_serve.proofs.Serving.{rounds_then}
@@ -16,6 +17,8 @@ loop-preserved g c =
           (map phase_of c.args.self.now.sessions.items) c.loop.self.next c.round.new.self.next (g.L.Links.told c.loop.links) (g.L.Links.told c.round.new.links)
           (g.D.Desk.value c.loop.desk).lines (g.D.Desk.value c.round.new.desk).lines (map phase_of c.loop.self.sessions.items)
           (map phase_of c.round.new.self.sessions.items) (i.does past keeps) c.in-Ok.ensures.does;
+      round = ok_keeps (LinksPlace.round_faults (g.L.Links.place c.loop.links)) (LinksPlace.round_faults (g.L.Links.place c.round.new.links)) c.round.result tt
+          c.in-Ok.is c.round.ensures.loops ∙ i.round;
       room = omega (arith, i.room, c.round.ensures.room);
       whole = c.in-Ok.ensures.whole;
       log = writes_both (g.D.Desk.value c.args.desk.now) (g.D.Desk.value c.loop.desk) (g.D.Desk.value c.round.new.desk) i.log c.round.ensures.log;

@@ -14,6 +14,7 @@ invariant-loop g l =
       does : (past : List TurnOf) → Keeps (listenings l.fn.places) l.fn.most l.fn.self.next past (map phase_of l.fn.self.sessions.items) →
           RoundsDo (listenings l.fn.places) l.fn.most l.fn.self.next l.self.next past (g.L.Links.told l.fn.links) (g.L.Links.told l.links)
           (g.D.Desk.value l.fn.desk).lines (g.D.Desk.value l.desk).lines (map phase_of l.fn.self.sessions.items) (map phase_of l.self.sessions.items);
+      round : LinksPlace.round_faults (g.L.Links.place l.links) ≡ LinksPlace.round_faults (g.L.Links.place l.fn.links);
       room : vec_capacity l.fn.self.sessions ≤ vec_capacity l.self.sessions;
       whole : (g.D.Desk.value l.desk).whole ≡ true;
       log : WritesLog (g.D.Desk.value l.fn.desk) (g.D.Desk.value l.desk);

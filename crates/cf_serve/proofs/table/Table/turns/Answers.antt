@@ -18,6 +18,7 @@ loop-index-init g c =
       table = c.requires.table;
       does = λ past keeps. turns_begin places c.args.most next past told log old keeps;
       next = refl;
+      round = refl;
       room = refl;
       within = omega arith;
       whole = c.requires.whole;
@@ -43,6 +44,7 @@ loop-index-preserved-then-branch g c =
           (g.D.Desk.value c.turn_at.new.desk).lines (map phase_of c.turn_at.new.self.sessions.items) c.in_ok-turn_at.field-0 (c.loop-index.index + 1) i.next
           c.in_ok-turn_at.ensures.does (ap (λ (b : Bool). c.loop-index.index + (if b then 1 else 0)) (sym c.if-branch.true));
       next = c.turn_at.ensures.next ∙ i.next;
+      round = c.turn_at.ensures.round ∙ i.round;
       room = c.turn_at.ensures.room ∙ i.room;
       within = within_on c.loop-index.index (vec_len c.loop-index.self.sessions) (vec_len c.turn_at.new.self.sessions) c.in_ok-turn_at.field-0 c.if-branch.true c.in_ok-turn_at.ensures.len
           (omega (arith, c.loop-index-test.true, c.len.ensures));
@@ -69,6 +71,7 @@ loop-index-preserved g c =
           (g.D.Desk.value c.turn_at.new.desk).lines (map phase_of c.turn_at.new.self.sessions.items) c.in_ok-turn_at.field-0 c.loop-index.index i.next
           c.in_ok-turn_at.ensures.does (no_step c.loop-index.index ∙ ap (λ (b : Bool). c.loop-index.index + (if b then 1 else 0)) (sym c.if-branch.false));
       next = c.turn_at.ensures.next ∙ i.next;
+      round = c.turn_at.ensures.round ∙ i.round;
       room = c.turn_at.ensures.room ∙ i.room;
       within = within_off c.loop-index.index (vec_len c.loop-index.self.sessions) (vec_len c.turn_at.new.self.sessions) c.in_ok-turn_at.field-0 c.if-branch.false c.in_ok-turn_at.ensures.len
           (omega (arith, c.loop-index-test.true, c.len.ensures));

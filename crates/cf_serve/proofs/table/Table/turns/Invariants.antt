@@ -15,6 +15,7 @@ invariant-loop-index g l =
           TurnsBegin (listenings l.fn.places) l.fn.most l.fn.self.next past l.index (g.L.Links.told l.fn.links) (g.L.Links.told l.links)
           (g.D.Desk.value l.fn.desk).lines (g.D.Desk.value l.desk).lines (map phase_of l.fn.self.sessions.items) (map phase_of l.self.sessions.items);
       next : l.self.next ≡ l.fn.self.next;
+      round : LinksPlace.round_faults (g.L.Links.place l.links) ≡ LinksPlace.round_faults (g.L.Links.place l.fn.links);
       room : vec_capacity l.self.sessions ≡ vec_capacity l.fn.self.sessions;
       within : l.index ≤ vec_len l.self.sessions;
       whole : (g.D.Desk.value l.desk).whole ≡ true;
