@@ -34,8 +34,7 @@ module _ (asset : Asset) (client : ℕ) (carried : List Carried) (whole born : L
       let place : from + (n - 1) ≡ from + n - 1 = omega (arith, some) in
       let moment : j.moment ≡ get_or (drop from born) (n - 1) 0 = ap (λ (x : Judged). x.moment) is in
       let here = born_at from (n - 1) j.moment (omega (arith, size, inside, some)) moment in
-      let next : drop n bytes ≡ drop (from + n) whole = ap (drop n) e ∙ drop-drop n from whole in
-      (
+      let next : drop n bytes ≡ drop (from + n) whole = ap (drop n) e ∙ drop-drop n from whole in (
         unit,
         n,
         begins,

@@ -136,9 +136,7 @@ fn begins_amid(scope: Scope, packet: &Packet<'_>) -> bool
 {
     match scope {
         Scope::Connections => false,
-        Scope::Recording => {
-            !(has(packet, SYN) || has(packet, RST)) && !packet.text.is_empty()
-        }
+        Scope::Recording => { !(has(packet, SYN) || has(packet, RST)) && !packet.text.is_empty() }
     }
 }
 
