@@ -1,15 +1,15 @@
 #!/usr/bin/env bash
-# The time of `cmdwall check` on about the largest policy that is allowed, beside Python's tomllib on the same file in the
-# same run. A ratio, and no promise.
+# The processor time of `cmdwall check` on about the largest policy that is allowed, beside Python's tomllib on the same file in the
+# same run, each the median of five in turn. A ratio, and no promise. CMDWALL in the environment: the program (the one that is built).
 set -eu
 top=$(cd "$(dirname "$0")/.." && pwd)
 work=$(mktemp -d)
 trap 'rm -rf "$work"' EXIT
-"$top/cmdwall" --version > /dev/null
-python3 - "$top" "$work" <<'PY'
-import os, subprocess, sys, time
+[ -n "${CMDWALL:-}" ] || "$top/cmdwall" --version > /dev/null
+python3 - "$work" "${CMDWALL:-$top/crates/cmdwall/out/cmdwall}" <<'PY'
+import os, statistics, subprocess, sys
 
-top, work = sys.argv[1:]
+work, program = sys.argv[1:]
 LIMIT = 4_194_304
 text = ["version = 1\n"]
 size = len(text[0])
@@ -29,23 +29,28 @@ for asset in range(256):
 name = os.path.join(work, "policy")
 with open(name, "w") as policy:
     policy.write("".join(text))
-program = os.path.join(top, "crates", "cmdwall", "out", "cmdwall")
 
 
 def took(words):
-    best = None
-    for _ in range(3):
-        begun = time.perf_counter()
-        subprocess.run(words, check=True, stdout=subprocess.DEVNULL)
-        now = time.perf_counter() - begun
-        best = now if best is None else min(best, now)
-    return best
+    """Processor time in seconds."""
+    child = subprocess.Popen(words, stdout=subprocess.DEVNULL)
+    _, status, usage = os.wait4(child.pid, 0)
+    if status:
+        sys.exit(f"{words[0]} ended with {status}")
+    return usage.ru_utime + usage.ru_stime
+
+
+def said(name, times):
+    """The median, after a line with it and the spread."""
+    middle = statistics.median(times)
+    print(f"{name:<8} {middle:.3f} s (spread {max(times) - min(times):.3f})")
+    return middle
 
 
 print(f"policy of {size:,} bytes")
-check = took([program, "check", name])
-python = took([sys.executable, "-c", "import sys, tomllib; tomllib.load(open(sys.argv[1], 'rb'))", name])
-print(f"check   {check:.3f} s")
-print(f"tomllib {python:.3f} s")
-print(f"check takes {check / python:.2f} times as long as tomllib")
+check, python = [], []
+for _ in range(5):
+    check.append(took([program, "check", name]))
+    python.append(took([sys.executable, "-c", "import sys, tomllib; tomllib.load(open(sys.argv[1], 'rb'))", name]))
+print(f"check takes {said('check', check) / said('tomllib', python):.2f} times the processor time of tomllib")
 PY

@@ -2,12 +2,12 @@
 # The processor time of `cmdwall judge` and `cmdwall review` on captures of Modbus round trips and of DNP3 polls, beside that of
 # `tcpdump -n -r` and of `tshark` with a display filter that finds the same function codes, on the same file in the same run (each left
 # out where it is missing), and the memory of `judge` beside the text that the flows carry. Ratios, and no promise. Words: the numbers of
-# round trips (300,000) and of polls (200,000).
+# round trips (300,000) and of polls (200,000). CMDWALL in the environment: the program (the one that is built).
 set -eu
 top=$(cd "$(dirname "$0")/.." && pwd)
 work=$(mktemp -d)
 trap 'rm -rf "$work"' EXIT
-"$top/cmdwall" --version > /dev/null
+[ -n "${CMDWALL:-}" ] || "$top/cmdwall" --version > /dev/null
 PYTHONDONTWRITEBYTECODE=1 python3 - "$top" "$work" "${1:-300000}" "${2:-200000}" <<'PY'
 import os, shutil, statistics, struct, subprocess, sys
 
@@ -15,9 +15,7 @@ top, work, trips, polls = sys.argv[1], sys.argv[2], int(sys.argv[3]), int(sys.ar
 sys.path.insert(0, os.path.join(top, "examples"))
 from make import ACK, PSH, SYN, adu, dnp3_request, frame, link_frame
 
-program = os.path.join(top, "crates", "cmdwall", "out", "cmdwall")
-if not os.path.exists(program):
-    program = os.path.join(top, "dist", "cmdwall")
+program = os.environ.get("CMDWALL") or os.path.join(top, "crates", "cmdwall", "out", "cmdwall")
 client, pump, outstation = ((10, 0, 0, 5), 49152), ((10, 0, 0, 9), 502), ((10, 0, 0, 7), 20000)
 policy = os.path.join(work, "policy.toml")
 with open(policy, "w") as file:

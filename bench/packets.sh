@@ -1,15 +1,16 @@
 #!/usr/bin/env bash
 # The processor time of `cmdwall packets` on a capture of 1,000,000 records, into a pipe, beside that of `tcpdump -n -tt -q -r` on
-# the same file in the same run, each the least of five; tcpdump is left out where it is missing. A ratio, and no promise.
+# the same file in the same run, each the median of five in turn; tcpdump is left out where it is missing. A ratio, and no promise.
+# CMDWALL in the environment: the program (the one that is built).
 set -eu
 top=$(cd "$(dirname "$0")/.." && pwd)
 work=$(mktemp -d)
 trap 'rm -rf "$work"' EXIT
-"$top/cmdwall" --version > /dev/null
-python3 - "$top" "$work" <<'PY'
-import os, resource, shutil, struct, subprocess, sys
+[ -n "${CMDWALL:-}" ] || "$top/cmdwall" --version > /dev/null
+python3 - "$work" "${CMDWALL:-$top/crates/cmdwall/out/cmdwall}" <<'PY'
+import os, resource, shutil, statistics, struct, subprocess, sys
 
-top, work = sys.argv[1:]
+work, program = sys.argv[1:]
 RECORDS = 1_000_000
 
 
@@ -43,24 +44,31 @@ def processor_time():
 
 def took(words):
     """The processor time of a program alone: this one drains its pipe."""
-    best = None
-    for _ in range(5):
-        before = processor_time()
-        with subprocess.Popen(words, stdout=subprocess.PIPE, stderr=subprocess.DEVNULL) as program:
-            while program.stdout.read(1 << 20):
-                pass
-        assert program.returncode == 0, words
-        now = processor_time() - before
-        best = now if best is None else min(best, now)
-    return best
+    before = processor_time()
+    with subprocess.Popen(words, stdout=subprocess.PIPE, stderr=subprocess.DEVNULL) as child:
+        while child.stdout.read(1 << 20):
+            pass
+    assert child.returncode == 0, words
+    return processor_time() - before
 
 
-packets = took([os.path.join(top, "crates", "cmdwall", "out", "cmdwall"), "packets", name])
-print(f"packets  {packets:.3f} s of a processor for {RECORDS:,} records, {os.path.getsize(name):,} octets")
-if shutil.which("tcpdump"):
-    other = took(["tcpdump", "-n", "-tt", "-q", "-r", name])
-    print(f"tcpdump  {other:.3f} s")
-    print(f"packets takes {packets / other:.2f} times as much as tcpdump")
+def said(name, times):
+    """The median, after a line with it and the spread."""
+    middle = statistics.median(times)
+    print(f"{name:<8} {middle:.3f} s (spread {max(times) - min(times):.3f})")
+    return middle
+
+
+packets, others = [], []
+has_tcpdump = shutil.which("tcpdump")
+for _ in range(5):
+    packets.append(took([program, "packets", name]))
+    if has_tcpdump:
+        others.append(took(["tcpdump", "-n", "-tt", "-q", "-r", name]))
+ours = said("packets", packets)
+print(f"         for {RECORDS:,} records, {os.path.getsize(name):,} octets")
+if has_tcpdump:
+    print(f"packets takes {ours / said('tcpdump', others):.2f} times the processor time of tcpdump")
 else:
     print("tcpdump is missing here, and was left out")
 PY

@@ -1,16 +1,16 @@
 #!/usr/bin/env bash
 # The time of Modbus round trips of one client through `cmdwall relay`, beside that through `socat` in the same run (left out
-# where it is missing), over the loopback, with a controller that answers each request with itself. Ratios, and no promise.
-# Word: the number of round trips (100,000).
+# where it is missing), over the loopback, with a controller that answers each request with itself, each the median of five in turn.
+# Ratios, and no promise. Word: the number of round trips (20,000). CMDWALL in the environment: the program (the one that is built).
 set -eu
 top=$(cd "$(dirname "$0")/.." && pwd)
 work=$(mktemp -d)
 trap 'rm -rf "$work"' EXIT
-"$top/cmdwall" --version > /dev/null
-python3 - "$top" "$work" "${1:-100000}" <<'PY'
-import os, shutil, socket, struct, subprocess, sys, threading, time
+[ -n "${CMDWALL:-}" ] || "$top/cmdwall" --version > /dev/null
+python3 - "$work" "${1:-20000}" "${CMDWALL:-$top/crates/cmdwall/out/cmdwall}" <<'PY'
+import os, shutil, socket, statistics, struct, subprocess, sys, threading, time
 
-top, work, trips = sys.argv[1], sys.argv[2], int(sys.argv[3])
+work, trips, program = sys.argv[1], int(sys.argv[2]), sys.argv[3]
 
 
 def free_port():
@@ -68,15 +68,33 @@ policy = os.path.join(work, "policy.toml")
 with open(policy, "w") as file:
     file.write(f'version = 1\n[[asset]]\nname = "pump"\naddress = "127.0.0.1"\nport = {peer}\nprotocol = "modbus"\nstation = 1\n'
                '[[asset.rule]]\nname = "set"\naction = "allow"\ncodes = [6]\n')
-port = free_port()
-program = os.path.join(top, "crates", "cmdwall", "out", "cmdwall")
-ours = took([program, "relay", policy, "pump", str(port), "12000", os.path.join(work, "log")], port, listener)
-print(f"relay  {ours:.2f} s for {trips:,} round trips, {1e6 * ours / trips:.0f} microseconds each")
-if shutil.which("socat"):
+
+
+def relay():
     port = free_port()
-    other = took(["socat", f"TCP-LISTEN:{port},bind=127.0.0.1,nodelay", f"TCP:127.0.0.1:{peer},nodelay"], port, listener)
-    print(f"socat  {other:.2f} s")
-    print(f"relay takes {ours / other:.2f} times as long as socat")
+    return took([program, "relay", policy, "pump", str(port), "12000", os.path.join(work, "log")], port, listener)
+
+
+def socat():
+    port = free_port()
+    return took(["socat", f"TCP-LISTEN:{port},bind=127.0.0.1,nodelay", f"TCP:127.0.0.1:{peer},nodelay"], port, listener)
+
+
+def said(name, times):
+    """The median, after a line with it and the spread."""
+    middle = statistics.median(times)
+    print(f"{name:<6} {middle:.2f} s (spread {max(times) - min(times):.2f}), {1e6 * middle / trips:.0f} microseconds a round trip")
+    return middle
+
+
+ours, others = [], []
+for _ in range(5):
+    ours.append(relay())
+    if shutil.which("socat"):
+        others.append(socat())
+middle = said("relay", ours)
+if others:
+    print(f"relay takes {middle / said('socat', others):.2f} times as long as socat")
 else:
     print("socat is missing here, and was left out")
 PY

@@ -1,16 +1,18 @@
 #!/usr/bin/env bash
-# The processor time of `cmdwall run` on a capture of Modbus round trips, beside that of `tcpdump -n -r` on the same file in the
-# same run (left out where it is missing); its memory; and its time on the same number of round trips spread over 200 open
-# sessions. Ratios, and no promise. Word: the number of round trips (300,000).
+# The processor time of `cmdwall run` on a capture of Modbus round trips, beside that of `tcpdump -n -r` and of `suricata -r` on the
+# same file in the same run (each left out where it is missing), each the median of five in turn; its memory; and its time on the same
+# number of round trips spread over 200 open sessions. Ratios, and no promise. Word: the number of round trips (300,000). CMDWALL in
+# the environment: the program (the one that is built).
 set -eu
 top=$(cd "$(dirname "$0")/.." && pwd)
 work=$(mktemp -d)
 trap 'rm -rf "$work"' EXIT
-"$top/cmdwall" --version > /dev/null
-PYTHONDONTWRITEBYTECODE=1 python3 - "$top" "$work" "${1:-300000}" <<'PY'
-import os, shutil, struct, subprocess, sys
+[ -n "${CMDWALL:-}" ] || "$top/cmdwall" --version > /dev/null
+program=${CMDWALL:-$top/crates/cmdwall/out/cmdwall}
+PYTHONDONTWRITEBYTECODE=1 python3 - "$top" "$work" "${1:-300000}" "$program" <<'PY'
+import os, shutil, statistics, struct, subprocess, sys
 
-top, work, trips = sys.argv[1], sys.argv[2], int(sys.argv[3])
+top, work, trips, program = sys.argv[1], sys.argv[2], int(sys.argv[3]), sys.argv[4]
 sys.path.insert(0, os.path.join(top, "examples"))
 from make import ACK, PSH, Capture, Session, adu, frame
 
@@ -52,21 +54,18 @@ def capture(name, sessions):
 
 
 def took(words):
-    """Processor time in seconds, the least of three."""
-    times = []
-    for _ in range(3):
-        with open(os.path.join(work, "printed"), "wb") as printed:
-            child = subprocess.Popen(words, stdout=printed, stderr=subprocess.DEVNULL)
-            _, status, usage = os.wait4(child.pid, 0)
-        if status:
-            sys.exit(f"{words[0]} ended with {status}")
-        times.append(usage.ru_utime + usage.ru_stime)
-    return min(times)
+    """Processor time in seconds."""
+    with open(os.path.join(work, "printed"), "wb") as printed:
+        child = subprocess.Popen(words, stdout=printed, stderr=subprocess.DEVNULL)
+        _, status, usage = os.wait4(child.pid, 0)
+    if status:
+        sys.exit(f"{words[0]} ended with {status}")
+    return usage.ru_utime + usage.ru_stime
 
 
 def words_of(path):
     outs = [os.path.join(work, "out"), os.path.join(work, "log")]
-    return [os.path.join(top, "crates", "cmdwall", "out", "cmdwall"), "run", policy, path, *outs]
+    return [program, "run", policy, path, *outs]
 
 
 def run(path):
@@ -77,6 +76,13 @@ def run(path):
     return seconds
 
 
+def said(name, times):
+    """The median, after a line with it and the spread."""
+    middle = statistics.median(times)
+    print(f"{name:<8} {middle:.3f} s (spread {max(times) - min(times):.3f})")
+    return middle
+
+
 def memory(path):
     """The greatest resident memory, in words. A child of this process would be told with this process's own."""
     if not shutil.which("/usr/bin/time"):
@@ -85,16 +91,21 @@ def memory(path):
     return f"{int(told.stderr.split()[-1]):,} KiB"
 
 
-one = capture("one", 1)
-ours = run(one)
-print(f"run      {ours:.3f} s for {trips:,} round trips, {os.path.getsize(one):,} octets, {memory(one)}")
-if shutil.which("tcpdump"):
-    other = took(["tcpdump", "-n", "-r", one])
-    print(f"tcpdump  {other:.3f} s")
-    print(f"run takes {ours / other:.2f} times the processor time of tcpdump")
-else:
-    print("tcpdump is missing here, and was left out")
-many = capture("many", 200)
-spread = run(many)
-print(f"run      {spread:.3f} s with 200 open sessions, {memory(many)}: {spread / ours:.2f} times that of one session")
+one, many = capture("one", 1), capture("many", 200)
+peers = {"tcpdump": ["tcpdump", "-n", "-r", one],
+         "suricata": ["suricata", "-r", one, "-l", work, "--set", "app-layer.protocols.modbus.enabled=yes"]}
+for name in [name for name in peers if not shutil.which(name)]:
+    print(f"{name} is missing here, and was left out")
+    del peers[name]
+ours, spread, others = [], [], {name: [] for name in peers}
+for _ in range(5):
+    ours.append(run(one))
+    for name, words in peers.items():
+        others[name].append(took(words))
+    spread.append(run(many))
+middle = said("run", ours)
+print(f"         for {trips:,} round trips, {os.path.getsize(one):,} octets, {memory(one)}")
+for name, times in others.items():
+    print(f"         run takes {middle / said(name, times):.2f} times the processor time of {name}")
+print(f"         with 200 open sessions {said('run', spread) / middle:.2f} times that of one session, {memory(many)}")
 PY

@@ -2,7 +2,7 @@
 # The instructions of `cmdwall sift` on a stream of admitted commands of each protocol with 32 rules, beside those of a plain C
 # filter that tests the same and writes the same, both counted by valgrind's callgrind in the same run, less those on an empty
 # stream. Ratios, and no promise. Word: the octets of each stream (60,000; of IEC 60870-5-104 no more than 60,000 are made, as
-# no controller acknowledges them).
+# no controller acknowledges them). CMDWALL in the environment: the program (the one that is built).
 set -eu
 top=$(cd "$(dirname "$0")/.." && pwd)
 counted=${1:-60000}
@@ -11,8 +11,8 @@ for tool in valgrind cc python3; do
 done
 work=$(mktemp -d)
 trap 'rm -rf "$work"' EXIT
-"$top/cmdwall" --version > /dev/null
-program=$top/crates/cmdwall/out/cmdwall
+[ -n "${CMDWALL:-}" ] || "$top/cmdwall" --version > /dev/null
+program=${CMDWALL:-$top/crates/cmdwall/out/cmdwall}
 
 PYTHONDONTWRITEBYTECODE=1 python3 - "$top/examples" "$work" "$counted" <<'PY'
 import struct, sys

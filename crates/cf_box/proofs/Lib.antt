@@ -15,6 +15,8 @@ pub mod Recorded
 pub mod Relaying
 pub mod RunHolds
 pub mod Runs
+pub mod ServicePlaces
+pub mod Serving
 pub mod Sifting
 mod Spelled
 pub mod Statuses

@@ -20,6 +20,8 @@ pub mod Relay
 pub mod Review
 pub mod Run
 pub mod RunHolds
+pub mod Service
+pub mod ServiceWords
 pub mod Sift
 pub mod Status
 pub mod Watching

@@ -7,6 +7,10 @@ ghost use Rattle.cf_box.specs.Denial.{count_line, reviewed_text};
 ghost use Rattle.cf_policylang.specs.Keys.{refusal_text};
 
 use crate::denial::{AssetName, Denial, denial_line, push_reviewed};
+use crate::status::{
+    CAPTURE_CUT, CAPTURE_REFUSED, DENIED, DONE, IDLE_END, LINK_FAULT, NO_MEMORY, POLICY_REFUSED,
+    READ_FAULT, STREAM_CUT, TOO_MANY_CELLS, TOO_MANY_RULES, UNKNOWN_ASSET, WRITE_FAULT,
+};
 use arrayvec::ArrayString;
 use cf_audit::{CutReason, push_cut};
 use cf_outside::{Sink, WriteAnswer};
@@ -139,19 +143,19 @@ fn stop_status(stop: &Stop) -> u8
     ensures { result ≡ stop_status stop.now }
 {
     match stop {
-        Stop::ReadFault => 3,
-        Stop::WriteFault => 4,
-        Stop::PolicyRefused(_) => 5,
-        Stop::CaptureRefused(_) => 6,
-        Stop::CaptureCut(_) | Stop::RunCut(..) => 7,
-        Stop::LinkFault => 8,
-        Stop::IdleEnd => 9,
-        Stop::UnknownAsset => 10,
-        Stop::Cut(_) => 12,
-        Stop::NoMemory => 13,
-        Stop::Denied(_) => 15,
-        Stop::TooManyRules(_) => 16,
-        Stop::TooManyCells(_) => 17,
+        Stop::ReadFault => READ_FAULT,
+        Stop::WriteFault => WRITE_FAULT,
+        Stop::PolicyRefused(_) => POLICY_REFUSED,
+        Stop::CaptureRefused(_) => CAPTURE_REFUSED,
+        Stop::CaptureCut(_) | Stop::RunCut(..) => CAPTURE_CUT,
+        Stop::LinkFault => LINK_FAULT,
+        Stop::IdleEnd => IDLE_END,
+        Stop::UnknownAsset => UNKNOWN_ASSET,
+        Stop::Cut(_) => STREAM_CUT,
+        Stop::NoMemory => NO_MEMORY,
+        Stop::Denied(_) => DENIED,
+        Stop::TooManyRules(_) => TOO_MANY_RULES,
+        Stop::TooManyCells(_) => TOO_MANY_CELLS,
     }
 }
 
@@ -159,7 +163,7 @@ fn status(ended: &Result<Done, Stop>) -> u8
     ensures { result ≡ status_of ended.now }
 {
     match ended {
-        Ok(_) => 0,
+        Ok(_) => DONE,
         Err(stop) => stop_status(stop),
     }
 }
@@ -169,7 +173,7 @@ fn unprinted_status(ended: &Result<Done, Stop>) -> u8
     ensures { result ≡ unprinted_status ended.now }
 {
     match ended {
-        Ok(_) => 4,
+        Ok(_) => WRITE_FAULT,
         Err(stop) => stop_status(stop),
     }
 }

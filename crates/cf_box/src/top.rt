@@ -32,6 +32,7 @@ use crate::relay::relay;
 use crate::review::review_capture;
 use crate::run::run;
 use crate::sift::sift;
+use crate::status::USAGE;
 use crate::world::world;
 use cf_lane::{has_one_judgement, lane_passes_allowed, rates_hold};
 use cf_outside::{Files, Pair, Sink};
@@ -217,7 +218,7 @@ pub fn box_main<F: Files, O: Sink, P: Pair>(
     has_one_judgement();
     runs_have_headline();
     match read_words(words) {
-        None => put_text("usage\n", 2, 2, out),
+        None => put_text("usage\n", USAGE, USAGE, out),
         Some(command) => {
             let ended = perform(alloc, command, files, out, pair);
             report(&ended, out)

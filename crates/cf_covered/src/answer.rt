@@ -12,9 +12,6 @@ use std::alloc::{AllocError, Global};
 /// How much is looked at for a rule before nothing is said of it: spans of the rules before it, each as often as it is asked.
 const MOST_LOOKS: u32 = 1_000_000;
 
-/// How many regions of a code are looked at first: enough to pass over those that a rule lacks before its lowest act.
-const FEW_STEPS: u32 = 8;
-
 /// What has all that a later rule has.
 #[derive(Clone, Copy)]
 pub enum Cover {
@@ -44,9 +41,6 @@ fn cover_among(
 ) -> Result<Option<Cover>, AllocError>
     ensures { IfOk result (λ found. IfSome found (IsCover protocol earlier.now rule.now)) }
 {
-    if is_soon_alone(alloc, protocol, earlier, rule)? {
-        return Ok(None);
-    }
     let others = with_common(alloc, earlier, rule)?;
     match have_all_of(alloc, protocol, &others, rule, steps_over(&others, rule)) {
         Ok(Search::All) => {}
@@ -57,18 +51,6 @@ fn cover_among(
         Some(number) => Ok(Some(Cover::Rule(number))),
         None => Ok(Some(Cover::Rules)),
     }
-}
-
-/// Whether a rule has one of the lowest acts of a code alone. So most rules are done with at once.
-fn is_soon_alone(
-    alloc: Global,
-    protocol: Protocol,
-    earlier: &[Rule],
-    rule: &Rule,
-) -> Result<bool, AllocError> {
-    let others: Vec<&Rule> = earlier.iter().collect(alloc)?;
-    let found = have_all_of(alloc, protocol, &others, rule, FEW_STEPS)?;
-    Ok(matches!(found, Search::Alone))
 }
 
 /// The rules that may have an act in common with a rule.

@@ -16,9 +16,13 @@ pub fn have_common(rule: &Rule, other: &Rule) -> bool
     each_overlaps(rule, other)
 }
 
+/// Points are looked at first, as rules of a code mostly differ there.
 fn each_overlaps(rule: &Rule, other: &Rule) -> bool
     ensures { result ≡ have_common rule.now other.now }
 {
+    if !lists_overlap(&rule.points, &other.points) {
+        return false;
+    }
     lists_overlap(&rule.clients, &other.clients)
         && (lists_overlap(&rule.codes, &other.codes)
             && (lists_overlap(&rule.groups, &other.groups)

@@ -15,6 +15,9 @@ use toml::{Table, Value};
 /// How many warnings are written out.
 const MOST: u32 = 20;
 
+/// The key of a document's sets.
+const SETS: &[u8] = b"set";
+
 /// A policy's file: its name and its text.
 #[derive(Clone, Copy)]
 struct Source<'a> {
@@ -56,13 +59,31 @@ pub fn policy_warnings(
     };
     let all = gathered(alloc, policy)?;
     push_rules(&mut report, &source, policy, &all, Order::Silent);
-    match toml::table_from_slice(alloc, text) {
-        Ok(document) => push_sets(&mut report, &source, &document),
-        Err(_) => report.lines.run_out(),
+    if may_have_sets(text) {
+        match toml::table_from_slice(alloc, text) {
+            Ok(document) => push_sets(&mut report, &source, &document),
+            Err(_) => report.lines.run_out(),
+        }
     }
     push_rules(&mut report, &source, policy, &all, Order::Other);
     push_more(&mut report, file);
     report.lines.finish()
+}
+
+/// Whether a document may have sets: its text has their key, which no letter stands before, or an escape, by which a key may be
+/// spelled. Most documents have none, and are not read once more.
+fn may_have_sets(text: &[u8]) -> bool {
+    text.starts_with(SETS)
+        || text.windows(SETS.len() + 1).any(ends_with_sets)
+        || text.contains(&b'\\')
+}
+
+/// Whether octets end with the key of sets and begin with none that a longer key would have there.
+fn ends_with_sets(octets: &[u8]) -> bool {
+    match octets {
+        [before, rest @ ..] => rest == SETS && !before.is_ascii_alphanumeric(),
+        [] => false,
+    }
 }
 
 /// How many warnings there are beside those that are written out.

@@ -16,6 +16,8 @@ enum Role {
     Client,
     /// A decimal number from a lowest to a highest, without leading zeros.
     Number(u64, u64),
+    /// An asset and an endpoint, `NAME=A.B.C.D:PORT`. It is the last, and more of them may follow.
+    Place,
 }
 
 /// A word after a command: what help calls it, and what it is.
@@ -80,6 +82,16 @@ const IDLES: Slot = Slot {
     role: Role::Number(1, 1_000_000),
 };
 
+const SECONDS: Slot = Slot {
+    name: "SECONDS",
+    role: Role::Number(1, 1_000_000),
+};
+
+const PLACE: Slot = Slot {
+    name: "NAME=A.B.C.D:PORT",
+    role: Role::Place,
+};
+
 const SEED: Slot = Slot {
     name: "SEED",
     role: Role::Number(0, 18_446_744_073_709_551_615),
@@ -110,12 +122,17 @@ static REVIEW_SLOTS: [Slot; 3] = [POLICY, CAPTURE, LOG];
 
 static RELAY_SLOTS: [Slot; 5] = [POLICY, ASSET, PORT, IDLES, LOG];
 
+static SERVE_SLOTS: [Slot; 4] = [POLICY, SECONDS, LOG, PLACE];
+
 static WORLD_SLOTS: [Slot; 6] = [SEED, SESSIONS, POLICY, CAPTURE, OUT, LOG];
 
-static COMMANDS: [&str; 11] = [
+static COMMANDS: [&str; 12] = [
     "sift", "check", "compare", "learn", "migrate", "packets", "judge", "review", "run", "relay",
-    "world",
+    "serve", "world",
 ];
+
+/// The most places of a service.
+const PLACE_LIMIT: usize = 256;
 
 /// The words after a command, if it is one.
 fn slots_of(command: &str) -> Option<&'static [Slot]> {
@@ -130,6 +147,7 @@ fn slots_of(command: &str) -> Option<&'static [Slot]> {
         "packets" => Some(&PACKETS_SLOTS),
         "run" => Some(&RUN_SLOTS),
         "relay" => Some(&RELAY_SLOTS),
+        "serve" => Some(&SERVE_SLOTS),
         "world" => Some(&WORLD_SLOTS),
         _ => None,
     }
@@ -180,20 +198,31 @@ fn push_no_command(out: &mut Page, word: &str) {
 
 /// What is wrong with the words after a command, and its form.
 fn push_command_fault(out: &mut Page, command: &str, slots: &[Slot], words: &[String]) {
-    if slots.len() == words.len() {
+    let goes_on = has_places(slots);
+    if slots.len() == words.len() || (goes_on && slots.len() < words.len()) {
         push_words_fault(out, command, slots, words);
     } else {
-        push_wrong_count(out, command, slots.len(), words.len());
+        push_wrong_count(out, command, slots, words.len());
     }
     out.push_all(&["\n  cmdwall ", command]);
     for slot in slots {
         out.push_all(&[" ", slot.name]);
     }
+    out.push(if goes_on { ".." } else { "" });
+}
+
+/// Whether more places may follow the last word.
+fn has_places(slots: &[Slot]) -> bool {
+    slots
+        .last()
+        .is_some_and(|slot| matches!(slot.role, Role::Place))
 }
 
 /// Too few or too many words.
-fn push_wrong_count(out: &mut Page, command: &str, wanted: usize, count: usize) {
+fn push_wrong_count(out: &mut Page, command: &str, slots: &[Slot], count: usize) {
+    let wanted = slots.len();
     out.push_all(&[command, " takes "]);
+    out.push(if has_places(slots) { "at least " } else { "" });
     out.push_number(wanted as u64);
     out.push(if wanted == 1 { " word" } else { " words" });
     out.push(", and has ");
@@ -202,20 +231,32 @@ fn push_wrong_count(out: &mut Page, command: &str, wanted: usize, count: usize) 
 
 /// The first of these that holds: a word that is none of its role, two files of one name.
 fn push_words_fault(out: &mut Page, command: &str, slots: &[Slot], words: &[String]) {
-    if !push_word_faults(out, slots, words) && !push_twins(out, slots, words) {
+    if !push_word_faults(out, slots, words)
+        && !push_twins(out, slots, words)
+        && !push_same_places(out, slots, words)
+    {
         out.push_all(&["the words behind ", command, " have no form"]);
     }
 }
 
 /// Says what is wrong with the first word that is none of its role, if there is one, and whether it did.
 fn push_word_faults(out: &mut Page, slots: &[Slot], words: &[String]) -> bool {
-    for (slot, word) in slots.iter().zip(words) {
+    for (index, word) in words.iter().enumerate() {
+        let slot = slot_at(slots, index);
         if !has_role(slot.role, word.as_str()) {
-            push_word_fault(out, slot, word.as_str());
+            push_word_fault(out, &slot, word.as_str());
             return true;
         }
     }
     false
+}
+
+/// What the word at an index is: behind the last slot another place.
+fn slot_at(slots: &[Slot], index: usize) -> Slot {
+    match slots.get(index) {
+        Some(slot) => *slot,
+        None => PLACE,
+    }
 }
 
 /// Whether a word can be what stands there.
@@ -225,6 +266,18 @@ fn has_role(role: Role, word: &str) -> bool {
         Role::File => !word.is_empty(),
         Role::Client => address_fault(word).is_none(),
         Role::Number(low, high) => is_number(low, high, word),
+        Role::Place => endpoint_of(word).is_some(),
+    }
+}
+
+/// What stands behind the name of a place, if that is an address and a port.
+fn endpoint_of(word: &str) -> Option<&str> {
+    let (_, endpoint) = word.split_once("=")?;
+    let (host, port) = endpoint.split_once(":")?;
+    if address_fault(host).is_none() && is_number(1, 65_535, port) {
+        Some(endpoint)
+    } else {
+        None
     }
 }
 
@@ -248,6 +301,9 @@ fn push_role(out: &mut Page, role: Role, word: &str) {
             out.push(" to ");
             out.push_number(high);
         }
+        Role::Place => out.push(
+            ", no asset with an address and a port from 1 to 65535, as pump=127.0.0.1:5020",
+        ),
         _ => out.push_all(&[
             ", no IPv4 address as 10.0.0.5: ",
             address_fault(word).unwrap_or(""),
@@ -282,6 +338,39 @@ fn push_twins(out: &mut Page, slots: &[Slot], words: &[String]) -> bool {
         }
     }
     false
+}
+
+/// Says which asset or endpoint stands twice among the places, or that there are too many, and whether it did.
+fn push_same_places(out: &mut Page, slots: &[Slot], words: &[String]) -> bool {
+    if !has_places(slots) {
+        return false;
+    }
+    let places = match words.get(slots.len().saturating_sub(1)..) {
+        Some(places) => places,
+        None => return false,
+    };
+    for (index, word) in places.iter().enumerate() {
+        for part in [name_of(word.as_str()), endpoint_of(word.as_str())] {
+            if places.iter().take(index).any(|other| {
+                name_of(other.as_str()) == part || endpoint_of(other.as_str()) == part
+            }) {
+                push_quoted(out, part.unwrap_or(""));
+                out.push(" stands twice among the places");
+                return true;
+            }
+        }
+    }
+    if places.len() > PLACE_LIMIT {
+        out.push("there are more than 256 places");
+        return true;
+    }
+    false
+}
+
+/// The name of a place's asset.
+fn name_of(word: &str) -> Option<&str> {
+    let (name, _) = word.split_once("=")?;
+    Some(name)
 }
 
 /// The first file before that of an index that has the same name.

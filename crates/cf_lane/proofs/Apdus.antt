@@ -1,5 +1,6 @@
 -- One APDU among the items: `apdu_handled`.
-use Rattle.cf_lane.proofs.Saying.{rules_stay, says_same}
+use Rattle.cf_lane.proofs.Fronts.{misses_front}
+use Rattle.cf_lane.proofs.Saying.{says_same}
 use Rattle.cf_lane.specs.Rates.{Says}
 use Rattle.cf_lane.specs.Rings.{IsRulesOf, RulesGoOn, says_by}
 use Rattle.cf_apci.specs.Apdu.{ApduValue, SpellsApdu, spelling}
@@ -8,29 +9,28 @@ use Rattle.cf_lane.proofs.Earlier.{cut_of-append, events_of-more, first_none}
 use Rattle.cf_lane.proofs.Handling.{count-more, ended-more}
 use Rattle.cf_lane.proofs.Taking.{grows_more}
 use Rattle.cf_lane.proofs.Units.{apdus, begins_by}
-use Rattle.cf_lane.specs.Handled.{CountsBy, Does, Grows, Handled, Knows, LaneValue, Misses, State, Steps, TakesUnit, judged, letters_in, state}
+use Rattle.cf_lane.specs.Handled.{Does, FrontsOf, Grows, Handled, Knows, MissesOf, Outlets, State, judged, lane_at, letters_in, outlets, state, step_by}
 use Rattle.cf_lane.specs.Iec104.{apdu_output, fate_of_apdu}
 use Rattle.cf_lane.specs.Item.{Took}
 use Rattle.cf_lane.specs.Judged.{Judged, cut_by, cut_of, is_admitted, is_refused, one_if}
-use Rattle.cf_lane.specs.Kept.{IsWireOf, KnowsWire, wire_debt}
-use Rattle.cf_lane.specs.Log.{lines, unit_lines, is_some_bytes, with_lines}
+use Rattle.cf_lane.specs.Kept.{KnowsWire}
+use Rattle.cf_lane.specs.Log.{unit_lines, is_some_bytes, with_lines}
 use Rattle.cf_lane.specs.Numbers.{events_of}
-use Rattle.cf_lane.specs.Renumbered.{MissesApdu, Numbered, TakesApdu, numbered, step_by, unless_cut, unless_cut_by}
+use Rattle.cf_lane.specs.Renumbered.{MissesApdu, Numbered, TakesApdu, numbered, unless_cut, unless_cut_by}
 use Rattle.cf_lane.specs.Unit.{Apdu}
 use Rattle.cf_lane.specs.declared.fate.Fate.{Fate}
-use Rattle.cf_lane.specs.declared.lane.Step.{Step}
-use Rattle.cf_lane.specs.declared.wire.Wire.{Wire}
+use Rattle.cf_lane.specs.declared.rules.Rules.{Rules}
 use Rattle.cf_outq.specs.SendQueue.{Queue, after_push}
 use Rattle.cf_policy.specs.declared.Asset.{Asset}
 use Rattle.cf_renumber.specs.Numbers.{IsNumbersOf, NumbersValue}
 use Rattle.cf_view.specs.Framing.{Begins}
 use Rattle.cf_view.specs.declared.Endpoint.{Endpoint}
 use Rattle.cf_view.specs.declared.Side.{Side}
-use Rattle.std.proofs.Common.{List, None, Option, Some, [], ap, arith, inr, length, refl, subst, sym, take, ℕ, ◌*◌, ◌++◌, ◌+◌, ◌<◌, ◌∙◌, ◌∷◌, ◌≡◌, ◌≤◌}
+use Rattle.std.proofs.Common.{List, None, Option, Some, [], ap, arith, length, refl, subst, sym, take, ℕ, ◌*◌, ◌++◌, ◌+◌, ◌<◌, ◌∙◌, ◌∷◌, ◌≡◌, ◌≤◌}
 use Rattle.std.proofs.lemmas.List.{append-nil, length-take}
-use Rattle.cf_lane.specs.declared.fate.Fate.TheVariants as fates
 use Rattle.cf_lane.specs.declared.wire.Wire.TheVariants as wire
 use Rattle.cf_policy.specs.declared.Protocol.TheVariants as protocol
+use Rattle.cf_view.specs.declared.base.Framed.TheVariants as framed
 use Rattle.cf_view.specs.declared.Side.TheVariants as side
 
 -- what a lane of IEC 104 has of its numbers
@@ -71,7 +71,7 @@ module _ (asset : Asset) (moment : ℕ) (s : Side) (a : ApduValue) (f : Fate) (o
   pub apdu_handled : Handled asset (judged moment (Took s (Apdu a)) f ∷ []) old new
   apdu_handled = record { client = client; does = apdu_does }
 
-module _ (asset : Asset) (iec104 : asset.protocol ≡ protocol.Iec104) (moment : ℕ) (s : Side) (bytes : List ℕ) (a : ApduValue) (n : ℕ) (begins : Begins SpellsApdu bytes a n) where
+module _ (bytes : List ℕ) (a : ApduValue) (n : ℕ) (begins : Begins SpellsApdu bytes a n) where
   apdu_octets_is : spelling a ≡ take n bytes
   apdu_octets_is = sym begins.spells.spelled
 
@@ -81,66 +81,41 @@ module _ (asset : Asset) (iec104 : asset.protocol ≡ protocol.Iec104) (moment :
   pub apdu_some : 0 < n
   apdu_some = omega (arith, apdu_length)
 
-  abbrev pub takes_apdu : (f : Fate) (cut : Option CutReason) → cut_by f ≡ cut → (old new : State) → Handled asset (judged moment (Took s (Apdu a)) f ∷ []) old new →
-      TakesUnit asset moment s bytes n cut old new
-  takes_apdu f cut is old new handled = record {
+module _ (asset : Asset) (iec104 : asset.protocol ≡ protocol.Iec104) (client : Endpoint) (rules : Rules) (of : IsRulesOf asset client.address rules) (moment : ℕ) (s : Side)
+    (bytes : List ℕ) (a : ApduValue) (n : ℕ) (b : Begins SpellsApdu bytes a n) (before : NumbersValue) (old : Outlets) where
+  -- an APDU that was taken stands at the front
+  abbrev pub apdu_front : (f : Fate) (after : NumbersValue) (new : Outlets) →
+      TakesApdu asset (says_by asset client.address rules moment) client moment s a f (numbered before old.to_client old.to_controller old.lines)
+      (numbered after new.to_client new.to_controller new.lines) →
+      FrontsOf asset client rules moment s bytes (wire.Iec104 before) (wire.Iec104 after) old new (framed.Unit f n)
+  apdu_front f after new takes admitted refused = record {
     unit = Apdu a;
-    begins = begins_by (apdus asset.protocol iec104) bytes a n begins;
-    some_bytes = apdu_some;
-    fate = f;
-    is_cut = is;
-    handled = handled;
+    begins = begins_by (apdus asset.protocol iec104) bytes a n b;
+    some_bytes = apdu_some bytes a n b;
+    cuts = λ reason e. iec104;
+    handled = λ lane counts.
+        apdu_handled asset moment s a f (lane_at client rules (wire.Iec104 before) admitted refused old) (state lane new.to_client new.to_controller new.lines)
+        before after refl counts.wire counts.client counts.admitted counts.refused of counts.rules takes;
   }
 
-  -- an APDU is a step by its fate
-  pub steps_apdu : (f : Fate) (cut : Option CutReason) → cut_by f ≡ cut → (old new : State) → Handled asset (judged moment (Took s (Apdu a)) f ∷ []) old new →
-      Steps asset moment s bytes old new (step_by cut n)
-  steps_apdu f None is old new handled = takes_apdu f None is old new handled
-  steps_apdu f (Some reason) is old new handled = inr (iec104, (n, takes_apdu f (Some reason) is old new handled))
-
   -- one whose line failed
-  pub misses_apdu : (before : NumbersValue) (lane : LaneValue) (client controller : Queue) (lines : Option (List (List ℕ))) → lane.wire ≡ wire.Iec104 before →
-      (log : Option (List (List ℕ))) (part : List ℕ) →
-      IsRulesOf asset lane.client.address lane.rules →
-      MissesApdu asset (says_by asset lane.client.address lane.rules moment) lane.client moment s a (numbered before client controller lines) log part → Misses asset moment s bytes (state lane client controller lines) log part
-  misses_apdu before lane client controller lines was log part of m =
-      let old : State = state lane client controller lines in
-      let new : State = state (record lane { admitted = lane.admitted + one_if (is_admitted m.fate); refused = lane.refused + one_if (is_refused m.fate); wire = wire.Iec104 m.new.numbers })
-      m.new.to_client m.new.to_controller m.new.lines in
-      record {
-        used = n;
-        new = new;
-        takes = takes_apdu m.fate None m.uncut old new (apdu_handled asset moment s a m.fate old new before m.new.numbers was refl refl refl refl of (rules_stay m.fate moment lane.rules lane.rules m.unadmitted refl) m.takes);
-        more = m.more;
-        are_more = λ earlier uncut knows.
-            append-nil (unit_lines asset lane.client moment (is_some_bytes (apdu_output side.Client earlier m.fate s a)) s (spelling a) m.fate)
-            ∙ m.are_more earlier (subst (λ w. KnowsWire asset w earlier) was (knows.wire uncut)) knows.client_ended;
-        line = m.line;
-      }
-
--- a lane of IEC 104 has no debt
-pub no_debt : (w : Wire) → IsWireOf protocol.Iec104 w → wire_debt w ≡ 0
-no_debt wire.Modbus w = absurd w
-no_debt (wire.Dnp3 f) w = absurd w
-no_debt (wire.Iec104 numbers) w = refl
+  pub apdu_misses : (log : Option (List (List ℕ))) (part : List ℕ) →
+      MissesApdu asset (says_by asset client.address rules moment) client moment s a (numbered before old.to_client old.to_controller old.lines) log part →
+      MissesOf asset client rules moment s bytes (wire.Iec104 before) old log part
+  apdu_misses log part m admitted refused =
+      let new = outlets m.new.to_client m.new.to_controller m.new.lines in
+      misses_front asset moment s bytes n m.fate (lane_at client rules (wire.Iec104 before) admitted refused old)
+      (lane_at client rules (wire.Iec104 m.new.numbers) admitted refused new)
+      (apdu_front m.fate m.new.numbers new m.takes admitted refused) m.unadmitted m.uncut m.more
+      (λ earlier uncut knows.
+      append-nil (unit_lines asset client moment (is_some_bytes (apdu_output side.Client earlier m.fate s a)) s (spelling a) m.fate)
+      ∙ m.are_more earlier (knows.wire uncut) knows.client_ended)
+      log part m.line
 
 -- what a step takes no more of than twice its octets
 pub letters_by : (cut : Option CutReason) (n : ℕ) → unless_cut_by cut n ≤ 2 * letters_in (step_by cut n)
 letters_by None n = omega arith
 letters_by (Some reason) n = omega arith
-
-pub letters_most : (cut : Option CutReason) (n : ℕ) → letters_in (step_by cut n) ≤ n
-letters_most None n = omega arith
-letters_most (Some reason) n = omega arith
-
--- a command is counted once, and a cut counts none
-pub counts_by : (f : Fate) (n : ℕ) → 0 < n → one_if (is_admitted f) + one_if (is_refused f) ≤ letters_in (step_by (cut_by f) n)
-counts_by fates.Carried n some = omega arith
-counts_by (fates.Admitted used) n some = omega (arith, some)
-counts_by (fates.Refused r) n some = omega (arith, some)
-counts_by (fates.Stray why) n some = omega arith
-counts_by fates.Lengthens n some = omega arith
-counts_by (fates.Cuts reason) n some = omega arith
 
 -- the same of the side and the APDU that it is
 pub takes_same : (asset : Asset) (says : Says) (client : Endpoint) (moment : ℕ) (s t : Side) (a b : ApduValue) (f : Fate) (old new : Numbered) → t ≡ s → b ≡ a →
@@ -149,13 +124,6 @@ takes_same asset says client moment s t a b f old new side value takes =
     subst (λ (u : Side). TakesApdu asset says client moment u b f old new) (sym side) (subst (λ (x : ApduValue). TakesApdu asset says client moment s x f old new) (sym value) takes)
 
 -- a queue grows by no more than twice the octets of an APDU that does not cut
-pub grows_apdu : (f : Fate) (st : Step) (len n : ℕ) → len ≡ n → st ≡ step_by (cut_by f) n → (v w : Wire) (before after : NumbersValue) → v ≡ wire.Iec104 before → w ≡ wire.Iec104 after →
-    (p q : Queue) → Grows (unless_cut f len) 0 0 p q → Grows (2 * letters_in st) (wire_debt v) (wire_debt w) p q
-grows_apdu f st len n size is v w before after was now p q g =
-    rw (was, now) (grows_more (unless_cut f len) (2 * letters_in st) 0 0 p q
-    (omega (arith, letters_by (cut_by f) n, ap letters_in is, ap (unless_cut_by (cut_by f)) size)) g)
-
--- the numbers of commands rise by one at most
-pub counts_apdu : (f : Fate) (st : Step) (n : ℕ) → 0 < n → st ≡ step_by (cut_by f) n → (old new : LaneValue) →
-    new.admitted ≡ old.admitted + one_if (is_admitted f) → new.refused ≡ old.refused + one_if (is_refused f) → CountsBy (letters_in st) old new
-counts_apdu f st n some is old new admitted refused = omega (arith, counts_by f n some, ap letters_in is, admitted, refused)
+pub grows_apdu : (f : Fate) (len n : ℕ) → len ≡ n → (p q : Queue) → Grows (unless_cut f len) 0 0 p q → Grows (2 * letters_in (step_by (cut_by f) n)) 0 0 p q
+grows_apdu f len n size p q g =
+    grows_more (unless_cut f len) (2 * letters_in (step_by (cut_by f) n)) 0 0 p q (omega (arith, letters_by (cut_by f) n, ap (unless_cut_by (cut_by f)) size)) g

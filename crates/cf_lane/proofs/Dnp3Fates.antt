@@ -1,10 +1,7 @@
 -- Laws of the fates of DNP3 fragments.
 use Rattle.cf_lane.specs.Rates.{Says, rated, said, unless_spent}
-use Rattle.cf_audit.specs.declared.line.CutReason.{CutReason}
-use Rattle.cf_audit.specs.declared.line.Why.{Why}
 use Rattle.cf_lane.specs.Acts.{by_refusal, fate_of_acts, first_refusal, refusal_or, used_by}
 use Rattle.cf_lane.specs.Dnp3.{IsOfFragment}
-use Rattle.cf_lane.specs.declared.fate.Fate.{Fate}
 use Rattle.cf_policy.specs.Verdict.{by_rule, decided, default_reason, first_rule, has_function, has_point, is_allow, is_empty, rule_reason, verdict_of}
 use Rattle.cf_policy.specs.declared.Action.{Action}
 use Rattle.cf_policy.specs.declared.Asset.{Asset}
@@ -13,10 +10,9 @@ use Rattle.cf_policy.specs.declared.Rule.{Rule}
 use Rattle.cf_policy.specs.declared.Verdict.{Verdict}
 use Rattle.cf_view.specs.declared.Act.{Act}
 use Rattle.cf_view.specs.declared.Reason.{Reason}
-use Rattle.std.proofs.Common.{Bool, List, None, Option, Some, [], false, inl, inr, not, refl, subst, true, ℕ, ◌&&◌, ◌∷◌, ◌≡◌, ◌⊎◌}
+use Rattle.std.proofs.Common.{Bool, List, None, Option, Some, [], false, not, refl, true, ℕ, ◌&&◌, ◌∷◌, ◌≡◌}
 use Rattle.std.specs.List.{list_any}
 use Rattle.std.specs.Prelude.{if◌then◌else◌, ◌≢◌}
-use Rattle.cf_lane.specs.declared.fate.Fate.TheVariants as fate
 use Rattle.cf_policy.specs.declared.Action.TheVariants as action
 use Rattle.cf_view.specs.declared.Reason.TheVariants as reason
 use Rattle.cf_policy.specs.declared.Verdict.TheVariants as verdict
@@ -72,9 +68,3 @@ module _ (asset : Asset) (client : ℕ) (spent : ℕ → Bool) where
 
   pub never_station_of : (acts : List Act) → IsOfFragment (fate_of_acts asset (λ act. said spent (verdict_of asset client act)) acts)
   never_station_of acts = by_first (used_by (rated asset.rules) says acts) acts
-
--- a client's fragment of two octets or more is no other
-pub no_other : (f : Fate) → IsOfFragment f → ((x : Why) × (f ≡ fate.Stray x)) ⊎ ((f ≡ fate.Lengthens) ⊎ ((x : CutReason) × (f ≡ fate.Cuts x))) → ⊥
-no_other f of (inl stray) = subst IsOfFragment stray.1 of
-no_other f of (inr (inl lengthens)) = subst IsOfFragment lengthens of
-no_other f of (inr (inr cuts)) = subst IsOfFragment cuts.1 of

@@ -13,6 +13,7 @@ mod Ends
 mod Failing
 mod Feeding
 mod FrameSizes
+mod Fronts
 mod GoingOn
 pub mod Growth
 mod Handling

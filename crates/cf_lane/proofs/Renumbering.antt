@@ -37,11 +37,11 @@ module _ (asset : Asset) (says : Says) (client : Endpoint) (moment send receive 
   is_fate f e = rw (uncut send receive earlier right) e
 
   -- an admitted one goes on with its numbers towards the controller
-  does_admitted_one : (used : List Bool) (stamp : Stamp) (numbers : NumbersValue) (controller : Queue) → fate.Admitted used ≡ fate_of_asdu asset says asdu →
+  pub does_admitted : (used : List Bool) (stamp : Stamp) (numbers : NumbersValue) (controller : Queue) → fate.Admitted used ≡ fate_of_asdu asset says asdu →
       stamp ≡ admitted_stamp (events_of earlier) receive → IsNumbersOf numbers (Admitted receive ∷ events_of earlier) →
       controller ≡ after_push old.to_controller (apdu_spelling (stamped stamp asdu)) → old.to_controller.ended ≡ false →
       DoesApdu asset says client moment side.Client (Info send receive asdu) (fate.Admitted used) old (numbered numbers old.to_client controller old.lines) earlier
-  does_admitted_one used stamp numbers controller has is stands pushed goes = record {
+  does_admitted used stamp numbers controller has is stands pushed goes = record {
     fate = is_fate (fate.Admitted used) has;
     numbers = λ e. stands;
     of_client = sym (push-nothing old.to_client);
@@ -50,14 +50,6 @@ module _ (asset : Asset) (says : Says) (client : Endpoint) (moment send receive 
     client_quiet = λ e. refl;
     controller_quiet = λ e. cc (e, goes);
   }
-
-  pub does_admitted : (f : Fate) (used : List Bool) → f ≡ fate.Admitted used → (stamp : Stamp) (numbers : NumbersValue) (controller : Queue) → f ≡ fate_of_asdu asset says asdu →
-      stamp ≡ admitted_stamp (events_of earlier) receive → IsNumbersOf numbers (Admitted receive ∷ events_of earlier) →
-      controller ≡ after_push old.to_controller (apdu_spelling (stamped stamp asdu)) → old.to_controller.ended ≡ false →
-      DoesApdu asset says client moment side.Client (Info send receive asdu) f old (numbered numbers old.to_client controller old.lines) earlier
-  does_admitted f used admitted stamp numbers controller has is stands pushed goes =
-      subst (λ (g : Fate). DoesApdu asset says client moment side.Client (Info send receive asdu) g old (numbered numbers old.to_client controller old.lines) earlier) (sym admitted)
-      (does_admitted_one used stamp numbers controller (sym admitted ∙ has) is stands pushed goes)
 
   module _ (refusal : Refusal) (replied : Bool) (here : replied ≡ has_mirror earlier asdu) (stamp : RefusedStamp) (is : stamp ≡ refused_stamp (events_of earlier) receive replied) where
     reply_by : (b : Bool) → mirror_octets (if b then Some (mirror_stamp (events_of earlier)) else None) asdu
@@ -84,13 +76,13 @@ module _ (asset : Asset) (says : Says) (client : Endpoint) (moment send receive 
     quiet_by false e is = refl
 
     -- a refused one leaves its mirror, an S frame, and its line
-    does_refused_one : (numbers : NumbersValue) (to_client to_controller : Queue) (lines : Option (List (List ℕ))) →
+    pub does_refused : (numbers : NumbersValue) (to_client to_controller : Queue) (lines : Option (List (List ℕ))) →
         fate.Refused refusal ≡ fate_of_asdu asset says asdu → IsNumbersOf numbers (Refused receive replied ∷ events_of earlier) →
         to_client ≡ after_push old.to_client (mirror_octets stamp.reply asdu) → to_controller ≡ after_push old.to_controller (ack_octets stamp.ack) →
         lines ≡ with_lines old.lines (line_about asset client moment (refusal_line asset refusal replied (apdu_octets (Info send receive asdu))) ∷ []) →
         old.to_client.ended ≡ has_ended side.Controller earlier → old.to_controller.ended ≡ false →
         DoesApdu asset says client moment side.Client (Info send receive asdu) (fate.Refused refusal) old (numbered numbers to_client to_controller lines) earlier
-    does_refused_one numbers to_client to_controller lines has stands c k l ended goes = record {
+    does_refused numbers to_client to_controller lines has stands c k l ended goes = record {
       fate = is_fate (fate.Refused refusal) has;
       numbers = λ e. subst (λ (b : Bool). IsNumbersOf numbers (Refused receive b ∷ events_of earlier)) here stands;
       of_client = c ∙ ap (after_push old.to_client) reply_is;
@@ -99,16 +91,6 @@ module _ (asset : Asset) (says : Says) (client : Endpoint) (moment send receive 
       client_quiet = λ e. rw (← here) (quiet_by replied (sym ended ∙ e) here);
       controller_quiet = λ e. cc (e, goes);
     }
-
-    pub does_refused : (f : Fate) → f ≡ fate.Refused refusal → (numbers : NumbersValue) (to_client to_controller : Queue) (lines : Option (List (List ℕ))) →
-        f ≡ fate_of_asdu asset says asdu → IsNumbersOf numbers (Refused receive replied ∷ events_of earlier) →
-        to_client ≡ after_push old.to_client (mirror_octets stamp.reply asdu) → to_controller ≡ after_push old.to_controller (ack_octets stamp.ack) →
-        lines ≡ with_lines old.lines (line_about asset client moment (refusal_line asset refusal replied (apdu_octets (Info send receive asdu))) ∷ []) →
-        old.to_client.ended ≡ has_ended side.Controller earlier → old.to_controller.ended ≡ false →
-        DoesApdu asset says client moment side.Client (Info send receive asdu) f old (numbered numbers to_client to_controller lines) earlier
-    does_refused f refused numbers to_client to_controller lines has stands c k l ended goes =
-        subst (λ (g : Fate). DoesApdu asset says client moment side.Client (Info send receive asdu) g old (numbered numbers to_client to_controller lines) earlier) (sym refused)
-        (does_refused_one numbers to_client to_controller lines (sym refused ∙ has) stands c k l ended goes)
 
     -- its line
     pub refused_lines : unit_lines asset client moment (is_some_bytes (apdu_output side.Client earlier (fate.Refused refusal) side.Client (Info send receive asdu))) side.Client

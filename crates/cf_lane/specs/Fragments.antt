@@ -7,7 +7,7 @@ use Rattle.cf_dnptrans.specs.Segments.{count_of}
 use Rattle.cf_dnptrans.specs.Transport.{answer_to}
 use Rattle.cf_dnptrans.specs.declared.assembly.SegmentAnswer.{SegmentAnswer}
 use Rattle.cf_lane.specs.Dnp3.{fate_of_frame, fate_of_segment, frame_fragment, frame_octets, frame_output, frames_at, stray_of}
-use Rattle.cf_lane.specs.Handled.{MayHaveMore, State, judged}
+use Rattle.cf_lane.specs.Handled.{MayHaveMore, judged}
 use Rattle.cf_lane.specs.Item.{Took}
 use Rattle.cf_lane.specs.Judged.{Judged, cut_by, has_ended, is_admitted}
 use Rattle.cf_lane.specs.Kept.{KnowsFragments, of_side, owed_octets}
@@ -23,7 +23,6 @@ use Rattle.cf_view.specs.declared.Side.{Side}
 use Rattle.std.specs.List.{flat_map, sum_by}
 use Rattle.std.specs.Prelude.{Bool, List, None, Option, Some, [], false, length, true, ℕ, ◌%◌, ◌++◌, ◌+◌, ◌/◌, ◌∷◌, ◌≡◌}
 use Rattle.cf_dnptrans.specs.declared.assembly.SegmentAnswer.TheVariants as answers
-use Rattle.cf_lane.specs.declared.wire.Wire.TheVariants as wire
 use Rattle.cf_view.specs.declared.Side.TheVariants as side
 
 -- the most octets that a fragment of so many octets has once it is cut anew
@@ -126,23 +125,3 @@ pub record MissesFrame (asset : Asset) (says : Says) (client : Endpoint) (moment
   pub new : Parts
   pub takes : TakesFrame asset says client moment s x fate old new
   pub line : MayHaveMore takes.more old.lines log part
-
--- a lane took a frame but for its numbers
-pub record LaneTakesFrame (asset : Asset) (says : Says) (moment : ℕ) (s : Side) (x : FrameValue) (f : Fate) (old new : State) : Type 0 where
-  pub client : new.lane.client ≡ old.lane.client
-  pub admitted : new.lane.admitted ≡ old.lane.admitted
-  pub refused : new.lane.refused ≡ old.lane.refused
-  pub rules : new.lane.rules ≡ old.lane.rules
-  pub before : Fragments
-  pub now : Fragments
-  pub was : old.lane.wire ≡ wire.Dnp3 before
-  pub is : new.lane.wire ≡ wire.Dnp3 now
-  pub takes : TakesFrame asset says old.lane.client moment s x f (parts before old.to_client old.to_controller old.lines) (parts now new.to_client new.to_controller new.lines)
-
--- the same but for its line, of which the log may have a part or all
-pub record LaneMissesFrame (asset : Asset) (says : Says) (moment : ℕ) (s : Side) (x : FrameValue) (old : State) (log : Option (List (List ℕ))) (part : List ℕ) : Type 0 where
-  pub fate : Fate
-  pub unadmitted : is_admitted fate ≡ false
-  pub new : State
-  pub takes : LaneTakesFrame asset says moment s x fate old new
-  pub line : MayHaveMore takes.takes.more old.lines log part

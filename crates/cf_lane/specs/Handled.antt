@@ -7,11 +7,10 @@ use Rattle.cf_lane.specs.Judged.{Judged, cut_by, cut_of, has_ended, is_admitted,
 use Rattle.cf_lane.specs.Kept.{IsWireOf, KnowsWire, wire_debt}
 use Rattle.cf_lane.specs.Log.{lines, with_lines}
 use Rattle.cf_lane.specs.Output.{outputs}
-use Rattle.cf_lane.specs.Unit.{Adu, SpellsUnit, UnitValue, unit_break}
+use Rattle.cf_lane.specs.Unit.{SpellsUnit, UnitValue, unit_break}
 use Rattle.cf_lane.specs.declared.fate.Fate.{Fate}
 use Rattle.cf_lane.specs.declared.lane.Step.{Step}
 use Rattle.cf_lane.specs.declared.wire.Wire.{Wire}
-use Rattle.cf_modbus.specs.Adu.{AduValue}
 use Rattle.cf_outq.specs.SendQueue.{Queue, after_end, after_push}
 use Rattle.cf_outside.specs.Desk.{DeskValue, KeepsDesk}
 use Rattle.cf_lane.specs.Rings.{IsRulesOf, KnowsRules, RulesGoOn}
@@ -19,10 +18,12 @@ use Rattle.cf_lane.specs.declared.rules.Rules.{Rules}
 use Rattle.cf_policy.specs.declared.Asset.{Asset}
 use Rattle.cf_view.specs.Framing.{Begins, BreaksAt, IsPartial}
 use Rattle.cf_view.specs.declared.Endpoint.{Endpoint}
+use Rattle.cf_view.specs.declared.base.Framed.{Framed}
 use Rattle.cf_view.specs.declared.Side.{Side}
 use Rattle.std.specs.List.{concat}
 use Rattle.std.specs.Prelude.{List, None, Option, Some, [], count_by, false, length, take, true, ℕ, ◌++◌, ◌+◌, ◌<◌, ◌^◌, ◌∷◌, ◌≡◌, ◌≤◌, ◌⊎◌}
 use Rattle.cf_audit.specs.declared.line.CutReason.TheVariants as cut
+use Rattle.cf_view.specs.declared.base.Framed.TheVariants as framed
 use Rattle.cf_policy.specs.declared.Protocol.TheVariants as protocol
 use Rattle.cf_view.specs.declared.Side.TheVariants as side
 use Rattle.cf_lane.specs.declared.lane.Step.TheVariants as step
@@ -122,12 +123,6 @@ abbrev pub cut_in : Step → Option CutReason
 cut_in (step.Cut reason) = Some reason
 cut_in st = None
 
--- a client's command was taken by its fate
-pub record TakesCommand (asset : Asset) (moment : ℕ) (a : AduValue) (old new : State) : Type 0 where
-  pub fate : Fate
-  pub uncut : cut_by fate ≡ None
-  pub handled : Handled asset (judged moment (Took side.Client (Adu a)) fate ∷ []) old new
-
 -- the numbers rose by one command at most for so many letters
 abbrev pub CountsBy : ℕ → LaneValue → LaneValue → Type 0
 CountsBy most old new = new.admitted + new.refused ≤ old.admitted + old.refused + most
@@ -139,6 +134,52 @@ pub record Counts (f : Fate) (moment : ℕ) (old new : LaneValue) : Type 0 where
   pub refused : new.refused ≡ old.refused + one_if (is_refused f)
   pub rules : RulesGoOn f moment old.rules new.rules
   pub wire : new.wire ≡ old.wire
+
+-- what a unit of so many octets led to
+abbrev pub step_by : Option CutReason → ℕ → Step
+step_by None used = step.Took used
+step_by (Some reason) used = step.Cut reason
+
+-- a unit at the front was taken with this fate: it is handled once the lane has counted it
+pub record TakesUncounted (asset : Asset) (moment : ℕ) (s : Side) (bytes : List ℕ) (used : ℕ) (f : Fate) (old mid : State) : Type 0 where
+  pub unit : UnitValue
+  pub begins : Begins (SpellsUnit asset.protocol) bytes unit used
+  pub some_bytes : 0 < used
+  -- a unit cuts by its numbers alone
+  pub cuts : (reason : CutReason) → cut_by f ≡ Some reason → asset.protocol ≡ protocol.Iec104
+  pub handled : (lane : LaneValue) → Counts f moment mid.lane lane →
+      Handled asset (judged moment (Took s unit) f ∷ []) old (state lane mid.to_client mid.to_controller mid.lines)
+
+-- what stands at the front of a side's bytes: a unit that was taken, none yet, or an octet that no unit has there
+abbrev pub Fronts : Asset → ℕ → Side → List ℕ → (old mid : State) → Framed Fate → Type 0
+Fronts asset moment s bytes old mid (framed.Unit f used) = TakesUncounted asset moment s bytes used f old mid
+Fronts asset moment s bytes old mid framed.More = IsPartial (SpellsUnit asset.protocol) bytes × (mid ≡ old)
+Fronts asset moment s bytes old mid (framed.Broken reason) = Breaks asset s bytes (cut.Framing s reason) × (mid ≡ old)
+
+-- how many octets of the front go on
+abbrev pub taken_in : Framed Fate → ℕ
+taken_in (framed.Unit f used) = letters_in (step_by (cut_by f) used)
+taken_in framed.More = 0
+taken_in (framed.Broken reason) = 0
+
+-- the two queues and the log
+pub record Outlets : Type 0 where
+  pub to_client : Queue
+  pub to_controller : Queue
+  pub lines : Option (List (List ℕ))
+
+abbrev pub outlets : Queue → Queue → Option (List (List ℕ)) → Outlets
+outlets to_client to_controller lines = record { to_client = to_client; to_controller = to_controller; lines = lines }
+
+-- a lane of this client with these rules, which keeps this for its protocol and counted so many commands
+abbrev pub lane_at : Endpoint → Rules → Wire → (admitted refused : ℕ) → Outlets → State
+lane_at client rules wire admitted refused out =
+    state (record { client = client; admitted = admitted; refused = refused; rules = rules; wire = wire }) out.to_client out.to_controller out.lines
+
+-- what stands at the front, for a lane that counted any number of commands
+abbrev pub FrontsOf : Asset → Endpoint → Rules → ℕ → Side → List ℕ → (before after : Wire) → (old new : Outlets) → Framed Fate → Type 0
+FrontsOf asset client rules moment s bytes before after old new answer =
+    (admitted refused : ℕ) → Fronts asset moment s bytes (lane_at client rules before admitted refused old) (lane_at client rules after admitted refused new) answer
 
 -- the queue to the other side is open, so that the side's bytes may go on
 abbrev pub IsOpen : Side → (to_client to_controller : Queue) → Type 0
@@ -184,14 +225,6 @@ pub record WritesLog (old new : DeskValue) : Type 0 where
 abbrev pub HasLines : Asset → State → Judged → List (List ℕ) → Type 0
 HasLines asset old j more = (earlier : List Judged) → cut_of earlier ≡ None → Knows asset old earlier → lines asset old.lane.client earlier (j ∷ []) ≡ more
 
--- a command was handled but for its line, of which the log may have a part or all
-pub record MissesCommand (asset : Asset) (moment : ℕ) (a : AduValue) (old : State) (log : Option (List (List ℕ))) (part : List ℕ) : Type 0 where
-  pub new : State
-  pub takes : TakesCommand asset moment a old new
-  pub more : List (List ℕ)
-  pub are_more : HasLines asset old (judged moment (Took side.Client (Adu a)) takes.fate) more
-  pub line : MayHaveMore more old.lines log part
-
 -- a unit was handled but for its line, of which the log may have a part or all
 pub record Misses (asset : Asset) (moment : ℕ) (s : Side) (bytes : List ℕ) (old : State) (log : Option (List (List ℕ))) (part : List ℕ) : Type 0 where
   pub used : ℕ
@@ -200,3 +233,8 @@ pub record Misses (asset : Asset) (moment : ℕ) (s : Side) (bytes : List ℕ) (
   pub more : List (List ℕ)
   pub are_more : HasLines asset old (judged moment (Took s takes.unit) takes.fate) more
   pub line : MayHaveMore more old.lines log part
+
+-- the same for a lane that counted any number of commands
+abbrev pub MissesOf : Asset → Endpoint → Rules → ℕ → Side → List ℕ → (before : Wire) → (old : Outlets) → (log : Option (List (List ℕ))) → (part : List ℕ) → Type 0
+MissesOf asset client rules moment s bytes before old log part =
+    (admitted refused : ℕ) → Misses asset moment s bytes (lane_at client rules before admitted refused old) log part

@@ -1,4 +1,5 @@
 pub mod Acts
+pub mod Adus
 pub mod Dnp3
 pub mod Fate
 pub mod Follows
@@ -8,6 +9,7 @@ pub mod History
 pub mod Iec104
 pub mod Item
 pub mod Judged
+pub mod Judgement
 pub mod Kept
 pub mod Laws
 pub mod Limit

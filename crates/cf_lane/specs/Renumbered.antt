@@ -11,7 +11,6 @@ use Rattle.cf_lane.specs.Log.{is_some_bytes, unit_lines, with_lines}
 use Rattle.cf_lane.specs.Numbers.{events_of, item_event}
 use Rattle.cf_lane.specs.Unit.{Apdu, apdu_spelling}
 use Rattle.cf_lane.specs.declared.fate.Fate.{Fate}
-use Rattle.cf_lane.specs.declared.lane.Step.{Step}
 use Rattle.cf_outq.specs.SendQueue.{Queue, after_push}
 use Rattle.cf_policy.specs.declared.Asset.{Asset}
 use Rattle.cf_renumber.specs.Numbers.{IsNumbersOf, NumbersValue}
@@ -20,7 +19,6 @@ use Rattle.cf_view.specs.declared.Endpoint.{Endpoint}
 use Rattle.cf_view.specs.declared.Side.{Side}
 use Rattle.std.specs.Prelude.{List, None, Option, Some, [], false, reverse, true, ℕ, ◌++◌, ◌≡◌}
 use Rattle.cf_view.specs.declared.Side.TheVariants as side
-use Rattle.cf_lane.specs.declared.lane.Step.TheVariants as step
 
 -- the numbers with the two queues and the log
 pub record Numbered : Type 0 where
@@ -73,8 +71,3 @@ unless_cut_by (Some reason) n = 0
 
 abbrev pub unless_cut : Fate → ℕ → ℕ
 unless_cut f n = unless_cut_by (cut_by f) n
-
--- what a unit of so many octets led to
-abbrev pub step_by : Option CutReason → ℕ → Step
-step_by None used = step.Took used
-step_by (Some reason) used = step.Cut reason

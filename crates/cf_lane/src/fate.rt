@@ -1,4 +1,4 @@
-//! The fate of a command.
+//! What becomes of a command, and of an item of a stream.
 ghost use Rattle.std.specs.Prelude.{◌≡◌, ◌<◌, ◌≤◌, Bool, List, ℕ, length, replicate};
 ghost use Rattle.cf_modbus.specs.Acts.{acts};
 ghost use Rattle.cf_modbus.specs.Adu.{adu_value};
@@ -8,7 +8,8 @@ ghost use Rattle.cf_policy.specs.Verdict.{verdict_of};
 ghost use Rattle.cf_policy.specs.Within.{most_rated};
 ghost use Rattle.cf_lane.specs.Rings.{IsRulesOf, says_by};
 ghost use Rattle.cf_lane.specs.Acts.{GivesActs, by_refusal, fate_of_acts, first_refusal};
-ghost use Rattle.cf_lane.specs.Fate.{HasOwnDecider, IsOfCommand};
+ghost use Rattle.cf_lane.specs.Fate.{HasOwnDecider};
+ghost use Rattle.cf_lane.specs.Judgement.{fate_of_judgement};
 ghost use Rattle.cf_lane.specs.Modbus.{HasCommandFate};
 
 use crate::rules::Rules;
@@ -45,16 +46,23 @@ pub enum Fate {
     Cuts(CutReason),
 }
 
-/// The fate of an ADU of the client of the rules, at a moment in microseconds. The station is compared first, then the form is
+/// What becomes of a command.
+pub(crate) enum Judgement {
+    /// It goes on. For each rule with a rate, in their order: whether it decided one of the command's acts.
+    Admitted([bool; MOST_RATED]),
+    /// It is answered in the controller's place, and goes no further.
+    Refused(Refusal),
+}
+
+/// What becomes of an ADU of the client of the rules, at a moment in microseconds. The station is compared first, then the form is
 /// read, then each act is judged in its order; the first that is not allowed decides. This project's own order. Requests that
 /// write one point are read in one step.
-pub(crate) fn judge(asset: &Asset, rules: &Rules, moment: u64, adu: &Adu<'_>) -> Fate
+pub(crate) fn judge(asset: &Asset, rules: &Rules, moment: u64, adu: &Adu<'_>) -> Judgement
     requires at_least { 1 ≤ length adu.now.pdu.bytes }
     requires at_most { length adu.now.pdu.bytes ≤ 253 }
     requires few { length rules.now.rings.items ≤ most_rated }
-    ensures fate { (client : ℕ) → IsRulesOf asset.now client rules.now → HasCommandFate asset.now (says_by asset.now client rules.now moment) (adu_value adu.now) result }
-    ensures decider { HasOwnDecider asset.now.rules result }
-    ensures command { IsOfCommand result }
+    ensures fate { (client : ℕ) → IsRulesOf asset.now client rules.now → HasCommandFate asset.now (says_by asset.now client rules.now moment) (adu_value adu.now) (fate_of_judgement result) }
+    ensures decider { HasOwnDecider asset.now.rules (fate_of_judgement result) }
 {
     let code = u16::from(adu.pdu.at(0));
     if u16::from(adu.unit) != asset.station {
@@ -69,14 +77,13 @@ pub(crate) fn judge(asset: &Asset, rules: &Rules, moment: u64, adu: &Adu<'_>) ->
     }
 }
 
-/// The fate of a request. Where some of its acts are known to differ in nothing that rules of its code state but the point, they
+/// What becomes of a request. Where some of its acts are known to differ in nothing that rules of its code state but the point, they
 /// are judged together.
-fn judge_request(asset: &Asset, rules: &Rules, moment: u64, request: &Request<'_>) -> Fate
+fn judge_request(asset: &Asset, rules: &Rules, moment: u64, request: &Request<'_>) -> Judgement
     requires read { IsRead (request_value request.now) }
     requires few { length rules.now.rings.items ≤ most_rated }
-    ensures fate { (client : ℕ) → IsRulesOf asset.now client rules.now → result ≡ fate_of_acts asset.now (says_by asset.now client rules.now moment) (acts (request_value request.now)) }
-    ensures decider { HasOwnDecider asset.now.rules result }
-    ensures command { IsOfCommand result }
+    ensures fate { (client : ℕ) → IsRulesOf asset.now client rules.now → fate_of_judgement result ≡ fate_of_acts asset.now (says_by asset.now client rules.now moment) (acts (request_value request.now)) }
+    ensures decider { HasOwnDecider asset.now.rules (fate_of_judgement result) }
 {
     let any_value = takes_any_value(asset, &rules.index, request);
     if any_value || request.values.is_empty() {
@@ -88,10 +95,10 @@ fn judge_request(asset: &Asset, rules: &Rules, moment: u64, request: &Request<'_
 }
 
 /// A refusal of a whole command: its act is the function code with this point.
-pub(crate) fn refused(decider: Decider, reason: Reason, code: u16, point: u32) -> Fate
-    ensures { result ≡ Fate.Refused (record { decider = decider; reason = reason; act = record { code = code; group = 0; point = point; value = None } }) }
+pub(crate) fn refused(decider: Decider, reason: Reason, code: u16, point: u32) -> Judgement
+    ensures { result ≡ Judgement.Refused (record { decider = decider; reason = reason; act = record { code = code; group = 0; point = point; value = None } }) }
 {
-    Fate::Refused(Refusal {
+    Judgement::Refused(Refusal {
         decider,
         reason,
         act: Act {
@@ -103,7 +110,7 @@ pub(crate) fn refused(decider: Decider, reason: Reason, code: u16, point: u32) -
     })
 }
 
-/// The fate of a command of so many acts, of which the call gives each by its place: each is judged in its order, and the first
+/// What becomes of a command of so many acts, of which the call gives each by its place: each is judged in its order, and the first
 /// that is not allowed decides. Whether there are rules with a rate is asked once.
 pub(crate) fn judge_acts<F: Fn(u32) -> Act>(
     asset: &Asset,
@@ -111,13 +118,12 @@ pub(crate) fn judge_acts<F: Fn(u32) -> Act>(
     moment: u64,
     count: u32,
     act_at: F,
-) -> Fate
+) -> Judgement
     requires acts { (i : ℕ) → i < count → F.pre act_at i }
     requires few { length rules.now.rings.items ≤ most_rated }
     ensures fate { (client : ℕ) (acts : List Act) → IsRulesOf asset.now client rules.now → length acts ≡ count → GivesActs (F.post act_at) acts
-        → result ≡ fate_of_acts asset.now (says_by asset.now client rules.now moment) acts }
-    ensures decider { HasOwnDecider asset.now.rules result }
-    ensures command { IsOfCommand result }
+        → fate_of_judgement result ≡ fate_of_acts asset.now (says_by asset.now client rules.now moment) acts }
+    ensures decider { HasOwnDecider asset.now.rules (fate_of_judgement result) }
 {
     if rules.rings.is_empty() {
         judge_unrated(asset, &rules.index, count, act_at)
@@ -127,19 +133,23 @@ pub(crate) fn judge_acts<F: Fn(u32) -> Act>(
 }
 
 /// The same where no rule has a rate.
-fn judge_unrated<F: Fn(u32) -> Act>(asset: &Asset, index: &CodeIndex, count: u32, act_at: F) -> Fate
+fn judge_unrated<F: Fn(u32) -> Act>(
+    asset: &Asset,
+    index: &CodeIndex,
+    count: u32,
+    act_at: F,
+) -> Judgement
     requires acts { (i : ℕ) → i < count → F.pre act_at i }
     ensures fate { (client : ℕ) (acts : List Act) → IsIndexOf asset.now client index.now → length acts ≡ count → GivesActs (F.post act_at) acts
-        → result ≡ by_refusal (replicate most_rated Bool.false) (first_refusal (verdict_of asset.now client) acts) }
-    ensures decider { HasOwnDecider asset.now.rules result }
-    ensures command { IsOfCommand result }
+        → fate_of_judgement result ≡ by_refusal (replicate most_rated Bool.false) (first_refusal (verdict_of asset.now client) acts) }
+    ensures decider { HasOwnDecider asset.now.rules (fate_of_judgement result) }
 {
     for i in 0..count {
         let act = act_at(i);
         match index.verdict(asset, &act) {
             Verdict::Allow(_) => {}
             Verdict::Refuse(decider, reason) => {
-                return Fate::Refused(Refusal {
+                return Judgement::Refused(Refusal {
                     decider,
                     reason,
                     act,
@@ -147,7 +157,7 @@ fn judge_unrated<F: Fn(u32) -> Act>(asset: &Asset, index: &CodeIndex, count: u32
             }
         }
     }
-    Fate::Admitted([false; MOST_RATED])
+    Judgement::Admitted([false; MOST_RATED])
 }
 
 /// The same where a rule that allows an act may be spent, or is marked.
@@ -157,13 +167,12 @@ fn judge_rated<F: Fn(u32) -> Act>(
     moment: u64,
     count: u32,
     act_at: F,
-) -> Fate
+) -> Judgement
     requires acts { (i : ℕ) → i < count → F.pre act_at i }
     requires few { length rules.now.rings.items ≤ most_rated }
     ensures fate { (client : ℕ) (acts : List Act) → IsRulesOf asset.now client rules.now → length acts ≡ count → GivesActs (F.post act_at) acts
-        → result ≡ fate_of_acts asset.now (says_by asset.now client rules.now moment) acts }
-    ensures decider { HasOwnDecider asset.now.rules result }
-    ensures command { IsOfCommand result }
+        → fate_of_judgement result ≡ fate_of_acts asset.now (says_by asset.now client rules.now moment) acts }
+    ensures decider { HasOwnDecider asset.now.rules (fate_of_judgement result) }
 {
     let mut used = [false; MOST_RATED];
     for i in 0..count {
@@ -171,7 +180,7 @@ fn judge_rated<F: Fn(u32) -> Act>(
         match rules.verdict(asset, moment, &act) {
             Verdict::Allow(number) => rules.mark(number, &mut used),
             Verdict::Refuse(decider, reason) => {
-                return Fate::Refused(Refusal {
+                return Judgement::Refused(Refusal {
                     decider,
                     reason,
                     act,
@@ -179,5 +188,5 @@ fn judge_rated<F: Fn(u32) -> Act>(
             }
         }
     }
-    Fate::Admitted(used)
+    Judgement::Admitted(used)
 }

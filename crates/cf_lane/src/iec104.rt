@@ -1,13 +1,12 @@
 //! IEC 60870-5-104 in the lane: what becomes of an APDU.
-ghost use Rattle.std.specs.Prelude.{◌≡◌, ◌+◌, ◌*◌, ◌^◌, ◌<◌, ◌≤◌, None, true, IfOk, OnOk, OnErr, IsErr, length};
+ghost use Rattle.std.specs.Prelude.{◌≡◌, ◌*◌, None, true, IfOk, OnOk, OnErr, IsErr, length};
 ghost use Rattle.cf_apci.specs.Apdu.{Fits, apdu_value, spelling};
 ghost use Rattle.cf_outside.specs.Faults.{HasCause};
 ghost use Rattle.cf_outside.specs.Desk.{DeskValue};
 ghost use Rattle.cf_lane.specs.Rings.{IsRulesOf, says_by};
 ghost use Rattle.cf_policy.specs.Within.{IsAssetWithin};
-ghost use Rattle.cf_lane.specs.Handled.{IsLaneOf, Steps, Misses, Grows, CountsBy, HasRoom, IsOpen, WritesLog, debt, letters_in, state};
-ghost use Rattle.cf_lane.specs.Judged.{cut_by};
-ghost use Rattle.cf_lane.specs.Renumbered.{MissesApdu, TakesApdu, numbered, step_by, unless_cut};
+ghost use Rattle.cf_lane.specs.Handled.{FrontsOf, Grows, HasRoom, IsOpen, MissesOf, WritesLog, outlets, taken_in};
+ghost use Rattle.cf_lane.specs.Renumbered.{MissesApdu, TakesApdu, numbered, unless_cut};
 
 mod carry;
 mod command;
@@ -17,11 +16,10 @@ mod push;
 use crate::fate::Fate;
 use crate::iec104::carry::{carry_ack, carry_control, carry_info};
 use crate::iec104::command::take_command;
-use crate::lane::{Lane, Step, after};
+use crate::lane::after;
 use crate::rules::Rules;
 use crate::wire::Wire;
 use cf_apci::{Apdu, next_apdu};
-use cf_audit::CutReason;
 use cf_outq::Outq;
 use cf_outside::Desk;
 use cf_policy::{Asset, Protocol};
@@ -66,7 +64,7 @@ fn take_apdu<D: Desk>(
 {
     match apdu {
         Apdu::Control(octet) => {
-            let fate = carry_control(numbers, side, *octet, to_client, to_controller);
+            let fate = carry_control(numbers, side, *octet, octets, to_client, to_controller);
             Ok(fate)
         }
         Apdu::Ack { receive } => {
@@ -100,74 +98,58 @@ fn take_apdu<D: Desk>(
     }
 }
 
-/// What an APDU of so many octets led to by its fate.
-fn step_of(fate: &Fate, used: usize) -> Step
-    ensures { result ≡ step_by (cut_by fate.now) used }
+/// Takes the APDU at the front of a side's bytes by its fate.
+pub(crate) fn take_apdu_at_front<D: Desk>(
+    numbers: &mut Numbers,
+    asset: &Asset,
+    rules: &Rules,
+    client: &Endpoint,
+    moment: u64,
+    side: Side,
+    bytes: &View<'_>,
+    to_client: &mut Outq,
+    to_controller: &mut Outq,
+    desk: &mut D,
+) -> Result<Framed<Fate>, WriteFault>
+    requires iec104 { asset.now.protocol ≡ Protocol.Iec104 }
+    requires idle { numbers.old.owed ≡ None }
+    requires rules { IsRulesOf asset.now client.now.address rules.now }
+    requires within { IsAssetWithin asset.now }
+    requires whole { DeskValue.whole (D.value desk.old) ≡ true }
+    requires open { IsOpen side to_client.old to_controller.old }
+    requires client_room { HasRoom (2 * length bytes.now.bytes) to_client.old }
+    requires controller_room { HasRoom (2 * length bytes.now.bytes) to_controller.old }
+    ensures fronts { IfOk result (λ a. FrontsOf asset.now client.now rules.now moment side bytes.now.bytes (Wire.Iec104 numbers.old) (Wire.Iec104 numbers.new)
+        (outlets to_client.old to_controller.old (DeskValue.lines (D.value desk.old)))
+        (outlets to_client.new to_controller.new (DeskValue.lines (D.value desk.new))) a) }
+    ensures misses { OnErr result (MissesOf asset.now client.now rules.now moment side bytes.now.bytes (Wire.Iec104 numbers.old)
+        (outlets to_client.old to_controller.old (DeskValue.lines (D.value desk.old)))
+        (DeskValue.lines (D.value desk.new)) (DeskValue.line_part (D.value desk.new))) }
+    ensures idle { OnOk result (numbers.new.owed ≡ None) }
+    ensures client_grows { IfOk result (λ a. Grows (2 * taken_in a) 0 0 to_client.old to_client.new) }
+    ensures controller_grows { IfOk result (λ a. Grows (2 * taken_in a) 0 0 to_controller.old to_controller.new) }
+    ensures whole { OnOk result (DeskValue.whole (D.value desk.new) ≡ true) }
+    ensures log { WritesLog (D.value desk.old) (D.value desk.new) }
+    ensures cause { HasCause (DeskValue.faults (D.value desk.old)) (DeskValue.faults (D.value desk.new)) (IsErr result) }
 {
-    match fate {
-        Fate::Cuts(reason) => Step::Cut(*reason),
-        Fate::Carried | Fate::Admitted(_) | Fate::Refused(_) | Fate::Stray(_) | Fate::Lengthens => {
-            Step::Took(used)
-        }
-    }
-}
-
-impl Lane {
-    /// Handles the APDU at the front of a side's bytes.
-    pub(crate) fn step_iec104<D: Desk>(
-        &mut self,
-        asset: &Asset,
-        moment: u64,
-        side: Side,
-        bytes: &View<'_>,
-        to_client: &mut Outq,
-        to_controller: &mut Outq,
-        desk: &mut D,
-    ) -> Result<Step, WriteFault>
-        requires iec104 { asset.now.protocol ≡ Protocol.Iec104 }
-        requires of_asset { IsLaneOf asset.now self.old }
-        requires within { IsAssetWithin asset.now }
-        requires whole { DeskValue.whole (D.value desk.old) ≡ true }
-        requires open { IsOpen side to_client.old to_controller.old }
-        requires client_room { HasRoom (debt self.old + 2 * length bytes.now.bytes) to_client.old }
-        requires controller_room { HasRoom (debt self.old + 2 * length bytes.now.bytes) to_controller.old }
-        requires counts { self.old.admitted + self.old.refused + length bytes.now.bytes < 2 ^ 64 }
-        ensures steps { IfOk result (λ s. Steps asset.now moment side bytes.now.bytes (state self.old to_client.old to_controller.old (DeskValue.lines (D.value desk.old)))
-            (state self.new to_client.new to_controller.new (DeskValue.lines (D.value desk.new))) s) }
-        ensures misses { OnErr result (Misses asset.now moment side bytes.now.bytes (state self.old to_client.old to_controller.old (DeskValue.lines (D.value desk.old)))
-            (DeskValue.lines (D.value desk.new)) (DeskValue.line_part (D.value desk.new))) }
-        ensures of_asset { OnOk result (IsLaneOf asset.now self.new) }
-        ensures client_grows { IfOk result (λ s. Grows (2 * letters_in s) (debt self.old) (debt self.new) to_client.old to_client.new) }
-        ensures controller_grows { IfOk result (λ s. Grows (2 * letters_in s) (debt self.old) (debt self.new) to_controller.old to_controller.new) }
-        ensures counts { IfOk result (λ s. CountsBy (letters_in s) self.old self.new) }
-        ensures inside { IfOk result (λ s. letters_in s ≤ length bytes.now.bytes) }
-        ensures whole { OnOk result (DeskValue.whole (D.value desk.new) ≡ true) }
-        ensures log { WritesLog (D.value desk.old) (D.value desk.new) }
-        ensures cause { HasCause (DeskValue.faults (D.value desk.old)) (DeskValue.faults (D.value desk.new)) (IsErr result) }
-    {
-        match next_apdu(after(bytes, 0)) {
-            Framed::More => Ok(Step::More),
-            Framed::Broken(reason) => Ok(Step::Cut(CutReason::Framing(side, reason))),
-            Framed::Unit { unit, used } => {
-                let Wire::Iec104(numbers) = &mut self.wire else {
-                    unreachable!()
-                };
-                let fate = take_apdu(
-                    numbers,
-                    asset,
-                    &self.rules,
-                    &self.client,
-                    moment,
-                    side,
-                    &unit,
-                    bytes.sub(0, used),
-                    to_client,
-                    to_controller,
-                    desk,
-                )?;
-                self.count(&fate, moment);
-                Ok(step_of(&fate, used))
-            }
+    match next_apdu(after(bytes, 0)) {
+        Framed::More => Ok(Framed::More),
+        Framed::Broken(reason) => Ok(Framed::Broken(reason)),
+        Framed::Unit { unit, used } => {
+            let fate = take_apdu(
+                numbers,
+                asset,
+                rules,
+                client,
+                moment,
+                side,
+                &unit,
+                bytes.sub(0, used),
+                to_client,
+                to_controller,
+                desk,
+            )?;
+            Ok(Framed::Unit { unit: fate, used })
         }
     }
 }

@@ -1,28 +1,30 @@
 //! The filter of one session's two streams, without TCP.
-ghost use Rattle.std.specs.Prelude.{◌≡◌, ℕ, ◌+◌, ◌*◌, ◌^◌, ◌<◌, ◌≤◌, ◌++◌, [], ◌∷◌, Bool, true, None, Option, IfOk, OnOk, OnErr, IsErr, List, length, drop};
-ghost use Rattle.cf_outq.specs.SendQueue.{Queue, IsQueueOf};
+ghost use Rattle.std.specs.Prelude.{◌≡◌, ℕ, ◌+◌, ◌*◌, ◌^◌, ◌<◌, ◌≤◌, ◌++◌, [], ◌∷◌, Bool, false, true, None, Option, IfOk, OnOk, OnErr, IsErr, List, length, drop};
+ghost use Rattle.cf_outq.specs.SendQueue.{Queue, IsQueueOf, after_push};
 ghost use Rattle.cf_outside.specs.Faults.{HasCause};
 ghost use Rattle.cf_outside.specs.Desk.{DeskValue};
 ghost use Rattle.cf_policy.specs.Within.{IsAssetWithin, most_rated};
 ghost use Rattle.cf_stream.specs.Stream.{no_letters};
 ghost use Rattle.cf_view.specs.Octets.{IsOctets};
 ghost use Rattle.cf_lane.specs.Follows.{AddsTo, Began, BeganApart, FailsApart, Follows, FailsWithin, IsEndBehindCut, Rests, rest_of, with_rest, no_rests};
-ghost use Rattle.cf_lane.specs.Handled.{IsLaneOf, LaneValue, Steps, Misses, Grows, CountsBy, HasRoom, IsOpen, MayEnd, EndsOther, WritesLog, cut_in, debt, letters_in, state};
+ghost use Rattle.cf_lane.specs.Handled.{Fronts, IsLaneOf, LaneValue, Steps, Misses, Grows, CountsBy, HasRoom, IsOpen, MayEnd, EndsOther, WritesLog, cut_in, debt, letters_in, state, step_by, taken_in};
 ghost use Rattle.cf_lane.specs.History.{Element, letters_at, end_at};
-ghost use Rattle.cf_lane.specs.Judged.{Judged, is_admitted, is_refused, one_if};
+ghost use Rattle.cf_lane.specs.Judged.{Judged, cut_by, is_admitted, is_refused, one_if};
 ghost use Rattle.cf_lane.specs.Rings.{RulesGoOn};
 ghost use Rattle.cf_lane.specs.Kept.{KnowsWire};
 ghost use Rattle.cf_lane.specs.Log.{has_unfinished};
 
 use crate::fate::Fate;
+use crate::iec104::take_apdu_at_front;
 use crate::log::log_end;
+use crate::modbus::take_adu_at_front;
 use crate::rules::Rules;
 use crate::wire::Wire;
 use cf_audit::CutReason;
 use cf_outq::Outq;
 use cf_outside::Desk;
-use cf_policy::{Asset, Protocol};
-use cf_view::{Endpoint, NoMemory, Side, View, WriteFault};
+use cf_policy::Asset;
+use cf_view::{Endpoint, Framed, NoMemory, Side, View, WriteFault};
 use std::alloc::Global;
 use std::marker::Model;
 
@@ -227,7 +229,7 @@ impl Lane {
         self.refused
     }
 
-    /// Handles the unit at the front of a side's bytes: one function for each protocol.
+    /// Handles the unit at the front of a side's bytes.
     fn step<D: Desk>(
         &mut self,
         asset: &Asset,
@@ -260,21 +262,98 @@ impl Lane {
         ensures log { WritesLog (D.value desk.old) (D.value desk.new) }
         ensures cause { HasCause (DeskValue.faults (D.value desk.old)) (DeskValue.faults (D.value desk.new)) (IsErr result) }
     {
-        match asset.protocol {
-            Protocol::Modbus => {
-                self.step_modbus(asset, moment, side, bytes, to_client, to_controller, desk)
+        let front = self.take_front(asset, moment, side, bytes, to_client, to_controller, desk)?;
+        match front {
+            Framed::More => Ok(Step::More),
+            Framed::Broken(reason) => Ok(Step::Cut(CutReason::Framing(side, reason))),
+            Framed::Unit { unit: fate, used } => {
+                self.count(&fate, moment);
+                Ok(step_of(&fate, used))
             }
-            Protocol::Dnp3 => {
-                self.step_dnp3(asset, moment, side, bytes, to_client, to_controller, desk)
+        }
+    }
+
+    /// Takes the unit at the front of a side's bytes by its fate, and is yet to count it: one function for each protocol.
+    fn take_front<D: Desk>(
+        &mut self,
+        asset: &Asset,
+        moment: u64,
+        side: Side,
+        bytes: &View<'_>,
+        to_client: &mut Outq,
+        to_controller: &mut Outq,
+        desk: &mut D,
+    ) -> Result<Framed<Fate>, WriteFault>
+        requires of_asset { IsLaneOf asset.now self.old }
+        requires within { IsAssetWithin asset.now }
+        requires whole { DeskValue.whole (D.value desk.old) ≡ true }
+        requires open { IsOpen side to_client.old to_controller.old }
+        requires client_room { HasRoom (debt self.old + 2 * length bytes.now.bytes) to_client.old }
+        requires controller_room { HasRoom (debt self.old + 2 * length bytes.now.bytes) to_controller.old }
+        ensures fronts { IfOk result (λ a. Fronts asset.now moment side bytes.now.bytes
+            (state self.old to_client.old to_controller.old (DeskValue.lines (D.value desk.old)))
+            (state self.new to_client.new to_controller.new (DeskValue.lines (D.value desk.new))) a) }
+        ensures misses { OnErr result (Misses asset.now moment side bytes.now.bytes
+            (state self.old to_client.old to_controller.old (DeskValue.lines (D.value desk.old)))
+            (DeskValue.lines (D.value desk.new)) (DeskValue.line_part (D.value desk.new))) }
+        ensures of_asset { OnOk result (IsLaneOf asset.now self.new) }
+        ensures admitted { OnOk result (self.new.admitted ≡ self.old.admitted) }
+        ensures refused { OnOk result (self.new.refused ≡ self.old.refused) }
+        ensures client_grows { IfOk result (λ a. Grows (2 * taken_in a) (debt self.old) (debt self.new) to_client.old to_client.new) }
+        ensures controller_grows { IfOk result (λ a. Grows (2 * taken_in a) (debt self.old) (debt self.new) to_controller.old to_controller.new) }
+        ensures whole { OnOk result (DeskValue.whole (D.value desk.new) ≡ true) }
+        ensures log { WritesLog (D.value desk.old) (D.value desk.new) }
+        ensures cause { HasCause (DeskValue.faults (D.value desk.old)) (DeskValue.faults (D.value desk.new)) (IsErr result) }
+    {
+        match &mut self.wire {
+            Wire::Modbus => {
+                let front = take_adu_at_front(
+                    asset,
+                    &self.rules,
+                    &self.client,
+                    moment,
+                    side,
+                    bytes,
+                    to_client,
+                    to_controller,
+                    desk,
+                )?;
+                Ok(front)
             }
-            Protocol::Iec104 => {
-                self.step_iec104(asset, moment, side, bytes, to_client, to_controller, desk)
+            Wire::Dnp3(fragments) => {
+                let front = fragments.take_frame_at_front(
+                    asset,
+                    &self.rules,
+                    &self.client,
+                    moment,
+                    side,
+                    bytes,
+                    to_client,
+                    to_controller,
+                    desk,
+                )?;
+                Ok(front)
+            }
+            Wire::Iec104(numbers) => {
+                let front = take_apdu_at_front(
+                    numbers,
+                    asset,
+                    &self.rules,
+                    &self.client,
+                    moment,
+                    side,
+                    bytes,
+                    to_client,
+                    to_controller,
+                    desk,
+                )?;
+                Ok(front)
             }
         }
     }
 
     /// Counts a command by its fate, and notes the moment at the rules that it used.
-    pub(crate) fn count(&mut self, fate: &Fate, moment: u64)
+    fn count(&mut self, fate: &Fate, moment: u64)
         requires counts { self.old.admitted + self.old.refused + 1 < 2 ^ 64 }
         requires few { length self.old.rules.rings.items ≤ most_rated }
         ensures client { self.new.client ≡ self.old.client }
@@ -313,6 +392,18 @@ fn cut_in(step: &Step) -> Option<CutReason>
     }
 }
 
+/// What a unit of so many octets led to by its fate.
+fn step_of(fate: &Fate, used: usize) -> Step
+    ensures { result ≡ step_by (cut_by fate.now) used }
+{
+    match fate {
+        Fate::Cuts(reason) => Step::Cut(*reason),
+        Fate::Carried | Fate::Admitted(_) | Fate::Refused(_) | Fate::Stray(_) | Fate::Lengthens => {
+            Step::Took(used)
+        }
+    }
+}
+
 /// The bytes from a place on.
 pub(crate) fn after<'a>(bytes: &View<'a>, from: usize) -> View<'a>
     requires { from ≤ length bytes.now.bytes }
@@ -320,6 +411,21 @@ pub(crate) fn after<'a>(bytes: &View<'a>, from: usize) -> View<'a>
     ensures octets { IsOctets bytes.now.bytes }
 {
     bytes.sub(from, bytes.len())
+}
+
+/// Puts octets into a queue as they came.
+pub(crate) fn push_octets(octets: &View<'_>, queue: &mut Outq)
+    requires open { queue.old.ended ≡ false }
+    requires room { HasRoom (length octets.now.bytes) queue.old }
+    ensures queue { queue.new ≡ after_push queue.old octets.now.bytes }
+{
+    let (first, second) = octets.pieces();
+    if !first.is_empty() {
+        queue.push(first);
+    }
+    if !second.is_empty() {
+        queue.push(second);
+    }
 }
 
 /// Puts End into the queue to the other side.

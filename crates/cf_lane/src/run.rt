@@ -1,4 +1,4 @@
-//! The fate of a Modbus request: acts on points that follow each other are judged together.
+//! What becomes of a Modbus request: acts on points that follow each other are judged together.
 ghost use Rattle.std.specs.Prelude.{◌≡◌, ◌+◌, ◌-◌, ◌<◌, ◌≤◌, ℕ, Bool, Some, length, replicate, slice_get, true};
 ghost use Rattle.cf_modbus.specs.Acts.{acts};
 ghost use Rattle.cf_modbus.specs.Request.{IsRead, request_value};
@@ -7,17 +7,18 @@ ghost use Rattle.cf_policy.specs.Run.{TakesAnyValue};
 ghost use Rattle.cf_policy.specs.Verdict.{IsInside, verdict_of};
 ghost use Rattle.cf_policy.specs.Within.{most_rated};
 ghost use Rattle.cf_lane.specs.Acts.{by_refusal, fate_of_acts, first_refusal};
-ghost use Rattle.cf_lane.specs.Fate.{HasOwnDecider, IsOfCommand};
+ghost use Rattle.cf_lane.specs.Fate.{HasOwnDecider};
+ghost use Rattle.cf_lane.specs.Judgement.{fate_of_judgement};
 ghost use Rattle.cf_lane.specs.Rings.{IsRulesOf, says_by};
 ghost use Rattle.cf_lane.specs.Run.{AreRun, HaveVerdict};
 
-use crate::fate::{Fate, Refusal};
+use crate::fate::{Judgement, Refusal};
 use crate::rules::Rules;
 use cf_modbus::{Request, act_at, act_count};
 use cf_policy::{Asset, CodeIndex, MOST_RATED, Verdict};
 use cf_view::Act;
 
-/// The fate of a request of the client of the rules, at a moment in microseconds: its acts are judged in their order, those of a
+/// What becomes of a request of the client of the rules, at a moment in microseconds: its acts are judged in their order, those of a
 /// run together, and the first that is not allowed decides. Whether there are rules with a rate is asked once.
 pub(crate) fn judge_runs(
     asset: &Asset,
@@ -25,13 +26,12 @@ pub(crate) fn judge_runs(
     moment: u64,
     request: &Request<'_>,
     any_value: bool,
-) -> Fate
+) -> Judgement
     requires read { IsRead (request_value request.now) }
     requires few { length rules.now.rings.items ≤ most_rated }
     requires any_value { (client : ℕ) → IsIndexOf asset.now client rules.now.index → any_value ≡ true → TakesAnyValue asset.now client request.now.code }
-    ensures fate { (client : ℕ) → IsRulesOf asset.now client rules.now → result ≡ fate_of_acts asset.now (says_by asset.now client rules.now moment) (acts (request_value request.now)) }
-    ensures decider { HasOwnDecider asset.now.rules result }
-    ensures command { IsOfCommand result }
+    ensures fate { (client : ℕ) → IsRulesOf asset.now client rules.now → fate_of_judgement result ≡ fate_of_acts asset.now (says_by asset.now client rules.now moment) (acts (request_value request.now)) }
+    ensures decider { HasOwnDecider asset.now.rules (fate_of_judgement result) }
 {
     if rules.rings.is_empty() {
         judge_unrated_runs(asset, &rules.index, request, any_value)
@@ -46,12 +46,11 @@ fn judge_unrated_runs(
     index: &CodeIndex,
     request: &Request<'_>,
     any_value: bool,
-) -> Fate
+) -> Judgement
     requires read { IsRead (request_value request.now) }
     requires any_value { (client : ℕ) → IsIndexOf asset.now client index.now → any_value ≡ true → TakesAnyValue asset.now client request.now.code }
-    ensures fate { (client : ℕ) → IsIndexOf asset.now client index.now → result ≡ by_refusal (replicate most_rated Bool.false) (first_refusal (verdict_of asset.now client) (acts (request_value request.now))) }
-    ensures decider { HasOwnDecider asset.now.rules result }
-    ensures command { IsOfCommand result }
+    ensures fate { (client : ℕ) → IsIndexOf asset.now client index.now → fate_of_judgement result ≡ by_refusal (replicate most_rated Bool.false) (first_refusal (verdict_of asset.now client) (acts (request_value request.now))) }
+    ensures decider { HasOwnDecider asset.now.rules (fate_of_judgement result) }
 {
     let count = act_count(request);
     let mut i = 0;
@@ -61,7 +60,7 @@ fn judge_unrated_runs(
         match verdict {
             Verdict::Allow(_) => i = next,
             Verdict::Refuse(decider, reason) => {
-                return Fate::Refused(Refusal {
+                return Judgement::Refused(Refusal {
                     decider,
                     reason,
                     act,
@@ -69,7 +68,7 @@ fn judge_unrated_runs(
             }
         }
     }
-    Fate::Admitted([false; MOST_RATED])
+    Judgement::Admitted([false; MOST_RATED])
 }
 
 /// The same where a rule that allows an act may be spent, or is marked.
@@ -79,13 +78,12 @@ fn judge_rated_runs(
     moment: u64,
     request: &Request<'_>,
     any_value: bool,
-) -> Fate
+) -> Judgement
     requires read { IsRead (request_value request.now) }
     requires few { length rules.now.rings.items ≤ most_rated }
     requires any_value { (client : ℕ) → IsIndexOf asset.now client rules.now.index → any_value ≡ true → TakesAnyValue asset.now client request.now.code }
-    ensures fate { (client : ℕ) → IsRulesOf asset.now client rules.now → result ≡ fate_of_acts asset.now (says_by asset.now client rules.now moment) (acts (request_value request.now)) }
-    ensures decider { HasOwnDecider asset.now.rules result }
-    ensures command { IsOfCommand result }
+    ensures fate { (client : ℕ) → IsRulesOf asset.now client rules.now → fate_of_judgement result ≡ fate_of_acts asset.now (says_by asset.now client rules.now moment) (acts (request_value request.now)) }
+    ensures decider { HasOwnDecider asset.now.rules (fate_of_judgement result) }
 {
     let count = act_count(request);
     let mut used = [false; MOST_RATED];
@@ -99,7 +97,7 @@ fn judge_rated_runs(
                 i = next;
             }
             Verdict::Refuse(decider, reason) => {
-                return Fate::Refused(Refusal {
+                return Judgement::Refused(Refusal {
                     decider,
                     reason,
                     act,
@@ -107,7 +105,7 @@ fn judge_rated_runs(
             }
         }
     }
-    Fate::Admitted(used)
+    Judgement::Admitted(used)
 }
 
 /// Whether the values that a request writes at several points are known to play no part.

@@ -18,9 +18,39 @@ pub struct MemoryClient {
     pub place: u32,
     /// How often `meet` still answers `Waiting`.
     pub waits: u64,
-    /// How often `is_ready` still says no.
+    /// How often `is_ready` still says yes before it rests.
+    pub wakes: u64,
+    /// How often it says no then; behind that it says yes.
     pub rests: u64,
     pub pair: MemoryPair,
+}
+
+impl MemoryClient {
+    /// A client of a listening place, whose controller is reached at once, and which never rests.
+    pub fn new(place: u32, pair: MemoryPair) -> Self
+        ensures { result ≡ record { place = place; waits = 0; wakes = 0; rests = 0; pair = pair } }
+    {
+        MemoryClient {
+            place,
+            waits: 0,
+            wakes: 0,
+            rests: 0,
+            pair,
+        }
+    }
+
+    /// Whether it rests now, which uses the script up.
+    fn rests_now(&mut self) -> bool {
+        if self.wakes > 0 {
+            self.wakes -= 1;
+            return false;
+        }
+        if self.rests > 0 {
+            self.rests -= 1;
+            return true;
+        }
+        false
+    }
 }
 
 /// One answer of links, as an object in memory keeps it.
@@ -34,9 +64,13 @@ pub enum LinksTold {
     Left(u64),
 }
 
-/// Links in memory. The clients come in their order, each as it is asked for at its own place under its own number, from 0; what a
-/// session answers is what its pair answers. A call fails besides where memory ran out for the object's own list, which raises
-/// `lacks` too; then the pair is not called. This project's own.
+/// Links in memory, whose answers are scripted. The clients come in their order: `arrive` answers the next one alone, where it is
+/// asked for at that client's place and under its number, which counts from 0; one that is not taken keeps those behind it out. A
+/// session answers what its pair answers (`MemoryPair`), once `meet` has said `waits` times that its controller has not answered;
+/// `is_ready` says yes but for its `rests`. `listen` fails at the place `deaf`; `wait` moves the clock on by `step`, and fails once it
+/// was answered `rounds` times. What is told is kept, but for failed calls. A call fails besides where memory ran out for the object's
+/// own list, which raises `lacks` too; then the pair is not called. Of the script no clause says anything: the clauses are those of
+/// `Links` and `Service`. This project's own.
 #[derive(Drop)]
 pub struct MemoryLinks {
     /// The clients, in the order of their coming.
@@ -390,8 +424,7 @@ impl Service for MemoryLinks {
         let Some(client) = self.clients.get_mut(session as usize) else {
             return false;
         };
-        if client.rests > 0 {
-            client.rests -= 1;
+        if client.rests_now() {
             return false;
         }
         self.put(LinksTold::Ready(session));

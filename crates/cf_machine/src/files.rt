@@ -142,18 +142,14 @@ impl<'a, R: FileSystem> RealFiles<'a, R> {
     }
 
     /// Reads at a place, once what was gathered for the file is written; and all that was gathered, where the read may have to wait.
-    /// Octets that were read ahead are given at once: nothing was gathered for their file since, as that would have closed it.
+    /// It stands apart from the octets that were read ahead, so that these cost no more than their copy.
+    #[inline(never)]
     fn read(&mut self, name: &str, at: u64, buf: &mut [u8]) -> io::Result<usize>
         ensures inside { IfOk result (λ n. n ≤ length buf.new) }
         ensures reads { self.new.read_faults ≡ self.old.read_faults }
         ensures writes { self.new.write_faults ≡ self.old.write_faults }
         ensures short { self.old.is_short ≡ true → self.new.is_short ≡ true }
     {
-        if let Some(reader) = &mut self.reader
-            && reader.is_ahead(name, at)
-        {
-            return reader.read_on(buf);
-        }
         self.write_before_read(name)?;
         let (mut reader, may_wait) = opened(self.rt, self.alloc, &mut self.reader, name)?;
         if may_wait {
@@ -263,7 +259,14 @@ impl<R: FileSystem> Files for RealFiles<'_, R> {
 
     ghost write_faults = { λ f. f.write_faults };
 
+    /// Octets that were read ahead are given at once: nothing was gathered for their file since, as that would have closed it.
     fn read_at(&mut self, name: &str, at: u64, buf: &mut [u8]) -> ReadAnswer {
+        if let Some(reader) = &mut self.reader {
+            let count = reader.take_ahead(name, at, buf);
+            if count > 0 {
+                return ReadAnswer::Got(count);
+            }
+        }
         match self.read(name, at, buf) {
             Ok(0) => ReadAnswer::End,
             Ok(count) => ReadAnswer::Got(count),
@@ -286,8 +289,15 @@ impl<R: FileSystem> Files for RealFiles<'_, R> {
         }
     }
 
+    /// What only has to be gathered for the file that was appended to last is gathered at once.
     fn append(&mut self, name: &str, bytes: &[u8]) -> WriteAnswer {
         forget(&mut self.reader, name);
+        if self.gather == Gather::Pieces
+            && let Some(writer) = self.writers.get_mut(self.latest)
+            && writer.hold(name, bytes)
+        {
+            return WriteAnswer::Done;
+        }
         match append_to(
             self.rt,
             self.alloc,

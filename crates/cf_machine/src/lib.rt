@@ -3,10 +3,12 @@
 
 mod files;
 mod link;
+mod links;
 mod peer;
 mod sink;
 mod streams;
 
 pub use files::{Fault, Gather, RealFiles, Twins, Withheld};
 pub use link::{LinkFault, LinkPair, Part};
+pub use links::RealLinks;
 pub use sink::RealSink;

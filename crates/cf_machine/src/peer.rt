@@ -12,6 +12,9 @@ use std::os::fd::AsRawFd;
 /// How often a connection that is left is read at most: what the system keeps for it is less.
 const LAST_READS: u32 = 4096;
 
+/// How often it is read at most before others have their turn.
+const DRAIN_READS: u32 = 16;
+
 /// A connection whose reads and writes do not wait.
 #[derive(Drop)]
 pub struct Peer<S: Read + Write + OpenStream + AsRawFd + Drop> {
@@ -54,6 +57,11 @@ impl<S: Read + Write + OpenStream + AsRawFd + Drop> Peer<S> {
         self.is_watched = moved || self.is_asked;
         self.is_asked = false;
         self.takes_again = false;
+    }
+
+    /// Whether a turn can move something that begins behind one that moved something or nothing.
+    pub fn has_news_behind(&self, moved: bool) -> bool {
+        ((moved || self.is_asked) && self.may_read) || self.takes_again
     }
 
     /// Whether the turn can move something.
@@ -106,6 +114,19 @@ impl<S: Read + Write + OpenStream + AsRawFd + Drop> Peer<S> {
     /// Ends what is sent to it; it may send on.
     pub fn close(&self) -> io::Result<()> {
         self.stream.shutdown(Shutdown::Write)
+    }
+
+    /// Reads away a part of what came; whether nothing more will come.
+    pub fn drain(&mut self) -> bool {
+        let mut rest = [0u8; 4096];
+        for _ in 0..DRAIN_READS {
+            match unless_waiting(self.stream.read(&mut rest)) {
+                Ok(Some(count)) if count > 0 => {}
+                Ok(None) => return false,
+                _ => return true,
+            }
+        }
+        false
     }
 
     /// Leaves it: what was sent to it gets there, which the system would drop where something that came was not read.

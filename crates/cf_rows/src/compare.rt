@@ -2,7 +2,7 @@
 
 use crate::book::Book;
 use crate::fault::Fault;
-use crate::left::Left;
+use crate::left::{Left, is_service};
 use crate::octets::size;
 use crate::packets::wrong_packet;
 use crate::row::Row;
@@ -132,17 +132,21 @@ fn log_of(book: &Book, row: &Row, runs: bool) -> Result<Option<Vec<u8>>, Fault> 
     Ok(Some(log))
 }
 
-/// What of the pair is not as the row says: nothing is asked of it but by a relay.
+/// What of the pair, or of a service's links, is not as the row says: nothing is asked of the pair but by a relay.
 fn wrong_pair<'a>(
     book: &Book,
     row: &'a Row,
     words: &str,
     left: &Left,
 ) -> Result<Option<&'a str>, Fault> {
+    let answers = size(row.field("answers:").unwrap_or("0"))?;
+    if is_service(words) {
+        return Ok((left.links.told.len() != answers).then_some("the number of answers"));
+    }
     if !words.starts_with("relay ") {
         return Ok((left.pair.calls != 0).then_some("no call of the pair"));
     }
-    if left.pair.told.len() != size(row.field("answers:").unwrap_or("0"))? {
+    if left.pair.told.len() != answers {
         return Ok(Some("the number of answers"));
     }
     for (side, key) in [(Side::Controller, "CONTROLLER:"), (Side::Client, "CLIENT:")] {

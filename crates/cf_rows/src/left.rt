@@ -1,11 +1,14 @@
 //! A command that is played, and what it left.
+ghost use Rattle.std.specs.Prelude.{◌≡◌, false, ℕ};
+ghost use Rattle.cf_links.specs.MemoryLinks.{serves_in};
 
 use crate::book::Book;
 use crate::fault::{Fault, Wanted};
 use crate::octets::{octets, size};
 use crate::packets::capture;
 use crate::row::Row;
-use cf_box::box_main;
+use cf_box::{box_main, serve_main};
+use cf_links::MemoryLinks;
 use cf_outside::{Fail, MemoryFiles, MemoryPair, MemorySink};
 use cf_view::Endpoint;
 
@@ -27,6 +30,7 @@ pub struct Left {
     pub out: MemorySink,
     pub files: MemoryFiles,
     pub pair: MemoryPair,
+    pub links: MemoryLinks,
 }
 
 impl Left {
@@ -47,36 +51,71 @@ impl Row {
     }
 }
 
+/// Whether the words are for a service, which is no command of the other main.
+pub fn is_service(words: &str) -> bool {
+    words.starts_with("serve ")
+}
+
 /// Plays words, separated by spaces, over the policies, the stream `s` and the capture `c`, and over what the words before them left.
+/// To the places of a service nobody comes, and its first wait fails.
 pub fn play(book: &Book, row: &Row, words: &str, script: &Script) -> Result<Left, Fault> {
     let mut files = files_of(book, row)?;
     for words in row.all("before:").iter() {
         let mut out = MemorySink::new(book.alloc);
         let mut pair = MemoryPair::new(book.alloc);
-        let spelled = spelled(book, words)?;
-        box_main(book.alloc, &spelled, &mut files, &mut out, &mut pair);
+        let mut links = MemoryLinks::new(book.alloc);
+        let spelled = spelled(book, row, words)?;
+        ends(
+            book, words, &spelled, &mut files, &mut out, &mut pair, &mut links,
+        );
     }
     files.fails.extend(script.file)?;
     let mut out = MemorySink::new(book.alloc);
     out.fails.extend(script.put)?;
     let mut pair = pair_of(book, row)?;
     pair.fails.extend(script.pair)?;
-    let spelled = spelled(book, words)?;
-    let status = box_main(book.alloc, &spelled, &mut files, &mut out, &mut pair);
+    let mut links = MemoryLinks::new(book.alloc);
+    let spelled = spelled(book, row, words)?;
+    let status = ends(
+        book, words, &spelled, &mut files, &mut out, &mut pair, &mut links,
+    );
     Ok(Left {
         status,
         out,
         files,
         pair,
+        links,
     })
 }
 
-/// The words, of which `''` is an empty one.
-fn spelled(book: &Book, words: &str) -> Result<Vec<String>, Fault> {
+/// The status with which the program ends.
+fn ends(
+    book: &Book,
+    words: &str,
+    spelled: &[String],
+    files: &mut MemoryFiles,
+    out: &mut MemorySink,
+    pair: &mut MemoryPair,
+    links: &mut MemoryLinks,
+) -> u8
+    requires free { (session : ℕ) → serves_in links.old session ≡ false }
+{
+    if is_service(words) {
+        serve_main(book.alloc, spelled, files, out, links)
+    } else {
+        box_main(book.alloc, spelled, files, out, pair)
+    }
+}
+
+/// The words, of which `''` is an empty one; the places of the row are the last words of a service.
+fn spelled(book: &Book, row: &Row, words: &str) -> Result<Vec<String>, Fault> {
     let mut spelled = Vec::new(book.alloc);
     for word in words.split(' ') {
         let word = if word == "''" { "" } else { word };
         spelled.push(String::from_str(book.alloc, word)?)?;
+    }
+    for place in row.all("place:").iter() {
+        spelled.push(String::from_str(book.alloc, place)?)?;
     }
     Ok(spelled)
 }

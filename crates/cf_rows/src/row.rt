@@ -9,7 +9,7 @@ use std::alloc::Global;
 use std::collections::BTreeMap;
 
 /// How the lines of a row begin.
-const KEYS: [&str; 34] = [
+const KEYS: [&str; 35] = [
     ">",
     "<",
     "log",
@@ -19,6 +19,7 @@ const KEYS: [&str; 34] = [
     "after:",
     "before:",
     "words:",
+    "place:",
     "origins:",
     "controller:",
     "link:",

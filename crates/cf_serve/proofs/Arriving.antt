@@ -1,19 +1,23 @@
 -- A client that came: what it does to the table.
 use Rattle.std.proofs.Common.{Bool, List, None, Option, Some, [], ap, arith, length, map, refl, subst, sym, true, false, ℕ, ◌++◌, ◌+◌}
 use Rattle.std.proofs.Common.{◌<◌, ◌≤◌, ◌∙◌, ◌∷◌, ◌≡◌}
-use Rattle.std.specs.Prelude.{Err, Ok, OnOk, Result, option_map, option_to_list, slice_get, ◌==◌, if◌then◌else◌}
+use Rattle.std.specs.Prelude.{Err, Ok, OnErr, OnOk, Result, option_map, option_to_list, slice_get, ◌==◌, if◌then◌else◌}
 use Rattle.std.specs.List.{AllByRecursion, flat_map}
 use Rattle.std.proofs.lemmas.Grind.{flat_map-append}
 use Rattle.std.proofs.lemmas.List.{append-nil, append_assoc, length-append, map-append}
-use Rattle.cf_lane.specs.Log.{with_lines}
+use Rattle.cf_audit.specs.Line.{Full}
+use Rattle.cf_lane.specs.Handled.{MayHaveMore}
+use Rattle.cf_lane.specs.Log.{line_about, with_lines}
 use Rattle.cf_links.specs.Links.{Came, LinksEntry, LinksPlace, Woke}
 use Rattle.cf_links.specs.Service.{GetsSession}
 use Rattle.cf_relay.proofs.Lined.{lines_both, lines_none}
 use Rattle.cf_view.specs.declared.Endpoint.{Endpoint}
 use Rattle.cf_view.specs.declared.WriteFault.{WriteFault}
 use Rattle.cf_serve.proofs.Keeping.{part_none}
+use Rattle.cf_serve.proofs.Missing.{begins_line}
 use Rattle.cf_serve.proofs.Numbers.{all_join, all_map, all_zip, above, below, members}
 use Rattle.cf_serve.proofs.Rounding.{more_none, more_twice}
+use Rattle.cf_serve.specs.Failing.{MissesArrival}
 use Rattle.cf_serve.specs.Phase.{Phase}
 use Rattle.cf_serve.specs.Rounds.{Arrival, AreArrivals, Seat, TurnOf, arrival_entries, turn_entries, full_line, full_lines, has_place}
 use Rattle.cf_serve.specs.Session.{Listening}
@@ -111,9 +115,38 @@ module _ (places : List Listening) (most moment place next : ℕ) (told : Option
         (ap (λ (o : Option Listening). full_line o client moment) (sym there) ∙ ap (λ (b : Bool). if b then [] else full_line (slice_get places place) client moment) (sym full))
     came_last at there full (Err e) added = tt
 
+    -- it took the last, and its line failed
+    pub came_missed : (at : Listening) → slice_get places place ≡ Some at → has_place (seats_of new) place ≡ false → (part : List ℕ) →
+        MayHaveMore (full_line (Some at) client moment) log log' part → MissesArrival places most moment place next next' told after log log' part ps new
+    came_missed at there full part may =
+        let line = line_about at.asset client moment Full in
+        let w = begins_line line log log' part may in
+        let own : full_line (Some at) client moment ≡ full_lines places moment (seats_of new) place client =
+        ap (λ (o : Option Listening). full_line o client moment) (sym there) ∙ ap (λ (b : Bool). if b then [] else full_line (slice_get places place) client moment) (sym full) in
+        record {
+          arrivals = record { seat = (new_phase next place client).seat; lines = w.0 } ∷ [];
+          tells = came;
+          added = w.1.0 ∙ ap (with_lines log) (sym (append-nil w.0));
+          fails = record {
+            before = [];
+            seat = (new_phase next place client).seat;
+            line = line;
+            come = (omega arith, (refl, (room, (own ∙ ap (λ (ss : List Seat). full_lines places moment ss place client) seats_new, tt))));
+            whole = w.0;
+            are = refl;
+            begins = w.1.1;
+          };
+          seats = seats_new;
+          keeps = λ past k. subst (λ n. Keeps places most n past new) (sym one) (subst (Keeps places most (next + 1) past) (sym is) (keeps_new places most next place client ps past k));
+        }
+
 pub for_all : {E : Type 0} (P : ℕ → Type 0) (r : Result Unit E) → ((most : ℕ) → OnOk r (P most)) → OnOk r ((most : ℕ) → P most)
 for_all P (Ok u) h = h
 for_all P (Err e) h = tt
+
+pub err_for_all : {E : Type 0} (F : Type 0) (P : ℕ → Type 0) (r : Result Unit E) → ((most : ℕ) → F → P most) → OnErr r F → OnErr r ((most : ℕ) → P most)
+err_for_all F P (Ok u) h f = tt
+err_for_all F P (Err e) h f = λ most. h most f
 
 -- ---- places one after the other
 
@@ -182,6 +215,41 @@ module _ (places : List Listening) (most moment next : ℕ) (told : Option (List
     counts = let l : length (a.arrivals ++ b.arrivals) ≡ length a.arrivals + length b.arrivals = length-append a.arrivals b.arrivals in omega (arith, l, a.counts, b.counts);
     keeps = λ past k. b.keeps past (a.keeps past k);
   }
+
+  -- the line of the last failed
+  pub arrive_missed : (place next1 next2 : ℕ) (told1 told2 : Option (List LinksEntry)) (log1 log2 : Option (List (List ℕ))) (part : List ℕ) (mid new : List Phase) →
+      Arrive places most moment 0 place next next1 told told1 log log1 old mid →
+      MissesArrival places most moment place next1 next2 told1 told2 log1 log2 part mid new →
+      MissesArrival places most moment 0 next next2 told told2 log log2 part old new
+  arrive_missed place next1 next2 told1 told2 log1 log2 part mid new a b =
+      let f = b.fails in
+      let last : List Arrival = record { seat = f.seat; lines = f.line ∷ [] } ∷ [] in
+      let cut : List Arrival = record { seat = f.seat; lines = f.whole } ∷ [] in
+      record {
+        arrivals = a.arrivals ++ b.arrivals;
+        tells = b.tells ∙ ap (option_map (λ es. es ++ flat_map arrival_entries b.arrivals)) a.tells
+            ∙ more_twice told (flat_map arrival_entries a.arrivals) (flat_map arrival_entries b.arrivals)
+            ∙ ap (λ (xs : List LinksEntry). option_map (λ es. es ++ xs) told) (sym (flat_map-append arrival_entries a.arrivals b.arrivals));
+        added = b.added ∙ ap (λ l. with_lines l (flat_map (λ (x : Arrival). x.lines) b.arrivals)) a.added
+            ∙ lines_both log (flat_map (λ (x : Arrival). x.lines) a.arrivals) (flat_map (λ (x : Arrival). x.lines) b.arrivals)
+            ∙ ap (with_lines log) (sym (flat_map-append (λ (x : Arrival). x.lines) a.arrivals b.arrivals));
+        fails = record {
+          before = a.arrivals ++ f.before;
+          seat = f.seat;
+          line = f.line;
+          come = subst (AreArrivals places moment 0 next (seats_of old)) (sym (append_assoc a.arrivals f.before last))
+              (come_join places moment 0 place next (seats_of old) a.arrivals (f.before ++ last) (omega arith) a.come a.below
+              (subst (λ n. AreArrivals places moment place n (seats_of old ++ map (λ (x : Arrival). x.seat) a.arrivals) (f.before ++ last)) a.counts
+              (subst (λ (ss : List Seat). AreArrivals places moment place next1 ss (f.before ++ last)) a.seats f.come)));
+          whole = f.whole;
+          are = ap (λ xs. a.arrivals ++ xs) f.are ∙ sym (append_assoc a.arrivals f.before cut);
+          begins = f.begins;
+        };
+        seats = b.seats ∙ ap (λ (ss : List Seat). ss ++ map (λ (x : Arrival). x.seat) b.arrivals) a.seats
+            ∙ append_assoc (seats_of old) (map (λ (x : Arrival). x.seat) a.arrivals) (map (λ (x : Arrival). x.seat) b.arrivals)
+            ∙ ap (λ ss. seats_of old ++ ss) (sym (map-append (λ (x : Arrival). x.seat) a.arrivals b.arrivals));
+        keeps = λ past k. b.keeps past (a.keeps past k);
+      }
 
   -- the clients that came, and then the turns
   pub round_is : (upto next1 : ℕ) (told0 told1 told2 : Option (List LinksEntry)) (log1 log2 : Option (List (List ℕ))) (mid new : List Phase) (past : List TurnOf) →

@@ -1,7 +1,6 @@
 -- A call that went well keeps the count of failed calls of `listen` and `wait`.
 use Rattle.std.proofs.Common.{Err, Ok, Result, ℕ, ◌≡◌}
 use Rattle.cf_outside.specs.Pair.{FaultsBy}
-use Rattle.cf_outside.specs.declared.pair.MomentAnswer.{MomentAnswer}
 use Rattle.cf_outside.specs.declared.pair.MomentAnswer.TheVariants as moment
 use Rattle.cf_serve.specs.declared.fault.ServeFault.{ServeFault}
 use Rattle.cf_serve.specs.declared.fault.ServeFault.TheVariants as fault

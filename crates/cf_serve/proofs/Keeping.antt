@@ -156,6 +156,15 @@ module _ (places : List Listening) (most next : ℕ) (past : List TurnOf) (t : T
     over = over_all (before ++ it new ∷ after) same_gone (subst (λ o. IfOver places most (past ++ t ∷ []) (before ++ it new ∷ after) t o) (sym stands) tt);
   }
 
+  -- its line failed: the others stand as they stood, and those that ended have ended so
+  pub others_held : AllByRecursion (IsHeld places most (past ++ t ∷ [])) (before ++ after)
+  others_held = all_join (IsHeld places most (past ++ t ∷ [])) before after held_before held_after
+
+  pub over_still : t.end ≡ None →
+      AllByRecursion (λ (u : TurnOf). IfOver places most (past ++ t ∷ []) (before ++ it linked ∷ after) u u.end) (past ++ t ∷ [])
+  over_still none = over_all (before ++ it linked ∷ after) (λ u h. h)
+      (subst (λ o. IfOver places most (past ++ t ∷ []) (before ++ it linked ∷ after) t o) (sym none) tt)
+
   -- it ended
   fewer_gone : (u : TurnOf) → AllByRecursion (λ (p : Phase). (p.seat.session == u.seat.session) ≡ false) (before ++ it linked ∷ after) →
       AllByRecursion (λ (p : Phase). (p.seat.session == u.seat.session) ≡ false) (before ++ after)

@@ -1,13 +1,16 @@
 -- The places that were opened, one after the other.
-use Rattle.std.proofs.Common.{List, Option, Some, [], ap, arith, length, refl, sym, ℕ, ◌++◌, ◌+◌, ◌∙◌, ◌∷◌, ◌≡◌}
+use Rattle.std.proofs.Common.{List, Option, Some, [], ap, arith, inl, length, refl, sym, ℕ, ◌++◌, ◌+◌, ◌∙◌, ◌∷◌, ◌≡◌}
 use Rattle.std.specs.Prelude.{option_map, slice_get}
 use Rattle.std.proofs.lemmas.List.{length-append}
 use Rattle.std.proofs.lemmas.Option.{same_Some}
 use Rattle.cf_audit.specs.Line.{Listen}
+use Rattle.cf_lane.specs.Handled.{MayHaveMore}
 use Rattle.cf_lane.specs.Log.{line_about, with_lines}
 use Rattle.cf_links.specs.Links.{LinksEntry, Opened}
 use Rattle.cf_relay.proofs.Lined.{lines_both, lines_none}
+use Rattle.cf_serve.proofs.Missing.{begins_line}
 use Rattle.cf_serve.proofs.Rounding.{more_none, more_twice}
+use Rattle.cf_serve.specs.Broken.{Breaks}
 use Rattle.cf_serve.specs.Served.{OpensDo, listen_lines, opened_from}
 use Rattle.cf_serve.specs.declared.table.Place.{Place}
 
@@ -47,3 +50,33 @@ opens_more places n told told1 told2 log log1 log2 m p at o e f = record {
   added = f ∙ ap (λ l. with_lines l (line_about p.asset.now p.at m Listen ∷ [])) o.added ∙ lines_both log (listen_lines places o.moments) (line_about p.asset.now p.at m Listen ∷ [])
       ∙ ap (with_lines log) (sym (lines_more places o.moments m p (ap (slice_get places) o.all ∙ at)));
 }
+
+-- the line of a place failed
+pub opens_missed : (places : List Place) (most n : ℕ) (told told1 told2 : Option (List LinksEntry)) (log log1 log2 : Option (List (List ℕ))) (part : List ℕ) (m : ℕ) (p : Place) →
+    slice_get places n ≡ Some p → OpensDo places n told told1 log log1 → told2 ≡ option_map (λ es. es ++ Opened n m ∷ []) told1 →
+    MayHaveMore (line_about p.asset.now p.at m Listen ∷ []) log1 log2 part → Breaks places most told told2 log log2 part
+opens_missed places most n told told1 told2 log log1 log2 part m p at o e may =
+    let w = begins_line (line_about p.asset.now p.at m Listen) log1 log2 part may in (
+      opened_from 0 (o.moments ++ m ∷ []),
+      (
+        listen_lines places o.moments ++ w.0,
+        (
+          e ∙ ap (option_map (λ es. es ++ Opened n m ∷ [])) o.tells ∙ more_twice told (opened_from 0 o.moments) (Opened n m ∷ [])
+              ∙ ap (λ (xs : List LinksEntry). option_map (λ es. es ++ xs) told)
+              (ap (λ k. opened_from 0 o.moments ++ Opened k m ∷ []) (sym o.all ∙ omega arith) ∙ sym (opened_more 0 o.moments m)),
+          (
+            w.1.0 ∙ ap (λ l. with_lines l w.0) o.added ∙ lines_both log (listen_lines places o.moments) w.0,
+            inl (record {
+              moments = o.moments;
+              place = p;
+              is_next = ap (slice_get places) o.all ∙ at;
+              moment = m;
+              told = refl;
+              whole = w.0;
+              logged = refl;
+              begins = w.1.1;
+            }),
+          ),
+        ),
+      ),
+    )

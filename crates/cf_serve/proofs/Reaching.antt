@@ -23,7 +23,7 @@ told_none session None = refl
 told_none session (Some es) = ap (λ xs. told_as session (Some xs)) (sym (append-nil es))
 
 -- one answer and then more
-told_more : (session : ℕ) (list : Option (List LinksEntry)) (x : Entry) (xs : List Entry) →
+pub told_more : (session : ℕ) (list : Option (List LinksEntry)) (x : Entry) (xs : List Entry) →
     with_answers (with_entry (told_as session list) x) xs ≡ with_answers (told_as session list) (x ∷ xs)
 told_more session None x xs = refl
 told_more session (Some es) x xs = ap (λ ys. told_as session (Some ys)) (append_assoc es (Of session x ∷ []) _)

@@ -27,15 +27,15 @@ may_leave places most next serves ps t = record {
 }
 
 -- two lists that begin alike
-same_front : {X : Type 0} (xs ys zs ws : List X) → xs ++ ys ≡ zs ++ ws → length xs ≡ length zs → xs ≡ zs
+pub same_front : {X : Type 0} (xs ys zs ws : List X) → xs ++ ys ≡ zs ++ ws → length xs ≡ length zs → xs ≡ zs
 same_front xs ys zs ws e l =
     sym (take-append_seam xs ys) ∙ ap (λ n. take n (xs ++ ys)) l ∙ ap (take (length zs)) e ∙ take-append_seam zs ws
 
-same_back : {X : Type 0} (xs ys zs ws : List X) → xs ++ ys ≡ zs ++ ws → length xs ≡ length zs → ys ≡ ws
+pub same_back : {X : Type 0} (xs ys zs ws : List X) → xs ++ ys ≡ zs ++ ws → length xs ≡ length zs → ys ≡ ws
 same_back xs ys zs ws e l =
     sym (drop-append_seam xs ys) ∙ ap (λ n. drop n (xs ++ ys)) l ∙ ap (drop (length zs)) e ∙ drop-append_seam zs ws
 
-turns_join : (ts us : List TurnOf) → AreTurns ts → AreTurns us → AreTurns (ts ++ us)
+pub turns_join : (ts us : List TurnOf) → AreTurns ts → AreTurns us → AreTurns (ts ++ us)
 turns_join [] us h k = k
 turns_join (t ∷ ts) us (p, h) k = (p, turns_join ts us h k)
 

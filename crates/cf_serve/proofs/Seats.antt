@@ -6,6 +6,7 @@ use Rattle.cf_links.specs.Links.{Left, LinksEntry, Of, Ready, SessionTold}
 use Rattle.cf_outside.specs.Pair.{Entry}
 use Rattle.cf_relay.proofs.Lined.{lines_none}
 use Rattle.cf_serve.proofs.Reaching.{told_as}
+use Rattle.cf_serve.specs.Failing.{MissesSeat, MissesTurn}
 use Rattle.cf_serve.specs.Phase.{LinkedValue, Phase, SeatDoes, StandsAs, TurnDoes}
 use Rattle.cf_serve.specs.Rounds.{Seat, left_by}
 use Rattle.cf_serve.specs.Session.{Listening}
@@ -77,3 +78,18 @@ module _ (at : Listening) (most : ℕ) (es : List Entry) (own : List (List ℕ))
         SeatDoes at most es own told after log log' (record { seat = seat; linked = old }) (record { seat = seat; linked = new }) false
     leaves_now after e end some left does =
         worked after (Some end) false left refl (subst (λ x. TurnDoes at most seat.client (told_as seat.session ready) (told_as seat.session turned) log log' old new x) some does)
+
+    -- one whose line failed
+    pub missed : (part : List ℕ) → MissesTurn at most seat.client (told_as seat.session ready) (told_as seat.session turned) log log' part old →
+        MissesSeat at most es own told turned log log' part seat
+    missed part does =
+        let x = does.fails es own stands in
+        record {
+          turn = record { seat = seat; ready = true; answers = does.answers; lines = x.0; end = None };
+          its = refl;
+          ready = refl;
+          no_end = refl;
+          tells = told_all seat.session told ready turned turned does.answers [] is_ready (ap (λ (t : SessionTold). t.list) does.tells) (no_more turned);
+          added = x.1.0;
+          fails = x.1.1;
+        }

@@ -1,14 +1,16 @@
 -- Round after round.
-use Rattle.std.proofs.Common.{Err, List, Option, [], ap, refl, subst, sym, ℕ, ◌++◌, ◌∙◌, ◌∷◌, ◌≡◌}
+use Rattle.std.proofs.Common.{Err, List, Option, [], ap, refl, subst, sym, ℕ, ◌++◌, ◌+◌, ◌∙◌, ◌∷◌, ◌≡◌}
 use Rattle.std.specs.Prelude.{option_map}
-use Rattle.std.specs.List.{flat_map}
-use Rattle.std.proofs.lemmas.List.{append-nil, append_assoc}
+use Rattle.std.specs.List.{AllByRecursion, flat_map}
+use Rattle.std.proofs.lemmas.List.{append-nil, append_assoc, length-append}
 use Rattle.cf_lane.specs.Log.{with_lines}
 use Rattle.cf_links.specs.Links.{LinksEntry}
 use Rattle.cf_relay.proofs.Lined.{lines_both, lines_none}
 use Rattle.cf_serve.proofs.Rounding.{flat_one, more_none, more_twice}
+use Rattle.cf_serve.specs.Failing.{MissesRound, MissesRounds}
 use Rattle.cf_serve.specs.Phase.{Phase}
 use Rattle.cf_serve.specs.Rounds.{AreRounds, IsRound, Round, Seat, TurnOf, round_entries, round_lines, turns_of}
+use Rattle.cf_serve.specs.Served.{IfEnded}
 use Rattle.cf_serve.specs.Session.{Listening}
 use Rattle.cf_serve.specs.Table.{IfWhole, Keeps, RoundDoes, RoundsDo, seats_of}
 use Rattle.cf_serve.specs.declared.fault.ServeFault.{ServeFault}
@@ -22,23 +24,25 @@ rounds_more places next standing (x ∷ rs) n mid r n' after (k, (s, (one, later
     (k, (s, (one, rounds_more places k s rs n mid r n' after later is)))
 
 module _ (places : List Listening) (most next : ℕ) (past : List TurnOf) (told : Option (List LinksEntry)) (log : Option (List (List ℕ))) (old : List Phase) where
-  pub rounds_none : Keeps places most next past old → RoundsDo places most next next past told told log log old old
+  pub rounds_none : Keeps places most next past old → RoundsDo places most next next 0 past told told log log old old
   rounds_none keeps = record {
     rounds = [];
+    count = refl;
     tells = more_none told;
     added = lines_none log;
     in_turn = (refl, refl);
     keeps = subst (λ (p : List TurnOf). Keeps places most next p old) (sym (append-nil past)) keeps;
   }
 
-  pub rounds_then : (next1 next2 : ℕ) (told1 told2 : Option (List LinksEntry)) (log1 log2 : Option (List (List ℕ))) (mid new : List Phase) →
-      RoundsDo places most next next1 past told told1 log log1 old mid →
+  pub rounds_then : (next1 next2 made : ℕ) (told1 told2 : Option (List LinksEntry)) (log1 log2 : Option (List (List ℕ))) (mid new : List Phase) →
+      RoundsDo places most next next1 made past told told1 log log1 old mid →
       ((p : List TurnOf) → Keeps places most next1 p mid → RoundDoes places most next1 next2 p told1 told2 log1 log2 mid new) →
-      RoundsDo places most next next2 past told told2 log log2 old new
-  rounds_then next1 next2 told1 told2 log1 log2 mid new a round =
+      RoundsDo places most next next2 (made + 1) past told told2 log log2 old new
+  rounds_then next1 next2 made told1 told2 log1 log2 mid new a round =
       let b = round (past ++ turns_of a.rounds) a.keeps in
       record {
         rounds = a.rounds ++ b.round ∷ [];
+        count = length-append a.rounds (b.round ∷ []) ∙ ap (λ n. n + 1) a.count;
         tells = b.tells ∙ ap (option_map (λ es. es ++ round_entries b.round)) a.tells ∙ more_twice told (flat_map round_entries a.rounds) (round_entries b.round)
             ∙ ap (λ (xs : List LinksEntry). option_map (λ es. es ++ xs) told) (sym (flat_one round_entries a.rounds b.round));
         added = b.added ∙ ap (λ l. with_lines l (round_lines b.round)) a.added ∙ lines_both log (flat_map round_lines a.rounds) (round_lines b.round)
@@ -46,6 +50,29 @@ module _ (places : List Listening) (most next : ℕ) (past : List TurnOf) (told 
         in_turn = rounds_more places next (seats_of old) a.rounds next1 (seats_of mid) b.round next2 (seats_of new) a.in_turn b.is_round;
         keeps = subst (λ (p : List TurnOf). Keeps places most next2 p new)
             (append_assoc past (turns_of a.rounds) b.round.turns ∙ ap (λ (xs : List TurnOf). past ++ xs) (sym (flat_one (λ (r : Round). r.turns) a.rounds b.round))) b.keeps;
+      }
+
+  -- a line failed in the round behind them
+  pub rounds_fail : (next1 made : ℕ) (told1 told2 : Option (List LinksEntry)) (log1 log2 : Option (List (List ℕ))) (part : List ℕ) (mid new : List Phase) →
+      RoundsDo places most next next1 made past told told1 log log1 old mid →
+      ((p : List TurnOf) → Keeps places most next1 p mid → MissesRound places most next1 p told1 told2 log1 log2 part mid new) →
+      MissesRounds places most next made past told told2 log log2 part old new
+  rounds_fail next1 made told1 told2 log1 log2 part mid new a round =
+      let b = round (past ++ turns_of a.rounds) a.keeps in
+      record {
+        rounds = a.rounds;
+        count = a.count;
+        round = b.round;
+        tells = b.tells ∙ ap (option_map (λ es. es ++ round_entries b.round)) a.tells ∙ more_twice told (flat_map round_entries a.rounds) (round_entries b.round)
+            ∙ ap (λ (xs : List LinksEntry). option_map (λ es. es ++ xs) told) (sym (flat_one round_entries a.rounds b.round));
+        added = b.added ∙ ap (λ l. with_lines l (round_lines b.round)) a.added ∙ lines_both log (flat_map round_lines a.rounds) (round_lines b.round)
+            ∙ ap (with_lines log) (sym (flat_one round_lines a.rounds b.round));
+        ended = subst (λ (p : List TurnOf). AllByRecursion (λ (t : TurnOf). IfEnded places most p t t.end) p)
+            (append_assoc past (turns_of a.rounds) b.round.turns ∙ ap (λ (xs : List TurnOf). past ++ xs) (sym (flat_one (λ (r : Round). r.turns) a.rounds b.round))) b.ended;
+        mid = next1;
+        standing = seats_of mid;
+        in_turn = a.in_turn;
+        breaks = b.breaks;
       }
 
 -- a fault: either the wait's, or not

@@ -12,7 +12,7 @@ use Rattle.cf_outside.specs.Pair.{Entry}
 use Rattle.cf_relay.proofs.Lined.{lines_both}
 use Rattle.cf_serve.proofs.Leaving.{positive}
 use Rattle.cf_serve.proofs.Numbers.{all_map, all_zip}
-use Rattle.cf_serve.proofs.Rounding.{more_twice}
+use Rattle.cf_serve.proofs.Rounding.{flat_one, more_twice}
 use Rattle.cf_serve.proofs.Turning.{stands_so}
 use Rattle.cf_serve.specs.Phase.{LinkedValue, MayTurn, Phase, StandsAs, listenings}
 use Rattle.cf_serve.specs.Rounds.{AreRounds, AreTurns, Arrival, IsTurn, Round, Seat, TurnOf, answers_in, arrival_entries, left_by}
@@ -90,6 +90,21 @@ module _ (k : ℕ) where
   of_all_left [] = refl
   of_all_left (s ∷ ss) = of_all_left ss
 
+  pub own_of_broken : (places : List Listening) (ms : List ℕ) (rs : List Round) (n : ℕ) (standing ss : List Seat) (r : Round) → AreRounds places 0 [] rs n standing →
+      AreTurns r.turns → answers_of k (opened_from 0 ms ++ (flat_map round_entries (rs ++ r ∷ []) ++ left_of ss)) ≡ answers_in k (turns_of (rs ++ r ∷ []))
+  own_of_broken places ms rs n standing ss r are turns =
+      answers_more k (opened_from 0 ms) (flat_map round_entries (rs ++ r ∷ []) ++ left_of ss)
+      ∙ ap (λ xs. xs ++ answers_of k (flat_map round_entries (rs ++ r ∷ []) ++ left_of ss)) (of_opened 0 ms)
+      ∙ answers_more k (flat_map round_entries (rs ++ r ∷ [])) (left_of ss)
+      ∙ ap (λ xs. answers_of k (flat_map round_entries (rs ++ r ∷ [])) ++ xs) (of_all_left ss)
+      ∙ append-nil (answers_of k (flat_map round_entries (rs ++ r ∷ [])))
+      ∙ ap (answers_of k) (flat_one round_entries rs r)
+      ∙ answers_more k (flat_map round_entries rs) (round_entries r)
+      ∙ ap (λ xs. xs ++ answers_of k (round_entries r)) (of_rounds places 0 [] rs n standing are)
+      ∙ ap (λ xs. answers_in k (turns_of rs) ++ xs) (of_round r turns)
+      ∙ sym (flat_map-append own_of (turns_of rs) r.turns)
+      ∙ ap (λ (xs : List TurnOf). answers_in k xs) (sym (flat_one (λ (x : Round). x.turns) rs r))
+
   pub own_of_all : (places : List Listening) (ms : List ℕ) (rs : List Round) (n : ℕ) (standing ss : List Seat) → AreRounds places 0 [] rs n standing →
       answers_of k (opened_from 0 ms ++ (flat_map round_entries rs ++ left_of ss)) ≡ answers_in k (turns_of rs)
   own_of_all places ms rs n standing ss are =
@@ -108,7 +123,7 @@ stands_session at most es own (Some v) h may =
     subst (λ (xs : List Entry). StandsSo at most xs own) (sym h.split)
     (stands_so at most (positive v.now.idle most may.0.few) v.met h.moment h.answers v.now own h.stands h.count h.does may.0.few)
 
-all_seats : (P : Seat → Type 0) (ps : List Phase) → AllByRecursion (λ (p : Phase). P p.seat) ps → AllByRecursion P (seats_of ps)
+pub all_seats : (P : Seat → Type 0) (ps : List Phase) → AllByRecursion (λ (p : Phase). P p.seat) ps → AllByRecursion P (seats_of ps)
 all_seats P [] h = tt
 all_seats P (p ∷ ps) (x, h) = (x, all_seats P ps h)
 
@@ -116,10 +131,26 @@ ended_by : (places : List Listening) (most : ℕ) (past : List TurnOf) (ps : Lis
 ended_by places most past ps t None h = tt
 ended_by places most past ps t (Some e) h = (h.one_end, λ at is. (refl, h.ends at is))
 
+module _ (places : List Listening) (most : ℕ) (past : List TurnOf) where
+  -- the turns of those that ended
+  pub all_ended : (ps : List Phase) → AllByRecursion (λ (t : TurnOf). IfOver places most past ps t t.end) past →
+      AllByRecursion (λ (t : TurnOf). IfEnded places most past t t.end) past
+  all_ended ps over = all_map (λ (t : TurnOf). IfOver places most past ps t t.end) (λ (t : TurnOf). IfEnded places most past t t.end) past
+      (λ t h. ended_by places most past ps t t.end h) over
+
+  -- sessions that stand
+  pub one_stands : (serves : ℕ → Bool) (p : Phase) → IsHeld places most past p → MayGo places most serves p → IsClient places most past p.seat []
+  one_stands serves p h m at is = stands_session at most _ _ p.linked (h.stands at is) (m.may at is)
+
+  pub all_stand : (serves : ℕ → Bool) (ps : List Phase) → AllByRecursion (IsHeld places most past) ps → AllByRecursion (MayGo places most serves) ps →
+      AllByRecursion (λ (p : Phase). IsClient places most past p.seat []) ps
+  all_stand serves ps held may =
+      all_zip (IsHeld places most past) (MayGo places most serves) (λ (p : Phase). IsClient places most past p.seat []) ps (one_stands serves) held may
+
 module _ (places : List Place) (most : ℕ) (told told1 : Option (List LinksEntry)) (log log1 : Option (List (List ℕ))) where
   -- a place could not be listened at
-  pub serves_none : (count : ℕ) → OpensDo places count told told1 log log1 → Serves places most told told1 log log1
-  serves_none count o = (
+  pub serves_none : (Made : ℕ → Type 0) → Made 0 → (count : ℕ) → OpensDo places count told told1 log log1 → Serves places most Made told told1 log log1
+  serves_none Made none count o = (
     opened_from 0 o.moments ++ [],
     (
       listen_lines places o.moments ++ [],
@@ -127,29 +158,32 @@ module _ (places : List Place) (most : ℕ) (told told1 : Option (List LinksEntr
         o.tells ∙ ap (λ (xs : List LinksEntry). option_map (λ es. es ++ xs) told) (sym (append-nil (opened_from 0 o.moments))),
         (
           o.added ∙ ap (with_lines log) (sym (append-nil (listen_lines places o.moments))),
-          record {
-            moments = o.moments;
-            rounds = [];
-            next = 0;
-            standing = [];
-            told = refl;
-            logged = refl;
-            opened = inr refl;
-            in_turn = (refl, refl);
-            answers = λ k. own_of_all k (listenings places) o.moments [] 0 [] [] (refl, refl);
-            ended = tt;
-            stand = tt;
-          },
+          (
+            record {
+              moments = o.moments;
+              rounds = [];
+              next = 0;
+              standing = [];
+              told = refl;
+              logged = refl;
+              opened = inr refl;
+              in_turn = (refl, refl);
+              answers = λ k. own_of_all k (listenings places) o.moments [] 0 [] [] (refl, refl);
+              ended = tt;
+              stand = tt;
+            },
+            none,
+          ),
         ),
       ),
     ),
   )
 
-  pub serves_all : (next : ℕ) (told2 told3 : Option (List LinksEntry)) (log2 : Option (List (List ℕ))) (serves : ℕ → Bool) (ps : List Phase) →
-      OpensDo places (length places) told told1 log log1 → RoundsDo (listenings places) most 0 next [] told1 told2 log1 log2 [] ps →
+  pub serves_all : (Made : ℕ → Type 0) (next made : ℕ) (told2 told3 : Option (List LinksEntry)) (log2 : Option (List (List ℕ))) (serves : ℕ → Bool) (ps : List Phase) →
+      Made made → OpensDo places (length places) told told1 log log1 → RoundsDo (listenings places) most 0 next made [] told1 told2 log1 log2 [] ps →
       IsTable (listenings places) most serves next ps → told3 ≡ option_map (λ es. es ++ left_of (seats_of ps)) told2 →
-      Serves places most told told3 log log2
-  serves_all next told2 told3 log2 serves ps o r table left = (
+      Serves places most Made told told3 log log2
+  serves_all Made next made told2 told3 log2 serves ps so_many o r table left = (
     opened_from 0 o.moments ++ (flat_map round_entries r.rounds ++ left_of (seats_of ps)),
     (
       listen_lines places o.moments ++ flat_map round_lines r.rounds,
@@ -160,23 +194,23 @@ module _ (places : List Place) (most : ℕ) (told told1 : Option (List LinksEntr
             ∙ ap (λ (xs : List LinksEntry). option_map (λ es. es ++ xs) told) (append_assoc (opened_from 0 o.moments) (flat_map round_entries r.rounds) (left_of (seats_of ps))),
         (
           r.added ∙ ap (λ l. with_lines l (flat_map round_lines r.rounds)) o.added ∙ lines_both log (listen_lines places o.moments) (flat_map round_lines r.rounds),
-          record {
-            moments = o.moments;
-            rounds = r.rounds;
-            next = next;
-            standing = seats_of ps;
-            told = refl;
-            logged = refl;
-            opened = inl o.all;
-            in_turn = r.in_turn;
-            answers = λ k. own_of_all k (listenings places) o.moments r.rounds next (seats_of ps) (seats_of ps) r.in_turn;
-            ended = all_map (λ (t : TurnOf). IfOver (listenings places) most (turns_of r.rounds) ps t t.end) (λ (t : TurnOf). IfEnded (listenings places) most (turns_of r.rounds) t t.end)
-                (turns_of r.rounds) (λ t h. ended_by (listenings places) most (turns_of r.rounds) ps t t.end h) r.keeps.over;
-            stand = all_seats (λ (s : Seat). IsClient (listenings places) most (turns_of r.rounds) s []) ps
-                (all_zip (IsHeld (listenings places) most (turns_of r.rounds)) (MayGo (listenings places) most serves)
-                (λ (p : Phase). IsClient (listenings places) most (turns_of r.rounds) p.seat []) ps
-                (λ p h m at is. stands_session at most _ _ p.linked (h.stands at is) (m.may at is)) r.keeps.held table.each);
-          },
+          (
+            record {
+              moments = o.moments;
+              rounds = r.rounds;
+              next = next;
+              standing = seats_of ps;
+              told = refl;
+              logged = refl;
+              opened = inl o.all;
+              in_turn = r.in_turn;
+              answers = λ k. own_of_all k (listenings places) o.moments r.rounds next (seats_of ps) (seats_of ps) r.in_turn;
+              ended = all_ended (listenings places) most (turns_of r.rounds) ps r.keeps.over;
+              stand = all_seats (λ (s : Seat). IsClient (listenings places) most (turns_of r.rounds) s []) ps
+                  (all_stand (listenings places) most (turns_of r.rounds) serves ps r.keeps.held table.each);
+            },
+            subst Made (sym r.count) so_many,
+          ),
         ),
       ),
     ),
@@ -200,12 +234,12 @@ whole_two (Err fault.Loop) a b f = f a b
 whole_two (Err fault.Write) a b f = tt
 whole_two (Err fault.NoMemory) a b f = tt
 
-module _ (places : List Listening) (most next : ℕ) (told told' : Option (List LinksEntry)) (log log' : Option (List (List ℕ))) (ps : List Phase) where
-  abbrev pub FromThere : ℕ → ℕ → List Phase → Type 0
-  FromThere m n q = (past : List TurnOf) → Keeps places m n past q → RoundsDo places m n next past told told' log log' q ps
-
-  -- from an empty table on
-  pub from_start : (m n : ℕ) (q : List Phase) → m ≡ most → n ≡ 0 → q ≡ [] → FromThere m n q → RoundsDo places most 0 next [] told told' log log' [] ps
-  from_start m n q e f p d =
-      let x : FromThere most 0 [] = subst (λ y. FromThere most 0 y) p (subst (λ y. FromThere most y q) f (subst (λ y. FromThere y n q) e d)) in
-      x [] (keeps_start places most)
+-- from an empty table on
+pub from_start : (places : List Listening) (most : ℕ) (Q : ℕ → ℕ → List TurnOf → List Phase → Type 0) (m n : ℕ) (q : List Phase) → m ≡ most → n ≡ 0 → q ≡ [] →
+    ((past : List TurnOf) → Keeps places m n past q → Q m n past q) → Q most 0 [] []
+from_start places most Q m n q e f p d =
+    let x : (past : List TurnOf) → Keeps places most 0 past [] → Q most 0 past [] =
+    subst (λ y. (past : List TurnOf) → Keeps places most 0 past y → Q most 0 past y) p
+    (subst (λ y. (past : List TurnOf) → Keeps places most y past q → Q most y past q) f
+    (subst (λ y. (past : List TurnOf) → Keeps places y n past q → Q y n past q) e d)) in
+    x [] (keeps_start places most)

@@ -1,3 +1,5 @@
+pub mod Broken
+pub mod Failing
 pub mod Laws
 pub mod Phase
 pub mod Rounds

@@ -3,11 +3,13 @@ use Rattle.cf_audit.specs.Line.{Listen}
 use Rattle.cf_lane.specs.Log.{line_about, with_lines}
 use Rattle.cf_links.specs.Links.{Left, LinksEntry, Opened, answers_of}
 use Rattle.std.specs.List.{AllByRecursion, flat_map}
-use Rattle.std.specs.Prelude.{List, None, Option, Some, [], length, map, option_map, slice_get, ℕ, ◌++◌, ◌+◌, ◌∷◌, ◌≡◌, ◌⊎◌}
+use Rattle.std.specs.Prelude.{Err, List, None, Ok, Option, Result, Some, [], length, map, option_map, slice_get, ℕ, ◌++◌, ◌+◌, ◌-◌}
+use Rattle.std.specs.Prelude.{◌<◌, ◌^◌, ◌∷◌, ◌≡◌, ◌⊎◌}
 use Rattle.cf_serve.specs.Phase.{listenings}
 use Rattle.cf_serve.specs.Rounds.{AreRounds, Round, Seat, TurnOf, answers_in, ends_in, lines_in, round_entries, round_lines, turns_of}
 use Rattle.cf_serve.specs.Session.{IsSession, Listening}
 use Rattle.cf_serve.specs.declared.end.SessionEnd.{SessionEnd}
+use Rattle.cf_serve.specs.declared.fault.ServeFault.{ServeFault}
 use Rattle.cf_serve.specs.declared.table.Place.{Place}
 
 -- the places that were opened, each at its moment
@@ -60,8 +62,14 @@ pub record OpensDo (places : List Place) (count : ℕ) (told told_after : Option
   pub tells : told_after ≡ option_map (λ entries. entries ++ opened_from 0 moments) told
   pub added : log_after ≡ with_lines log (listen_lines places moments)
 
--- the links told so many entries more, and the log has so many lines more, which are those of a service
-abbrev pub Serves : List Place → (most : ℕ) → (told after : Option (List LinksEntry)) → (log log' : Option (List (List ℕ))) → Type 0
-Serves places most told after log log' =
+-- after how many rounds a service answers so: after all that there are numbers for, or before the last of them is whole
+abbrev pub HasMade : Result Unit ServeFault → (made : ℕ) → Type 0
+HasMade (Ok done) made = made ≡ 2 ^ 64 - 1
+HasMade (Err fault) made = made < 2 ^ 64 - 1
+
+-- the links told so many entries more, and the log has so many lines more, which are those of a service, of so many rounds
+abbrev pub Serves : List Place → (most : ℕ) → (Made : ℕ → Type 0) → (told after : Option (List LinksEntry))
+    → (log log' : Option (List (List ℕ))) → Type 0
+Serves places most Made told after log log' =
     (entries : List LinksEntry) × ((lines : List (List ℕ)) × ((after ≡ option_map (λ es. es ++ entries) told)
-    × ((log' ≡ with_lines log lines) × IsServed places most entries lines)))
+    × ((log' ≡ with_lines log lines) × ((served : IsServed places most entries lines) × Made (length served.rounds)))))

@@ -134,10 +134,11 @@ pub record RoundDoes (places : List Listening) (most next next_after : ℕ) (pas
   pub is_round : IsRound places next (seats_of old) round next_after (seats_of new)
   pub keeps : Keeps places most next_after (past ++ round.turns) new
 
--- round after round
-pub record RoundsDo (places : List Listening) (most next next_after : ℕ) (past : List TurnOf) (told told_after : Option (List LinksEntry))
-    (log log_after : Option (List (List ℕ))) (old new : List Phase) : Type 0 where
+-- round after round, so many of them
+pub record RoundsDo (places : List Listening) (most next next_after made : ℕ) (past : List TurnOf)
+    (told told_after : Option (List LinksEntry)) (log log_after : Option (List (List ℕ))) (old new : List Phase) : Type 0 where
   pub rounds : List Round
+  pub count : length rounds ≡ made
   pub tells : told_after ≡ option_map (λ entries. entries ++ flat_map round_entries rounds) told
   pub added : log_after ≡ with_lines log (flat_map round_lines rounds)
   pub in_turn : AreRounds places next (seats_of old) rounds next_after (seats_of new)

@@ -10,6 +10,7 @@ ghost use Rattle.cf_outq.specs.SendQueue.{empty};
 ghost use Rattle.cf_outside.specs.Pair.{met_at};
 ghost use Rattle.cf_policy.specs.Within.{IsAssetWithin};
 ghost use Rattle.cf_relay.specs.Stands.{IsNewLane};
+ghost use Rattle.cf_serve.specs.Failing.{MissesReach, MissesTurn};
 ghost use Rattle.cf_serve.specs.Phase.{IsSoundBegun, MayTurn, Phase, ReachDoes, TurnDoes, end_of, last_value, linked_value};
 ghost use Rattle.cf_serve.specs.Phase.{listening_of, phase_of};
 ghost use Rattle.cf_view.specs.declared.Endpoint.{Endpoint as EndpointOf};
@@ -136,6 +137,10 @@ fn begin<L: Links, D: Desk>(
         (met_at terms.now.port terms.now.asset.now.endpoint met ∷ [])
         (told_of L.Links session links.old) (told_of L.Links session links.new)
         (DeskValue.lines (D.value desk.old)) (DeskValue.lines (D.value desk.new)) reached) }
+    ensures breaks { OnErr result ((client : EndpointOf) → MissesReach (listening_of terms.now) terms.now.most client
+        (met_at terms.now.port terms.now.asset.now.endpoint met ∷ [])
+        (told_of L.Links session links.old) (told_of L.Links session links.new)
+        (DeskValue.lines (D.value desk.old)) (DeskValue.lines (D.value desk.new)) (DeskValue.line_part (D.value desk.new))) }
     ensures may { IfOk result (λ reached. IsSoundBegun (listening_of terms.now) terms.now.most reached) }
     ensures whole { OnOk result (DeskValue.whole (D.value desk.new) ≡ true) }
     ensures log { WritesLog (D.value desk.old) (D.value desk.new) }
@@ -187,6 +192,9 @@ fn reach<L: Links, D: Desk>(
     ensures does { IfOk result (λ reached. ReachDoes (listening_of terms.now) terms.now.most client []
         (told_of L.Links session links.old) (told_of L.Links session links.new)
         (DeskValue.lines (D.value desk.old)) (DeskValue.lines (D.value desk.new)) reached) }
+    ensures breaks { OnErr result (MissesReach (listening_of terms.now) terms.now.most client []
+        (told_of L.Links session links.old) (told_of L.Links session links.new)
+        (DeskValue.lines (D.value desk.old)) (DeskValue.lines (D.value desk.new)) (DeskValue.line_part (D.value desk.new))) }
     ensures may { IfOk result (λ reached. IsSoundBegun (listening_of terms.now) terms.now.most reached) }
     ensures whole { OnOk result (DeskValue.whole (D.value desk.new) ≡ true) }
     ensures log { WritesLog (D.value desk.old) (D.value desk.new) }
@@ -222,6 +230,10 @@ impl Linked {
             (told_of L.Links session links.old) (told_of L.Links session links.new)
             (DeskValue.lines (D.value desk.old)) (DeskValue.lines (D.value desk.new))
             (Some (linked_value self.old)) (Some (linked_value self.new)) end) }
+        ensures breaks { OnErr result ((client : EndpointOf) → MissesTurn (listening_of terms.now) terms.now.most client
+            (told_of L.Links session links.old) (told_of L.Links session links.new)
+            (DeskValue.lines (D.value desk.old)) (DeskValue.lines (D.value desk.new)) (DeskValue.line_part (D.value desk.new))
+            (Some (linked_value self.old))) }
         ensures may { IfOk result (λ end. end ≡ None → MayTurn (listening_of terms.now) terms.now.most (Some (linked_value self.new))) }
         ensures whole { OnOk result (DeskValue.whole (D.value desk.new) ≡ true) }
         ensures log { WritesLog (D.value desk.old) (D.value desk.new) }
@@ -262,6 +274,10 @@ impl Served {
             (told_of L.Links self.old.number links.old) (told_of L.Links self.old.number links.new)
             (DeskValue.lines (D.value desk.old)) (DeskValue.lines (D.value desk.new))
             (Phase.linked (phase_of self.old)) (Phase.linked (phase_of self.new)) end) }
+        ensures breaks { OnErr result (MissesTurn (listening_of terms.now) terms.now.most self.old.client
+            (told_of L.Links self.old.number links.old) (told_of L.Links self.old.number links.new)
+            (DeskValue.lines (D.value desk.old)) (DeskValue.lines (D.value desk.new)) (DeskValue.line_part (D.value desk.new))
+            (Phase.linked (phase_of self.old))) }
         ensures may { IfOk result (λ end. end ≡ None → MayTurn (listening_of terms.now) terms.now.most (Phase.linked (phase_of self.new))) }
         ensures same { self.new ≡ record self.old { linked = self.new.linked } }
         ensures whole { OnOk result (DeskValue.whole (D.value desk.new) ≡ true) }

@@ -8,7 +8,8 @@ ghost use Rattle.cf_outside.specs.Faults.{HasCause};
 ghost use Rattle.cf_outside.specs.Pair.{Entry, FaultsBy};
 ghost use Rattle.cf_policy.specs.Within.{IsAssetWithin};
 ghost use Rattle.cf_serve.specs.Phase.{KeepsPlace, MayTurn, Phase, SeatDoes, StandsAs, listening_at, listening_of, listenings, phase_of};
-ghost use Rattle.cf_serve.specs.Served.{left_of};
+ghost use Rattle.cf_serve.specs.Failing.{MissesArrival, MissesRound, MissesRounds, MissesSeat, MissesStep, MissesTurns};
+ghost use Rattle.cf_serve.specs.Served.{HasMade, left_of};
 ghost use Rattle.cf_serve.specs.Rounds.{TurnOf, has_place};
 ghost use Rattle.cf_serve.specs.Table.{Arrive, IfWhole, IsTable, Keeps, MayLeave, RoundDoes, RoundsDo, StepDoes, TurnsDo, new_phase};
 ghost use Rattle.cf_serve.specs.Table.{seats_of};
@@ -72,6 +73,11 @@ fn turn_one<L: Service, D: Desk>(
         → StandsAs (listening_of terms.now) terms.now.most es own (Phase.linked (phase_of served.old))
         → SeatDoes (listening_of terms.now) terms.now.most es own (L.told links.old) (L.told links.new)
         (DeskValue.lines (D.value desk.old)) (DeskValue.lines (D.value desk.new)) (phase_of served.old) (phase_of served.new) stays) }
+    ensures breaks { OnErr result ((es : List Entry) (own : List (List ℕ))
+        → StandsAs (listening_of terms.now) terms.now.most es own (Phase.linked (phase_of served.old))
+        → MissesSeat (listening_of terms.now) terms.now.most es own (L.told links.old) (L.told links.new)
+        (DeskValue.lines (D.value desk.old)) (DeskValue.lines (D.value desk.new)) (DeskValue.line_part (D.value desk.new))
+        (Phase.seat (phase_of served.old))) }
     ensures may { IfOk result (λ stays. stays ≡ true
         → MayTurn (listening_of terms.now) terms.now.most (Phase.linked (phase_of served.new))) }
     ensures same { served.new ≡ record served.old { linked = served.new.linked } }
@@ -149,6 +155,11 @@ impl Table {
             → StepDoes (listenings places.now) most self.old.next past index (L.told links.old) (L.told links.new)
             (DeskValue.lines (D.value desk.old)) (DeskValue.lines (D.value desk.new))
             (map phase_of self.old.sessions.items) (map phase_of self.new.sessions.items) stays) }
+        ensures breaks { OnErr result ((past : List TurnOf)
+            → Keeps (listenings places.now) most self.old.next past (map phase_of self.old.sessions.items)
+            → MissesStep (listenings places.now) most past index (L.told links.old) (L.told links.new)
+            (DeskValue.lines (D.value desk.old)) (DeskValue.lines (D.value desk.new)) (DeskValue.line_part (D.value desk.new))
+            (map phase_of self.old.sessions.items) (map phase_of self.new.sessions.items)) }
         ensures room { vec_capacity self.new.sessions ≡ vec_capacity self.old.sessions }
         ensures len { IfOk result (λ stays. vec_len self.new.sessions + (if stays then 0 else 1) ≡ vec_len self.old.sessions) }
         ensures leave { OnErr result (MayLeave (LinksPlace.serves (L.place links.new)) self.new.next
@@ -196,6 +207,11 @@ impl Table {
             → Keeps (listenings places.now) most self.old.next past (map phase_of self.old.sessions.items)
             → TurnsDo (listenings places.now) most self.old.next past (L.told links.old) (L.told links.new)
             (DeskValue.lines (D.value desk.old)) (DeskValue.lines (D.value desk.new))
+            (map phase_of self.old.sessions.items) (map phase_of self.new.sessions.items)) }
+        ensures breaks { OnErr result ((past : List TurnOf)
+            → Keeps (listenings places.now) most self.old.next past (map phase_of self.old.sessions.items)
+            → MissesTurns (listenings places.now) most past (L.told links.old) (L.told links.new)
+            (DeskValue.lines (D.value desk.old)) (DeskValue.lines (D.value desk.new)) (DeskValue.line_part (D.value desk.new))
             (map phase_of self.old.sessions.items) (map phase_of self.new.sessions.items)) }
         ensures leave { OnErr result (MayLeave (LinksPlace.serves (L.place links.new)) self.new.next
             (map phase_of self.new.sessions.items)) }
@@ -252,6 +268,9 @@ impl Table {
         ensures does { OnOk result ((most : ℕ) → Arrive (listenings places.now) most moment place (place + 1) self.old.next self.new.next
             (L.told links.old) (L.told links.new) (DeskValue.lines (D.value desk.old)) (DeskValue.lines (D.value desk.new))
             (map phase_of self.old.sessions.items) (map phase_of self.new.sessions.items)) }
+        ensures breaks { OnErr result ((most : ℕ) → MissesArrival (listenings places.now) most moment place self.old.next self.new.next
+            (L.told links.old) (L.told links.new) (DeskValue.lines (D.value desk.old)) (DeskValue.lines (D.value desk.new))
+            (DeskValue.line_part (D.value desk.new)) (map phase_of self.old.sessions.items) (map phase_of self.new.sessions.items)) }
         ensures room { vec_capacity self.old.sessions ≤ vec_capacity self.new.sessions }
         ensures whole { OnOk result (DeskValue.whole (D.value desk.new) ≡ true) }
         ensures log { WritesLog (D.value desk.old) (D.value desk.new) }
@@ -311,6 +330,9 @@ impl Table {
         ensures does { OnOk result ((most : ℕ) → Arrive (listenings places.now) most moment 0 (length places.now) self.old.next
             self.new.next (L.told links.old) (L.told links.new) (DeskValue.lines (D.value desk.old)) (DeskValue.lines (D.value desk.new))
             (map phase_of self.old.sessions.items) (map phase_of self.new.sessions.items)) }
+        ensures breaks { OnErr result ((most : ℕ) → MissesArrival (listenings places.now) most moment 0 self.old.next self.new.next
+            (L.told links.old) (L.told links.new) (DeskValue.lines (D.value desk.old)) (DeskValue.lines (D.value desk.new))
+            (DeskValue.line_part (D.value desk.new)) (map phase_of self.old.sessions.items) (map phase_of self.new.sessions.items)) }
         ensures room { vec_capacity self.old.sessions ≤ vec_capacity self.new.sessions }
         ensures whole { OnOk result (DeskValue.whole (D.value desk.new) ≡ true) }
         ensures log { WritesLog (D.value desk.old) (D.value desk.new) }
@@ -345,6 +367,11 @@ impl Table {
             → RoundDoes (listenings places.now) most self.old.next self.new.next past (L.told links.old) (L.told links.new)
             (DeskValue.lines (D.value desk.old)) (DeskValue.lines (D.value desk.new))
             (map phase_of self.old.sessions.items) (map phase_of self.new.sessions.items)) }
+        ensures breaks { result ≡ Err ServeFault.Write → (past : List TurnOf)
+            → Keeps (listenings places.now) most self.old.next past (map phase_of self.old.sessions.items)
+            → MissesRound (listenings places.now) most self.old.next past (L.told links.old) (L.told links.new)
+            (DeskValue.lines (D.value desk.old)) (DeskValue.lines (D.value desk.new)) (DeskValue.line_part (D.value desk.new))
+            (map phase_of self.old.sessions.items) (map phase_of self.new.sessions.items) }
         ensures leave { OnErr result (MayLeave (LinksPlace.serves (L.place links.new)) self.new.next
             (map phase_of self.new.sessions.items)) }
         ensures room { vec_capacity self.old.sessions ≤ vec_capacity self.new.sessions }
@@ -391,11 +418,16 @@ impl Table {
         requires whole { DeskValue.whole (D.value desk.old) ≡ true }
         ensures table { IfWhole result (IsTable (listenings places.now) most (LinksPlace.serves (L.place links.new)) self.new.next
             (map phase_of self.new.sessions.items)) }
-        ensures does { IfWhole result ((past : List TurnOf)
+        ensures does { IfWhole result ((made : ℕ) × (HasMade result made × ((past : List TurnOf)
             → Keeps (listenings places.now) most self.old.next past (map phase_of self.old.sessions.items)
-            → RoundsDo (listenings places.now) most self.old.next self.new.next past (L.told links.old) (L.told links.new)
+            → RoundsDo (listenings places.now) most self.old.next self.new.next made past (L.told links.old) (L.told links.new)
             (DeskValue.lines (D.value desk.old)) (DeskValue.lines (D.value desk.new))
-            (map phase_of self.old.sessions.items) (map phase_of self.new.sessions.items)) }
+            (map phase_of self.old.sessions.items) (map phase_of self.new.sessions.items)))) }
+        ensures breaks { result ≡ Err ServeFault.Write → (made : ℕ) × ((made < 2 ^ 64 - 1) × ((past : List TurnOf)
+            → Keeps (listenings places.now) most self.old.next past (map phase_of self.old.sessions.items)
+            → MissesRounds (listenings places.now) most self.old.next made past (L.told links.old) (L.told links.new)
+            (DeskValue.lines (D.value desk.old)) (DeskValue.lines (D.value desk.new)) (DeskValue.line_part (D.value desk.new))
+            (map phase_of self.old.sessions.items) (map phase_of self.new.sessions.items))) }
         ensures leave { MayLeave (LinksPlace.serves (L.place links.new)) self.new.next (map phase_of self.new.sessions.items) }
         ensures log { WritesLog (D.value desk.old) (D.value desk.new) }
         ensures write { HasCause (DeskValue.faults (D.value desk.old)) (DeskValue.faults (D.value desk.new))
@@ -404,7 +436,8 @@ impl Table {
             (result ≡ Err ServeFault.Loop) }
         ensures memory { result ≡ Err ServeFault.NoMemory → ⊥ }
     {
-        for _ in 0..u64::MAX {
+        // The fact: as many rounds were made as this says.
+        for _made in 0..u64::MAX {
             match self.round(alloc, places, most, links, desk) {
                 Ok(()) => {}
                 Err(fault) => return Err(fault),

@@ -9,7 +9,8 @@ ghost use Rattle.cf_outside.specs.Files.{KeepsOthers, content_gone_on};
 ghost use Rattle.cf_outside.specs.Lines.{file_lines};
 ghost use Rattle.cf_outside.specs.Pair.{FaultsBy};
 ghost use Rattle.cf_policy.specs.Within.{IsAssetWithin};
-ghost use Rattle.cf_serve.specs.Served.{OpensDo, Serves};
+ghost use Rattle.cf_serve.specs.Broken.{Breaks, BreaksLog};
+ghost use Rattle.cf_serve.specs.Served.{HasMade, OpensDo, Serves};
 ghost use Rattle.cf_serve.specs.Table.{IfWhole};
 ghost use Rattle.cf_serve.specs.declared.table.Place.{Place as PlaceOf};
 
@@ -35,6 +36,8 @@ fn open_places<L: Service, D: Desk>(
         (DeskValue.lines (D.value desk.old)) (DeskValue.lines (D.value desk.new))) }
     ensures does { IfWhole result ((count : ℕ) × OpensDo places.now count (L.told links.old) (L.told links.new)
         (DeskValue.lines (D.value desk.old)) (DeskValue.lines (D.value desk.new))) }
+    ensures breaks { result ≡ Err ServeFault.Write → (most : ℕ) → Breaks places.now most (L.told links.old) (L.told links.new)
+        (DeskValue.lines (D.value desk.old)) (DeskValue.lines (D.value desk.new)) (DeskValue.line_part (D.value desk.new)) }
     ensures whole { OnOk result (DeskValue.whole (D.value desk.new) ≡ true) }
     ensures log { WritesLog (D.value desk.old) (D.value desk.new) }
     ensures write { HasCause (DeskValue.faults (D.value desk.old)) (DeskValue.faults (D.value desk.new))
@@ -60,8 +63,8 @@ fn open_places<L: Service, D: Desk>(
 /// Serves the clients that come at some places, each session between its client and the controller of its asset, until a line of the
 /// log fails, or a place cannot be listened at, or the wait fails, or 2^64 - 1 rounds were made. Each line goes to the desk as it comes.
 /// A session in which nothing moves goes after twice `seconds` answers `Idle` of its own in a row. At most 256 sessions stand, and 32 of
-/// one place. `seconds` is from 1 to 1,000,000; there are at most 256 places. Sessions that still stand are left as it stops; where a
-/// line failed no clause says how far it came. This project's own.
+/// one place. `seconds` is from 1 to 1,000,000; there are at most 256 places. Sessions that still stand are left as it stops; behind a
+/// line that failed nothing else is done. This project's own.
 pub fn serve_desk<L: Service, D: Desk>(
     alloc: Global,
     places: &[Place<'_>],
@@ -74,8 +77,10 @@ pub fn serve_desk<L: Service, D: Desk>(
     requires seconds { (1 ≤ seconds) × (seconds ≤ 1000000) }
     requires free { (session : ℕ) → LinksPlace.serves (L.place links.old) session ≡ false }
     requires whole { DeskValue.whole (D.value desk.old) ≡ true }
-    ensures serves { IfWhole result (Serves places.now (2 * seconds) (L.told links.old) (L.told links.new)
+    ensures serves { IfWhole result (Serves places.now (2 * seconds) (HasMade result) (L.told links.old) (L.told links.new)
         (DeskValue.lines (D.value desk.old)) (DeskValue.lines (D.value desk.new))) }
+    ensures breaks { result ≡ Err ServeFault.Write → Breaks places.now (2 * seconds) (L.told links.old) (L.told links.new)
+        (DeskValue.lines (D.value desk.old)) (DeskValue.lines (D.value desk.new)) (DeskValue.line_part (D.value desk.new)) }
     ensures log { WritesLog (D.value desk.old) (D.value desk.new) }
     ensures write { HasCause (DeskValue.faults (D.value desk.old)) (DeskValue.faults (D.value desk.new))
         (result ≡ Err ServeFault.Write) }
@@ -113,14 +118,17 @@ pub fn serve<L: Service, F: Files>(
     requires within { AllByRecursion (λ place. IsAssetWithin (PlaceOf.asset place).now) places.now }
     requires seconds { (1 ≤ seconds) × (seconds ≤ 1000000) }
     requires free { (session : ℕ) → LinksPlace.serves (L.place links.old) session ≡ false }
-    ensures serves { IfWhole result (Serves places.now (2 * seconds) (L.told links.old) (L.told links.new)
+    ensures serves { IfWhole result (Serves places.now (2 * seconds) (HasMade result) (L.told links.old) (L.told links.new)
         (file_lines (content_gone_on (F.content files.old log.now))) (file_lines (F.content files.new log.now))) }
+    ensures breaks { result ≡ Err ServeFault.Write → BreaksLog places.now (2 * seconds) (L.told links.old) (L.told links.new)
+        (F.content files.old log.now) (F.content files.new log.now) }
     ensures write { HasCause (F.write_faults files.old) (F.write_faults files.new) (result ≡ Err ServeFault.Write) }
     ensures reads { F.read_faults files.new ≡ F.read_faults files.old }
     ensures others { KeepsOthers log.now (F.content files.old) (F.content files.new) }
     ensures loops { FaultsBy (LinksPlace.round_faults (L.place links.old)) (LinksPlace.round_faults (L.place links.new))
         (result ≡ Err ServeFault.Loop) }
-    ensures memory { result ≡ Err ServeFault.NoMemory → L.told links.new ≡ L.told links.old }
+    ensures memory { result ≡ Err ServeFault.NoMemory → (L.told links.new ≡ L.told links.old)
+        × (F.content files.new log.now ≡ content_gone_on (F.content files.old log.now)) }
 {
     match files.go_on(log) {
         WriteAnswer::Done => {}

@@ -19,6 +19,9 @@ usage:
   cmdwall relay POLICY ASSET PORT IDLES LOG
       stands between one client, which comes to PORT of this machine, and the controller of
       ASSET: what the policy refuses is answered and does not go on
+  cmdwall serve POLICY SECONDS LOG NAME=A.B.C.D:PORT..
+      serves the clients that come to each place, until it is ended: each is a relay to the
+      controller of the asset NAME
   cmdwall world SEED SESSIONS POLICY CAPTURE OUT LOG
       makes a policy and a capture of many sessions from a number, and runs the one over the
       other
@@ -49,7 +52,8 @@ usage:
 
 CLIENT is an IPv4 address, as 10.0.0.5. POLICY and OTHER are texts in the policy language
 (docs/POLICY.md). CAPTURE is a pcap or pcapng file, of Ethernet or raw IP. OUT, REPLIES and
-LOG are created, by world POLICY and CAPTURE too; all names of files differ.
+LOG are created, by world POLICY and CAPTURE too; serve goes on with LOG. All names of files
+differ.
 
 status:
    0  the work was done to the end of its input
@@ -63,7 +67,8 @@ status:
       header, 11 an interface, 12 a unit of time; and for judge, review and learn 8 more than
       67,108,864 bytes
    7  the capture ends inside the record or the block that begins at the printed place
-   8  the port, the client or the controller of a relay failed
+   8  the port, the client or the controller of a relay failed; or a place of serve cannot be
+      listened at, or its wait or clock failed
    9  so many turns of a relay came in which nothing moved that it ended
   10  the policy has no asset of that name
   12  a stream is cut, for the printed reason
@@ -294,6 +299,30 @@ example:
   cmdwall relay examples/pump.toml pump 5020 12000 log.txt
 ";
 
+const SERVE: &str = "\
+cmdwall serve POLICY SECONDS LOG NAME=A.B.C.D:PORT..
+
+serves clients until it is ended: each that comes to a place gets a session of its own with the
+controller of the asset, as in relay (docs/SERVE.md)
+
+  POLICY   a text in the policy language (docs/POLICY.md)
+  SECONDS  after about how long a session in which nothing moves ends, 1 to 1000000; it takes
+           twice as long once one side has ended
+  LOG      is gone on with, and made where it is not there; it gets a line as each session
+           begins and ends, and for each refused command (docs/LOG.md)
+  NAME=A.B.C.D:PORT
+           an asset of the policy, and an address and a port of this machine at which its
+           clients come; 0.0.0.0 is every address. One to 256 such words, no asset and no place
+           twice
+
+At most 256 sessions stand at a time, and 32 of one asset; further clients wait. A line that
+cannot be appended ends the service, so that no command passes without its line. Standard error
+has where it listens, and what the system said of each connection that failed.
+
+example:
+  cmdwall serve examples/pump.toml 60 log.txt pump=127.0.0.1:5020
+";
+
 const WORLD: &str = "\
 cmdwall world SEED SESSIONS POLICY CAPTURE OUT LOG
 
@@ -338,6 +367,7 @@ pub enum Topic {
     Review,
     Run,
     Relay,
+    Serve,
     World,
 }
 
@@ -392,6 +422,7 @@ fn topic_of(word: &str) -> Option<Topic> {
         "review" => Some(Topic::Review),
         "run" => Some(Topic::Run),
         "relay" => Some(Topic::Relay),
+        "serve" => Some(Topic::Serve),
         "world" => Some(Topic::World),
         _ => None,
     }
@@ -415,6 +446,7 @@ pub fn print_topic(rt: &impl Print, topic: Topic) -> io::Result<()> {
         Topic::Review => REVIEW,
         Topic::Run => RUN,
         Topic::Relay => RELAY,
+        Topic::Serve => SERVE,
         Topic::World => WORLD,
     };
     print!(rt; "{text}")

@@ -3,21 +3,18 @@
 
 mod help;
 mod remark;
+mod service;
 mod why;
 
 use crate::help::{Asked, print_help, print_topic, print_version, question_of};
+use crate::service::{is_service, serve};
 use crate::why::{expect_files, explain};
+use cf_box::status::{NO_MEMORY, WRITE_FAULT};
 use cf_box::{Command, box_main, read_words};
 use cf_machine::{Gather, LinkPair, RealFiles, RealSink};
 use std::env::Env;
 use std::process::ExitCode;
 use std::{env, io};
-
-/// The status where memory ran out.
-const NO_MEMORY: u8 = 13;
-
-/// The status where something could not be written.
-const WRITE_FAULT: u8 = 4;
 
 fn main(rt: HostRuntime) -> ExitCode {
     let words = match words_of(&rt) {
@@ -33,6 +30,9 @@ fn main(rt: HostRuntime) -> ExitCode {
         Asked::HelpOf(topic) => return printed(print_topic(&rt, topic)),
         Asked::Version => return printed(print_version(&rt)),
         Asked::Work => {}
+    }
+    if is_service(&words) {
+        return serve(&rt, &words);
     }
     let command = read_words(&words);
     // People follow the log of a relay.

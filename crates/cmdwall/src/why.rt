@@ -5,6 +5,10 @@ ghost use Rattle.cf_policy.specs.Within.{IsWithin};
 use crate::remark::{
     remark_on_dropped, remark_on_learned, remark_on_no_review, remark_on_nothing, remark_on_run,
 };
+use cf_box::status::{
+    CAPTURE_CUT, CAPTURE_REFUSED, DENIED, DONE, IDLE_END, LINK_FAULT, NO_MEMORY, POLICY_REFUSED,
+    READ_FAULT, STREAM_CUT, TOO_MANY_CELLS, TOO_MANY_RULES, UNKNOWN_ASSET, WRITE_FAULT,
+};
 use cf_box::{Command, read_words};
 use cf_explain::{
     PolicyFile, asset_message, capture_message, inclusion_message, outputs_message, policy_message,
@@ -26,12 +30,6 @@ const TOO_LONG: PolicyRefusal = PolicyRefusal {
     asset: 0,
     rule: 0,
 };
-
-/// The status where memory ran out.
-const NO_MEMORY: u8 = 13;
-
-/// The status of a relay whose streams failed.
-const LINK_FAULT: u8 = 8;
 
 /// The files that a command reads; an empty name stands for none.
 fn inputs_of<'a>(command: &Command<'a>) -> [&'a str; 2] {
@@ -103,14 +101,14 @@ pub fn explain<R: FileSystem + Eprint + AllocGlobal>(
 ) {
     let _ = match read_words(words) {
         Some(_) if status == LINK_FAULT => explain_link(rt, link),
-        Some(command) if status == 0 => remark(rt, &command, printed, files),
+        Some(command) if status == DONE => remark(rt, &command, printed, files),
         Some(command) => explain_command(rt, &command, status, files),
         None => explain_words(rt, words),
     };
 }
 
 /// Which word is wrong, and how the words have to be.
-fn explain_words<R: Eprint + AllocGlobal>(rt: &R, words: &[String]) -> io::Result<()> {
+pub(crate) fn explain_words<R: Eprint + AllocGlobal>(rt: &R, words: &[String]) -> io::Result<()> {
     let message = words_message(rt.alloc(), words)?;
     eprintln!(rt; "cmdwall: {message}")
 }
@@ -154,18 +152,18 @@ fn explain_command<R: FileSystem + Eprint + AllocGlobal>(
     files: &mut RealFiles<'_, R>,
 ) -> io::Result<()> {
     match status {
-        3 => explain_fault(rt, files),
-        4 => {
+        READ_FAULT => explain_fault(rt, files),
+        WRITE_FAULT => {
             explain_fault(rt, files)?;
             explain_outputs(rt, command, files)
         }
-        5 => explain_refused(rt, command, files),
-        6 | 7 => explain_bad_capture(rt, command, status, files),
+        POLICY_REFUSED => explain_refused(rt, command, files),
+        CAPTURE_REFUSED | CAPTURE_CUT => explain_bad_capture(rt, command, status, files),
         NO_MEMORY => {
             explain_status(rt, status)?;
             explain_outputs(rt, command, files)
         }
-        10 | 15 | 17 => explain_denial(rt, command, files),
+        UNKNOWN_ASSET | DENIED | TOO_MANY_CELLS => explain_denial(rt, command, files),
         _ => explain_status(rt, status),
     }
 }
@@ -188,7 +186,7 @@ fn explain_refused<R: FileSystem + Eprint + AllocGlobal>(
     Ok(())
 }
 
-/// Why a capture is refused, with status 6, or where it is cut, with 7.
+/// Why a capture is refused, or where it is cut.
 fn explain_bad_capture<R: FileSystem + Eprint + AllocGlobal>(
     rt: &R,
     command: &Command<'_>,
@@ -202,7 +200,7 @@ fn explain_bad_capture<R: FileSystem + Eprint + AllocGlobal>(
         Command::Judge { capture, .. }
         | Command::Learn { capture, .. }
         | Command::Review { capture, .. }
-            if status == 6 => explain_watched(rt, capture, files),
+            if status == CAPTURE_REFUSED => explain_watched(rt, capture, files),
         Command::Judge { capture, .. }
         | Command::Learn { capture, .. }
         | Command::Review { capture, .. }
@@ -229,10 +227,10 @@ fn explain_denial<R: FileSystem + Eprint + AllocGlobal>(
 /// What a status says by itself, if it says something.
 fn explain_status<R: Eprint>(rt: &R, status: u8) -> io::Result<()> {
     let words = match status {
-        9 => "nothing came for so long that the relay ended; the log has what came before",
-        12 => "the stream is cut; the outputs have what came before the cut",
+        IDLE_END => "nothing came for so long that the relay ended; the log has what came before",
+        STREAM_CUT => "the stream is cut; the outputs have what came before the cut",
         NO_MEMORY => "memory ran out",
-        16 =>
+        TOO_MANY_RULES =>
             "the asset would have more than 1,024 rules; a capture of fewer clients and acts has fewer",
         _ => return Ok(()),
     };
@@ -240,7 +238,10 @@ fn explain_status<R: Eprint>(rt: &R, status: u8) -> io::Result<()> {
 }
 
 /// Why an output was withheld, or the file that failed and what the system said.
-fn explain_fault<R: FileSystem + Eprint>(rt: &R, files: &RealFiles<'_, R>) -> io::Result<()> {
+pub(crate) fn explain_fault<R: FileSystem + Eprint>(
+    rt: &R,
+    files: &RealFiles<'_, R>,
+) -> io::Result<()> {
     if let Some(withheld) = files.withheld() {
         return explain_withheld(rt, withheld);
     }
@@ -322,7 +323,7 @@ fn policy_of<'a>(command: &Command<'a>) -> Option<&'a str> {
 }
 
 /// Why a policy is refused, and whether it is. A pipe cannot be read a second time, so no more is said of it.
-fn explain_policy<R: FileSystem + Eprint + AllocGlobal>(
+pub(crate) fn explain_policy<R: FileSystem + Eprint + AllocGlobal>(
     rt: &R,
     name: &str,
     files: &mut RealFiles<'_, R>,

@@ -15,7 +15,7 @@ ghost use Rattle.cf_lane.specs.Kept.{of_side};
 
 use crate::dnp3::judge::judge_fragment;
 use crate::dnp3::recut::push_fragment;
-use crate::fate::{Fate, Refusal};
+use crate::fate::{Fate, Judgement, Refusal};
 use crate::log::{log_refusal, log_stray};
 use crate::rules::Rules;
 use crate::wire::Fragments;
@@ -145,14 +145,13 @@ impl Fragments {
             log_stray(asset, client, moment, Side::Client, Why::Short, desk)?;
             return Ok(Fate::Stray(Why::Short));
         }
-        let fate = judge_fragment(asset, rules, moment, &octets);
-        match fate {
-            Fate::Refused(refusal) => {
+        match judge_fragment(asset, rules, moment, &octets) {
+            Some(Judgement::Refused(refusal)) => {
                 let replied = reply(asset, &octets, &refusal, &mut self.to_client, to_client);
                 log_refusal(asset, client, moment, &refusal, replied, octets, desk)?;
-                Ok(fate)
+                Ok(Fate::Refused(refusal))
             }
-            Fate::Carried | Fate::Admitted(_) => {
+            Some(Judgement::Admitted(used)) => {
                 self.to_controller = push_fragment(
                     asset,
                     Side::Controller,
@@ -160,9 +159,18 @@ impl Fragments {
                     self.to_controller,
                     to_controller,
                 );
-                Ok(fate)
+                Ok(Fate::Admitted(used))
             }
-            Fate::Stray(_) | Fate::Lengthens | Fate::Cuts(_) => Ok(fate),
+            None => {
+                self.to_controller = push_fragment(
+                    asset,
+                    Side::Controller,
+                    &octets,
+                    self.to_controller,
+                    to_controller,
+                );
+                Ok(Fate::Carried)
+            }
         }
     }
 

@@ -15,6 +15,7 @@ ghost use Rattle.cf_lane.specs.Unit.{frame_spelling};
 
 use crate::dnp3::served::{is_data, stray_of};
 use crate::fate::Fate;
+use crate::lane::push_octets;
 use crate::log::log_stray;
 use crate::rules::Rules;
 use crate::wire::Fragments;
@@ -95,18 +96,7 @@ fn pass_on(side: Side, octets: &View<'_>, to_client: &mut Outq, to_controller: &
     ensures controller { to_controller.new ≡ after_push to_controller.old (if is_side Side.Controller side then [] else octets.now.bytes) }
 {
     match side {
-        Side::Client => push_view(octets, to_controller),
-        Side::Controller => push_view(octets, to_client),
+        Side::Client => push_octets(octets, to_controller),
+        Side::Controller => push_octets(octets, to_client),
     }
-}
-
-/// Puts octets into a queue.
-fn push_view(octets: &View<'_>, queue: &mut Outq)
-    requires open { queue.old.ended ≡ false }
-    requires room { HasRoom (length octets.now.bytes) queue.old }
-    ensures { queue.new ≡ after_push queue.old octets.now.bytes }
-{
-    let (first, second) = octets.pieces();
-    queue.push(first);
-    queue.push(second);
 }

@@ -1,4 +1,4 @@
-//! The fate of a client's fragment.
+//! What becomes of a client's fragment.
 ghost use Rattle.std.specs.Prelude.{◌≡◌, ◌≢◌, ◌≤◌, ℕ, if◌then◌else◌, length, nat_eq};
 ghost use Rattle.cf_dnpobj.specs.Acts.{acts};
 ghost use Rattle.cf_dnpobj.specs.Fragment.{fragment_value};
@@ -7,31 +7,41 @@ ghost use Rattle.cf_lane.specs.Rings.{IsRulesOf, says_by};
 ghost use Rattle.cf_lane.specs.Acts.{fate_of_acts};
 ghost use Rattle.cf_lane.specs.Dnp3.{IsOfFragment, fate_of_fragment, form_reason};
 ghost use Rattle.cf_lane.specs.Fate.{HasOwnDecider};
+ghost use Rattle.cf_lane.specs.Judgement.{fate_or_carried};
+ghost use Rattle.cf_lane.specs.declared.fate.Fate.{Fate};
 
-use crate::fate::{Fate, judge_acts, refused};
+use crate::fate::{Judgement, judge_acts, refused};
 use crate::rules::Rules;
 use cf_dnpobj::{Fragment, FragmentRefusal, act_at, act_count, read_fragment};
 use cf_policy::{Asset, Decider};
 use cf_view::{Reason, Side, View};
 
-/// The fate of a fragment of 2 to 2,048 octets of the client of the index: a confirmation goes on, and every other one is a
-/// command. Its form is read, then each act is judged in its order; the first that is not allowed decides. This project's own
-/// order.
-pub(crate) fn judge_fragment(asset: &Asset, rules: &Rules, moment: u64, octets: &View<'_>) -> Fate
+/// The function code of a confirmation. IEEE 1815-2012, section 4.4.
+const CONFIRM: u8 = 0;
+
+/// What becomes of a fragment of 2 to 2,048 octets of the client of the index: none for a confirmation, which is no command and
+/// goes on. Of every other one the form is read, then each act is judged in its order; the first that is not allowed decides. This
+/// project's own order.
+pub(crate) fn judge_fragment(
+    asset: &Asset,
+    rules: &Rules,
+    moment: u64,
+    octets: &View<'_>,
+) -> Option<Judgement>
     requires at_least { 2 ≤ length octets.now.bytes }
     requires at_most { length octets.now.bytes ≤ 2048 }
     requires few { length rules.now.rings.items ≤ most_rated }
-    ensures fate { (client : ℕ) → IsRulesOf asset.now client rules.now → result ≡ fate_of_fragment asset.now (says_by asset.now client rules.now moment) Side.Client octets.now.bytes }
-    ensures decider { HasOwnDecider asset.now.rules result }
-    ensures fragment { (client : ℕ) → IsRulesOf asset.now client rules.now → IsOfFragment result }
+    ensures fate { (client : ℕ) → IsRulesOf asset.now client rules.now → fate_or_carried result ≡ fate_of_fragment asset.now (says_by asset.now client rules.now moment) Side.Client octets.now.bytes }
+    ensures decider { HasOwnDecider asset.now.rules (fate_or_carried result) }
+    ensures fragment { (client : ℕ) → IsRulesOf asset.now client rules.now → IsOfFragment (fate_or_carried result) }
 {
     match read_fragment(octets.sub(0, octets.len())) {
-        Err(refusal) => refused(
+        Err(refusal) => Some(refused(
             Decider::Form,
             form_reason(&refusal),
             u16::from(octets.at(1)),
             0,
-        ),
+        )),
         Ok(fragment) => judge_request(asset, rules, moment, &fragment),
     }
 }
@@ -49,22 +59,27 @@ fn form_reason(refusal: &FragmentRefusal) -> Reason
     }
 }
 
-/// The fate of a request whose form was read.
-fn judge_request(asset: &Asset, rules: &Rules, moment: u64, fragment: &Fragment<'_>) -> Fate
+/// What becomes of a fragment whose form was read.
+fn judge_request(
+    asset: &Asset,
+    rules: &Rules,
+    moment: u64,
+    fragment: &Fragment<'_>,
+) -> Option<Judgement>
     requires at_most { length fragment.now.objects.bytes ≤ 2046 }
     requires few { length rules.now.rings.items ≤ most_rated }
-    ensures fate { (client : ℕ) → IsRulesOf asset.now client rules.now → result ≡ (if nat_eq fragment.now.code 0 then Fate.Carried else fate_of_acts asset.now (says_by asset.now client rules.now moment) (acts (fragment_value fragment.now))) }
-    ensures decider { HasOwnDecider asset.now.rules result }
-    ensures fragment { (client : ℕ) → IsRulesOf asset.now client rules.now → IsOfFragment result }
+    ensures fate { (client : ℕ) → IsRulesOf asset.now client rules.now → fate_or_carried result ≡ (if nat_eq fragment.now.code 0 then Fate.Carried else fate_of_acts asset.now (says_by asset.now client rules.now moment) (acts (fragment_value fragment.now))) }
+    ensures decider { HasOwnDecider asset.now.rules (fate_or_carried result) }
+    ensures fragment { (client : ℕ) → IsRulesOf asset.now client rules.now → IsOfFragment (fate_or_carried result) }
 {
-    if fragment.code == 0 {
-        return Fate::Carried;
+    if fragment.code == CONFIRM {
+        return None;
     }
-    judge_acts(
+    Some(judge_acts(
         asset,
         rules,
         moment,
         act_count(fragment),
         |i| act_at(fragment, i),
-    )
+    ))
 }

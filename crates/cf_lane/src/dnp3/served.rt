@@ -12,6 +12,8 @@ use cf_view::Side;
 const DIRECTION: u8 = 0x80;
 /// PRM of a link control octet.
 const PRIMARY: u8 = 0x40;
+/// How many link function codes there are: the low bits of a link control octet. IEEE 1815-2012, section 9.2.4.1.
+const FUNCTION_CODES: u8 = 16;
 /// The link function code of unconfirmed user data, where PRM is set.
 const DATA: u8 = 4;
 /// That of a request for link status, where PRM is set.
@@ -77,7 +79,7 @@ fn is_primary(frame: &Frame<'_>) -> bool
 fn link_code(frame: &Frame<'_>) -> u8
     ensures { result ≡ link_code (frame_value frame.now) }
 {
-    frame.control % 16
+    frame.control % FUNCTION_CODES
 }
 
 /// Whether a frame asks for the status of the link, or tells it.

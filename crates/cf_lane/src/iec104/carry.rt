@@ -1,6 +1,6 @@
 //! APDUs that are carried: those of format U and S, and the I frames of a controller.
 ghost use Rattle.std.specs.Prelude.{◌≡◌, ◌≤◌, ◌+◌, ◌++◌, None, Some, Option, List, length, true, false, ℕ};
-ghost use Rattle.cf_apci.specs.Apdu.{Ack, Control, Info, is_control};
+ghost use Rattle.cf_apci.specs.Apdu.{Ack, Control, Info, spelling};
 ghost use Rattle.cf_outq.specs.SendQueue.{Queue};
 ghost use Rattle.cf_lane.specs.Handled.{Grows, HasRoom, IsOpen};
 ghost use Rattle.cf_lane.specs.Numbers.{control_event, number_cut};
@@ -13,6 +13,7 @@ ghost use Rattle.cf_view.specs.declared.Endpoint.{Endpoint};
 
 use crate::fate::Fate;
 use crate::iec104::push::{push_apdu, push_info};
+use crate::lane::push_octets;
 use cf_apci::Apdu;
 use cf_audit::CutReason;
 use cf_outq::Outq;
@@ -50,16 +51,17 @@ fn note_control(numbers: &mut Numbers, octet: u8)
     }
 }
 
-/// Carries a U frame, and notes where the client starts or stops its transfer of data.
+/// Carries a U frame, which has these octets, and notes where the client starts or stops its transfer of data.
 pub(crate) fn carry_control(
     numbers: &mut Numbers,
     side: Side,
     octet: u8,
+    octets: View<'_>,
     to_client: &mut Outq,
     to_controller: &mut Outq,
 ) -> Fate
     requires idle { numbers.old.owed ≡ None }
-    requires control { is_control octet ≡ true }
+    requires octets { octets.bytes ≡ spelling (Control octet) }
     requires open { IsOpen side to_client.old to_controller.old }
     requires client_room { HasRoom 6 to_client.old }
     requires controller_room { HasRoom 6 to_controller.old }
@@ -73,11 +75,11 @@ pub(crate) fn carry_control(
     match side {
         Side::Client => {
             note_control(numbers, octet);
-            push_apdu(&Apdu::Control(octet), to_controller);
+            push_octets(&octets, to_controller);
             Fate::Carried
         }
         Side::Controller => {
-            push_apdu(&Apdu::Control(octet), to_client);
+            push_octets(&octets, to_client);
             Fate::Carried
         }
     }

@@ -11,9 +11,9 @@ ghost use Rattle.cf_lane.specs.Rings.{IsRulesOf, says_by};
 ghost use Rattle.cf_policy.specs.Within.{IsAssetWithin};
 ghost use Rattle.cf_renumber.specs.Numbers.{IsSmall};
 
-use crate::fate::Fate;
+use crate::fate::{Fate, Judgement};
 use crate::iec104::carry::number_cut;
-use crate::iec104::judge::judge_asdu;
+use crate::iec104::judge::{SHORTEST, judge_asdu};
 use crate::iec104::push::{push_ack, push_info, push_mirror};
 use crate::log::log_refusal;
 use crate::rules::Rules;
@@ -23,9 +23,6 @@ use cf_outside::Desk;
 use cf_policy::Asset;
 use cf_renumber::{Numbers, RefusedStamp};
 use cf_view::{Endpoint, Side, View, WriteFault};
-
-/// The fewest octets of an ASDU that has a mirror.
-const SHORTEST: usize = 9;
 
 /// Whether a refused ASDU is answered by its mirror: it has nine octets or more, and the stream to the client goes on.
 fn has_mirror(asdu: &View<'_>, to_client: &Outq) -> bool
@@ -100,20 +97,18 @@ pub(crate) fn take_command<D: Desk>(
     if let Err(refusal) = numbers.from_client(send, receive) {
         return Ok(Fate::Cuts(number_cut(Side::Client, refusal)));
     }
-    let fate = judge_asdu(asset, rules, moment, asdu);
-    match &fate {
-        Fate::Admitted(_) => {
+    match judge_asdu(asset, rules, moment, asdu) {
+        Judgement::Admitted(used) => {
             let stamp = numbers.admitted();
             push_info(&stamp, asdu, to_controller);
-            Ok(fate)
+            Ok(Fate::Admitted(used))
         }
-        Fate::Refused(refusal) => {
+        Judgement::Refused(refusal) => {
             let replied = has_mirror(asdu, to_client);
             let stamp = numbers.refused(replied);
             push_refused(&stamp, asdu, to_client, to_controller);
-            log_refusal(asset, client, moment, refusal, replied, octets, desk)?;
-            Ok(fate)
+            log_refusal(asset, client, moment, &refusal, replied, octets, desk)?;
+            Ok(Fate::Refused(refusal))
         }
-        Fate::Carried | Fate::Stray(_) | Fate::Lengthens | Fate::Cuts(_) => unreachable!(),
     }
 }

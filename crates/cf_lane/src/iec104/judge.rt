@@ -1,28 +1,28 @@
-//! The fate of a client's ASDU.
+//! What becomes of a client's ASDU.
 ghost use Rattle.std.specs.Prelude.{◌≡◌, ◌≤◌, length, slice_index, ℕ};
-ghost use Rattle.cf_lane.specs.Fate.{HasOwnDecider, IsOfCommand};
+ghost use Rattle.cf_lane.specs.Fate.{HasOwnDecider};
 ghost use Rattle.cf_lane.specs.Iec104.{fate_of_asdu};
+ghost use Rattle.cf_lane.specs.Judgement.{fate_of_judgement};
 ghost use Rattle.cf_policy.specs.Within.{most_rated};
 ghost use Rattle.cf_lane.specs.Rings.{IsRulesOf, says_by};
 
-use crate::fate::{Fate, judge_acts, refused};
+use crate::fate::{Judgement, judge_acts, refused};
 use crate::lane::after;
 use crate::rules::Rules;
 use cf_asdu::{AsduRefusal, act_at, act_count, read_asdu, station_of};
 use cf_policy::{Asset, Decider};
 use cf_view::{Reason, View};
 
-/// The fewest octets of an ASDU with an information object.
-const SHORTEST: usize = 9;
+/// The fewest octets of an ASDU with an information object. One that is refused has a mirror.
+pub(crate) const SHORTEST: usize = 9;
 
-/// The fate of a client's ASDU. Whether it is too short is tested first, then the station is compared, then the rest of its form
+/// What becomes of a client's ASDU. Whether it is too short is tested first, then the station is compared, then the rest of its form
 /// is read, then each act is judged in its order; the first that is not allowed decides. This project's own order.
-pub(crate) fn judge_asdu(asset: &Asset, rules: &Rules, moment: u64, octets: &View<'_>) -> Fate
+pub(crate) fn judge_asdu(asset: &Asset, rules: &Rules, moment: u64, octets: &View<'_>) -> Judgement
     requires at_most { length octets.now.bytes ≤ 249 }
     requires few { length rules.now.rings.items ≤ most_rated }
-    ensures fate { (client : ℕ) → IsRulesOf asset.now client rules.now → result ≡ fate_of_asdu asset.now (says_by asset.now client rules.now moment) octets.now.bytes }
-    ensures decider { HasOwnDecider asset.now.rules result }
-    ensures command { IsOfCommand result }
+    ensures fate { (client : ℕ) → IsRulesOf asset.now client rules.now → fate_of_judgement result ≡ fate_of_asdu asset.now (says_by asset.now client rules.now moment) octets.now.bytes }
+    ensures decider { HasOwnDecider asset.now.rules (fate_of_judgement result) }
 {
     if octets.len() < SHORTEST {
         return refused(

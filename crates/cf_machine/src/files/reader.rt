@@ -4,7 +4,7 @@ ghost use Rattle.std.specs.Prelude.{◌≤◌, IfOk, length};
 use std::alloc::Global;
 use std::fs::{OpenFile, OpenOptions};
 use std::io;
-use std::io::{BufReader, Read, Seek, SeekFrom};
+use std::io::{BufRead, BufReader, Read, Seek, SeekFrom};
 use std::rt::Files as FileSystem;
 
 /// How many bytes are read ahead at most.
@@ -21,13 +21,24 @@ pub(crate) struct Reader<F: Drop> {
 }
 
 impl<F: Read + Drop> Reader<F> {
-    /// Whether it is the file of this name, stands at this place, and has octets that were read ahead.
-    pub(crate) fn is_ahead(&self, name: &str, at: u64) -> bool {
-        self.at == at && !self.file.buffer().is_empty() && self.name.as_str() == name
+    /// Gives octets that were read ahead, if it is the file of this name and stands at this place; how many, which is 0 where it is
+    /// not so, or there are none.
+    pub(crate) fn take_ahead(&mut self, name: &str, at: u64, buf: &mut [u8]) -> usize
+        ensures { result ≤ length buf.new }
+    {
+        if self.at != at || self.name.as_str() != name {
+            return 0;
+        }
+        let ahead = self.file.buffer();
+        let count = ahead.len().min(buf.len());
+        buf[..count].copy_from_slice(&ahead[..count]);
+        self.file.consume(count);
+        self.at = self.at.saturating_add(count as u64);
+        count
     }
 
     /// Reads on from where it stands.
-    pub(crate) fn read_on(&mut self, buf: &mut [u8]) -> io::Result<usize>
+    fn read_on(&mut self, buf: &mut [u8]) -> io::Result<usize>
         ensures { IfOk result (λ n. n ≤ length buf.new) }
     {
         let count = self.file.read(buf)?;

@@ -30,6 +30,13 @@ impl<F: Write + Drop> Writer<F> {
         written
     }
 
+    /// Holds bytes, if it is the file of this name and they fit beside what is held; whether it does.
+    pub(crate) fn hold(&mut self, name: &str, bytes: &[u8]) -> bool {
+        bytes.len() < PIECE - self.held.len().min(PIECE)
+            && self.name.as_str() == name
+            && self.held.extend_from_slice(bytes).is_ok()
+    }
+
     /// Holds bytes, or writes what is held and then them.
     fn append(&mut self, gather: Gather, bytes: &[u8]) -> io::Result<()> {
         if gather == Gather::Nothing {

@@ -1,5 +1,6 @@
 use Rattle.std.proofs.Common.{rules, ◌≡◌, ◌∙◌, ◌∷◌, [], ap, refl, sym}
 use Rattle.cf_lane.specs.Acts.{fate_of_acts}
+use Rattle.cf_lane.specs.Judgement.{fate_of_judgement}
 use Rattle.cf_lane.specs.Rings.{says_by}
 use Rattle.cf_modbus.specs.Request.{request_value}
 use Rattle.cf_lane.specs.Modbus.{of_no_form, of_its_acts}
@@ -8,7 +9,8 @@ use Rattle.cf_lane.proofs.fate.judge.Goals as goal
 pub returns-in-Err-clause-fate : goal.returns-in-Err-clause-fate
 returns-in-Err-clause-fate c = λ client is.
     (let station : c.args.adu.now.unit ≡ c.args.asset.now.station = cc in
-    of_no_form station c.in-Err.refusal c.in-Err.ensures.true_answer (cc (c.refused-in-Err.ensures, c.reason.ensures)))
+    let judged = ap fate_of_judgement c.refused-in-Err.ensures in
+    of_no_form station c.in-Err.refusal c.in-Err.ensures.true_answer (cc (judged, c.reason.ensures)))
 
 pub returns-in-Ok-clause-fate : goal.returns-in-Ok-clause-fate
 returns-in-Ok-clause-fate c = λ client is.

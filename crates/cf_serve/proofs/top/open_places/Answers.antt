@@ -2,7 +2,7 @@ use Rattle.std.proofs.Common.{arith, refl, ◌∙◌}
 use Rattle.cf_links.specs.Links.{LinksPlace}
 use Rattle.cf_serve.proofs.Faulting.{told_keeps}
 use Rattle.cf_serve.proofs.Logging.{writes_both, writes_none}
-use Rattle.cf_serve.proofs.Opening.{opens_more, opens_none}
+use Rattle.cf_serve.proofs.Opening.{opens_missed, opens_more, opens_none}
 use Rattle.cf_serve.proofs.top.open_places.Goals as goal
 
 pub loop-number-init : goal.loop-number-init
@@ -29,3 +29,10 @@ loop-number-preserved g c =
       log = writes_both (g.D.Desk.value c.args.desk.now) (g.D.Desk.value c.loop-number.desk) (g.D.Desk.value c.log_line.new.desk) i.log c.log_line.ensures.log;
       later = omega (arith, i.later, c.log_line.ensures.cause.later);
     }
+
+pub returns-in-Err-clause-breaks : goal.returns-in-Err-clause-breaks
+returns-in-Err-clause-breaks g c = λ is most.
+    opens_missed c.args.places.now most c.loop-number.number (g.L.Links.told c.args.links.now) (g.L.Links.told c.loop-number.links) (g.L.Links.told c.listen.new.self)
+    (g.D.Desk.value c.args.desk.now).lines (g.D.Desk.value c.loop-number.desk).lines (g.D.Desk.value c.log_line.new.desk).lines
+    (g.D.Desk.value c.log_line.new.desk).line_part c.in-Told.moment c.place_of-place.result c.place_of-place.ensures.is c.loop-number.invariant.does
+    c.in-Told.ensures.entry c.in-Err.ensures.fails

@@ -7,9 +7,9 @@ use Rattle.cf_lane.specs.Iec104.{ack_octets, apdu_octets}
 use Rattle.cf_outq.specs.SendQueue.{Queue}
 use Rattle.cf_lane.proofs.Renumbering.{AreRight, ack_most, does_admitted, does_refused, mirror_most, refused_lines}
 use Rattle.cf_lane.specs.Numbers.{events_of, has_mirror}
-use Rattle.cf_lane.specs.Renumbered.{MissesApdu, mirror_octets, numbered, unless_cut}
+use Rattle.cf_lane.specs.Renumbered.{MissesApdu, mirror_octets, numbered}
 use Rattle.cf_lane.specs.Log.{line_about, refusal_line, with_lines}
-use Rattle.cf_lane.specs.declared.fate.Fate.{Fate}
+use Rattle.cf_lane.specs.Judgement.{fate_of_judgement}
 use Rattle.cf_apci.specs.Apdu.{Info}
 use Rattle.std.specs.Prelude.{if◌then◌else◌, nat_lt}
 use Rattle.cf_lane.specs.declared.fate.Fate.TheVariants as fate
@@ -43,8 +43,8 @@ returns-in_err-log_refusal-in-Refused-clause-misses g c =
           let awaits = c.in_default.ensures.stands (events_of earlier) stands in
           let here : c.has_mirror-replied.result ≡ has_mirror earlier asdu = c.has_mirror-replied.ensures ∙ ap (λ (b : Bool). if b then false else nat_lt 8 (length asdu)) ended in
           does_refused asset (says_by c.args.asset.now c.args.client.now.address c.args.rules.now c.args.moment) client moment c.args.send c.args.receive asdu old earlier right r c.has_mirror-replied.result here c.refused-stamp.result
-          (c.refused-stamp.ensures.stamp (events_of earlier) c.args.receive awaits) (fate.Refused r) refl _ _ _ _
-          (sym c.in-Refused.is ∙ c.judge_asdu-fate.ensures.fate c.args.client.now.address c.requires.rules) (c.refused-stamp.ensures.stands (events_of earlier) c.args.receive awaits)
+          (c.refused-stamp.ensures.stamp (events_of earlier) c.args.receive awaits) _ _ _ _
+          (sym (ap fate_of_judgement c.in-Refused.is) ∙ c.judge_asdu.ensures.fate c.args.client.now.address c.requires.rules) (c.refused-stamp.ensures.stands (events_of earlier) c.args.receive awaits)
           c.push_refused.ensures.client c.push_refused.ensures.controller refl ended c.requires.«open»);
       more = line ∷ [];
       are_more = λ earlier stands ended.
@@ -66,8 +66,8 @@ returns-in-Admitted-clause-takes g c = λ earlier stands ended.
     } in
     let awaits = c.in_default.ensures.stands (events_of earlier) stands in
     let old = numbered c.args.numbers.now c.args.to_client.now c.args.to_controller.now (DeskValue.lines (g.D.Desk.value c.args.desk.now)) in
-    does_admitted c.args.asset.now (says_by c.args.asset.now c.args.client.now.address c.args.rules.now c.args.moment) c.args.client.now c.args.moment c.args.send c.args.receive c.args.asdu.now.bytes old earlier right _ _ c.in-Admitted.is c.admitted-stamp.result _ _
-    (c.judge_asdu-fate.ensures.fate c.args.client.now.address c.requires.rules) (c.admitted-stamp.ensures.stamp (events_of earlier) c.args.receive awaits)
+    does_admitted c.args.asset.now (says_by c.args.asset.now c.args.client.now.address c.args.rules.now c.args.moment) c.args.client.now c.args.moment c.args.send c.args.receive c.args.asdu.now.bytes old earlier right c.in-Admitted.used c.admitted-stamp.result _ _
+    (sym (ap fate_of_judgement c.in-Admitted.is) ∙ c.judge_asdu.ensures.fate c.args.client.now.address c.requires.rules) (c.admitted-stamp.ensures.stamp (events_of earlier) c.args.receive awaits)
     (c.admitted-stamp.ensures.stands (events_of earlier) c.args.receive awaits) c.push_info.ensures.queue c.requires.«open»)
 
 pub returns-in_ok-log_refusal-in-Refused-clause-takes :
@@ -83,8 +83,8 @@ returns-in_ok-log_refusal-in-Refused-clause-takes g c = λ earlier stands ended.
     let r = c.in-Refused.refusal in
     let here : c.has_mirror-replied.result ≡ has_mirror earlier c.args.asdu.now.bytes = c.has_mirror-replied.ensures ∙ ap (λ (b : Bool). if b then false else nat_lt 8 (length c.args.asdu.now.bytes)) ended in
     does_refused c.args.asset.now (says_by c.args.asset.now c.args.client.now.address c.args.rules.now c.args.moment) c.args.client.now c.args.moment c.args.send c.args.receive c.args.asdu.now.bytes old earlier right r c.has_mirror-replied.result here c.refused-stamp.result
-    (c.refused-stamp.ensures.stamp (events_of earlier) c.args.receive awaits) _ c.in-Refused.is _ _ _ _
-    (c.judge_asdu-fate.ensures.fate c.args.client.now.address c.requires.rules) (c.refused-stamp.ensures.stands (events_of earlier) c.args.receive awaits)
+    (c.refused-stamp.ensures.stamp (events_of earlier) c.args.receive awaits) _ _ _ _
+    (sym (ap fate_of_judgement c.in-Refused.is) ∙ c.judge_asdu.ensures.fate c.args.client.now.address c.requires.rules) (c.refused-stamp.ensures.stands (events_of earlier) c.args.receive awaits)
     c.push_refused.ensures.client c.push_refused.ensures.controller
     (c.in_ok-log_refusal-in-Refused.ensures.lines
     ∙ ap (λ (o : List ℕ). with_lines text (line_about c.args.asset.now c.args.client.now c.args.moment (refusal_line c.args.asset.now r c.has_mirror-replied.result o) ∷ [])) c.requires.octets)
@@ -93,14 +93,12 @@ returns-in_ok-log_refusal-in-Refused-clause-takes g c = λ earlier stands ended.
 pub returns-in_ok-log_refusal-in-Refused-clause-client_grows :
     goal.returns-in_ok-log_refusal-in-Refused-clause-client_grows
 returns-in_ok-log_refusal-in-Refused-clause-client_grows g c =
-    subst (λ (f : Fate). Grows (unless_cut f (length c.args.asdu.now.bytes + 6)) 0 0 c.args.to_client.now c.push_refused.new.to_client) (sym c.in-Refused.is)
-    (subst (λ (q : Queue). Grows (length c.args.asdu.now.bytes + 6) 0 0 c.args.to_client.now q) (sym c.push_refused.ensures.client)
+    subst (λ (q : Queue). Grows (length c.args.asdu.now.bytes + 6) 0 0 c.args.to_client.now q) (sym c.push_refused.ensures.client)
     (grows_push (length c.args.asdu.now.bytes + 6) c.args.to_client.now (mirror_octets c.refused-stamp.result.reply c.args.asdu.now.bytes)
-    (mirror_most c.args.to_client.now.ended c.has_mirror-replied.result c.refused-stamp.result.reply c.args.asdu.now.bytes c.refused-stamp.ensures.reply c.has_mirror-replied.ensures)))
+    (mirror_most c.args.to_client.now.ended c.has_mirror-replied.result c.refused-stamp.result.reply c.args.asdu.now.bytes c.refused-stamp.ensures.reply c.has_mirror-replied.ensures))
 
 pub returns-in_ok-log_refusal-in-Refused-clause-controller_grows :
     goal.returns-in_ok-log_refusal-in-Refused-clause-controller_grows
 returns-in_ok-log_refusal-in-Refused-clause-controller_grows g c =
-    subst (λ (f : Fate). Grows (unless_cut f (length c.args.asdu.now.bytes + 6)) 0 0 c.args.to_controller.now c.push_refused.new.to_controller) (sym c.in-Refused.is)
-    (subst (λ (q : Queue). Grows (length c.args.asdu.now.bytes + 6) 0 0 c.args.to_controller.now q) (sym c.push_refused.ensures.controller)
-    (grows_push (length c.args.asdu.now.bytes + 6) c.args.to_controller.now (ack_octets c.refused-stamp.result.ack) (omega (arith, ack_most c.refused-stamp.result.ack))))
+    subst (λ (q : Queue). Grows (length c.args.asdu.now.bytes + 6) 0 0 c.args.to_controller.now q) (sym c.push_refused.ensures.controller)
+    (grows_push (length c.args.asdu.now.bytes + 6) c.args.to_controller.now (ack_octets c.refused-stamp.result.ack) (omega (arith, ack_most c.refused-stamp.result.ack)))

@@ -1,7 +1,8 @@
 use Rattle.cf_lane.specs.Rings.{says_by}
-use Rattle.std.proofs.Common.{rules, ◌≡◌, ◌≤◌, List, Err, Ok, length, subst, sym, ◌∙◌, ℕ}
+use Rattle.std.proofs.Common.{rules, ◌≡◌, ◌≤◌, List, Err, ap, Ok, length, subst, sym, ◌∙◌, ℕ}
 use Rattle.cf_asdu.specs.Acts.{acts}
 use Rattle.cf_asdu.specs.Asdu.{Reads, asdu_value, station_of}
+use Rattle.cf_lane.specs.Judgement.{fate_of_judgement}
 use Rattle.cf_lane.proofs.Asdus.{fate_of_read, fate_of_unread}
 use Rattle.cf_lane.proofs.iec104.judge.judge_asdu.Goals as goal
 
@@ -11,7 +12,7 @@ returns-in-Err-clause-fate c = λ client indexed.
     let long : 9 ≤ length octets = search rules in
     let same : station_of octets ≡ c.args.asset.now.station = search rules in
     cc (
-      c.refused-in-Err.ensures,
+      ap fate_of_judgement c.refused-in-Err.ensures,
       c.reason-in-Err.ensures,
       c.kind_of-in-Err.ensures,
       fate_of_unread c.args.asset.now (says_by c.args.asset.now client c.args.rules.now c.args.moment) octets long same c.in-Err.refusal (subst (λ (xs : List ℕ). Reads (Err c.in-Err.refusal) xs) c.after-2.ensures.bytes c.in-Err.ensures.true_answer),

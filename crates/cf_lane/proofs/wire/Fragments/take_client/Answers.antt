@@ -3,11 +3,11 @@ use Rattle.std.proofs.Common.{List, [], ap, arith, length, refl, subst, sym, ℕ
 use Rattle.cf_audit.specs.declared.line.Why.TheVariants as why
 use Rattle.cf_dnptrans.specs.declared.assembly.SegmentAnswer.TheVariants as answers
 use Rattle.cf_lane.proofs.Dnp3Segments.{fate_long, fate_short, misses_quietly, misses_reply, recut_grows, recut_room, stray_fragment}
-use Rattle.cf_lane.proofs.Dnp3Fates.{no_other}
 use Rattle.cf_lane.proofs.Failing.{on_err}
 use Rattle.cf_lane.specs.Fragments.{Sends, frames_exist, parts}
 use Rattle.cf_lane.specs.Dnp3.{IsOfFragment, fate_of_fragment, fate_of_segment, fragment_reply}
 use Rattle.cf_lane.specs.Handled.{MayHaveMore}
+use Rattle.cf_lane.specs.Judgement.{fate_of_judgement, fate_or_carried}
 use Rattle.cf_lane.specs.Log.{line_about, refusal_line}
 use Rattle.cf_lane.specs.declared.fate.Fate.TheVariants as fate
 use Rattle.cf_outside.specs.Desk.{DeskValue}
@@ -24,16 +24,16 @@ returns-in_err-log_stray-clause-misses g c =
     (λ to. stray_fragment to side.Client c.args.to_client.now.ended why.Short (f.client.octets ∷ []))
     c.requires.to_client c.requires.to_controller refl _ _ c.in_err-log_stray.ensures.fails)
 
-pub returns-in_err-log_refusal-in-Refused-clause-misses :
-    goal.returns-in_err-log_refusal-in-Refused-clause-misses
-returns-in_err-log_refusal-in-Refused-clause-misses g c =
+pub returns-in_err-log_refusal-in-Some-Refused-clause-misses :
+    goal.returns-in_err-log_refusal-in-Some-Refused-clause-misses
+returns-in_err-log_refusal-in-Some-Refused-clause-misses g c =
     let f = c.args.self.now in
     let old = parts f c.args.to_client.now c.args.to_controller.now (DeskValue.lines (g.D.Desk.value c.args.desk.now)) in
     let long : 2 ≤ length f.client.octets = omega (arith, c.if-len-lt2.false, c.len.ensures.length, ap length c.fragment-octets.ensures.octets) in
-    let r = c.in-Refused.refusal in
+    let r = c.in-Some-Refused.refusal in
     let same : c.fragment-octets.result.bytes ≡ f.client.octets = c.fragment-octets.ensures.octets in
     let is : fate.Refused r ≡ fate_of_segment c.args.asset.now (says_by c.args.asset.now c.args.client.now.address c.args.rules.now c.args.moment) side.Client answers.Whole (f.client.octets ∷ []) =
-    sym c.in-Refused.is ∙ c.judge_fragment-fate.ensures.fate c.args.client.now.address c.requires.rules ∙ ap (λ xs. fate_of_fragment c.args.asset.now (says_by c.args.asset.now c.args.client.now.address c.args.rules.now c.args.moment) side.Client xs) same
+    sym (ap fate_or_carried c.in-Some-Refused.is ∙ ap fate_of_judgement c.in-Some-Refused.field-0-is) ∙ c.judge_fragment.ensures.fate c.args.client.now.address c.requires.rules ∙ ap (λ xs. fate_of_fragment c.args.asset.now (says_by c.args.asset.now c.args.client.now.address c.args.rules.now c.args.moment) side.Client xs) same
     ∙ fate_long c.args.asset.now (says_by c.args.asset.now c.args.client.now.address c.args.rules.now c.args.moment) side.Client f.client.octets long in
     let put = λ (xs : List ℕ). fragment_reply c.args.to_client.now.ended (fate.Refused r) (xs ∷ []) in
     let sends = subst (λ xs. Sends c.args.asset.now side.Client (put xs) f.to_client c.args.to_client.now c.reply-replied.new.sequence c.reply-replied.new.to_client) same c.reply-replied.ensures.sends in
@@ -41,21 +41,28 @@ returns-in_err-log_refusal-in-Refused-clause-misses g c =
     let P : List ℕ → Type 0 = λ xs. MayHaveMore (line_about c.args.asset.now c.args.client.now c.args.moment (refusal_line c.args.asset.now r c.reply-replied.result xs) ∷ [])
     (DeskValue.lines (g.D.Desk.value c.args.desk.now)) (DeskValue.lines (g.D.Desk.value c.log_refusal.new.desk)) (DeskValue.line_part (g.D.Desk.value c.log_refusal.new.desk)) in
     on_err _ _ (misses_reply c.args.asset.now (says_by c.args.asset.now c.args.client.now.address c.args.rules.now c.args.moment) c.args.client.now c.args.moment f.client.octets r old c.reply-replied.new.sequence c.reply-replied.new.to_client is sends
-    c.requires.to_controller c.reply-replied.result _ _ says (subst P same c.in_err-log_refusal-in-Refused.ensures.fails))
+    c.requires.to_controller c.reply-replied.result _ _ says (subst P same c.in_err-log_refusal-in-Some-Refused.ensures.fails))
 
 pub push_fragment-self-requires-clause-room : goal.push_fragment-self-requires-clause-room
 push_fragment-self-requires-clause-room g c =
     recut_room c.args.asset.now side.Controller c.args.self.now.to_controller (length c.args.self.now.client.octets + 2) c.fragment-octets.result.bytes c.args.to_controller.now
     (omega (arith, ap length c.fragment-octets.ensures.octets)) c.requires.controller_room
 
-pub returns-in-Carried-clause-controller_grows : goal.returns-in-Carried-clause-controller_grows
-returns-in-Carried-clause-controller_grows g c =
+pub push_fragment-self-requires-in-None-clause-room : goal.push_fragment-self-requires-in-None-clause-room
+push_fragment-self-requires-in-None-clause-room g c =
+    recut_room c.args.asset.now side.Controller c.args.self.now.to_controller (length c.args.self.now.client.octets + 2) c.fragment-octets.result.bytes c.args.to_controller.now
+    (omega (arith, ap length c.fragment-octets.ensures.octets)) c.requires.controller_room
+
+pub returns-in-Some-Admitted-clause-controller_grows : goal.returns-in-Some-Admitted-clause-controller_grows
+returns-in-Some-Admitted-clause-controller_grows g c =
     recut_grows c.args.asset.now side.Controller c.args.self.now.to_controller (length c.args.self.now.client.octets + 2) c.fragment-octets.result.bytes c.args.to_controller.now _
     (omega (arith, ap length c.fragment-octets.ensures.octets)) c.push_fragment-self.ensures.queue
 
+pub returns-in-None-clause-controller_grows : goal.returns-in-None-clause-controller_grows
+returns-in-None-clause-controller_grows g c =
+    recut_grows c.args.asset.now side.Controller c.args.self.now.to_controller (length c.args.self.now.client.octets + 2) c.fragment-octets.result.bytes c.args.to_controller.now _
+    (omega (arith, ap length c.fragment-octets.ensures.octets)) c.push_fragment-self-in-None.ensures.queue
+
 pub reply-replied-requires-clause-reason : goal.reply-replied-requires-clause-reason
 reply-replied-requires-clause-reason g c =
-    subst IsOfFragment c.in-Refused.is (c.judge_fragment-fate.ensures.fragment c.args.client.now.address c.requires.rules)
-
-pub returns-in-Stray-clause-takes : goal.returns-in-Stray-clause-takes
-returns-in-Stray-clause-takes g c = absurd (no_other c.judge_fragment-fate.result (c.judge_fragment-fate.ensures.fragment c.args.client.now.address c.requires.rules) c.in-Stray.is)
+    subst IsOfFragment (ap fate_or_carried c.in-Some-Refused.is ∙ ap fate_of_judgement c.in-Some-Refused.field-0-is) (c.judge_fragment.ensures.fragment c.args.client.now.address c.requires.rules)

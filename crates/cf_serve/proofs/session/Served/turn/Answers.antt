@@ -1,7 +1,9 @@
 use Rattle.std.proofs.Common.{ap}
 use Rattle.std.specs.Prelude.{option_map}
 use Rattle.cf_links.specs.LinkValue.{told_of}
+use Rattle.cf_serve.proofs.Missing.{turn_missed}
 use Rattle.cf_serve.proofs.Reaching.{ended_turn}
+use Rattle.cf_serve.proofs.Stepping.{on_err}
 use Rattle.cf_serve.specs.Phase.{linked_value, listening_of}
 use Rattle.cf_serve.proofs.session.Served.turn.Goals as goal
 
@@ -11,3 +13,10 @@ returns-in-Ended-clause-does g c =
     (told_of g.L.Links c.args.self.now.number c.reach.new.links) (g.D.Desk.value c.args.desk.now).lines (g.D.Desk.value c.reach.new.desk).lines
     (option_map linked_value c.args.self.now.linked) c.in_ok-reach-in-None.field-0 c.in-Ended.end (ap (option_map linked_value) c.in-None.is) c.in-Ended.is
     c.in_ok-reach-in-None.ensures.does
+
+pub returns-in_err-reach-in-None-clause-breaks : goal.returns-in_err-reach-in-None-clause-breaks
+returns-in_err-reach-in-None-clause-breaks g c = on_err c.from_residual.result _
+    (turn_missed (listening_of c.args.terms.now) c.args.terms.now.most c.args.self.now.client c.args.self.now.number (g.L.Links.told c.args.links.now)
+    (told_of g.L.Links c.args.self.now.number c.reach.new.links) (g.D.Desk.value c.args.desk.now).lines (g.D.Desk.value c.reach.new.desk).lines
+    (g.D.Desk.value c.reach.new.desk).line_part (option_map linked_value c.args.self.now.linked) (ap (option_map linked_value) c.in-None.is)
+    c.in_err-reach-in-None.ensures.breaks)

@@ -1,7 +1,10 @@
-use Rattle.std.proofs.Common.{arith, map, refl, subst, sym, ◌∙◌, ◌<◌, ◌+◌}
+use Rattle.std.proofs.Common.{Some, arith, map, refl, subst, sym, ◌∙◌, ◌<◌, ◌+◌}
 use Rattle.std.proofs.lemmas.List.{length-map}
+use Rattle.cf_lane.specs.Handled.{MayHaveAdded}
 use Rattle.cf_links.specs.Links.{LinksPlace}
-use Rattle.cf_serve.proofs.Arriving.{came_in, came_last, for_all, none_came, table_new}
+use Rattle.cf_serve.proofs.Arriving.{came_in, came_last, came_missed, err_for_all, for_all, none_came, table_new}
+use Rattle.cf_serve.specs.Failing.{MissesArrival}
+use Rattle.cf_serve.specs.Rounds.{full_line}
 use Rattle.cf_serve.specs.Phase.{listening_at, listenings, phase_of}
 use Rattle.cf_serve.specs.Table.{Arrive, IsTable}
 use Rattle.cf_serve.proofs.table.Table.arrive.Goals as goal
@@ -77,3 +80,20 @@ returns-clause-does g c =
     (λ most. came_last places most c.args.moment c.args.place next told log ps client (g.L.Links.told c.arrive.new.self) (g.D.Desk.value c.log_line.new.desk).lines new
     c.take_in.new.self.next c.in-Came.ensures.entry (sym c.has_place.ensures ∙ c.if-not-has_place.false) c.take_in.ensures.items c.take_in.ensures.next
     (listening_at c.place_of-at.result) c.place_of-at.ensures.place (sym c.has_place-2.ensures ∙ c.if-has_place.false) c.log_line.result c.log_line.ensures.lines)
+
+pub returns-clause-breaks : goal.returns-clause-breaks
+returns-clause-breaks g c =
+    let places = listenings c.args.places.now in
+    let next = c.args.self.now.next in
+    let ps = map phase_of c.args.self.now.sessions.items in
+    let told = g.L.Links.told c.args.links.now in
+    let log = (g.D.Desk.value c.args.desk.now).lines in
+    let client = c.in-Came.client in
+    let new = map phase_of c.take_in.new.self.sessions.items in
+    let part = (g.D.Desk.value c.log_line.new.desk).line_part in
+    err_for_all (MayHaveAdded (full_line (Some (listening_at c.place_of-at.result)) client c.args.moment) (g.D.Desk.value c.args.desk.now) (g.D.Desk.value c.log_line.new.desk))
+    (λ most. MissesArrival places most c.args.moment c.args.place next c.take_in.new.self.next told (g.L.Links.told c.arrive.new.self) log
+    (g.D.Desk.value c.log_line.new.desk).lines part ps new) c.log_line.result
+    (λ most. came_missed places most c.args.moment c.args.place next told log ps client (g.L.Links.told c.arrive.new.self) (g.D.Desk.value c.log_line.new.desk).lines new
+    c.take_in.new.self.next c.in-Came.ensures.entry (sym c.has_place.ensures ∙ c.if-not-has_place.false) c.take_in.ensures.items c.take_in.ensures.next
+    (listening_at c.place_of-at.result) c.place_of-at.ensures.place (sym c.has_place-2.ensures ∙ c.if-has_place.false) part) c.log_line.ensures.fails

@@ -1,6 +1,7 @@
 use Rattle.std.proofs.Common.{Bool, length, map, subst, sym, ℕ}
 use Rattle.cf_links.specs.Links.{LinksPlace}
 use Rattle.cf_serve.proofs.Arriving.{round_is}
+use Rattle.cf_serve.proofs.Breaking.{round_missed, round_missed_early}
 use Rattle.cf_serve.proofs.Rounding.{may_leave}
 use Rattle.cf_serve.specs.Phase.{listenings, phase_of}
 use Rattle.cf_serve.specs.Table.{IsTable, RoundDoes}
@@ -34,3 +35,26 @@ returns-in-Ok-turns-clause-does g c = λ past keeps.
     (round_is places c.args.most c.in-Told.moment c.args.self.now.next (g.L.Links.told c.wait.new.self) (g.D.Desk.value c.args.desk.now).lines ps
     (length c.args.places.now) c.arrivals.new.self.next (g.L.Links.told c.args.links.now) (g.L.Links.told c.arrivals.new.links) (g.L.Links.told c.turns.new.links)
     (g.D.Desk.value c.arrivals.new.desk).lines (g.D.Desk.value c.turns.new.desk).lines mid new past c.in-Told.ensures.entry a b)
+
+pub returns-in-Err-clause-breaks : goal.returns-in-Err-clause-breaks
+returns-in-Err-clause-breaks g c = λ is past keeps.
+    let ps = map phase_of c.args.self.now.sessions.items in
+    let mid = map phase_of c.arrivals.new.self.sessions.items in
+    let places = listenings c.args.places.now in
+    let woken = subst (λ (s : ℕ → Bool). IsTable places c.args.most s c.args.self.now.next ps) (sym c.in-Told.ensures.place.serves) c.requires.table in
+    round_missed_early places c.args.most c.in-Told.moment c.args.self.now.next c.arrivals.new.self.next past (g.L.Links.told c.args.links.now)
+    (g.L.Links.told c.wait.new.self) (g.L.Links.told c.arrivals.new.links) (g.D.Desk.value c.args.desk.now).lines (g.D.Desk.value c.arrivals.new.desk).lines
+    (g.D.Desk.value c.arrivals.new.desk).line_part ps mid c.in-Told.ensures.entry (LinksPlace.serves (g.L.Links.place c.arrivals.new.links))
+    (c.in-Err.ensures.breaks c.args.most) (c.arrivals.ensures.table c.args.most woken) keeps
+
+pub returns-in-Err-turns-clause-breaks : goal.returns-in-Err-turns-clause-breaks
+returns-in-Err-turns-clause-breaks g c = λ is past keeps.
+    let ps = map phase_of c.args.self.now.sessions.items in
+    let mid = map phase_of c.arrivals.new.self.sessions.items in
+    let new = map phase_of c.turns.new.self.sessions.items in
+    let places = listenings c.args.places.now in
+    let a = c.in-Ok.ensures.does c.args.most in
+    round_missed places c.args.most c.in-Told.moment c.args.self.now.next c.arrivals.new.self.next past (g.L.Links.told c.args.links.now)
+    (g.L.Links.told c.wait.new.self) (g.L.Links.told c.arrivals.new.links) (g.D.Desk.value c.args.desk.now).lines (g.D.Desk.value c.arrivals.new.desk).lines
+    (g.D.Desk.value c.turns.new.desk).line_part ps mid c.in-Told.ensures.entry (length c.args.places.now) (g.L.Links.told c.turns.new.links)
+    (g.D.Desk.value c.turns.new.desk).lines new a (c.in-Err-turns.ensures.breaks past (a.keeps past keeps))

@@ -1,10 +1,12 @@
-use Rattle.std.proofs.Common.{ap, arith, map, refl, subst, sym, ◌∙◌, ◌+◌, if◌then◌else◌}
+use Rattle.std.proofs.Common.{ap, arith, map, refl, subst, sym, ◌∙◌, ◌++◌, ◌+◌, if◌then◌else◌}
 use Rattle.std.specs.Prelude.{Bool, vec_len}
 use Rattle.cf_links.specs.Links.{LinksPlace}
+use Rattle.cf_serve.proofs.Breaking.{turns_missed}
 use Rattle.cf_serve.proofs.Logging.{writes_both, writes_none}
 use Rattle.cf_serve.proofs.Rounding.{no_step, turns_begin, turns_step, within_off, within_on}
+use Rattle.cf_serve.proofs.Stepping.{on_err}
 use Rattle.cf_serve.specs.Phase.{listenings, phase_of}
-use Rattle.cf_serve.specs.Table.{IsTable}
+use Rattle.cf_serve.specs.Table.{IsTable, Keeps}
 use Rattle.cf_serve.proofs.table.Table.turns.Goals as goal
 
 pub loop-index-init : goal.loop-index-init
@@ -80,3 +82,17 @@ loop-index-preserved g c =
       later = omega (arith, i.later, c.turn_at.ensures.cause.later);
       buffer = c.turn_at.ensures.buffer;
     }
+
+pub returns-in_err-turn_at-clause-breaks : goal.returns-in_err-turn_at-clause-breaks
+returns-in_err-turn_at-clause-breaks g c =
+    let places = listenings c.args.places.now in
+    let next = c.args.self.now.next in
+    let old = map phase_of c.args.self.now.sessions.items in
+    let mid = map phase_of c.loop-index.self.sessions.items in
+    let i = c.loop-index.invariant in
+    on_err c.from_residual.result _ (λ past keeps.
+    let b = i.does past keeps in
+    turns_missed places c.args.most next past (g.L.Links.told c.args.links.now) (g.D.Desk.value c.args.desk.now).lines old c.loop-index.index
+    (g.L.Links.told c.loop-index.links) (g.D.Desk.value c.loop-index.desk).lines mid b (g.L.Links.told c.turn_at.new.links)
+    (g.D.Desk.value c.turn_at.new.desk).lines (g.D.Desk.value c.turn_at.new.desk).line_part (map phase_of c.turn_at.new.self.sessions.items)
+    (c.in_err-turn_at.ensures.breaks (past ++ b.turns) (subst (λ n. Keeps places c.args.most n (past ++ b.turns) mid) (sym i.next) b.keeps)))

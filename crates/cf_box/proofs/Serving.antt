@@ -1,0 +1,150 @@
+-- The places of a service, and why it stops.
+use Rattle.std.proofs.Common.{◌≡◌, ◌≤◌, ◌*◌, ◌++◌, ◌-◌, ◌<◌, ◌^◌, ◌⊎◌, ℕ, Option, Some, None, Result, Ok, Err, List, [], ◌∷◌, ap, inl, inr, length, map, refl, subst, suc, sym, ◌∙◌}
+use Rattle.std.specs.Prelude.{IfErr, OnOk}
+use Rattle.std.specs.List.{AllByRecursion}
+use Rattle.std.proofs.lemmas.Option.{same_Some}
+use Rattle.cf_links.specs.Links.{LinksEntry}
+use Rattle.cf_outside.specs.Faults.{HasCause, Rose}
+use Rattle.cf_outside.specs.Files.{content_gone_on}
+use Rattle.cf_outside.specs.Lines.{file_lines}
+use Rattle.cf_outside.specs.Pair.{FaultsBy}
+use Rattle.cf_outside.specs.PairValue.{PairValue}
+use Rattle.cf_policy.specs.Within.{IsAssetWithin}
+use Rattle.cf_policy.specs.declared.Policy.{Policy}
+use Rattle.cf_policylang.specs.declared.PolicyRefusal.{PolicyRefusal}
+use Rattle.cf_serve.specs.Broken.{BreaksLog}
+use Rattle.cf_serve.specs.Served.{HasMade, Serves}
+use Rattle.cf_serve.specs.Table.{IfWhole}
+use Rattle.cf_serve.specs.declared.ServeFault.{ServeFault}
+use Rattle.cf_serve.specs.declared.ServeFault.TheVariants as fault
+use Rattle.cf_serve.specs.declared.table.Place.{Place}
+use Rattle.cf_box.proofs.Sifting.{since}
+use Rattle.cf_box.specs.Command.{Check}
+use Rattle.cf_box.specs.Ends.{RefusesPolicy, StopsFor}
+use Rattle.cf_box.specs.Outside.{FilesValue, ReadsOnly, SinkValue, outside}
+use Rattle.cf_box.specs.PolicyFile.{HasPolicy, IsRefusedBy, StopsPolicy}
+use Rattle.cf_box.specs.Service.{ArePlaces, HasBroken, HasServed, NothingServed, StopsService, service_stop}
+use Rattle.cf_box.specs.ServiceWords.{PlaceWord, ServiceWords, place_word_value}
+use Rattle.cf_box.specs.declared.ending.Stop.{Stop}
+use Rattle.cf_box.specs.declared.ending.Stop.TheVariants as stop
+use Rattle.cf_box.specs.declared.service.PlaceWord.{PlaceWord as PlaceFields}
+
+-- as many places as words
+places_count : (policy : Policy) (words : List PlaceWord) (places : List Place) → ArePlaces policy words places → length places ≡ length words
+places_count policy [] [] all = refl
+places_count policy (word ∷ words) (place ∷ places) all = ap suc (places_count policy words places all.1.1.1)
+places_count policy [] (place ∷ places) all = absurd all
+places_count policy (word ∷ words) [] all = absurd all
+
+-- each within the limits
+pub places_within : (policy : Policy) (words : List PlaceWord) (places : List Place) → ArePlaces policy words places
+    → AllByRecursion (λ (place : Place). IsAssetWithin place.asset.now) places
+places_within policy [] [] all = tt
+places_within policy (word ∷ words) (place ∷ places) all = (all.1.1.0, places_within policy words places all.1.1.1)
+places_within policy [] (place ∷ places) all = absurd all
+places_within policy (word ∷ words) [] all = absurd all
+
+-- what was found, where nothing was before
+pub found_places : (policy : Policy) (words there : List PlaceFields) → there ≡ words → (old new all : List Place) → old ≡ [] → all ≡ new
+    → ((more : List Place) × (new ≡ old ++ more) × ArePlaces policy (map place_word_value there) more) → ArePlaces policy (map place_word_value words) all
+found_places policy words there same old new all none is (more, added, are) =
+    subst (λ ws. ArePlaces policy (map place_word_value ws) all) same
+    (subst (λ ps. ArePlaces policy (map place_word_value there) ps) (sym (is ∙ added ∙ ap (λ xs. xs ++ more) none)) are)
+
+map_count : (words : List PlaceFields) → length (map place_word_value words) ≡ length words
+map_count [] = refl
+map_count (word ∷ words) = ap suc (map_count words)
+
+pub few_places : (policy : Policy) (words : List PlaceFields) (all : List Place) → length words ≤ 256 → ArePlaces policy (map place_word_value words) all
+    → length all ≤ 256
+few_places policy words all few are =
+    subst (λ n. n ≤ 256) (sym (places_count policy (map place_word_value words) all are ∙ map_count words)) few
+
+module _ (w : ServiceWords) (told told' : Option (List LinksEntry)) (waits waits' : ℕ) where
+  -- how a service stops by its fault
+  pub stops_of : (before after : FilesValue) (policy : Policy) (places : List Place) → HasPolicy (before.content w.policy) policy
+      → ArePlaces policy w.places places → (f : ServeFault) → (r : Result Unit ServeFault) → r ≡ Err f
+      → IfWhole r (Serves places (2 * w.seconds) (HasMade r) told told' (file_lines (content_gone_on (before.content w.log))) (file_lines (after.content w.log)))
+      → (r ≡ Err fault.Write → BreaksLog places (2 * w.seconds) told told' (before.content w.log) (after.content w.log))
+      → HasCause before.write_faults after.write_faults (r ≡ Err fault.Write) → FaultsBy waits waits' (r ≡ Err fault.Loop)
+      → (r ≡ Err fault.NoMemory → (told' ≡ told) × (after.content w.log ≡ content_gone_on (before.content w.log)))
+      → StopsService w before after told told' waits waits' (service_stop f)
+  stops_of before after policy places has found fault.Write r is serves breaks cause loops memory =
+      (record { policy = policy; has = has; places = places; found = found; breaks = breaks is }, cause.rose is)
+  stops_of before after policy places has found fault.Loop r is serves breaks cause loops memory = (
+    record {
+      policy = policy;
+      has = has;
+      places = places;
+      found = found;
+      serves = subst (λ q. IfWhole q (Serves places (2 * w.seconds) (HasMade q) told told' (file_lines (content_gone_on (before.content w.log))) (file_lines (after.content w.log)))) is serves;
+    },
+    loops.rose is,
+  )
+  stops_of before after policy places has found fault.NoMemory r is serves breaks cause loops memory = let m = memory is in record { log = inr m.1; same = m.0 }
+
+  module _ (old middle after : FilesValue) (only : ReadsOnly old middle) where
+    -- what was served after a file was read
+    served_after : (Made : ℕ → Type 0) → HasServed w middle after told told' waits waits' Made → HasServed w old after told told' waits waits' Made
+    served_after Made h = record {
+      policy = h.policy;
+      has = subst (λ content. HasPolicy (content w.policy) h.policy) only.content h.has;
+      places = h.places;
+      found = h.found;
+      serves = subst (λ content. Serves h.places (2 * w.seconds) Made told told' (file_lines (content_gone_on (content w.log))) (file_lines (after.content w.log))) only.content h.serves;
+    }
+
+    broken_after : HasBroken w middle after told told' waits waits' → HasBroken w old after told told' waits waits'
+    broken_after h = record {
+      policy = h.policy;
+      has = subst (λ content. HasPolicy (content w.policy) h.policy) only.content h.has;
+      places = h.places;
+      found = h.found;
+      breaks = subst (λ content. BreaksLog h.places (2 * w.seconds) told told' (content w.log) (after.content w.log)) only.content h.breaks;
+    }
+
+    stops_after : (s : Stop) → StopsService w middle after told told' waits waits' s → StopsService w old after told told' waits waits' s
+    stops_after stop.ReadFault h =
+        (since old.read_faults middle.read_faults after.read_faults only.reads h.0, record { content = h.1.content ∙ only.content; same = h.1.same })
+    stops_after (stop.PolicyRefused r) h =
+        (subst (λ content. IsRefusedBy (content w.policy) r) only.content h.0, record { content = h.1.content ∙ only.content; same = h.1.same })
+    stops_after stop.UnknownAsset h = (
+      record { policy = h.0.policy; has = subst (λ content. HasPolicy (content w.policy) h.0.policy) only.content h.0.has; lacks = h.0.lacks },
+      record { content = h.1.content ∙ only.content; same = h.1.same },
+    )
+    stops_after stop.WriteFault h = (broken_after h.0, subst (λ n. Rose n after.write_faults) only.writes h.1)
+    stops_after stop.LinkFault h = (served_after (λ made. made < 2 ^ 64 - 1) h.0, h.1)
+    stops_after stop.NoMemory h = record {
+      log = subst (λ content. (after.content w.log ≡ content w.log) ⊎ (after.content w.log ≡ content_gone_on (content w.log))) only.content h.log;
+      same = h.same;
+    }
+    stops_after s h = absurd h
+
+    pub all_served : (Made : ℕ → Type 0) (r : Result Unit Stop) → OnOk r (HasServed w middle after told told' waits waits' Made) → OnOk r (HasServed w old after told told' waits waits' Made)
+    all_served Made (Ok done) h = served_after Made h
+    all_served Made (Err s) h = h
+
+    pub all_stopped : (r : Result Unit Stop) → IfErr r (λ s. StopsService w middle after told told' waits waits' s)
+        → IfErr r (λ s. StopsService w old after told told' waits waits' s)
+    all_stopped (Ok done) h = h
+    all_stopped (Err s) h = stops_after s h
+
+-- a policy that was not read stops the service
+module _ (w : ServiceWords) (told : Option (List LinksEntry)) (waits : ℕ) (before after : FilesValue) (sink : SinkValue) (pair : PairValue)
+    (only : ReadsOnly before after) where
+  nothing : NothingServed w before after told told waits waits
+  nothing = record { content = only.content; same = refl }
+
+  refused : (r : PolicyRefusal) → RefusesPolicy (Check w.policy) (outside before sink pair) r → IsRefusedBy (before.content w.policy) r
+  refused r (inl (file, is, h)) = subst (λ name. IsRefusedBy (before.content name) r) (sym (same_Some _ _ is)) h
+  refused r (inr (inl (file, first, is, first_is, policy))) = absurd (no_other file is) where
+    no_other : (file : List ℕ) → None ≡ Some file → ⊥
+    no_other file e = cc
+  refused r (inr (inr made)) = absurd made
+
+  pub policy_stops : (s : Stop) → StopsPolicy s → StopsFor (Check w.policy) (outside before sink pair) (outside after sink pair) s
+      → StopsService w before after told told waits waits s
+  policy_stops stop.ReadFault early h = (h, nothing)
+  policy_stops (stop.PolicyRefused r) early h = (refused r h, nothing)
+  policy_stops stop.NoMemory early h = record { log = inl (ap (λ content. content w.log) only.content); same = refl }
+  policy_stops s early h = absurd early

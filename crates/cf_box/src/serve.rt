@@ -1,0 +1,160 @@
+//! `serve POLICY SECONDS LOG NAME=A.B.C.D:PORT..`: a policy between many clients and their controllers.
+ghost use Rattle.std.specs.Prelude.{◌≡◌, ◌⊎◌, ◌++◌, ◌-◌, ◌^◌, Err, IfErr, List, OnOk, Some, false, map, string_bytes, ℕ};
+ghost use Rattle.cf_box.specs.Outside.{files_value};
+ghost use Rattle.cf_box.specs.PolicyFile.{HasPolicy};
+ghost use Rattle.cf_box.specs.Service.{ArePlaces, HasServed, LacksPlace, ServiceEnds, StopsService, service_outside, service_stop};
+ghost use Rattle.cf_box.specs.ServiceWords.{IsFitService, place_word_value, service_of, service_value};
+ghost use Rattle.cf_links.specs.Links.{LinksPlace};
+ghost use Rattle.cf_outside.specs.Files.{KeepsOthers};
+ghost use Rattle.cf_policy.specs.Within.{IsWithin};
+ghost use Rattle.cf_serve.specs.Laws.{EachIsAlone, IsolatesSessions};
+ghost use Rattle.cf_serve.specs.declared.table.Place.{Place as PlaceOf};
+
+use crate::ending::{Stop, put_text, report};
+use crate::policy_file::{find_asset, load_policy};
+use crate::service::{PlaceWord, Service, read_service};
+use cf_links::Service as Links;
+use cf_outside::{Files, Sink};
+use cf_policy::Policy;
+use cf_serve::{Place, ServeFault, sessions_are_isolated};
+use std::alloc::Global;
+
+/// Adds the asset of each place, and where its clients come.
+fn find_places<'a>(
+    policy: &'a Policy,
+    words: &[PlaceWord<'_>],
+    places: &mut Vec<Place<'a>>,
+) -> Result<(), Stop>
+    requires { IsWithin policy.now }
+    ensures found { OnOk result ((more : List PlaceOf) × (places.new.items ≡ places.old.items ++ more)
+        × ArePlaces policy.now (map place_word_value words.now) more) }
+    ensures lacks { result ≡ Err Stop.UnknownAsset → LacksPlace policy.now (map place_word_value words.now) }
+    ensures stops { IfErr result (λ stop. (stop ≡ Stop.UnknownAsset) ⊎ (stop ≡ Stop.NoMemory)) }
+{
+    let Some((word, rest)) = words.split_first() else {
+        return Ok(());
+    };
+    let Some(asset) = find_asset(policy, word.asset) else {
+        return Err(Stop::UnknownAsset);
+    };
+    match places.push(Place { asset, at: word.at }) {
+        Ok(()) => find_places(policy, rest, places),
+        Err(_) => Err(Stop::NoMemory),
+    }
+}
+
+/// Why the work stops at a fault of the service.
+fn stop_of(fault: ServeFault) -> Stop
+    ensures { result ≡ service_stop fault }
+{
+    match fault {
+        ServeFault::NoMemory => Stop::NoMemory,
+        ServeFault::Write => Stop::WriteFault,
+        ServeFault::Loop => Stop::LinkFault,
+    }
+}
+
+/// Serves the clients of the places of a policy.
+fn serve_places<F: Files, L: Links>(
+    alloc: Global,
+    policy: &Policy,
+    service: &Service<'_>,
+    files: &mut F,
+    links: &mut L,
+) -> Result<(), Stop>
+    requires within { IsWithin policy.now }
+    requires has { HasPolicy (F.content files.old (service.now.policy).now) policy.now }
+    requires fit { IsFitService service.now }
+    requires free { (session : ℕ) → LinksPlace.serves (L.place links.old) session ≡ false }
+    ensures serves { OnOk result (HasServed (service_value service.now) (files_value F.Files files.old) (files_value F.Files files.new)
+        (L.told links.old) (L.told links.new) (LinksPlace.round_faults (L.place links.old)) (LinksPlace.round_faults (L.place links.new))
+        (λ made. made ≡ 2 ^ 64 - 1)) }
+    ensures stops { IfErr result (λ s. StopsService (service_value service.now) (files_value F.Files files.old) (files_value F.Files files.new)
+        (L.told links.old) (L.told links.new) (LinksPlace.round_faults (L.place links.old)) (LinksPlace.round_faults (L.place links.new)) s) }
+    ensures others { KeepsOthers (service.now.log).now (F.content files.old) (F.content files.new) }
+{
+    let mut places = Vec::new(alloc);
+    find_places(policy, service.places.as_slice(), &mut places)?;
+    match cf_serve::serve(
+        alloc,
+        places.as_slice(),
+        service.seconds,
+        service.log,
+        links,
+        files,
+    ) {
+        Ok(()) => Ok(()),
+        Err(fault) => Err(stop_of(fault)),
+    }
+}
+
+/// Reads the policy, and serves the clients of its places.
+fn serve_policy<F: Files, L: Links>(
+    alloc: Global,
+    service: &Service<'_>,
+    files: &mut F,
+    links: &mut L,
+) -> Result<(), Stop>
+    requires fit { IsFitService service.now }
+    requires free { (session : ℕ) → LinksPlace.serves (L.place links.old) session ≡ false }
+    ensures serves { OnOk result (HasServed (service_value service.now) (files_value F.Files files.old) (files_value F.Files files.new)
+        (L.told links.old) (L.told links.new) (LinksPlace.round_faults (L.place links.old)) (LinksPlace.round_faults (L.place links.new))
+        (λ made. made ≡ 2 ^ 64 - 1)) }
+    ensures stops { IfErr result (λ s. StopsService (service_value service.now) (files_value F.Files files.old) (files_value F.Files files.new)
+        (L.told links.old) (L.told links.new) (LinksPlace.round_faults (L.place links.old)) (LinksPlace.round_faults (L.place links.new)) s) }
+    ensures others { KeepsOthers (service.now.log).now (F.content files.old) (F.content files.new) }
+{
+    match load_policy(alloc, service.policy, files) {
+        Ok(policy) => serve_places(alloc, &policy, service, files, links),
+        Err(stop) => Err(stop),
+    }
+}
+
+/// Serves what the words of a service say, and prints why that ended.
+fn serve_words<F: Files, O: Sink, L: Links>(
+    alloc: Global,
+    service: &Service<'_>,
+    files: &mut F,
+    out: &mut O,
+    links: &mut L,
+) -> u8
+    requires fit { IsFitService service.now }
+    requires free { (session : ℕ) → LinksPlace.serves (L.place links.old) session ≡ false }
+    ensures ends { ServiceEnds (service_outside F.Files O.Sink L.Links files.old out.old links.old)
+        (service_outside F.Files O.Sink L.Links files.new out.new links.new) result (Some (service_value service.now)) }
+{
+    match serve_policy(alloc, service, files, links) {
+        Ok(()) => 0,
+        Err(stop) => report(&Err(stop), out),
+    }
+}
+
+/// The service: does what its words ask for, prints why that ended, and answers its status. It ends where a line of the log fails, or a
+/// place cannot be listened at, or the wait fails; after every line of the log that could be appended. The links have no session
+/// before. This project's own.
+///
+/// Statuses: 0 after 2^64 - 1 rounds; 2 the words have no form; 3 a read failed; 4 a write failed; 5 the policy's text means none; 8 a
+/// place cannot be listened at, or the wait failed; 10 the policy has no asset of a name; 13 memory ran out.
+pub fn serve_main<F: Files, O: Sink, L: Links>(
+    alloc: Global,
+    words: &[String],
+    files: &mut F,
+    out: &mut O,
+    links: &mut L,
+) -> u8
+    requires free { (session : ℕ) → LinksPlace.serves (L.place links.old) session ≡ false }
+    // What the words say, and what stands in the files, in the printed text and in the list of the links, explain the status.
+    ensures ends { ServiceEnds (service_outside F.Files O.Sink L.Links files.old out.old links.old)
+        (service_outside F.Files O.Sink L.Links files.new out.new links.new) result (service_of (map string_bytes words.now)) }
+
+    // What each session gets and leaves follows from its own answers, whatever the others do.
+    ensures alone { EachIsAlone }
+    ensures isolates { IsolatesSessions }
+{
+    sessions_are_isolated();
+    match read_service(alloc, words) {
+        Err(_) => 13,
+        Ok(None) => put_text("usage\n", 2, 2, out),
+        Ok(Some(service)) => serve_words(alloc, &service, files, out, links),
+    }
+}

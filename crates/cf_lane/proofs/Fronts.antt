@@ -1,0 +1,185 @@
+-- What stands at the front of a side's bytes, once the lane has counted it: `steps_front` and `misses_front`.
+use Rattle.cf_audit.specs.declared.line.CutReason.{CutReason}
+use Rattle.cf_lane.proofs.Saying.{rules_stay}
+use Rattle.cf_lane.specs.Handled.{Counts, CountsBy, Fronts, FrontsOf, Grows, HasLines, HasRoom, IsLaneOf, LaneValue, MayHaveMore, Misses, MissesOf, Outlets, State, Steps, TakesUncounted, TakesUnit, debt, judged, lane_at, letters_in, state, step_by, taken_in}
+use Rattle.cf_lane.specs.Item.{Took}
+use Rattle.cf_lane.specs.Judged.{cut_by, is_admitted, is_refused, one_if}
+use Rattle.cf_lane.specs.Kept.{AreFragments, IsWireOf, wire_debt}
+use Rattle.cf_lane.specs.Rings.{IsRulesOf}
+use Rattle.cf_lane.specs.declared.fate.Fate.{Fate}
+use Rattle.cf_lane.specs.declared.lane.Step.{Step}
+use Rattle.cf_lane.specs.declared.rules.Rules.{Rules}
+use Rattle.cf_lane.specs.declared.wire.Fragments.{Fragments}
+use Rattle.cf_lane.specs.declared.wire.Wire.{Wire}
+use Rattle.cf_outq.specs.SendQueue.{Queue}
+use Rattle.cf_policy.specs.declared.Asset.{Asset}
+use Rattle.cf_policy.specs.declared.Protocol.{Protocol}
+use Rattle.cf_renumber.specs.Numbers.{NumbersValue}
+use Rattle.cf_view.specs.declared.Endpoint.{Endpoint}
+use Rattle.cf_view.specs.declared.Side.{Side}
+use Rattle.cf_view.specs.declared.base.Framed.{Framed}
+use Rattle.std.proofs.Common.{List, None, Option, Some, ap, arith, false, inr, refl, subst, sym, ℕ, ◌*◌, ◌+◌, ◌<◌, ◌∙◌, ◌≡◌, ◌≤◌}
+use Rattle.cf_lane.specs.declared.fate.Fate.TheVariants as fates
+use Rattle.cf_view.specs.declared.base.Framed.TheVariants as framed
+use Rattle.cf_lane.specs.declared.wire.Wire.TheVariants as wire
+use Rattle.cf_policy.specs.declared.Protocol.TheVariants as protocol
+
+-- a lane that counted an item of this fate, which used no rule
+counted : Fate → LaneValue → LaneValue
+counted f lane = record lane { admitted = lane.admitted + one_if (is_admitted f); refused = lane.refused + one_if (is_refused f) }
+
+counts_unadmitted : (f : Fate) (moment : ℕ) (lane : LaneValue) → is_admitted f ≡ false → Counts f moment lane (counted f lane)
+unfolding counted
+counts_unadmitted f moment lane unadmitted = record {
+  client = refl;
+  admitted = refl;
+  refused = refl;
+  rules = rules_stay f moment lane.rules lane.rules unadmitted refl;
+  wire = refl;
+}
+
+module _ (asset : Asset) (moment : ℕ) (s : Side) (bytes : List ℕ) (n : ℕ) (f : Fate) (old mid : State) (t : TakesUncounted asset moment s bytes n f old mid) where
+  abbrev takes_by : (lane : LaneValue) → Counts f moment mid.lane lane → (cut : Option CutReason) → cut_by f ≡ cut →
+      TakesUnit asset moment s bytes n cut old (state lane mid.to_client mid.to_controller mid.lines)
+  takes_by lane counts cut is = record {
+    unit = t.unit;
+    begins = t.begins;
+    some_bytes = t.some_bytes;
+    fate = f;
+    is_cut = is;
+    handled = t.handled lane counts;
+  }
+
+  steps_by : (lane : LaneValue) → Counts f moment mid.lane lane → (cut : Option CutReason) → cut_by f ≡ cut →
+      Steps asset moment s bytes old (state lane mid.to_client mid.to_controller mid.lines) (step_by cut n)
+  steps_by lane counts None is = takes_by lane counts None is
+  steps_by lane counts (Some reason) is = inr (t.cuts reason is, (n, takes_by lane counts (Some reason) is))
+
+  -- a unit that was taken and counted is a step by its fate
+  pub steps_front : (lane : LaneValue) → Counts f moment mid.lane lane → (st : Step) → st ≡ step_by (cut_by f) n →
+      Steps asset moment s bytes old (state lane mid.to_client mid.to_controller mid.lines) st
+  steps_front lane counts st is =
+      subst (Steps asset moment s bytes old (state lane mid.to_client mid.to_controller mid.lines)) (sym is) (steps_by lane counts (cut_by f) refl)
+
+  -- one that was taken but for its line
+  pub misses_front : is_admitted f ≡ false → cut_by f ≡ None → (more : List (List ℕ)) → HasLines asset old (judged moment (Took s t.unit) f) more →
+      (log : Option (List (List ℕ))) (part : List ℕ) → MayHaveMore more old.lines log part → Misses asset moment s bytes old log part
+  misses_front unadmitted uncut more are_more log part line = record {
+    used = n;
+    new = state (counted f mid.lane) mid.to_client mid.to_controller mid.lines;
+    takes = takes_by (counted f mid.lane) (counts_unadmitted f moment mid.lane unadmitted) None uncut;
+    more = more;
+    are_more = are_more;
+    line = line;
+  }
+
+-- what does not cut has no reason for which it does
+pub never_cuts : {P : Type 0} (f : Fate) → cut_by f ≡ None → (reason : CutReason) → cut_by f ≡ Some reason → P
+never_cuts f uncut reason e = cc (uncut, e)
+
+-- what stands at the front where it is a unit
+pub taken_front : (asset : Asset) (moment : ℕ) (s : Side) (bytes : List ℕ) (old mid : State) (answer : Framed Fate) (f : Fate) (n : ℕ) → answer ≡ framed.Unit f n →
+    Fronts asset moment s bytes old mid answer → TakesUncounted asset moment s bytes n f old mid
+taken_front asset moment s bytes old mid answer f n is front = subst (Fronts asset moment s bytes old mid) is front
+
+-- a queue grew by the unit, and counting it changed nothing of it
+pub grows_counted : (answer : Framed Fate) (f : Fate) (n : ℕ) → answer ≡ framed.Unit f n → (st : Step) → st ≡ step_by (cut_by f) n → (d : ℕ) (mid new : LaneValue) → new.wire ≡ mid.wire →
+    (p q : Queue) → Grows (2 * taken_in answer) d (debt mid) p q → Grows (2 * letters_in st) d (debt new) p q
+grows_counted answer f n is st step_is d mid new kept p q g =
+    let same : taken_in answer ≡ letters_in st = ap taken_in is ∙ sym (ap letters_in step_is) in
+    subst (λ m. Grows (2 * m) d (debt new) p q) same (subst (λ e. Grows (2 * taken_in answer) d e p q) (sym (ap wire_debt kept)) g)
+
+-- how much of a unit goes on
+pub letters_most : (cut : Option CutReason) (n : ℕ) → letters_in (step_by cut n) ≤ n
+letters_most None n = omega arith
+letters_most (Some reason) n = omega arith
+
+pub letters_uncut : (cut : Option CutReason) (n : ℕ) → cut ≡ None → letters_in (step_by cut n) ≡ n
+letters_uncut None n e = refl
+letters_uncut (Some reason) n e = cc
+
+-- a command is counted once, and a cut counts none
+counts_by : (f : Fate) (n : ℕ) → 0 < n → one_if (is_admitted f) + one_if (is_refused f) ≤ letters_in (step_by (cut_by f) n)
+counts_by fates.Carried n some = omega arith
+counts_by (fates.Admitted used) n some = omega (arith, some)
+counts_by (fates.Refused r) n some = omega (arith, some)
+counts_by (fates.Stray why) n some = omega arith
+counts_by fates.Lengthens n some = omega arith
+counts_by (fates.Cuts reason) n some = omega arith
+
+-- the numbers of commands rise by one at most
+pub counts_front : (f : Fate) (st : Step) (n : ℕ) → 0 < n → st ≡ step_by (cut_by f) n → (old new : LaneValue) →
+    new.admitted ≡ old.admitted + one_if (is_admitted f) → new.refused ≡ old.refused + one_if (is_refused f) → CountsBy (letters_in st) old new
+counts_front f st n some is old new admitted refused = omega (arith, counts_by f n some, ap letters_in is, admitted, refused)
+
+-- what is kept for a protocol tells which one it is
+pub is_modbus : (p : Protocol) → IsWireOf p wire.Modbus → p ≡ protocol.Modbus
+is_modbus protocol.Modbus is = refl
+is_modbus protocol.Dnp3 is = absurd is
+is_modbus protocol.Iec104 is = absurd is
+
+pub is_dnp3 : (p : Protocol) (f : Fragments) → IsWireOf p (wire.Dnp3 f) → p ≡ protocol.Dnp3
+is_dnp3 protocol.Modbus f is = absurd is
+is_dnp3 protocol.Dnp3 f is = refl
+is_dnp3 protocol.Iec104 f is = absurd is
+
+pub is_iec104 : (p : Protocol) (numbers : NumbersValue) → IsWireOf p (wire.Iec104 numbers) → p ≡ protocol.Iec104
+is_iec104 protocol.Modbus numbers is = absurd is
+is_iec104 protocol.Dnp3 numbers is = absurd is
+is_iec104 protocol.Iec104 numbers is = refl
+
+pub are_fragments : (p : Protocol) (f : Fragments) → IsWireOf p (wire.Dnp3 f) → AreFragments f
+are_fragments protocol.Modbus f is = absurd is
+are_fragments protocol.Dnp3 f is = is
+are_fragments protocol.Iec104 f is = absurd is
+
+pub dnp3_wire : (p : Protocol) (f : Fragments) → p ≡ protocol.Dnp3 → AreFragments f → IsWireOf p (wire.Dnp3 f)
+dnp3_wire p f is are = subst (λ q. IsWireOf q (wire.Dnp3 f)) (sym is) are
+
+pub are_idle : (p : Protocol) (numbers : NumbersValue) → IsWireOf p (wire.Iec104 numbers) → numbers.owed ≡ None
+are_idle protocol.Modbus numbers is = absurd is
+are_idle protocol.Dnp3 numbers is = absurd is
+are_idle protocol.Iec104 numbers is = is
+
+pub iec104_wire : (p : Protocol) (numbers : NumbersValue) → p ≡ protocol.Iec104 → numbers.owed ≡ None → IsWireOf p (wire.Iec104 numbers)
+iec104_wire p numbers is idle = subst (λ q. IsWireOf q (wire.Iec104 numbers)) (sym is) idle
+
+-- a lane by its parts
+abbrev pub lane_of : Endpoint → (admitted refused : ℕ) → Rules → Wire → LaneValue
+lane_of client admitted refused rules w = record { client = client; admitted = admitted; refused = refused; rules = rules; wire = w }
+
+-- what is said of the parts of a lane, which keeps this for its protocol, is said of the lane
+module _ (asset : Asset) (client : Endpoint) (admitted refused : ℕ) (rules : Rules) (kept before : Wire) (lane : LaneValue)
+    (is : lane_of client admitted refused rules kept ≡ lane) (same : kept ≡ before) where
+  pub wire_in : IsLaneOf asset lane → IsWireOf asset.protocol before
+  wire_in of = subst (IsWireOf asset.protocol) (sym (ap (λ (l : LaneValue). l.wire) is) ∙ same) of.wire
+
+  rules_in : IsLaneOf asset lane → IsRulesOf asset client.address rules
+  rules_in of = subst (λ (l : LaneValue). IsRulesOf asset l.client.address l.rules) (sym is) of.rules
+
+  pub lane_in : (after : Wire) → IsWireOf asset.protocol after → IsLaneOf asset lane → IsLaneOf asset (lane_of client admitted refused rules after)
+  lane_in after w of = record { rules = rules_in of; wire = w }
+
+  debt_in : wire_debt before ≡ debt lane
+  debt_in = sym (ap wire_debt same) ∙ ap debt is
+
+  pub grows_in : (m d : ℕ) (p q : Queue) → Grows m (wire_debt before) d p q → Grows m (debt lane) d p q
+  grows_in m d p q g = subst (λ e. Grows m e d p q) debt_in g
+
+  pub room_in : (m : ℕ) (q : Queue) → HasRoom (debt lane + m) q → HasRoom (wire_debt before + m) q
+  room_in m q r = subst (λ e. HasRoom (e + m) q) (sym debt_in) r
+
+  module _ (moment : ℕ) (s : Side) (bytes : List ℕ) (old : Outlets) where
+    pub fronts_in : (after : Wire) (new : Outlets) (answer : Framed Fate) → FrontsOf asset client rules moment s bytes before after old new answer →
+        Fronts asset moment s bytes (state lane old.to_client old.to_controller old.lines)
+        (state (lane_of client admitted refused rules after) new.to_client new.to_controller new.lines) answer
+    fronts_in after new answer f =
+        let mid = state (lane_of client admitted refused rules after) new.to_client new.to_controller new.lines in
+        subst (λ (l : LaneValue). Fronts asset moment s bytes (state l old.to_client old.to_controller old.lines) mid answer) is
+        (subst (λ (w : Wire). Fronts asset moment s bytes (lane_at client rules w admitted refused old) mid answer) (sym same) (f admitted refused))
+
+    pub misses_in : (log : Option (List (List ℕ))) (part : List ℕ) → MissesOf asset client rules moment s bytes before old log part →
+        Misses asset moment s bytes (state lane old.to_client old.to_controller old.lines) log part
+    misses_in log part m =
+        subst (λ (l : LaneValue). Misses asset moment s bytes (state l old.to_client old.to_controller old.lines) log part) is
+        (subst (λ (w : Wire). Misses asset moment s bytes (lane_at client rules w admitted refused old) log part) (sym same) (m admitted refused))

@@ -1,0 +1,54 @@
+use Rattle.std.proofs.Common.{arith, refl}
+use Rattle.cf_apci.specs.Apdu.{apdu_value}
+use Rattle.cf_outside.specs.Desk.{DeskValue}
+use Rattle.cf_lane.proofs.Apdus.{apdu_front, apdu_length, apdu_misses, grows_apdu}
+use Rattle.cf_lane.proofs.Failing.{on_err}
+use Rattle.cf_lane.proofs.Taking.{room_less}
+use Rattle.cf_lane.proofs.Units.{apdus, begins_same, step_breaks, step_waits}
+use Rattle.cf_lane.specs.Handled.{outlets}
+use Rattle.cf_lane.proofs.iec104.take_apdu_at_front.Goals as goal
+
+pub take_apdu-requires-clause-client_room : goal.take_apdu-requires-clause-client_room
+take_apdu-requires-clause-client_room g c =
+    let b = begins_same c.after.ensures.bytes c.in-Unit.ensures.true_answer in
+    room_less _ _ _ (omega (arith, apdu_length _ _ _ b, b.inside)) c.requires.client_room
+
+pub take_apdu-requires-clause-controller_room : goal.take_apdu-requires-clause-controller_room
+take_apdu-requires-clause-controller_room g c =
+    let b = begins_same c.after.ensures.bytes c.in-Unit.ensures.true_answer in
+    room_less _ _ _ (omega (arith, apdu_length _ _ _ b, b.inside)) c.requires.controller_room
+
+pub returns-in-More-clause-fronts : goal.returns-in-More-clause-fronts
+returns-in-More-clause-fronts g c = λ admitted refused.
+    (step_waits c.args.asset.now (apdus c.args.asset.now.protocol c.requires.iec104) _ _ c.after.ensures.bytes c.in-More.ensures.true_answer, refl)
+
+pub returns-in-Broken-clause-fronts : goal.returns-in-Broken-clause-fronts
+returns-in-Broken-clause-fronts g c = λ admitted refused. (
+  step_breaks c.args.asset.now (apdus c.args.asset.now.protocol c.requires.iec104) _ _ c.after.ensures.bytes c.args.side c.in-Broken.reason c.in-Broken.ensures.true_answer,
+  refl,
+)
+
+pub returns-in_ok-fate-in-Unit-clause-fronts : goal.returns-in_ok-fate-in-Unit-clause-fronts
+returns-in_ok-fate-in-Unit-clause-fronts g c =
+    let value = g.D.Desk.value in
+    apdu_front c.args.asset.now c.requires.iec104 c.args.client.now c.args.rules.now c.requires.rules c.args.moment c.args.side c.args.bytes.now.bytes (apdu_value c.in-Unit.unit) c.in-Unit.used
+    (begins_same c.after.ensures.bytes c.in-Unit.ensures.true_answer) c.args.numbers.now (outlets c.args.to_client.now c.args.to_controller.now (DeskValue.lines (value c.args.desk.now)))
+    c.in_ok-fate-in-Unit.fate c.take_apdu.new.numbers (outlets c.take_apdu.new.to_client c.take_apdu.new.to_controller (DeskValue.lines (value c.take_apdu.new.desk)))
+    c.in_ok-fate-in-Unit.ensures.takes
+
+pub returns-in_err-fate-in-Unit-clause-misses : goal.returns-in_err-fate-in-Unit-clause-misses
+returns-in_err-fate-in-Unit-clause-misses g c =
+    let value = g.D.Desk.value in
+    on_err _ _ (apdu_misses c.args.asset.now c.requires.iec104 c.args.client.now c.args.rules.now c.requires.rules c.args.moment c.args.side c.args.bytes.now.bytes (apdu_value c.in-Unit.unit) c.in-Unit.used
+    (begins_same c.after.ensures.bytes c.in-Unit.ensures.true_answer) c.args.numbers.now (outlets c.args.to_client.now c.args.to_controller.now (DeskValue.lines (value c.args.desk.now)))
+    (DeskValue.lines (value c.take_apdu.new.desk)) (DeskValue.line_part (value c.take_apdu.new.desk)) c.in_err-fate-in-Unit.ensures.misses)
+
+pub returns-in_ok-fate-in-Unit-clause-client_grows : goal.returns-in_ok-fate-in-Unit-clause-client_grows
+returns-in_ok-fate-in-Unit-clause-client_grows g c =
+    let b = begins_same c.after.ensures.bytes c.in-Unit.ensures.true_answer in
+    grows_apdu c.in_ok-fate-in-Unit.fate _ c.in-Unit.used (apdu_length _ _ _ b) _ _ c.in_ok-fate-in-Unit.ensures.client_grows
+
+pub returns-in_ok-fate-in-Unit-clause-controller_grows : goal.returns-in_ok-fate-in-Unit-clause-controller_grows
+returns-in_ok-fate-in-Unit-clause-controller_grows g c =
+    let b = begins_same c.after.ensures.bytes c.in-Unit.ensures.true_answer in
+    grows_apdu c.in_ok-fate-in-Unit.fate _ c.in-Unit.used (apdu_length _ _ _ b) _ _ c.in_ok-fate-in-Unit.ensures.controller_grows

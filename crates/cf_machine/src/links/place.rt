@@ -1,0 +1,89 @@
+//! A place at which a service listens.
+
+use mio::event::Event;
+use mio::net::{TcpListener, TcpStream};
+use mio::{Interest, Registry, Token};
+use std::io;
+use std::net::{Net, SocketAddr};
+
+/// How long a place rests where the system could not take a client, in milliseconds.
+const REST_MILLIS: u64 = 1000;
+
+/// A socket that listens, and what is known of the clients that wait at it.
+#[derive(Drop)]
+pub(crate) struct Place {
+    listener: TcpListener,
+    /// A client may wait; else the system says when one comes.
+    may_accept: bool,
+    /// It was asked for a client in this round.
+    is_asked: bool,
+    /// It is not asked before this moment, in milliseconds.
+    rests_until: u64,
+}
+
+impl Place {
+    /// Binds, and listens.
+    pub fn new(
+        net: &impl Net,
+        at: SocketAddr,
+        registry: &Registry,
+        token: Token,
+    ) -> io::Result<Self> {
+        let mut listener = TcpListener::bind(net, at)?;
+        registry.register(&mut listener, token, Interest::READABLE)?;
+        Ok(Place {
+            listener,
+            may_accept: false,
+            is_asked: false,
+            rests_until: 0,
+        })
+    }
+
+    /// Where it listens.
+    pub fn address(&self) -> io::Result<SocketAddr> {
+        self.listener.local_addr()
+    }
+
+    /// Notes that a client waits.
+    pub fn note(&mut self, event: &Event) {
+        self.may_accept = self.may_accept || event.is_readable() || event.is_error();
+    }
+
+    /// Has it asked for a client again, since there is room for one.
+    pub fn look_again(&mut self) {
+        self.is_asked = true;
+    }
+
+    /// Begins a round.
+    pub fn begin_round(&mut self) {
+        self.is_asked = false;
+    }
+
+    /// How many milliseconds may pass before it is asked again; nothing where the system says when.
+    pub fn longest_wait(&self, now: u64) -> Option<u64> {
+        if self.may_accept && self.is_asked {
+            Some(self.rests_until.saturating_sub(now))
+        } else {
+            None
+        }
+    }
+
+    /// Takes a client, if one waits. One that the system could not take is asked for again later.
+    pub fn accept(&mut self, now: u64) -> Option<(TcpStream, SocketAddr)> {
+        self.is_asked = true;
+        if !self.may_accept || now < self.rests_until {
+            return None;
+        }
+        match self.listener.accept() {
+            Ok(taken) => Some(taken),
+            Err(error) => {
+                match error.kind() {
+                    io::ErrorKind::WouldBlock => self.may_accept = false,
+                    io::ErrorKind::Interrupted | io::ErrorKind::ConnectionAborted => {}
+                    _ => self.rests_until = now.saturating_add(REST_MILLIS),
+                }
+                None
+            }
+        }
+    }
+}

@@ -1,0 +1,234 @@
+//! The sockets of a service, and its clock.
+ghost use Rattle.std.specs.Prelude.{◌≤◌, IfOk, IfSome, length};
+
+use crate::links::place::Place;
+use crate::links::session::{Leaving, Session, session_of};
+use cf_view::{Endpoint, Side};
+use mio::{Events, Poll, Token};
+use std::alloc::Global;
+use std::io;
+use std::net::{IpAddr, Net, SocketAddr};
+use std::time::{Clock, Duration, Instant, SystemTime};
+
+/// How many events of the system are taken at once.
+const EVENTS: usize = 1024;
+
+/// How many sessions there is room for from the start.
+const SESSIONS: usize = 256;
+
+/// How many sessions that were left are read away at once at most.
+const LEAVING: usize = 256;
+
+/// The places, the sessions, and those that were left.
+#[derive(Drop)]
+pub(crate) struct Sockets<'a, R: Net + Clock + Eprint> {
+    rt: &'a R,
+    poll: Poll,
+    events: Events,
+    places: Vec<Place>,
+    /// In the order of their numbers, which count up.
+    sessions: Vec<Session>,
+    leaving: Vec<Leaving>,
+    begun: Instant,
+    /// Milliseconds since it began, as the round began.
+    now: u64,
+    /// Microseconds since 1970, as the round began.
+    moment: u64,
+}
+
+impl<'a, R: Net + Clock + Eprint> Sockets<'a, R> {
+    /// Of no place and no session.
+    pub fn new(rt: &'a R, alloc: Global) -> io::Result<Self> {
+        Ok(Sockets {
+            rt,
+            poll: Poll::new(rt)?,
+            events: Events::with_capacity(alloc, EVENTS)?,
+            places: Vec::new(alloc),
+            sessions: Vec::with_capacity(alloc, SESSIONS)?,
+            leaving: Vec::with_capacity(alloc, LEAVING)?,
+            begun: Instant::now(rt)?,
+            now: 0,
+            moment: 0,
+        })
+    }
+
+    /// The moment at which the round began, in microseconds since 1970.
+    pub fn moment(&self) -> u64 {
+        self.moment
+    }
+
+    /// Where the client of a session came from.
+    pub fn client_of(&self, session: u64) -> Option<Endpoint> {
+        let at = session_of(&self.sessions, session)?;
+        Some(self.sessions[at].client_at)
+    }
+
+    /// Whether a session has a turn now, which begins with this.
+    pub fn begin_turn(&mut self, session: u64) -> bool {
+        match session_of(&self.sessions, session) {
+            Some(at) => self.sessions[at].begin_turn(self.now),
+            None => true,
+        }
+    }
+
+    /// Listens at an address, and says so on standard error.
+    pub fn open(&mut self, at: SocketAddr) -> io::Result<u64> {
+        let token = place_token(self.places.len());
+        let place = Place::new(self.rt, at, self.poll.registry(), token)?;
+        let here = place.address()?;
+        self.places.push(place)?;
+        let _ = eprintln!(self.rt; "cmdwall: listens on {here}");
+        self.read_clock()?;
+        Ok(self.moment)
+    }
+
+    /// Waits for what a round can move, and reads the clock.
+    pub fn wait_for_news(&mut self) -> io::Result<u64> {
+        let now = self.now;
+        self.leaving.retain_mut(|leaving| !leaving.drain(now));
+        let wait = self.longest_wait().map(Duration::from_millis);
+        for place in self.places.iter_mut() {
+            place.begin_round();
+        }
+        self.poll.poll(&mut self.events, wait)?;
+        self.read_clock()?;
+        self.note_events();
+        Ok(self.moment)
+    }
+
+    /// How many milliseconds may pass before the next round; nothing where the system says when.
+    fn longest_wait(&self) -> Option<u64> {
+        let places = self
+            .places
+            .iter()
+            .filter_map(|place| place.longest_wait(self.now));
+        let sessions = self
+            .sessions
+            .iter()
+            .map(|session| session.longest_wait(self.now));
+        let leaving = self
+            .leaving
+            .iter()
+            .map(|leaving| leaving.longest_wait(self.now));
+        places.chain(sessions).chain(leaving).min()
+    }
+
+    fn read_clock(&mut self) -> io::Result<()> {
+        let passed = self.begun.elapsed(self.rt)?;
+        self.now = u64::try_from(passed.as_millis()).unwrap_or(u64::MAX);
+        let since = SystemTime::now(self.rt)?.duration_since(SystemTime::UNIX_EPOCH);
+        match since {
+            Ok(since) => {
+                self.moment = u64::try_from(since.as_micros()).unwrap_or(u64::MAX);
+                Ok(())
+            }
+            Err(_) => Err(io::Error::from(io::ErrorKind::InvalidData)),
+        }
+    }
+
+    /// Hands what the system says to the places and sessions. What it says late of a session that is gone is no one's.
+    fn note_events(&mut self) {
+        for event in self.events.iter() {
+            let token = event.token().0;
+            if let Some(place) = self.places.get_mut(usize::MAX - token) {
+                place.note(event);
+                continue;
+            }
+            let side = if token % 2 == 0 {
+                Side::Client
+            } else {
+                Side::Controller
+            };
+            if let Some(at) = session_of(&self.sessions, (token / 2) as u64) {
+                self.sessions[at].note(side, event);
+            }
+        }
+    }
+
+    /// Takes a client that waits at a place.
+    pub fn take_client(&mut self, place: u32, session: u64) -> io::Result<Option<Endpoint>> {
+        let Some(place) = self.places.get_mut(place as usize) else {
+            return Ok(None);
+        };
+        let Some((stream, from)) = place.accept(self.now) else {
+            return Ok(None);
+        };
+        let client = endpoint_of(from);
+        let taken = Session::new(session, client, stream, self.poll.registry())?;
+        self.sessions.push(taken)?;
+        Ok(Some(client))
+    }
+
+    /// Asks whether the controller of a session took the connection.
+    pub fn reach(&mut self, session: u64, controller: SocketAddr) -> io::Result<Option<Endpoint>> {
+        match session_of(&self.sessions, session) {
+            Some(at) => {
+                self.sessions[at].reach(self.rt, self.poll.registry(), self.now, controller)
+            }
+            None => Err(no_session()),
+        }
+    }
+
+    /// Reads what came from a side of a session; 0 at its end, nothing where none came.
+    pub fn read(&mut self, session: u64, side: Side, buf: &mut [u8]) -> io::Result<Option<usize>>
+        ensures inside { IfOk result (λ count. IfSome count (λ n. n ≤ length buf.new)) }
+    {
+        match session_of(&self.sessions, session) {
+            Some(at) => self.sessions[at].read(side, buf),
+            None => Err(no_session()),
+        }
+    }
+
+    /// Writes to a side of a session what it takes now; nothing where it takes none.
+    pub fn write(&mut self, session: u64, side: Side, bytes: &[u8]) -> io::Result<Option<usize>>
+        ensures inside { IfOk result (λ count. IfSome count (λ n. n ≤ length bytes.now)) }
+    {
+        match session_of(&self.sessions, session) {
+            Some(at) => self.sessions[at].write(side, bytes),
+            None => Err(no_session()),
+        }
+    }
+
+    /// Ends what is sent to a side of a session, which may send on.
+    pub fn close(&self, session: u64, side: Side) -> io::Result<()> {
+        match session_of(&self.sessions, session) {
+            Some(at) => self.sessions[at].close(side),
+            None => Err(no_session()),
+        }
+    }
+
+    /// Leaves both connections of a session, and has each place asked again, since there is room for a client.
+    pub fn drop_session(&mut self, session: u64) {
+        for place in self.places.iter_mut() {
+            place.look_again();
+        }
+        if let Some(at) = session_of(&self.sessions, session) {
+            let leaving = self.sessions.remove(at).leave(self.now);
+            if self.leaving.len() < LEAVING {
+                // There is room for it.
+                let _ = self.leaving.push(leaving);
+            }
+        }
+    }
+}
+
+/// The token of a place: far above those of sessions.
+fn place_token(place: usize) -> Token {
+    Token(usize::MAX - place)
+}
+
+fn no_session() -> io::Error {
+    io::Error::from(io::ErrorKind::NotConnected)
+}
+
+/// The endpoint of an IPv4 address; that of another one, which a listener of IPv4 does not have, is 0.0.0.0.
+fn endpoint_of(address: SocketAddr) -> Endpoint {
+    let bits = match address.ip() {
+        IpAddr::V4(ip) => ip.to_bits(),
+        IpAddr::V6(_) => 0,
+    };
+    Endpoint {
+        address: bits,
+        port: address.port(),
+    }
+}

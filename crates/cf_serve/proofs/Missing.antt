@@ -1,0 +1,140 @@
+-- A line that failed, and what it leaves of its session.
+use Rattle.std.proofs.Common.{Err, List, None, Ok, Option, Result, Some, [], ap, inl, inr, refl, subst, sym, ℕ, ◌++◌, ◌<◌, ◌∙◌, ◌∷◌, ◌≡◌}
+use Rattle.std.specs.Prelude.{OnErr, take}
+use Rattle.std.proofs.lemmas.List.{append-nil, append_assoc}
+use Rattle.std.proofs.lemmas.Option.{same_Some}
+use Rattle.cf_audit.specs.Line.{Begun}
+use Rattle.cf_lane.specs.Handled.{MayHaveMore}
+use Rattle.cf_lane.specs.Log.{line_about, with_lines}
+use Rattle.cf_links.specs.Links.{LinksEntry, SessionTold, with_answers, with_entry}
+use Rattle.cf_outside.specs.Pair.{Entry, Moment, met_at}
+use Rattle.cf_relay.proofs.Lined.{lines_both, lines_none}
+use Rattle.cf_relay.proofs.Starting.{write_told}
+use Rattle.cf_relay.proofs.Turned.{stopped_write}
+use Rattle.cf_relay.specs.Closing.{BeginsLines}
+use Rattle.cf_relay.specs.Relaying.{RelayingValue}
+use Rattle.cf_relay.specs.Turned.{HasStopped}
+use Rattle.cf_relay.specs.declared.stop.Stop.TheVariants as stop
+use Rattle.cf_view.specs.declared.Endpoint.{Endpoint}
+use Rattle.cf_view.specs.declared.WriteFault.{WriteFault}
+use Rattle.cf_serve.proofs.Reaching.{told_as, told_more}
+use Rattle.cf_serve.specs.Broken.{BeginsLine, FailsSo, own_begun}
+use Rattle.cf_serve.specs.Failing.{EndsTurn, MissesReach, MissesTurn}
+use Rattle.cf_serve.specs.Phase.{LinkedValue, StandsAs, TurnDoes}
+use Rattle.cf_serve.specs.Session.{EndsSo, Listening}
+use Rattle.cf_serve.specs.declared.end.SessionEnd.{SessionEnd}
+
+-- ---- the line
+
+pub begins_line : (line : List ℕ) (old new : Option (List (List ℕ))) (part : List ℕ) → MayHaveMore (line ∷ []) old new part →
+    (whole : List (List ℕ)) × ((new ≡ with_lines old whole) × BeginsLine line whole part)
+begins_line line old new part (inl (same, (k, some))) = ([], (same ∙ lines_none old, inl (refl, (k, some ∙ ap (take k) (append-nil line)))))
+begins_line line old new part (inr (added, none)) = (line ∷ [], (added, inr (refl, none)))
+
+own_more : (line : List ℕ) (whole : List (List ℕ)) (part : List ℕ) → BeginsLine line whole part → MayHaveMore (line ∷ []) (Some []) (Some whole) part
+own_more line whole part (inl (none, (k, some))) = inl (ap Some none, (k, some ∙ ap (take k) (sym (append-nil line))))
+own_more line whole part (inr (all, none)) = inr (ap Some all, none)
+
+own_begins : (own : List (List ℕ)) (part : List ℕ) (ls : List (List ℕ)) → BeginsLines (Some []) (Some own) part ls → (own_begun own part).Begins ls
+own_begins own part ls (count, some, is, rest) = (count, some, same_Some _ _ is, rest)
+
+module _ (at : Listening) (most : ℕ) (client : Endpoint) where
+  -- ---- the last line
+
+  last_fails : (es : List Entry) (before : List (List ℕ)) (line : List ℕ) (whole : List (List ℕ)) (part : List ℕ) (e : SessionEnd) →
+      EndsSo at most client es (before ++ line ∷ []) e → BeginsLine line whole part → FailsSo at most client es (before ++ whole) part
+  last_fails es before line whole part e ends begins =
+      inl (record { end = e; before = before; line = line; ends = ends; whole = whole; own_is = refl; begins = begins })
+
+  module _ (told after : SessionTold) (log mid log' : Option (List (List ℕ))) (line : List ℕ) (old : Option LinkedValue) (e : SessionEnd)
+      (t : EndsTurn at most client told after log mid line old e) where
+    -- it was put
+    pub last_put : (new : Option LinkedValue) → log' ≡ with_lines mid (line ∷ []) → TurnDoes at most client told after log log' old new (Some e)
+    last_put new put = record {
+      answers = t.answers;
+      tells = t.tells;
+      leaves = λ es own stands.
+          let x = t.ends es own stands in (
+            x.0 ++ line ∷ [],
+            (
+              put ∙ ap (λ l. with_lines l (line ∷ [])) x.1.0 ∙ lines_both log x.0 (line ∷ []),
+              subst (λ (ls : List (List ℕ)). EndsSo at most client (es ++ t.answers) ls e) (append_assoc own x.0 (line ∷ [])) x.1.1,
+            ),
+          );
+    }
+
+    -- it failed
+    pub last_missed : (part : List ℕ) → MayHaveMore (line ∷ []) mid log' part → MissesTurn at most client told after log log' part old
+    last_missed part may =
+        let w = begins_line line mid log' part may in
+        record {
+          answers = t.answers;
+          tells = t.tells;
+          fails = λ es own stands.
+              let x = t.ends es own stands in (
+                x.0 ++ w.0,
+                (
+                  w.1.0 ∙ ap (λ l. with_lines l w.0) x.1.0 ∙ lines_both log x.0 w.0,
+                  subst (λ (ls : List (List ℕ)). FailsSo at most client (es ++ t.answers) ls part) (append_assoc own x.0 w.0)
+                      (last_fails (es ++ t.answers) (own ++ x.0) line w.0 part e x.1.1 w.1.1),
+                ),
+              );
+        }
+
+  -- ---- a line amid a turn
+
+  pub write_fails : (met : Endpoint) (m : ℕ) (answers : List Entry) (now : RelayingValue) (own : List (List ℕ)) (part : List ℕ) →
+      HasStopped at.asset at.port most met m (Some []) answers stop.Write now (Some own) part →
+      FailsSo at most client (met_at at.port at.asset.endpoint met ∷ Moment m ∷ answers) own part
+  write_fails met m answers now own part h =
+      inr (stopped_write at.asset at.port most met m (Some []) answers now (Some own) part (own_begun own part) h (own_begins own part))
+
+  -- ---- as a controller is asked for
+
+  -- the open line
+  pub open_fails : (few : 0 < most) (met : Endpoint) (m : ℕ) (whole : List (List ℕ)) (part : List ℕ) → BeginsLine (line_about at.asset met m Begun) whole part →
+      FailsSo at most client (met_at at.port at.asset.endpoint met ∷ Moment m ∷ []) whole part
+  open_fails few met m whole part begins =
+      inr (write_told at.asset at.port most few (own_begun whole part) met m (Some []) (Some whole) part (own_more (line_about at.asset met m Begun) whole part begins) (own_begins whole part))
+
+  module _ (before : List Entry) (told after : SessionTold) (log log' : Option (List (List ℕ))) (part : List ℕ) (answers : List Entry)
+      (tells : after ≡ with_answers told answers) (line : List ℕ) (may : MayHaveMore (line ∷ []) log log' part) where
+    pub reach_missed : ((whole : List (List ℕ)) → BeginsLine line whole part → FailsSo at most client (before ++ answers) whole part) →
+        MissesReach at most client before told after log log' part
+    reach_missed fails =
+        let w = begins_line line log log' part may in
+        record { answers = answers; lines = w.0; tells = tells; added = w.1.0; fails = fails w.0 w.1.1 }
+
+    -- a line with which it ends
+    pub end_missed : (e : SessionEnd) → EndsSo at most client (before ++ answers) (line ∷ []) e → MissesReach at most client before told after log log' part
+    end_missed e ends = reach_missed (λ whole begins. last_fails (before ++ answers) [] line whole part e ends begins)
+
+  module _ (session : ℕ) (list : Option (List LinksEntry)) (after : SessionTold) (log log' : Option (List (List ℕ))) (part : List ℕ) where
+    -- the meeting and what came then
+    pub met_missed : (mid : SessionTold) (x : Entry) {A : Type 0} (r : Result A WriteFault) → mid ≡ with_entry (told_as session list) x →
+        OnErr r ((c : Endpoint) → MissesReach at most c (x ∷ []) mid after log log' part) → OnErr r (MissesReach at most client [] (told_as session list) after log log' part)
+    met_missed mid x (Ok v) is does = tt
+    met_missed mid x (Err e) is does = record {
+      answers = x ∷ (does client).answers;
+      lines = (does client).lines;
+      tells = (does client).tells ∙ ap (λ t. with_answers t (does client).answers) is ∙ told_more session list x (does client).answers;
+      added = (does client).added;
+      fails = (does client).fails;
+    }
+
+    -- in the turn of a session
+    pub turn_missed : (o : Option LinkedValue) → o ≡ None → MissesReach at most client [] (told_as session list) after log log' part →
+        MissesTurn at most client (told_as session list) after log log' part o
+    turn_missed o none does = record {
+      answers = does.answers;
+      tells = does.tells;
+      fails = λ es own h.
+          let n : (es ≡ []) × (own ≡ []) = subst (λ x. StandsAs at most es own x) none h in (
+            does.lines,
+            (
+              does.added,
+              subst (λ (xs : List Entry). FailsSo at most client (xs ++ does.answers) (own ++ does.lines) part) (sym n.0)
+                  (subst (λ (ls : List (List ℕ)). FailsSo at most client does.answers (ls ++ does.lines) part) (sym n.1) does.fails),
+            ),
+          );
+    }

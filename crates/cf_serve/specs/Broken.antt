@@ -1,0 +1,156 @@
+-- What a service did where a line of its log failed. The main definition is `IsBroken`. This project's own.
+--
+-- All rounds but the last are whole. Of the last there is what came before the line that failed, and nothing behind it: no client was
+-- taken, no session was asked, and nothing was given. The sessions that stood were left. Of the line the log has a beginning, or all.
+use Rattle.cf_audit.specs.Line.{Listen}
+use Rattle.cf_lane.specs.Log.{line_about, with_lines}
+use Rattle.cf_links.specs.Links.{LinksEntry, answers_of}
+use Rattle.cf_outside.specs.Files.{Content, GoesOn, content_gone_on}
+use Rattle.cf_outside.specs.Lines.{file_lines, file_part}
+use Rattle.cf_outside.specs.Pair.{Entry}
+use Rattle.cf_outside.specs.declared.files.WriteAnswer.TheVariants as write
+use Rattle.cf_relay.specs.Ends.{IsWriteEnd, LogContents}
+use Rattle.cf_view.specs.declared.Endpoint.{Endpoint}
+use Rattle.std.specs.List.{AllByRecursion, concat, flat_map}
+use Rattle.std.specs.Prelude.{List, None, Option, Some, [], drop, length, map, option_map, slice_get, take, true, ℕ, ◌++◌, ◌-◌, ◌<◌, ◌^◌}
+use Rattle.std.specs.Prelude.{◌∷◌, ◌≡◌, ◌⊎◌}
+use Rattle.cf_serve.specs.Phase.{listenings}
+use Rattle.cf_serve.specs.Rounds.{AreArrivals, AreRounds, AreTurns, Arrival, Round, Seat, TurnOf, answers_in, lines_in, round_entries}
+use Rattle.cf_serve.specs.Rounds.{round_lines, stays, turns_of}
+use Rattle.cf_serve.specs.Served.{IfEnded, IsClient, left_of, listen_lines, opened_from}
+use Rattle.cf_serve.specs.Session.{EndsSo, Listening}
+use Rattle.cf_serve.specs.declared.end.SessionEnd.{SessionEnd}
+use Rattle.cf_serve.specs.declared.table.Place.{Place}
+
+-- of a line that failed the log has a beginning, behind its whole lines, or all of it
+abbrev pub BeginsLine : (line : List ℕ) → (whole : List (List ℕ)) → (part : List ℕ) → Type 0
+BeginsLine line whole part = ((whole ≡ []) × ((some : ℕ) × (part ≡ take some line))) ⊎ ((whole ≡ line ∷ []) × (part ≡ []))
+
+-- ---- the session whose line failed
+
+-- a session's own lines are the first of these, and what stands behind them is a beginning of the rest
+abbrev pub own_begun : (own : List (List ℕ)) → (part : List ℕ) → LogContents
+own_begun own part = record {
+  Holds = λ all. own ≡ all;
+  Begins = λ all. (count some : ℕ) × (own ≡ take count all) × (part ≡ take some (concat (drop count all)));
+}
+
+-- it was the last line of a session, which has all of its end but that
+pub record LastLineFails (at : Listening) (most : ℕ) (client : Endpoint) (es : List Entry) (own : List (List ℕ)) (part : List ℕ) : Type 0 where
+  pub end : SessionEnd
+  pub before : List (List ℕ)
+  pub line : List ℕ
+  pub ends : EndsSo at most client es (before ++ line ∷ []) end
+  pub whole : List (List ℕ)
+  pub own_is : own ≡ before ++ whole
+  pub begins : BeginsLine line whole part
+
+-- or it was the open line, or one amid a turn: the session is a relay whose write failed
+abbrev pub FailsSo : Listening → (most : ℕ) → (client : Endpoint) → List Entry → (own : List (List ℕ)) → (part : List ℕ) → Type 0
+FailsSo at most client es own part =
+    LastLineFails at most client es own part ⊎ IsWriteEnd at.asset at.port most (own_begun own part) es
+
+-- by its own answers and its own lines alone
+abbrev pub IsFailedClient : List Listening → (most : ℕ) → List TurnOf → Seat → (part : List ℕ) → Type 0
+IsFailedClient places most past seat part =
+    (at : Listening) → slice_get places seat.place ≡ Some at
+    → FailsSo at most seat.client (answers_in seat.session past) (lines_in seat.session past) part
+
+-- ---- the round that breaks off
+
+-- a client took the last place, and its line `full` failed: it is the last that was taken
+pub record FullFails (places : List Listening) (moment from next : ℕ) (standing : List Seat) (arrivals : List Arrival)
+    (part : List ℕ) : Type 0 where
+  pub before : List Arrival
+  pub seat : Seat
+  pub line : List ℕ
+  -- all who came, with the lines that were theirs
+  pub come : AreArrivals places moment from next standing (before ++ record { seat = seat; lines = line ∷ [] } ∷ [])
+  pub whole : List (List ℕ)
+  pub are : arrivals ≡ before ++ record { seat = seat; lines = whole } ∷ []
+  pub begins : BeginsLine line whole part
+
+-- the round breaks off there: no session had its turn, and each stands as it stood
+pub record BreaksInArrivals (places : List Listening) (most : ℕ) (past : List TurnOf) (next : ℕ) (standing : List Seat) (r : Round)
+    (left : List Seat) (part : List ℕ) : Type 0 where
+  pub fails : FullFails places r.moment 0 next standing r.arrivals part
+  pub no_turns : r.turns ≡ []
+  pub all : left ≡ standing ++ map (λ (a : Arrival). a.seat) r.arrivals
+  pub stand : AllByRecursion (λ (s : Seat). IsClient places most past s []) left
+
+-- a line of a turn failed: the sessions before had theirs, those behind did not, and each but this one stands as it stood
+pub record TurnFails (places : List Listening) (most : ℕ) (past : List TurnOf) (stood : List Seat) (turns : List TurnOf)
+    (left : List Seat) (part : List ℕ) : Type 0 where
+  pub before : List TurnOf
+  pub turn : TurnOf
+  pub behind : List Seat
+  pub are : turns ≡ before ++ turn ∷ []
+  pub in_turn : map (λ (t : TurnOf). t.seat) before ++ turn.seat ∷ behind ≡ stood
+  pub each : AreTurns before
+  pub ready : turn.ready ≡ true
+  pub no_end : turn.end ≡ None
+  pub all : left ≡ flat_map stays before ++ turn.seat ∷ behind
+  pub others : AllByRecursion (λ (s : Seat). IsClient places most (past ++ turns) s []) (flat_map stays before ++ behind)
+  pub was : IsClient places most (past ++ before) turn.seat []
+  pub fails : IsFailedClient places most (past ++ turns) turn.seat part
+
+abbrev pub BreaksInTurns : List Listening → (most : ℕ) → (past : List TurnOf) → (next : ℕ) → (standing : List Seat) → Round
+    → (left : List Seat) → (part : List ℕ) → Type 0
+BreaksInTurns places most past next standing r left part =
+    AreArrivals places r.moment 0 next standing r.arrivals
+    × TurnFails places most past (standing ++ map (λ (a : Arrival). a.seat) r.arrivals) r.turns left part
+
+-- a round that breaks off, from the sessions that stand to those that are left
+abbrev pub BreaksOff : List Listening → (most : ℕ) → (past : List TurnOf) → (next : ℕ) → (standing : List Seat) → Round
+    → (left : List Seat) → (part : List ℕ) → Type 0
+BreaksOff places most past next standing r left part =
+    BreaksInArrivals places most past next standing r left part ⊎ BreaksInTurns places most past next standing r left part
+
+-- ---- the service
+
+-- the line of a place that was opened failed, before the first round
+pub record ListenFails (places : List Place) (entries : List LinksEntry) (lines : List (List ℕ)) (part : List ℕ) : Type 0 where
+  pub moments : List ℕ
+  pub place : Place
+  pub is_next : slice_get places (length moments) ≡ Some place
+  pub moment : ℕ
+  pub told : entries ≡ opened_from 0 (moments ++ moment ∷ [])
+  pub whole : List (List ℕ)
+  pub logged : lines ≡ listen_lines places moments ++ whole
+  pub begins : BeginsLine (line_about place.asset.now place.at moment Listen) whole part
+
+-- a line failed in a round: those before it are whole, the sessions that stand as it breaks off are left, and each session's own answers
+-- are those of its turns
+pub record RoundFails (places : List Place) (most : ℕ) (entries : List LinksEntry) (lines : List (List ℕ)) (part : List ℕ) : Type 0 where
+  pub moments : List ℕ
+  pub opened : length moments ≡ length places
+  pub rounds : List Round
+  pub made : length rounds < 2 ^ 64 - 1
+  pub next : ℕ
+  pub standing : List Seat
+  pub in_turn : AreRounds (listenings places) 0 [] rounds next standing
+  pub round : Round
+  pub left : List Seat
+  pub breaks : BreaksOff (listenings places) most (turns_of rounds) next standing round left part
+  pub told : entries ≡ opened_from 0 moments ++ (flat_map round_entries (rounds ++ round ∷ []) ++ left_of left)
+  pub logged : lines ≡ listen_lines places moments ++ flat_map round_lines (rounds ++ round ∷ [])
+  pub answers : (session : ℕ) → answers_of session entries ≡ answers_in session (turns_of (rounds ++ round ∷ []))
+  pub ended : AllByRecursion (λ (t : TurnOf). IfEnded (listenings places) most (turns_of (rounds ++ round ∷ [])) t t.end)
+      (turns_of (rounds ++ round ∷ []))
+
+-- what a service did until a line failed: the list of the links, the whole lines of the log, and what stands behind them
+abbrev pub IsBroken : List Place → (most : ℕ) → List LinksEntry → (lines : List (List ℕ)) → (part : List ℕ) → Type 0
+IsBroken places most entries lines part = ListenFails places entries lines part ⊎ RoundFails places most entries lines part
+
+-- the links told so many entries more, and the log has so many lines more, which are those of a service whose line failed
+abbrev pub Breaks : List Place → (most : ℕ) → (told after : Option (List LinksEntry)) → (log log' : Option (List (List ℕ)))
+    → (part : List ℕ) → Type 0
+Breaks places most told after log log' part =
+    (entries : List LinksEntry) × ((lines : List (List ℕ)) × ((after ≡ option_map (λ es. es ++ entries) told)
+    × ((log' ≡ with_lines log lines) × IsBroken places most entries lines part)))
+
+-- so it is of a log that is gone on with; or that itself failed, and nothing was asked of the links
+abbrev pub BreaksLog : List Place → (most : ℕ) → (told after : Option (List LinksEntry)) → (log log' : Content) → Type 0
+BreaksLog places most told after log log' =
+    ((after ≡ told) × GoesOn log log' write.Failed)
+    ⊎ Breaks places most told after (file_lines (content_gone_on log)) (file_lines log') (file_part log')

@@ -1,0 +1,116 @@
+-- Steps of the proof: what a call leaves whose line of the log failed, whatever came before. The main definitions are `MissesTurn`, of a
+-- session, and `MissesStep`, `MissesTurns`, `MissesArrival`, `MissesRound` and `MissesRounds`, of the table.
+use Rattle.cf_lane.specs.Log.{with_lines}
+use Rattle.cf_links.specs.Links.{LinksEntry, SessionTold, with_answers}
+use Rattle.cf_outside.specs.Pair.{Entry}
+use Rattle.cf_view.specs.declared.Endpoint.{Endpoint}
+use Rattle.std.specs.List.{AllByRecursion, flat_map}
+use Rattle.std.specs.Prelude.{List, None, Option, [], length, map, option_map, true, ℕ, ◌++◌, ◌∷◌, ◌≡◌}
+use Rattle.cf_serve.specs.Broken.{BreaksOff, FailsSo, FullFails, IsFailedClient, TurnFails}
+use Rattle.cf_serve.specs.Phase.{LinkedValue, Phase, StandsAs}
+use Rattle.cf_serve.specs.Rounds.{AreRounds, Arrival, Round, Seat, TurnOf, arrival_entries, round_entries, round_lines, turn_entries}
+use Rattle.cf_serve.specs.Rounds.{turns_of}
+use Rattle.cf_serve.specs.Served.{IfEnded, IsClient}
+use Rattle.cf_serve.specs.Session.{EndsSo, Listening}
+use Rattle.cf_serve.specs.Table.{Keeps, seats_of}
+use Rattle.cf_serve.specs.declared.end.SessionEnd.{SessionEnd}
+
+-- a turn adds answers and lines with which a session ends, once its last line stands behind them
+pub record EndsTurn (at : Listening) (most : ℕ) (client : Endpoint) (told told_after : SessionTold) (log log_after : Option (List (List ℕ)))
+    (line : List ℕ) (old : Option LinkedValue) (end : SessionEnd) : Type 0 where
+  pub answers : List Entry
+  pub tells : told_after ≡ with_answers told answers
+  pub ends : (es : List Entry) (own : List (List ℕ)) → StandsAs at most es own old →
+      (lines : List (List ℕ)) × ((log_after ≡ with_lines log lines)
+      × EndsSo at most client (es ++ answers) ((own ++ lines) ++ line ∷ []) end)
+
+-- a line of a turn failed
+pub record MissesTurn (at : Listening) (most : ℕ) (client : Endpoint) (told told_after : SessionTold)
+    (log log_after : Option (List (List ℕ))) (part : List ℕ) (old : Option LinkedValue) : Type 0 where
+  pub answers : List Entry
+  pub tells : told_after ≡ with_answers told answers
+  pub fails : (es : List Entry) (own : List (List ℕ)) → StandsAs at most es own old →
+      (lines : List (List ℕ)) × ((log_after ≡ with_lines log lines) × FailsSo at most client (es ++ answers) (own ++ lines) part)
+
+-- a line failed as a controller was asked for, behind the answers of the session before
+pub record MissesReach (at : Listening) (most : ℕ) (client : Endpoint) (before : List Entry) (told told_after : SessionTold)
+    (log log_after : Option (List (List ℕ))) (part : List ℕ) : Type 0 where
+  pub answers : List Entry
+  pub lines : List (List ℕ)
+  pub tells : told_after ≡ with_answers told answers
+  pub added : log_after ≡ with_lines log lines
+  pub fails : FailsSo at most client (before ++ answers) lines part
+
+-- what a round is to the session whose line failed
+pub record MissesSeat (at : Listening) (most : ℕ) (es : List Entry) (own : List (List ℕ)) (told told_after : Option (List LinksEntry))
+    (log log_after : Option (List (List ℕ))) (part : List ℕ) (seat : Seat) : Type 0 where
+  pub turn : TurnOf
+  pub its : turn.seat ≡ seat
+  pub ready : turn.ready ≡ true
+  pub no_end : turn.end ≡ None
+  pub tells : told_after ≡ option_map (λ entries. entries ++ turn_entries turn) told
+  pub added : log_after ≡ with_lines log turn.lines
+  pub fails : FailsSo at most seat.client (es ++ turn.answers) (own ++ turn.lines) part
+
+-- what it is to the table, where all sessions stay
+pub record MissesStep (places : List Listening) (most : ℕ) (past : List TurnOf) (index : ℕ) (told told_after : Option (List LinksEntry))
+    (log log_after : Option (List (List ℕ))) (part : List ℕ) (old new : List Phase) : Type 0 where
+  pub before : List Phase
+  pub it : Phase
+  pub after : List Phase
+  pub was : old ≡ before ++ it ∷ after
+  pub at : length before ≡ index
+  pub kept : seats_of new ≡ seats_of old
+  pub turn : TurnOf
+  pub seat : turn.seat ≡ it.seat
+  pub ready : turn.ready ≡ true
+  pub no_end : turn.end ≡ None
+  pub tells : told_after ≡ option_map (λ entries. entries ++ turn_entries turn) told
+  pub added : log_after ≡ with_lines log turn.lines
+  pub ended : AllByRecursion (λ (t : TurnOf). IfEnded places most (past ++ turn ∷ []) t t.end) (past ++ turn ∷ [])
+  pub others : AllByRecursion (λ (p : Phase). IsClient places most (past ++ turn ∷ []) p.seat []) (before ++ after)
+  pub stood : IsClient places most past it.seat []
+  pub fails : IsFailedClient places most (past ++ turn ∷ []) it.seat part
+
+-- the turns of a round, up to the one whose line failed
+pub record MissesTurns (places : List Listening) (most : ℕ) (past : List TurnOf) (told told_after : Option (List LinksEntry))
+    (log log_after : Option (List (List ℕ))) (part : List ℕ) (old new : List Phase) : Type 0 where
+  pub turns : List TurnOf
+  pub tells : told_after ≡ option_map (λ entries. entries ++ flat_map turn_entries turns) told
+  pub added : log_after ≡ with_lines log (flat_map (λ (t : TurnOf). t.lines) turns)
+  pub ended : AllByRecursion (λ (t : TurnOf). IfEnded places most (past ++ turns) t t.end) (past ++ turns)
+  pub fails : TurnFails places most past (seats_of old) turns (seats_of new) part
+
+-- clients that came at the places from one on, up to the one whose line failed
+pub record MissesArrival (places : List Listening) (most moment from next next_after : ℕ) (told told_after : Option (List LinksEntry))
+    (log log_after : Option (List (List ℕ))) (part : List ℕ) (old new : List Phase) : Type 0 where
+  pub arrivals : List Arrival
+  pub tells : told_after ≡ option_map (λ entries. entries ++ flat_map arrival_entries arrivals) told
+  pub added : log_after ≡ with_lines log (flat_map (λ (a : Arrival). a.lines) arrivals)
+  pub fails : FullFails places moment from next (seats_of old) arrivals part
+  pub seats : seats_of new ≡ seats_of old ++ map (λ (a : Arrival). a.seat) arrivals
+  pub keeps : (past : List TurnOf) → Keeps places most next past old → Keeps places most next_after past new
+
+-- a round that breaks off
+pub record MissesRound (places : List Listening) (most next : ℕ) (past : List TurnOf) (told told_after : Option (List LinksEntry))
+    (log log_after : Option (List (List ℕ))) (part : List ℕ) (old new : List Phase) : Type 0 where
+  pub round : Round
+  pub tells : told_after ≡ option_map (λ entries. entries ++ round_entries round) told
+  pub added : log_after ≡ with_lines log (round_lines round)
+  pub ended : AllByRecursion (λ (t : TurnOf). IfEnded places most (past ++ round.turns) t t.end) (past ++ round.turns)
+  pub breaks : BreaksOff places most past next (seats_of old) round (seats_of new) part
+
+-- rounds, of which the last breaks off
+pub record MissesRounds (places : List Listening) (most next made : ℕ) (past : List TurnOf) (told told_after : Option (List LinksEntry))
+    (log log_after : Option (List (List ℕ))) (part : List ℕ) (old new : List Phase) : Type 0 where
+  pub rounds : List Round
+  pub count : length rounds ≡ made
+  pub round : Round
+  pub tells : told_after ≡ option_map (λ entries. entries ++ flat_map round_entries (rounds ++ round ∷ [])) told
+  pub added : log_after ≡ with_lines log (flat_map round_lines (rounds ++ round ∷ []))
+  pub ended : AllByRecursion (λ (t : TurnOf). IfEnded places most (past ++ turns_of (rounds ++ round ∷ [])) t t.end)
+      (past ++ turns_of (rounds ++ round ∷ []))
+  pub mid : ℕ
+  pub standing : List Seat
+  pub in_turn : AreRounds places next (seats_of old) rounds mid standing
+  pub breaks : BreaksOff places most (past ++ turns_of rounds) mid standing round (seats_of new) part

@@ -1,0 +1,5 @@
+//! Tests of services over links and files in memory, in a crate of their own: a crate that has tests is proved twice.
+#![tactic(auto)]
+
+#[cfg(test)]
+mod tests;

@@ -1,0 +1,191 @@
+//! Services that have as many sessions as they may, over nine places: no client has a turn but the first, whose controller is not reached.
+ghost use Rattle.std.specs.Prelude.{◌≡◌, false, ℕ};
+ghost use Rattle.cf_links.specs.MemoryLinks.{serves_in};
+ghost use Rattle.cf_policy.specs.Within.{IsWithin};
+
+use crate::tests::{
+    Run, SECONDS, asset_named, fail_at, field, files_of, host, links_of, number, numbers, policy,
+    put, same,
+};
+use cf_links::{LinksTold, MemoryClient, MemoryLinks};
+use cf_outside::{MemoryFiles, MemoryPair};
+use cf_policy::Policy;
+use cf_serve::{Place, serve};
+use std::alloc::Global;
+use std::process::Abort;
+
+/// A row has the places to which the clients come, one after the other, and over again; how many come, from 10.0.1.0 on; for how many
+/// rounds the first has no turn; and how many rounds there are. After `gives` stand how many came and were left in the rounds, those in
+/// a row that are alike in one line, and what the log has behind the lines of the places.
+const ROWS: &str =
+    "257 clients: nine a round at nine places, and four, of which the last takes the last place; one more as the first has left
+places: 0 1 2 3 4 5 6 7 8
+clients: 257
+first: 39
+rounds: 45
+gives
+28 rounds: came 9 left 0
+1 rounds: came 4 left 0
+10 rounds: came 0 left 0
+1 rounds: came 0 left 1
+1 rounds: came 1 left 0
+3 rounds: came 0 left 0
+1 rounds: came 0 left 256
+log
+7.000000 10.0.1.255:49152 pump full
+7.000000 10.0.1.0:49152 pump unreached
+7.000000 10.0.2.0:49152 rtu full
+
+33 clients of one place, and one of another before the last of them, who waits until the first has left
+places: 0*32 1 0
+clients: 34
+first: 39
+rounds: 45
+gives
+31 rounds: came 1 left 0
+1 rounds: came 2 left 0
+7 rounds: came 0 left 0
+1 rounds: came 0 left 1
+1 rounds: came 1 left 0
+3 rounds: came 0 left 0
+1 rounds: came 0 left 33
+log
+7.000000 10.0.1.31:49152 pump full
+7.000000 10.0.1.0:49152 pump unreached
+7.000000 10.0.1.33:49152 pump full";
+
+/// The clients of a row.
+fn clients(rt: &impl Abort, alloc: Global, row: &str) -> Vec<MemoryClient> {
+    let places = numbers(rt, alloc, field(row, "places:"));
+    let mut clients = Vec::new(alloc);
+    let mut h = 256_u64;
+    for place in places.iter().cycle().take(number(row, "clients:") as usize) {
+        let mut pair = MemoryPair::new(alloc);
+        pair.client = host(h, 49_152);
+        fail_at(rt, &mut pair, 1);
+        let mut client = MemoryClient::new((*place % 9) as u32, pair);
+        client.rests = if h == 256 {
+            number(row, "first:")
+        } else {
+            u64::MAX
+        };
+        clients.push(client).expect(rt, "memory");
+        h = h.saturating_add(1);
+    }
+    clients
+}
+
+/// Serves three assets, each at three of nine places.
+fn serve_nine(
+    rt: &impl Abort,
+    alloc: Global,
+    policy: &Policy,
+    mut links: MemoryLinks,
+    mut files: MemoryFiles,
+) -> Run
+    requires within { IsWithin policy.now }
+    requires free { (session : ℕ) → serves_in links session ≡ false }
+{
+    let pump = Place {
+        asset: asset_named(rt, policy, "pump"),
+        at: host(1, 5020),
+    };
+    let rtu = Place {
+        asset: asset_named(rt, policy, "rtu"),
+        at: host(1, 5021),
+    };
+    let sub = Place {
+        asset: asset_named(rt, policy, "sub"),
+        at: host(1, 5022),
+    };
+    let places = [pump, rtu, sub, pump, rtu, sub, pump, rtu, sub];
+    let answer = serve(alloc, &places, SECONDS, "l", &mut links, &mut files);
+    Run {
+        answer,
+        links,
+        files,
+    }
+}
+
+/// How many clients came and were left in rounds in a row.
+#[derive(Clone, Copy)]
+struct Rounds {
+    count: u64,
+    came: u64,
+    left: u64,
+}
+
+impl Rounds {
+    const NONE: Rounds = Rounds {
+        count: 0,
+        came: 0,
+        left: 0,
+    };
+
+    /// One round more: where it is as those before, it is counted with them, and else they are told.
+    fn add(&mut self, rt: &impl Abort, alloc: Global, round: Rounds, text: &mut String) {
+        if self.came == round.came && self.left == round.left {
+            self.count = self.count.saturating_add(round.count);
+        } else {
+            self.tell(rt, alloc, text);
+            *self = round;
+        }
+    }
+
+    fn tell(&self, rt: &impl Abort, alloc: Global, text: &mut String) {
+        if self.count > 0 {
+            let (count, came, left) = (self.count, self.came, self.left);
+            let line = format!(in alloc; "{count} rounds: came {came} left {left}\n");
+            put(rt, text, &[&line.expect(rt, "memory")]);
+        }
+    }
+}
+
+/// The rounds of a service.
+fn rounds_text(rt: &impl Abort, alloc: Global, run: &Run) -> String {
+    let mut text = String::new(alloc);
+    let mut alike = Rounds::NONE;
+    let mut round = Rounds::NONE;
+    for entry in run.links.told.iter() {
+        match entry {
+            LinksTold::Woke(_) => {
+                alike.add(rt, alloc, round, &mut text);
+                round = Rounds {
+                    count: 1,
+                    came: 0,
+                    left: 0,
+                };
+            }
+            LinksTold::Came(..) => round.came = round.came.saturating_add(1),
+            LinksTold::Left(_) => round.left = round.left.saturating_add(1),
+            _ => {}
+        }
+    }
+    alike.add(rt, alloc, round, &mut text);
+    alike.tell(rt, alloc, &mut text);
+    text
+}
+
+/// What a row leaves.
+fn found(rt: &impl Abort, alloc: Global, policy: &Policy, row: &str) -> String
+    requires { IsWithin policy.now }
+{
+    let links = links_of(alloc, clients(rt, alloc, row), number(row, "rounds:"), None);
+    let run = serve_nine(rt, alloc, policy, links, files_of(rt, alloc, None));
+    let mut found = rounds_text(rt, alloc, &run);
+    put(rt, &mut found, &["log"]);
+    for line in run.log().lines().skip(9) {
+        put(rt, &mut found, &["\n", line]);
+    }
+    found
+}
+
+#[test]
+fn clients_wait_for_a_place(rt: HostRuntime) {
+    let alloc = rt.alloc();
+    let policy = policy(&rt, alloc);
+    for row in ROWS.split("\n\n") {
+        let (given, wanted) = row.split_once("\ngives\n").unwrap_or((row, ""));
+        same(&rt, given, &found(&rt, alloc, &policy, given), wanted);
+    }
+}
