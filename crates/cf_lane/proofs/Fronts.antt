@@ -1,7 +1,7 @@
--- What stands at the front of a side's bytes, once the lane has counted it: `steps_front` and `misses_front`.
+-- What stands at the front of a side's bytes, once the lane has counted it: `steps_counted` and `misses_front`.
 use Rattle.cf_audit.specs.declared.line.CutReason.{CutReason}
-use Rattle.cf_lane.proofs.Saying.{rules_stay}
-use Rattle.cf_lane.specs.Handled.{Counts, CountsBy, Fronts, FrontsOf, Grows, HasLines, HasRoom, IsLaneOf, LaneValue, MayHaveMore, Misses, MissesOf, Outlets, State, Steps, TakesUncounted, TakesUnit, debt, judged, lane_at, letters_in, state, step_by, taken_in}
+use Rattle.cf_lane.proofs.Saying.{lane_on, rules_stay}
+use Rattle.cf_lane.specs.Handled.{Counts, CountsBy, CountsFront, Fronts, FrontsOf, Grows, HasLines, IsLaneOf, LaneValue, MayHaveMore, Misses, Outlets, State, Steps, TakesUncounted, TakesUnit, debt, judged, lane_at, letters_in, most_counted, state, step_at, step_by, taken_in}
 use Rattle.cf_lane.specs.Item.{Took}
 use Rattle.cf_lane.specs.Judged.{cut_by, is_admitted, is_refused, one_if}
 use Rattle.cf_lane.specs.Kept.{AreFragments, IsWireOf, wire_debt}
@@ -18,7 +18,7 @@ use Rattle.cf_renumber.specs.Numbers.{NumbersValue}
 use Rattle.cf_view.specs.declared.Endpoint.{Endpoint}
 use Rattle.cf_view.specs.declared.Side.{Side}
 use Rattle.cf_view.specs.declared.base.Framed.{Framed}
-use Rattle.std.proofs.Common.{List, None, Option, Some, ap, arith, false, inr, refl, subst, sym, ℕ, ◌*◌, ◌+◌, ◌<◌, ◌∙◌, ◌≡◌, ◌≤◌}
+use Rattle.std.proofs.Common.{List, None, Option, Some, ap, arith, false, inl, inr, length, refl, subst, sym, ℕ, ◌*◌, ◌+◌, ◌<◌, ◌∙◌, ◌≡◌, ◌≤◌}
 use Rattle.cf_lane.specs.declared.fate.Fate.TheVariants as fates
 use Rattle.cf_view.specs.declared.base.Framed.TheVariants as framed
 use Rattle.cf_lane.specs.declared.wire.Wire.TheVariants as wire
@@ -56,7 +56,7 @@ module _ (asset : Asset) (moment : ℕ) (s : Side) (bytes : List ℕ) (n : ℕ) 
   steps_by lane counts (Some reason) is = inr (t.cuts reason is, (n, takes_by lane counts (Some reason) is))
 
   -- a unit that was taken and counted is a step by its fate
-  pub steps_front : (lane : LaneValue) → Counts f moment mid.lane lane → (st : Step) → st ≡ step_by (cut_by f) n →
+  steps_front : (lane : LaneValue) → Counts f moment mid.lane lane → (st : Step) → st ≡ step_by (cut_by f) n →
       Steps asset moment s bytes old (state lane mid.to_client mid.to_controller mid.lines) st
   steps_front lane counts st is =
       subst (Steps asset moment s bytes old (state lane mid.to_client mid.to_controller mid.lines)) (sym is) (steps_by lane counts (cut_by f) refl)
@@ -77,26 +77,10 @@ module _ (asset : Asset) (moment : ℕ) (s : Side) (bytes : List ℕ) (n : ℕ) 
 pub never_cuts : {P : Type 0} (f : Fate) → cut_by f ≡ None → (reason : CutReason) → cut_by f ≡ Some reason → P
 never_cuts f uncut reason e = cc (uncut, e)
 
--- what stands at the front where it is a unit
-pub taken_front : (asset : Asset) (moment : ℕ) (s : Side) (bytes : List ℕ) (old mid : State) (answer : Framed Fate) (f : Fate) (n : ℕ) → answer ≡ framed.Unit f n →
-    Fronts asset moment s bytes old mid answer → TakesUncounted asset moment s bytes n f old mid
-taken_front asset moment s bytes old mid answer f n is front = subst (Fronts asset moment s bytes old mid) is front
-
--- a queue grew by the unit, and counting it changed nothing of it
-pub grows_counted : (answer : Framed Fate) (f : Fate) (n : ℕ) → answer ≡ framed.Unit f n → (st : Step) → st ≡ step_by (cut_by f) n → (d : ℕ) (mid new : LaneValue) → new.wire ≡ mid.wire →
-    (p q : Queue) → Grows (2 * taken_in answer) d (debt mid) p q → Grows (2 * letters_in st) d (debt new) p q
-grows_counted answer f n is st step_is d mid new kept p q g =
-    let same : taken_in answer ≡ letters_in st = ap taken_in is ∙ sym (ap letters_in step_is) in
-    subst (λ m. Grows (2 * m) d (debt new) p q) same (subst (λ e. Grows (2 * taken_in answer) d e p q) (sym (ap wire_debt kept)) g)
-
 -- how much of a unit goes on
-pub letters_most : (cut : Option CutReason) (n : ℕ) → letters_in (step_by cut n) ≤ n
+letters_most : (cut : Option CutReason) (n : ℕ) → letters_in (step_by cut n) ≤ n
 letters_most None n = omega arith
 letters_most (Some reason) n = omega arith
-
-pub letters_uncut : (cut : Option CutReason) (n : ℕ) → cut ≡ None → letters_in (step_by cut n) ≡ n
-letters_uncut None n e = refl
-letters_uncut (Some reason) n e = cc
 
 -- a command is counted once, and a cut counts none
 counts_by : (f : Fate) (n : ℕ) → 0 < n → one_if (is_admitted f) + one_if (is_refused f) ≤ letters_in (step_by (cut_by f) n)
@@ -108,16 +92,59 @@ counts_by fates.Lengthens n some = omega arith
 counts_by (fates.Cuts reason) n some = omega arith
 
 -- the numbers of commands rise by one at most
-pub counts_front : (f : Fate) (st : Step) (n : ℕ) → 0 < n → st ≡ step_by (cut_by f) n → (old new : LaneValue) →
+counts_front : (f : Fate) (st : Step) (n : ℕ) → 0 < n → st ≡ step_by (cut_by f) n → (old new : LaneValue) →
     new.admitted ≡ old.admitted + one_if (is_admitted f) → new.refused ≡ old.refused + one_if (is_refused f) → CountsBy (letters_in st) old new
 counts_front f st n some is old new admitted refused = omega (arith, counts_by f n some, ap letters_in is, admitted, refused)
 
--- what is kept for a protocol tells which one it is
-pub is_modbus : (p : Protocol) → IsWireOf p wire.Modbus → p ≡ protocol.Modbus
-is_modbus protocol.Modbus is = refl
-is_modbus protocol.Dnp3 is = absurd is
-is_modbus protocol.Iec104 is = absurd is
+-- what stands at the front is a step, once the lane has counted it
+pub steps_counted : (asset : Asset) (moment : ℕ) (s : Side) (bytes : List ℕ) (old : State) (mid : LaneValue) (q r : Queue) (lines : Option (List (List ℕ))) (answer : Framed Fate) →
+    Fronts asset moment s bytes old (state mid q r lines) answer → (new : LaneValue) → CountsFront answer moment mid new → (st : Step) → st ≡ step_at s answer →
+    Steps asset moment s bytes old (state new q r lines) st
+steps_counted asset moment s bytes old mid q r lines (framed.Unit f n) front new counts st is =
+    steps_front asset moment s bytes n f old (state mid q r lines) front new counts st is
+steps_counted asset moment s bytes old mid q r lines framed.More front new counts st is =
+    subst (Steps asset moment s bytes old (state new q r lines)) (sym is) (front.0, ap (λ (l : LaneValue). state l q r lines) counts ∙ front.1)
+steps_counted asset moment s bytes old mid q r lines (framed.Broken reason) front new counts st is =
+    subst (Steps asset moment s bytes old (state new q r lines)) (sym is) (inl (front.0, ap (λ (l : LaneValue). state l q r lines) counts ∙ front.1))
 
+-- a queue grew by what stands at the front, and counting it changed nothing of it
+pub grows_counted : (s : Side) (moment : ℕ) (answer : Framed Fate) (mid new : LaneValue) → CountsFront answer moment mid new → (st : Step) → st ≡ step_at s answer → (d : ℕ) (p q : Queue) →
+    Grows (2 * taken_in answer) d (debt mid) p q → Grows (2 * letters_in st) d (debt new) p q
+grows_counted s moment (framed.Unit f n) mid new counts st is d p q g =
+    subst (λ m. Grows (2 * m) d (debt new) p q) (sym (ap letters_in is)) (subst (λ e. Grows (2 * taken_in (framed.Unit f n)) d e p q) (sym (ap wire_debt counts.wire)) g)
+grows_counted s moment framed.More mid new counts st is d p q g =
+    subst (λ m. Grows (2 * m) d (debt new) p q) (sym (ap letters_in is)) (subst (λ e. Grows (2 * taken_in framed.More) d e p q) (sym (ap debt counts)) g)
+grows_counted s moment (framed.Broken reason) mid new counts st is d p q g =
+    subst (λ m. Grows (2 * m) d (debt new) p q) (sym (ap letters_in is)) (subst (λ e. Grows (2 * taken_in (framed.Broken reason)) d e p q) (sym (ap debt counts)) g)
+
+-- the numbers of commands rise by one at most
+pub counts_counted : (asset : Asset) (moment : ℕ) (s : Side) (bytes : List ℕ) (old mid : State) (answer : Framed Fate) → Fronts asset moment s bytes old mid answer → (new : LaneValue) →
+    CountsFront answer moment mid.lane new → (st : Step) → st ≡ step_at s answer → CountsBy (letters_in st) mid.lane new
+counts_counted asset moment s bytes old mid (framed.Unit f n) front new counts st is = counts_front f st n front.some_bytes is mid.lane new counts.admitted counts.refused
+counts_counted asset moment s bytes old mid framed.More front new counts st is =
+    omega (arith, ap (λ (l : LaneValue). l.admitted) counts, ap (λ (l : LaneValue). l.refused) counts)
+counts_counted asset moment s bytes old mid (framed.Broken reason) front new counts st is =
+    omega (arith, ap (λ (l : LaneValue). l.admitted) counts, ap (λ (l : LaneValue). l.refused) counts)
+
+-- no more is counted than octets are there, and no more goes on
+pub counted_most : (asset : Asset) (moment : ℕ) (s : Side) (bytes : List ℕ) (old mid : State) (answer : Framed Fate) → Fronts asset moment s bytes old mid answer → most_counted answer ≤ length bytes
+counted_most asset moment s bytes old mid (framed.Unit f n) front = omega (arith, front.some_bytes, front.begins.inside)
+counted_most asset moment s bytes old mid framed.More front = omega arith
+counted_most asset moment s bytes old mid (framed.Broken reason) front = omega arith
+
+pub inside_counted : (asset : Asset) (moment : ℕ) (s : Side) (bytes : List ℕ) (old mid : State) (answer : Framed Fate) → Fronts asset moment s bytes old mid answer → (st : Step) → st ≡ step_at s answer →
+    letters_in st ≤ length bytes
+inside_counted asset moment s bytes old mid (framed.Unit f n) front st is = omega (arith, letters_most (cut_by f) n, ap letters_in is, front.begins.inside)
+inside_counted asset moment s bytes old mid framed.More front st is = omega (arith, ap letters_in is)
+inside_counted asset moment s bytes old mid (framed.Broken reason) front st is = omega (arith, ap letters_in is)
+
+-- a lane that counted what stands at the front is one of the asset still
+pub lane_counted : (asset : Asset) (moment : ℕ) (answer : Framed Fate) (mid new : LaneValue) → IsLaneOf asset mid → CountsFront answer moment mid new → IsLaneOf asset new
+lane_counted asset moment (framed.Unit f n) mid new of counts = lane_on asset f moment mid new of counts.client counts.rules counts.wire
+lane_counted asset moment framed.More mid new of counts = subst (IsLaneOf asset) (sym counts) of
+lane_counted asset moment (framed.Broken reason) mid new of counts = subst (IsLaneOf asset) (sym counts) of
+
+-- what is kept for a protocol tells which one it is
 pub is_dnp3 : (p : Protocol) (f : Fragments) → IsWireOf p (wire.Dnp3 f) → p ≡ protocol.Dnp3
 is_dnp3 protocol.Modbus f is = absurd is
 is_dnp3 protocol.Dnp3 f is = refl
@@ -128,18 +155,8 @@ is_iec104 protocol.Modbus numbers is = absurd is
 is_iec104 protocol.Dnp3 numbers is = absurd is
 is_iec104 protocol.Iec104 numbers is = refl
 
-pub are_fragments : (p : Protocol) (f : Fragments) → IsWireOf p (wire.Dnp3 f) → AreFragments f
-are_fragments protocol.Modbus f is = absurd is
-are_fragments protocol.Dnp3 f is = is
-are_fragments protocol.Iec104 f is = absurd is
-
 pub dnp3_wire : (p : Protocol) (f : Fragments) → p ≡ protocol.Dnp3 → AreFragments f → IsWireOf p (wire.Dnp3 f)
 dnp3_wire p f is are = subst (λ q. IsWireOf q (wire.Dnp3 f)) (sym is) are
-
-pub are_idle : (p : Protocol) (numbers : NumbersValue) → IsWireOf p (wire.Iec104 numbers) → numbers.owed ≡ None
-are_idle protocol.Modbus numbers is = absurd is
-are_idle protocol.Dnp3 numbers is = absurd is
-are_idle protocol.Iec104 numbers is = is
 
 pub iec104_wire : (p : Protocol) (numbers : NumbersValue) → p ≡ protocol.Iec104 → numbers.owed ≡ None → IsWireOf p (wire.Iec104 numbers)
 iec104_wire p numbers is idle = subst (λ q. IsWireOf q (wire.Iec104 numbers)) (sym is) idle
@@ -166,9 +183,6 @@ module _ (asset : Asset) (client : Endpoint) (admitted refused : ℕ) (rules : R
   pub grows_in : (m d : ℕ) (p q : Queue) → Grows m (wire_debt before) d p q → Grows m (debt lane) d p q
   grows_in m d p q g = subst (λ e. Grows m e d p q) debt_in g
 
-  pub room_in : (m : ℕ) (q : Queue) → HasRoom (debt lane + m) q → HasRoom (wire_debt before + m) q
-  room_in m q r = subst (λ e. HasRoom (e + m) q) (sym debt_in) r
-
   module _ (moment : ℕ) (s : Side) (bytes : List ℕ) (old : Outlets) where
     pub fronts_in : (after : Wire) (new : Outlets) (answer : Framed Fate) → FrontsOf asset client rules moment s bytes before after old new answer →
         Fronts asset moment s bytes (state lane old.to_client old.to_controller old.lines)
@@ -177,9 +191,3 @@ module _ (asset : Asset) (client : Endpoint) (admitted refused : ℕ) (rules : R
         let mid = state (lane_of client admitted refused rules after) new.to_client new.to_controller new.lines in
         subst (λ (l : LaneValue). Fronts asset moment s bytes (state l old.to_client old.to_controller old.lines) mid answer) is
         (subst (λ (w : Wire). Fronts asset moment s bytes (lane_at client rules w admitted refused old) mid answer) (sym same) (f admitted refused))
-
-    pub misses_in : (log : Option (List (List ℕ))) (part : List ℕ) → MissesOf asset client rules moment s bytes before old log part →
-        Misses asset moment s bytes (state lane old.to_client old.to_controller old.lines) log part
-    misses_in log part m =
-        subst (λ (l : LaneValue). Misses asset moment s bytes (state l old.to_client old.to_controller old.lines) log part) is
-        (subst (λ (w : Wire). Misses asset moment s bytes (lane_at client rules w admitted refused old) log part) (sym same) (m admitted refused))

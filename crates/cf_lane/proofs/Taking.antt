@@ -1,18 +1,15 @@
 -- Laws of one unit, and of what a queue grows by.
-use Rattle.cf_lane.proofs.Fronts.{misses_front, never_cuts}
+use Rattle.cf_lane.proofs.Earlier.{no_debt}
 use Rattle.cf_lane.proofs.Handling.{adu_handled, push-nothing, with_lines-nothing}
-use Rattle.cf_lane.proofs.Saying.{says_same}
 use Rattle.cf_lane.proofs.Units.{adus, begins_by}
-use Rattle.cf_lane.specs.Adus.{MissesAdu, TakesAdu, adu_lines}
-use Rattle.cf_lane.specs.Handled.{FrontsOf, Grows, HasRoom, MayHaveMore, MissesOf, Outlets, lane_at, outlets, state}
-use Rattle.cf_lane.specs.Judged.{has_ended}
-use Rattle.cf_lane.specs.Log.{with_lines}
+use Rattle.cf_lane.specs.Handled.{Grows, HasRoom, IsLaneOf, IsOpen, LaneValue, State, TakesCommand, TakesUnit, debt}
+use Rattle.cf_lane.specs.Log.{is_some_bytes, line_about, refusal_line, with_lines}
+use Rattle.cf_lane.specs.Judged.{Judged}
 use Rattle.cf_lane.specs.Modbus.{HasAduFate, HasCommandFate, adu_reply}
-use Rattle.cf_lane.specs.Rates.{Says}
-use Rattle.cf_lane.specs.Rings.{IsRulesOf, says_by}
+use Rattle.cf_lane.specs.Rates.{Says, says_at}
+use Rattle.cf_lane.specs.Rings.{IsRulesOf, KnowsRules, RulesGoOn, says_by}
 use Rattle.cf_lane.specs.declared.fate.Fate.{Fate}
-use Rattle.cf_lane.specs.declared.rules.Rules.{Rules}
-use Rattle.cf_view.specs.declared.Endpoint.{Endpoint}
+use Rattle.cf_lane.proofs.Saying.{rules_stay, says_same}
 use Rattle.cf_lane.specs.Unit.{Adu}
 use Rattle.cf_lane.specs.declared.fate.Refusal.{Refusal}
 use Rattle.cf_modbus.proofs.Framing.{own_length, own_octets}
@@ -21,12 +18,10 @@ use Rattle.cf_outq.specs.SendQueue.{Queue, after_push}
 use Rattle.cf_policy.specs.declared.Asset.{Asset}
 use Rattle.cf_view.specs.Framing.{Begins}
 use Rattle.cf_view.specs.declared.Side.{Side}
-use Rattle.std.proofs.Common.{Bool, List, Option, [], ap, arith, false, length, refl, subst, sym, true, ℕ, ◌+◌, ◌∙◌, ◌≡◌, ◌≤◌}
-use Rattle.std.proofs.lemmas.List.{append-nil, length-append, length-take}
+use Rattle.std.proofs.Common.{Bool, List, None, [], ap, arith, false, length, refl, subst, sym, true, ℕ, ◌+◌, ◌∙◌, ◌∷◌, ◌≡◌, ◌≤◌}
+use Rattle.std.proofs.lemmas.List.{length-append, length-take}
 use Rattle.cf_lane.specs.declared.fate.Fate.TheVariants as fate
-use Rattle.cf_lane.specs.declared.wire.Wire.TheVariants as wire
 use Rattle.cf_policy.specs.declared.Protocol.TheVariants as protocol
-use Rattle.cf_view.specs.declared.base.Framed.TheVariants as framed
 use Rattle.cf_view.specs.declared.Side.TheVariants as side
 
 -- an admitted command has no reply
@@ -34,60 +29,43 @@ admitted_reply : (b : Bool) (used : List Bool) (a : AduValue) → adu_reply b (f
 admitted_reply true used a = refl
 admitted_reply false used a = refl
 
-module _ (asset : Asset) (says : Says) (client : Endpoint) (moment : ℕ) (a : AduValue) (old : Outlets) where
+module _ (asset : Asset) (moment : ℕ) (a : AduValue) (old new : State) (client : new.lane.client ≡ old.lane.client) (wire : new.lane.wire ≡ old.lane.wire)
+    (of : IsRulesOf asset old.lane.client.address old.lane.rules) where
+  -- what the rules in memory say
+  abbrev pub says : Says
+  says = says_by asset old.lane.client.address old.lane.rules moment
+
+  pub has_fate : (f : Fate) → HasCommandFate asset says a f → (earlier : List Judged) → KnowsRules old.lane.rules earlier →
+      HasAduFate asset (says_at asset old.lane.client.address earlier moment) side.Client a f
+  has_fate f has earlier know =
+      subst (λ (x : Says). HasCommandFate asset x a f) (says_same asset old.lane.client.address old.lane.rules earlier moment of know) has
+
   -- an admitted command goes on, and nothing else does
-  pub takes_admitted : (used : List Bool) → HasCommandFate asset says a (fate.Admitted used) → old.to_controller.ended ≡ false →
-      (controller : Queue) → controller ≡ after_push old.to_controller (spelling a) →
-      TakesAdu asset says client moment side.Client a (fate.Admitted used) old (outlets old.to_client controller old.lines)
-  takes_admitted used has goes controller k = record {
-    fate = has;
+  pub takes_admitted : (used : List Bool) → old.to_controller.ended ≡ false → HasCommandFate asset says a (fate.Admitted used) →
+      RulesGoOn (fate.Admitted used) moment old.lane.rules new.lane.rules →
+      new.lane.admitted ≡ old.lane.admitted + 1 → new.lane.refused ≡ old.lane.refused →
+      new.to_client ≡ old.to_client → new.to_controller ≡ after_push old.to_controller (spelling a) → new.lines ≡ old.lines →
+      TakesCommand asset moment a old new
+  takes_admitted used goes has rules admitted refused c s t = record {
+    fate = fate.Admitted used;
     uncut = refl;
-    of_client = sym (push-nothing old.to_client) ∙ ap (after_push old.to_client) (sym (admitted_reply old.to_client.ended used a));
-    of_controller = k;
-    of_lines = sym (with_lines-nothing old.lines);
-    client_quiet = λ e. admitted_reply old.to_client.ended used a;
-    controller_quiet = λ e. cc (e, goes);
+    handled = adu_handled asset moment side.Client a (fate.Admitted used) old new (has_fate (fate.Admitted used) has) rules client wire admitted (refused ∙ omega arith)
+        (c ∙ sym (push-nothing old.to_client) ∙ ap (after_push old.to_client) (sym (admitted_reply old.to_client.ended used a)))
+        s (t ∙ sym (with_lines-nothing old.lines)) (λ e. admitted_reply old.to_client.ended used a) (λ e. cc (e, goes));
   }
 
   -- a refused command has its reply, where one may still go out, and its line
-  pub takes_refused : (r : Refusal) → HasCommandFate asset says a (fate.Refused r) →
-      (to_client : Queue) → to_client ≡ after_push old.to_client (adu_reply old.to_client.ended (fate.Refused r) a) →
-      (log : Option (List (List ℕ))) → log ≡ with_lines old.lines (adu_lines asset client moment side.Client a (fate.Refused r) old.to_client.ended) →
-      TakesAdu asset says client moment side.Client a (fate.Refused r) old (outlets to_client old.to_controller log)
-  takes_refused r has to_client c log t = record {
-    fate = has;
-    uncut = refl;
-    of_client = c;
-    of_controller = sym (push-nothing old.to_controller);
-    of_lines = t;
-    client_quiet = λ e. ap (λ b. adu_reply b (fate.Refused r) a) e;
-    controller_quiet = λ e. refl;
-  }
-
-  -- the same but for its line
-  pub misses_refused : (r : Refusal) → HasCommandFate asset says a (fate.Refused r) →
-      (to_client : Queue) → to_client ≡ after_push old.to_client (adu_reply old.to_client.ended (fate.Refused r) a) →
-      (log : Option (List (List ℕ))) (part : List ℕ) → MayHaveMore (adu_lines asset client moment side.Client a (fate.Refused r) old.to_client.ended) old.lines log part →
-      MissesAdu asset says client moment side.Client a old log part
-  misses_refused r has to_client c log part line = record {
+  abbrev pub takes_refused : (r : Refusal) → HasCommandFate asset says a (fate.Refused r) → new.lane.rules ≡ old.lane.rules →
+      new.lane.admitted ≡ old.lane.admitted → new.lane.refused ≡ old.lane.refused + 1 →
+      new.to_client ≡ after_push old.to_client (adu_reply old.to_client.ended (fate.Refused r) a) → new.to_controller ≡ old.to_controller →
+      new.lines ≡ with_lines old.lines (line_about asset old.lane.client moment
+      (refusal_line asset r (is_some_bytes (adu_reply old.to_client.ended (fate.Refused r) a)) (spelling a)) ∷ []) →
+      TakesCommand asset moment a old new
+  takes_refused r has rules admitted refused c s t = record {
     fate = fate.Refused r;
-    unadmitted = refl;
-    new = _;
-    takes = takes_refused r has to_client c _ refl;
-    line = line;
-  }
-
-  -- a controller's ADU goes on
-  pub takes_controller : old.to_client.ended ≡ false → (to_client : Queue) → to_client ≡ after_push old.to_client (spelling a) →
-      TakesAdu asset says client moment side.Controller a fate.Carried old (outlets to_client old.to_controller old.lines)
-  takes_controller goes to_client c = record {
-    fate = refl;
     uncut = refl;
-    of_client = c;
-    of_controller = sym (push-nothing old.to_controller);
-    of_lines = sym (with_lines-nothing old.lines);
-    client_quiet = λ e. cc (e, goes);
-    controller_quiet = λ e. refl;
+    handled = adu_handled asset moment side.Client a (fate.Refused r) old new (has_fate (fate.Refused r) has) (rules_stay (fate.Refused r) moment old.lane.rules new.lane.rules refl rules) client wire (admitted ∙ omega arith) refused
+        c (s ∙ sym (push-nothing old.to_controller)) t (λ e. ap (λ b. adu_reply b (fate.Refused r) a) e) (λ e. refl);
   }
 
 -- no more than so many is no more than more
@@ -107,6 +85,11 @@ grows_both m n c d e p q r a b = record {
 pub room_less : (m n : ℕ) (q : Queue) → n ≤ m → HasRoom m q → HasRoom n q
 room_less m n q l r = record { room = omega (arith, r.room, l); limit = omega (arith, r.limit, l) }
 
+-- a lane of Modbus has no debt, before a unit and after it
+pub grows_modbus : (asset : Asset) → asset.protocol ≡ protocol.Modbus → (old new : LaneValue) → IsLaneOf asset old → IsLaneOf asset new → (m : ℕ) (p q : Queue) →
+    Grows m 0 0 p q → Grows m (debt old) (debt new) p q
+grows_modbus asset modbus old new a b m p q g = rw (no_debt asset old modbus a, no_debt asset new modbus b) g
+
 -- the room that is left once a queue grew
 pub room_left : (m n d e : ℕ) (p q : Queue) → HasRoom (d + (m + n)) p → Grows m d e p q → HasRoom (e + n) q
 room_left m n d e p q r g = record { room = omega (arith, r.room, g.kept); limit = omega (arith, r.limit, g.pushed) }
@@ -118,28 +101,43 @@ module _ (a : AduValue) (xs : List ℕ) (n : ℕ) (b : Begins SpellsAdu xs a n) 
   pub adu_least : 8 ≤ n
   adu_least = omega (arith, own_length a xs n b, b.spells.at_least)
 
-module _ (asset : Asset) (modbus : asset.protocol ≡ protocol.Modbus) (client : Endpoint) (rules : Rules) (of : IsRulesOf asset client.address rules) (moment : ℕ) (s : Side)
-    (bytes : List ℕ) (a : AduValue) (n : ℕ) (b : Begins SpellsAdu bytes a n) (old : Outlets) where
-  -- an ADU that was taken stands at the front
-  abbrev pub adu_front : (f : Fate) (new : Outlets) → TakesAdu asset (says_by asset client.address rules moment) client moment s a f old new →
-      FrontsOf asset client rules moment s bytes wire.Modbus wire.Modbus old new (framed.Unit f n)
-  adu_front f new t admitted refused = record {
+module _ (asset : Asset) (modbus : asset.protocol ≡ protocol.Modbus) (moment : ℕ) (bytes : List ℕ) where
+  -- a client's ADU is taken as a command
+  abbrev pub takes_client : (a : AduValue) (n : ℕ) (old new : State) → Begins SpellsAdu bytes a n → TakesCommand asset moment a old new →
+      TakesUnit asset moment side.Client bytes n None old new
+  takes_client a n old new b t = record {
     unit = Adu a;
     begins = begins_by (adus asset.protocol modbus) bytes a n b;
     some_bytes = omega (arith, adu_least a bytes n b);
-    cuts = never_cuts f t.uncut;
-    handled = λ lane counts.
-        adu_handled asset moment s a f (lane_at client rules wire.Modbus admitted refused old) (state lane new.to_client new.to_controller new.lines)
-        (λ earlier know. subst (λ (x : Says). HasAduFate asset x s a f) (says_same asset client.address rules earlier moment of know) t.fate)
-        counts.rules counts.client counts.wire counts.admitted counts.refused t.of_client t.of_controller t.of_lines t.client_quiet t.controller_quiet;
+    fate = t.fate;
+    is_cut = t.uncut;
+    handled = t.handled;
   }
 
-  -- one whose line failed
-  pub adu_misses : (log : Option (List (List ℕ))) (part : List ℕ) → MissesAdu asset (says_by asset client.address rules moment) client moment s a old log part →
-      MissesOf asset client rules moment s bytes wire.Modbus old log part
-  adu_misses log part m admitted refused =
-      misses_front asset moment s bytes n m.fate (lane_at client rules wire.Modbus admitted refused old) (lane_at client rules wire.Modbus admitted refused m.new)
-      (adu_front m.fate m.new m.takes admitted refused) m.unadmitted m.takes.uncut (adu_lines asset client moment s a m.fate old.to_client.ended)
-      (λ earlier uncut knows.
-      append-nil (adu_lines asset client moment s a m.fate (has_ended side.Controller earlier)) ∙ ap (adu_lines asset client moment s a m.fate) (sym knows.client_ended))
-      log part m.line
+  -- a controller's ADU goes on
+  pub takes_controller : (a : AduValue) (n : ℕ) (old new : State) → old.to_client.ended ≡ false → new.lane ≡ old.lane →
+      new.to_client ≡ after_push old.to_client (spelling a) → new.to_controller ≡ old.to_controller → new.lines ≡ old.lines →
+      Begins SpellsAdu bytes a n → TakesUnit asset moment side.Controller bytes n None old new
+  takes_controller a n old new goes lane c s t b = record {
+    unit = Adu a;
+    begins = begins_by (adus asset.protocol modbus) bytes a n b;
+    some_bytes = omega (arith, adu_least a bytes n b);
+    fate = fate.Carried;
+    is_cut = refl;
+    handled = adu_handled asset moment side.Controller a fate.Carried old new (λ earlier know. refl)
+        (rules_stay fate.Carried moment old.lane.rules new.lane.rules refl (ap (λ l. l.rules) lane)) (ap (λ l. l.client) lane) (ap (λ l. l.wire) lane)
+        (ap (λ l. l.admitted) lane ∙ omega arith) (ap (λ l. l.refused) lane ∙ omega arith)
+        c (s ∙ sym (push-nothing old.to_controller)) (t ∙ sym (with_lines-nothing old.lines)) (λ e. cc (e, goes)) (λ e. refl);
+  }
+
+  -- the same of the side that it is
+  pub takes_of_client : (s : Side) → s ≡ side.Client → (a : AduValue) (n : ℕ) (old new : State) → Begins SpellsAdu bytes a n → TakesCommand asset moment a old new →
+      TakesUnit asset moment s bytes n None old new
+  takes_of_client s is a n old new b t = subst (λ (s : Side). TakesUnit asset moment s bytes n None old new) (sym is) (takes_client a n old new b t)
+
+  pub takes_of_controller : (s : Side) → s ≡ side.Controller → (a : AduValue) (n : ℕ) (old new : State) → IsOpen s old.to_client old.to_controller → new.lane ≡ old.lane →
+      new.to_client ≡ after_push old.to_client (spelling a) → new.to_controller ≡ old.to_controller → new.lines ≡ old.lines →
+      Begins SpellsAdu bytes a n → TakesUnit asset moment s bytes n None old new
+  takes_of_controller s is a n old new goes lane c q t b =
+      subst (λ (s : Side). TakesUnit asset moment s bytes n None old new) (sym is)
+      (takes_controller a n old new (subst (λ (s : Side). IsOpen s old.to_client old.to_controller) is goes) lane c q t b)

@@ -7,10 +7,11 @@ use Rattle.cf_lane.specs.Judged.{Judged, cut_by, cut_of, has_ended, is_admitted,
 use Rattle.cf_lane.specs.Kept.{IsWireOf, KnowsWire, wire_debt}
 use Rattle.cf_lane.specs.Log.{lines, with_lines}
 use Rattle.cf_lane.specs.Output.{outputs}
-use Rattle.cf_lane.specs.Unit.{SpellsUnit, UnitValue, unit_break}
+use Rattle.cf_lane.specs.Unit.{Adu, SpellsUnit, UnitValue, unit_break}
 use Rattle.cf_lane.specs.declared.fate.Fate.{Fate}
 use Rattle.cf_lane.specs.declared.lane.Step.{Step}
 use Rattle.cf_lane.specs.declared.wire.Wire.{Wire}
+use Rattle.cf_modbus.specs.Adu.{AduValue}
 use Rattle.cf_outq.specs.SendQueue.{Queue, after_end, after_push}
 use Rattle.cf_outside.specs.Desk.{DeskValue, KeepsDesk}
 use Rattle.cf_lane.specs.Rings.{IsRulesOf, KnowsRules, RulesGoOn}
@@ -123,6 +124,12 @@ abbrev pub cut_in : Step → Option CutReason
 cut_in (step.Cut reason) = Some reason
 cut_in st = None
 
+-- a client's command was taken by its fate
+pub record TakesCommand (asset : Asset) (moment : ℕ) (a : AduValue) (old new : State) : Type 0 where
+  pub fate : Fate
+  pub uncut : cut_by fate ≡ None
+  pub handled : Handled asset (judged moment (Took side.Client (Adu a)) fate ∷ []) old new
+
 -- the numbers rose by one command at most for so many letters
 abbrev pub CountsBy : ℕ → LaneValue → LaneValue → Type 0
 CountsBy most old new = new.admitted + new.refused ≤ old.admitted + old.refused + most
@@ -155,6 +162,24 @@ abbrev pub Fronts : Asset → ℕ → Side → List ℕ → (old mid : State) �
 Fronts asset moment s bytes old mid (framed.Unit f used) = TakesUncounted asset moment s bytes used f old mid
 Fronts asset moment s bytes old mid framed.More = IsPartial (SpellsUnit asset.protocol) bytes × (mid ≡ old)
 Fronts asset moment s bytes old mid (framed.Broken reason) = Breaks asset s bytes (cut.Framing s reason) × (mid ≡ old)
+
+-- what the front led to
+abbrev pub step_at : Side → Framed Fate → Step
+step_at s (framed.Unit f used) = step_by (cut_by f) used
+step_at s framed.More = step.More
+step_at s (framed.Broken reason) = step.Cut (cut.Framing s reason)
+
+-- a lane counts what stands at the front
+abbrev pub CountsFront : Framed Fate → ℕ → (old new : LaneValue) → Type 0
+CountsFront (framed.Unit f used) moment old new = Counts f moment old new
+CountsFront framed.More moment old new = new ≡ old
+CountsFront (framed.Broken reason) moment old new = new ≡ old
+
+-- how many commands may be counted at the front
+abbrev pub most_counted : Framed Fate → ℕ
+most_counted (framed.Unit f used) = 1
+most_counted framed.More = 0
+most_counted (framed.Broken reason) = 0
 
 -- how many octets of the front go on
 abbrev pub taken_in : Framed Fate → ℕ
@@ -224,6 +249,14 @@ pub record WritesLog (old new : DeskValue) : Type 0 where
 -- an item has these lines, whatever came before it that does not cut
 abbrev pub HasLines : Asset → State → Judged → List (List ℕ) → Type 0
 HasLines asset old j more = (earlier : List Judged) → cut_of earlier ≡ None → Knows asset old earlier → lines asset old.lane.client earlier (j ∷ []) ≡ more
+
+-- a command was handled but for its line, of which the log may have a part or all
+pub record MissesCommand (asset : Asset) (moment : ℕ) (a : AduValue) (old : State) (log : Option (List (List ℕ))) (part : List ℕ) : Type 0 where
+  pub new : State
+  pub takes : TakesCommand asset moment a old new
+  pub more : List (List ℕ)
+  pub are_more : HasLines asset old (judged moment (Took side.Client (Adu a)) takes.fate) more
+  pub line : MayHaveMore more old.lines log part
 
 -- a unit was handled but for its line, of which the log may have a part or all
 pub record Misses (asset : Asset) (moment : ℕ) (s : Side) (bytes : List ℕ) (old : State) (log : Option (List (List ℕ))) (part : List ℕ) : Type 0 where

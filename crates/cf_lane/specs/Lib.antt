@@ -1,5 +1,4 @@
 pub mod Acts
-pub mod Adus
 pub mod Dnp3
 pub mod Fate
 pub mod Follows

@@ -7,7 +7,7 @@ ghost use Rattle.cf_policy.specs.Within.{IsAssetWithin, most_rated};
 ghost use Rattle.cf_stream.specs.Stream.{no_letters};
 ghost use Rattle.cf_view.specs.Octets.{IsOctets};
 ghost use Rattle.cf_lane.specs.Follows.{AddsTo, Began, BeganApart, FailsApart, Follows, FailsWithin, IsEndBehindCut, Rests, rest_of, with_rest, no_rests};
-ghost use Rattle.cf_lane.specs.Handled.{Fronts, IsLaneOf, LaneValue, Steps, Misses, Grows, CountsBy, HasRoom, IsOpen, MayEnd, EndsOther, WritesLog, cut_in, debt, letters_in, state, step_by, taken_in};
+ghost use Rattle.cf_lane.specs.Handled.{CountsFront, IsLaneOf, LaneValue, Steps, Misses, Grows, CountsBy, HasRoom, IsOpen, MayEnd, EndsOther, WritesLog, cut_in, debt, letters_in, most_counted, state, step_at, step_by};
 ghost use Rattle.cf_lane.specs.History.{Element, letters_at, end_at};
 ghost use Rattle.cf_lane.specs.Judged.{Judged, cut_by, is_admitted, is_refused, one_if};
 ghost use Rattle.cf_lane.specs.Rings.{RulesGoOn};
@@ -17,13 +17,12 @@ ghost use Rattle.cf_lane.specs.Log.{has_unfinished};
 use crate::fate::Fate;
 use crate::iec104::take_apdu_at_front;
 use crate::log::log_end;
-use crate::modbus::take_adu_at_front;
 use crate::rules::Rules;
 use crate::wire::Wire;
 use cf_audit::CutReason;
 use cf_outq::Outq;
 use cf_outside::Desk;
-use cf_policy::Asset;
+use cf_policy::{Asset, MOST_RATED};
 use cf_view::{Endpoint, Framed, NoMemory, Side, View, WriteFault};
 use std::alloc::Global;
 use std::marker::Model;
@@ -262,55 +261,10 @@ impl Lane {
         ensures log { WritesLog (D.value desk.old) (D.value desk.new) }
         ensures cause { HasCause (DeskValue.faults (D.value desk.old)) (DeskValue.faults (D.value desk.new)) (IsErr result) }
     {
-        let front = self.take_front(asset, moment, side, bytes, to_client, to_controller, desk)?;
-        match front {
-            Framed::More => Ok(Step::More),
-            Framed::Broken(reason) => Ok(Step::Cut(CutReason::Framing(side, reason))),
-            Framed::Unit { unit: fate, used } => {
-                self.count(&fate, moment);
-                Ok(step_of(&fate, used))
-            }
-        }
-    }
-
-    /// Takes the unit at the front of a side's bytes by its fate, and is yet to count it: one function for each protocol.
-    fn take_front<D: Desk>(
-        &mut self,
-        asset: &Asset,
-        moment: u64,
-        side: Side,
-        bytes: &View<'_>,
-        to_client: &mut Outq,
-        to_controller: &mut Outq,
-        desk: &mut D,
-    ) -> Result<Framed<Fate>, WriteFault>
-        requires of_asset { IsLaneOf asset.now self.old }
-        requires within { IsAssetWithin asset.now }
-        requires whole { DeskValue.whole (D.value desk.old) ≡ true }
-        requires open { IsOpen side to_client.old to_controller.old }
-        requires client_room { HasRoom (debt self.old + 2 * length bytes.now.bytes) to_client.old }
-        requires controller_room { HasRoom (debt self.old + 2 * length bytes.now.bytes) to_controller.old }
-        ensures fronts { IfOk result (λ a. Fronts asset.now moment side bytes.now.bytes
-            (state self.old to_client.old to_controller.old (DeskValue.lines (D.value desk.old)))
-            (state self.new to_client.new to_controller.new (DeskValue.lines (D.value desk.new))) a) }
-        ensures misses { OnErr result (Misses asset.now moment side bytes.now.bytes
-            (state self.old to_client.old to_controller.old (DeskValue.lines (D.value desk.old)))
-            (DeskValue.lines (D.value desk.new)) (DeskValue.line_part (D.value desk.new))) }
-        ensures of_asset { OnOk result (IsLaneOf asset.now self.new) }
-        ensures admitted { OnOk result (self.new.admitted ≡ self.old.admitted) }
-        ensures refused { OnOk result (self.new.refused ≡ self.old.refused) }
-        ensures client_grows { IfOk result (λ a. Grows (2 * taken_in a) (debt self.old) (debt self.new) to_client.old to_client.new) }
-        ensures controller_grows { IfOk result (λ a. Grows (2 * taken_in a) (debt self.old) (debt self.new) to_controller.old to_controller.new) }
-        ensures whole { OnOk result (DeskValue.whole (D.value desk.new) ≡ true) }
-        ensures log { WritesLog (D.value desk.old) (D.value desk.new) }
-        ensures cause { HasCause (DeskValue.faults (D.value desk.old)) (DeskValue.faults (D.value desk.new)) (IsErr result) }
-    {
         match &mut self.wire {
             Wire::Modbus => {
-                let front = take_adu_at_front(
+                let step = self.step_modbus(
                     asset,
-                    &self.rules,
-                    &self.client,
                     moment,
                     side,
                     bytes,
@@ -318,7 +272,7 @@ impl Lane {
                     to_controller,
                     desk,
                 )?;
-                Ok(front)
+                Ok(step)
             }
             Wire::Dnp3(fragments) => {
                 let front = fragments.take_frame_at_front(
@@ -332,7 +286,7 @@ impl Lane {
                     to_controller,
                     desk,
                 )?;
-                Ok(front)
+                Ok(self.count_front(&front, moment, side))
             }
             Wire::Iec104(numbers) => {
                 let front = take_apdu_at_front(
@@ -347,12 +301,29 @@ impl Lane {
                     to_controller,
                     desk,
                 )?;
-                Ok(front)
+                Ok(self.count_front(&front, moment, side))
             }
         }
     }
 
-    /// Counts a command by its fate, and notes the moment at the rules that it used.
+    /// What stands at the front of a side's bytes led to, where it was taken and is yet to be counted.
+    fn count_front(&mut self, front: &Framed<Fate>, moment: u64, side: Side) -> Step
+        requires counts { self.old.admitted + self.old.refused + most_counted front.now < 2 ^ 64 }
+        requires few { length self.old.rules.rings.items ≤ most_rated }
+        ensures counts { CountsFront front.now moment self.old self.new }
+        ensures step { result ≡ step_at side front.now }
+    {
+        match front {
+            Framed::More => Step::More,
+            Framed::Broken(reason) => Step::Cut(CutReason::Framing(side, *reason)),
+            Framed::Unit { unit: fate, used } => {
+                self.count(fate, moment);
+                step_of(fate, *used)
+            }
+        }
+    }
+
+    /// Counts an item by its fate.
     fn count(&mut self, fate: &Fate, moment: u64)
         requires counts { self.old.admitted + self.old.refused + 1 < 2 ^ 64 }
         requires few { length self.old.rules.rings.items ≤ most_rated }
@@ -363,11 +334,32 @@ impl Lane {
         ensures wire { self.new.wire ≡ self.old.wire }
     {
         match fate {
-            Fate::Admitted(_) => self.admitted += 1,
-            Fate::Refused(_) => self.refused += 1,
+            Fate::Admitted(used) => self.admit(used, moment),
+            Fate::Refused(_) => self.refuse(),
             Fate::Carried | Fate::Stray(_) | Fate::Lengthens | Fate::Cuts(_) => {}
         }
-        self.rules.note(fate, moment);
+    }
+
+    /// Counts an admitted command, and notes the moment at the rules that it used.
+    pub(crate) fn admit(&mut self, used: &[bool; MOST_RATED], moment: u64)
+        requires counts { self.old.admitted + 1 < 2 ^ 64 }
+        requires few { length self.old.rules.rings.items ≤ most_rated }
+        ensures client { self.new.client ≡ self.old.client }
+        ensures admitted { self.new.admitted ≡ self.old.admitted + 1 }
+        ensures refused { self.new.refused ≡ self.old.refused }
+        ensures rules { RulesGoOn (Fate.Admitted used.now) moment self.old.rules self.new.rules }
+        ensures wire { self.new.wire ≡ self.old.wire }
+    {
+        self.admitted += 1;
+        self.rules.note(used, moment);
+    }
+
+    /// Counts a refused command.
+    pub(crate) fn refuse(&mut self)
+        requires counts { self.old.refused + 1 < 2 ^ 64 }
+        ensures { self.new ≡ record self.old { refused = self.old.refused + 1 } }
+    {
+        self.refused += 1;
     }
 
     /// Whether a fragment of a side is unfinished.

@@ -1,81 +1,122 @@
-use Rattle.std.proofs.Common.{ap, arith, inl, subst, ◌*◌, ◌+◌, ◌∙◌}
+use Rattle.std.proofs.Common.{ap, arith}
 use Rattle.cf_outside.specs.Desk.{DeskValue}
-use Rattle.cf_view.specs.declared.base.Framed.{Framed}
-use Rattle.cf_lane.proofs.Fronts.{counts_front, grows_counted, letters_most, steps_front, taken_front}
-use Rattle.cf_lane.proofs.Saying.{lane_on}
-use Rattle.cf_lane.specs.Handled.{Fronts, Grows, debt, letters_in, state, taken_in}
-use Rattle.cf_lane.specs.Judged.{cut_by, is_admitted, is_refused, one_if}
-use Rattle.cf_lane.specs.declared.fate.Fate.{Fate}
+use Rattle.cf_lane.proofs.Fronts.{counted_most, counts_counted, dnp3_wire, fronts_in, grows_counted, grows_in, iec104_wire, inside_counted, is_dnp3, is_iec104, lane_counted, lane_in, lane_of, steps_counted, wire_in}
+use Rattle.cf_lane.specs.Handled.{LaneValue, outlets}
+use Rattle.cf_lane.specs.declared.wire.Wire.TheVariants as wire
 use Rattle.cf_lane.proofs.lane.Lane.step.Goals as goal
 
-pub count-requires-clause-counts : goal.count-requires-clause-counts
-count-requires-clause-counts g c =
-    let t = taken_front c.args.asset.now c.args.moment c.args.side c.args.bytes.now.bytes _ _ c.in_ok-front.front c.in-Unit.fate c.in-Unit.used c.in-Unit.is c.in_ok-front.ensures.fronts in
-    omega (arith, c.requires.counts, c.in_ok-front.ensures.admitted, c.in_ok-front.ensures.refused, t.some_bytes, t.begins.inside)
-
-pub returns-in-Unit-clause-steps : goal.returns-in-Unit-clause-steps
-returns-in-Unit-clause-steps g c =
-    let t = taken_front c.args.asset.now c.args.moment c.args.side c.args.bytes.now.bytes _ _ c.in_ok-front.front c.in-Unit.fate c.in-Unit.used c.in-Unit.is c.in_ok-front.ensures.fronts in
-    steps_front c.args.asset.now c.args.moment c.args.side c.args.bytes.now.bytes c.in-Unit.used c.in-Unit.fate _ _ t c.count.new.self
-    (record { client = c.count.ensures.client; admitted = c.count.ensures.admitted; refused = c.count.ensures.refused; rules = c.count.ensures.rules; wire = c.count.ensures.wire })
-    c.step_of.result c.step_of.ensures
-
-pub returns-in-Unit-clause-of_asset : goal.returns-in-Unit-clause-of_asset
-returns-in-Unit-clause-of_asset g c =
-    lane_on c.args.asset.now c.in-Unit.fate c.args.moment c.take_front.new.self c.count.new.self c.in_ok-front.ensures.of_asset c.count.ensures.client c.count.ensures.rules c.count.ensures.wire
-
-pub returns-in-Unit-clause-client_grows : goal.returns-in-Unit-clause-client_grows
-returns-in-Unit-clause-client_grows g c =
-    grows_counted c.in_ok-front.front c.in-Unit.fate c.in-Unit.used c.in-Unit.is c.step_of.result c.step_of.ensures _ c.take_front.new.self c.count.new.self c.count.ensures.wire _ _ c.in_ok-front.ensures.client_grows
-
-pub returns-in-Unit-clause-controller_grows : goal.returns-in-Unit-clause-controller_grows
-returns-in-Unit-clause-controller_grows g c =
-    grows_counted c.in_ok-front.front c.in-Unit.fate c.in-Unit.used c.in-Unit.is c.step_of.result c.step_of.ensures _ c.take_front.new.self c.count.new.self c.count.ensures.wire _ _ c.in_ok-front.ensures.controller_grows
-
-pub returns-in-Unit-clause-counts : goal.returns-in-Unit-clause-counts
-returns-in-Unit-clause-counts g c =
-    let t = taken_front c.args.asset.now c.args.moment c.args.side c.args.bytes.now.bytes _ _ c.in_ok-front.front c.in-Unit.fate c.in-Unit.used c.in-Unit.is c.in_ok-front.ensures.fronts in
-    counts_front c.in-Unit.fate c.step_of.result c.in-Unit.used t.some_bytes c.step_of.ensures c.args.self.now c.count.new.self
-    (c.count.ensures.admitted ∙ ap (λ n. n + one_if (is_admitted c.in-Unit.fate)) c.in_ok-front.ensures.admitted)
-    (c.count.ensures.refused ∙ ap (λ n. n + one_if (is_refused c.in-Unit.fate)) c.in_ok-front.ensures.refused)
-
-pub returns-in-Unit-clause-inside : goal.returns-in-Unit-clause-inside
-returns-in-Unit-clause-inside g c =
-    let t = taken_front c.args.asset.now c.args.moment c.args.side c.args.bytes.now.bytes _ _ c.in_ok-front.front c.in-Unit.fate c.in-Unit.used c.in-Unit.is c.in_ok-front.ensures.fronts in
-    omega (arith, letters_most (cut_by c.in-Unit.fate) c.in-Unit.used, ap letters_in c.step_of.ensures, t.begins.inside)
-
-pub returns-in-More-clause-steps : goal.returns-in-More-clause-steps
-returns-in-More-clause-steps g c =
+pub count_front-requires-clause-counts : goal.count_front-requires-clause-counts
+count_front-requires-clause-counts g c =
     let value = g.D.Desk.value in
-    subst (λ (a : Framed Fate). Fronts c.args.asset.now c.args.moment c.args.side c.args.bytes.now.bytes
-    (state c.args.self.now c.args.to_client.now c.args.to_controller.now (DeskValue.lines (value c.args.desk.now)))
-    (state c.take_front.new.self c.take_front.new.to_client c.take_front.new.to_controller (DeskValue.lines (value c.take_front.new.desk))) a) c.in-More.is c.in_ok-front.ensures.fronts
+    let old = outlets c.args.to_client.now c.args.to_controller.now (DeskValue.lines (value c.args.desk.now)) in
+    let new = outlets c.take_frame_at_front.new.to_client c.take_frame_at_front.new.to_controller (DeskValue.lines (value c.take_frame_at_front.new.desk)) in
+    let mid = lane_of c.self.inside.client c.self.inside.admitted c.self.inside.refused c.self.inside.rules (wire.Dnp3 c.take_frame_at_front.new.self) in
+    let front = fronts_in c.args.asset.now _ _ _ _ _ _ _ c.self.view_is c.in-Dnp3.is c.args.moment c.args.side c.args.bytes.now.bytes old (wire.Dnp3 c.take_frame_at_front.new.self) new c.in_ok-front-in-Dnp3.front c.in_ok-front-in-Dnp3.ensures.fronts in
+    omega (arith, c.requires.counts, counted_most c.args.asset.now c.args.moment c.args.side c.args.bytes.now.bytes _ _ c.in_ok-front-in-Dnp3.front front, ap (λ (l : LaneValue). l.admitted) c.self.view_is, ap (λ (l : LaneValue). l.refused) c.self.view_is)
 
-pub returns-in-Broken-clause-steps : goal.returns-in-Broken-clause-steps
-returns-in-Broken-clause-steps g c =
+pub returns-in_ok-front-in-Dnp3-clause-steps : goal.returns-in_ok-front-in-Dnp3-clause-steps
+returns-in_ok-front-in-Dnp3-clause-steps g c =
     let value = g.D.Desk.value in
-    inl (subst (λ (a : Framed Fate). Fronts c.args.asset.now c.args.moment c.args.side c.args.bytes.now.bytes
-    (state c.args.self.now c.args.to_client.now c.args.to_controller.now (DeskValue.lines (value c.args.desk.now)))
-    (state c.take_front.new.self c.take_front.new.to_client c.take_front.new.to_controller (DeskValue.lines (value c.take_front.new.desk))) a) c.in-Broken.is c.in_ok-front.ensures.fronts)
+    let old = outlets c.args.to_client.now c.args.to_controller.now (DeskValue.lines (value c.args.desk.now)) in
+    let new = outlets c.take_frame_at_front.new.to_client c.take_frame_at_front.new.to_controller (DeskValue.lines (value c.take_frame_at_front.new.desk)) in
+    let mid = lane_of c.self.inside.client c.self.inside.admitted c.self.inside.refused c.self.inside.rules (wire.Dnp3 c.take_frame_at_front.new.self) in
+    let front = fronts_in c.args.asset.now _ _ _ _ _ _ _ c.self.view_is c.in-Dnp3.is c.args.moment c.args.side c.args.bytes.now.bytes old (wire.Dnp3 c.take_frame_at_front.new.self) new c.in_ok-front-in-Dnp3.front c.in_ok-front-in-Dnp3.ensures.fronts in
+    steps_counted c.args.asset.now c.args.moment c.args.side c.args.bytes.now.bytes _ mid _ _ _ c.in_ok-front-in-Dnp3.front front c.count_front.new.self c.count_front.ensures.counts c.count_front.result c.count_front.ensures.step
 
-pub returns-in-More-clause-client_grows : goal.returns-in-More-clause-client_grows
-returns-in-More-clause-client_grows g c =
-    subst (λ (a : Framed Fate). Grows (2 * taken_in a) (debt c.args.self.now) (debt c.take_front.new.self) c.args.to_client.now c.take_front.new.to_client) c.in-More.is c.in_ok-front.ensures.client_grows
+pub returns-in_ok-front-in-Dnp3-clause-of_asset : goal.returns-in_ok-front-in-Dnp3-clause-of_asset
+returns-in_ok-front-in-Dnp3-clause-of_asset g c =
+    lane_counted c.args.asset.now c.args.moment c.in_ok-front-in-Dnp3.front _ c.count_front.new.self
+    (lane_in c.args.asset.now _ _ _ _ _ _ _ c.self.view_is c.in-Dnp3.is (wire.Dnp3 c.take_frame_at_front.new.self) (dnp3_wire c.args.asset.now.protocol c.take_frame_at_front.new.self (is_dnp3 c.args.asset.now.protocol _ (wire_in c.args.asset.now _ _ _ _ _ _ _ c.self.view_is c.in-Dnp3.is c.requires.of_asset)) c.in_ok-front-in-Dnp3.ensures.are) c.requires.of_asset) c.count_front.ensures.counts
 
-pub returns-in-More-clause-controller_grows : goal.returns-in-More-clause-controller_grows
-returns-in-More-clause-controller_grows g c =
-    subst (λ (a : Framed Fate). Grows (2 * taken_in a) (debt c.args.self.now) (debt c.take_front.new.self) c.args.to_controller.now c.take_front.new.to_controller) c.in-More.is c.in_ok-front.ensures.controller_grows
+pub returns-in_ok-front-in-Dnp3-clause-counts : goal.returns-in_ok-front-in-Dnp3-clause-counts
+returns-in_ok-front-in-Dnp3-clause-counts g c =
+    let value = g.D.Desk.value in
+    let old = outlets c.args.to_client.now c.args.to_controller.now (DeskValue.lines (value c.args.desk.now)) in
+    let new = outlets c.take_frame_at_front.new.to_client c.take_frame_at_front.new.to_controller (DeskValue.lines (value c.take_frame_at_front.new.desk)) in
+    let mid = lane_of c.self.inside.client c.self.inside.admitted c.self.inside.refused c.self.inside.rules (wire.Dnp3 c.take_frame_at_front.new.self) in
+    let front = fronts_in c.args.asset.now _ _ _ _ _ _ _ c.self.view_is c.in-Dnp3.is c.args.moment c.args.side c.args.bytes.now.bytes old (wire.Dnp3 c.take_frame_at_front.new.self) new c.in_ok-front-in-Dnp3.front c.in_ok-front-in-Dnp3.ensures.fronts in
+    omega (
+      arith,
+      counts_counted c.args.asset.now c.args.moment c.args.side c.args.bytes.now.bytes _ _ c.in_ok-front-in-Dnp3.front front c.count_front.new.self c.count_front.ensures.counts c.count_front.result c.count_front.ensures.step,
+      ap (λ (l : LaneValue). l.admitted) c.self.view_is,
+      ap (λ (l : LaneValue). l.refused) c.self.view_is,
+    )
 
-pub returns-in-Broken-clause-client_grows : goal.returns-in-Broken-clause-client_grows
-returns-in-Broken-clause-client_grows g c =
-    subst (λ (a : Framed Fate). Grows (2 * taken_in a) (debt c.args.self.now) (debt c.take_front.new.self) c.args.to_client.now c.take_front.new.to_client) c.in-Broken.is c.in_ok-front.ensures.client_grows
+pub returns-in_ok-front-in-Dnp3-clause-inside : goal.returns-in_ok-front-in-Dnp3-clause-inside
+returns-in_ok-front-in-Dnp3-clause-inside g c =
+    let value = g.D.Desk.value in
+    let old = outlets c.args.to_client.now c.args.to_controller.now (DeskValue.lines (value c.args.desk.now)) in
+    let new = outlets c.take_frame_at_front.new.to_client c.take_frame_at_front.new.to_controller (DeskValue.lines (value c.take_frame_at_front.new.desk)) in
+    let mid = lane_of c.self.inside.client c.self.inside.admitted c.self.inside.refused c.self.inside.rules (wire.Dnp3 c.take_frame_at_front.new.self) in
+    let front = fronts_in c.args.asset.now _ _ _ _ _ _ _ c.self.view_is c.in-Dnp3.is c.args.moment c.args.side c.args.bytes.now.bytes old (wire.Dnp3 c.take_frame_at_front.new.self) new c.in_ok-front-in-Dnp3.front c.in_ok-front-in-Dnp3.ensures.fronts in
+    inside_counted c.args.asset.now c.args.moment c.args.side c.args.bytes.now.bytes _ _ c.in_ok-front-in-Dnp3.front front c.count_front.result c.count_front.ensures.step
 
-pub returns-in-Broken-clause-controller_grows : goal.returns-in-Broken-clause-controller_grows
-returns-in-Broken-clause-controller_grows g c =
-    subst (λ (a : Framed Fate). Grows (2 * taken_in a) (debt c.args.self.now) (debt c.take_front.new.self) c.args.to_controller.now c.take_front.new.to_controller) c.in-Broken.is c.in_ok-front.ensures.controller_grows
+pub returns-in_ok-front-in-Dnp3-clause-client_grows : goal.returns-in_ok-front-in-Dnp3-clause-client_grows
+returns-in_ok-front-in-Dnp3-clause-client_grows g c =
+    grows_in c.args.asset.now _ _ _ _ _ _ _ c.self.view_is c.in-Dnp3.is _ _ _ _
+    (grows_counted c.args.side c.args.moment c.in_ok-front-in-Dnp3.front (lane_of c.self.inside.client c.self.inside.admitted c.self.inside.refused c.self.inside.rules (wire.Dnp3 c.take_frame_at_front.new.self))
+    c.count_front.new.self c.count_front.ensures.counts c.count_front.result c.count_front.ensures.step _ _ _ c.in_ok-front-in-Dnp3.ensures.client_grows)
 
-pub returns-in-More-clause-counts : goal.returns-in-More-clause-counts
-returns-in-More-clause-counts g c = omega (arith, c.in_ok-front.ensures.admitted, c.in_ok-front.ensures.refused)
+pub returns-in_ok-front-in-Dnp3-clause-controller_grows : goal.returns-in_ok-front-in-Dnp3-clause-controller_grows
+returns-in_ok-front-in-Dnp3-clause-controller_grows g c =
+    grows_in c.args.asset.now _ _ _ _ _ _ _ c.self.view_is c.in-Dnp3.is _ _ _ _
+    (grows_counted c.args.side c.args.moment c.in_ok-front-in-Dnp3.front (lane_of c.self.inside.client c.self.inside.admitted c.self.inside.refused c.self.inside.rules (wire.Dnp3 c.take_frame_at_front.new.self))
+    c.count_front.new.self c.count_front.ensures.counts c.count_front.result c.count_front.ensures.step _ _ _ c.in_ok-front-in-Dnp3.ensures.controller_grows)
 
-pub returns-in-Broken-clause-counts : goal.returns-in-Broken-clause-counts
-returns-in-Broken-clause-counts g c = omega (arith, c.in_ok-front.ensures.admitted, c.in_ok-front.ensures.refused)
+pub count_front-requires-in-Iec104-clause-counts : goal.count_front-requires-in-Iec104-clause-counts
+count_front-requires-in-Iec104-clause-counts g c =
+    let value = g.D.Desk.value in
+    let old = outlets c.args.to_client.now c.args.to_controller.now (DeskValue.lines (value c.args.desk.now)) in
+    let new = outlets c.take_apdu_at_front.new.to_client c.take_apdu_at_front.new.to_controller (DeskValue.lines (value c.take_apdu_at_front.new.desk)) in
+    let mid = lane_of c.self.inside.client c.self.inside.admitted c.self.inside.refused c.self.inside.rules (wire.Iec104 c.take_apdu_at_front.new.numbers) in
+    let front = fronts_in c.args.asset.now _ _ _ _ _ _ _ c.self.view_is c.in-Iec104.is c.args.moment c.args.side c.args.bytes.now.bytes old (wire.Iec104 c.take_apdu_at_front.new.numbers) new c.in_ok-front-in-Iec104.front c.in_ok-front-in-Iec104.ensures.fronts in
+    omega (arith, c.requires.counts, counted_most c.args.asset.now c.args.moment c.args.side c.args.bytes.now.bytes _ _ c.in_ok-front-in-Iec104.front front, ap (λ (l : LaneValue). l.admitted) c.self.view_is, ap (λ (l : LaneValue). l.refused) c.self.view_is)
+
+pub returns-in_ok-front-in-Iec104-clause-steps : goal.returns-in_ok-front-in-Iec104-clause-steps
+returns-in_ok-front-in-Iec104-clause-steps g c =
+    let value = g.D.Desk.value in
+    let old = outlets c.args.to_client.now c.args.to_controller.now (DeskValue.lines (value c.args.desk.now)) in
+    let new = outlets c.take_apdu_at_front.new.to_client c.take_apdu_at_front.new.to_controller (DeskValue.lines (value c.take_apdu_at_front.new.desk)) in
+    let mid = lane_of c.self.inside.client c.self.inside.admitted c.self.inside.refused c.self.inside.rules (wire.Iec104 c.take_apdu_at_front.new.numbers) in
+    let front = fronts_in c.args.asset.now _ _ _ _ _ _ _ c.self.view_is c.in-Iec104.is c.args.moment c.args.side c.args.bytes.now.bytes old (wire.Iec104 c.take_apdu_at_front.new.numbers) new c.in_ok-front-in-Iec104.front c.in_ok-front-in-Iec104.ensures.fronts in
+    steps_counted c.args.asset.now c.args.moment c.args.side c.args.bytes.now.bytes _ mid _ _ _ c.in_ok-front-in-Iec104.front front c.count_front-in-Iec104.new.self c.count_front-in-Iec104.ensures.counts c.count_front-in-Iec104.result c.count_front-in-Iec104.ensures.step
+
+pub returns-in_ok-front-in-Iec104-clause-of_asset : goal.returns-in_ok-front-in-Iec104-clause-of_asset
+returns-in_ok-front-in-Iec104-clause-of_asset g c =
+    lane_counted c.args.asset.now c.args.moment c.in_ok-front-in-Iec104.front _ c.count_front-in-Iec104.new.self
+    (lane_in c.args.asset.now _ _ _ _ _ _ _ c.self.view_is c.in-Iec104.is (wire.Iec104 c.take_apdu_at_front.new.numbers) (iec104_wire c.args.asset.now.protocol c.take_apdu_at_front.new.numbers (is_iec104 c.args.asset.now.protocol _ (wire_in c.args.asset.now _ _ _ _ _ _ _ c.self.view_is c.in-Iec104.is c.requires.of_asset)) c.in_ok-front-in-Iec104.ensures.idle) c.requires.of_asset) c.count_front-in-Iec104.ensures.counts
+
+pub returns-in_ok-front-in-Iec104-clause-counts : goal.returns-in_ok-front-in-Iec104-clause-counts
+returns-in_ok-front-in-Iec104-clause-counts g c =
+    let value = g.D.Desk.value in
+    let old = outlets c.args.to_client.now c.args.to_controller.now (DeskValue.lines (value c.args.desk.now)) in
+    let new = outlets c.take_apdu_at_front.new.to_client c.take_apdu_at_front.new.to_controller (DeskValue.lines (value c.take_apdu_at_front.new.desk)) in
+    let mid = lane_of c.self.inside.client c.self.inside.admitted c.self.inside.refused c.self.inside.rules (wire.Iec104 c.take_apdu_at_front.new.numbers) in
+    let front = fronts_in c.args.asset.now _ _ _ _ _ _ _ c.self.view_is c.in-Iec104.is c.args.moment c.args.side c.args.bytes.now.bytes old (wire.Iec104 c.take_apdu_at_front.new.numbers) new c.in_ok-front-in-Iec104.front c.in_ok-front-in-Iec104.ensures.fronts in
+    omega (
+      arith,
+      counts_counted c.args.asset.now c.args.moment c.args.side c.args.bytes.now.bytes _ _ c.in_ok-front-in-Iec104.front front c.count_front-in-Iec104.new.self c.count_front-in-Iec104.ensures.counts c.count_front-in-Iec104.result c.count_front-in-Iec104.ensures.step,
+      ap (λ (l : LaneValue). l.admitted) c.self.view_is,
+      ap (λ (l : LaneValue). l.refused) c.self.view_is,
+    )
+
+pub returns-in_ok-front-in-Iec104-clause-inside : goal.returns-in_ok-front-in-Iec104-clause-inside
+returns-in_ok-front-in-Iec104-clause-inside g c =
+    let value = g.D.Desk.value in
+    let old = outlets c.args.to_client.now c.args.to_controller.now (DeskValue.lines (value c.args.desk.now)) in
+    let new = outlets c.take_apdu_at_front.new.to_client c.take_apdu_at_front.new.to_controller (DeskValue.lines (value c.take_apdu_at_front.new.desk)) in
+    let mid = lane_of c.self.inside.client c.self.inside.admitted c.self.inside.refused c.self.inside.rules (wire.Iec104 c.take_apdu_at_front.new.numbers) in
+    let front = fronts_in c.args.asset.now _ _ _ _ _ _ _ c.self.view_is c.in-Iec104.is c.args.moment c.args.side c.args.bytes.now.bytes old (wire.Iec104 c.take_apdu_at_front.new.numbers) new c.in_ok-front-in-Iec104.front c.in_ok-front-in-Iec104.ensures.fronts in
+    inside_counted c.args.asset.now c.args.moment c.args.side c.args.bytes.now.bytes _ _ c.in_ok-front-in-Iec104.front front c.count_front-in-Iec104.result c.count_front-in-Iec104.ensures.step
+
+pub returns-in_ok-front-in-Iec104-clause-client_grows : goal.returns-in_ok-front-in-Iec104-clause-client_grows
+returns-in_ok-front-in-Iec104-clause-client_grows g c =
+    grows_in c.args.asset.now _ _ _ _ _ _ _ c.self.view_is c.in-Iec104.is _ _ _ _
+    (grows_counted c.args.side c.args.moment c.in_ok-front-in-Iec104.front (lane_of c.self.inside.client c.self.inside.admitted c.self.inside.refused c.self.inside.rules (wire.Iec104 c.take_apdu_at_front.new.numbers))
+    c.count_front-in-Iec104.new.self c.count_front-in-Iec104.ensures.counts c.count_front-in-Iec104.result c.count_front-in-Iec104.ensures.step _ _ _ c.in_ok-front-in-Iec104.ensures.client_grows)
+
+pub returns-in_ok-front-in-Iec104-clause-controller_grows : goal.returns-in_ok-front-in-Iec104-clause-controller_grows
+returns-in_ok-front-in-Iec104-clause-controller_grows g c =
+    grows_in c.args.asset.now _ _ _ _ _ _ _ c.self.view_is c.in-Iec104.is _ _ _ _
+    (grows_counted c.args.side c.args.moment c.in_ok-front-in-Iec104.front (lane_of c.self.inside.client c.self.inside.admitted c.self.inside.refused c.self.inside.rules (wire.Iec104 c.take_apdu_at_front.new.numbers))
+    c.count_front-in-Iec104.new.self c.count_front-in-Iec104.ensures.counts c.count_front-in-Iec104.result c.count_front-in-Iec104.ensures.step _ _ _ c.in_ok-front-in-Iec104.ensures.controller_grows)

@@ -1,23 +1,19 @@
 use Rattle.std.proofs.Common.{rules, map, ◌≡◌, ◌++◌, ◌∷◌, [], refl, subst, sym, ap, ◌∙◌, List, length}
 use Rattle.cf_lane.specs.Ring.{RingValue, ring_rate}
 use Rattle.cf_lane.specs.Rings.{AreNoted, KnowRings}
-use Rattle.cf_lane.proofs.Rated.{not_admitted, rings_go_on, rates_go_on, whole_written}
-use Rattle.cf_lane.proofs.Saying.{rules_stay}
+use Rattle.cf_lane.proofs.Rated.{rings_go_on, rates_go_on, whole_written}
 use Rattle.cf_lane.proofs.rules.Rules.note.Goals as goal
 
-pub returns-in-Admitted : goal.returns-in-Admitted
-returns-in-Admitted c =
+pub returns : goal.returns
+returns c =
     let new = c.note_all.new.rings in
     let old = c.args.self.now.rings.items in
-    let used = c.in-Admitted.used in
+    let used = c.args.used.now in
     let noted = subst (λ (old : List RingValue). AreNoted (length old) used c.args.moment old new) c.as_mut_slice.ensures.value c.note_all.ensures in
     let size : c.args.self.now.rings.len ≡ length old = search rules in
     let whole = whole_written c.args.self.now.rings.len new old (size ∙ sym noted.count) in
     record {
       index = refl;
       rings = ap (map ring_rate) whole ∙ rates_go_on used c.args.moment old new noted;
-      know = λ earlier j f at know. subst (λ rings. KnowRings rings (earlier ++ j ∷ [])) (sym whole) (rings_go_on used c.args.moment old new noted earlier j (f ∙ c.in-Admitted.is) at know);
+      know = λ earlier j f at know. subst (λ rings. KnowRings rings (earlier ++ j ∷ [])) (sym whole) (rings_go_on used c.args.moment old new noted earlier j f at know);
     }
-
-pub returns-in_default : goal.returns-in_default
-returns-in_default c = rules_stay c.args.fate.now c.args.moment c.args.self.now c.args.self.now (not_admitted c.args.fate.now c.in_default.not-Admitted) refl
