@@ -1,44 +1,42 @@
 -- Laws of a queue that is moved into a file.
-use Rattle.std.proofs.Common.{◌≡◌, ◌+◌, ◌≤◌, ℕ, true, List, [], ◌∷◌, ◌++◌, length, take, refl, sym, ap, ◌∙◌, arith, Some, append_assoc, Ok, Err}
+use Rattle.std.proofs.Common.{◌≡◌, ◌+◌, ℕ, zero, suc, List, [], ◌∷◌, length, take, drop, refl, sym, ap, ◌∙◌, arith, Ok, Err}
 use Rattle.std.specs.Prelude.{Result, OnErr}
-use Rattle.std.proofs.Math.Seq.{take-append-add}
-use Rattle.std.proofs.lemmas.List.{append-nil}
-use Rattle.cf_outq.specs.SendQueue.{Queue, IsQueue, IsAnswer, queue_length}
-use Rattle.cf_outq.specs.declared.piece.Piece.{Piece}
+use Rattle.std.proofs.lemmas.List.{drop-drop, length-drop, take_all}
 use Rattle.cf_outside.specs.Files.{Content, with_appended}
-use Rattle.cf_outside.proofs.Content.{with_appended-twice}
-use Rattle.cf_sift.specs.Drained.{Moves}
+use Rattle.cf_outside.proofs.Content.{with_appended-piece}
 
-zero_length : (xs : List ℕ) → length xs ≡ 0 → xs ≡ []
-zero_length [] e = refl
-zero_length (x ∷ xs) e = cc
+-- the first of the first of a list are its first
+first_few : (k n : ℕ) (xs : List ℕ) → (m : ℕ) × (take k (take n xs) ≡ take m xs)
+first_few zero n xs = (0, refl)
+first_few (suc k) zero xs = (0, refl)
+first_few (suc k) (suc n) [] = (0, refl)
+first_few (suc k) (suc n) (x ∷ xs) = let (m, e) = first_few k n xs in (suc m, ap (λ l. x ∷ l) e)
 
-pub empty_kept : (q : Queue) → IsQueue q → queue_length q ≤ q.acked → q.kept ≡ []
-empty_kept q i l = zero_length q.kept (let size : q.pushed ≤ queue_length q = grind arith in omega (arith, i.kept, l, size))
+module _ (first now : List ℕ) (gone : ℕ) (c d : Content) (left : now ≡ drop gone first) (file : d ≡ with_appended c (take gone first)) where
+  -- the next bytes were moved
+  pub moved_more : (later piece : List ℕ) (n : ℕ) (e : Content) → piece ≡ take n now → later ≡ drop n now → e ≡ with_appended d piece →
+      (later ≡ drop (gone + n) first) × (e ≡ with_appended c (take (gone + n) first))
+  moved_more later piece n e is rest moved = (
+    rest ∙ ap (drop n) left ∙ drop-drop n gone first,
+    moved ∙ ap (with_appended d) (is ∙ ap (take n) left) ∙ ap (λ x. with_appended x (take n (drop gone first))) file ∙ with_appended-piece c first gone n,
+  )
 
-pub end_kept : (q : Queue) (mss : ℕ) (p : Piece) → IsQueue q → q.acked ≡ q.sent → IsAnswer q mss q.sent q.shown (Some p) → p.end ≡ true → length q.kept ≡ p.len
-end_kept q mss p i clean a e =
-    let f = ((a.piece).end).0 e in omega (arith, i.kept, clean, f.1)
+  -- or some of them
+  pub partly_moved : (piece : List ℕ) (n : ℕ) (e : Content) → piece ≡ take n now → ((k : ℕ) × (e ≡ with_appended d (take k piece))) → (k : ℕ) × (e ≡ with_appended c (take k first))
+  partly_moved piece n e is (k, moved) =
+      let (m, fewer) = first_few k n (drop gone first) in (
+        gone + m,
+        moved ∙ ap (λ xs. with_appended d (take k xs)) (is ∙ ap (take n) left) ∙ ap (with_appended d) fewer
+            ∙ ap (λ x. with_appended x (take m (drop gone first))) file ∙ with_appended-piece c first gone m,
+      )
 
--- what was moved before and what is moved now
-pub moved_more : (first old mid new : Queue) (c d e : Content) (front : List ℕ) → first.kept ≡ front ++ old.kept → mid.kept ≡ old.kept → d ≡ with_appended c front → (m : Moves mid new d e) →
-    (first.kept ≡ (front ++ m.front) ++ new.kept) × (e ≡ with_appended c (front ++ m.front))
-moved_more first old mid new c d e front is same file m = (
-  is ∙ ap (λ xs. front ++ xs) (sym same ∙ m.bytes) ∙ sym (append_assoc front m.front new.kept),
-  m.file ∙ ap (λ x. with_appended x m.front) file ∙ with_appended-twice c front m.front,
-)
+  -- nothing is left
+  pub all_moved : now ≡ [] → d ≡ with_appended c first
+  all_moved none = file ∙ ap (with_appended c) (take_all gone first (omega (arith, length-drop gone first, ap length (sym left ∙ none))))
 
--- and what a failure left of a piece
-pub partly_more : (first old mid : Queue) (c d e : Content) (front : List ℕ) → first.kept ≡ front ++ old.kept → mid.kept ≡ old.kept → d ≡ with_appended c front →
-    ((k : ℕ) × (e ≡ with_appended d (take k mid.kept))) → (k : ℕ) × (e ≡ with_appended c (take k first.kept))
-partly_more first old mid c d e front is same file (k, m) = (
-  length front + k,
-  m ∙ ap (λ x. with_appended x (take k mid.kept)) file ∙ with_appended-twice c front (take k mid.kept)
-      ∙ ap (with_appended c) (ap (λ xs. front ++ take k xs) same ∙ sym (take-append-add front old.kept k) ∙ ap (take (length front + k)) (sym is)),
-)
-
-pub all_moved : (first now : Queue) (c d : Content) (front : List ℕ) → first.kept ≡ front ++ now.kept → d ≡ with_appended c front → now.kept ≡ [] → d ≡ with_appended c first.kept
-all_moved first now c d front is file none = file ∙ ap (with_appended c) (sym (is ∙ ap (λ xs. front ++ xs) none ∙ append-nil front))
+pub none_left : (xs : List ℕ) → length xs ≡ 0 → xs ≡ []
+none_left [] e = refl
+none_left (x ∷ xs) e = cc
 
 -- a fact that stands anyway stands after an error
 pub on_err : {A E : Type 0} (P : Type 0) (r : Result A E) → P → OnErr r P

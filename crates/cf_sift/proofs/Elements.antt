@@ -1,34 +1,35 @@
 -- A sifting that took an element.
 use Rattle.cf_lane.specs.Rings.{KnowsRules}
-use Rattle.std.proofs.Common.{◌≡◌, ◌≤◌, ◌+◌, ◌<◌, ℕ, Bool, true, false, None, Some, Option, List, [], ◌∷◌, ◌++◌, length, take, drop, refl, sym, ap, ◌∙◌, append_assoc, subst, inl, inr, arith, cond}
+use Rattle.std.proofs.Common.{◌≡◌, ◌≤◌, ◌+◌, ◌<◌, ℕ, Bool, true, false, None, Some, Option, List, [], ◌∷◌, ◌++◌, length, take, drop, refl, sym, ap, ◌∙◌, subst, inl, inr, arith, cond}
 use Rattle.std.specs.Option.{option_or}
-use Rattle.std.specs.Prelude.{nat_le, ◌||◌, ◌&&◌, if◌then◌else◌}
+use Rattle.std.specs.Prelude.{◌||◌}
 use Rattle.std.proofs.Math.Seq.{take-append-add, drop-append-add}
 use Rattle.std.proofs.lemmas.List.{append-nil, length-append, length-drop}
 use Rattle.cf_audit.specs.declared.line.CutReason.{CutReason}
+use Rattle.cf_driver.proofs.Histories.{ended_of-append, letters_more}
+use Rattle.cf_driver.proofs.Limits.{limit_is}
+use Rattle.cf_driver.proofs.Whole.{adds_whole}
+use Rattle.cf_driver.specs.Takes.{Takes}
 use Rattle.cf_lane.specs.Follows.{AreJudged, AreRests, Began, Follows}
 use Rattle.cf_lane.specs.Handled.{LaneValue}
 use Rattle.cf_lane.specs.Kept.{KnowsWire}
-use Rattle.cf_lane.specs.History.{Element, bytes_at, bytes_in, bytes_of, end_at, ended_of, is_side, taken}
+use Rattle.cf_lane.specs.History.{Element, bytes_at, end_at, ended_of, taken}
 use Rattle.cf_lane.specs.Judged.{Judged}
 use Rattle.cf_lane.specs.Laws.{GoOn, StreamsGoOn}
 use Rattle.cf_lane.specs.Limit.{limit_by, limit_cut}
 use Rattle.cf_lane.specs.Log.{lines, with_lines}
 use Rattle.cf_lane.specs.Output.{outputs, stream_to}
 use Rattle.cf_lane.specs.declared.limit.TheConstants.{LETTER_LIMIT}
-use Rattle.cf_outq.specs.SendQueue.{IsQueueOf, Queue, after_end, queue_length}
+use Rattle.cf_outq.specs.SendQueue.{IsQueueOf, Queue, queue_length}
 use Rattle.cf_outside.specs.Files.{Content, with_appended}
 use Rattle.cf_outside.specs.Lines.{ends_with_line, file_lines, file_part}
 use Rattle.cf_outside.proofs.Content.{with_appended-twice}
 use Rattle.cf_policy.specs.declared.Asset.{Asset}
 use Rattle.cf_stream.specs.Stream.{Stream, letter_count}
 use Rattle.cf_view.specs.declared.Endpoint.{Endpoint}
-use Rattle.cf_view.specs.declared.Side.{Side}
-use Rattle.std.proofs.lemmas.Bool.{cases_lt, le-leb}
-use Rattle.cf_audit.specs.declared.line.CutReason.TheVariants as reason
 use Rattle.cf_view.specs.declared.Side.TheVariants as side
 use Rattle.cf_sift.specs.Drained.{Drains}
-use Rattle.cf_sift.specs.Sifting.{HasGrown, IsDrained, IsSiftingOf, MovesFail, rests_of, state_of}
+use Rattle.cf_sift.specs.Sifting.{IsDrained, IsSiftingOf, MovesFail, client_rests, state_of}
 use Rattle.cf_sift.specs.Names.{SiftNamesValue}
 use Rattle.cf_sift.specs.Sifted.{ElementFails, HasLines, LineFails}
 use Rattle.cf_sift.specs.Stored.{cut_behind}
@@ -44,10 +45,9 @@ acked_all q w d h =
     omega (arith, h.acked, h.sent, count, none, length-drop q.acked w.bytes)
 
 -- what it keeps then is what its stream got more
-kept_more : (q r : Queue) (v w : Stream) (more : List ℕ) → IsDrained q → IsQueueOf q v → HasGrown q r → IsQueueOf r w → w.bytes ≡ v.bytes ++ more → r.kept ≡ more
-kept_more q r v w more d hq grown hr goes =
-    let acked : r.acked ≡ q.acked = ap (λ (x : Queue). x.acked) grown in
-    let count : r.acked ≡ length v.bytes + 0 = acked ∙ acked_all q v d hq ∙ omega arith in
+kept_more : (q r : Queue) (v w : Stream) (more : List ℕ) → IsDrained q → IsQueueOf q v → r.acked ≡ q.acked → IsQueueOf r w → w.bytes ≡ v.bytes ++ more → r.kept ≡ more
+kept_more q r v w more d hq same hr goes =
+    let count : r.acked ≡ length v.bytes + 0 = same ∙ acked_all q v d hq ∙ omega arith in
     hr.kept ∙ ap (λ n. drop n w.bytes) count ∙ ap (drop (length v.bytes + 0)) goes ∙ drop-append-add v.bytes more 0
 
 -- a file that had the stream before has the stream now
@@ -66,61 +66,6 @@ file_part_more v w more kept first c d goes is had (k, now) = (
       ∙ ap (with_appended first) (sym (take-append-add v more k) ∙ ap (take (length v + k)) (sym goes)),
 )
 
--- the bytes of a side in a history with one more element
-bytes_of-last : (s : Side) (h : List Element) (e : Element) → bytes_of s (h ++ e ∷ []) ≡ bytes_of s h ++ bytes_in s e
-bytes_of-last s [] e = append-nil (bytes_in s e)
-bytes_of-last s (x ∷ h) e = ap (λ l. bytes_in s x ++ l) (bytes_of-last s h e) ∙ sym (append_assoc (bytes_in s x) (bytes_of s h) (bytes_in s e))
-
-ended_of-last : (s : Side) (h : List Element) (e : Element) → ended_of s (h ++ e ∷ []) ≡ (ended_of s h || (is_side s e.side && e.letters.ended))
-ended_of-last s [] e = or_nothing (is_side s e.side && e.letters.ended)
-  where
-    or_nothing : (b : Bool) → (b || false) ≡ b
-    or_nothing true = refl
-    or_nothing false = refl
-ended_of-last s (x ∷ h) e =
-    ap (λ b. (is_side s x.side && x.letters.ended) || b) (ended_of-last s h e) ∙ or_assoc (is_side s x.side && x.letters.ended) (ended_of s h) (is_side s e.side && e.letters.ended)
-  where
-    or_assoc : (a b c : Bool) → (a || (b || c)) ≡ ((a || b) || c)
-    or_assoc true b c = refl
-    or_assoc false b c = refl
-
-or_false : (b : Bool) → (b || false) ≡ b
-or_false true = refl
-or_false false = refl
-
--- how many letters were taken of each side
-pub taken_piece : (h : List Element) (piece : List ℕ) →
-    letter_count (taken side.Client (h ++ bytes_at 0 side.Client piece ∷ [])) ≡ letter_count (taken side.Client h) + length piece
-taken_piece h piece =
-    let e = bytes_at 0 side.Client piece in
-    let bytes = ap length (bytes_of-last side.Client h e) ∙ length-append (bytes_of side.Client h) piece in
-    let ended : ended_of side.Client (h ++ e ∷ []) ≡ ended_of side.Client h = ended_of-last side.Client h e ∙ or_false (ended_of side.Client h) in
-    ap (λ n. n + cond (ended_of side.Client (h ++ e ∷ [])) 1 0) bytes
-    ∙ ap (λ b. length (bytes_of side.Client h) + length piece + cond b 1 0) ended ∙ omega arith
-
-pub taken_other : (h : List Element) (piece : List ℕ) (ended : Bool) →
-    letter_count (taken side.Controller (h ++ record { moment = 0; side = side.Client; letters = record { bytes = piece; ended = ended } } ∷ [])) ≡ letter_count (taken side.Controller h)
-taken_other h piece ended =
-    let e : Element = record { moment = 0; side = side.Client; letters = record { bytes = piece; ended = ended } } in
-    let bytes : bytes_of side.Controller (h ++ e ∷ []) ≡ bytes_of side.Controller h = bytes_of-last side.Controller h e ∙ append-nil (bytes_of side.Controller h) in
-    let over : ended_of side.Controller (h ++ e ∷ []) ≡ ended_of side.Controller h = ended_of-last side.Controller h e ∙ or_false (ended_of side.Controller h) in
-    ap (λ l. length l + cond (ended_of side.Controller (h ++ e ∷ [])) 1 0) bytes ∙ ap (λ b. length (bytes_of side.Controller h) + cond b 1 0) over
-
-or_true : (b : Bool) → (b || true) ≡ true
-or_true true = refl
-or_true false = refl
-
-pub ended_piece : (h : List Element) (piece : List ℕ) → ended_of side.Client (h ++ bytes_at 0 side.Client piece ∷ []) ≡ ended_of side.Client h
-ended_piece h piece = ended_of-last side.Client h (bytes_at 0 side.Client piece) ∙ or_false (ended_of side.Client h)
-
-taken_end : (h : List Element) → ended_of side.Client h ≡ false → letter_count (taken side.Client (h ++ end_at 0 side.Client ∷ [])) ≡ letter_count (taken side.Client h) + 1
-taken_end h not_yet =
-    let e = end_at 0 side.Client in
-    let bytes : bytes_of side.Client (h ++ e ∷ []) ≡ bytes_of side.Client h = bytes_of-last side.Client h e ∙ append-nil (bytes_of side.Client h) in
-    let ended : ended_of side.Client (h ++ e ∷ []) ≡ true = ended_of-last side.Client h e ∙ or_true (ended_of side.Client h) in
-    let before : letter_count (taken side.Client h) ≡ length (bytes_of side.Client h) = ap (λ b. length (bytes_of side.Client h) + cond b 1 0) not_yet ∙ omega arith in
-    ap (λ l. length l + cond (ended_of side.Client (h ++ e ∷ [])) 1 0) bytes ∙ ap (λ b. length (bytes_of side.Client h) + cond b 1 0) ended ∙ ap (λ n. n + 1) (sym before)
-
 nothing_more : (xs ys more : List ℕ) → ys ≡ xs ++ more → length ys ≡ length xs → ys ≡ xs
 nothing_more xs ys more is size =
     let none : length more ≡ 0 = (let both = ap length is ∙ length-append xs more in omega (arith, both, size)) in
@@ -130,57 +75,32 @@ nothing_more xs ys more is size =
     empty [] e = refl
     empty (x ∷ l) e = cc
 
-none_of : (p q r s : Bool) (x y : CutReason) → (if p || q then Some x else if r || s then Some y else None) ≡ None →
-    (p ≡ false) × (q ≡ false) × (s ≡ false)
-none_of true q r s x y e = cc
-none_of false true r s x y e = cc
-none_of false false true s x y e = cc
-none_of false false false true x y e = cc
-none_of false false false false x y e = (refl, refl, refl)
-
-below : (limit n : ℕ) → nat_le limit n ≡ false → n < limit
-below limit n e = elim (cases_lt n limit) [ inl less ↦ less | inr more ↦ absurd (let t = le-leb limit n more in cc) ]
-
--- a limit that is not reached
-pub short_streams : (limit taken to_client to_controller : ℕ) → limit_by limit taken 0 to_client to_controller ≡ None →
-    (taken < limit) × (to_client < limit) × (to_controller < limit)
-short_streams limit taken to_client to_controller e =
-    let all = none_of (nat_le limit taken) (nat_le limit to_client) (nat_le limit 0) (nat_le limit to_controller) (reason.StreamLength side.Client)
-    (reason.StreamLength side.Controller) e in
-    (below limit taken all.0, below limit to_client all.1, below limit to_controller all.2)
-
 pub neither : (a b : Option CutReason) → option_or a b ≡ None → b ≡ None
 neither None b e = e
 neither (Some x) b e = cc
 
 -- a queue all of whose bytes were moved
-pub drained : (q r s : Queue) (c d : Content) → IsDrained q → HasGrown q r → Drains r s c d → queue_length s < LETTER_LIMIT → IsDrained s
-drained q r s c d before grown drains few = record {
-  kept = drains.kept;
-  clean = drains.clean;
-  goes = drains.ended ∙ ap (λ (x : Queue). x.ended) grown ∙ before.goes;
-  few = few;
-}
+pub drained : (r q : Queue) (c d : Content) → r.ended ≡ false → Drains r q c d → queue_length q < LETTER_LIMIT → IsDrained q
+drained r q c d goes drains few = record { kept = drains.kept; goes = drains.ended ∙ goes; few = few }
+
+-- the letters of the client after a piece, and after its End
+pub fed_letters : (h : List Element) (piece : List ℕ) → ended_of side.Client h ≡ false →
+    letter_count (taken side.Client (h ++ bytes_at 0 side.Client piece ∷ [])) ≡ letter_count (taken side.Client h) + length piece
+fed_letters h piece going =
+    let one : letter_count (taken side.Client (bytes_at 0 side.Client piece ∷ [])) ≡ length piece = omega (arith, ap length (append-nil piece)) in
+    letters_more side.Client h (bytes_at 0 side.Client piece ∷ []) going ∙ ap (λ n. letter_count (taken side.Client h) + n) one
+
+pub end_letters : (h : List Element) → ended_of side.Client h ≡ false → letter_count (taken side.Client (h ++ end_at 0 side.Client ∷ [])) ≡ letter_count (taken side.Client h) + 1
+end_letters h going = letters_more side.Client h (end_at 0 side.Client ∷ []) going
 
 module _ (asset : Asset) (client : Endpoint) (names : SiftNamesValue) (first : List ℕ → Content) where
   -- a sifting knows why its history is cut
   pub cut_known : (now : List ℕ → Content) (h : List Element) (cut : Option CutReason) (sifting : Sifting) (f : IsSiftingOf asset client names first now h cut sifting) →
-      cut_behind asset h f.follows.judged ≡ option_or cut (limit_by LETTER_LIMIT sifting.taken 0 (queue_length sifting.to_client) (queue_length sifting.to_controller))
+      cut_behind asset h f.follows.judged ≡ option_or cut (limit_by LETTER_LIMIT sifting.heard.letters 0 (queue_length sifting.to_client) (queue_length sifting.to_controller))
   cut_known now h cut sifting f =
       let js = f.follows.judged in
-      let c = f.follows.client_stream in
-      let k = f.follows.controller_stream in
-      let to_client : queue_length sifting.to_client ≡ letter_count (stream_to asset side.Client js) =
-      ap (λ n. n + cond sifting.to_client.ended 1 0) c.pushed ∙ ap (λ b. length (outputs asset side.Client [] js) + cond b 1 0) c.ended in
-      let to_controller : queue_length sifting.to_controller ≡ letter_count (stream_to asset side.Controller js) =
-      ap (λ n. n + cond sifting.to_controller.ended 1 0) k.pushed ∙ ap (λ b. length (outputs asset side.Controller [] js) + cond b 1 0) k.ended in
-      let limit : limit_cut LETTER_LIMIT h (stream_to asset side.Client js) (stream_to asset side.Controller js)
-      ≡ limit_by LETTER_LIMIT sifting.taken 0 (queue_length sifting.to_client) (queue_length sifting.to_controller) =
-      ap (λ n. limit_by LETTER_LIMIT n (letter_count (taken side.Controller h)) (letter_count (stream_to asset side.Client js)) (letter_count (stream_to asset side.Controller js))) (sym f.letters)
-      ∙ ap (λ n. limit_by LETTER_LIMIT sifting.taken n (letter_count (stream_to asset side.Client js)) (letter_count (stream_to asset side.Controller js))) f.quiet
-      ∙ ap (λ n. limit_by LETTER_LIMIT sifting.taken 0 n (letter_count (stream_to asset side.Controller js))) (sym to_client)
-      ∙ ap (λ n. limit_by LETTER_LIMIT sifting.taken 0 (queue_length sifting.to_client) n) (sym to_controller) in
-      ap (λ c. option_or c (limit_cut LETTER_LIMIT h (stream_to asset side.Client js) (stream_to asset side.Controller js))) f.follows.is_cut ∙ ap (option_or cut) limit
+      ap (λ c. option_or c (limit_cut LETTER_LIMIT h (stream_to asset side.Client js) (stream_to asset side.Controller js))) f.follows.is_cut
+      ∙ ap (option_or cut) (sym (limit_is LETTER_LIMIT asset h js sifting.heard.letters 0 sifting.to_client sifting.to_controller f.letters (sym f.quiet) f.follows.client_stream f.follows.controller_stream))
 
   -- the judged items of one more element, of this client
   module _ (go : StreamsGoOn) (old : List ℕ → Content) (h : List Element) (sifting : Sifting) (before : IsSiftingOf asset client names first old h None sifting) where
@@ -207,38 +127,43 @@ module _ (asset : Asset) (client : Endpoint) (names : SiftNamesValue) (first : L
         }
 
     -- an element was fed
-    module _ (e : Element) (rest : List ℕ) (cut : Option CutReason) (mid : Sifting) (now : List ℕ → Content)
-        (fed : Follows asset (h ++ e ∷ []) (rests_of rest) cut (file_lines (first names.log)) (state_of mid (now names.log)))
-        (same_client : mid.lane.client ≡ sifting.lane.client)
+    module _ (e : Element) (cut : Option CutReason) (mid : Sifting) (now : List ℕ → Content)
+        (takes : Takes asset side.Client (e ∷ []) cut sifting.heard.rest.items mid.heard.rest.items (state_of sifting (old names.log)) (state_of mid (now names.log)))
         (out : now names.out ≡ old names.out) (replies : now names.replies ≡ old names.replies) (whole : ends_with_line (now names.log) ≡ true) where
+      fed : Follows asset (h ++ e ∷ []) (client_rests mid.heard.rest.items) cut (file_lines (first names.log)) (state_of mid (now names.log))
+      fed = adds_whole asset (h ++ e ∷ []) (client_rests mid.heard.rest.items) cut (file_lines (first names.log)) (file_lines (old names.log)) (state_of mid (now names.log))
+          (takes.follows h (client_rests sifting.heard.rest.items) (file_lines (first names.log)) (file_lines (old names.log)) refl before.follows)
+
       abbrev are : List Judged
       are = fed.judged
 
-      pub are_judged : AreJudged asset client.address (h ++ e ∷ []) are
-      are_judged = subst (λ (p : Endpoint). AreJudged asset p.address (h ++ e ∷ []) are) (same_client ∙ before.of_client) fed.are_judged
+      are_judged : AreJudged asset client.address (h ++ e ∷ []) are
+      are_judged = subst (λ (p : Endpoint). AreJudged asset p.address (h ++ e ∷ []) are) (takes.client ∙ before.of_client) fed.are_judged
 
-      pub goes : GoOn asset client were are
+      goes : GoOn asset client were are
       goes = go asset client h (e ∷ []) were are were_judged are_judged
 
+      ends_after : mid.to_controller.ended ≡ ended_of side.Client (h ++ e ∷ [])
+      ends_after = takes.client_ended ∙ ap (λ b. b || ended_of side.Client (e ∷ [])) before.ends ∙ sym (ended_of-append side.Client h (e ∷ []))
+
       -- the log has the lines
-      pub has_lines : (new : List ℕ → Content) → new names.log ≡ now names.log → HasLines (lines asset client [] are ++ []) (first names.log) (new names.log)
+      has_lines : (new : List ℕ → Content) → new names.log ≡ now names.log → HasLines (lines asset client [] are ++ []) (first names.log) (new names.log)
       has_lines new same =
           let of_lines : file_lines (now names.log) ≡ with_lines (file_lines (first names.log)) (lines asset client [] are) =
-          fed.of_lines ∙ ap (λ (p : Endpoint). with_lines (file_lines (first names.log)) (lines asset p [] are)) (same_client ∙ before.of_client) in
+          fed.of_lines ∙ ap (λ (p : Endpoint). with_lines (file_lines (first names.log)) (lines asset p [] are)) (takes.client ∙ before.of_client) in
           subst (HasLines (lines asset client [] are ++ []) (first names.log)) (sym same)
           (subst (λ ls. HasLines ls (first names.log) (now names.log)) (sym (append-nil (lines asset client [] are)))
           (lines_told (first names.log) (now names.log) (lines asset client [] are) before.log_first whole of_lines))
 
       -- the queues got what the element put out
-      module _ (client_drained : IsDrained sifting.to_client) (controller_drained : IsDrained sifting.to_controller)
-          (client_grown : HasGrown sifting.to_client mid.to_client) (controller_grown : HasGrown sifting.to_controller mid.to_controller) where
-        pub client_kept : mid.to_client.kept ≡ outputs asset side.Client were goes.ms
+      module _ (client_drained : IsDrained sifting.to_client) (controller_drained : IsDrained sifting.to_controller) where
+        client_kept : mid.to_client.kept ≡ outputs asset side.Client were goes.ms
         client_kept = kept_more sifting.to_client mid.to_client (stream_to asset side.Client were) (stream_to asset side.Client are) (outputs asset side.Client were goes.ms)
-            client_drained before.follows.client_stream client_grown fed.client_stream goes.to_client
+            client_drained before.follows.client_stream takes.to_client.acked fed.client_stream goes.to_client
 
-        pub controller_kept : mid.to_controller.kept ≡ outputs asset side.Controller were goes.ms
+        controller_kept : mid.to_controller.kept ≡ outputs asset side.Controller were goes.ms
         controller_kept = kept_more sifting.to_controller mid.to_controller (stream_to asset side.Controller were) (stream_to asset side.Controller are)
-            (outputs asset side.Controller were goes.ms) controller_drained before.follows.controller_stream controller_grown fed.controller_stream goes.to_controller
+            (outputs asset side.Controller were goes.ms) controller_drained before.follows.controller_stream takes.to_controller.acked fed.controller_stream goes.to_controller
 
         -- an append failed
         pub moves_fail : (new : List ℕ → Content) → new names.log ≡ now names.log → MovesFail names mid now new →
@@ -263,22 +188,21 @@ module _ (asset : Asset) (client : Endpoint) (names : SiftNamesValue) (first : L
 
         -- all bytes were moved
         module _ (new : List ℕ → Content) (last : Sifting) (same : last ≡ record mid { to_client = last.to_client; to_controller = last.to_controller })
-            (is_rest : rest ≡ mid.rest.items) (log : new names.log ≡ now names.log)
+            (log : new names.log ≡ now names.log)
             (client_drains : Drains mid.to_client last.to_client (now names.replies) (new names.replies))
             (controller_drains : Drains mid.to_controller last.to_controller (now names.out) (new names.out))
             (client_stands : (w : Stream) → IsQueueOf mid.to_client w → IsQueueOf last.to_client w)
             (controller_stands : (w : Stream) → IsQueueOf mid.to_controller w → IsQueueOf last.to_controller w)
-            (letters : mid.taken ≡ letter_count (taken side.Client (h ++ e ∷ []))) (ends : ended_of side.Client (h ++ e ∷ []) ≡ ended_of side.Client h)
-            (quiet : letter_count (taken side.Controller (h ++ e ∷ [])) ≡ 0) where
+            (letters : mid.heard.letters ≡ letter_count (taken side.Client (h ++ e ∷ []))) (quiet : letter_count (taken side.Controller (h ++ e ∷ [])) ≡ 0) where
           lane_same : last.lane ≡ mid.lane
           lane_same = ap (λ (f : Sifting). f.lane) same
 
-          follows : Follows asset (h ++ e ∷ []) (rests_of last.rest.items) cut (file_lines (first names.log)) (state_of last (new names.log))
+          follows : Follows asset (h ++ e ∷ []) (client_rests last.heard.rest.items) cut (file_lines (first names.log)) (state_of last (new names.log))
           follows = record {
             judged = are;
             are_judged = subst (λ (l : LaneValue). AreJudged asset l.client.address (h ++ e ∷ []) are) (sym lane_same) fed.are_judged;
             is_cut = fed.is_cut;
-            are_rests = subst (λ r. AreRests asset.protocol (h ++ e ∷ []) (rests_of r) cut) (is_rest ∙ sym (ap (λ (f : Sifting). f.rest.items) same)) fed.are_rests;
+            are_rests = subst (λ r. AreRests asset.protocol (h ++ e ∷ []) (client_rests r) cut) (sym (ap (λ (f : Sifting). f.heard.rest.items) same)) fed.are_rests;
             knows = record {
               admitted = ap (λ (l : LaneValue). l.admitted) lane_same ∙ fed.knows.admitted;
               refused = ap (λ (l : LaneValue). l.refused) lane_same ∙ fed.knows.refused;
@@ -296,58 +220,32 @@ module _ (asset : Asset) (client : Endpoint) (names : SiftNamesValue) (first : L
           unfolding follows
           sifting_of = record {
             follows = follows;
-            of_client = ap (λ (l : LaneValue). l.client) lane_same ∙ same_client ∙ before.of_client;
+            of_client = ap (λ (l : LaneValue). l.client) lane_same ∙ takes.client ∙ before.of_client;
             of_out = file_more (outputs asset side.Controller [] were) (outputs asset side.Controller [] are) (outputs asset side.Controller were goes.ms)
                 mid.to_controller.kept (first names.out) (now names.out) (new names.out) goes.to_controller controller_kept (out ∙ before.of_out) controller_drains.file;
             of_replies = file_more (outputs asset side.Client [] were) (outputs asset side.Client [] are) (outputs asset side.Client were goes.ms)
                 mid.to_client.kept (first names.replies) (now names.replies) (new names.replies) goes.to_client client_kept (replies ∙ before.of_replies) client_drains.file;
             log_first = before.log_first;
             log_now = ap ends_with_line log ∙ whole;
-            letters = ap (λ (f : Sifting). f.taken) same ∙ letters;
-            ends = controller_drains.ended ∙ ap (λ (q : Queue). q.ended) controller_grown ∙ before.ends ∙ sym ends;
+            letters = ap (λ (f : Sifting). f.heard.letters) same ∙ letters;
+            ends = controller_drains.ended ∙ ends_after;
             quiet = quiet;
           }
 
-    -- the End was fed, and nothing came of it
-    module _ (now : List ℕ → Content) (new : Sifting)
-        (fed : Follows asset (h ++ end_at 0 side.Client ∷ []) (rests_of sifting.rest.items) None (file_lines (first names.log)) (state_of new (now names.log)))
-        (is : new ≡ record sifting { to_controller = after_end sifting.to_controller; taken = sifting.taken + 1 })
-        (out : now names.out ≡ old names.out) (replies : now names.replies ≡ old names.replies) (whole : ends_with_line (now names.log) ≡ true)
-        (open_before : sifting.to_controller.ended ≡ false) where
-      ended_lane : new.lane.client ≡ sifting.lane.client
-      ended_lane = ap (λ (f : Sifting). f.lane.client) is
-
-      ended_goes : GoOn asset client were fed.judged
-      ended_goes = goes (end_at 0 side.Client) sifting.rest.items None new now fed ended_lane out replies whole
-
-      client_same : outputs asset side.Client [] fed.judged ≡ outputs asset side.Client [] were
-      client_same = nothing_more (outputs asset side.Client [] were) (outputs asset side.Client [] fed.judged) (outputs asset side.Client were ended_goes.ms) ended_goes.to_client
-          (sym fed.client_stream.pushed ∙ ap (λ (f : Sifting). f.to_client.pushed) is ∙ before.follows.client_stream.pushed)
-
-      controller_same : outputs asset side.Controller [] fed.judged ≡ outputs asset side.Controller [] were
-      controller_same = nothing_more (outputs asset side.Controller [] were) (outputs asset side.Controller [] fed.judged) (outputs asset side.Controller were ended_goes.ms) ended_goes.to_controller
-          (sym fed.controller_stream.pushed ∙ ap (λ (f : Sifting). f.to_controller.pushed) is ∙ before.follows.controller_stream.pushed)
-
-      pub sifting_ended : IsSiftingOf asset client names first now (h ++ end_at 0 side.Client ∷ []) None new
-      sifting_ended =
-          let not_yet : ended_of side.Client h ≡ false = sym before.ends ∙ open_before in
-          record {
-            follows = record {
-              judged = fed.judged;
-              are_judged = fed.are_judged;
-              is_cut = fed.is_cut;
-              are_rests = subst (λ r. AreRests asset.protocol (h ++ end_at 0 side.Client ∷ []) (rests_of r) None) (sym (ap (λ (f : Sifting). f.rest.items) is)) fed.are_rests;
-              knows = fed.knows;
-              client_stream = fed.client_stream;
-              controller_stream = fed.controller_stream;
-              of_lines = fed.of_lines;
-            };
-            of_client = ended_lane ∙ before.of_client;
-            of_out = out ∙ before.of_out ∙ ap (with_appended (first names.out)) (sym controller_same);
-            of_replies = replies ∙ before.of_replies ∙ ap (with_appended (first names.replies)) (sym client_same);
-            log_first = before.log_first;
-            log_now = whole;
-            letters = ap (λ (f : Sifting). f.taken) is ∙ ap (λ n. n + 1) before.letters ∙ sym (taken_end h not_yet);
-            ends = ap (λ (f : Sifting). f.to_controller.ended) is ∙ sym (ended_of-last side.Client h (end_at 0 side.Client) ∙ or_true (ended_of side.Client h));
-            quiet = taken_other h [] true ∙ before.quiet;
-          }
+      -- nothing came of it
+      pub sifting_ended : mid.to_client.pushed ≡ sifting.to_client.pushed → mid.to_controller.pushed ≡ sifting.to_controller.pushed →
+          mid.heard.letters ≡ letter_count (taken side.Client (h ++ e ∷ [])) → letter_count (taken side.Controller (h ++ e ∷ [])) ≡ 0 →
+          IsSiftingOf asset client names first now (h ++ e ∷ []) cut mid
+      sifting_ended client_same controller_same letters quiet = record {
+        follows = fed;
+        of_client = takes.client ∙ before.of_client;
+        of_out = out ∙ before.of_out ∙ ap (with_appended (first names.out)) (sym (nothing_more (outputs asset side.Controller [] were) (outputs asset side.Controller [] are)
+            (outputs asset side.Controller were goes.ms) goes.to_controller (sym fed.controller_stream.pushed ∙ controller_same ∙ before.follows.controller_stream.pushed)));
+        of_replies = replies ∙ before.of_replies ∙ ap (with_appended (first names.replies)) (sym (nothing_more (outputs asset side.Client [] were) (outputs asset side.Client [] are)
+            (outputs asset side.Client were goes.ms) goes.to_client (sym fed.client_stream.pushed ∙ client_same ∙ before.follows.client_stream.pushed)));
+        log_first = before.log_first;
+        log_now = whole;
+        letters = letters;
+        ends = ends_after;
+        quiet = quiet;
+      }

@@ -1,8 +1,7 @@
 mod Draining
 mod Elements
-mod Ends
-mod Feeding
 mod Logs
+mod Missing
 mod Sifted
 mod Stored
 mod Streams

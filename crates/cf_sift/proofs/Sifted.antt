@@ -16,7 +16,7 @@ use Rattle.cf_outside.proofs.Lines.{ends_with_line-create}
 use Rattle.cf_policy.specs.declared.Asset.{Asset}
 use Rattle.cf_view.specs.declared.Endpoint.{Endpoint}
 use Rattle.cf_view.specs.declared.Side.TheVariants as side
-use Rattle.cf_sift.specs.Sifting.{IsSiftingOf, rests_of}
+use Rattle.cf_sift.specs.Sifting.{IsSiftingOf, client_rests}
 use Rattle.cf_sift.specs.Names.{AreApart, SiftNamesValue, sift_output_names}
 use Rattle.cf_sift.specs.Outputs.{AreCreated, KeepsAllBut}
 use Rattle.cf_sift.specs.Sifted.{HasLines, HasLinesThen, IsReadUpTo, IsSifted, IsWrittenUpTo, SiftEnds, created, cut_lines, stored_client}
@@ -57,8 +57,8 @@ module _ (asset : Asset) (client : ℕ) (names : SiftNamesValue) (before mid : L
   who = stored_client client
 
   -- the sifting before the first piece
-  pub starts_sifting : (sifting : Sifting) → ((first : Option (List (List ℕ))) → Follows asset [] (rests_of sifting.rest.items) None first (state sifting.lane sifting.to_client sifting.to_controller first)) →
-      sifting.lane.client ≡ who → sifting.taken ≡ 0 → sifting.to_controller.ended ≡ false → IsSiftingOf asset who names (created before) mid [] None sifting
+  pub starts_sifting : (sifting : Sifting) → ((first : Option (List (List ℕ))) → Follows asset [] (client_rests sifting.heard.rest.items) None first (state sifting.lane sifting.to_client sifting.to_controller first)) →
+      sifting.lane.client ≡ who → sifting.heard.letters ≡ 0 → sifting.to_controller.ended ≡ false → IsSiftingOf asset who names (created before) mid [] None sifting
   starts_sifting sifting follows same letters goes =
       let f = follows (file_lines (created before names.log)) in
       let none : f.judged ≡ [] = none_judged f.judged f.are_judged.dropped (sym f.are_judged.are_items ∙ f.are_judged.are_first) in

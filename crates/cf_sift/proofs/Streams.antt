@@ -1,15 +1,13 @@
 -- A stored stream that is taken piece by piece.
 use Rattle.std.proofs.Common.{◌≡◌, ◌+◌, ◌≤◌, ◌<◌, ℕ, Bool, true, false, None, Some, Option, List, [], ◌∷◌, ◌++◌, length, min, take, drop, refl, sym, ap, ◌∙◌, append_assoc, subst, inl, inr, arith}
 use Rattle.std.specs.Option.{option_or}
-use Rattle.std.specs.Prelude.{nat_le, ◌||◌, if◌then◌else◌}
-use Rattle.std.proofs.lemmas.Bool.{cases_lt, leb-true}
+use Rattle.std.proofs.lemmas.Bool.{cases_lt}
 use Rattle.std.proofs.lemmas.List.{append-nil, length-append, length-take, take_all, take-append-drop}
 use Rattle.cf_audit.specs.declared.line.CutReason.{CutReason}
-use Rattle.cf_audit.specs.declared.line.CutReason.TheVariants as reason
+use Rattle.cf_driver.proofs.Limits.{limit_none}
 use Rattle.cf_lane.specs.Follows.{AreJudged, AreRests}
 use Rattle.cf_lane.specs.History.{Element, bytes_at, end_at}
 use Rattle.cf_lane.specs.Laws.{HasOneJudgement}
-use Rattle.cf_lane.specs.Limit.{limit_by}
 use Rattle.cf_lane.specs.Log.{lines, with_lines}
 use Rattle.cf_lane.specs.declared.limit.TheConstants.{LETTER_LIMIT}
 use Rattle.cf_outq.specs.SendQueue.{queue_length}
@@ -20,7 +18,7 @@ use Rattle.cf_outside.proofs.Content.{begins_more}
 use Rattle.cf_policy.specs.declared.Asset.{Asset}
 use Rattle.cf_view.specs.declared.Endpoint.{Endpoint}
 use Rattle.cf_view.specs.declared.Side.TheVariants as side
-use Rattle.cf_sift.specs.Sifting.{IsSiftingAfter, IsSiftingOf, IsReady, rests_of}
+use Rattle.cf_sift.specs.Sifting.{IsSiftingAfter, IsSiftingOf, IsReady, client_rests}
 use Rattle.cf_sift.specs.Names.{SiftNamesValue}
 use Rattle.cf_sift.specs.Sifted.{ElementFails, HasLines, HaveOutput}
 use Rattle.cf_sift.specs.Stored.{IsUncut, cut_behind, stored_history}
@@ -98,24 +96,6 @@ piece_at file bytes p begins filled some short =
           (more.0, subst (IsWhole file) (append_assoc bytes p more.0) more.1, (stored_history more.0, full_piece p more.0 (omega (arith, full, short))))
     ]
 
--- no stream is as long as the limit
-short_limit : (p q r s : Bool) (x y : CutReason) → p ≡ false → q ≡ false → r ≡ false → s ≡ false →
-    (if p || q then Some x else if r || s then Some y else None) ≡ None
-short_limit p q r s x y a b c d = rw (a, b, c, d) refl
-
-not_above : (limit n : ℕ) → n < limit → nat_le limit n ≡ false
-not_above limit n less = no (nat_le limit n) (λ e. omega (arith, less, leb-true limit n e))
-  where
-    no : (b : Bool) → (b ≡ true → ⊥) → b ≡ false
-    no true f = absurd (f refl)
-    no false f = refl
-
-pub no_limit : (limit taken to_client to_controller : ℕ) → taken < limit → to_client < limit → to_controller < limit →
-    limit_by limit taken 0 to_client to_controller ≡ None
-no_limit limit taken to_client to_controller a b c =
-    short_limit (nat_le limit taken) (nat_le limit to_client) (nat_le limit 0) (nat_le limit to_controller) (reason.StreamLength side.Client) (reason.StreamLength side.Controller)
-    (not_above limit taken a) (not_above limit to_client b) (not_above limit 0 (omega (arith, a))) (not_above limit to_controller c)
-
 -- a cut that is none is none of its parts
 first_none : (a b : Option CutReason) → option_or a b ≡ None → a ≡ None
 first_none None b e = refl
@@ -151,7 +131,7 @@ module _ (asset : Asset) (client : Endpoint) (names : SiftNamesValue) (first : L
           judged = f.follows.judged;
           are_judged = f.follows.are_judged;
           is_cut = f.follows.is_cut ∙ none;
-          are_rests = subst (AreRests asset.protocol h (rests_of sifting.rest.items)) none f.follows.are_rests;
+          are_rests = subst (AreRests asset.protocol h (client_rests sifting.heard.rest.items)) none f.follows.are_rests;
           knows = f.follows.knows;
           client_stream = f.follows.client_stream;
           controller_stream = f.follows.controller_stream;
@@ -182,7 +162,7 @@ module _ (asset : Asset) (client : Endpoint) (names : SiftNamesValue) (first : L
           let none : front ≡ [] = empty front back is in
           let same : ks ≡ f.follows.judged = one asset client.address [] ks f.follows.judged (subst (λ l. AreJudged asset client.address l ks) none are) (of_client old [] None sifting f) in
           ap (λ l. cut_behind asset l ks) none ∙ ap (cut_behind asset []) same ∙ cut_known asset client names first old [] None sifting f
-          ∙ no_limit LETTER_LIMIT sifting.taken (queue_length sifting.to_client) (queue_length sifting.to_controller) ready.few ready.client.few ready.controller.few;
+          ∙ limit_none LETTER_LIMIT sifting.heard.letters 0 (queue_length sifting.to_client) (queue_length sifting.to_controller) ready.few (omega arith) ready.client.few ready.controller.few;
     }
       where
         nothing_read : (file : Content) → BeginsWith file []

@@ -1,26 +1,15 @@
 -- Steps of the proof: what a call does that moves a queue's bytes to the end of a file: `Drains`.
-use Rattle.std.specs.Prelude.{◌≡◌, ℕ, List, [], ◌++◌, take}
+use Rattle.std.specs.Prelude.{◌≡◌, ℕ, [], take}
 use Rattle.cf_outq.specs.SendQueue.{Queue}
 use Rattle.cf_outside.specs.Files.{Content, with_appended}
 
--- some of the bytes that the queue kept went to the end of the file, and it keeps the others
-pub record Moves (old new : Queue) (before after : Content) : Type 0 where
-  pub front : List ℕ
-  pub bytes : old.kept ≡ front ++ new.kept
-  pub file : after ≡ with_appended before front
-  pub pushed : new.pushed ≡ old.pushed
-  pub ended : new.ended ≡ old.ended
-  pub clean : new.acked ≡ new.sent
-  pub wide : new.shown ≡ old.shown
-
--- all of them did
+-- all bytes that the queue kept went to the end of the file
 pub record Drains (old new : Queue) (before after : Content) : Type 0 where
   pub kept : new.kept ≡ []
   pub file : after ≡ with_appended before old.kept
   pub pushed : new.pushed ≡ old.pushed
   pub ended : new.ended ≡ old.ended
-  pub clean : new.acked ≡ new.sent
 
--- bytes of a queue were moved to a file in part
+-- some of them, from the first on
 abbrev pub MovesPart : Queue → (old new : Content) → Type 0
 MovesPart q old new = (k : ℕ) × (new ≡ with_appended old (take k q.kept))

@@ -1,9 +1,9 @@
 -- Steps of the proof: what is kept between two elements of a stored stream, and what it stands for: `IsSiftingOf`.
 use Rattle.std.specs.Prelude.{◌≡◌, ◌⊎◌, ◌++◌, ◌∷◌, ℕ, ◌+◌, ◌^◌, ◌<◌, ◌≤◌, true, false, List, [], length, Option, None}
 use Rattle.cf_audit.specs.declared.line.CutReason.{CutReason}
-use Rattle.cf_lane.specs.Follows.{Began, BeganWithin, Follows, Rests, rest_of}
+use Rattle.cf_lane.specs.Follows.{Follows, Rests}
 use Rattle.cf_lane.specs.Handled.{IsLaneOf, State, debt, state}
-use Rattle.cf_lane.specs.History.{Element, bytes_at, end_at, ended_of, taken}
+use Rattle.cf_lane.specs.History.{Element, ended_of, taken}
 use Rattle.cf_outq.specs.SendQueue.{Queue, queue_length}
 use Rattle.cf_outside.specs.Files.{Content, with_appended}
 use Rattle.cf_outside.specs.Lines.{ends_with_line, file_lines, file_part}
@@ -22,13 +22,12 @@ abbrev pub state_of : Sifting → Content → State
 state_of sifting log = state sifting.lane sifting.to_client sifting.to_controller (file_lines log)
 
 -- the client's bytes that are no whole unit yet, and none of the controller
-abbrev pub rests_of : List ℕ → Rests
-rests_of rest = record { client = rest; controller = [] }
+abbrev pub client_rests : List ℕ → Rests
+client_rests rest = record { client = rest; controller = [] }
 
 -- all bytes of the queue were moved, and it goes on
 pub record IsDrained (q : Queue) : Type 0 where
   pub kept : q.kept ≡ []
-  pub clean : q.acked ≡ q.sent
   pub goes : q.ended ≡ false
   pub few : queue_length q < 2 ^ 30
 
@@ -38,20 +37,20 @@ pub record IsReady (asset : Asset) (sifting : Sifting) : Type 0 where
   pub debt : debt sifting.lane ≤ 5300
   pub client : IsDrained sifting.to_client
   pub controller : IsDrained sifting.to_controller
-  pub rest : length sifting.rest.items < 300
-  pub counts : sifting.lane.admitted + sifting.lane.refused + length sifting.rest.items ≤ sifting.taken
-  pub few : sifting.taken < 2 ^ 30
+  pub rest : length sifting.heard.rest.items < 300
+  pub counts : sifting.lane.admitted + sifting.lane.refused + length sifting.heard.rest.items ≤ sifting.heard.letters
+  pub few : sifting.heard.letters < 2 ^ 30
 
 module _ (asset : Asset) (client : Endpoint) (names : SiftNamesValue) (first now : List ℕ → Content) where
   -- a sifting and the outputs stand for a history, of which nothing is left in the queues; an item cuts it so
   pub record IsSiftingOf (history : List Element) (cut : Option CutReason) (sifting : Sifting) : Type 0 where
-    pub follows : Follows asset history (rests_of sifting.rest.items) cut (file_lines (first names.log)) (state_of sifting (now names.log))
+    pub follows : Follows asset history (client_rests sifting.heard.rest.items) cut (file_lines (first names.log)) (state_of sifting (now names.log))
     pub of_client : sifting.lane.client ≡ client
     pub of_out : HasOut asset client names first now follows.judged
     pub of_replies : HasReplies asset client names first now follows.judged
     pub log_first : ends_with_line (first names.log) ≡ true
     pub log_now : ends_with_line (now names.log) ≡ true
-    pub letters : sifting.taken ≡ letter_count (taken side.Client history)
+    pub letters : sifting.heard.letters ≡ letter_count (taken side.Client history)
     pub ends : sifting.to_controller.ended ≡ ended_of side.Client history
     pub quiet : letter_count (taken side.Controller history) ≡ 0
 
@@ -60,40 +59,6 @@ module _ (asset : Asset) (client : Endpoint) (names : SiftNamesValue) (first now
     pub by_item : Option CutReason
     pub sifting_of : IsSiftingOf history by_item sifting
     pub is_cut : cut_behind asset history sifting_of.follows.judged ≡ cut
-
--- the line of an End of the client failed, where so many bytes were left: so it is of each history that was followed
-abbrev pub EndFails : Asset → (rest : ℕ) → State → (log : Option (List (List ℕ))) → (part : List ℕ) → Type 0
-EndFails asset rest old log part =
-    (h : List Element) (rests : Rests) (first : Option (List (List ℕ))) → rest ≡ length (rest_of side.Client rests) → Follows asset h rests None first old →
-    Began asset old.lane.client (h ++ end_at 0 side.Client ∷ []) first log part
-
--- a sifting was fed a piece of the client's bytes: so it is of each history that was followed
-abbrev pub FeedsPiece : Asset → (piece : List ℕ) → (old new : Sifting) → (before after : Content) → Option CutReason → Type 0
-FeedsPiece asset piece old new before after cut =
-    (h : List Element) (first : Option (List (List ℕ))) → Follows asset h (rests_of old.rest.items) None first (state_of old before) →
-    Follows asset (h ++ bytes_at 0 side.Client piece ∷ []) (rests_of new.rest.items) cut first (state_of new after)
-
--- a line of a piece failed
-abbrev pub PieceFails : Asset → (piece : List ℕ) → (old : Sifting) → (before after : Content) → Type 0
-PieceFails asset piece old before after =
-    (h : List Element) (first : Option (List (List ℕ))) → Follows asset h (rests_of old.rest.items) None first (state_of old before) →
-    BeganWithin asset old.lane.client h 0 side.Client piece first (file_lines after) (file_part after)
-
--- the client's side was ended
-abbrev pub EndsSifting : Asset → (old new : Sifting) → (before after : Content) → Type 0
-EndsSifting asset old new before after =
-    (h : List Element) (first : Option (List (List ℕ))) → Follows asset h (rests_of old.rest.items) None first (state_of old before) →
-    Follows asset (h ++ end_at 0 side.Client ∷ []) (rests_of old.rest.items) None first (state_of new after)
-
--- its line failed
-abbrev pub SiftingEndFails : Asset → (old : Sifting) → (before after : Content) → Type 0
-SiftingEndFails asset old before after =
-    (h : List Element) (first : Option (List (List ℕ))) → Follows asset h (rests_of old.rest.items) None first (state_of old before) →
-    Began asset old.lane.client (h ++ end_at 0 side.Client ∷ []) first (file_lines after) (file_part after)
-
--- a queue got more bytes, and is else as it was
-abbrev pub HasGrown : (old new : Queue) → Type 0
-HasGrown old new = new ≡ record old { kept = new.kept; pushed = new.pushed }
 
 -- an element was taken: so it is of each history that the sifting stood for
 abbrev pub TakesElement : Asset → SiftNamesValue → Element → (old new : Sifting) → (before after : List ℕ → Content) → Option CutReason → Type 0

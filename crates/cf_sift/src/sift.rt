@@ -14,8 +14,8 @@ use crate::names::SiftNames;
 use crate::outputs::create_outputs;
 use crate::sifting::Sifting;
 use crate::stream::{PIECE, take_stream};
-use cf_audit::{CutReason, Line, What};
-use cf_lane::put_line;
+use cf_audit::{CutReason, What};
+use cf_driver::log_line;
 use cf_outside::Files;
 use cf_policy::Asset;
 use cf_view::{Endpoint, NoMemory, WriteFault};
@@ -151,14 +151,8 @@ fn log_reason<F: Files>(
     ensures cause { HasCause (F.write_faults files.old) (F.write_faults files.new) (IsErr result) }
     ensures reads { F.read_faults files.new ≡ F.read_faults files.old }
 {
-    let line = Line {
-        moment: 0,
-        client,
-        asset: asset.name.as_str(),
-        what: What::Cut(reason),
-    };
     let mut desk = log_desk(log, files);
-    put_line(&line, &mut desk)
+    log_line(asset, client, 0, What::Cut(reason), &mut desk)
 }
 
 /// A buffer of 4,096 bytes.

@@ -32,7 +32,7 @@ pub(crate) fn take_stream<F: Files>(
     buffer: &mut [u8],
 ) -> Result<Option<CutReason>, SiftFault>
     requires ready { IsReady asset.now sifting.old }
-    requires fresh { sifting.old.taken ≡ 0 }
+    requires fresh { sifting.old.heard.letters ≡ 0 }
     requires within { IsAssetWithin asset.now }
     requires apart { AreApart (sift_names_value names.now) }
     requires whole { ends_with_line (F.content files.old names.now.log.now) ≡ true }
@@ -90,7 +90,7 @@ fn take_piece<F: Files>(
     ensures fails { OnErr result (FailsElement asset.now (sift_names_value names.now) (bytes_at 0 Side.Client piece.now)
         sifting.old (F.content files.old) (F.content files.new)) }
     ensures ready { IfOk result (λ cut. cut ≡ None → IsReady asset.now sifting.new) }
-    ensures letters { OnOk result (sifting.new.taken ≡ sifting.old.taken + length piece.now) }
+    ensures letters { OnOk result (sifting.new.heard.letters ≡ sifting.old.heard.letters + length piece.now) }
     ensures whole { OnOk result (ends_with_line (F.content files.new names.now.log.now) ≡ true) }
     ensures others { KeepsAllBut (F.content files.old) (F.content files.new) (sift_output_names (sift_names_value names.now)) }
     ensures cause { HasCause (F.write_faults files.old) (F.write_faults files.new) (IsErr result) }

@@ -1,5 +1,5 @@
-use Rattle.std.proofs.Common.{◌≡◌, ◌-◌, ◌^◌, ◌≤◌, ℕ, List, ◌++◌, length}
-use Rattle.cf_outq.specs.SendQueue.{IsQueueOf, queue_length}
+use Rattle.std.proofs.Common.{◌≡◌, ◌≤◌, ℕ, drop, length, take}
+use Rattle.cf_outq.specs.SendQueue.{IsQueueOf}
 use Rattle.cf_outside.specs.Files.{KeepsOthers, with_appended}
 use Rattle.cf_stream.specs.Stream.{Stream}
 use Rattle.cf_sift.proofs.queue_file.drain.Given as goal
@@ -8,13 +8,11 @@ abbrev pub invariant-pieces : goal.invariant-pieces
 invariant-pieces g l =
     let content = g.F.Files.content in
     record {
-      front : List ℕ;
-      bytes : l.fn.queue.kept ≡ front ++ l.queue.kept;
-      file : content l.files l.name ≡ with_appended (content l.fn.files l.name) front;
+      gone : ℕ;
+      left : l.queue.kept ≡ drop gone l.fn.queue.kept;
+      file : content l.files l.name ≡ with_appended (content l.fn.files l.name) (take gone l.fn.queue.kept);
       pushed : l.queue.pushed ≡ l.fn.queue.pushed;
       ended : l.queue.ended ≡ l.fn.queue.ended;
-      clean : l.queue.acked ≡ l.queue.sent;
-      wide : 2 ^ 62 ≤ l.queue.shown;
       stands : (whole : Stream) → IsQueueOf l.fn.queue whole → IsQueueOf l.queue whole;
       others : KeepsOthers l.name (content l.fn.files) (content l.files);
       writes : g.F.Files.write_faults l.fn.files ≤ g.F.Files.write_faults l.files;
@@ -23,4 +21,4 @@ invariant-pieces g l =
     }
 
 abbrev pub decreases-pieces : goal.decreases-pieces
-decreases-pieces g l = queue_length l.queue - l.queue.sent
+decreases-pieces g l = length l.queue.kept

@@ -1,21 +1,26 @@
-use Rattle.std.proofs.Common.{◌+◌, ◌<◌, ◌≤◌, ℕ, List, subst, ap, false, length, refl, sym, ◌∙◌, inl}
+use Rattle.std.proofs.Common.{[], ◌∷◌, ◌+◌, ◌<◌, ◌≤◌, ◌||◌, subst, ap, arith, false, length, refl, sym, ◌∙◌, inl}
+use Rattle.std.proofs.lemmas.List.{append-nil}
 use Rattle.std.specs.Option.{option_or}
+use Rattle.cf_driver.proofs.Histories.{letters_still}
+use Rattle.cf_driver.proofs.Limits.{limit_short}
+use Rattle.cf_driver.proofs.Whole.{within_whole}
 use Rattle.cf_lane.specs.History.{bytes_at}
 use Rattle.cf_view.specs.declared.Side.TheVariants as side
 use Rattle.cf_sift.specs.Names.{sift_names_value}
+use Rattle.cf_sift.specs.Sifting.{client_rests}
 use Rattle.cf_sift.proofs.Draining.{on_err}
 use Rattle.cf_lane.specs.Handled.{IsLaneOf, debt}
 use Rattle.cf_lane.specs.declared.limit.TheConstants.{LETTER_LIMIT}
 use Rattle.cf_outq.specs.SendQueue.{queue_length}
 use Rattle.cf_sift.specs.declared.sifting.Sifting.{Sifting}
-use Rattle.cf_sift.proofs.Elements.{cut_known, drained, ended_piece, sifting_of, line_fails, moves_fail, neither, short_streams, taken_other, taken_piece}
+use Rattle.cf_sift.proofs.Elements.{cut_known, drained, fed_letters, line_fails, moves_fail, neither, sifting_of}
 use Rattle.cf_sift.proofs.stream.take_piece.Goals as goal
 
 pub returns-in_err-cut-clause-fails : goal.returns-in_err-cut-clause-fails
 returns-in_err-cut-clause-fails g c = on_err _ c.from_residual.result (λ client first h before.
     let content = g.F.Files.content in
     let names = sift_names_value c.args.names.now in
-    let fails = c.in_err-cut.ensures.fails h _ before.follows in
+    let fails = within_whole _ _ _ _ _ _ _ _ _ _ (c.in_err-cut.ensures.misses h (client_rests c.args.sifting.now.heard.rest.items) _ _ refl before.follows) in
     inl (line_fails c.args.asset.now client names first c.streams_go_on.ensures.go_on (content c.args.files.now) h c.args.sifting.now before
     (bytes_at 0 side.Client fails.handled) (bytes_at 0 side.Client c.args.piece.now) fails.rest (content c.feed.new.files) (ap (bytes_at 0 side.Client) fails.piece_is) fails.began
     (c.feed.ensures.others names.out c.requires.apart.out_log) (c.feed.ensures.others names.replies c.requires.apart.replies_log)))
@@ -26,9 +31,9 @@ returns-in_err-drain-clause-fails g c = on_err _ c.from_residual-in_err-drain.re
     let names = sift_names_value c.args.names.now in
     let f = c.in_ok-cut.ensures in
     moves_fail c.args.asset.now client names first c.streams_go_on.ensures.go_on (content c.args.files.now) h c.args.sifting.now before
-    (bytes_at 0 side.Client c.args.piece.now) _ _ c.feed.new.self (content c.feed.new.files) (f.history h _ before.follows) f.client
+    (bytes_at 0 side.Client c.args.piece.now) _ c.feed.new.self (content c.feed.new.files) f.takes
     (f.others names.out c.requires.apart.out_log) (f.others names.replies c.requires.apart.replies_log) f.whole
-    c.requires.ready.client c.requires.ready.controller f.to_client f.to_controller (content c.drain.new.files) c.drain.ensures.log
+    c.requires.ready.client c.requires.ready.controller (content c.drain.new.files) c.drain.ensures.log
     c.in_err-drain.ensures.fails)
 
 pub returns-clause-taken : goal.returns-clause-taken
@@ -37,13 +42,14 @@ returns-clause-taken g c = λ client first h before.
     let names = sift_names_value c.args.names.now in
     let f = c.in_ok-cut.ensures in
     let d = c.in_ok-drain.ensures in
+    let element = bytes_at 0 side.Client c.args.piece.now in
     let sifting = sifting_of c.args.asset.now client names first c.streams_go_on.ensures.go_on (content c.args.files.now) h c.args.sifting.now before
-    (bytes_at 0 side.Client c.args.piece.now) _ _ c.feed.new.self (content c.feed.new.files) (f.history h _ before.follows) f.client
+    element _ c.feed.new.self (content c.feed.new.files) f.takes
     (f.others names.out c.requires.apart.out_log) (f.others names.replies c.requires.apart.replies_log) f.whole
-    c.requires.ready.client c.requires.ready.controller f.to_client f.to_controller (content c.drain.new.files) c.drain.new.self d.same refl d.log
+    c.requires.ready.client c.requires.ready.controller (content c.drain.new.files) c.drain.new.self d.same d.log
     d.to_client d.to_controller d.client_stands d.controller_stands
-    (f.taken ∙ ap (λ n. n + length c.args.piece.now) before.letters ∙ sym (taken_piece h c.args.piece.now)) (ended_piece h c.args.piece.now)
-    (taken_other h c.args.piece.now false ∙ before.quiet) in
+    (f.letters ∙ ap (λ n. n + length c.args.piece.now) before.letters ∙ sym (fed_letters h c.args.piece.now (sym before.ends ∙ c.requires.ready.controller.goes)))
+    (letters_still side.Controller h (element ∷ []) refl refl ∙ before.quiet) in
     record {
       by_item = _;
       sifting_of = sifting;
@@ -53,17 +59,20 @@ returns-clause-taken g c = λ client first h before.
 pub returns-clause-ready : goal.returns-clause-ready
 returns-clause-ready g c = λ none.
     let f = c.in_ok-cut.ensures in
+    let t = f.takes in
     let d = c.in_ok-drain.ensures in
+    let r = c.requires.ready in
     let new = c.drain.new.self in
-    let short = short_streams LETTER_LIMIT new.taken (queue_length new.to_client) (queue_length new.to_controller)
+    let (letters, controller, to_client, to_controller) = limit_short LETTER_LIMIT new.heard.letters 0 (queue_length new.to_client) (queue_length new.to_controller)
     (sym c.length_cut.ensures ∙ neither c.in_ok-cut.cut c.length_cut.result (sym c.or.ensures ∙ none)) in
     let lane = sym (ap (λ (x : Sifting). x.lane) d.same) in
     record {
-      of_asset = subst (IsLaneOf c.args.asset.now) lane f.of_asset;
-      debt = subst (λ l. debt l ≤ 5300) lane f.debt;
-      client = drained _ _ _ _ _ c.requires.ready.client f.to_client d.to_client short.1;
-      controller = drained _ _ _ _ _ c.requires.ready.controller f.to_controller d.to_controller short.2;
-      rest = subst (λ (r : List ℕ). length r < 300) (sym (ap (λ (x : Sifting). x.rest.items) d.same)) f.rest;
-      counts = subst (λ (x : Sifting). x.lane.admitted + x.lane.refused + length x.rest.items ≤ x.taken) (sym d.same) f.counts;
-      few = short.0;
+      of_asset = subst (IsLaneOf c.args.asset.now) lane t.of_asset;
+      debt = subst (λ l. debt l ≤ 5300) lane t.debt;
+      client = drained _ _ _ _ (t.controller_ended ∙ ap (λ b. b || false) r.client.goes) d.to_client to_client;
+      controller = drained _ _ _ _ (t.client_ended ∙ ap (λ b. b || false) r.controller.goes) d.to_controller to_controller;
+      rest = subst (λ (x : Sifting). length x.heard.rest.items < 300) (sym d.same) t.short;
+      counts = subst (λ (x : Sifting). x.lane.admitted + x.lane.refused + length x.heard.rest.items ≤ x.heard.letters) (sym d.same)
+          (omega (arith, t.counts, r.counts, f.letters, ap length (append-nil c.args.piece.now)));
+      few = letters;
     }

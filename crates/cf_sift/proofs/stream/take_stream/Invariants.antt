@@ -15,7 +15,7 @@ invariant-pieces g l =
       taken : (client : Endpoint) (first : List ℕ → Content) → IsSiftingOf l.asset client (sift_names_value l.names) first (content l.fn.files) [] None l.fn.sifting →
           IsTakenTo l.asset client (sift_names_value l.names) first (content l.fn.files) (content l.files) l.at l.sifting;
       ready : IsReady l.asset l.sifting;
-      letters : l.sifting.taken ≡ l.at;
+      letters : l.sifting.heard.letters ≡ l.at;
       whole : ends_with_line (content l.files l.names.log.now) ≡ true;
       others : KeepsAllBut (content l.fn.files) (content l.files) (sift_output_names (sift_names_value l.names));
       piece : length l.piece ≡ 4096;

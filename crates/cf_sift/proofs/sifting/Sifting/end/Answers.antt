@@ -1,7 +1,11 @@
-use Rattle.cf_sift.proofs.Draining.{on_err}
-use Rattle.cf_sift.specs.Sifting.{rests_of}
+use Rattle.std.proofs.Common.{◌≡◌, ap, rules}
+use Rattle.cf_sift.specs.Sifting.{state_of}
+use Rattle.cf_sift.proofs.Missing.{misses_end}
 use Rattle.cf_sift.proofs.sifting.Sifting.end.Goals as goal
 
-pub returns-in_err-end_lane-clause-fails : goal.returns-in_err-end_lane-clause-fails
-returns-in_err-end_lane-clause-fails g c = on_err _ c.from_residual.result
-    (λ h first follows. c.in_err-end_lane.ensures.fails h (rests_of c.args.self.now.rest.items) first c.len-rest.ensures.value follows)
+pub returns-clause-misses : goal.returns-clause-misses
+returns-clause-misses g c =
+    let files = c.log_desk-desk.ensures.files in
+    let log = c.log_desk-desk.ensures.log in
+    let same : g.F.Files.content c.log_desk-desk.result.files.now c.log_desk-desk.result.log.now ≡ g.F.Files.content c.args.files.now c.args.log.now = cc in
+    misses_end _ _ _ _ _ _ _ (ap (state_of c.args.self.now) same) (search rules) c.end.ensures.misses

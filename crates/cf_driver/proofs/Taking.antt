@@ -1,0 +1,163 @@
+-- Letters of a side that the lane took.
+use Rattle.std.proofs.Common.{Bool, Err, List, None, Ok, Option, Result, Some, [], ap, arith, drop, false, length, refl, subst, sym, true, ℕ, ◌*◌, ◌++◌, ◌+◌, ◌<◌, ◌∙◌, ◌∷◌, ◌≡◌, ◌≤◌, ◌||◌}
+use Rattle.std.specs.Prelude.{OnErr}
+use Rattle.std.proofs.Math.Bool.{or-false, or-true}
+use Rattle.std.proofs.lemmas.List.{append-nil, length-append, length-drop}
+use Rattle.cf_audit.specs.declared.line.CutReason.{CutReason}
+use Rattle.cf_lane.specs.Follows.{AddsTo, BeganApart, Follows, IsEndBehindCut, Rests, over, rest_of, with_rest}
+use Rattle.cf_lane.specs.Handled.{CountsBy, EndsOther, Grows, IsLaneOf, LaneValue, State, debt, state}
+use Rattle.cf_lane.specs.History.{Element, bytes_at, bytes_of, end_at, ended_of, letters_at}
+use Rattle.cf_outq.specs.SendQueue.{Queue, after_end}
+use Rattle.cf_policy.specs.declared.Asset.{Asset}
+use Rattle.cf_view.specs.declared.Side.{Side}
+use Rattle.cf_view.specs.declared.Side.TheVariants as side
+use Rattle.cf_driver.specs.Takes.{OnlyPushed, Takes}
+
+-- a fact that stands anyway stands after an error
+pub on_err : {A E : Type 0} (r : Result A E) (P : Type 0) → P → OnErr r P
+on_err (Ok x) P p = tt
+on_err (Err e) P p = p
+
+same_rest : (s : Side) (rests : Rests) → with_rest s rests (rest_of s rests) ≡ rests
+same_rest side.Client rests = refl
+same_rest side.Controller rests = refl
+
+-- ---- a piece
+
+own_bytes : (m : ℕ) (s : Side) (piece : List ℕ) → bytes_of s (bytes_at m s piece ∷ []) ≡ piece
+own_bytes m side.Client piece = append-nil piece
+own_bytes m side.Controller piece = append-nil piece
+
+no_end : (m : ℕ) (t s : Side) (piece : List ℕ) → ended_of t (bytes_at m s piece ∷ []) ≡ false
+no_end m side.Client side.Client piece = refl
+no_end m side.Client side.Controller piece = refl
+no_end m side.Controller side.Client piece = refl
+no_end m side.Controller side.Controller piece = refl
+
+only_pushed : (most before now : ℕ) (old new : Queue) → Grows most before now old new → OnlyPushed old new
+only_pushed most before now old new g = record {
+  acked = ap (λ (q : Queue). q.acked) g.rest;
+  sent = ap (λ (q : Queue). q.sent) g.rest;
+  shown = ap (λ (q : Queue). q.shown) g.rest;
+}
+
+goes_on : (m : ℕ) (t s : Side) (piece : List ℕ) (most before now : ℕ) (old new : Queue) → Grows most before now old new → new.ended ≡ (old.ended || ended_of t (bytes_at m s piece ∷ []))
+goes_on m t s piece most before now old new g = ap (λ (q : Queue). q.ended) g.rest ∙ sym (ap (λ b. old.ended || b) (no_end m t s piece) ∙ or-false old.ended)
+
+-- after a cut no rest is of account
+any_rests : (asset : Asset) (h : List Element) (r r' : Rests) (reason : CutReason) (first own old : Option (List (List ℕ))) (now : State) →
+    AddsTo asset h r (Some reason) first own old now → AddsTo asset h r' (Some reason) first own old now
+any_rests asset h r r' reason first own old now a =
+    let f = a.follows in
+    record {
+      more = a.more;
+      added = a.added;
+      follows = record {
+        judged = f.judged;
+        are_judged = f.are_judged;
+        is_cut = f.is_cut;
+        are_rests = tt;
+        knows = f.knows;
+        client_stream = f.client_stream;
+        controller_stream = f.controller_stream;
+        of_lines = f.of_lines;
+      };
+    }
+
+module _ (asset : Asset) (moment : ℕ) (s : Side) (lane lane' : LaneValue) (c k c' k' : Queue) (log log' : Option (List (List ℕ))) where
+  -- a piece was fed behind the rest
+  module _ (piece rest view : List ℕ) (used : ℕ) (cut : Option CutReason) (is : view ≡ rest ++ piece) (inside : used ≤ length view)
+      (fed : (h : List Element) (rests : Rests) (first own : Option (List (List ℕ))) (more : List ℕ) (ended : Bool) → IsEndBehindCut ended cut → view ≡ rest_of s rests ++ more →
+      Follows asset h rests None first (state lane c k own) → AddsTo asset (h ++ letters_at moment s more ended ∷ []) (with_rest s rests (drop used view)) cut first own log (state lane' c' k' log'))
+      (of_asset : IsLaneOf asset lane') (owed : debt lane' ≤ 5300) (client : lane'.client ≡ lane.client)
+      (cs : Grows (2 * used) (debt lane) (debt lane') c c') (ks : Grows (2 * used) (debt lane) (debt lane') k k') (counts : CountsBy used lane lane') where
+    fed_with : (rest' : List ℕ) (why : Option CutReason) →
+        ((h : List Element) (rests : Rests) (first own : Option (List (List ℕ))) → rest ≡ rest_of s rests → Follows asset h rests None first (state lane c k own) →
+        AddsTo asset (h ++ bytes_at moment s piece ∷ []) (with_rest s rests rest') why first own log (state lane' c' k' log')) →
+        length rest' < 300 → length rest' + used ≤ length view → Takes asset s (bytes_at moment s piece ∷ []) why rest rest' (state lane c k log) (state lane' c' k' log')
+    fed_with rest' why follows short left = record {
+      follows = follows;
+      short = short;
+      of_asset = of_asset;
+      debt = owed;
+      client = client;
+      to_client = only_pushed _ _ _ c c' cs;
+      to_controller = only_pushed _ _ _ k k' ks;
+      client_ended = goes_on moment side.Client s piece _ _ _ k k' ks;
+      controller_ended = goes_on moment side.Controller s piece _ _ _ c c' cs;
+      counts = omega (arith, counts, left, ap length is, length-append rest piece, ap length (own_bytes moment s piece));
+    }
+
+    pub takes_piece : (rest' : List ℕ) → cut ≡ None → length rest' < 300 → rest' ≡ drop used view →
+        Takes asset s (bytes_at moment s piece ∷ []) None rest rest' (state lane c k log) (state lane' c' k' log')
+    takes_piece rest' none short left =
+        fed_with rest' None
+        (λ h rests first own same f. subst (λ r. AddsTo asset (h ++ bytes_at moment s piece ∷ []) (with_rest s rests r) None first own log (state lane' c' k' log')) (sym left)
+        (subst (λ w. AddsTo asset (h ++ bytes_at moment s piece ∷ []) (with_rest s rests (drop used view)) w first own log (state lane' c' k' log')) none
+        (fed h rests first own piece false tt (is ∙ ap (λ xs. xs ++ piece) same) f)))
+        short (omega (arith, inside, ap length left, length-drop used view))
+
+    pub takes_cut : (rest' : List ℕ) (reason : CutReason) → cut ≡ Some reason → rest' ≡ [] →
+        Takes asset s (bytes_at moment s piece ∷ []) (Some reason) rest rest' (state lane c k log) (state lane' c' k' log')
+    takes_cut rest' reason why none =
+        fed_with rest' (Some reason)
+        (λ h rests first own same f. any_rests asset _ (with_rest s rests (drop used view)) (with_rest s rests rest') reason first own log _
+        (subst (λ w. AddsTo asset (h ++ bytes_at moment s piece ∷ []) (with_rest s rests (drop used view)) w first own log (state lane' c' k' log')) why
+        (fed h rests first own piece false tt (is ∙ ap (λ xs. xs ++ piece) same) f)))
+        (omega (arith, ap length none)) (omega (arith, inside, ap length none))
+
+  -- ---- an End
+
+  end_of_client : (t : Side) → EndsOther t c k c' k' → k'.ended ≡ (k.ended || ended_of side.Client (end_at moment t ∷ []))
+  end_of_client side.Client e = ap (λ (q : Queue). q.ended) e.1 ∙ sym (or-true k.ended)
+  end_of_client side.Controller e = ap (λ (q : Queue). q.ended) e.1 ∙ sym (or-false k.ended)
+
+  end_of_controller : (t : Side) → EndsOther t c k c' k' → c'.ended ≡ (c.ended || ended_of side.Controller (end_at moment t ∷ []))
+  end_of_controller side.Client e = ap (λ (q : Queue). q.ended) e.0 ∙ sym (or-false c.ended)
+  end_of_controller side.Controller e = ap (λ (q : Queue). q.ended) e.0 ∙ sym (or-true c.ended)
+
+  end_pushed : (old new : Queue) → new ≡ after_end old → OnlyPushed old new
+  end_pushed old new e = record {
+    acked = ap (λ (q : Queue). q.acked) e;
+    sent = ap (λ (q : Queue). q.sent) e;
+    shown = ap (λ (q : Queue). q.shown) e;
+  }
+
+  same_pushed : (old new : Queue) → new ≡ old → OnlyPushed old new
+  same_pushed old new e = record {
+    acked = ap (λ (q : Queue). q.acked) e;
+    sent = ap (λ (q : Queue). q.sent) e;
+    shown = ap (λ (q : Queue). q.shown) e;
+  }
+
+  ends_pushed : (t : Side) → EndsOther t c k c' k' → OnlyPushed c c' × OnlyPushed k k'
+  ends_pushed side.Client e = (same_pushed c c' e.0, end_pushed k k' e.1)
+  ends_pushed side.Controller e = (end_pushed c c' e.0, same_pushed k k' e.1)
+
+  pub takes_end : (rest : List ℕ) (size : ℕ) → size ≡ length rest →
+      ((h : List Element) (rests : Rests) (first own : Option (List (List ℕ))) → size ≡ length (rest_of s rests) →
+      Follows asset h rests None first (state lane c k own) → AddsTo asset (h ++ end_at moment s ∷ []) rests None first own log (state lane' c' k' log')) →
+      length rest < 300 → IsLaneOf asset lane → debt lane ≤ 5300 → lane' ≡ lane → EndsOther s c k c' k' →
+      Takes asset s (end_at moment s ∷ []) None rest rest (state lane c k log) (state lane' c' k' log')
+  takes_end rest size e ends short of_asset owed same queues =
+      let pushed = ends_pushed s queues in
+      record {
+        follows = λ h rests first own is f. subst (λ r. AddsTo asset (h ++ end_at moment s ∷ []) r None first own log (state lane' c' k' log')) (sym (ap (with_rest s rests) is ∙ same_rest s rests))
+            (ends h rests first own (e ∙ ap length is) f);
+        short = short;
+        of_asset = subst (IsLaneOf asset) (sym same) of_asset;
+        debt = subst (λ (l : LaneValue). debt l ≤ 5300) (sym same) owed;
+        client = ap (λ (l : LaneValue). l.client) same;
+        to_client = pushed.0;
+        to_controller = pushed.1;
+        client_ended = end_of_client s queues;
+        controller_ended = end_of_controller s queues;
+        counts = omega (arith, ap (λ (l : LaneValue). l.admitted) same, ap (λ (l : LaneValue). l.refused) same);
+      }
+
+  pub misses_end : (rest : List ℕ) (size : ℕ) (lines : Option (List (List ℕ))) (part : List ℕ) → size ≡ length rest →
+      ((h : List Element) (rests : Rests) (first own : Option (List (List ℕ))) → size ≡ length (rest_of s rests) →
+      Follows asset h rests None first (state lane c k own) → BeganApart asset lane.client (h ++ end_at moment s ∷ []) first own log lines part) →
+      (h : List Element) (rests : Rests) (first own : Option (List (List ℕ))) → rest ≡ rest_of s rests → Follows asset h rests None first (state lane c k own) →
+      BeganApart asset lane.client (h ++ end_at moment s ∷ []) first own log lines part
+  misses_end rest size lines part e fails h rests first own is f = fails h rests first own (e ∙ ap length is) f
