@@ -4,7 +4,7 @@ use Rattle.std.proofs.lemmas.Bool.{and_parts, cases_Bool, false≢true}
 use Rattle.std.proofs.lemmas.Bool.Decides.{nat_tests}
 use Rattle.std.proofs.lemmas.List.{length-drop}
 use Rattle.cf_view.specs.Octets.{IsOctets, u16_le_at}
-use Rattle.cf_view.specs.Places.{IsRight, IsUnit, SpellsBy}
+use Rattle.cf_view.specs.Places.{EachFollows, IsUnit, SpellsBy}
 use Rattle.cf_view.proofs.Cells.{six_cells}
 use Rattle.cf_view.proofs.OctetLists.{IsOctets-drop}
 use Rattle.cf_apci.specs.Apdu.{ApduValue, Info, Ack, Control, is_control, spelling, Fits, SpellsApdu}
@@ -148,7 +148,7 @@ octets_six a b c d e f ys p q r s t u o (suc (suc (suc (suc (suc (suc i)))))) = 
 right_six : (xs : List ℕ) → length xs ≡ size_of xs → is_right xs 0 (get_or xs 0 0) ≡ true → is_right xs 1 (get_or xs 1 0) ≡ true →
     is_right xs 2 (get_or xs 2 0) ≡ true →
     is_right xs 3 (get_or xs 3 0) ≡ true → is_right xs 4 (get_or xs 4 0) ≡ true → is_right xs 5 (get_or xs 5 0) ≡ true →
-    IsRight follows xs (length xs)
+    EachFollows follows xs (length xs)
 right_six xs w a b c d e f p h =
     follows_front xs p (get_or xs p 0) (omega (arith, h))
     ∙ six (λ k. is_right xs k (get_or xs k 0) ≡ true) a b c d e f (λ k l. past xs k (get_or xs k 0) l) p

@@ -2,7 +2,7 @@
 ghost use Rattle.std.specs.Prelude.{◌≡◌, ℕ, ◌<◌, ◌≤◌, ◌+◌, ◌==◌, MatchOption, false, List, length, take, slice_index};
 ghost use Rattle.cf_view.specs.Framing.{Begins, IsPartial, BreaksAt, Frames, HasFront, framed_value, IsPrefixFree};
 ghost use Rattle.cf_view.specs.Octets.{IsOctets};
-ghost use Rattle.cf_view.specs.Places.{IsRight};
+ghost use Rattle.cf_view.specs.Places.{EachFollows};
 ghost use Rattle.cf_view.specs.Units.{HasUnits, IsUnitsThenRest, IsUnitsThenBreak};
 ghost use Rattle.cf_apci.specs.Apdu.{ApduValue, apdu_value, SpellsApdu, apdu_break, is_control};
 ghost use Rattle.cf_apci.specs.Places.{size_of, is_right, follows, fields_of, is_format, is_second, is_third, is_fourth};
@@ -114,7 +114,7 @@ fn unit_of<'a>(bytes: &View<'a>, size: usize) -> Apdu<'a>
 /// The first of the first `end` octets that may not follow those before it.
 fn first_wrong(bytes: &View<'_>, end: usize) -> Option<usize>
     requires { end ≤ length bytes.now.bytes }
-    ensures { MatchOption result (IsRight follows bytes.now.bytes end) (λ p. (p < end) × IsRight follows bytes.now.bytes p
+    ensures { MatchOption result (EachFollows follows bytes.now.bytes end) (λ p. (p < end) × EachFollows follows bytes.now.bytes p
         × (follows (take p bytes.now.bytes) (slice_index bytes.now.bytes p) ≡ false)) }
 {
     for place in 0..end {

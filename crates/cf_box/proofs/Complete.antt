@@ -15,7 +15,7 @@ use Rattle.cf_policy.specs.declared.Asset.{Asset}
 use Rattle.cf_policy.specs.declared.Policy.{Policy}
 use Rattle.cf_policylang.specs.Documents.{policy_meaning}
 use Rattle.cf_policylang.specs.declared.PolicyRefusal.{PolicyRefusal}
-use Rattle.cf_run.specs.RunCapture.{HasRecords as HasRunRecords}
+use Rattle.cf_run.specs.RunCapture.{HasRecordsToItsEnd as HasRunRecords}
 use Rattle.cf_box.specs.Captures.{EndsAt, Refuses}
 use Rattle.cf_box.specs.Command.{Command, Check, Compare, Judge, Migrate, Packets, Review, Run, Relay, World, Sift, asset_name, capture_file, policy_file, Learn}
 use Rattle.cf_box.specs.Compare.{ExceedsAt, IsNotIncluded}
@@ -26,7 +26,7 @@ use Rattle.cf_box.specs.PolicyFile.{HasPolicy, IsRefusedBy, TellsAsset}
 use Rattle.cf_box.specs.Run.{RunCuts, RunRefuses}
 use Rattle.cf_watch.specs.declared.fault.TheConstants.{CAPTURE_LIMIT}
 use Rattle.cf_box.specs.Watching.{WatchCuts, WatchRefuses}
-use Rattle.cf_box.specs.Status.{EndsWell, HasInput, HasRecords, HasTimedRecords, HoldsWhatItAsks, NothingFails, TellsMade}
+use Rattle.cf_box.specs.Status.{EndsWell, HasInput, HasRecordsToItsEnd, HasTimedRecords, HoldsWhatItAsks, NothingFails, TellsMade}
 use Rattle.cf_box.specs.declared.denial.Denial.{Denial}
 use Rattle.cf_box.specs.declared.denial.Denial.TheVariants as denial
 use Rattle.cf_box.specs.declared.ending.CaptureRefusal.{CaptureRefusal}
@@ -93,7 +93,7 @@ module _ (Has : Content → Form → List Record → LastPlace → Type 0) (byte
   not_cut_at place h = cc (ends Cut place h)
 
 -- the records of a listing, and those of a run, where each has its moment
-listing_ends : (bytes : List ℕ) (has : HasRecords bytes) (found : AtPlace) (place : ℕ) → EndsAt HasListedRecords (holds bytes) found place → found ≡ FileEnd
+listing_ends : (bytes : List ℕ) (has : HasRecordsToItsEnd bytes) (found : AtPlace) (place : ℕ) → EndsAt HasListedRecords (holds bytes) found place → found ≡ FileEnd
 listing_ends bytes has found place e =
     let here = has.1 in
     let there = e.has_form in
@@ -120,11 +120,11 @@ pub not_cut_run : (bytes : List ℕ) → HasTimedRecords bytes → (place : ℕ)
 not_cut_run bytes has place h = not_cut_at HasRunRecords bytes has.0 has.1 (run_ends bytes has) place h
 
 -- a watched capture that is not too long
-not_refused_watch : (bytes : List ℕ) → HasRecords bytes → length bytes ≤ CAPTURE_LIMIT → (r : CaptureRefusal) → WatchRefuses (holds bytes) r → ⊥
+not_refused_watch : (bytes : List ℕ) → HasRecordsToItsEnd bytes → length bytes ≤ CAPTURE_LIMIT → (r : CaptureRefusal) → WatchRefuses (holds bytes) r → ⊥
 not_refused_watch bytes has short r (inl (is, long)) = omega (arith, short, long)
 not_refused_watch bytes has short r (inr s) = not_refused_by HasListedRecords bytes has.0 has.1 (listing_ends bytes has) r s.refuses
 
-not_cut_watch : (bytes : List ℕ) → HasRecords bytes → (place : ℕ) → WatchCuts (holds bytes) place → ⊥
+not_cut_watch : (bytes : List ℕ) → HasRecordsToItsEnd bytes → (place : ℕ) → WatchCuts (holds bytes) place → ⊥
 not_cut_watch bytes has place h = not_cut_at HasListedRecords bytes has.0 has.1 (listing_ends bytes has) place (listed (holds bytes) Cut place h)
 
 abbrev pub IsInForm : Command → Outside → Type 0

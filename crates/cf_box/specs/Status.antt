@@ -104,8 +104,8 @@ pub record SiftPassesAllowed (policy name : List ℕ) (client : ℕ) (names : Si
   pub output : after.files.content names.out ≡ content_after_write (before.files.content names.out) passed
 
 -- a capture's records, up to the end of its bytes; and the same where each has its moment
-abbrev pub HasRecords : List ℕ → Type 0
-HasRecords bytes =
+abbrev pub HasRecordsToItsEnd : List ℕ → Type 0
+HasRecordsToItsEnd bytes =
     (form : Form) × (form_of bytes ≡ Ok form)
     × ((records : List Record) × (place : ℕ)
     × AreRecords form (first_place form) (drop (first_place form) bytes) records (record { place = place; found = FileEnd }))
@@ -119,10 +119,10 @@ HasTimedRecords bytes =
 
 -- the capture of a command that reads one ends so
 abbrev pub EndsWell : Command → List ℕ → Type 0
-EndsWell (Packets capture) bytes = HasRecords bytes
-EndsWell (Judge policy capture) bytes = HasRecords bytes × (length bytes ≤ CAPTURE_LIMIT)
-EndsWell (Learn policy capture out) bytes = HasRecords bytes × (length bytes ≤ CAPTURE_LIMIT)
-EndsWell (Review policy capture log) bytes = HasRecords bytes × (length bytes ≤ CAPTURE_LIMIT)
+EndsWell (Packets capture) bytes = HasRecordsToItsEnd bytes
+EndsWell (Judge policy capture) bytes = HasRecordsToItsEnd bytes × (length bytes ≤ CAPTURE_LIMIT)
+EndsWell (Learn policy capture out) bytes = HasRecordsToItsEnd bytes × (length bytes ≤ CAPTURE_LIMIT)
+EndsWell (Review policy capture log) bytes = HasRecordsToItsEnd bytes × (length bytes ≤ CAPTURE_LIMIT)
 EndsWell (Run policy names) bytes = HasTimedRecords bytes
 EndsWell _ bytes = Unit {0}
 
@@ -216,7 +216,7 @@ pub record TellsObjection (policy capture : List ℕ) (before : Outside) : Type 
   pub known : TellsPolicy (before.files.content policy)
   pub bytes : List ℕ
   pub told : before.files.content capture ≡ holds bytes
-  pub ends : HasRecords bytes
+  pub ends : HasRecordsToItsEnd bytes
   pub short : length bytes ≤ CAPTURE_LIMIT
   pub not_clean : (d : Done) → KeepsPolicy policy capture before d → ⊥
 
@@ -231,7 +231,7 @@ pub record TellsRemark (policy capture : List ℕ) (before : Outside) : Type 0 w
   pub known : TellsPolicy (before.files.content policy)
   pub bytes : List ℕ
   pub told : before.files.content capture ≡ holds bytes
-  pub ends : HasRecords bytes
+  pub ends : HasRecordsToItsEnd bytes
   pub short : length bytes ≤ CAPTURE_LIMIT
   pub not_clean : NothingRemarked policy capture before → ⊥
 

@@ -7,7 +7,7 @@ use Rattle.std.proofs.lemmas.List.{length-drop, drop-drop, append-nil, take_all,
 use Rattle.cf_view.proofs.OctetLists.{octet_split}
 use Rattle.cf_view.specs.Octets.{u16_le_octets, u16_le_at}
 use Rattle.cf_dnplink.specs.Crc.{crc_of}
-use Rattle.cf_view.specs.Places.{IsRight, IsUnit}
+use Rattle.cf_view.specs.Places.{EachFollows, IsUnit}
 use Rattle.cf_dnplink.specs.LinkFrame.{FrameValue, with_crc, blocks_by, blocks_of, spelling}
 use Rattle.cf_dnplink.specs.FramePlaces.{frame_size, size_of, block_start, block_end, crc_octet, checks, follows, SpellsByPlaces}
 use Rattle.cf_dnplink.specs.UserOctets.{user_by, user_of}
@@ -18,7 +18,7 @@ same_number : (a b : ℕ) → (a == b) ≡ true → a ≡ b
 same_number a b h = grind (arith, nat_tests)
 
 -- what a place past the data of a block holds
-module _ (len : ℕ) (xs : List ℕ) (told : get_or xs 2 0 ≡ len) (right : IsRight follows xs (length xs)) where
+module _ (len : ℕ) (xs : List ℕ) (told : get_or xs 2 0 ≡ len) (right : EachFollows follows xs (length xs)) where
   crc_there : (p s e : ℕ) → 2 < p → p < length xs → block_start p ≡ s → block_end len p ≡ e → e ≤ p → get_or xs p 0 ≡ crc_octet (crc_of (slice_range xs s e)) (p - e)
   crc_there p s e l h start end past =
       let checked : checks len xs p (get_or xs p 0) ≡ true = ap (λ (n : ℕ). checks n xs p (get_or xs p 0)) (sym told) ∙ sym (follows_front xs p (get_or xs p 0) l (omega arith)) ∙ right p h in

@@ -3,7 +3,7 @@ ghost use Rattle.std.specs.Prelude.{◌≡◌, ℕ, ◌<◌, ◌≤◌, MatchOpt
 ghost use Rattle.cf_view.specs.Framing.{Begins, IsPartial, BreaksAt, Frames, HasFront, framed_value, IsPrefixFree};
 ghost use Rattle.cf_view.specs.Octets.{IsOctets};
 ghost use Rattle.cf_view.specs.Units.{HasUnits, IsUnitsThenBreak, IsUnitsThenRest};
-ghost use Rattle.cf_view.specs.Places.{IsRight};
+ghost use Rattle.cf_view.specs.Places.{EachFollows};
 ghost use Rattle.cf_dnplink.specs.LinkFrame.{FrameValue, frame_value, SpellsFrame, frame_break};
 ghost use Rattle.cf_dnplink.specs.FramePlaces.{SpellsByPlaces, follows, size_of, block_start, block_end, block_sum, checks, crc_octet};
 ghost use Rattle.cf_dnplink.specs.Crc.{crc_of};
@@ -107,8 +107,8 @@ fn size(bytes: &View<'_>) -> usize
 fn first_wrong(bytes: &View<'_>, end: usize) -> Option<usize>
     requires inside { end ≤ length bytes.now.bytes }
     requires size { end ≤ 300 }
-    ensures { MatchOption result (IsRight follows bytes.now.bytes end)
-        (λ p. (p < end) × IsRight follows bytes.now.bytes p × (follows (take p bytes.now.bytes) (slice_index bytes.now.bytes p) ≡ false)) }
+    ensures { MatchOption result (EachFollows follows bytes.now.bytes end)
+        (λ p. (p < end) × EachFollows follows bytes.now.bytes p × (follows (take p bytes.now.bytes) (slice_index bytes.now.bytes p) ≡ false)) }
 {
     let mut sum = 0;
     for place in 0..end {

@@ -11,7 +11,7 @@ const CODES: u16 = 256;
 
 /// What is warned of a rule.
 #[derive(Clone, Copy)]
-pub(crate) enum Told {
+pub(crate) enum Warning {
     /// What is found of it.
     Found(What),
     /// Earlier rules have every act of a command that it has.
@@ -27,7 +27,7 @@ pub(crate) enum Told {
 pub(crate) struct Warned {
     pub asset: usize,
     pub rule: usize,
-    pub told: Told,
+    pub told: Warning,
 }
 
 /// What earlier rules do of all that a rule would refuse.
@@ -64,7 +64,7 @@ fn gather_asset(
         let found = findings(alloc, asset, rule)?;
         let others = beside(alloc, asset, rule, found.as_slice())?;
         for what in found.as_slice() {
-            put(all, number, rule, Some(Told::Found(*what)))?;
+            put(all, number, rule, Some(Warning::Found(*what)))?;
         }
         for told in &others {
             put(all, number, rule, *told)?;
@@ -77,7 +77,7 @@ fn put(
     all: &mut Vec<Warned>,
     asset: usize,
     rule: usize,
-    told: Option<Told>,
+    told: Option<Warning>,
 ) -> Result<(), AllocError> {
     if let Some(told) = told {
         all.push(Warned { asset, rule, told })?;
@@ -91,7 +91,7 @@ fn beside(
     asset: &Asset,
     number: usize,
     found: &[What],
-) -> Result<[Option<Told>; 3], AllocError>
+) -> Result<[Option<Warning>; 3], AllocError>
     requires { number < length asset.now.rules }
 {
     if found.iter().any(|what| is_whole(*what)) {
@@ -100,9 +100,9 @@ fn beside(
     let rule = &asset.rules.as_slice()[number];
     let behind = cover_of(alloc, asset, number)?;
     Ok([
-        behind.map(Told::Behind),
+        behind.map(Warning::Behind),
         points_told(asset, rule),
-        likely_slip(asset.protocol, rule).map(Told::Slip),
+        likely_slip(asset.protocol, rule).map(Warning::Slip),
     ])
 }
 
@@ -112,10 +112,10 @@ fn is_whole(what: What) -> bool {
 }
 
 /// That a rule names points which no act of a command with one of its codes has, beside some that they have.
-fn points_told(asset: &Asset, rule: &Rule) -> Option<Told> {
+fn points_told(asset: &Asset, rule: &Rule) -> Option<Warning> {
     for code in 0..CODES {
         if let Some(high) = passed_point(asset, rule, code) {
-            return Some(Told::Points(code, high));
+            return Some(Warning::Points(code, high));
         }
     }
     None
@@ -143,10 +143,10 @@ pub(crate) fn silence_about(asset: &Asset, warned: &Warned) -> Option<Silence> {
         return None;
     }
     match warned.told {
-        Told::Found(What::Covered(first)) | Told::Behind(Cover::Rule(first)) => {
+        Warning::Found(What::Covered(first)) | Warning::Behind(Cover::Rule(first)) => {
             silence_behind(rules, first, rule)
         }
-        Told::Behind(Cover::Rules) => silence_among(rules.get(..warned.rule)?, rule),
+        Warning::Behind(Cover::Rules) => silence_among(rules.get(..warned.rule)?, rule),
         _ => None,
     }
 }

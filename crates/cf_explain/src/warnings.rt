@@ -1,6 +1,6 @@
 //! What `check` warns of: sets that no rule names, and rules that decide nothing, or less than they seem to.
 use crate::found::What;
-use crate::gathered::{Silence, Told, Warned, gathered, silence_about};
+use crate::gathered::{Silence, Warning, Warned, gathered, silence_about};
 use crate::page::Page;
 use crate::policy::push_rule_place;
 use crate::quote::push_quoted;
@@ -208,7 +208,7 @@ fn push_rule(
     report: &mut Report,
     source: &Source<'_>,
     subject: &Subject<'_>,
-    told: Told,
+    told: Warning,
     silence: Option<Silence>,
 ) {
     if report.count < MOST {
@@ -276,14 +276,14 @@ fn push_allowance(out: &mut Page, subject: &Subject<'_>, number: usize, but: &st
     }
 }
 
-fn push_told(out: &mut Page, subject: &Subject<'_>, told: Told) {
+fn push_told(out: &mut Page, subject: &Subject<'_>, told: Warning) {
     out.push(": ");
     match told {
-        Told::Found(what) => push_what(out, subject, what),
-        Told::Behind(Cover::Rule(earlier)) => push_covered(out, subject, earlier),
-        Told::Behind(Cover::Rules) => push_together(out, subject),
-        Told::Points(code, high) => push_passed(out, subject.rule, code, high),
-        Told::Slip(slip) => push_slip(out, slip),
+        Warning::Found(what) => push_what(out, subject, what),
+        Warning::Behind(Cover::Rule(earlier)) => push_covered(out, subject, earlier),
+        Warning::Behind(Cover::Rules) => push_together(out, subject),
+        Warning::Points(code, high) => push_passed(out, subject.rule, code, high),
+        Warning::Slip(slip) => push_slip(out, slip),
     }
 }
 

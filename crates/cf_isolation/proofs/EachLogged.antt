@@ -13,11 +13,11 @@ use Rattle.cf_session.specs.Session.{Flow, SessionEvent, client_of}
 use Rattle.cf_view.specs.declared.Endpoint.{Endpoint}
 use Rattle.cf_run.specs.Isolation.{ticks_of}
 use Rattle.cf_run.specs.Selected.{Rises}
-use Rattle.cf_run.specs.Sessions.{AreAlike, HasEvents, IsRight as IsRightSession, SessionsAreRight, sessions_of}
+use Rattle.cf_run.specs.Sessions.{AreAlike, HasEvents, HasRightEvents as IsRightSession, SessionsAreRight, sessions_of}
 use Rattle.cf_run.specs.Table.{Session, is_between}
-use Rattle.cf_run.specs.Trace.{Event, kept, logged, logged_at, logged_in_first, logged_in_second, logged_received, logged_ticks, table_after, tick_of}
+use Rattle.cf_run.specs.Trace.{RunEvent, kept, logged, logged_at, logged_in_first, logged_in_second, logged_received, logged_ticks, table_after, tick_of}
 use Rattle.cf_isolation.specs.Lines.{moment_in, names_both}
-use Rattle.cf_isolation.specs.Logged.{IsRead}
+use Rattle.cf_isolation.specs.Logged.{IsReadInput}
 use Rattle.cf_isolation.specs.Lives.{AlikeInLines, AlikeInRecords, EachHasRecords, EachLogged, born_at, is_in_life, own_logged, own_sent}
 use Rattle.cf_isolation.proofs.EachSent.{of_life}
 use Rattle.cf_isolation.proofs.Halves.{begins_logged, none_logged, same_logged}
@@ -32,7 +32,7 @@ module _ (law : SessionsAreRight) (works : WorkIsOfTheTaken) (assets : List Asse
   abbrev is_mine : List ℕ → Bool
   is_mine line = names_both client asset.name line
 
-  logged_in : (es : List Event) → AreKnown assets limit es → Rises es → (before : List Session) (s : Session) (later : List Session) →
+  logged_in : (es : List RunEvent) → AreKnown assets limit es → Rises es → (before : List Session) (s : Session) (later : List Session) →
       filter (is_between client asset.endpoint) (sessions_of es) ≡ before ++ s ∷ later →
       filter (λ line. is_mine line && is_in_life (born_at s.events) later (moment_in line)) (logged es) ≡ own_logged s.flow s.events
   logged_in =
@@ -52,7 +52,7 @@ module _ (law : SessionsAreRight) (works : WorkIsOfTheTaken) (assets : List Asse
 
 pub each_logged : SessionsAreRight → WorkIsOfTheTaken → EachLogged
 each_logged law works assets limit given out log summary run within read s life =
-    let all = all_known assets limit run.events run.are (events_read run.events (subst (AllByRecursion IsRead) (sym run.are_inputs) read)) in
+    let all = all_known assets limit run.events run.are (events_read run.events (subst (AllByRecursion IsReadInput) (sym run.are_inputs) read)) in
     let known = of_life (Has (IsKnown assets)) s run.events life (sessions_have (IsKnown assets) run.events all.begun) in
     logged_in law works assets within limit (client_of s.flow) s.flow.asset known.0 known.1 run.events all run.rises life.before s life.later life.are
 

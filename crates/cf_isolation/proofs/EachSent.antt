@@ -14,7 +14,7 @@ use Rattle.cf_run.specs.Records.{HaveOneList}
 use Rattle.cf_run.specs.Selected.{Rises}
 use Rattle.cf_run.specs.Sessions.{Each, SessionsAreRight, sessions_of}
 use Rattle.cf_run.specs.Table.{Session, has_asset_at, is_between}
-use Rattle.cf_run.specs.Trace.{AreEvents, Event, sent, sent_in_first, sent_in_second, sent_received, tick_of}
+use Rattle.cf_run.specs.Trace.{AreRunEvents, RunEvent, sent, sent_in_first, sent_in_second, sent_received, tick_of}
 use Rattle.cf_isolation.specs.Lives.{EachHasALife, EachHasRecords, EachSent, HasLife, born_at, is_in_life, own_sent}
 use Rattle.cf_isolation.specs.Records.{goes_between, is_packet_between}
 use Rattle.cf_isolation.proofs.Halves.{begins_sent, none_sent, same_sent}
@@ -31,7 +31,7 @@ each_has_a_life events place s h =
     record { before = a.front; later = a.back; are = a.is ∙ ap (λ b. a.front ++ cond b (s ∷ a.back) a.back) own }
 
 -- what holds of each session holds of one that has a life
-pub of_life : (P : Session → Type 0) (s : Session) (events : List Event) (life : HasLife s events) → Each P (sessions_of events) → P s
+pub of_life : (P : Session → Type 0) (s : Session) (events : List RunEvent) (life : HasLife s events) → Each P (sessions_of events) → P s
 of_life P s events life all =
     (each_back P life.before (s ∷ life.later) (subst (Each P) life.are (each_filter P (is_between (client_of s.flow) s.flow.asset.endpoint) (sessions_of events) all))).0
 
@@ -39,22 +39,22 @@ module _ (law : SessionsAreRight) (assets : List Asset) (limit : ℕ) (client as
   abbrev is_mine : Sent → Bool
   is_mine s = goes_between client asset s.packet
 
-  first_at : (e : Event) (es : List Event) → AreEvents assets limit (e ∷ es) → AllByRecursion (λ s. s.moment ≡ tick_of e.input) (filter is_mine (sent_in_first e))
+  first_at : (e : RunEvent) (es : List RunEvent) → AreRunEvents assets limit (e ∷ es) → AllByRecursion (λ s. s.moment ≡ tick_of e.input) (filter is_mine (sent_in_first e))
   first_at e es h = all_filtered (λ (s : Sent). s.moment ≡ tick_of e.input) is_mine (sent_in_first e) (first_now law assets limit e es h)
 
-  second_at : (e : Event) (es : List Event) → AreEvents assets limit (e ∷ es) → Rises (e ∷ es) → AllByRecursion (λ s. s.moment ≡ tick_of e.input + 1) (filter is_mine (sent_in_second e))
+  second_at : (e : RunEvent) (es : List RunEvent) → AreRunEvents assets limit (e ∷ es) → Rises (e ∷ es) → AllByRecursion (λ s. s.moment ≡ tick_of e.input + 1) (filter is_mine (sent_in_second e))
   second_at e es h r =
       let m : e.input.moment ≡ tick_of e.input + 1 = omega (arith, r.0) in
       all_filtered (λ (s : Sent). s.moment ≡ tick_of e.input + 1) is_mine (sent_in_second e)
       (all_map (λ (s : Sent). s.moment ≡ e.input.moment) (λ s. s.moment ≡ tick_of e.input + 1) (λ s g. g ∙ m) (sent_in_second e) (second_now law assets limit e es h r))
 
-  sent_in : (es : List Event) → AreEvents assets limit es → Rises es → (before : List Session) (s : Session) (later : List Session) →
+  sent_in : (es : List RunEvent) → AreRunEvents assets limit es → Rises es → (before : List Session) (s : Session) (later : List Session) →
       filter (is_between client asset) (sessions_of es) ≡ before ++ s ∷ later →
       filter (λ (x : Sent). is_mine x && is_in_life (born_at s.events) later x.moment) (sent es) ≡ own_sent s.events
   sent_in =
       in_life (λ (s : Sent). s.moment) (λ f e. sent_first e) (λ f es e. sent_second e) (λ f es. own_sent es) (λ f. refl) (λ f e es. refl)
       (λ f limit tick es half s p e h none g. same_sent f limit tick es half s p e h none g) (λ f d es tick t h. none_sent f (d ∷ es) tick t h) (λ f tick e h. begins_sent f tick e h)
-      law assets limit client asset is_mine (AreEvents assets limit) (λ e es h. h.1) (λ es h. h) (λ es e. sent_in_first e) (λ es e. sent_in_second e) sent refl (λ e es. refl)
+      law assets limit client asset is_mine (AreRunEvents assets limit) (λ e es h. h.1) (λ es h. h) (λ es e. sent_in_first e) (λ es e. sent_in_second e) sent refl (λ e es. refl)
       (λ table r. sent_received r) (λ table f e. refl) (λ table i e x h. refl) (λ e es h r. first_at e es h) second_at
       (λ e es h r.
       let first = first_between law assets limit client asset none some e es h in (

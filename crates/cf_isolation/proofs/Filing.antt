@@ -11,7 +11,7 @@ use Rattle.cf_run.specs.declared.summary.Summary.{Summary}
 use Rattle.cf_session.specs.Sent.{Sent}
 use Rattle.cf_session.specs.Session.{client_of}
 use Rattle.cf_view.specs.declared.Endpoint.{Endpoint}
-use Rattle.cf_isolation.specs.Isolated.{CapturesAreIsolated, CapturesHoldSessions, CapturesHoldToTheNext, HasRecords, IsInTime, SentIsIsolated, SentIsOfSessions, SentToTheNext, began_at, seen_until}
+use Rattle.cf_isolation.specs.Isolated.{CapturesAreIsolated, CapturesHoldSessions, CapturesHoldToTheNext, HasWrittenRecords, IsInTime, SentIsIsolated, SentIsOfSessions, SentToTheNext, began_at, seen_until}
 use Rattle.cf_isolation.specs.Records.{is_during, is_packet_between, is_record_between, is_sent_between, records_between, sent_between}
 
 module _ (client asset : Endpoint) (since until : ℕ) where
@@ -30,7 +30,7 @@ module _ (client asset : Endpoint) (since until : ℕ) where
 module _ (back : RunsAreReadBack) (one_list : HaveOneList) where
   -- the records of the file are those of what was sent
   pub of_file : (assets : List Asset) (limit : ℕ) (given : List Input) (out log : List ℕ) (summary : Summary) (run : IsRun assets limit given out log summary) → IsInTime given out →
-      (records : List Record) → HasRecords out records → (client asset : Endpoint) (since until : ℕ) →
+      (records : List Record) → HasWrittenRecords out records → (client asset : Endpoint) (since until : ℕ) →
       records_between client asset since until records ≡ map record_by (sent_between client asset since until (sent run.events))
   of_file assets limit given out log summary run time records has client asset since until =
       let reads = back assets limit given out log summary run time.moments time.octets time.size in

@@ -11,7 +11,7 @@ use Rattle.cf_leg.specs.Timer.{armed, due, tries}
 use Rattle.cf_leg.specs.declared.ends.Ends.{Ends}
 use Rattle.cf_leg.specs.declared.ends.Role.{Role}
 use Rattle.cf_packet.specs.Packet.{PacketValue}
-use Rattle.cf_session.specs.Event.{EndsTick, GoesOn, IsBeginning, IsPacket, IsTick}
+use Rattle.cf_session.specs.Event.{EndsTick, GoesOnFromHalf, IsBeginning, IsPacket, IsTick}
 use Rattle.cf_session.specs.Sent.{at, cut_line, early, is_first_half, last_line, late, line, logged_first, logged_second, new_lines, sent_first, sent_second}
 use Rattle.cf_session.specs.Session.{Flow, SessionEvent, client_ends, clients, closed_at, controller_ends, controllers, history, is_closed, was_closed}
 use Rattle.cf_session.specs.Work.{Work}
@@ -20,12 +20,12 @@ use Rattle.cf_view.specs.declared.Side.TheVariants as side
 
 -- ---- a leg
 
-fired_same : (ends : Ends) (es : List LegEvent) (half e : LegEvent) → GoesOn half e → fired_at ends es e ≡ fired_at ends es half
+fired_same : (ends : Ends) (es : List LegEvent) (half e : LegEvent) → GoesOnFromHalf half e → fired_at ends es e ≡ fired_at ends es half
 fired_same ends es half e on =
     ap (λ b. cond ((b && (armed ends.role es && nat_le (due ends.role es) e.tick)) && nat_lt (tries ends.role es) 6) (repeats ends es) []) on.1
     ∙ ap (λ n. cond ((half.ticked && (armed ends.role es && nat_le (due ends.role es) n)) && nat_lt (tries ends.role es) 6) (repeats ends es) []) on.0
 
-same_fired : (ends : Ends) (es : List LegEvent) (half e : LegEvent) → IsRight ends es half → IsRight ends es e → GoesOn half e → e.fired ≡ half.fired
+same_fired : (ends : Ends) (es : List LegEvent) (half e : LegEvent) → IsRight ends es half → IsRight ends es e → GoesOnFromHalf half e → e.fired ≡ half.fired
 same_fired ends es half e h g on = g.fired ∙ fired_same ends es half e on ∙ sym h.fired
 
 unspoken : (c : Option CutReason) (x : Ending) → c ≡ None → EndsTick c x → x ≡ Unspoken

@@ -7,14 +7,14 @@ use Rattle.cf_view.specs.declared.Endpoint.{Endpoint}
 use Rattle.cf_run.specs.Isolation.{AreMatched, AreMatchedAlike, HasSession, RunsIsolateSessions, moments_of}
 use Rattle.cf_run.specs.Run.{inputs_of}
 use Rattle.cf_run.specs.Selected.{last_moment}
-use Rattle.cf_run.specs.Trace.{Event, Input}
+use Rattle.cf_run.specs.Trace.{RunEvent, Input}
 use Rattle.cf_isolation.specs.Isolated.{HaveOneTime, SentIsIsolated, SentIsOfSessions}
 
 -- ---- moments
 
 -- the moments of events, the newest first
-abbrev times : List Event → List ℕ
-times es = map (λ (e : Event). e.input.moment) es
+abbrev times : List RunEvent → List ℕ
+times es = map (λ (e : RunEvent). e.input.moment) es
 
 same_end : {A : Type 0} (xs ys : List A) (a b : A) → xs ++ a ∷ [] ≡ ys ++ b ∷ [] → (xs ≡ ys) × (a ≡ b)
 same_end [] [] a b h = let same : a ≡ b = cc in (refl, same)
@@ -32,7 +32,7 @@ never_ends : {A : Type 0} (xs : List A) (a : A) → [] ≡ xs ++ a ∷ [] → �
 never_ends [] a h = cc
 never_ends (x ∷ xs) a h = cc
 
-same_times : (es ds : List Event) → moments_of (inputs_of es) ≡ moments_of (inputs_of ds) → times es ≡ times ds
+same_times : (es ds : List RunEvent) → moments_of (inputs_of es) ≡ moments_of (inputs_of ds) → times es ≡ times ds
 same_times [] [] h = refl
 same_times [] (d ∷ ds) h = absurd (never_ends (moments_of (inputs_of ds)) d.input.moment (h ∙ map-append (λ (i : Input). i.moment) (inputs_of ds) (d.input ∷ [])))
 same_times (e ∷ es) [] h = absurd (never_ends (moments_of (inputs_of es)) e.input.moment (sym h ∙ map-append (λ (i : Input). i.moment) (inputs_of es) (e.input ∷ [])))
@@ -48,28 +48,28 @@ same_back (x ∷ xs) ys [] vs n h = let size = ap length h in let both = length-
 same_back (x ∷ xs) ys (u ∷ us) vs n h = let tail : xs ++ ys ≡ us ++ vs = cc in same_back xs ys us vs n tail
 
 -- after the same number of events the same moments stand
-times_behind : (after others es ds : List Event) → length es ≡ length ds → times (after ++ es) ≡ times (others ++ ds) → times es ≡ times ds
+times_behind : (after others es ds : List RunEvent) → length es ≡ length ds → times (after ++ es) ≡ times (others ++ ds) → times es ≡ times ds
 times_behind after others es ds n h =
-    let m : Event → ℕ = λ e. e.input.moment in
+    let m : RunEvent → ℕ = λ e. e.input.moment in
     same_back (times after) (times es) (times others) (times ds) (length_times es ∙ n ∙ sym (length_times ds)) (sym (map-append m after es) ∙ h ∙ map-append m others ds)
   where
-    length_times : (xs : List Event) → length (times xs) ≡ length xs
+    length_times : (xs : List RunEvent) → length (times xs) ≡ length xs
     length_times [] = refl
     length_times (x ∷ xs) = ap suc (length_times xs)
 
-last_by : (es ds : List Event) → times es ≡ times ds → last_moment es ≡ last_moment ds
+last_by : (es ds : List RunEvent) → times es ≡ times ds → last_moment es ≡ last_moment ds
 last_by [] [] h = refl
 last_by [] (d ∷ ds) h = cc
 last_by (e ∷ es) [] h = cc
 last_by (e ∷ es) (d ∷ ds) h = cc
 
-matched_length : (assets : List Asset) (client asset : Endpoint) (here there xs ys : List Event) → AreMatched assets client asset here there xs ys → length xs ≡ length ys
+matched_length : (assets : List Asset) (client asset : Endpoint) (here there xs ys : List RunEvent) → AreMatched assets client asset here there xs ys → length xs ≡ length ys
 matched_length assets client asset here there [] [] h = refl
 matched_length assets client asset here there [] (y ∷ ys) h = absurd h
 matched_length assets client asset here there (x ∷ xs) [] h = absurd h
 matched_length assets client asset here there (x ∷ xs) (y ∷ ys) h = ap suc (matched_length assets client asset here there xs ys h.1)
 
-pub one_time : (assets : List Asset) (flow : Flow) (events others : List Event) (one : HasSession flow events) (other : HasSession flow others) →
+pub one_time : (assets : List Asset) (flow : Flow) (events others : List RunEvent) (one : HasSession flow events) (other : HasSession flow others) →
     moments_of (inputs_of events) ≡ moments_of (inputs_of others) → length one.earlier ≡ length other.earlier → AreMatchedAlike assets flow one other → HaveOneTime flow one other
 one_time assets flow events others one other moments earlier matched =
     let later = matched_length assets (client_of flow) flow.asset.endpoint (one.first ∷ one.earlier) (other.first ∷ other.earlier) one.later other.later matched in

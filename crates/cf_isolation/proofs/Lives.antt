@@ -12,10 +12,10 @@ use Rattle.cf_view.specs.declared.Endpoint.{Endpoint}
 use Rattle.cf_view.specs.declared.Side.{Side}
 use Rattle.cf_run.specs.Isolation.{begins_theirs, goes_to_theirs, ticks_of}
 use Rattle.cf_run.specs.Selected.{Rises, last_moment}
-use Rattle.cf_run.specs.Sessions.{Each, HasEvents, IsRight as IsRightSession, SessionsAreRight, gone_after, leaves, left_by_packet, left_in, sessions_of}
+use Rattle.cf_run.specs.Sessions.{Each, HasEvents, HasRightEvents as IsRightSession, SessionsAreRight, gone_after, leaves, left_by_packet, left_in, sessions_of}
 use Rattle.cf_run.specs.Summary.{found}
 use Rattle.cf_run.specs.Table.{Begins, Full, Goes, Match, Outside, Session, is_between, match_of}
-use Rattle.cf_run.specs.Trace.{AreEvents, Begun, Dropped, Event, GoesOnAt, Received, Receives, ReceivesRecord, Went, behind, kept, table_after, tick_of, with_events}
+use Rattle.cf_run.specs.Trace.{AreRunEvents, Begun, Dropped, RunEvent, GoesOnAt, Received, Receives, ReceivesRecord, Went, behind, kept, table_after, tick_of, with_events}
 use Rattle.cf_isolation.specs.Lives.{born_at, is_in_life}
 use Rattle.cf_isolation.proofs.Lists.{filter_both}
 use Rattle.cf_isolation.proofs.Order.{InOrder, life}
@@ -63,18 +63,18 @@ module _ {X : Type 0} (at : X → ℕ) (first : Flow → SessionEvent → List X
     (no_second : (f : Flow) (d : SessionEvent) (es : List SessionEvent) (tick : ℕ) (t : SessionEvent) → IsTick f (d ∷ es) tick t → second f (d ∷ es) t ≡ [])
     (no_first : (f : Flow) (tick : ℕ) (e : SessionEvent) → IsBeginning f tick e → first f e ≡ [])
     (law : SessionsAreRight) (assets : List Asset) (limit : ℕ) (client asset : Endpoint) (q : X → Bool)
-    (Right : List Event → Type 0) (right_before : (e : Event) (es : List Event) → Right (e ∷ es) → Right es) (are_of : (es : List Event) → Right es → AreEvents assets limit es)
-    (first_now second_now : List Event → Event → List X) (all : List Event → List X) (all_none : all [] ≡ [])
-    (all_more : (e : Event) (es : List Event) → all (e ∷ es) ≡ all es ++ (first_now es e ++ second_now es e))
+    (Right : List RunEvent → Type 0) (right_before : (e : RunEvent) (es : List RunEvent) → Right (e ∷ es) → Right es) (are_of : (es : List RunEvent) → Right es → AreRunEvents assets limit es)
+    (first_now second_now : List RunEvent → RunEvent → List X) (all : List RunEvent → List X) (all_none : all [] ≡ [])
+    (all_more : (e : RunEvent) (es : List RunEvent) → all (e ∷ es) ≡ all es ++ (first_now es e ++ second_now es e))
     (put : List Session → Received → List X) (put_begun : (table : List Session) (f : Flow) (e : SessionEvent) → put table (Begun f e) ≡ second f [] e)
     (put_went : (table : List Session) (i : ℕ) (e : SessionEvent) (x : Session) → slice_get table i ≡ Some x → put table (Went i e) ≡ second x.flow (behind x.events) e)
-    (first_at : (e : Event) (es : List Event) → Right (e ∷ es) → Rises (e ∷ es) → AllByRecursion (λ x. at x ≡ tick_of e.input) (filter q (first_now es e)))
-    (second_at : (e : Event) (es : List Event) → Right (e ∷ es) → Rises (e ∷ es) → AllByRecursion (λ x. at x ≡ tick_of e.input + 1) (filter q (second_now es e)))
-    (first_is : (e : Event) (es : List Event) → Right (e ∷ es) → Rises (e ∷ es) →
+    (first_at : (e : RunEvent) (es : List RunEvent) → Right (e ∷ es) → Rises (e ∷ es) → AllByRecursion (λ x. at x ≡ tick_of e.input) (filter q (first_now es e)))
+    (second_at : (e : RunEvent) (es : List RunEvent) → Right (e ∷ es) → Rises (e ∷ es) → AllByRecursion (λ x. at x ≡ tick_of e.input + 1) (filter q (second_now es e)))
+    (first_is : (e : RunEvent) (es : List RunEvent) → Right (e ∷ es) → Rises (e ∷ es) →
     ((s : Session) (t : SessionEvent) → filter (is_between client asset) (kept (tick_of e.input) (table_after es)) ≡ s ∷ [] → ticks_of client asset (kept (tick_of e.input) (table_after es)) e.ticks ≡ t ∷ [] →
     filter q (first_now es e) ≡ first s.flow t)
     × (filter (is_between client asset) (kept (tick_of e.input) (table_after es)) ≡ [] → ticks_of client asset (kept (tick_of e.input) (table_after es)) e.ticks ≡ [] → filter q (first_now es e) ≡ []))
-    (second_is : (e : Event) (es : List Event) → Right (e ∷ es) → Rises (e ∷ es) → filter q (second_now es e) ≡
+    (second_is : (e : RunEvent) (es : List RunEvent) → Right (e ∷ es) → Rises (e ∷ es) → filter q (second_now es e) ≡
     cond (goes_to_theirs client asset (found (table_after es) e) e.received) (put (found (table_after es) e) e.received) []
     ++ cond (begins_theirs client asset e.received) (put (found (table_after es) e) e.received) []) where
   abbrev own_of : Session → List X
@@ -83,15 +83,15 @@ module _ {X : Type 0} (at : X → ℕ) (first : Flow → SessionEvent → List X
   abbrev mine : List Session → List Session
   mine ss = filter (is_between client asset) ss
 
-  abbrev list_of : List Event → List Session
+  abbrev list_of : List RunEvent → List Session
   list_of es = mine (gone_after es) ++ mine (table_after es)
 
-  record Held (es : List Event) : Type 0 where
+  record Held (es : List RunEvent) : Type 0 where
     content : filter q (all es) ≡ flat_map own_of (list_of es)
     order : InOrder at own_of 0 (list_of es) (last_moment es + 1)
     few : AtMostOne (mine (table_after es))
 
-  right_one : (es : List Event) → Right es → (s : Session) → mine (table_after es) ≡ s ∷ [] → HasEvents limit s.flow s.events
+  right_one : (es : List RunEvent) → Right es → (s : Session) → mine (table_after es) ≡ s ∷ [] → HasEvents limit s.flow s.events
   right_one es h s is = (subst (Each (IsRightSession limit)) is (each_some (table_after es) (rights_after law assets limit es (are_of es h)))).0
     where
       each_some : (ss : List Session) → Each (IsRightSession limit) ss → Each (IsRightSession limit) (filter (is_between client asset) ss)
@@ -104,7 +104,7 @@ module _ {X : Type 0} (at : X → ℕ) (first : Flow → SessionEvent → List X
   five g x y z t =
       ap (λ l. (g ++ l) ++ t) (sym (append_assoc x y z)) ∙ ap (λ l. l ++ t) (sym (append_assoc g (x ++ y) z)) ∙ append_assoc (g ++ (x ++ y)) z t
 
-  step : (e : Event) (es : List Event) → Right (e ∷ es) → Rises (e ∷ es) → Held es → Held (e ∷ es)
+  step : (e : RunEvent) (es : List RunEvent) → Right (e ∷ es) → Rises (e ∷ es) → Held es → Held (e ∷ es)
   step e es h r held =
       let tick = tick_of e.input in
       let table = table_after es in
@@ -143,11 +143,11 @@ module _ {X : Type 0} (at : X → ℕ) (first : Flow → SessionEvent → List X
         few = two.few;
       }
 
-  each_held : (es : List Event) → Right es → Rises es → Held es
+  each_held : (es : List RunEvent) → Right es → Rises es → Held es
   each_held [] h r = record { content = ap (filter q) all_none; order = omega arith; few = none_there refl }
   each_held (e ∷ es) h r = step e es h r (each_held es (right_before e es h) r.1)
 
-  pub in_life : (es : List Event) → Right es → Rises es → (before : List Session) (s : Session) (later : List Session) → mine (sessions_of es) ≡ before ++ s ∷ later →
+  pub in_life : (es : List RunEvent) → Right es → Rises es → (before : List Session) (s : Session) (later : List Session) → mine (sessions_of es) ≡ before ++ s ∷ later →
       filter (λ x. q x && is_in_life (born_at s.events) later (at x)) (all es) ≡ own s.flow s.events
   in_life es h r before s later is =
       let held = each_held es h r in

@@ -22,9 +22,9 @@ use Rattle.cf_run.specs.Selected.{Rises, last_moment}
 use Rattle.cf_run.specs.Sessions.{Each, SessionsAreRight}
 use Rattle.cf_run.specs.Summary.{found}
 use Rattle.cf_run.specs.Table.{Begins, Full, Goes, Match, Outside, Session, is_between, match_of, same_endpoint}
-use Rattle.cf_run.specs.Trace.{AreEvents, AreTicks, Begun, Dropped, Event, GoesOnAt, GoesOnWith, Input, NoRoom, NoSession, Received, Receives, ReceivesRecord, Went, kept, logged, logged_at, logged_in_first, logged_in_second, logged_received, logged_ticks, table_after, tick_of}
+use Rattle.cf_run.specs.Trace.{AreRunEvents, AreTicks, Begun, Dropped, RunEvent, GoesOnAt, GoesOnWith, Input, NoRoom, NoSession, Received, Receives, ReceivesRecord, Went, kept, logged, logged_at, logged_in_first, logged_in_second, logged_received, logged_ticks, table_after, tick_of}
 use Rattle.cf_isolation.specs.Lines.{lines_naming, moment_in, names_both}
-use Rattle.cf_isolation.specs.Logged.{IsRead, LogsAreIsolated, LogsHoldSessions, LogsHoldToTheNext}
+use Rattle.cf_isolation.specs.Logged.{IsReadInput, LogsAreIsolated, LogsHoldSessions, LogsHoldToTheNext}
 use Rattle.cf_isolation.specs.Records.{is_during}
 use Rattle.cf_isolation.proofs.Isolating.{one_time}
 use Rattle.cf_isolation.proofs.Lists.{all_both, all_map, filter_all}
@@ -42,12 +42,12 @@ abbrev pub IsKnown : List Asset → Flow → Type 0
 IsKnown assets f = IsEndpoint (client_of f) × IsAmong assets f.asset
 
 -- right events, in time, in which known flows begin
-pub record AreKnown (assets : List Asset) (limit : ℕ) (es : List Event) : Type 0 where
-  pub are : AreEvents assets limit es
+pub record AreKnown (assets : List Asset) (limit : ℕ) (es : List RunEvent) : Type 0 where
+  pub are : AreRunEvents assets limit es
   pub in_time : AllByRecursion (λ e. IsMoment e.input.moment) es
   pub begun : BegunHave (IsKnown assets) es
 
-pub known_before : (assets : List Asset) (limit : ℕ) (e : Event) (es : List Event) → AreKnown assets limit (e ∷ es) → AreKnown assets limit es
+pub known_before : (assets : List Asset) (limit : ℕ) (e : RunEvent) (es : List RunEvent) → AreKnown assets limit (e ∷ es) → AreKnown assets limit es
 known_before assets limit e es h = record { are = h.are.1; in_time = h.in_time.1; begun = h.begun.1 }
 
 module _ (works : WorkIsOfTheTaken) (assets : List Asset) (within : AreAssetsWithin assets) (limit : ℕ) (client : Endpoint) (asset : Asset) (known : IsEndpoint client) (among : IsAmong assets asset) where
@@ -146,22 +146,22 @@ module _ (works : WorkIsOfTheTaken) (assets : List Asset) (within : AreAssetsWit
   -- ---- a whole event
 
   module _ (law : SessionsAreRight) where
-    abbrev now : List Event → Event → List (List ℕ)
+    abbrev now : List RunEvent → RunEvent → List (List ℕ)
     now es e = logged_in_first (table_after es) e ++ logged_in_second (table_after es) e
 
-    pub first_naming : (e : Event) (es : List Event) → AreKnown assets limit (e ∷ es) → Rises (e ∷ es) → TicksNaming (tick_of e.input) (kept (tick_of e.input) (table_after es)) e.ticks
+    pub first_naming : (e : RunEvent) (es : List RunEvent) → AreKnown assets limit (e ∷ es) → Rises (e ∷ es) → TicksNaming (tick_of e.input) (kept (tick_of e.input) (table_after es)) e.ticks
     first_naming e es h r =
         let small = h.in_time.0 in
         ticks_naming (tick_of e.input) (kept (tick_of e.input) (table_after es)) e.ticks (omega (arith, small))
         (kept_has (IsKnown assets) (tick_of e.input) (table_after es) (table_has (IsKnown assets) es h.begun.1)) h.are.0.ticks
 
-    pub second_naming : (e : Event) (es : List Event) → AreKnown assets limit (e ∷ es) → Rises (e ∷ es) → SecondNaming (tick_of e.input) (found (table_after es) e) e.received
+    pub second_naming : (e : RunEvent) (es : List RunEvent) → AreKnown assets limit (e ∷ es) → Rises (e ∷ es) → SecondNaming (tick_of e.input) (found (table_after es) e) e.received
     second_naming e es h r =
         let small = h.in_time.0 in
         received_naming (tick_of e.input) (omega (arith, small, r.0)) (found (table_after es) e) e.input.packet e.received
         (found_has_all (IsKnown assets) (tick_of e.input) e.ticks (table_after es) (table_has (IsKnown assets) es h.begun.1)) (halves law assets limit e es h.are) h.begun.0 h.are.0.received
 
-    timed : (e : Event) (es : List Event) → AreKnown assets limit (e ∷ es) → Rises (e ∷ es) → AllByRecursion (IsNow moment_in (last_moment es) e.input.moment) (now es e)
+    timed : (e : RunEvent) (es : List RunEvent) → AreKnown assets limit (e ∷ es) → Rises (e ∷ es) → AllByRecursion (IsNow moment_in (last_moment es) e.input.moment) (now es e)
     timed e es h r =
         let m = e.input.moment in
         let last = last_moment es in
@@ -169,7 +169,7 @@ module _ (works : WorkIsOfTheTaken) (assets : List Asset) (within : AreAssetsWit
         (all_map (λ line. moment_in line ≡ tick_of e.input) (IsNow moment_in last m) (λ line g. (omega (arith, g, r.0), omega (arith, g, r.0))) (logged_in_first (table_after es) e) (first_naming e es h r).moments)
         (all_map (λ line. moment_in line ≡ tick_of e.input + 1) (IsNow moment_in last m) (λ line g. (omega (arith, g, r.0), omega (arith, g, r.0))) (logged_in_second (table_after es) e) (second_naming e es h r).moments)
 
-    own_is : (e : Event) (es : List Event) → AreKnown assets limit (e ∷ es) → Rises (e ∷ es) → begins_theirs client asset.endpoint e.received ≡ false →
+    own_is : (e : RunEvent) (es : List RunEvent) → AreKnown assets limit (e ∷ es) → Rises (e ∷ es) → begins_theirs client asset.endpoint e.received ≡ false →
         naming (now es e) ≡ logged_by client asset.endpoint (table_after es) e
     own_is e es h r other =
         let first = logged_in_first (table_after es) e in
@@ -182,7 +182,7 @@ module _ (works : WorkIsOfTheTaken) (assets : List Asset) (within : AreAssetsWit
 
     -- ---- the event in which it begins
 
-    module _ (flow : Flow) (client_is : client_of flow ≡ client) (asset_is : flow.asset.endpoint ≡ asset.endpoint) (first : Event) (earlier : List Event) (begun : SessionEvent)
+    module _ (flow : Flow) (client_is : client_of flow ≡ client) (asset_is : flow.asset.endpoint ≡ asset.endpoint) (first : RunEvent) (earlier : List RunEvent) (begun : SessionEvent)
         (begins : first.received ≡ Begun flow begun) (h : AreKnown assets limit (first ∷ earlier)) (r : Rises (first ∷ earlier)) where
       is_theirs_begun : is_flow_of client asset.endpoint flow ≡ true
       is_theirs_begun =
@@ -209,7 +209,7 @@ module _ (works : WorkIsOfTheTaken) (assets : List Asset) (within : AreAssetsWit
           ∙ picks_all moment_in is_naming m until two here ∙ all_theirs
 
       -- in the event that comes next
-      module _ (next : Event) (later : List Event) (next_known : AreKnown assets limit (next ∷ (later ++ first ∷ earlier))) (next_rises : Rises (next ∷ (later ++ first ∷ earlier))) where
+      module _ (next : RunEvent) (later : List RunEvent) (next_known : AreKnown assets limit (next ∷ (later ++ first ∷ earlier))) (next_rises : Rises (next ∷ (later ++ first ∷ earlier))) where
         half_in_time : picked moment_in is_naming first.input.moment (tick_of next.input) (now (later ++ first ∷ earlier) next)
             ≡ logged_ticks (filter (is_between client asset.endpoint) (kept (tick_of next.input) (table_after (later ++ first ∷ earlier))))
             (ticks_of client asset.endpoint (kept (tick_of next.input) (table_after (later ++ first ∷ earlier))) next.ticks)
@@ -232,18 +232,18 @@ module _ (works : WorkIsOfTheTaken) (assets : List Asset) (within : AreAssetsWit
 
 -- ---- a run
 
-read_parts : (xs ys : List Input) → AllByRecursion IsRead (xs ++ ys) → AllByRecursion IsRead xs × AllByRecursion IsRead ys
+read_parts : (xs ys : List Input) → AllByRecursion IsReadInput (xs ++ ys) → AllByRecursion IsReadInput xs × AllByRecursion IsReadInput ys
 read_parts [] ys h = (tt, h)
 read_parts (x ∷ xs) ys h = let more = read_parts xs ys h.1 in ((h.0, more.0), more.1)
 
-pub events_read : (es : List Event) → AllByRecursion IsRead (inputs_of es) → AllByRecursion (λ e. IsRead e.input) es
+pub events_read : (es : List RunEvent) → AllByRecursion IsReadInput (inputs_of es) → AllByRecursion (λ e. IsReadInput e.input) es
 events_read [] h = tt
 events_read (e ∷ es) h = let parts = read_parts (inputs_of es) (e.input ∷ []) h in (parts.1.0, events_read es parts.0)
 
 ranged : (o : Result PacketValue PacketRefusal) (p : PacketValue) → o ≡ Ok p → IfOk o HasRanges → HasRanges p
 ranged o p is h = subst (λ x. IfOk x HasRanges) is h
 
-pub all_known : (assets : List Asset) (limit : ℕ) (es : List Event) → AreEvents assets limit es → AllByRecursion (λ e. IsRead e.input) es → AreKnown assets limit es
+pub all_known : (assets : List Asset) (limit : ℕ) (es : List RunEvent) → AreRunEvents assets limit es → AllByRecursion (λ e. IsReadInput e.input) es → AreKnown assets limit es
 all_known assets limit [] h read = record { are = tt; in_time = tt; begun = tt }
 all_known assets limit (e ∷ es) h read =
     let before = all_known assets limit es h.1 read.1 in
@@ -262,14 +262,14 @@ all_known assets limit (e ∷ es) h read =
       );
     }
 
-known_behind : (assets : List Asset) (limit : ℕ) (after es : List Event) → AreKnown assets limit (after ++ es) → AreKnown assets limit es
+known_behind : (assets : List Asset) (limit : ℕ) (after es : List RunEvent) → AreKnown assets limit (after ++ es) → AreKnown assets limit es
 known_behind assets limit [] es h = h
 known_behind assets limit (e ∷ after) es h = known_behind assets limit after es (known_before assets limit e (after ++ es) h)
 
 pub logs_hold : SessionsAreRight → WorkIsOfTheTaken → LogsHoldSessions
 logs_hold law works assets limit given out log summary run within read flow has =
     let es = has.later ++ has.first ∷ has.earlier in
-    let all = all_known assets limit run.events run.are (events_read run.events (subst (AllByRecursion IsRead) (sym run.are_inputs) read)) in
+    let all = all_known assets limit run.events run.are (events_read run.events (subst (AllByRecursion IsReadInput) (sym run.are_inputs) read)) in
     let known = subst (AreKnown assets limit) has.are all in
     let rises = subst Rises has.are run.rises in
     let own = known_behind assets limit has.later (has.first ∷ has.earlier) (known_behind assets limit has.after es known) in
@@ -288,7 +288,7 @@ pub logs_to_the_next : SessionsAreRight → WorkIsOfTheTaken → LogsHoldToTheNe
 logs_to_the_next law works assets limit given out log summary run within read flow has behind =
     let es = has.later ++ has.first ∷ has.earlier in
     let is_next = next_is has behind in
-    let all = all_known assets limit run.events run.are (events_read run.events (subst (AllByRecursion IsRead) (sym run.are_inputs) read)) in
+    let all = all_known assets limit run.events run.are (events_read run.events (subst (AllByRecursion IsReadInput) (sym run.are_inputs) read)) in
     let known = subst (AreKnown assets limit) is_next all in
     let rises = subst Rises is_next run.rises in
     let next_known = known_behind assets limit behind.after (behind.next ∷ es) known in

@@ -17,7 +17,7 @@ use Rattle.cf_session.specs.Session.{Flow, SessionEvent, client_ends, client_of,
 use Rattle.cf_view.specs.declared.Endpoint.{Endpoint}
 use Rattle.cf_view.specs.declared.Side.{Side}
 use Rattle.cf_run.specs.Isolation.{begins_theirs, goes_to_theirs, is_flow_of, is_theirs, ticks_of}
-use Rattle.cf_run.specs.Sessions.{Each, HasEvents, IsRight as IsRightSession}
+use Rattle.cf_run.specs.Sessions.{Each, HasEvents, HasRightEvents as IsRightSession}
 use Rattle.cf_run.specs.Table.{Begins, Full, Goes, Match, Outside, Session, has_asset_at, is_between, match_of, same_endpoint}
 use Rattle.cf_run.specs.Trace.{AreTicks, Begun, Dropped, GoesOnAt, GoesOnWith, NoRoom, NoSession, Received, Receives, ReceivesRecord, Went, kept, sent_received, stays, ticked, with_events}
 use Rattle.cf_isolation.specs.Records.{goes_between}

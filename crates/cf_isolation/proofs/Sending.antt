@@ -15,10 +15,10 @@ use Rattle.cf_view.specs.declared.Endpoint.{Endpoint}
 use Rattle.cf_view.specs.declared.Side.{Side}
 use Rattle.cf_run.specs.Isolation.{HasSession, NoneBegins, begins_theirs, goes_to_theirs, is_flow_of, sent_by, sent_over, ticks_of}
 use Rattle.cf_run.specs.Selected.{Rises, last_moment}
-use Rattle.cf_run.specs.Sessions.{Each, IsRight as IsRightSession, SessionsAreRight, gone_after}
+use Rattle.cf_run.specs.Sessions.{Each, HasRightEvents as IsRightSession, SessionsAreRight, gone_after}
 use Rattle.cf_run.specs.Summary.{found}
 use Rattle.cf_run.specs.Table.{Begins, Full, Goes, Match, Outside, Session, has_asset_at, match_of}
-use Rattle.cf_run.specs.Trace.{AreEvents, AreTicks, Begun, Dropped, Event, GoesOnAt, GoesOnWith, NoRoom, NoSession, Received, Receives, ReceivesRecord, Went, kept, sent, sent_in_first, sent_in_second, sent_received, table_after, tick_of}
+use Rattle.cf_run.specs.Trace.{AreRunEvents, AreTicks, Begun, Dropped, RunEvent, GoesOnAt, GoesOnWith, NoRoom, NoSession, Received, Receives, ReceivesRecord, Went, kept, sent, sent_in_first, sent_in_second, sent_received, table_after, tick_of}
 use Rattle.cf_isolation.specs.Isolated.{NextEvent, SentIsOfSessions, SentToTheNext}
 use Rattle.cf_isolation.specs.Records.{goes_between, is_during, sent_between}
 use Rattle.cf_isolation.proofs.Lists.{all_both, all_map}
@@ -74,24 +74,24 @@ module _ (limit tick : ℕ) where
 -- ---- an event
 
 module _ (law : SessionsAreRight) (assets : List Asset) (limit : ℕ) where
-  pub rights_after : (es : List Event) → AreEvents assets limit es → Each (IsRightSession limit) (table_after es)
+  pub rights_after : (es : List RunEvent) → AreRunEvents assets limit es → Each (IsRightSession limit) (table_after es)
   rights_after es are = each_back (IsRightSession limit) (gone_after es) (table_after es) (law assets limit es are)
 
-  pub halves : (e : Event) (es : List Event) → AreEvents assets limit (e ∷ es) → Each (IsHalved limit (tick_of e.input)) (found (table_after es) e)
+  pub halves : (e : RunEvent) (es : List RunEvent) → AreRunEvents assets limit (e ∷ es) → Each (IsHalved limit (tick_of e.input)) (found (table_after es) e)
   halves e es h = all_halved limit (tick_of e.input) (table_after es) e.ticks (rights_after es h.1) h.0.ticks
 
-  abbrev now : List Event → Event → List Sent
+  abbrev now : List RunEvent → RunEvent → List Sent
   now es e = sent_in_first e ++ sent_in_second e
 
-  pub first_now : (e : Event) (es : List Event) → AreEvents assets limit (e ∷ es) → AllAt (tick_of e.input) (sent_in_first e)
+  pub first_now : (e : RunEvent) (es : List RunEvent) → AreRunEvents assets limit (e ∷ es) → AllAt (tick_of e.input) (sent_in_first e)
   first_now e es h = ticks_at (tick_of e.input) (kept (tick_of e.input) (table_after es)) e.ticks h.0.ticks
 
-  pub second_now : (e : Event) (es : List Event) → AreEvents assets limit (e ∷ es) → Rises (e ∷ es) → AllAt e.input.moment (sent_in_second e)
+  pub second_now : (e : RunEvent) (es : List RunEvent) → AreRunEvents assets limit (e ∷ es) → Rises (e ∷ es) → AllAt e.input.moment (sent_in_second e)
   second_now e es h r =
       let back : tick_of e.input + 1 ≡ e.input.moment = omega (arith, r.0) in
       subst (λ m. AllAt m (sent_in_second e)) back (received_at limit (tick_of e.input) assets (found (table_after es) e) e.input.packet e.received (halves e es h) h.0.received)
 
-  timed : (e : Event) (es : List Event) → AreEvents assets limit (e ∷ es) → Rises (e ∷ es) → AllByRecursion (IsNow (λ s. s.moment) (last_moment es) e.input.moment) (now es e)
+  timed : (e : RunEvent) (es : List RunEvent) → AreRunEvents assets limit (e ∷ es) → Rises (e ∷ es) → AllByRecursion (IsNow (λ s. s.moment) (last_moment es) e.input.moment) (now es e)
   timed e es h r =
       let m = e.input.moment in
       let last = last_moment es in
@@ -99,31 +99,31 @@ module _ (law : SessionsAreRight) (assets : List Asset) (limit : ℕ) where
       (all_map (λ s. s.moment ≡ tick_of e.input) (IsNow (λ s. s.moment) last m) (λ s g. (omega (arith, g, r.0), omega (arith, g, r.0))) (sent_in_first e) (first_now e es h))
       (all_map (λ s. s.moment ≡ m) (IsNow (λ s. s.moment) last m) (λ s g. (omega (arith, g, r.0), omega (arith, g, r.0))) (sent_in_second e) (second_now e es h r))
 
-  begun_own : (e : Event) (es : List Event) → AreEvents assets limit (e ∷ es) → (f : Flow) (b : SessionEvent) → e.received ≡ Begun f b → IsOwn assets f
+  begun_own : (e : RunEvent) (es : List RunEvent) → AreRunEvents assets limit (e ∷ es) → (f : Flow) (b : SessionEvent) → e.received ≡ Begun f b → IsOwn assets f
   begun_own e es h f b is = (begun_in assets limit e es h f b is).2.own
 
-  own_after : (es : List Event) → AreEvents assets limit es → Each (HasOwn assets) (table_after es)
+  own_after : (es : List RunEvent) → AreRunEvents assets limit es → Each (HasOwn assets) (table_after es)
   own_after es h = table_has (IsOwn assets) es (all_own assets limit es h)
 
   module _ (client asset : Endpoint) (none : has_asset_at assets client ≡ false) (some : has_asset_at assets asset ≡ true) where
     abbrev is_theirs_sent : Sent → Bool
     is_theirs_sent s = goes_between client asset s.packet
 
-    pub first_between : (e : Event) (es : List Event) → AreEvents assets limit (e ∷ es) →
+    pub first_between : (e : RunEvent) (es : List RunEvent) → AreRunEvents assets limit (e ∷ es) →
         filter is_theirs_sent (sent_in_first e) ≡ flat_map sent_first (ticks_of client asset (kept (tick_of e.input) (table_after es)) e.ticks)
     first_between e es h =
         let tick = tick_of e.input in
         ticks_between assets client asset none some limit tick (kept tick (table_after es)) e.ticks
         (each_filter (IsRightSession limit) _ (table_after es) (rights_after es h.1)) (kept_has (IsOwn assets) tick (table_after es) (own_after es h.1)) h.0.ticks
 
-    pub second_between : (e : Event) (es : List Event) → AreEvents assets limit (e ∷ es) →
+    pub second_between : (e : RunEvent) (es : List RunEvent) → AreRunEvents assets limit (e ∷ es) →
         filter is_theirs_sent (sent_in_second e) ≡ received_theirs assets client asset none some (found (table_after es) e) e.received
     second_between e es h =
         let tick = tick_of e.input in
         received_between assets client asset none some limit tick (found (table_after es) e) e.input.packet e.received
         (found_has_all (IsOwn assets) tick e.ticks (table_after es) (own_after es h.1)) (halves e es h) (begun_own e es h) h.0.received
 
-    own_is : (e : Event) (es : List Event) → AreEvents assets limit (e ∷ es) → Rises (e ∷ es) → begins_theirs client asset e.received ≡ false →
+    own_is : (e : RunEvent) (es : List RunEvent) → AreRunEvents assets limit (e ∷ es) → Rises (e ∷ es) → begins_theirs client asset e.received ≡ false →
         filter is_theirs_sent (now es e) ≡ sent_by client asset (table_after es) e
     own_is e es h r other =
         filter-append is_theirs_sent (sent_in_first e) (sent_in_second e)
@@ -133,8 +133,8 @@ module _ (law : SessionsAreRight) (assets : List Asset) (limit : ℕ) where
 
 -- ---- a session
 
-module _ (law : SessionsAreRight) (assets : List Asset) (limit : ℕ) (flow : Flow) (first : Event) (earlier : List Event) (begun : SessionEvent) (begins : first.received ≡ Begun flow begun)
-    (h : AreEvents assets limit (first ∷ earlier)) (r : Rises (first ∷ earlier)) where
+module _ (law : SessionsAreRight) (assets : List Asset) (limit : ℕ) (flow : Flow) (first : RunEvent) (earlier : List RunEvent) (begun : SessionEvent) (begins : first.received ≡ Begun flow begun)
+    (h : AreRunEvents assets limit (first ∷ earlier)) (r : Rises (first ∷ earlier)) where
   abbrev client : Endpoint
   client = client_of flow
 
@@ -165,17 +165,17 @@ module _ (law : SessionsAreRight) (assets : List Asset) (limit : ℕ) (flow : Fl
       ∙ ap (λ xs. xs ++ picked (λ (s : Sent). s.moment) q m until (sent_in_second first)) (picks_none (λ s. s.moment) q m until (sent_in_first first) early)
       ∙ picks_all (λ s. s.moment) q m until (sent_in_second first) here ∙ all_theirs
 
-  sends : (after later : List Event) → AreEvents assets limit (after ++ (later ++ first ∷ earlier)) → Rises (after ++ (later ++ first ∷ earlier)) → NoneBegins client asset later →
+  sends : (after later : List RunEvent) → AreRunEvents assets limit (after ++ (later ++ first ∷ earlier)) → Rises (after ++ (later ++ first ∷ earlier)) → NoneBegins client asset later →
       picked (λ (s : Sent). s.moment) (λ s. goes_between client asset s.packet) first.input.moment (last_moment (later ++ first ∷ earlier)) (sent (after ++ (later ++ first ∷ earlier)))
       ≡ sent_over client asset first earlier later
   sends after later are rises none =
-      whole (λ (s : Sent). s.moment) (λ s. goes_between client asset s.packet) (AreEvents assets limit) (λ e es h. h.1) client asset (now law assets limit) sent refl (λ e es. refl) (timed law assets limit)
+      whole (λ (s : Sent). s.moment) (λ s. goes_between client asset s.packet) (AreRunEvents assets limit) (λ e es h. h.1) client asset (now law assets limit) sent refl (λ e es. refl) (timed law assets limit)
       (λ es e. sent_by client asset (table_after es) e) (own_is law assets limit client asset is_own.0 is_own.1) first earlier (sent_over client asset first earlier) (λ e later. refl)
       (λ until most g k. in_time until most) after later are rises none
 
   -- in the event that comes next
-  module _ (next : Event) (later : List Event) (are : AreEvents assets limit (next ∷ (later ++ first ∷ earlier))) (rises : Rises (next ∷ (later ++ first ∷ earlier))) where
-    abbrev before : List Event
+  module _ (next : RunEvent) (later : List RunEvent) (are : AreRunEvents assets limit (next ∷ (later ++ first ∷ earlier))) (rises : Rises (next ∷ (later ++ first ∷ earlier))) where
+    abbrev before : List RunEvent
     before = later ++ first ∷ earlier
 
     half_in_time : picked (λ (s : Sent). s.moment) (λ s. goes_between client asset s.packet) first.input.moment (tick_of next.input) (now law assets limit before next)
@@ -195,12 +195,12 @@ module _ (law : SessionsAreRight) (assets : List Asset) (limit : ℕ) (flow : Fl
         ∙ ap (λ xs. flat_map sent_first (ticks_of client asset (kept until (table_after before)) next.ticks) ++ xs) (picks_none (λ s. s.moment) q since until (sent_in_second next) late)
         ∙ append-nil _
 
-  sends_to_next : (after later : List Event) (next : Event) → AreEvents assets limit (after ++ (next ∷ (later ++ first ∷ earlier))) → Rises (after ++ (next ∷ (later ++ first ∷ earlier))) →
+  sends_to_next : (after later : List RunEvent) (next : RunEvent) → AreRunEvents assets limit (after ++ (next ∷ (later ++ first ∷ earlier))) → Rises (after ++ (next ∷ (later ++ first ∷ earlier))) →
       NoneBegins client asset later →
       picked (λ (s : Sent). s.moment) (λ s. goes_between client asset s.packet) first.input.moment (tick_of next.input) (sent (after ++ (next ∷ (later ++ first ∷ earlier))))
       ≡ sent_over client asset first earlier later ++ flat_map sent_first (ticks_of client asset (kept (tick_of next.input) (table_after (later ++ first ∷ earlier))) next.ticks)
   sends_to_next after later next are rises none =
-      to_next (λ (s : Sent). s.moment) (λ s. goes_between client asset s.packet) (AreEvents assets limit) (λ e es h. h.1) client asset (now law assets limit) sent refl (λ e es. refl)
+      to_next (λ (s : Sent). s.moment) (λ s. goes_between client asset s.packet) (AreRunEvents assets limit) (λ e es h. h.1) client asset (now law assets limit) sent refl (λ e es. refl)
       (timed law assets limit) (λ es e. sent_by client asset (table_after es) e) (own_is law assets limit client asset is_own.0 is_own.1) first earlier
       (sent_over client asset first earlier) (λ e later. refl) (λ until most g k. in_time until most) after later next _ are rises none
       (half_in_time next later (are_behind assets limit after (next ∷ (later ++ first ∷ earlier)) are) (rises_behind after (next ∷ (later ++ first ∷ earlier)) rises))
@@ -208,7 +208,7 @@ module _ (law : SessionsAreRight) (assets : List Asset) (limit : ℕ) (flow : Fl
 pub sent_of_sessions : SessionsAreRight → SentIsOfSessions
 sent_of_sessions law assets limit given out log summary run flow has =
     let behind = has.later ++ has.first ∷ has.earlier in
-    let are = subst (AreEvents assets limit) has.are run.are in
+    let are = subst (AreRunEvents assets limit) has.are run.are in
     let rises = subst Rises has.are run.rises in
     let own = are_behind assets limit has.later (has.first ∷ has.earlier) (are_behind assets limit has.after behind are) in
     let own_rise = rises_behind has.later (has.first ∷ has.earlier) (rises_behind has.after behind rises) in
@@ -216,7 +216,7 @@ sent_of_sessions law assets limit given out log summary run flow has =
     ∙ sends law assets limit flow has.first has.earlier has.begun has.begins own own_rise has.after has.later are rises has.none
 
 -- the events up to the one that comes next, and it
-pub next_is : {events : List Event} {flow : Flow} (has : HasSession flow events) (behind : NextEvent has) → events ≡ behind.after ++ (behind.next ∷ (has.later ++ has.first ∷ has.earlier))
+pub next_is : {events : List RunEvent} {flow : Flow} (has : HasSession flow events) (behind : NextEvent has) → events ≡ behind.after ++ (behind.next ∷ (has.later ++ has.first ∷ has.earlier))
 next_is has behind =
     has.are ∙ ap (λ after. after ++ (has.later ++ has.first ∷ has.earlier)) behind.are ∙ append_assoc behind.after (behind.next ∷ []) (has.later ++ has.first ∷ has.earlier)
 
@@ -224,7 +224,7 @@ pub sent_to_the_next : SessionsAreRight → SentToTheNext
 sent_to_the_next law assets limit given out log summary run flow has behind =
     let es = has.later ++ has.first ∷ has.earlier in
     let is = next_is has behind in
-    let are = subst (AreEvents assets limit) is run.are in
+    let are = subst (AreRunEvents assets limit) is run.are in
     let rises = subst Rises is run.rises in
     let own = are_behind assets limit has.later (has.first ∷ has.earlier) (are_behind assets limit behind.after (behind.next ∷ es) are).1 in
     let own_rise = rises_behind has.later (has.first ∷ has.earlier) (rises_behind behind.after (behind.next ∷ es) rises).1 in

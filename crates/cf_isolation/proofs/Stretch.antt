@@ -10,19 +10,19 @@ use Rattle.cf_policy.specs.declared.Asset.{Asset}
 use Rattle.cf_view.specs.declared.Endpoint.{Endpoint}
 use Rattle.cf_run.specs.Isolation.{NoneBegins, begins_theirs}
 use Rattle.cf_run.specs.Selected.{Rises, last_moment}
-use Rattle.cf_run.specs.Trace.{AreEvents, Event, tick_of}
+use Rattle.cf_run.specs.Trace.{AreRunEvents, RunEvent, tick_of}
 use Rattle.cf_isolation.specs.Records.{is_during}
 use Rattle.cf_isolation.proofs.Lists.{all_both, all_filtered, all_map, filter_all, filter_both}
 
-pub last_grows : (after es : List Event) → Rises (after ++ es) → last_moment es ≤ last_moment (after ++ es)
+pub last_grows : (after es : List RunEvent) → Rises (after ++ es) → last_moment es ≤ last_moment (after ++ es)
 last_grows [] es r = omega arith
 last_grows (e ∷ after) es r = let more = last_grows after es r.1 in omega (arith, more, r.0)
 
-pub rises_behind : (after es : List Event) → Rises (after ++ es) → Rises es
+pub rises_behind : (after es : List RunEvent) → Rises (after ++ es) → Rises es
 rises_behind [] es r = r
 rises_behind (e ∷ after) es r = rises_behind after es r.1
 
-pub are_behind : (assets : List Asset) (limit : ℕ) (after es : List Event) → AreEvents assets limit (after ++ es) → AreEvents assets limit es
+pub are_behind : (assets : List Asset) (limit : ℕ) (after es : List RunEvent) → AreRunEvents assets limit (after ++ es) → AreRunEvents assets limit es
 are_behind assets limit [] es h = h
 are_behind assets limit (e ∷ after) es h = are_behind assets limit after es h.1
 
@@ -64,18 +64,18 @@ module _ {X : Type 0} (at : X → ℕ) (q : X → Bool) where
       filter_both q (λ x. is_during since until (at x)) xs ∙ in_time since until (filter q xs) (all_filtered (λ x. is_during since until (at x) ≡ true) q xs h)
 
 -- what events put out, one after the other
-module _ {X : Type 0} (at : X → ℕ) (q : X → Bool) (Right : List Event → Type 0) (right_before : (e : Event) (es : List Event) → Right (e ∷ es) → Right es) (client asset : Endpoint) (now : List Event → Event → List X) (all : List Event → List X)
-    (all_none : all [] ≡ []) (all_more : (e : Event) (es : List Event) → all (e ∷ es) ≡ all es ++ now es e)
-    (timed : (e : Event) (es : List Event) → Right (e ∷ es) → Rises (e ∷ es) → AllByRecursion (IsNow at (last_moment es) e.input.moment) (now es e)) where
+module _ {X : Type 0} (at : X → ℕ) (q : X → Bool) (Right : List RunEvent → Type 0) (right_before : (e : RunEvent) (es : List RunEvent) → Right (e ∷ es) → Right es) (client asset : Endpoint) (now : List RunEvent → RunEvent → List X) (all : List RunEvent → List X)
+    (all_none : all [] ≡ []) (all_more : (e : RunEvent) (es : List RunEvent) → all (e ∷ es) ≡ all es ++ now es e)
+    (timed : (e : RunEvent) (es : List RunEvent) → Right (e ∷ es) → Rises (e ∷ es) → AllByRecursion (IsNow at (last_moment es) e.input.moment) (now es e)) where
   abbrev picks : (since until : ℕ) → List X → List X
   picks since until xs = picked at q since until xs
 
-  right_behind : (after es : List Event) → Right (after ++ es) → Right es
+  right_behind : (after es : List RunEvent) → Right (after ++ es) → Right es
   right_behind [] es h = h
   right_behind (e ∷ after) es h = right_behind after es (right_before e (after ++ es) h)
 
   -- nothing comes after the last moment
-  before_last : (es : List Event) → Right es → Rises es → AllByRecursion (λ x. at x ≤ last_moment es) (all es)
+  before_last : (es : List RunEvent) → Right es → Rises es → AllByRecursion (λ x. at x ≤ last_moment es) (all es)
   before_last [] h r = subst (AllByRecursion (λ x. at x ≤ 0)) (sym all_none) tt
   before_last (e ∷ es) h r =
       let m = e.input.moment in
@@ -84,7 +84,7 @@ module _ {X : Type 0} (at : X → ℕ) (q : X → Bool) (Right : List Event → 
       subst (AllByRecursion (λ x. at x ≤ m)) (sym (all_more e es)) (all_both (λ x. at x ≤ m) (all es) (now es e) old new)
 
   -- what comes after the time
-  without_after : (since until : ℕ) (after es : List Event) → Right (after ++ es) → Rises (after ++ es) → until ≤ last_moment es →
+  without_after : (since until : ℕ) (after es : List RunEvent) → Right (after ++ es) → Rises (after ++ es) → until ≤ last_moment es →
       picks since until (all (after ++ es)) ≡ picks since until (all es)
   without_after since until [] es h r most = refl
   without_after since until (e ∷ after) es h r most =
@@ -95,12 +95,12 @@ module _ {X : Type 0} (at : X → ℕ) (q : X → Bool) (Right : List Event → 
       ap (picks since until) (all_more e before) ∙ picks_append at q since until (all before) (now before e)
       ∙ ap (λ ys. picks since until (all before) ++ ys) (picks_none at q since until (now before e) late) ∙ append-nil _ ∙ without_after since until after es (right_before e before h) r.1 most
 
-  module _ (own : List Event → Event → List X)
-      (own_is : (e : Event) (es : List Event) → Right (e ∷ es) → Rises (e ∷ es) → begins_theirs client asset e.received ≡ false → filter q (now es e) ≡ own es e)
-      (first : Event) (earlier : List Event) (over : List Event → List X)
-      (over_more : (e : Event) (later : List Event) → over (e ∷ later) ≡ over later ++ own (later ++ first ∷ earlier) e)
+  module _ (own : List RunEvent → RunEvent → List X)
+      (own_is : (e : RunEvent) (es : List RunEvent) → Right (e ∷ es) → Rises (e ∷ es) → begins_theirs client asset e.received ≡ false → filter q (now es e) ≡ own es e)
+      (first : RunEvent) (earlier : List RunEvent) (over : List RunEvent → List X)
+      (over_more : (e : RunEvent) (later : List RunEvent) → over (e ∷ later) ≡ over later ++ own (later ++ first ∷ earlier) e)
       (start : (until : ℕ) → first.input.moment ≤ until → Right (first ∷ earlier) → Rises (first ∷ earlier) → picks first.input.moment until (now earlier first) ≡ over []) where
-    stretch : (until : ℕ) (later : List Event) → Right (later ++ first ∷ earlier) → Rises (later ++ first ∷ earlier) → last_moment (later ++ first ∷ earlier) ≤ until →
+    stretch : (until : ℕ) (later : List RunEvent) → Right (later ++ first ∷ earlier) → Rises (later ++ first ∷ earlier) → last_moment (later ++ first ∷ earlier) ≤ until →
         NoneBegins client asset later → picks first.input.moment until (all (later ++ first ∷ earlier)) ≡ over later
     stretch until [] h r most none =
         let since = first.input.moment in
@@ -118,7 +118,7 @@ module _ {X : Type 0} (at : X → ℕ) (q : X → Bool) (Right : List Event → 
         ∙ ap (λ ys. picks since until (all before) ++ ys) (picks_all at q since until (now before e) here ∙ own_is e before h r none.0)
         ∙ ap (λ ys. ys ++ own before e) (stretch until later (right_before e before h) r.1 (omega (arith, most, r.0)) none.1) ∙ sym (over_more e later)
 
-    pub whole : (after later : List Event) → Right (after ++ (later ++ first ∷ earlier)) → Rises (after ++ (later ++ first ∷ earlier)) → NoneBegins client asset later →
+    pub whole : (after later : List RunEvent) → Right (after ++ (later ++ first ∷ earlier)) → Rises (after ++ (later ++ first ∷ earlier)) → NoneBegins client asset later →
         picks first.input.moment (last_moment (later ++ first ∷ earlier)) (all (after ++ (later ++ first ∷ earlier))) ≡ over later
     whole after later h r none =
         let es = later ++ first ∷ earlier in
@@ -126,7 +126,7 @@ module _ {X : Type 0} (at : X → ℕ) (q : X → Bool) (Right : List Event → 
         ∙ stretch (last_moment es) later (right_behind after es h) (rises_behind after es r) (omega arith) none
 
     -- up to the packet of the next event
-    pub to_next : (after later : List Event) (next : Event) (last : List X) → Right (after ++ (next ∷ (later ++ first ∷ earlier))) → Rises (after ++ (next ∷ (later ++ first ∷ earlier))) →
+    pub to_next : (after later : List RunEvent) (next : RunEvent) (last : List X) → Right (after ++ (next ∷ (later ++ first ∷ earlier))) → Rises (after ++ (next ∷ (later ++ first ∷ earlier))) →
         NoneBegins client asset later → picks first.input.moment (tick_of next.input) (now (later ++ first ∷ earlier) next) ≡ last →
         picks first.input.moment (tick_of next.input) (all (after ++ (next ∷ (later ++ first ∷ earlier)))) ≡ over later ++ last
     to_next after later next last h r none ends =

@@ -11,7 +11,7 @@ use Rattle.cf_session.specs.Session.{Flow, SessionEvent, client_of, is_expired}
 use Rattle.cf_view.specs.declared.Endpoint.{Endpoint}
 use Rattle.cf_run.specs.Sessions.{Each, gone_after, leaves, left_by_packet, left_in, session_at, sessions_of}
 use Rattle.cf_run.specs.Table.{Begins, Full, Goes, Match, Outside, Session, asset_at, begins, begins_or_full, goes, goes_from_client, has_asset_at, is_opening, match_of, may_begin, place_of, same_endpoint, without}
-use Rattle.cf_run.specs.Trace.{AreEvents, Begun, Dropped, Event, NoRoom, NoSession, Received, Receives, ReceivesRecord, Went, after_received, kept, stays, table_after, tick_of, ticked, with_event_at, with_events}
+use Rattle.cf_run.specs.Trace.{AreRunEvents, Begun, Dropped, RunEvent, NoRoom, NoSession, Received, Receives, ReceivesRecord, Went, after_received, kept, stays, table_after, tick_of, ticked, with_event_at, with_events}
 
 pub same_is : (a b : Endpoint) → same_endpoint a b ≡ true → a ≡ b
 same_is a b e =
@@ -150,7 +150,7 @@ module _ (assets : List Asset) (limit : ℕ) where
   begun_is tick table (Ok packet) f e h = (packet, refl, begun_by tick table packet (match_of assets table packet) f e refl h)
 
   -- of an event in which a session begins
-  pub begun_in : (e : Event) (es : List Event) → AreEvents assets limit (e ∷ es) → (f : Flow) (b : SessionEvent) → e.received ≡ Begun f b →
+  pub begun_in : (e : RunEvent) (es : List RunEvent) → AreRunEvents assets limit (e ∷ es) → (f : Flow) (b : SessionEvent) → e.received ≡ Begun f b →
       (packet : PacketValue) × (e.input.packet ≡ Ok packet) × IsBegunBy assets packet f
   begun_in e es h f b is =
       begun_is (tick_of e.input) (ticked e.ticks (tick_of e.input) (table_after es)) e.input.packet f b
@@ -159,7 +159,7 @@ module _ (assets : List Asset) (limit : ℕ) where
 -- ---- what holds of each flow that begins holds of each session of a table
 
 -- it does so of each of these events
-abbrev pub BegunHave : (Flow → Type 0) → List Event → Type 0
+abbrev pub BegunHave : (Flow → Type 0) → List RunEvent → Type 0
 BegunHave K [] = Unit {0}
 BegunHave K (e ∷ es) = ((f : Flow) (b : SessionEvent) → e.received ≡ Begun f b → K f) × BegunHave K es
 
@@ -191,7 +191,7 @@ module _ (K : Flow → Type 0) where
   pub found_has_all : (tick : ℕ) (ts : List SessionEvent) (table : List Session) → Each Has table → Each Has (ticked ts tick table)
   found_has_all tick ts table h = each_filter Has stays (with_events (kept tick table) ts) (next_has (kept tick table) ts (kept_has tick table h))
 
-  pub table_has : (es : List Event) → BegunHave K es → Each Has (table_after es)
+  pub table_has : (es : List RunEvent) → BegunHave K es → Each Has (table_after es)
   table_has [] h = tt
   table_has (e ∷ es) h = received_has (ticked e.ticks (tick_of e.input) (table_after es)) e.received h.0 (found_has_all (tick_of e.input) e.ticks (table_after es) (table_has es h.1))
 
@@ -211,7 +211,7 @@ module _ (K : Flow → Type 0) where
   left_has table (Went i e) h = each_filter Has leaves (with_event_at i e table) (went_has i e table h)
 
   -- of those that left it too
-  pub gone_have : (es : List Event) → BegunHave K es → Each Has (gone_after es)
+  pub gone_have : (es : List RunEvent) → BegunHave K es → Each Has (gone_after es)
   gone_have [] h = tt
   gone_have (e ∷ es) h =
       let tick = tick_of e.input in
@@ -223,9 +223,9 @@ module _ (K : Flow → Type 0) where
       (each_filter Has leaves (with_events (kept tick table) e.ticks) (next_has (kept tick table) e.ticks (kept_has tick table here)))
       (left_has (ticked e.ticks tick table) e.received (found_has_all tick e.ticks table here))))
 
-  pub sessions_have : (es : List Event) → BegunHave K es → Each Has (sessions_of es)
+  pub sessions_have : (es : List RunEvent) → BegunHave K es → Each Has (sessions_of es)
   sessions_have es h = each_append Has (gone_after es) (table_after es) (gone_have es h) (table_has es h)
 
-pub all_own : (assets : List Asset) (limit : ℕ) (es : List Event) → AreEvents assets limit es → BegunHave (IsOwn assets) es
+pub all_own : (assets : List Asset) (limit : ℕ) (es : List RunEvent) → AreRunEvents assets limit es → BegunHave (IsOwn assets) es
 all_own assets limit [] h = tt
 all_own assets limit (e ∷ es) h = ((λ f b is. (begun_in assets limit e es h f b is).2.own), all_own assets limit es h.1)

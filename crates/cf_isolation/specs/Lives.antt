@@ -14,14 +14,14 @@ use Rattle.cf_run.specs.Capture.{Record}
 use Rattle.cf_run.specs.Run.{IsRun}
 use Rattle.cf_run.specs.Sessions.{AreAlike, sessions_of}
 use Rattle.cf_run.specs.Table.{Session, is_between}
-use Rattle.cf_run.specs.Trace.{Event, Input, logged, sent}
+use Rattle.cf_run.specs.Trace.{RunEvent, Input, logged, sent}
 use Rattle.cf_run.specs.declared.summary.Summary.{Summary}
 use Rattle.cf_session.specs.Sent.{Sent, logged_first, logged_second, sent_first, sent_second}
 use Rattle.cf_session.specs.Session.{Flow, SessionEvent, client_of}
 use Rattle.cf_view.specs.declared.Endpoint.{Endpoint}
-use Rattle.cf_isolation.specs.Isolated.{HasRecords, IsInTime}
+use Rattle.cf_isolation.specs.Isolated.{HasWrittenRecords, IsInTime}
 use Rattle.cf_isolation.specs.Lines.{moment_in, names_both}
-use Rattle.cf_isolation.specs.Logged.{IsRead}
+use Rattle.cf_isolation.specs.Logged.{IsReadInput}
 use Rattle.cf_isolation.specs.Records.{goes_between, is_packet_between}
 
 -- ---- a session's own events
@@ -45,11 +45,11 @@ born_at (event ∷ (before ∷ earlier)) = born_at (before ∷ earlier)
 -- ---- its life
 
 -- the sessions of a client and an asset, in the order in which they began
-abbrev pub sessions_between : (client asset : Endpoint) → List Event → List Session
+abbrev pub sessions_between : (client asset : Endpoint) → List RunEvent → List Session
 sessions_between client asset events = filter (is_between client asset) (sessions_of events)
 
 -- the session is one of them, and these of theirs began after it
-pub record HasLife (session : Session) (events : List Event) : Type 0 where
+pub record HasLife (session : Session) (events : List RunEvent) : Type 0 where
   pub before : List Session
   pub later : List Session
   pub are : sessions_between (client_of session.flow) session.flow.asset.endpoint events ≡ before ++ session ∷ later
@@ -57,7 +57,7 @@ pub record HasLife (session : Session) (events : List Event) : Type 0 where
 -- each session that there was has one
 abbrev pub EachHasALife : Type 0
 EachHasALife =
-    (events : List Event) (place : ℕ) (session : Session) → slice_get (sessions_of events) place ≡ Some session → HasLife session events
+    (events : List RunEvent) (place : ℕ) (session : Session) → slice_get (sessions_of events) place ≡ Some session → HasLife session events
 
 -- the moment is in the life of a session that began at one moment, and after which these began
 abbrev pub is_in_life : (born : ℕ) → (later : List Session) → (moment : ℕ) → Bool
@@ -67,14 +67,14 @@ is_in_life born (next ∷ later) moment = nat_le born moment && nat_lt moment (b
 -- ---- what the files hold of it
 
 -- of what a run sent
-abbrev pub sent_in_life : {events : List Event} → (session : Session) → HasLife session events → List Sent
+abbrev pub sent_in_life : {events : List RunEvent} → (session : Session) → HasLife session events → List Sent
 sent_in_life {events} session life =
     let client = client_of session.flow in
     let asset = session.flow.asset.endpoint in
     filter (λ s. goes_between client asset s.packet && is_in_life (born_at session.events) life.later s.moment) (sent events)
 
 -- of the records of its output capture
-abbrev pub records_in_life : {events : List Event} → (session : Session) → HasLife session events → List Record → List Record
+abbrev pub records_in_life : {events : List RunEvent} → (session : Session) → HasLife session events → List Record → List Record
 records_in_life session life records =
     let client = client_of session.flow in
     let asset = session.flow.asset.endpoint in
@@ -82,7 +82,7 @@ records_in_life session life records =
     records
 
 -- of the lines of its log
-abbrev pub lines_in_life : {events : List Event} → (session : Session) → HasLife session events → List (List ℕ)
+abbrev pub lines_in_life : {events : List RunEvent} → (session : Session) → HasLife session events → List (List ℕ)
 lines_in_life {events} session life =
     let client = client_of session.flow in
     let name = session.flow.asset.name in
@@ -99,7 +99,7 @@ EachSent =
 abbrev pub EachHasRecords : Type 0
 EachHasRecords =
     (assets : List Asset) (limit : ℕ) (given : List Input) (out log : List ℕ) (summary : Summary)
-    (run : IsRun assets limit given out log summary) → IsInTime given out → (records : List Record) → HasRecords out records →
+    (run : IsRun assets limit given out log summary) → IsInTime given out → (records : List Record) → HasWrittenRecords out records →
     (session : Session) (life : HasLife session run.events) →
     records_in_life session life records ≡ map record_by (own_sent session.events)
 
@@ -107,7 +107,7 @@ EachHasRecords =
 abbrev pub EachLogged : Type 0
 EachLogged =
     (assets : List Asset) (limit : ℕ) (given : List Input) (out log : List ℕ) (summary : Summary)
-    (run : IsRun assets limit given out log summary) → AreAssetsWithin assets → AllByRecursion IsRead given →
+    (run : IsRun assets limit given out log summary) → AreAssetsWithin assets → AllByRecursion IsReadInput given →
     (session : Session) (life : HasLife session run.events) → lines_in_life session life ≡ own_logged session.flow session.events
 
 -- ---- two runs
@@ -120,7 +120,7 @@ AlikeInRecords =
     (summary other_summary : Summary)
     (run : IsRun assets limit given out log summary) (other_run : IsRun assets limit other_given other_out other_log other_summary) →
     IsInTime given out → IsInTime other_given other_out →
-    (records others : List Record) → HasRecords out records → HasRecords other_out others →
+    (records others : List Record) → HasWrittenRecords out records → HasWrittenRecords other_out others →
     (one other : Session) (life : HasLife one run.events) (other_life : HasLife other other_run.events) → AreAlike one other →
     records_in_life one life records ≡ records_in_life other other_life others
 
@@ -130,6 +130,6 @@ AlikeInLines =
     (assets : List Asset) (limit : ℕ) (given other_given : List Input) (out other_out log other_log : List ℕ)
     (summary other_summary : Summary)
     (run : IsRun assets limit given out log summary) (other_run : IsRun assets limit other_given other_out other_log other_summary) →
-    AreAssetsWithin assets → AllByRecursion IsRead given → AllByRecursion IsRead other_given →
+    AreAssetsWithin assets → AllByRecursion IsReadInput given → AllByRecursion IsReadInput other_given →
     (one other : Session) (life : HasLife one run.events) (other_life : HasLife other other_run.events) → AreAlike one other →
     lines_in_life one life ≡ lines_in_life other other_life

@@ -12,7 +12,7 @@ use Rattle.cf_lane.proofs.Units.{apdus, begins_by}
 use Rattle.cf_lane.specs.Handled.{Does, FrontsOf, Grows, Handled, Knows, MissesOf, Outlets, State, judged, lane_at, letters_in, outlets, state, step_by}
 use Rattle.cf_lane.specs.Iec104.{apdu_output, fate_of_apdu}
 use Rattle.cf_lane.specs.Item.{Took}
-use Rattle.cf_lane.specs.Judged.{Judged, cut_by, cut_of, is_admitted, is_refused, one_if}
+use Rattle.cf_lane.specs.Judged.{Judged, fate_cut, cut_of, is_admitted, is_refused, one_if}
 use Rattle.cf_lane.specs.Kept.{KnowsWire}
 use Rattle.cf_lane.specs.Log.{unit_lines, is_some_bytes, with_lines}
 use Rattle.cf_lane.specs.Numbers.{events_of}
@@ -57,7 +57,7 @@ module _ (asset : Asset) (moment : ℕ) (s : Side) (a : ApduValue) (f : Fate) (o
           controller_ended = ap (λ (q : Queue). q.ended) does.of_controller ∙ knows.controller_ended ∙ sym (ended-more side.Client earlier j refl);
           rules = rules.know earlier j refl refl knows.rules;
           wire = λ goes. subst (λ w. KnowsWire asset w (earlier ++ j ∷ [])) (sym is)
-              (subst (IsNumbersOf after) (sym (events_of-more earlier j)) (does.numbers ((first_none (cut_by f) None (sym (cut_of-append earlier (j ∷ []) uncut) ∙ goes)).0)));
+              (subst (IsNumbersOf after) (sym (events_of-more earlier j)) (does.numbers ((first_none (fate_cut f) None (sym (cut_of-append earlier (j ∷ []) uncut) ∙ goes)).0)));
         };
         fates = (subst (λ (says : Says). f ≡ fate_of_apdu asset says s earlier a) (says_same asset old.lane.client.address old.lane.rules earlier moment of knows.rules) does.fate, tt);
         of_client = does.of_client ∙ ap (after_push old.to_client) (nil side.Client);
@@ -124,6 +124,6 @@ takes_same asset says client moment s t a b f old new side value takes =
     subst (λ (u : Side). TakesApdu asset says client moment u b f old new) (sym side) (subst (λ (x : ApduValue). TakesApdu asset says client moment s x f old new) (sym value) takes)
 
 -- a queue grows by no more than twice the octets of an APDU that does not cut
-pub grows_apdu : (f : Fate) (len n : ℕ) → len ≡ n → (p q : Queue) → Grows (unless_cut f len) 0 0 p q → Grows (2 * letters_in (step_by (cut_by f) n)) 0 0 p q
+pub grows_apdu : (f : Fate) (len n : ℕ) → len ≡ n → (p q : Queue) → Grows (unless_cut f len) 0 0 p q → Grows (2 * letters_in (step_by (fate_cut f) n)) 0 0 p q
 grows_apdu f len n size p q g =
-    grows_more (unless_cut f len) (2 * letters_in (step_by (cut_by f) n)) 0 0 p q (omega (arith, letters_by (cut_by f) n, ap (unless_cut_by (cut_by f)) size)) g
+    grows_more (unless_cut f len) (2 * letters_in (step_by (fate_cut f) n)) 0 0 p q (omega (arith, letters_by (fate_cut f) n, ap (unless_cut_by (fate_cut f)) size)) g

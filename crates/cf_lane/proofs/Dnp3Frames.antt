@@ -22,7 +22,7 @@ use Rattle.cf_lane.specs.Fragments.{AddsSegment, DoesFrame, MissesFrame, MissesS
 use Rattle.cf_lane.specs.Handled.{IsOpen, MayHaveMore, judged}
 use Rattle.cf_lane.specs.History.{is_side}
 use Rattle.cf_lane.specs.Item.{Took}
-use Rattle.cf_lane.specs.Judged.{Judged, cut_by, goes_on, has_ended}
+use Rattle.cf_lane.specs.Judged.{Judged, fate_cut, goes_on, has_ended}
 use Rattle.cf_lane.specs.Kept.{KnowsFragments, of_side}
 use Rattle.cf_lane.specs.Log.{is_some_bytes, line_about, unit_lines, with_lines}
 use Rattle.cf_lane.specs.Output.{other}
@@ -156,23 +156,23 @@ all_frames_mod asset to n [] = refl
 all_frames_mod asset to n (octets ∷ fragments) = rw (frames_mod asset to n octets, all_frames_mod asset to n fragments) refl
 
 -- no fragment cuts
-no_cut_refusal : (used : List Bool) (o : Option Refusal) → cut_by (by_refusal used o) ≡ None
+no_cut_refusal : (used : List Bool) (o : Option Refusal) → fate_cut (by_refusal used o) ≡ None
 no_cut_refusal used None = refl
 no_cut_refusal used (Some r) = refl
 
-cut_if : (b : Bool) (f g : Fate) → cut_by f ≡ None → cut_by g ≡ None → cut_by (if b then f else g) ≡ None
+cut_if : (b : Bool) (f g : Fate) → fate_cut f ≡ None → fate_cut g ≡ None → fate_cut (if b then f else g) ≡ None
 cut_if true f g a b = a
 cut_if false f g a b = b
 
-no_cut_read : (asset : Asset) (says : Says) (code : ℕ) (r : Result FragmentValue FragmentRefusal) → cut_by (fate_of_read asset says code r) ≡ None
+no_cut_read : (asset : Asset) (says : Says) (code : ℕ) (r : Result FragmentValue FragmentRefusal) → fate_cut (fate_of_read asset says code r) ≡ None
 no_cut_read asset says code (Ok f) = cut_if (nat_eq f.code 0) fate.Carried (fate_of_acts asset says (acts f)) refl (no_cut_refusal (used_by (rated asset.rules) says (acts f)) (first_refusal says (acts f)))
 no_cut_read asset says code (Err e) = refl
 
-no_cut_fragment : (asset : Asset) (says : Says) (s : Side) (octets : List ℕ) → cut_by (fate_of_fragment asset says s octets) ≡ None
+no_cut_fragment : (asset : Asset) (says : Says) (s : Side) (octets : List ℕ) → fate_cut (fate_of_fragment asset says s octets) ≡ None
 no_cut_fragment asset says side.Client octets = no_cut_read asset says (slice_index octets 1) (read_octets octets)
 no_cut_fragment asset says side.Controller octets = refl
 
-no_cut : (asset : Asset) (says : Says) (s : Side) (answer : SegmentAnswer) (whole : List (List ℕ)) → cut_by (fate_of_segment asset says s answer whole) ≡ None
+no_cut : (asset : Asset) (says : Says) (s : Side) (answer : SegmentAnswer) (whole : List (List ℕ)) → fate_cut (fate_of_segment asset says s answer whole) ≡ None
 no_cut asset says s answers.More whole = refl
 no_cut asset says s (answers.Dropped because) whole = refl
 no_cut asset says s answers.Whole [] = refl
@@ -300,7 +300,7 @@ pub takes_data : (asset : Asset) (says : Says) (client : Endpoint) (moment : ℕ
 takes_data asset says client moment s x served data_ answer f was old new adds takes =
     let whole = completed_by answer (of_side s old.fragments) in
     record {
-      uncut = ap cut_by takes.fate ∙ no_cut asset says s answer whole;
+      uncut = ap fate_cut takes.fate ∙ no_cut asset says s answer whole;
       more = data_lines asset client moment s f whole old.fragments.to_client old.to_client;
       lines = takes.lines;
       does = does_data asset says client moment s x served data_ answer f was old new adds takes;

@@ -5,7 +5,7 @@ use Rattle.cf_dnptrans.specs.Transport.{fitting, is_final, is_linked, left_of, m
 use Rattle.cf_lane.proofs.Sides.{side_known}
 use Rattle.cf_lane.specs.Dnp3.{fragment_in, segment_in, segments_into, segments_of}
 use Rattle.cf_lane.specs.Handled.{IsLaneOf, LaneValue, debt}
-use Rattle.cf_lane.specs.Judged.{Judged, cut_by, cut_of, in_turn}
+use Rattle.cf_lane.specs.Judged.{Judged, fate_cut, cut_of, in_turn}
 use Rattle.cf_lane.specs.Kept.{IsWireOf, KnowsFragments, KnowsWire, of_side, owed_octets, wire_debt}
 use Rattle.cf_lane.specs.Log.{has_unfinished}
 use Rattle.cf_lane.specs.Numbers.{events_of, item_event}
@@ -47,7 +47,7 @@ first_none (Some r) d e = cc
 pub cut_of-append : (js ks : List Judged) → cut_of js ≡ None → cut_of (js ++ ks) ≡ cut_of ks
 cut_of-append [] ks e = refl
 cut_of-append (j ∷ js) ks e =
-    let both = first_none (cut_by j.fate) (cut_of js) e in
+    let both = first_none (fate_cut j.fate) (cut_of js) e in
     ap (λ c. option_or c (cut_of (js ++ ks))) both.0 ∙ cut_of-append js ks both.1
 
 -- the events, the newest first

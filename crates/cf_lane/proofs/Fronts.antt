@@ -3,7 +3,7 @@ use Rattle.cf_audit.specs.declared.line.CutReason.{CutReason}
 use Rattle.cf_lane.proofs.Saying.{lane_on, rules_stay}
 use Rattle.cf_lane.specs.Handled.{Counts, CountsBy, CountsFront, Fronts, FrontsOf, Grows, HasLines, IsLaneOf, LaneValue, MayHaveMore, Misses, Outlets, State, Steps, TakesUncounted, TakesUnit, debt, judged, lane_at, letters_in, most_counted, state, step_at, step_by, taken_in}
 use Rattle.cf_lane.specs.Item.{Took}
-use Rattle.cf_lane.specs.Judged.{cut_by, is_admitted, is_refused, one_if}
+use Rattle.cf_lane.specs.Judged.{fate_cut, is_admitted, is_refused, one_if}
 use Rattle.cf_lane.specs.Kept.{AreFragments, IsWireOf, wire_debt}
 use Rattle.cf_lane.specs.Rings.{IsRulesOf}
 use Rattle.cf_lane.specs.declared.fate.Fate.{Fate}
@@ -39,7 +39,7 @@ counts_unadmitted f moment lane unadmitted = record {
 }
 
 module _ (asset : Asset) (moment : ℕ) (s : Side) (bytes : List ℕ) (n : ℕ) (f : Fate) (old mid : State) (t : TakesUncounted asset moment s bytes n f old mid) where
-  abbrev takes_by : (lane : LaneValue) → Counts f moment mid.lane lane → (cut : Option CutReason) → cut_by f ≡ cut →
+  abbrev takes_by : (lane : LaneValue) → Counts f moment mid.lane lane → (cut : Option CutReason) → fate_cut f ≡ cut →
       TakesUnit asset moment s bytes n cut old (state lane mid.to_client mid.to_controller mid.lines)
   takes_by lane counts cut is = record {
     unit = t.unit;
@@ -50,19 +50,19 @@ module _ (asset : Asset) (moment : ℕ) (s : Side) (bytes : List ℕ) (n : ℕ) 
     handled = t.handled lane counts;
   }
 
-  steps_by : (lane : LaneValue) → Counts f moment mid.lane lane → (cut : Option CutReason) → cut_by f ≡ cut →
+  steps_by : (lane : LaneValue) → Counts f moment mid.lane lane → (cut : Option CutReason) → fate_cut f ≡ cut →
       Steps asset moment s bytes old (state lane mid.to_client mid.to_controller mid.lines) (step_by cut n)
   steps_by lane counts None is = takes_by lane counts None is
   steps_by lane counts (Some reason) is = inr (t.cuts reason is, (n, takes_by lane counts (Some reason) is))
 
   -- a unit that was taken and counted is a step by its fate
-  steps_front : (lane : LaneValue) → Counts f moment mid.lane lane → (st : Step) → st ≡ step_by (cut_by f) n →
+  steps_front : (lane : LaneValue) → Counts f moment mid.lane lane → (st : Step) → st ≡ step_by (fate_cut f) n →
       Steps asset moment s bytes old (state lane mid.to_client mid.to_controller mid.lines) st
   steps_front lane counts st is =
-      subst (Steps asset moment s bytes old (state lane mid.to_client mid.to_controller mid.lines)) (sym is) (steps_by lane counts (cut_by f) refl)
+      subst (Steps asset moment s bytes old (state lane mid.to_client mid.to_controller mid.lines)) (sym is) (steps_by lane counts (fate_cut f) refl)
 
   -- one that was taken but for its line
-  pub misses_front : is_admitted f ≡ false → cut_by f ≡ None → (more : List (List ℕ)) → HasLines asset old (judged moment (Took s t.unit) f) more →
+  pub misses_front : is_admitted f ≡ false → fate_cut f ≡ None → (more : List (List ℕ)) → HasLines asset old (judged moment (Took s t.unit) f) more →
       (log : Option (List (List ℕ))) (part : List ℕ) → MayHaveMore more old.lines log part → Misses asset moment s bytes old log part
   misses_front unadmitted uncut more are_more log part line = record {
     used = n;
@@ -74,7 +74,7 @@ module _ (asset : Asset) (moment : ℕ) (s : Side) (bytes : List ℕ) (n : ℕ) 
   }
 
 -- what does not cut has no reason for which it does
-pub never_cuts : {P : Type 0} (f : Fate) → cut_by f ≡ None → (reason : CutReason) → cut_by f ≡ Some reason → P
+pub never_cuts : {P : Type 0} (f : Fate) → fate_cut f ≡ None → (reason : CutReason) → fate_cut f ≡ Some reason → P
 never_cuts f uncut reason e = cc (uncut, e)
 
 -- how much of a unit goes on
@@ -83,7 +83,7 @@ letters_most None n = omega arith
 letters_most (Some reason) n = omega arith
 
 -- a command is counted once, and a cut counts none
-counts_by : (f : Fate) (n : ℕ) → 0 < n → one_if (is_admitted f) + one_if (is_refused f) ≤ letters_in (step_by (cut_by f) n)
+counts_by : (f : Fate) (n : ℕ) → 0 < n → one_if (is_admitted f) + one_if (is_refused f) ≤ letters_in (step_by (fate_cut f) n)
 counts_by fates.Carried n some = omega arith
 counts_by (fates.Admitted used) n some = omega (arith, some)
 counts_by (fates.Refused r) n some = omega (arith, some)
@@ -92,7 +92,7 @@ counts_by fates.Lengthens n some = omega arith
 counts_by (fates.Cuts reason) n some = omega arith
 
 -- the numbers of commands rise by one at most
-counts_front : (f : Fate) (st : Step) (n : ℕ) → 0 < n → st ≡ step_by (cut_by f) n → (old new : LaneValue) →
+counts_front : (f : Fate) (st : Step) (n : ℕ) → 0 < n → st ≡ step_by (fate_cut f) n → (old new : LaneValue) →
     new.admitted ≡ old.admitted + one_if (is_admitted f) → new.refused ≡ old.refused + one_if (is_refused f) → CountsBy (letters_in st) old new
 counts_front f st n some is old new admitted refused = omega (arith, counts_by f n some, ap letters_in is, admitted, refused)
 
@@ -134,7 +134,7 @@ counted_most asset moment s bytes old mid (framed.Broken reason) front = omega a
 
 pub inside_counted : (asset : Asset) (moment : ℕ) (s : Side) (bytes : List ℕ) (old mid : State) (answer : Framed Fate) → Fronts asset moment s bytes old mid answer → (st : Step) → st ≡ step_at s answer →
     letters_in st ≤ length bytes
-inside_counted asset moment s bytes old mid (framed.Unit f n) front st is = omega (arith, letters_most (cut_by f) n, ap letters_in is, front.begins.inside)
+inside_counted asset moment s bytes old mid (framed.Unit f n) front st is = omega (arith, letters_most (fate_cut f) n, ap letters_in is, front.begins.inside)
 inside_counted asset moment s bytes old mid framed.More front st is = omega (arith, ap letters_in is)
 inside_counted asset moment s bytes old mid (framed.Broken reason) front st is = omega (arith, ap letters_in is)
 

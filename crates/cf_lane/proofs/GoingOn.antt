@@ -11,11 +11,11 @@ use Rattle.cf_lane.proofs.Units.{nothing_unit, units_of_octets}
 use Rattle.cf_lane.specs.Acts.{fate_of_acts}
 use Rattle.cf_lane.specs.Dnp3.{fate_of_frame, stray_of}
 use Rattle.cf_lane.specs.Fate.{HasFate, HasItemFate, HasUnitFate, HaveFates}
-use Rattle.cf_lane.specs.Follows.{AreJudged, GoesOn, GoesOnAfter}
+use Rattle.cf_lane.specs.Follows.{AreJudged, DropsBehindCut, GoesOnAfter}
 use Rattle.cf_lane.specs.History.{Element, bytes_in, bytes_of, is_side}
 use Rattle.cf_lane.specs.Iec104.{fate_of_apdu}
 use Rattle.cf_lane.specs.Item.{AreItems, Broke, Completes, Ended, Item, Placed, Took, last_items, placed}
-use Rattle.cf_lane.specs.Judged.{Judged, cut_by, cut_of, place_of}
+use Rattle.cf_lane.specs.Judged.{Judged, fate_cut, cut_of, place_of}
 use Rattle.cf_lane.specs.Laws.{JudgementsGoOn}
 use Rattle.cf_lane.specs.Modbus.{HasAduFate, HasCommandFate, form_refusal, of_its_acts, of_no_form, of_other_station, station_refusal}
 use Rattle.cf_lane.specs.Unit.{Adu, Apdu, AreUnits, Frame, Left, SpellsUnit, Tail, UnitValue, Wrong}
@@ -156,7 +156,7 @@ module _ (each : EachPduHasAnAnswer) (asset : Asset) (client : ℕ) where
     js : List Judged
     dropped : List Placed
     are : places ≡ map place_of js ++ dropped
-    goes : GoesOn js dropped
+    goes : DropsBehindCut js dropped
     fates : HaveFates asset client earlier js
 
   cut_here : (c : Option CutReason) (going : Type 0) (r : CutReason) → c ≡ Some r → GoesOnAfter c [] going
@@ -164,20 +164,20 @@ module _ (each : EachPduHasAnAnswer) (asset : Asset) (client : ℕ) where
   cut_here (Some x) going r e = refl
 
   judge_one : (earlier : List Judged) (x : Placed) (xs : List Placed) (f : Fate) → HasFate asset client earlier x f →
-      ((j : Judged) → JudgesAll (earlier ++ j ∷ []) xs) → (c : Option CutReason) → cut_by f ≡ c → JudgesAll earlier (x ∷ xs)
+      ((j : Judged) → JudgesAll (earlier ++ j ∷ []) xs) → (c : Option CutReason) → fate_cut f ≡ c → JudgesAll earlier (x ∷ xs)
   judge_one earlier x xs f has rest None e =
       let j : Judged = record { moment = x.moment; item = x.item; fate = f } in
       let r = rest j in
-      record { js = j ∷ r.js; dropped = r.dropped; are = ap (λ ys. x ∷ ys) r.are; goes = to_going (cut_by f) r.js (GoesOn r.js r.dropped) e r.goes; fates = (has, r.fates) }
+      record { js = j ∷ r.js; dropped = r.dropped; are = ap (λ ys. x ∷ ys) r.are; goes = to_going (fate_cut f) r.js (DropsBehindCut r.js r.dropped) e r.goes; fates = (has, r.fates) }
   judge_one earlier x xs f has rest (Some c) e =
       let j : Judged = record { moment = x.moment; item = x.item; fate = f } in
-      record { js = j ∷ []; dropped = xs; are = refl; goes = cut_here (cut_by f) _ c e; fates = (has, tt) }
+      record { js = j ∷ []; dropped = xs; are = refl; goes = cut_here (fate_cut f) _ c e; fates = (has, tt) }
 
   judge_all : (xs : List Placed) (earlier : List Judged) → AreAll asset.protocol xs → JudgesAll earlier xs
   judge_all [] earlier a = record { js = []; dropped = []; are = refl; goes = refl; fates = tt }
   judge_all (x ∷ xs) earlier a =
       let f = item_fate each asset (says_at asset client earlier x.moment) earlier x.item a.0 in
-      judge_one earlier x xs f.0 f.1 (λ j. judge_all xs (earlier ++ j ∷ []) a.1) (cut_by f.0) refl
+      judge_one earlier x xs f.0 f.1 (λ j. judge_all xs (earlier ++ j ∷ []) a.1) (fate_cut f.0) refl
 
 -- ---- a side's bytes are units and a tail
 
@@ -239,9 +239,9 @@ cut_step : (c : Option CutReason) (js : List Judged) (P Q : Type 0) (r : CutReas
 cut_step None js P Q r on e g = on e g
 cut_step (Some x) js P Q r on e g = g
 
-goes_cut : (js : List Judged) (ds es : List Placed) (r : CutReason) → cut_of js ≡ Some r → GoesOn js ds → GoesOn js es
+goes_cut : (js : List Judged) (ds es : List Placed) (r : CutReason) → cut_of js ≡ Some r → DropsBehindCut js ds → DropsBehindCut js es
 goes_cut [] ds es r e g = cc
-goes_cut (j ∷ js) ds es r e g = cut_step (cut_by j.fate) js (GoesOn js ds) (GoesOn js es) r (λ e g. goes_cut js ds es r e g) e g
+goes_cut (j ∷ js) ds es r e g = cut_step (fate_cut j.fate) js (DropsBehindCut js ds) (DropsBehindCut js es) r (λ e g. goes_cut js ds es r e g) e g
 
 module _ (each : EachPduHasAnAnswer) (asset : Asset) (client : ℕ) (h : List Element) (e : Element) (js : List Judged) (a : AreJudged asset client h js)
     (now : List Placed) (c : Completes asset.protocol h e now) (all : AreAll asset.protocol now) where

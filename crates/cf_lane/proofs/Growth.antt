@@ -8,10 +8,10 @@ use Rattle.cf_lane.proofs.Judgements.{after_break, one_item_fate, one_items, one
 use Rattle.cf_lane.proofs.Sides.{own_bytes}
 use Rattle.cf_lane.proofs.Units.{free_unit, short_unit}
 use Rattle.cf_lane.specs.Fate.{HasFate, HaveFates}
-use Rattle.cf_lane.specs.Follows.{GoesOn, GoesOnAfter}
+use Rattle.cf_lane.specs.Follows.{DropsBehindCut, GoesOnAfter}
 use Rattle.cf_lane.specs.History.{Element, bytes_in, bytes_of, is_side}
 use Rattle.cf_lane.specs.Item.{AreItems, Broke, Completes, Ended, Item, Placed, Took, last_after, placed}
-use Rattle.cf_lane.specs.Judged.{Judged, cut_by, place_of}
+use Rattle.cf_lane.specs.Judged.{Judged, fate_cut, place_of}
 use Rattle.cf_lane.specs.Laws.{StreamsGoOn, letters_of}
 use Rattle.cf_lane.specs.Log.{item_lines, lines}
 use Rattle.cf_lane.specs.Output.{output, outputs}
@@ -229,7 +229,7 @@ further_by None j js ks more P Q both a b = both a b
 further_by (Some r) j js ks more P Q both a b = ([], more, b ∙ sym (append-nil js ∙ a), refl)
 
 pub further : (asset : Asset) (client : ℕ) (earlier js ks : List Judged) (ds es more : List Placed) → (map place_of js ++ ds) ++ more ≡ map place_of ks ++ es →
-    HaveFates asset client earlier js → HaveFates asset client earlier ks → GoesOn js ds → GoesOn ks es → Further js ks more
+    HaveFates asset client earlier js → HaveFates asset client earlier ks → DropsBehindCut js ds → DropsBehindCut ks es → Further js ks more
 further asset client earlier [] ks ds es more same x y a b =
     (ks, es, refl, sym same ∙ ap (λ xs. xs ++ more) a)
 further asset client earlier (j ∷ js) [] ds es more same x y a b = cc
@@ -240,8 +240,8 @@ further asset client earlier (j ∷ js) (k ∷ ks) ds es more same x y a b =
     let fate : j.fate ≡ k.fate = one_item_fate asset (says_at asset client earlier k.moment) earlier k.item j.fate k.fate (subst (λ p. HasFate asset client earlier p j.fate) place x.0) y.0 in
     let same_one : j ≡ k = same_judged j k place fate in
     let fates = subst (λ i. HaveFates asset client (earlier ++ i ∷ []) js) same_one x.1 in
-    let goes = subst (λ f. GoesOnAfter (cut_by f) js (GoesOn js ds)) fate a in
-    let r = further_by (cut_by k.fate) k js ks more (GoesOn js ds) (GoesOn ks es)
+    let goes = subst (λ f. GoesOnAfter (fate_cut f) js (DropsBehindCut js ds)) fate a in
+    let r = further_by (fate_cut k.fate) k js ks more (DropsBehindCut js ds) (DropsBehindCut ks es)
     (λ p q. further asset client (earlier ++ k ∷ []) js ks ds es more places fates y.1 p q) goes b in
     (r.0, r.1, cc (same_one, r.2), r.3)
 

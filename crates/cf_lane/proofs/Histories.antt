@@ -7,11 +7,11 @@ use Rattle.cf_lane.proofs.Handling.{count-more, ended-more, fates-append, handle
 use Rattle.cf_lane.proofs.Pieces.{covers_rest, starts_join, starts_within, units_pieces}
 use Rattle.cf_lane.proofs.Sides.{own_bytes}
 use Rattle.cf_lane.specs.Fate.{HaveFates}
-use Rattle.cf_lane.specs.Follows.{AddsTo, AreJudged, AreRests, Began, BeganWithin, FailsApart, FailsWithin, Follows, GoesOn, GoesOnAfter, IsRest, Rests, no_rests, over, rest_of, with_rest}
+use Rattle.cf_lane.specs.Follows.{AddsTo, AreJudged, AreRests, Began, BeganWithin, FailsApart, FailsWithin, Follows, DropsBehindCut, GoesOnAfter, IsRest, Rests, no_rests, over, rest_of, with_rest}
 use Rattle.cf_lane.specs.Handled.{Breaks, Does, Handled, Knows, LaneValue, Misses, State, TakesUnit, judged, state}
 use Rattle.cf_lane.specs.History.{Element, bytes_at, bytes_in, bytes_of, end_at, letters_at}
 use Rattle.cf_lane.specs.Item.{AreItems, Broke, Completes, Placed, Took, last_items, placed}
-use Rattle.cf_lane.specs.Judged.{Judged, cut_by, cut_of, has_ended, in_turn, is_admitted, is_refused, place_of}
+use Rattle.cf_lane.specs.Judged.{Judged, fate_cut, cut_of, has_ended, in_turn, is_admitted, is_refused, place_of}
 use Rattle.cf_lane.specs.Kept.{KnowsWire}
 use Rattle.cf_lane.specs.Log.{item_lines, lines, with_lines}
 use Rattle.cf_lane.specs.Output.{other, output, outputs, stream_to}
@@ -61,21 +61,21 @@ goes_by : (c : Option CutReason) (later : List Judged) (going : Type 0) → c �
 goes_by None later going e g = g
 goes_by (Some r) later going e g = cc
 
-pub nothing_dropped : (js : List Judged) (dropped : List Placed) → cut_of js ≡ None → GoesOn js dropped → dropped ≡ []
+pub nothing_dropped : (js : List Judged) (dropped : List Placed) → cut_of js ≡ None → DropsBehindCut js dropped → dropped ≡ []
 nothing_dropped [] dropped e g = g
 nothing_dropped (j ∷ js) dropped e g =
-    let both = first_none (cut_by j.fate) (cut_of js) e in
-    nothing_dropped js dropped both.1 (goes_by (cut_by j.fate) js (GoesOn js dropped) both.0 g)
+    let both = first_none (fate_cut j.fate) (cut_of js) e in
+    nothing_dropped js dropped both.1 (goes_by (fate_cut j.fate) js (DropsBehindCut js dropped) both.0 g)
 
 pub to_going : (c : Option CutReason) (later : List Judged) (going : Type 0) → c ≡ None → going → GoesOnAfter c later going
 to_going None later going e g = g
 to_going (Some r) later going e g = cc
 
-pub goes_more : (js ks : List Judged) (dropped : List Placed) → cut_of js ≡ None → GoesOn ks dropped → GoesOn (js ++ ks) dropped
+pub goes_more : (js ks : List Judged) (dropped : List Placed) → cut_of js ≡ None → DropsBehindCut ks dropped → DropsBehindCut (js ++ ks) dropped
 goes_more [] ks dropped e g = g
 goes_more (j ∷ js) ks dropped e g =
-    let both = first_none (cut_by j.fate) (cut_of js) e in
-    to_going (cut_by j.fate) (js ++ ks) (GoesOn (js ++ ks) dropped) both.0 (goes_more js ks dropped both.1 g)
+    let both = first_none (fate_cut j.fate) (cut_of js) e in
+    to_going (fate_cut j.fate) (js ++ ks) (DropsBehindCut (js ++ ks) dropped) both.0 (goes_more js ks dropped both.1 g)
 
 bool_is : (b : Bool) → (b ≡ true) ⊎ (b ≡ false)
 bool_is true = inl refl
@@ -120,7 +120,7 @@ module _ (asset : Asset) (h : List Element) (rests : Rests) (first : Option (Lis
     (units : List UnitValue) (tail : Tail) (are : AreUnits asset.protocol bytes units tail)
     (js : List Judged) (dropped : List Placed)
     (are_js : map (placed moment) (map (Took s) units ++ last_items s ended tail) ≡ map place_of js ++ dropped)
-    (goes : GoesOn js dropped) (client : new.lane.client ≡ old.lane.client) (does : Does asset f.judged js old new) where
+    (goes : DropsBehindCut js dropped) (client : new.lane.client ≡ old.lane.client) (does : Does asset f.judged js old new) where
   abbrev e : Element
   e = letters_at moment s piece ended
 
@@ -264,9 +264,9 @@ along_more asset moment s bytes at used old now new a t =
       handled = handled_more asset a.js (j ∷ []) old now new a.uncut a.handled t.handled;
     }
 
-goes_none : (js : List Judged) → cut_of js ≡ None → GoesOn js []
+goes_none : (js : List Judged) → cut_of js ≡ None → DropsBehindCut js []
 goes_none [] e = refl
-goes_none (j ∷ js) e = let both = first_none (cut_by j.fate) (cut_of js) e in to_going (cut_by j.fate) js (GoesOn js []) both.0 (goes_none js both.1)
+goes_none (j ∷ js) e = let both = first_none (fate_cut j.fate) (cut_of js) e in to_going (fate_cut j.fate) js (DropsBehindCut js []) both.0 (goes_none js both.1)
 
 -- where a break stands nothing is done
 handled_break : (asset : Asset) (moment : ℕ) (s : Side) (b : Break) (now : State) →
@@ -467,7 +467,7 @@ module _ (asset : Asset) (h : List Element) (rests : Rests) (first own : Option 
         added = does.of_lines;
         follows = fed asset h rests first moment s piece bytes ended (over own old) (over (with_lines own more) new) is f (a.units ++ t.unit ∷ us) tail are
             (a.js ++ j ∷ []) (map (placed moment) behind) are_js
-            (goes_more a.js (j ∷ []) (map (placed moment) behind) a.uncut (goes_cut (cut_by t.fate) reason (GoesOn [] (map (placed moment) behind)) t.is_cut))
+            (goes_more a.js (j ∷ []) (map (placed moment) behind) a.uncut (goes_cut (fate_cut t.fate) reason (DropsBehindCut [] (map (placed moment) behind)) t.is_cut))
             all.client (does_over asset own f.judged (a.js ++ j ∷ []) old new does)
             rests' (Some reason) (cut_of-append a.js (j ∷ []) a.uncut ∙ ap (λ c. option_or c None) t.is_cut) tt;
       }

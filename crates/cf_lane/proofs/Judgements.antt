@@ -6,10 +6,10 @@ use Rattle.cf_lane.proofs.Histories.{bytes_of-append}
 use Rattle.cf_lane.proofs.Pieces.{units_stay}
 use Rattle.cf_lane.proofs.Units.{free_unit}
 use Rattle.cf_lane.specs.Fate.{HasFate, HasItemFate, HasUnitFate, HaveFates}
-use Rattle.cf_lane.specs.Follows.{GoesOn, GoesOnAfter}
+use Rattle.cf_lane.specs.Follows.{DropsBehindCut, GoesOnAfter}
 use Rattle.cf_lane.specs.History.{Element, bytes_at, bytes_in, bytes_of, letters_at}
 use Rattle.cf_lane.specs.Item.{AreItems, Broke, Completes, Ended, Item, Placed, Took, last_after, last_items, placed}
-use Rattle.cf_lane.specs.Judged.{Judged, cut_by, place_of}
+use Rattle.cf_lane.specs.Judged.{Judged, fate_cut, place_of}
 use Rattle.cf_lane.specs.Laws.{HasOneJudgement, PiecesJoin}
 use Rattle.cf_lane.specs.Modbus.{HasAduFate}
 use Rattle.cf_lane.specs.Unit.{Adu, Apdu, AreUnits, Frame, Left, SpellsUnit, Tail, UnitValue, Wrong, unit_break}
@@ -192,7 +192,7 @@ rest_same None js ks P Q both a b = both a b
 rest_same (Some r) js ks P Q both a b = a ∙ sym b
 
 one_judged : (asset : Asset) (client : ℕ) (earlier js ks : List Judged) (ds es : List Placed) → map place_of js ++ ds ≡ map place_of ks ++ es →
-    HaveFates asset client earlier js → HaveFates asset client earlier ks → GoesOn js ds → GoesOn ks es → js ≡ ks
+    HaveFates asset client earlier js → HaveFates asset client earlier ks → DropsBehindCut js ds → DropsBehindCut ks es → js ≡ ks
 one_judged asset client earlier [] [] ds es same x y a b = refl
 one_judged asset client earlier [] (k ∷ ks) ds es same x y a b = cc
 one_judged asset client earlier (j ∷ js) [] ds es same x y a b = cc
@@ -202,8 +202,8 @@ one_judged asset client earlier (j ∷ js) (k ∷ ks) ds es same x y a b =
     let fate : j.fate ≡ k.fate = one_item_fate asset (says_at asset client earlier k.moment) earlier k.item j.fate k.fate (subst (λ p. HasFate asset client earlier p j.fate) place x.0) y.0 in
     let same_one : j ≡ k = same_judged j k place fate in
     let fates = subst (λ i. HaveFates asset client (earlier ++ i ∷ []) js) same_one x.1 in
-    let goes = subst (λ f. GoesOnAfter (cut_by f) js (GoesOn js ds)) fate a in
-    let rest = rest_same (cut_by k.fate) js ks (GoesOn js ds) (GoesOn ks es)
+    let goes = subst (λ f. GoesOnAfter (fate_cut f) js (DropsBehindCut js ds)) fate a in
+    let rest = rest_same (fate_cut k.fate) js ks (DropsBehindCut js ds) (DropsBehindCut ks es)
     (λ p q. one_judged asset client (earlier ++ k ∷ []) js ks ds es places fates y.1 p q) goes b in
     cc (same_one, rest)
 

@@ -4,7 +4,7 @@ use Rattle.cf_lane.specs.Fate.{HaveFates}
 use Rattle.cf_lane.specs.Handled.{Knows, State}
 use Rattle.cf_lane.specs.History.{Element, bytes_at, bytes_of}
 use Rattle.cf_lane.specs.Item.{AreItems, Placed}
-use Rattle.cf_lane.specs.Judged.{Judged, cut_by, cut_of, place_of}
+use Rattle.cf_lane.specs.Judged.{Judged, fate_cut, cut_of, place_of}
 use Rattle.cf_lane.specs.Log.{lines, with_lines}
 use Rattle.cf_lane.specs.Output.{stream_to}
 use Rattle.cf_lane.specs.Unit.{SpellsUnit, UnitValue}
@@ -24,9 +24,9 @@ GoesOnAfter None later going = going
 GoesOnAfter (Some reason) later going = later ≡ []
 
 -- items are dropped only after one that cuts
-abbrev pub GoesOn : (judged : List Judged) → (dropped : List Placed) → Type 0
-GoesOn [] dropped = dropped ≡ []
-GoesOn (j ∷ js) dropped = GoesOnAfter (cut_by j.fate) js (GoesOn js dropped)
+abbrev pub DropsBehindCut : (judged : List Judged) → (dropped : List Placed) → Type 0
+DropsBehindCut [] dropped = dropped ≡ []
+DropsBehindCut (j ∷ js) dropped = GoesOnAfter (fate_cut j.fate) js (DropsBehindCut js dropped)
 
 -- the judged items of a history: its items up to the first that cuts, each with its fate after the earlier ones
 pub record AreJudged (asset : Asset) (client : ℕ) (history : List Element) (judged : List Judged) : Type 0 where
@@ -34,7 +34,7 @@ pub record AreJudged (asset : Asset) (client : ℕ) (history : List Element) (ju
   pub are_items : AreItems asset.protocol [] history items
   pub dropped : List Placed
   pub are_first : items ≡ map place_of judged ++ dropped
-  pub goes_on : GoesOn judged dropped
+  pub goes_on : DropsBehindCut judged dropped
   pub fates : HaveFates asset client [] judged
 
 -- what is left of each side: bytes that are no whole unit

@@ -9,7 +9,7 @@ use Rattle.cf_dnptrans.specs.declared.assembly.SegmentAnswer.{SegmentAnswer}
 use Rattle.cf_lane.specs.Dnp3.{fate_of_frame, fate_of_segment, frame_fragment, frame_octets, frame_output, frames_at, stray_of}
 use Rattle.cf_lane.specs.Handled.{MayHaveMore, judged}
 use Rattle.cf_lane.specs.Item.{Took}
-use Rattle.cf_lane.specs.Judged.{Judged, cut_by, has_ended, is_admitted}
+use Rattle.cf_lane.specs.Judged.{Judged, fate_cut, has_ended, is_admitted}
 use Rattle.cf_lane.specs.Kept.{KnowsFragments, of_side, owed_octets}
 use Rattle.cf_lane.specs.Log.{is_some_bytes, unit_lines, with_lines}
 use Rattle.cf_lane.specs.Output.{other}
@@ -110,7 +110,7 @@ pub record DoesFrame (asset : Asset) (says : Says) (client : Endpoint) (earlier 
 
 -- a frame was taken with this fate, whatever came before it
 pub record TakesFrame (asset : Asset) (says : Says) (client : Endpoint) (moment : ℕ) (s : Side) (x : FrameValue) (f : Fate) (old new : Parts) : Type 0 where
-  pub uncut : cut_by f ≡ None
+  pub uncut : fate_cut f ≡ None
   pub more : List (List ℕ)
   pub lines : new.lines ≡ with_lines old.lines more
   pub does : (earlier : List Judged) → KnowsFragments asset old.fragments earlier → old.to_client.ended ≡ has_ended side.Controller earlier →

@@ -3,7 +3,7 @@
 use Rattle.cf_audit.specs.declared.line.CutReason.{CutReason}
 use Rattle.cf_lane.specs.Fate.{HaveFates}
 use Rattle.cf_lane.specs.Item.{Item, Took}
-use Rattle.cf_lane.specs.Judged.{Judged, cut_by, cut_of, has_ended, is_admitted, is_refused, one_if}
+use Rattle.cf_lane.specs.Judged.{Judged, fate_cut, cut_of, has_ended, is_admitted, is_refused, one_if}
 use Rattle.cf_lane.specs.Kept.{IsWireOf, KnowsWire, wire_debt}
 use Rattle.cf_lane.specs.Log.{lines, with_lines}
 use Rattle.cf_lane.specs.Output.{outputs}
@@ -88,7 +88,7 @@ pub record TakesUnit (asset : Asset) (moment : ℕ) (s : Side) (bytes : List ℕ
   pub begins : Begins (SpellsUnit asset.protocol) bytes unit used
   pub some_bytes : 0 < used
   pub fate : Fate
-  pub is_cut : cut_by fate ≡ cut
+  pub is_cut : fate_cut fate ≡ cut
   pub handled : Handled asset (judged moment (Took s unit) fate ∷ []) old new
 
 -- an octet at the front is one that no unit has there
@@ -127,7 +127,7 @@ cut_in st = None
 -- a client's command was taken by its fate
 pub record TakesCommand (asset : Asset) (moment : ℕ) (a : AduValue) (old new : State) : Type 0 where
   pub fate : Fate
-  pub uncut : cut_by fate ≡ None
+  pub uncut : fate_cut fate ≡ None
   pub handled : Handled asset (judged moment (Took side.Client (Adu a)) fate ∷ []) old new
 
 -- the numbers rose by one command at most for so many letters
@@ -153,7 +153,7 @@ pub record TakesUncounted (asset : Asset) (moment : ℕ) (s : Side) (bytes : Lis
   pub begins : Begins (SpellsUnit asset.protocol) bytes unit used
   pub some_bytes : 0 < used
   -- a unit cuts by its numbers alone
-  pub cuts : (reason : CutReason) → cut_by f ≡ Some reason → asset.protocol ≡ protocol.Iec104
+  pub cuts : (reason : CutReason) → fate_cut f ≡ Some reason → asset.protocol ≡ protocol.Iec104
   pub handled : (lane : LaneValue) → Counts f moment mid.lane lane →
       Handled asset (judged moment (Took s unit) f ∷ []) old (state lane mid.to_client mid.to_controller mid.lines)
 
@@ -165,7 +165,7 @@ Fronts asset moment s bytes old mid (framed.Broken reason) = Breaks asset s byte
 
 -- what the front led to
 abbrev pub step_at : Side → Framed Fate → Step
-step_at s (framed.Unit f used) = step_by (cut_by f) used
+step_at s (framed.Unit f used) = step_by (fate_cut f) used
 step_at s framed.More = step.More
 step_at s (framed.Broken reason) = step.Cut (cut.Framing s reason)
 
@@ -183,7 +183,7 @@ most_counted (framed.Broken reason) = 0
 
 -- how many octets of the front go on
 abbrev pub taken_in : Framed Fate → ℕ
-taken_in (framed.Unit f used) = letters_in (step_by (cut_by f) used)
+taken_in (framed.Unit f used) = letters_in (step_by (fate_cut f) used)
 taken_in framed.More = 0
 taken_in (framed.Broken reason) = 0
 

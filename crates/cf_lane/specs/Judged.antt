@@ -45,14 +45,14 @@ one_if true = 1
 one_if false = 0
 
 -- why an item of this fate cuts, if it does
-abbrev pub cut_by : Fate → Option CutReason
-cut_by (fate.Cuts reason) = Some reason
-cut_by f = None
+abbrev pub fate_cut : Fate → Option CutReason
+fate_cut (fate.Cuts reason) = Some reason
+fate_cut f = None
 
 -- the reason of the first that cuts
 abbrev pub cut_of : List Judged → Option CutReason
 cut_of [] = None
-cut_of (j ∷ js) = option_or (cut_by j.fate) (cut_of js)
+cut_of (j ∷ js) = option_or (fate_cut j.fate) (cut_of js)
 
 -- what items put out one after the other, where each may read the earlier ones
 abbrev pub in_turn : {X : Type 0} → (List Judged → Judged → List X) → List Judged → List Judged → List X

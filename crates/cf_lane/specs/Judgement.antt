@@ -1,4 +1,4 @@
--- What becomes of a command, as the fate of an item: `fate_of_judgement`.
+-- Steps of the proof: what becomes of a command, as the fate of an item: `fate_of_judgement`.
 use Rattle.cf_lane.specs.declared.fate.Fate.{Fate}
 use Rattle.cf_lane.specs.declared.fate.Judgement.{Judgement}
 use Rattle.std.specs.Prelude.{None, Option, Some}

@@ -6,7 +6,7 @@ use Rattle.cf_audit.specs.declared.line.CutReason.{CutReason}
 use Rattle.cf_lane.specs.Handled.{MayHaveMore}
 use Rattle.cf_lane.specs.Iec104.{apdu_octets, apdu_output, fate_of_apdu, stamped}
 use Rattle.cf_lane.specs.Item.{Took}
-use Rattle.cf_lane.specs.Judged.{Judged, cut_by, has_ended, is_admitted}
+use Rattle.cf_lane.specs.Judged.{Judged, fate_cut, has_ended, is_admitted}
 use Rattle.cf_lane.specs.Log.{is_some_bytes, unit_lines, with_lines}
 use Rattle.cf_lane.specs.Numbers.{events_of, item_event}
 use Rattle.cf_lane.specs.Unit.{Apdu, apdu_spelling}
@@ -33,7 +33,7 @@ numbered numbers to_client to_controller lines = record { numbers = numbers; to_
 -- what an APDU of a side does after earlier items: its fate, the streams to both sides, its lines, and the numbers
 pub record DoesApdu (asset : Asset) (says : Says) (client : Endpoint) (moment : ℕ) (s : Side) (a : ApduValue) (f : Fate) (old new : Numbered) (earlier : List Judged) : Type 0 where
   pub fate : f ≡ fate_of_apdu asset says s earlier a
-  pub numbers : cut_by f ≡ None → IsNumbersOf new.numbers (reverse (item_event earlier f (Took s (Apdu a))) ++ events_of earlier)
+  pub numbers : fate_cut f ≡ None → IsNumbersOf new.numbers (reverse (item_event earlier f (Took s (Apdu a))) ++ events_of earlier)
   pub of_client : new.to_client ≡ after_push old.to_client (apdu_output side.Client earlier f s a)
   pub of_controller : new.to_controller ≡ after_push old.to_controller (apdu_output side.Controller earlier f s a)
   pub of_lines : new.lines ≡ with_lines old.lines (unit_lines asset client moment (is_some_bytes (apdu_output side.Client earlier f s a)) s (apdu_octets a) f)
@@ -50,7 +50,7 @@ TakesApdu asset says client moment s a f old new =
 -- an APDU was taken but for its line, of which the log may have a part or all
 pub record MissesApdu (asset : Asset) (says : Says) (client : Endpoint) (moment : ℕ) (s : Side) (a : ApduValue) (old : Numbered) (log : Option (List (List ℕ))) (part : List ℕ) : Type 0 where
   pub fate : Fate
-  pub uncut : cut_by fate ≡ None
+  pub uncut : fate_cut fate ≡ None
   pub unadmitted : is_admitted fate ≡ false
   pub new : Numbered
   pub takes : TakesApdu asset says client moment s a fate old new
@@ -70,4 +70,4 @@ unless_cut_by None n = n
 unless_cut_by (Some reason) n = 0
 
 abbrev pub unless_cut : Fate → ℕ → ℕ
-unless_cut f n = unless_cut_by (cut_by f) n
+unless_cut f n = unless_cut_by (fate_cut f) n

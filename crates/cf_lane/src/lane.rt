@@ -9,7 +9,7 @@ ghost use Rattle.cf_view.specs.Octets.{IsOctets};
 ghost use Rattle.cf_lane.specs.Follows.{AddsTo, Began, BeganApart, FailsApart, Follows, FailsWithin, IsEndBehindCut, Rests, rest_of, with_rest, no_rests};
 ghost use Rattle.cf_lane.specs.Handled.{CountsFront, IsLaneOf, LaneValue, Steps, Misses, Grows, CountsBy, HasRoom, IsOpen, MayEnd, EndsOther, WritesLog, cut_in, debt, letters_in, most_counted, state, step_at, step_by};
 ghost use Rattle.cf_lane.specs.History.{Element, letters_at, end_at};
-ghost use Rattle.cf_lane.specs.Judged.{Judged, cut_by, is_admitted, is_refused, one_if};
+ghost use Rattle.cf_lane.specs.Judged.{Judged, fate_cut, is_admitted, is_refused, one_if};
 ghost use Rattle.cf_lane.specs.Rings.{RulesGoOn};
 ghost use Rattle.cf_lane.specs.Kept.{KnowsWire};
 ghost use Rattle.cf_lane.specs.Log.{has_unfinished};
@@ -386,7 +386,7 @@ fn cut_in(step: &Step) -> Option<CutReason>
 
 /// What a unit of so many octets led to by its fate.
 fn step_of(fate: &Fate, used: usize) -> Step
-    ensures { result ≡ step_by (cut_by fate.now) used }
+    ensures { result ≡ step_by (fate_cut fate.now) used }
 {
     match fate {
         Fate::Cuts(reason) => Step::Cut(*reason),

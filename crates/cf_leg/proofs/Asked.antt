@@ -9,7 +9,7 @@ use Rattle.cf_stream.specs.Stream.{Stream, letter_count}
 use Rattle.cf_leg.proofs.Events.{own_same, peer_same}
 use Rattle.cf_leg.proofs.Fixed.{same_speech}
 use Rattle.cf_leg.specs.Asked.{AllAsked, SameAsked, SameCame, SameEnding}
-use Rattle.cf_leg.specs.Emits.{AllRight, Cuts, Greets, IsGreeting, IsRight, cut_by, repeats, rst, syn_ack_for}
+use Rattle.cf_leg.specs.Emits.{AllRight, Cuts, Greets, IsGreeting, IsRight, cut_packet, repeats, rst, syn_ack_for}
 use Rattle.cf_leg.specs.Event.{Came, Nothing, Greeting, Packet, Ending, Unspoken, Spoke, Cut, LegEvent}
 use Rattle.cf_leg.specs.Heard.{offers, opened}
 use Rattle.cf_leg.specs.Timer.{armed, due, tries}
@@ -35,13 +35,13 @@ same_came ends es (Greeting p) (Packet q) g h s = absurd s
 
 same_cut : (ends : Ends) (es : List LegEvent) (e : LegEvent) (p q : PacketValue) → Cuts ends es (record e { ending = Cut p }) p → Cuts ends es (record e { ending = Cut q }) q → p ≡ q
 same_cut ends es e p q h k =
-    h.rst ∙ ap (λ (s : Stream). cut_by ends (record e { ending = Cut p } ∷ es) (letters_sent_at ends.role es e) (letter_count s) ends.role) took
+    h.rst ∙ ap (λ (s : Stream). cut_packet ends (record e { ending = Cut p } ∷ es) (letters_sent_at ends.role es e) (letter_count s) ends.role) took
     ∙ by ends.role ∙ sym k.rst
   where
     took : h.taken ≡ k.taken
     took = same_taken (first_copy (offers ends.role (record e { ending = Cut p } ∷ es))) h.taken k.taken h.is_taken k.is_taken
 
-    by : (r : Role) → cut_by ends (record e { ending = Cut p } ∷ es) (letters_sent_at ends.role es e) (letter_count k.taken) r ≡ cut_by ends (record e { ending = Cut q } ∷ es) (letters_sent_at ends.role es e) (letter_count k.taken) r
+    by : (r : Role) → cut_packet ends (record e { ending = Cut p } ∷ es) (letters_sent_at ends.role es e) (letter_count k.taken) r ≡ cut_packet ends (record e { ending = Cut q } ∷ es) (letters_sent_at ends.role es e) (letter_count k.taken) r
     by (role.Active own) =
         ap (λ (n : ℕ). cond (opened ends.role (record e { ending = Cut p } ∷ es)) (rst ends (sequence_number own (letters_sent_at ends.role es e)) (sequence_number n (letter_count k.taken)) 20) (rst ends (sequence_number own 0) 0 4))
         (peer_same e es (Cut p) ends.role ∙ sym (peer_same e es (Cut q) ends.role))

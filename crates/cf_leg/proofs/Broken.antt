@@ -13,7 +13,7 @@ use Rattle.cf_leg.specs.Calls.{NewBreaks, PieceBreaks, SayingBreaks, SendsNew, S
 use Rattle.cf_leg.specs.Emits.{Pieces}
 use Rattle.cf_leg.specs.Emitted.{BeginsNext, BreaksOff, GetsSegments, spelled, with_segment, with_segments}
 use Rattle.cf_leg.specs.Segment.{segment}
-use Rattle.cf_leg.specs.declared.ends.Told.{Told}
+use Rattle.cf_leg.specs.declared.ends.Advertised.{Advertised}
 use Rattle.cf_leg.specs.declared.ends.Way.{Way}
 use Rattle.cf_leg.proofs.Saying.{all_pieces}
 use Rattle.cf_leg.proofs.Pieces.{count_is, goes_on}
@@ -70,7 +70,7 @@ broken_before now outs more old new h = record {
 
 -- ---- pieces
 
-module _ (way : Way) (t : Told) (mss : ℕ) (some_mss : 0 < mss) (q before after : Queue) (now : ℕ) (old mid new : DeskValue) (p : Piece)
+module _ (way : Way) (t : Advertised) (mss : ℕ) (some_mss : 0 < mss) (q before after : Queue) (now : ℕ) (old mid new : DeskValue) (p : Piece)
     (some : SendsSome way t mss q before.sent now old.packets mid.packets)
     (octets : mid.octets ≡ old.octets)
     (shown : before.shown ≡ q.shown)
@@ -103,7 +103,7 @@ module _ (way : Way) (t : Told) (mss : ℕ) (some_mss : 0 < mss) (q before after
 
 -- ---- what an open leg says
 
-pub new_says : (way : Way) (t : Told) (mss : ℕ) (due : Bool) (q : Queue) (now : ℕ) (old new : DeskValue) → NewBreaks way t mss q now old new → SayingBreaks way t mss due q now old new
+pub new_says : (way : Way) (t : Advertised) (mss : ℕ) (due : Bool) (q : Queue) (now : ℕ) (old new : DeskValue) → NewBreaks way t mss q now old new → SayingBreaks way t mss due q now old new
 new_says way t mss due q now old new h whole s =
     let b = h.breaks whole s in (
       b.0,
@@ -114,7 +114,7 @@ new_says way t mss due q now old new h whole s =
       ),
     )
 
-pub alone_says : (way : Way) (t : Told) (mss : ℕ) (due some : Bool) (q : Queue) (now : ℕ) (old mid new : DeskValue) → some ≡ nat_lt q.sent (min q.shown (queue_length q))
+pub alone_says : (way : Way) (t : Advertised) (mss : ℕ) (due some : Bool) (q : Queue) (now : ℕ) (old mid new : DeskValue) → some ≡ nat_lt q.sent (min q.shown (queue_length q))
     → (due && not some) ≡ true → SendsNew way t mss q now old.packets mid.packets → mid.octets ≡ old.octets
     → BreaksOff now (segment way t (sequence_number way.own q.sent) no_letters ∷ []) mid new → SayingBreaks way t mss due q now old new
 alone_says way t mss true false q now old mid new e k sends octets h whole s = (

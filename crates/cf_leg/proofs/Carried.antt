@@ -12,7 +12,7 @@ use Rattle.cf_leg.specs.Emits.{Pieces, SaysIf, piece}
 use Rattle.cf_leg.specs.OneStream.{CarryAll, first_in, letter_in}
 use Rattle.cf_leg.specs.Segment.{letters_in, segment}
 use Rattle.cf_leg.specs.Told.{letters_sent_by, letters_sent_by_all}
-use Rattle.cf_leg.specs.declared.ends.Told.{Told}
+use Rattle.cf_leg.specs.declared.ends.Advertised.{Advertised}
 use Rattle.cf_leg.specs.declared.ends.Way.{Way}
 
 -- ---- letters and their places
@@ -128,7 +128,7 @@ piece_part s mss edge from l = record {
     by true k = omega arith
     by false k = omega arith
 
-module _ (way : Way) (t : Told) (s whole : Stream) (x : Extends s whole) (mss edge : ℕ) where
+module _ (way : Way) (t : Advertised) (s whole : Stream) (x : Extends s whole) (mss edge : ℕ) where
   pub carry_piece : (from : ℕ) → from < min edge (letter_count s) → Carries whole (pos from) (piece s mss edge from)
   carry_piece from l = carries_on s whole x (pos from) (piece s mss edge from) (part_carries s from _ _ (piece_part s mss edge from l))
 

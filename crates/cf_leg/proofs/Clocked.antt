@@ -26,7 +26,7 @@ use Rattle.cf_leg.specs.declared.ends.ClockAnswer.TheVariants as answers
 use Rattle.cf_leg.specs.declared.ends.Ends.{Ends}
 use Rattle.cf_leg.specs.declared.ends.Role.{Role}
 use Rattle.cf_leg.specs.declared.ends.Role.TheVariants as role
-use Rattle.cf_leg.specs.declared.ends.Told.{Told}
+use Rattle.cf_leg.specs.declared.ends.Advertised.{Advertised}
 use Rattle.cf_leg.specs.declared.ends.Way.{Way}
 
 pub option_or_none : (o : Option PacketValue) → option_or o None ≡ o
@@ -108,8 +108,8 @@ module _ (leg : LegValue) (q : Queue) (now : ℕ) (es : List LegEvent) (settled 
     of_own = h.of_own ∙ sym (own_idle now true outs es leg.ends.role);
     of_other = h.of_other ∙ sym (peer_idle now true outs es leg.ends.role);
     of_mss = h.of_mss ∙ ap send_mss (sym (mss_idle now true outs es leg.ends.role));
-    of_base = h.of_base ∙ ap (λ (u : Told). u.base) (sym t);
-    of_edge = h.of_edge ∙ ap (λ (u : Told). u.edge) (sym t);
+    of_base = h.of_base ∙ ap (λ (u : Advertised). u.base) (sym t);
+    of_edge = h.of_edge ∙ ap (λ (u : Advertised). u.edge) (sym t);
     of_first = λ o g. t ∙ h.of_first (sym (opened_idle now true outs es leg.ends.role) ∙ o) (sym (greeted_idle now true outs es) ∙ g);
     of_window = h.of_window;
     of_sent = h.of_sent ∙ sym c;
@@ -176,7 +176,7 @@ module _ (leg : LegValue) (i : IsLeg leg) (w : IsWindow leg.window) (q : Queue) 
   way_now = ap (λ (n : ℕ). record { source = leg.ends.own; dest = leg.ends.peer; own = n; other = leg.other }) h.of_own
       ∙ ap (λ (n : ℕ). record { source = leg.ends.own; dest = leg.ends.peer; own = own_number leg.ends.role es; other = n }) h.of_other
 
-  form : Way → Told → ℕ → ℕ → ℕ → ℕ → PacketValue
+  form : Way → Advertised → ℕ → ℕ → ℕ → ℕ → PacketValue
   form v t own mss sent from =
       cond (nat_lt from sent) (segment v t (sequence_number own from) (piece (stream_after es) mss sent from)) (segment v t ((own + from) % 2 ^ 32) no_letters)
 
@@ -184,7 +184,7 @@ module _ (leg : LegValue) (i : IsLeg leg) (w : IsWindow leg.window) (q : Queue) 
   unfolding form
   oldest_is =
       ap (λ (v : Way). form v (told_of leg) leg.own leg.mss q.sent q.acked) way_now
-      ∙ ap (λ (t : Told). form (way_of leg.ends es) t leg.own leg.mss q.sent q.acked) told_is
+      ∙ ap (λ (t : Advertised). form (way_of leg.ends es) t leg.own leg.mss q.sent q.acked) told_is
       ∙ ap (λ (n : ℕ). form (way_of leg.ends es) (told leg.ends.role es) n leg.mss q.sent q.acked) h.of_own
       ∙ ap (λ (n : ℕ). form (way_of leg.ends es) (told leg.ends.role es) (own_number leg.ends.role es) n q.sent q.acked) h.of_mss
       ∙ ap (λ (n : ℕ). form (way_of leg.ends es) (told leg.ends.role es) (own_number leg.ends.role es) (send_mss (peer_mss leg.ends.role es)) n q.acked) h.of_sent
@@ -192,7 +192,7 @@ module _ (leg : LegValue) (i : IsLeg leg) (w : IsWindow leg.window) (q : Queue) 
 
   -- an out that tells and carries nothing new for the leg does so for the events
   pub told_same : (out : PacketValue) → told_by leg.other (told_of leg) out ≡ told_of leg → told_by (peer_number leg.ends.role es) (told leg.ends.role es) out ≡ told leg.ends.role es
-  told_same out k = subst (λ (n : ℕ). told_by n (told leg.ends.role es) out ≡ told leg.ends.role es) h.of_other (subst (λ (t : Told). told_by leg.other t out ≡ t) told_is k)
+  told_same out k = subst (λ (n : ℕ). told_by n (told leg.ends.role es) out ≡ told leg.ends.role es) h.of_other (subst (λ (t : Advertised). told_by leg.other t out ≡ t) told_is k)
 
   pub carried_same : (out : PacketValue) → letters_sent_by leg.own q.sent out ≡ q.sent → letters_sent_by (own_number leg.ends.role es) (letters_sent leg.ends.role es) out ≡ letters_sent leg.ends.role es
   carried_same out k = subst (λ (n : ℕ). letters_sent_by n (letters_sent leg.ends.role es) out ≡ letters_sent leg.ends.role es) h.of_own (subst (λ (n : ℕ). letters_sent_by leg.own n out ≡ n) h.of_sent k)
@@ -212,8 +212,8 @@ module _ (leg : LegValue) (i : IsLeg leg) (w : IsWindow leg.window) (q : Queue) 
       by (role.Active own) n t = refl
       by (role.Passive other mss) n t =
           (let zero : place_or_zero (position (sequence_number other 0) other 0) ≡ 0 = ap place_or_zero (position_ahead other 0 0 (omega arith) (omega arith)) in
-          subst (λ (u : Told). ◌≡◌ {A = Told} (record { base = place_or_zero (position (sequence_number leg.other 0) other u.base); edge = place_or_zero (position (sequence_number leg.other 0) other u.base) + 16384 }) u) (sym t)
-          (subst (λ (x : ℕ). ◌≡◌ {A = Told} (record { base = place_or_zero (position (sequence_number x 0) other 0); edge = place_or_zero (position (sequence_number x 0) other 0) + 16384 }) (record { base = 0; edge = 16384 })) (sym n)
+          subst (λ (u : Advertised). ◌≡◌ {A = Advertised} (record { base = place_or_zero (position (sequence_number leg.other 0) other u.base); edge = place_or_zero (position (sequence_number leg.other 0) other u.base) + 16384 }) u) (sym t)
+          (subst (λ (x : ℕ). ◌≡◌ {A = Advertised} (record { base = place_or_zero (position (sequence_number x 0) other 0); edge = place_or_zero (position (sequence_number x 0) other 0) + 16384 }) (record { base = 0; edge = 16384 })) (sym n)
           (ap (λ (b : ℕ). record { base = b; edge = b + 16384 }) zero)))
 
   pub greeting_carries : letters_sent_by (own_number leg.ends.role es) (letters_sent leg.ends.role es) (greeting_of leg) ≡ letters_sent leg.ends.role es

@@ -11,7 +11,7 @@ use Rattle.cf_leg.proofs.Broken.{gets_by}
 use Rattle.cf_leg.proofs.Events.{open_is_greeted, own_same, peer_same}
 use Rattle.cf_leg.proofs.Hears.{phase_greeted, phase_is_open}
 use Rattle.cf_leg.specs.Calls.{CutOff, is_greeted_phase, rst_as, rst_of}
-use Rattle.cf_leg.specs.Emits.{Greets, IsGreeting, IsRight, cut_by, rst}
+use Rattle.cf_leg.specs.Emits.{Greets, IsGreeting, IsRight, cut_packet, rst}
 use Rattle.cf_leg.specs.Emitted.{BreaksOff, with_segment}
 use Rattle.cf_leg.specs.Event.{Came, Nothing, Greeting, Packet, Unspoken, Cut, LegEvent, greeted_by}
 use Rattle.cf_leg.specs.Heard.{opened}
@@ -44,11 +44,11 @@ module _ (leg : LegValue) (q : Queue) (e : LegEvent) (es : List LegEvent) (h : I
   taken_is : base_of leg.window ≡ letter_count h.of_window.taken
   taken_is = sym (ap (λ (b : Bool). length h.of_window.taken.bytes + cond b 1 0) (sym h.of_window.ended) ∙ ap (λ (n : ℕ). n + cond leg.window.ended 1 0) (sym h.of_window.count))
 
-  pub rst_is : rst_of leg q ≡ cut_by leg.ends (record e { ending = Cut out } ∷ es) (letters_sent_at leg.ends.role es e) (letter_count h.of_window.taken) leg.ends.role
+  pub rst_is : rst_of leg q ≡ cut_packet leg.ends (record e { ending = Cut out } ∷ es) (letters_sent_at leg.ends.role es e) (letter_count h.of_window.taken) leg.ends.role
   rst_is = by leg.ends.role h.of_own h.of_other
     where
       by : (r : Role) → leg.own ≡ own_number r (record e { ending = Unspoken } ∷ es) → leg.other ≡ peer_number r (record e { ending = Unspoken } ∷ es)
-          → rst_as leg q r ≡ cut_by leg.ends (record e { ending = Cut out } ∷ es) (letters_sent_at leg.ends.role es e) (letter_count h.of_window.taken) r
+          → rst_as leg q r ≡ cut_packet leg.ends (record e { ending = Cut out } ∷ es) (letters_sent_at leg.ends.role es e) (letter_count h.of_window.taken) r
       by (role.Active n) o p =
           ap (λ (b : Bool). cond b (rst leg.ends (sequence_number leg.own q.sent) (sequence_number leg.other (base_of leg.window)) 20) (rst leg.ends (sequence_number leg.own 0) 0 4)) open_is
           ∙ ap (λ (x : ℕ). cond (opened leg.ends.role (record e { ending = Unspoken } ∷ es)) (rst leg.ends (sequence_number x q.sent) (sequence_number leg.other (base_of leg.window)) 20) (rst leg.ends (sequence_number x 0) 0 4)) o

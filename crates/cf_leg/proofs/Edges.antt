@@ -14,7 +14,7 @@ use Rattle.cf_leg.proofs.Events.{open_is_greeted}
 use Rattle.cf_leg.proofs.Speech.{position_ahead, told_segment}
 use Rattle.cf_leg.proofs.Spoken.{told_said}
 use Rattle.cf_leg.proofs.Streams.{count_grows}
-use Rattle.cf_leg.specs.Emits.{AllRight, EndsBy, Greets, IsGreeting, IsRight, SpeaksOpen, again, cut_by, fired_at, peer_mss, piece, repeat_open, repeats, rst, send_mss, syn_ack_for, to_tell, way_of}
+use Rattle.cf_leg.specs.Emits.{AllRight, EndsBy, Greets, IsGreeting, IsRight, SpeaksOpen, again, cut_packet, fired_at, peer_mss, piece, repeat_open, repeats, rst, send_mss, syn_ack_for, to_tell, way_of}
 use Rattle.cf_leg.specs.Event.{Came, Nothing, Greeting, Packet, Ending, Unspoken, Spoke, Cut, LegEvent, greeted_by, said_by, stream_after}
 use Rattle.cf_leg.specs.Heard.{acked, counts, end_state, offers, offers_by, opened, opens, owed, shown, text_place}
 use Rattle.cf_leg.specs.LegValue.{first_told}
@@ -24,7 +24,7 @@ use Rattle.cf_leg.specs.Told.{greeting, greeting_in, is_greeted, letters_sent, l
 use Rattle.cf_leg.specs.declared.ends.Ends.{Ends}
 use Rattle.cf_leg.specs.declared.ends.Role.{Role}
 use Rattle.cf_leg.specs.declared.ends.Role.TheVariants as role
-use Rattle.cf_leg.specs.declared.ends.Told.{Told}
+use Rattle.cf_leg.specs.declared.ends.Advertised.{Advertised}
 
 -- ---- what holds of what was told, along a list of right events
 pub record TellsUp (ends : Ends) (es : List LegEvent) : Type 0 where
@@ -36,7 +36,7 @@ pub record TellsUp (ends : Ends) (es : List LegEvent) : Type 0 where
   pub none : is_greeted es ≡ false → told ends.role es ≡ record { base = 0; edge = 0 }
 
 -- from one told to the next, where this was offered by then
-record Up (os : List Offer) (t u : Told) : Type 0 where
+record Up (os : List Offer) (t u : Advertised) : Type 0 where
   order : u.base ≤ u.edge
   near : u.edge ≤ u.base + 16384
   base : t.base ≤ u.base
@@ -44,14 +44,14 @@ record Up (os : List Offer) (t u : Told) : Type 0 where
   low : (s : Stream) → IsTaken (first_copy os) s → u.base ≤ letter_count s
 
 -- ---- a greeting
-syn_ack_tells : (ends : Ends) (other number base edge : ℕ) → base ≡ 0 → ◌≡◌ {A = Told} (told_by other (record { base = base; edge = edge }) (syn_ack_for ends other number)) (record { base = 0; edge = 16384 })
+syn_ack_tells : (ends : Ends) (other number base edge : ℕ) → base ≡ 0 → ◌≡◌ {A = Advertised} (told_by other (record { base = base; edge = edge }) (syn_ack_for ends other number)) (record { base = 0; edge = 16384 })
 syn_ack_tells ends other number base edge z =
     let zero : place_or_zero (position (sequence_number other 0) other 0) ≡ 0 = ap place_or_zero (position_ahead other 0 0 (omega arith) (omega arith)) in
-    ap (λ (n : ℕ). let t : Told = record { base = place_or_zero (position (sequence_number other 0) other n); edge = place_or_zero (position (sequence_number other 0) other n) + 16384 } in t) z
-    ∙ ap (λ (n : ℕ). let t : Told = record { base = n; edge = n + 16384 } in t) zero
+    ap (λ (n : ℕ). let t : Advertised = record { base = place_or_zero (position (sequence_number other 0) other n); edge = place_or_zero (position (sequence_number other 0) other n) + 16384 } in t) z
+    ∙ ap (λ (n : ℕ). let t : Advertised = record { base = n; edge = n + 16384 } in t) zero
 
 -- the first one, and one that goes out again, tell the same
-greeting_tells : (ends : Ends) (r : Role) (es : List LegEvent) (p : PacketValue) (t : Told) → IsGreeting ends r p → t.base ≡ 0 → (r ≡ r → t ≡ record { base = 0; edge = 0 } ⊎ t ≡ first_told r) → told_by (peer_number r es) t p ≡ first_told r
+greeting_tells : (ends : Ends) (r : Role) (es : List LegEvent) (p : PacketValue) (t : Advertised) → IsGreeting ends r p → t.base ≡ 0 → (r ≡ r → t ≡ record { base = 0; edge = 0 } ⊎ t ≡ first_told r) → told_by (peer_number r es) t p ≡ first_told r
 greeting_tells ends (role.Active own) es p t k z f = subst (λ (x : PacketValue). told_by (peer_number (role.Active own) es) t x ≡ first_told (role.Active own)) (sym k) (by (f refl))
   where
     by : (t ≡ record { base = 0; edge = 0 }) ⊎ (t ≡ first_told (role.Active own)) → t ≡ first_told (role.Active own)
@@ -85,7 +85,7 @@ module _ (ends : Ends) (es : List LegEvent) (all : AllRight ends es) (h : TellsU
       first o None k = refl
       first o (Some p) k =
           (let t = h.first o (ap is_some k) in
-          greeting_tells ends ends.role es p (told ends.role es) (greeting_right ends es all p k) (ap (λ (u : Told). u.base) t ∙ first_base ends.role) (λ _. inr t) ∙ sym t)
+          greeting_tells ends ends.role es p (told ends.role es) (greeting_right ends es all p k) (ap (λ (u : Advertised). u.base) t ∙ first_base ends.role) (λ _. inr t) ∙ sym t)
 
       of : (b : Bool) → opened ends.role es ≡ b → told_by_all (peer_number ends.role es) (told ends.role es) (cond b (repeat_open ends es ∷ []) (again (greeting es))) ≡ told ends.role es
       of true o = open_tells
@@ -108,7 +108,7 @@ some_last : (o : Option PacketValue) (p : PacketValue) → is_some (option_or o 
 some_last None p = refl
 some_last (Some q) p = refl
 
-cut_tells : (ends : Ends) (es : List LegEvent) (from count : ℕ) (r : Role) (other : ℕ) (t : Told) → told_by other t (cut_by ends es from count r) ≡ t
+cut_tells : (ends : Ends) (es : List LegEvent) (from count : ℕ) (r : Role) (other : ℕ) (t : Advertised) → told_by other t (cut_packet ends es from count r) ≡ t
 cut_tells ends es from count (role.Active own) other t = by (opened ends.role es)
   where
     by : (b : Bool) → told_by other t (cond b (rst ends (sequence_number own from) (sequence_number (peer_number ends.role es) count) 20) (rst ends (sequence_number own 0) 0 4)) ≡ t
@@ -158,7 +158,7 @@ module _ (ends : Ends) (e : LegEvent) (es : List LegEvent) (right : IsRight ends
       by : (c : Came) → first_copy (offers_by (end_state ends.role es e) c (offers ends.role es)) p ≡ Some l → p < (told ends.role es).edge
       by Nothing w = h.high p l w
       by (Greeting q) w = h.high p l w
-      by (Packet q) w = of (counts (end_state ends.role es e) q) (record { at = text_place (end_state ends.role es e) q; text = letters_in q; edge = (told_at ends.role es e).edge }) (ap (λ (t : Told). t.edge) same) w
+      by (Packet q) w = of (counts (end_state ends.role es e) q) (record { at = text_place (end_state ends.role es e) q; text = letters_in q; edge = (told_at ends.role es e).edge }) (ap (λ (t : Advertised). t.edge) same) w
 
   within : (s : Stream) → IsTaken (first_copy (offers ends.role (e ∷ es))) s → letter_count s ≤ (told ends.role es).edge
   within s t =
@@ -181,8 +181,8 @@ module _ (ends : Ends) (e : LegEvent) (es : List LegEvent) (right : IsRight ends
   stays : Up (offers ends.role (e ∷ es)) (told ends.role es) (told ends.role es)
   stays = record { order = h.order; near = h.near; base = omega arith; edge = omega arith; low = above }
 
-  stays_at : (t : Told) → t ≡ told ends.role es → Up (offers ends.role (e ∷ es)) (told ends.role es) t
-  stays_at t k = subst (λ (u : Told). Up (offers ends.role (e ∷ es)) (told ends.role es) u) (sym k) stays
+  stays_at : (t : Advertised) → t ≡ told ends.role es → Up (offers ends.role (e ∷ es)) (told ends.role es) t
+  stays_at t k = subst (λ (u : Advertised). Up (offers ends.role (e ∷ es)) (told ends.role es) u) (sym k) stays
 
   -- a speech that tells how many letters are taken
   moves : (taken : Stream) (roomy : Bool) → IsTaken (first_copy (offers ends.role (e ∷ es))) taken → Up (offers ends.role (e ∷ es)) (told ends.role es) (to_tell (told ends.role es) (letter_count taken) roomy)
@@ -195,7 +195,7 @@ module _ (ends : Ends) (e : LegEvent) (es : List LegEvent) (right : IsRight ends
       by true = (let a = above taken t in record { order = omega arith; near = omega arith; base = a; edge = omega (arith, a, h.near); low = counts_all })
       by false = (let a = above taken t in let w = within taken t in record { order = w; near = omega (arith, a, h.near); base = a; edge = omega arith; low = counts_all })
 
-  said_up : (n : Ending) → EndsBy ends es e n → (t : Told) → t ≡ told ends.role es → Up (offers ends.role (e ∷ es)) (told ends.role es) (told_by_all (peer_number ends.role (e ∷ es)) t (said_by n))
+  said_up : (n : Ending) → EndsBy ends es e n → (t : Advertised) → t ≡ told ends.role es → Up (offers ends.role (e ∷ es)) (told ends.role es) (told_by_all (peer_number ends.role (e ∷ es)) t (said_by n))
   said_up Unspoken g t k = stays_at t k
   said_up (Cut p) g t k = stays_at _ (ap (λ (x : PacketValue). told_by (peer_number ends.role (e ∷ es)) t x) g.rst ∙ cut_tells ends (e ∷ es) _ _ ends.role (peer_number ends.role (e ∷ es)) t ∙ k)
   said_up (Spoke whole roomy outs) g t k = by (opened ends.role (e ∷ es)) g
@@ -206,17 +206,17 @@ module _ (ends : Ends) (e : LegEvent) (es : List LegEvent) (right : IsRight ends
           (let m = moves s.taken roomy s.is_taken in
           let w = within s.taken s.is_taken in
           let low = above s.taken s.is_taken in
-          let at = ap (λ (u : Told). u.base) same in
-          let there = subst (λ (u : Told). Up (offers ends.role (e ∷ es)) (told ends.role es) (to_tell u (letter_count s.taken) roomy)) (sym same) m in
-          subst (λ (u : Told). Up (offers ends.role (e ∷ es)) (told ends.role es) u)
-          (sym (ap (λ (u : Told). told_by_all (peer_number ends.role (e ∷ es)) u outs) (k ∙ sym same)
+          let at = ap (λ (u : Advertised). u.base) same in
+          let there = subst (λ (u : Advertised). Up (offers ends.role (e ∷ es)) (told ends.role es) (to_tell u (letter_count s.taken) roomy)) (sym same) m in
+          subst (λ (u : Advertised). Up (offers ends.role (e ∷ es)) (told ends.role es) u)
+          (sym (ap (λ (u : Advertised). told_by_all (peer_number ends.role (e ∷ es)) u outs) (k ∙ sym same)
           ∙ told_said (way_of ends (e ∷ es)) (told_at ends.role es e) (to_tell (told_at ends.role es e) (letter_count s.taken) roomy) (owed ends.role es e) whole
           (send_mss (peer_mss ends.role (e ∷ es))) (shown ends.role (e ∷ es)) (letters_sent_at ends.role es e) outs
           (omega (arith, at, low)) (omega (arith, at, w, h.near)) there.order s.says))
           there)
 
   -- an end that is not open tells nothing more
-  said_first : (n : Ending) → EndsBy ends es e n → opened ends.role (e ∷ es) ≡ false → (t : Told) → told_by_all (peer_number ends.role (e ∷ es)) t (said_by n) ≡ t
+  said_first : (n : Ending) → EndsBy ends es e n → opened ends.role (e ∷ es) ≡ false → (t : Advertised) → told_by_all (peer_number ends.role (e ∷ es)) t (said_by n) ≡ t
   said_first Unspoken g o t = refl
   said_first (Cut p) g o t = ap (λ (x : PacketValue). told_by (peer_number ends.role (e ∷ es)) t x) g.rst ∙ cut_tells ends (e ∷ es) _ _ ends.role (peer_number ends.role (e ∷ es)) t
   said_first (Spoke whole roomy outs) g o t =
@@ -224,7 +224,7 @@ module _ (ends : Ends) (e : LegEvent) (es : List LegEvent) (right : IsRight ends
       ap (λ (ps : List PacketValue). told_by_all (peer_number ends.role (e ∷ es)) t ps) none)
 
   -- all of the packet half
-  record Then (t : Told) : Type 0 where
+  record Then (t : Advertised) : Type 0 where
     up : Up (offers ends.role (e ∷ es)) (told ends.role es) t
     first : opened ends.role (e ∷ es) ≡ false → is_greeted (e ∷ es) ≡ true → t ≡ first_told ends.role
     none : is_greeted (e ∷ es) ≡ false → t ≡ record { base = 0; edge = 0 }
@@ -241,7 +241,7 @@ module _ (ends : Ends) (e : LegEvent) (es : List LegEvent) (right : IsRight ends
 
   then_quiet : greeted_by e.came ≡ [] → greeting_in e.came ≡ None → Then (told ends.role (e ∷ es))
   then_quiet s n = record {
-    up = subst (λ (u : Told). Up (offers ends.role (e ∷ es)) (told ends.role es) u) (sym is) (said_up e.ending right.ending (told_at ends.role es e) same);
+    up = subst (λ (u : Advertised). Up (offers ends.role (e ∷ es)) (told ends.role es) u) (sym is) (said_up e.ending right.ending (told_at ends.role es e) same);
     first = λ o g. is ∙ said_first e.ending right.ending o (told_at ends.role es e) ∙ same ∙ h.first (open_before o) (sym greeted ∙ g);
     none = λ g. is ∙ said_first e.ending right.ending (closed_unless_greeted g) (told_at ends.role es e) ∙ same ∙ h.none (sym greeted ∙ g);
   }
@@ -254,7 +254,7 @@ module _ (ends : Ends) (e : LegEvent) (es : List LegEvent) (right : IsRight ends
 
   then_greeting : (p : PacketValue) → e.came ≡ Greeting p → Greets ends es (Greeting p) → Then (told ends.role (e ∷ es))
   then_greeting p k g = record {
-    up = subst (λ (u : Told). Up (offers ends.role (e ∷ es)) (told ends.role es) u) (sym is) (begins ends.role);
+    up = subst (λ (u : Advertised). Up (offers ends.role (e ∷ es)) (told ends.role es) u) (sym is) (begins ends.role);
     first = λ o m. is;
     none = λ m. absurd (true≢false (sym greets ∙ m));
   }
@@ -278,13 +278,13 @@ module _ (ends : Ends) (e : LegEvent) (es : List LegEvent) (right : IsRight ends
       is =
           ap (λ (c : Came). told_by_all (peer_number ends.role (e ∷ es)) (told_at ends.role es e) (greeted_by c ++ said_by e.ending)) k
           ∙ said_first e.ending right.ending closed (told_by (peer_number ends.role (e ∷ es)) (told_at ends.role es e) p)
-          ∙ greeting_tells ends ends.role (e ∷ es) p (told_at ends.role es e) g.0 (ap (λ (u : Told). u.base) at_zero) (λ _. inl at_zero)
+          ∙ greeting_tells ends ends.role (e ∷ es) p (told_at ends.role es e) g.0 (ap (λ (u : Advertised). u.base) at_zero) (λ _. inl at_zero)
 
       base_zero : (told ends.role es).base ≡ 0
-      base_zero = ap (λ (u : Told). u.base) zero
+      base_zero = ap (λ (u : Advertised). u.base) zero
 
       edge_zero : (told ends.role es).edge ≡ 0
-      edge_zero = ap (λ (u : Told). u.edge) zero
+      edge_zero = ap (λ (u : Advertised). u.edge) zero
 
       begins : (r : Role) → Up (offers ends.role (e ∷ es)) (told ends.role es) (first_told r)
       begins (role.Active own) = record { order = omega arith; near = omega arith; base = omega (arith, base_zero); edge = omega (arith, edge_zero); low = λ s t. omega arith }

@@ -13,17 +13,17 @@ use Rattle.cf_leg.specs.Heard.{opened, owed, shown, offers}
 use Rattle.cf_leg.specs.Segment.{segment}
 use Rattle.cf_leg.specs.Told.{told_at, letters_sent_at, own_number, peer_number}
 use Rattle.cf_leg.specs.declared.ends.Ends.{Ends}
-use Rattle.cf_leg.specs.declared.ends.Told.{Told}
+use Rattle.cf_leg.specs.declared.ends.Advertised.{Advertised}
 use Rattle.cf_leg.specs.declared.ends.Way.{Way}
 
-pub same_pieces : (way : Way) (t : Told) (whole : Stream) (mss edge from : ℕ) (xs ys : List PacketValue) → Pieces way t whole mss edge from xs → Pieces way t whole mss edge from ys → xs ≡ ys
+pub same_pieces : (way : Way) (t : Advertised) (whole : Stream) (mss edge from : ℕ) (xs ys : List PacketValue) → Pieces way t whole mss edge from xs → Pieces way t whole mss edge from ys → xs ≡ ys
 same_pieces way t whole mss edge from [] [] h k = refl
 same_pieces way t whole mss edge from [] (y ∷ ys) h k = absurd (omega (arith, h, k.0))
 same_pieces way t whole mss edge from (x ∷ xs) [] h k = absurd (omega (arith, k, h.0))
 same_pieces way t whole mss edge from (x ∷ xs) (y ∷ ys) h k =
     ap (λ (p : PacketValue). p ∷ xs) (h.1 ∙ sym k.1) ∙ ap (λ (ps : List PacketValue). y ∷ ps) (same_pieces way t whole mss edge (from + letter_count (piece whole mss edge from)) xs ys h.2 k.2)
 
-same_says : (b : Bool) (way : Way) (t : Told) (d : List PacketValue) (whole : Stream) (mss edge from : ℕ) (xs ys : List PacketValue)
+same_says : (b : Bool) (way : Way) (t : Advertised) (d : List PacketValue) (whole : Stream) (mss edge from : ℕ) (xs ys : List PacketValue)
     → MatchBool b (Pieces way t whole mss edge from xs) (xs ≡ d) → MatchBool b (Pieces way t whole mss edge from ys) (ys ≡ d) → xs ≡ ys
 same_says true way t d whole mss edge from xs ys h k = same_pieces way t whole mss edge from xs ys h k
 same_says false way t d whole mss edge from xs ys h k = h ∙ sym k

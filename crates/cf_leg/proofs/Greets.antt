@@ -26,7 +26,7 @@ use Rattle.cf_leg.specs.declared.ends.Ends.{Ends}
 use Rattle.cf_leg.specs.declared.ends.Phase.TheVariants as phase
 use Rattle.cf_leg.specs.declared.ends.Role.{Role}
 use Rattle.cf_leg.specs.declared.ends.Role.TheVariants as role
-use Rattle.cf_leg.specs.declared.ends.Told.{Told}
+use Rattle.cf_leg.specs.declared.ends.Advertised.{Advertised}
 
 -- ---- a new leg stands for no events
 pub made_stands : (ends : Ends) (own other mss : ℕ) (leg : LegValue) → own ≡ own_number ends.role [] → other ≡ peer_number ends.role [] → mss ≡ send_mss (peer_mss ends.role [])
@@ -105,12 +105,12 @@ module _ (leg : LegValue) (i : IsLeg leg) (w : IsWindow leg.window) (m : Marks) 
   right (role.Active k) o n = ap (λ (x : ℕ). syn leg.ends x) o
   right (role.Passive other mss) o n = ap (λ (x : ℕ). syn_ack_for leg.ends x number) n
 
-  told_then : (r : Role) → leg.other ≡ peer_number r es → (T : Told) → T ≡ record { base = 0; edge = 0 }
+  told_then : (r : Role) → leg.other ≡ peer_number r es → (T : Advertised) → T ≡ record { base = 0; edge = 0 }
       → told_by (peer_number r (record e { came = Greeting (greeting_as leg.ends number leg.other r); ending = Unspoken } ∷ es)) T (greeting_as leg.ends number leg.other r) ≡ first_told r
   told_then (role.Active k) n T z = z
   told_then (role.Passive other mss) n T z =
-      subst (λ (u : Told). ◌≡◌ {A = Told} (record { base = place_or_zero (position (sequence_number leg.other 0) other u.base); edge = place_or_zero (position (sequence_number leg.other 0) other u.base) + 16384 }) (record { base = 0; edge = 16384 })) (sym z)
-      (subst (λ (x : ℕ). ◌≡◌ {A = Told} (record { base = place_or_zero (position (sequence_number x 0) other 0); edge = place_or_zero (position (sequence_number x 0) other 0) + 16384 }) (record { base = 0; edge = 16384 })) (sym n)
+      subst (λ (u : Advertised). ◌≡◌ {A = Advertised} (record { base = place_or_zero (position (sequence_number leg.other 0) other u.base); edge = place_or_zero (position (sequence_number leg.other 0) other u.base) + 16384 }) (record { base = 0; edge = 16384 })) (sym z)
+      (subst (λ (x : ℕ). ◌≡◌ {A = Advertised} (record { base = place_or_zero (position (sequence_number x 0) other 0); edge = place_or_zero (position (sequence_number x 0) other 0) + 16384 }) (record { base = 0; edge = 16384 })) (sym n)
       (ap (λ (b : ℕ). record { base = b; edge = b + 16384 }) (ap place_or_zero (position_ahead other 0 0 (omega arith) (omega arith)))))
 
   told_first : told leg.ends.role (record e { came = Greeting (greeting_as leg.ends number leg.other leg.ends.role); ending = Unspoken } ∷ es) ≡ first_told leg.ends.role
@@ -139,8 +139,8 @@ module _ (leg : LegValue) (i : IsLeg leg) (w : IsWindow leg.window) (m : Marks) 
     of_own = own_is leg.ends.role own;
     of_other = h.of_other ∙ peer_is leg.ends.role (greeting_as leg.ends number leg.other leg.ends.role);
     of_mss = h.of_mss ∙ ap send_mss (mss_is leg.ends.role (greeting_as leg.ends number leg.other leg.ends.role));
-    of_base = base_first leg.ends.role ∙ ap (λ (t : Told). t.base) (sym told_first);
-    of_edge = edge_first leg.ends.role ∙ ap (λ (t : Told). t.edge) (sym told_first);
+    of_base = base_first leg.ends.role ∙ ap (λ (t : Advertised). t.base) (sym told_first);
+    of_edge = edge_first leg.ends.role ∙ ap (λ (t : Advertised). t.edge) (sym told_first);
     of_first = λ o g. told_first;
     of_window = window_first leg.ends.role (offers leg.ends.role es) h.of_window;
     of_sent = h.of_sent ∙ carries leg.ends.role (letters_sent_at leg.ends.role es e) (own_number leg.ends.role (record e { came = Greeting (greeting_as leg.ends number leg.other leg.ends.role); ending = Unspoken } ∷ es));

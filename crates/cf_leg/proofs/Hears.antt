@@ -30,7 +30,7 @@ use Rattle.cf_leg.specs.declared.ends.Phase.TheVariants as phase
 use Rattle.cf_leg.specs.declared.ends.EndState.{EndState}
 use Rattle.cf_leg.specs.declared.ends.Role.{Role}
 use Rattle.cf_leg.specs.declared.ends.Role.TheVariants as role
-use Rattle.cf_leg.specs.declared.ends.Told.{Told}
+use Rattle.cf_leg.specs.declared.ends.Advertised.{Advertised}
 
 -- ---- the place is that of the definitions
 pub phase_greeted : (o g : Bool) → (o ≡ true → g ≡ true) → is_greeted_phase (phase_of o g) ≡ g
@@ -66,7 +66,7 @@ module _ (leg : LegValue) (q : Queue) (e : LegEvent) (es : List LegEvent) (h : I
       ∙ ap (λ (b : Bool). record { role = leg.ends.role; is_greeted = is_greeted es; is_open = b; own = leg.own; other = leg.other; told = told_of leg; sent = q.sent }) open_now
       ∙ ap (λ (n : ℕ). record { role = leg.ends.role; is_greeted = is_greeted es; is_open = opened leg.ends.role es; own = n; other = leg.other; told = told_of leg; sent = q.sent }) own_now
       ∙ ap (λ (n : ℕ). record { role = leg.ends.role; is_greeted = is_greeted es; is_open = opened leg.ends.role es; own = own_number leg.ends.role es; other = n; told = told_of leg; sent = q.sent }) other_now
-      ∙ ap (λ (t : Told). record { role = leg.ends.role; is_greeted = is_greeted es; is_open = opened leg.ends.role es; own = own_number leg.ends.role es; other = peer_number leg.ends.role es; told = t; sent = q.sent })
+      ∙ ap (λ (t : Advertised). record { role = leg.ends.role; is_greeted = is_greeted es; is_open = opened leg.ends.role es; own = own_number leg.ends.role es; other = peer_number leg.ends.role es; told = t; sent = q.sent })
       (parts_told leg.base leg.window.edge 0 0 (told leg.ends.role (record e { came = Nothing; ending = Unspoken } ∷ es)) h.of_base h.of_edge)
       ∙ ap (λ (n : ℕ). record { role = leg.ends.role; is_greeted = is_greeted es; is_open = opened leg.ends.role es; own = own_number leg.ends.role es; other = peer_number leg.ends.role es; told = told_at leg.ends.role es e; sent = n }) h.of_sent
 

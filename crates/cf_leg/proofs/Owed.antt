@@ -15,10 +15,10 @@ use Rattle.cf_leg.specs.Heard.{offers, opened, owed, shown}
 use Rattle.cf_leg.specs.Segment.{letters_of, segment}
 use Rattle.cf_leg.specs.Told.{letters_sent_at, told_at}
 use Rattle.cf_leg.specs.declared.ends.Ends.{Ends}
-use Rattle.cf_leg.specs.declared.ends.Told.{Told}
+use Rattle.cf_leg.specs.declared.ends.Advertised.{Advertised}
 use Rattle.cf_leg.specs.declared.ends.Way.{Way}
 
-module _ (way : Way) (t : Told) (s : Stream) (mss edge : ℕ) (m : 0 < mss) where
+module _ (way : Way) (t : Advertised) (s : Stream) (mss edge : ℕ) (m : 0 < mss) where
   pieces_full : (from : ℕ) (outs : List PacketValue) → Pieces way t s mss edge from outs → empties outs ≡ 0
   pieces_full from [] h = refl
   pieces_full from (p ∷ ps) h =

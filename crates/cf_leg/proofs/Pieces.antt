@@ -14,7 +14,7 @@ use Rattle.cf_leg.specs.Calls.{SaysTo, SendsPiece, SendsSome, SendsNew}
 use Rattle.cf_leg.specs.Emits.{Pieces, piece}
 use Rattle.cf_leg.specs.Emitted.{with_segment, with_segments}
 use Rattle.cf_leg.specs.Segment.{segment}
-use Rattle.cf_leg.specs.declared.ends.Told.{Told}
+use Rattle.cf_leg.specs.declared.ends.Advertised.{Advertised}
 use Rattle.cf_leg.specs.declared.ends.Way.{Way}
 
 same_end : (x a : Bool) (n m l : ℕ) → (IsTrue x ↔ (IsTrue a × (n ≡ m) × (m < l))) → x ≡ (a && ((n == m) && nat_lt m l))
@@ -42,7 +42,7 @@ module _ (q : Queue) (whole : Stream) (h : IsQueueOf q whole) (mss from limit : 
   pub piece_is : carried whole p ≡ piece whole mss limit from
   piece_is = rw (i.at, end_is, len_is) refl
 
-pub starts_none : (way : Way) (t : Told) (mss : ℕ) (q : Queue) (now : ℕ) (old : Option (List SentValue)) → SendsSome way t mss q q.sent now old old
+pub starts_none : (way : Way) (t : Advertised) (mss : ℕ) (q : Queue) (now : ℕ) (old : Option (List SentValue)) → SendsSome way t mss q q.sent now old old
 starts_none way t mss q now old = record { outs = []; packets = refl; none = λ e. refl; pieces = λ whole s more h. h }
 
 -- where there is a piece, a letter is left
@@ -68,7 +68,7 @@ module _ (q : Queue) (whole : Stream) (h : IsQueueOf q whole) (mss from limit : 
       let fits : p.len ≤ length (drop (place_or_zero p.at) whole.bytes) = rw i.at (simp length-drop (omega (arith, len_is q whole h mss from limit p i))) in
       ap (λ (u : Stream). letter_count u) (sym (piece_is q whole h mss from limit p i)) ∙ (ap (λ (n : ℕ). n + cond p.end 1 0) (length-take p.len (drop (place_or_zero p.at) whole.bytes) ∙ omega (arith, fits)))
 
-module _ (way : Way) (t : Told) (mss : ℕ) (q before after : Queue) (now : ℕ) (old mid new : Option (List SentValue)) (p : Piece)
+module _ (way : Way) (t : Advertised) (mss : ℕ) (q before after : Queue) (now : ℕ) (old mid new : Option (List SentValue)) (p : Piece)
     (some : SendsSome way t mss q before.sent now old mid)
     (shown : before.shown ≡ q.shown)
     (low : q.sent ≤ before.sent)
@@ -112,7 +112,7 @@ module _ (way : Way) (t : Told) (mss : ℕ) (q before after : Queue) (now : ℕ)
     pieces = goes_on;
   }
 
-pub sends_all : (way : Way) (t : Told) (mss : ℕ) (q : Queue) (now sent : ℕ) (old new : Option (List SentValue)) → SendsSome way t mss q sent now old new
+pub sends_all : (way : Way) (t : Advertised) (mss : ℕ) (q : Queue) (now sent : ℕ) (old new : Option (List SentValue)) → SendsSome way t mss q sent now old new
     → min q.shown (queue_length q) ≤ sent → q.sent ≤ sent → sent ≤ max q.sent (min q.shown (queue_length q)) → SendsNew way t mss q now old new
 sends_all way t mss q now sent old new some none low high = record {
   none = λ l. some.none (omega (arith, l, low, high));
@@ -125,7 +125,7 @@ pub count_is : (q : Queue) (whole : Stream) → IsQueueOf q whole → queue_leng
 count_is q whole s = ap (λ (n : ℕ). n + cond q.ended 1 0) s.pushed ∙ ap (λ (b : Bool). length whole.bytes + cond b 1 0) s.ended
 
 -- what was said
-pub says_of : (way : Way) (t : Told) (mss : ℕ) (due : Bool) (q : Queue) (now : ℕ) (old mid new : Option (List SentValue)) (some : Bool)
+pub says_of : (way : Way) (t : Advertised) (mss : ℕ) (due : Bool) (q : Queue) (now : ℕ) (old mid new : Option (List SentValue)) (some : Bool)
     → some ≡ nat_lt q.sent (min q.shown (queue_length q)) → SendsNew way t mss q now old mid
     → new ≡ with_segments mid now (cond (due && not some) (segment way t (sequence_number way.own q.sent) no_letters ∷ []) [])
     → SaysTo way t mss due q now old new

@@ -9,10 +9,10 @@ use Rattle.cf_leg.proofs.Speech.{carried_segment, piece_short}
 use Rattle.cf_leg.specs.Emits.{Pieces, SaysIf, piece}
 use Rattle.cf_leg.specs.Segment.{segment}
 use Rattle.cf_leg.specs.Told.{letters_sent_by, letters_sent_by_all}
-use Rattle.cf_leg.specs.declared.ends.Told.{Told}
+use Rattle.cf_leg.specs.declared.ends.Advertised.{Advertised}
 use Rattle.cf_leg.specs.declared.ends.Way.{Way}
 
-carried_all : (way : Way) (t : Told) (whole : Stream) (mss edge from : ℕ) (outs : List PacketValue) → Pieces way t whole mss edge from outs → letters_sent_by_all way.own from outs ≡ max from (min edge (letter_count whole))
+carried_all : (way : Way) (t : Advertised) (whole : Stream) (mss edge from : ℕ) (outs : List PacketValue) → Pieces way t whole mss edge from outs → letters_sent_by_all way.own from outs ≡ max from (min edge (letter_count whole))
 carried_all way t whole mss edge from [] h = omega (arith, h)
 carried_all way t whole mss edge from (p ∷ ps) h =
     let one : letters_sent_by way.own from p ≡ from + letter_count (piece whole mss edge from) =
@@ -20,7 +20,7 @@ carried_all way t whole mss edge from (p ∷ ps) h =
     let short = piece_short whole mss edge from h.0 in
     rw one (carried_all way t whole mss edge (from + letter_count (piece whole mss edge from)) ps h.2 ∙ omega (arith, short, h.0))
 
-pub carried_after : (way : Way) (t : Told) (due : Bool) (whole : Stream) (mss edge from : ℕ) (outs : List PacketValue) → SaysIf way t due whole mss edge from outs → letters_sent_by_all way.own from outs ≡ max from (min edge (letter_count whole))
+pub carried_after : (way : Way) (t : Advertised) (due : Bool) (whole : Stream) (mss edge from : ℕ) (outs : List PacketValue) → SaysIf way t due whole mss edge from outs → letters_sent_by_all way.own from outs ≡ max from (min edge (letter_count whole))
 carried_after way t due whole mss edge from outs h = by (nat_lt from (min edge (letter_count whole))) refl h
   where
     after : (d : Bool) → letters_sent_by_all way.own from (cond d (segment way t (sequence_number way.own from) no_letters ∷ []) []) ≡ from

@@ -7,7 +7,7 @@ use Rattle.cf_stream.specs.Position.{sequence_number}
 use Rattle.cf_stream.specs.Stream.{Stream, letter_count}
 use Rattle.cf_leg.specs.Emits.{Pieces, piece, send_mss}
 use Rattle.cf_leg.specs.Segment.{segment}
-use Rattle.cf_leg.specs.declared.ends.Told.{Told}
+use Rattle.cf_leg.specs.declared.ends.Advertised.{Advertised}
 use Rattle.cf_leg.specs.declared.ends.Way.{Way}
 
 pub send_mss_some : (o : Option ℕ) → 0 < send_mss o
@@ -36,7 +36,7 @@ piece_some s mss edge from m l = by s.ended refl l
             not_there e = elim (cases_lt 0 (min mss (min edge (length s.bytes) - from))) [ inl v ↦ v | inr v ↦ absurd (eqb-false (from + min mss (min edge (length s.bytes) - from)) (length s.bytes) e (omega (arith, h, m, v))) ]
 
 -- from each place on there are pieces
-module _ (way : Way) (t : Told) (whole : Stream) (mss edge : ℕ) (some : 0 < mss) where
+module _ (way : Way) (t : Advertised) (whole : Stream) (mss edge : ℕ) (some : 0 < mss) where
   pub all_pieces : (fuel from : ℕ) → min edge (letter_count whole) ≤ from + fuel → (outs : List PacketValue) × Pieces way t whole mss edge from outs
   all_pieces zero from h = ([], omega (arith, h))
   all_pieces (suc n) from h =

@@ -10,7 +10,7 @@ use Rattle.cf_leg.proofs.Carried.{at_inside, carries_none, carry_piece, carry_sa
 use Rattle.cf_leg.proofs.Clocked.{greeting_right}
 use Rattle.cf_leg.proofs.Reach.{carried_after}
 use Rattle.cf_leg.proofs.Speech.{piece_short, position_behind, segment_letters, segment_stream}
-use Rattle.cf_leg.specs.Emits.{AllRight, EndsBy, Greets, IsGreeting, IsRight, SpeaksOpen, again, cut_by, fired_at, peer_mss, piece, repeat_open, repeats, rst, send_mss, way_of}
+use Rattle.cf_leg.specs.Emits.{AllRight, EndsBy, Greets, IsGreeting, IsRight, SpeaksOpen, again, cut_packet, fired_at, peer_mss, piece, repeat_open, repeats, rst, send_mss, way_of}
 use Rattle.cf_leg.specs.Event.{Came, Nothing, Greeting, Packet, Ending, Unspoken, Spoke, Cut, LegEvent, greeted_by, said_by, sent_in, stream_after, stream_at}
 use Rattle.cf_leg.specs.Heard.{acked, opened, shown}
 use Rattle.cf_leg.specs.OneStream.{CarryAll, first_in, letter_in}
@@ -87,7 +87,7 @@ greeting_empty : (ends : Ends) (r : Role) (p : PacketValue) → IsGreeting ends 
 greeting_empty ends (role.Active own) p h = ap letters_in h
 greeting_empty ends (role.Passive other mss) p h = ap letters_in h
 
-cut_empty : (ends : Ends) (es : List LegEvent) (from count : ℕ) (r : Role) → letters_in (cut_by ends es from count r) ≡ no_letters
+cut_empty : (ends : Ends) (es : List LegEvent) (from count : ℕ) (r : Role) → letters_in (cut_packet ends es from count r) ≡ no_letters
 cut_empty ends es from count (role.Active own) = by (opened ends.role es)
   where
     by : (b : Bool) → letters_in (cond b (rst ends (sequence_number own from) (sequence_number (peer_number ends.role es) count) 20) (rst ends (sequence_number own 0) 0 4)) ≡ no_letters

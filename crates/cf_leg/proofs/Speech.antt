@@ -9,7 +9,7 @@ use Rattle.cf_stream.specs.Stream.{Stream, letter_count}
 use Rattle.cf_leg.specs.Emits.{Pieces, piece}
 use Rattle.cf_leg.specs.Segment.{segment, has_ack, has_rst, letters_in, letters_of}
 use Rattle.cf_leg.specs.Told.{told_by, told_by_all, letters_sent_by, letters_sent_by_all}
-use Rattle.cf_leg.specs.declared.ends.Told.{Told}
+use Rattle.cf_leg.specs.declared.ends.Advertised.{Advertised}
 use Rattle.cf_leg.specs.declared.ends.Way.{Way}
 
 -- a place from a base on is read as itself
@@ -50,7 +50,7 @@ fin_bit true false = refl
 fin_bit false true = refl
 fin_bit false false = refl
 
-module _ (way : Way) (t : Told) (number : ℕ) (s : Stream) where
+module _ (way : Way) (t : Advertised) (number : ℕ) (s : Stream) where
   segment_ack : has_ack (segment way t number s) ≡ true
   segment_ack = ack_bit (length s.bytes == 0) s.ended
 
@@ -64,7 +64,7 @@ module _ (way : Way) (t : Told) (number : ℕ) (s : Stream) where
   segment_stream = ap (λ (b : Bool). let r : Stream = record { bytes = s.bytes; ended = b } in r) (fin_bit (length s.bytes == 0) s.ended)
 
   -- it tells what it was given to tell
-  pub told_segment : (b : Told) → b.base ≤ t.base → t.base < b.base + 2 ^ 31 → t.base ≤ t.edge → told_by way.other b (segment way t number s) ≡ t
+  pub told_segment : (b : Advertised) → b.base ≤ t.base → t.base < b.base + 2 ^ 31 → t.base ≤ t.edge → told_by way.other b (segment way t number s) ≡ t
   told_segment b low high e =
       let tells : (has_ack (segment way t number s) && not (has_rst (segment way t number s))) ≡ true = rw (segment_ack, segment_rst) refl in
       let at = position_ahead way.other b.base t.base low high in
@@ -99,7 +99,7 @@ module _ (whole : Stream) (mss edge from : ℕ) where
         | inr e ↦ (let some = rw e at l in rw (e, length-take, length-drop) (omega (arith, some)))
       ]
 
-module _ (way : Way) (t : Told) (whole : Stream) (mss edge : ℕ) (e : t.base ≤ t.edge) where
+module _ (way : Way) (t : Advertised) (whole : Stream) (mss edge : ℕ) (e : t.base ≤ t.edge) where
   -- once a piece told it, the others tell the same
   pub told_again : (from : ℕ) (outs : List PacketValue) → Pieces way t whole mss edge from outs → told_by_all way.other t outs ≡ t
   told_again from [] h = refl
@@ -107,7 +107,7 @@ module _ (way : Way) (t : Told) (whole : Stream) (mss edge : ℕ) (e : t.base �
       let one : told_by way.other t p ≡ t = rw h.1 (told_segment way t (sequence_number way.own from) (piece whole mss edge from) t (omega arith) (omega arith) e) in
       rw one (told_again (from + letter_count (piece whole mss edge from)) ps h.2)
 
-  pub told_pieces : (b : Told) (from : ℕ) (outs : List PacketValue) → b.base ≤ t.base → t.base < b.base + 2 ^ 31
+  pub told_pieces : (b : Advertised) (from : ℕ) (outs : List PacketValue) → b.base ≤ t.base → t.base < b.base + 2 ^ 31
       → from < min edge (letter_count whole) → Pieces way t whole mss edge from outs → told_by_all way.other b outs ≡ t
   told_pieces b from [] low high some h = absurd (omega (arith, some, h))
   told_pieces b from (p ∷ ps) low high some h =

@@ -23,7 +23,7 @@ use Rattle.cf_leg.specs.Segment.{segment}
 use Rattle.cf_leg.specs.LegValue.{LegValue, IsLeg, IsLegOf, first_told, arms, is_open, marks, phase_of, told_of, way_at}
 use Rattle.cf_leg.specs.Told.{told, told_at, letters_sent, letters_sent_at, told_by_all, letters_sent_by_all, is_greeted, own_number, peer_number}
 use Rattle.cf_leg.specs.declared.ends.Phase.{Phase}
-use Rattle.cf_leg.specs.declared.ends.Told.{Told}
+use Rattle.cf_leg.specs.declared.ends.Advertised.{Advertised}
 use Rattle.cf_leg.specs.declared.ends.Way.{Way}
 
 -- ---- where nothing differs, the same was told
@@ -35,7 +35,7 @@ not_false : (a : Bool) → not a ≡ false → a ≡ true
 not_false true h = refl
 not_false false h = absurd (true≢false h)
 
-pub same_told : (t u : Told) → differs t u ≡ false → t ≡ u
+pub same_told : (t u : Advertised) → differs t u ≡ false → t ≡ u
 same_told t u h =
     let k = or_false (not (t.base == u.base)) (not (t.edge == u.edge)) h in
     let base = eqb-true t.base u.base (not_false (t.base == u.base) k.0) in
@@ -43,7 +43,7 @@ same_told t u h =
     ap (λ (n : ℕ). record { base = n; edge = t.edge }) base ∙ ap (λ (n : ℕ). record { base = u.base; edge = n }) edge
 
 -- ---- what was said, read again
-module _ (way : Way) (b t : Told) (owes : Bool) (whole : Stream) (mss shown sent : ℕ) (outs : List PacketValue)
+module _ (way : Way) (b t : Advertised) (owes : Bool) (whole : Stream) (mss shown sent : ℕ) (outs : List PacketValue)
     (low : b.base ≤ t.base) (high : t.base < b.base + 2 ^ 31) (e : t.base ≤ t.edge) where
   pub told_said : SaysIf way t (owes || differs b t) whole mss shown sent outs → told_by_all way.other b outs ≡ t
   told_said h = by (nat_lt sent (min shown (letter_count whole))) refl h
@@ -121,7 +121,7 @@ still_arms true true g g0 a a0 n n0 l k h = absurd (by (nat_lt a n0) (nat_lt a0 
     by false y e f m = false≢true m
 
 -- ---- the step
-pub parts_told : (b n t u : ℕ) (T : Told) → b ≡ T.base → n ≡ T.edge → ◌≡◌ {A = Told} (record { base = b; edge = n }) T
+pub parts_told : (b n t u : ℕ) (T : Advertised) → b ≡ T.base → n ≡ T.edge → ◌≡◌ {A = Advertised} (record { base = b; edge = n }) T
 parts_told b n t u T e f = ap (λ (x : ℕ). record { base = x; edge = n }) e ∙ ap (λ (x : ℕ). record { base = T.base; edge = x }) f
 
 module _ (leg : LegValue) (i : IsLeg leg) (w : IsWindow leg.window) (q : Queue) (roomy : Bool) (now : ℕ) (e : LegEvent) (es : List LegEvent) (whole : Stream) (outs : List PacketValue)
@@ -164,11 +164,11 @@ module _ (leg : LegValue) (i : IsLeg leg) (w : IsWindow leg.window) (q : Queue) 
   carried_before o = h.of_sent ∙ ap (λ (ps : List PacketValue). letters_sent_by_all (own_number leg.ends.role (record e { ending = Unspoken } ∷ es)) (letters_sent_at leg.ends.role es e) (ps ++ [])) (quiet o)
 
   -- and after it
-  told_after : (n : Told) (o : opened leg.ends.role (record e { ending = Unspoken } ∷ es) ≡ true) → told_by_all leg.other (told_of leg) outs ≡ n → told leg.ends.role (record e { ending = Spoke whole roomy outs } ∷ es) ≡ n
+  told_after : (n : Advertised) (o : opened leg.ends.role (record e { ending = Unspoken } ∷ es) ≡ true) → told_by_all leg.other (told_of leg) outs ≡ n → told leg.ends.role (record e { ending = Spoke whole roomy outs } ∷ es) ≡ n
   told_after n o k =
       ap (λ (ps : List PacketValue). told_by_all (peer_number leg.ends.role (record e { ending = Spoke whole roomy outs } ∷ es)) (told_at leg.ends.role es e) (ps ++ outs)) (quiet o)
       ∙ ap (λ (x : ℕ). told_by_all x (told_at leg.ends.role es e) outs) (peer_same (record e { ending = Unspoken }) es (Spoke whole roomy outs) leg.ends.role ∙ sym h.of_other)
-      ∙ ap (λ (x : Told). told_by_all leg.other x outs) (sym (told_before o)) ∙ k
+      ∙ ap (λ (x : Advertised). told_by_all leg.other x outs) (sym (told_before o)) ∙ k
 
   carried_after : (n : ℕ) (o : opened leg.ends.role (record e { ending = Unspoken } ∷ es) ≡ true) → letters_sent_by_all leg.own q.sent outs ≡ n → letters_sent leg.ends.role (record e { ending = Spoke whole roomy outs } ∷ es) ≡ n
   carried_after n o k =
@@ -216,8 +216,8 @@ module _ (leg : LegValue) (i : IsLeg leg) (w : IsWindow leg.window) (q : Queue) 
   module _ (o : opened leg.ends.role (record e { ending = Unspoken } ∷ es) ≡ true)
       (says : SaysIf (way_at leg) (to_tell (told_of leg) (base_of leg.window) roomy) (leg.owes || differs (told_of leg) (to_tell (told_of leg) (base_of leg.window) roomy)) whole leg.mss q.shown q.sent outs)
       (window : IsWindowOf (record leg.window { edge = (to_tell (told_of leg) (base_of leg.window) roomy).edge }) (offers leg.ends.role (record e { ending = Unspoken } ∷ es))) where
-    tell_is : ◌≡◌ {A = Told} (to_tell (told_of leg) (base_of leg.window) roomy) (to_tell (told_at leg.ends.role es e) (letter_count h.of_window.taken) roomy)
-    tell_is = ap (λ (t : Told). to_tell t (base_of leg.window) roomy) (told_before o) ∙ ap (λ (n : ℕ). to_tell (told_at leg.ends.role es e) n roomy) (sym taken_is)
+    tell_is : ◌≡◌ {A = Advertised} (to_tell (told_of leg) (base_of leg.window) roomy) (to_tell (told_at leg.ends.role es e) (letter_count h.of_window.taken) roomy)
+    tell_is = ap (λ (t : Advertised). to_tell t (base_of leg.window) roomy) (told_before o) ∙ ap (λ (n : ℕ). to_tell (told_at leg.ends.role es e) n roomy) (sym taken_is)
 
     speaks_open : SpeaksOpen leg.ends es (record e { ending = Spoke whole roomy outs }) whole roomy outs
     speaks_open = record {
@@ -229,8 +229,8 @@ module _ (leg : LegValue) (i : IsLeg leg) (w : IsWindow leg.window) (q : Queue) 
           (subst (λ (n : ℕ). Says (way_at leg) (told_at leg.ends.role es e) (to_tell (told_at leg.ends.role es e) (letter_count h.of_window.taken) roomy) (owed leg.ends.role es e) whole leg.mss n (letters_sent_at leg.ends.role es e) outs) h.of_shown
           (subst (λ (n : ℕ). Says (way_at leg) (told_at leg.ends.role es e) (to_tell (told_at leg.ends.role es e) (letter_count h.of_window.taken) roomy) (owed leg.ends.role es e) whole leg.mss q.shown n outs) (carried_before o)
           (subst (λ (b : Bool). Says (way_at leg) (told_at leg.ends.role es e) (to_tell (told_at leg.ends.role es e) (letter_count h.of_window.taken) roomy) b whole leg.mss q.shown q.sent outs) h.of_owes
-          (subst (λ (t : Told). Says (way_at leg) (told_at leg.ends.role es e) t leg.owes whole leg.mss q.shown q.sent outs) tell_is
-          (subst (λ (t : Told). Says (way_at leg) t (to_tell (told_of leg) (base_of leg.window) roomy) leg.owes whole leg.mss q.shown q.sent outs) (told_before o) says))))));
+          (subst (λ (t : Advertised). Says (way_at leg) (told_at leg.ends.role es e) t leg.owes whole leg.mss q.shown q.sent outs) tell_is
+          (subst (λ (t : Advertised). Says (way_at leg) t (to_tell (told_of leg) (base_of leg.window) roomy) leg.owes whole leg.mss q.shown q.sent outs) (told_before o) says))))));
     }
 
     told_now : told leg.ends.role (record e { ending = Spoke whole roomy outs } ∷ es) ≡ to_tell (told_of leg) (base_of leg.window) roomy
@@ -246,7 +246,7 @@ module _ (leg : LegValue) (i : IsLeg leg) (w : IsWindow leg.window) (q : Queue) 
         (marks (record q { sent = max q.sent (min q.shown (queue_length q)) })) (record e { ending = Spoke whole roomy outs } ∷ es)
     spoke_open = spoke_as (base_of leg.window) (record leg.window { edge = (to_tell (told_of leg) (base_of leg.window) roomy).edge }) (max q.sent (min q.shown (queue_length q)))
         (subst (λ (b : Bool). MatchBool b (SpeaksOpen leg.ends es (record e { ending = Spoke whole roomy outs }) whole roomy outs) (outs ≡ [])) (sym o) speaks_open)
-        (ap (λ (t : Told). t.base) (sym told_now)) (ap (λ (t : Told). t.edge) (sym told_now)) (λ c g. absurd (true≢false (sym o ∙ c))) window
+        (ap (λ (t : Advertised). t.base) (sym told_now)) (ap (λ (t : Advertised). t.edge) (sym told_now)) (λ c g. absurd (true≢false (sym o ∙ c))) window
         (ap (λ (n : ℕ). max q.sent (min q.shown n)) (count_is q whole s) ∙ sym carried_now)
 
   -- a leg that is not open says nothing
@@ -264,7 +264,7 @@ module _ (leg : LegValue) (i : IsLeg leg) (w : IsWindow leg.window) (q : Queue) 
     pub spoke_closed : IsLegOf (rearmed leg q now) (marks q) (record e { ending = Spoke whole roomy outs } ∷ es)
     spoke_closed = spoke_as leg.base leg.window q.sent
         (subst (λ (b : Bool). MatchBool b (SpeaksOpen leg.ends es (record e { ending = Spoke whole roomy outs }) whole roomy outs) (outs ≡ [])) (sym o) none)
-        (h.of_base ∙ ap (λ (t : Told). t.base) (sym told_still)) (h.of_edge ∙ ap (λ (t : Told). t.edge) (sym told_still)) (λ c g. told_still ∙ h.of_first c g) h.of_window
+        (h.of_base ∙ ap (λ (t : Advertised). t.base) (sym told_still)) (h.of_edge ∙ ap (λ (t : Advertised). t.edge) (sym told_still)) (λ c g. told_still ∙ h.of_first c g) h.of_window
         (h.of_sent ∙ sym carried_still)
 
 -- ---- the call

@@ -27,24 +27,24 @@ use Rattle.cf_leg.specs.declared.ends.ClockAnswer.TheVariants as answers
 use Rattle.cf_leg.specs.declared.ends.Ends.{Ends}
 use Rattle.cf_leg.specs.declared.ends.Role.{Role}
 use Rattle.cf_leg.specs.declared.ends.Role.TheVariants as role
-use Rattle.cf_leg.specs.declared.ends.Told.{Told}
+use Rattle.cf_leg.specs.declared.ends.Advertised.{Advertised}
 use Rattle.cf_leg.specs.declared.ends.Way.{Way}
 
 -- the letters of a piece went out in a segment
-pub record SendsPiece (way : Way) (t : Told) (queue : Queue) (piece : Piece) (now : ℕ) (old new : Option (List SentValue)) : Type 0 where
+pub record SendsPiece (way : Way) (t : Advertised) (queue : Queue) (piece : Piece) (now : ℕ) (old new : Option (List SentValue)) : Type 0 where
   pub text : List ℕ
   pub packets : new ≡ with_segment old now (segment way t (sequence_number way.own (place_or_zero piece.at)) (record { bytes = text; ended = piece.end }))
   pub carries : (whole : Stream) → IsQueueOf queue whole → text ≡ (carried whole piece).bytes
 
 -- some pieces went out, and so many letters were sent then
-pub record SendsSome (way : Way) (t : Told) (mss : ℕ) (queue : Queue) (sent : ℕ) (now : ℕ) (old new : Option (List SentValue)) : Type 0 where
+pub record SendsSome (way : Way) (t : Advertised) (mss : ℕ) (queue : Queue) (sent : ℕ) (now : ℕ) (old new : Option (List SentValue)) : Type 0 where
   pub outs : List PacketValue
   pub packets : new ≡ with_segments old now outs
   pub none : sent ≡ queue.sent → outs ≡ []
   pub pieces : (whole : Stream) → IsQueueOf queue whole → (more : List PacketValue) → Pieces way t whole mss queue.shown sent more → Pieces way t whole mss queue.shown queue.sent (outs ++ more)
 
 -- what was not sent and is let in went out in pieces
-pub record SendsNew (way : Way) (t : Told) (mss : ℕ) (queue : Queue) (now : ℕ) (old new : Option (List SentValue)) : Type 0 where
+pub record SendsNew (way : Way) (t : Advertised) (mss : ℕ) (queue : Queue) (now : ℕ) (old new : Option (List SentValue)) : Type 0 where
   pub outs : List PacketValue
   pub packets : new ≡ with_segments old now outs
   pub none : min queue.shown (queue_length queue) ≤ queue.sent → outs ≡ []
@@ -52,7 +52,7 @@ pub record SendsNew (way : Way) (t : Told) (mss : ℕ) (queue : Queue) (now : �
 
 -- the peer of an open leg was told something, and got what it lets in: every new letter, or an acknowledgment if there is
 -- none and one is due
-pub record SaysTo (way : Way) (t : Told) (mss : ℕ) (owes : Bool) (queue : Queue) (now : ℕ) (old new : Option (List SentValue)) : Type 0 where
+pub record SaysTo (way : Way) (t : Advertised) (mss : ℕ) (owes : Bool) (queue : Queue) (now : ℕ) (old new : Option (List SentValue)) : Type 0 where
   pub outs : List PacketValue
   pub packets : new ≡ with_segments old now outs
   pub says : (whole : Stream) → IsQueueOf queue whole → SaysIf way t owes whole mss queue.shown queue.sent outs
@@ -292,19 +292,19 @@ pub record Widens (roomy : Bool) (old new : Window) : Type 0 where
 -- next one stands after them
 
 -- the segment with the letters of a piece
-pub record PieceBreaks (way : Way) (t : Told) (queue : Queue) (piece : Piece) (now : ℕ) (before after : DeskValue) : Type 0 where
+pub record PieceBreaks (way : Way) (t : Advertised) (queue : Queue) (piece : Piece) (now : ℕ) (before after : DeskValue) : Type 0 where
   pub text : List ℕ
   pub breaks : BreaksOff now (segment way t (sequence_number way.own (place_or_zero piece.at)) (record { bytes = text; ended = piece.end }) ∷ []) before after
   pub carries : (whole : Stream) → IsQueueOf queue whole → text ≡ (carried whole piece).bytes
 
 -- the pieces of what was not sent and is let in
-pub record NewBreaks (way : Way) (t : Told) (mss : ℕ) (queue : Queue) (now : ℕ) (before after : DeskValue) : Type 0 where
+pub record NewBreaks (way : Way) (t : Advertised) (mss : ℕ) (queue : Queue) (now : ℕ) (before after : DeskValue) : Type 0 where
   pub some : nat_lt queue.sent (min queue.shown (queue_length queue)) ≡ true
   pub breaks : (whole : Stream) → IsQueueOf queue whole
       → (outs : List PacketValue) × (Pieces way t whole mss queue.shown queue.sent outs × BreaksOff now outs before after)
 
 -- what an open leg says
-abbrev pub SayingBreaks : Way → Told → ℕ → Bool → Queue → ℕ → DeskValue → DeskValue → Type 0
+abbrev pub SayingBreaks : Way → Advertised → ℕ → Bool → Queue → ℕ → DeskValue → DeskValue → Type 0
 SayingBreaks way t mss due queue now before after = (whole : Stream) → IsQueueOf queue whole
     → (outs : List PacketValue) × (SaysIf way t due whole mss queue.shown queue.sent outs × BreaksOff now outs before after)
 

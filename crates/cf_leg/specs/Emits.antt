@@ -10,7 +10,7 @@ use Rattle.cf_leg.specs.Segment.{letters_of, segment}
 use Rattle.cf_leg.specs.Timer.{fires, tries}
 use Rattle.cf_leg.specs.Told.{greeting, is_greeted, own_number, peer_number, syn_ack, told, told_at, letters_sent, letters_sent_at}
 use Rattle.cf_leg.specs.declared.ends.Ends.{Ends}
-use Rattle.cf_leg.specs.declared.ends.Told.{Told}
+use Rattle.cf_leg.specs.declared.ends.Advertised.{Advertised}
 use Rattle.cf_leg.specs.declared.ends.Way.{Way}
 use Rattle.cf_leg.specs.declared.ends.Role.{Role}
 use Rattle.cf_leg.specs.declared.ends.Role.TheVariants as role
@@ -64,7 +64,7 @@ piece whole mss edge from =
     part whole from n (whole.ended && (((from + n) == length whole.bytes) && nat_lt (length whole.bytes) edge))
 
 -- the segments carry the letters from a place on in pieces, until none below the edge is left
-abbrev pub Pieces : Way → Told → Stream → ℕ → ℕ → ℕ → List PacketValue → Type 0
+abbrev pub Pieces : Way → Advertised → Stream → ℕ → ℕ → ℕ → List PacketValue → Type 0
 Pieces way t whole mss edge from [] = min edge (letter_count whole) ≤ from
 Pieces way t whole mss edge from (p ∷ ps) =
     (from < min edge (letter_count whole))
@@ -74,23 +74,23 @@ Pieces way t whole mss edge from (p ∷ ps) =
 -- ---- the speech
 
 -- what is to be told, once so many letters are taken
-abbrev pub to_tell : Told → ℕ → Bool → Told
+abbrev pub to_tell : Advertised → ℕ → Bool → Advertised
 to_tell before count roomy = record { base = count; edge = if roomy then count + window_size else before.edge }
 
 -- another base or another edge was told
-abbrev pub differs : Told → Told → Bool
+abbrev pub differs : Advertised → Advertised → Bool
 differs t u = not (t.base == u.base) || not (t.edge == u.edge)
 
 -- an open leg sends every letter that the peer lets in; or, if there is none, an acknowledgment where one is owed or
 -- something new is to be told
-abbrev pub SaysIf : Way → Told → Bool → Stream → ℕ → ℕ → ℕ → List PacketValue → Type 0
+abbrev pub SaysIf : Way → Advertised → Bool → Stream → ℕ → ℕ → ℕ → List PacketValue → Type 0
 SaysIf way t due whole mss edge from outs =
     MatchBool (nat_lt from (min edge (letter_count whole)))
     (Pieces way t whole mss edge from outs)
     (outs ≡ (if due then segment way t (sequence_number way.own from) no_letters ∷ [] else []))
 
 -- the same, where an acknowledgment is due if one is owed, or if the base or the edge differs from what was told
-abbrev pub Says : Way → Told → Told → Bool → Stream → ℕ → ℕ → ℕ → List PacketValue → Type 0
+abbrev pub Says : Way → Advertised → Advertised → Bool → Stream → ℕ → ℕ → ℕ → List PacketValue → Type 0
 Says way before t owes whole mss edge from outs = SaysIf way t (owes || differs before t) whole mss edge from outs
 
 -- what an open end says, after the letters that it has taken
@@ -138,11 +138,11 @@ abbrev pub rst : Ends → ℕ → ℕ → ℕ → PacketValue
 rst ends number ack flags = record { source = ends.own; dest = ends.peer; seq = number; ack = ack; flags = flags; window = 0; mss = None; text = [] }
 
 -- before a SYN ACK went out it answers the peer's SYN, and before one came it takes back the own SYN
-abbrev pub cut_by : Ends → List LegEvent → ℕ → ℕ → Role → PacketValue
-cut_by ends es from count (role.Active own) =
+abbrev pub cut_packet : Ends → List LegEvent → ℕ → ℕ → Role → PacketValue
+cut_packet ends es from count (role.Active own) =
     if opened ends.role es then rst ends (sequence_number own from) (sequence_number (peer_number ends.role es) count) 20
     else rst ends (sequence_number own 0) 0 4
-cut_by ends es from count (role.Passive other mss) =
+cut_packet ends es from count (role.Passive other mss) =
     if is_greeted es then rst ends (sequence_number (own_number ends.role es) from) (sequence_number other count) 20
     else rst ends 0 (sequence_number other 0) 20
 
@@ -150,7 +150,7 @@ cut_by ends es from count (role.Passive other mss) =
 pub record Cuts (ends : Ends) (es : List LegEvent) (e : LegEvent) (p : PacketValue) : Type 0 where
   pub taken : Stream
   pub is_taken : IsTaken (first_copy (offers ends.role (e ∷ es))) taken
-  pub rst : p ≡ cut_by ends (e ∷ es) (letters_sent_at ends.role es e) (letter_count taken) ends.role
+  pub rst : p ≡ cut_packet ends (e ∷ es) (letters_sent_at ends.role es e) (letter_count taken) ends.role
 
 -- ---- segments without letters
 

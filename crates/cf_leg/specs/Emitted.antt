@@ -1,4 +1,4 @@
--- The packets that a desk got: `with_segments`, and `BreaksOff` where it failed amid them.
+-- Steps of the proof: the packets that a desk got: `with_segments`, and `BreaksOff` where it failed amid them.
 use Rattle.std.specs.Prelude.{◌≡◌, ℕ, Bool, true, false, List, [], ◌∷◌, ◌++◌, take, Option}
 use Rattle.cf_outside.specs.Desk.{DeskValue, SentValue, with_item}
 use Rattle.cf_packet.specs.Packet.{PacketValue}

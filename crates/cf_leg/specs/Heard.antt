@@ -9,7 +9,7 @@ use Rattle.cf_leg.specs.Event.{Came, Packet, LegEvent}
 use Rattle.cf_leg.specs.Segment.{has_syn, has_rst, has_ack, letters_in, letters_of}
 use Rattle.cf_leg.specs.Told.{is_greeted, own_number, peer_number, answers_syn, told_at, letters_sent_at}
 use Rattle.cf_leg.specs.declared.ends.EndState.{EndState}
-use Rattle.cf_leg.specs.declared.ends.Told.{Told}
+use Rattle.cf_leg.specs.declared.ends.Advertised.{Advertised}
 use Rattle.cf_leg.specs.declared.ends.Role.{Role}
 use Rattle.cf_leg.specs.declared.ends.Role.TheVariants as role
 use Rattle.cf_leg.specs.declared.ends.LegAnswer.{LegAnswer}
@@ -25,7 +25,7 @@ ack_place at p = position p.ack at.own at.sent
 
 -- n letters from a place on are in reach: one of them lies in the window; or there is none, and the place is one from
 -- the window's base to its edge. RFC 9293, section 3.10.7.4, table 6, is less generous to segments without letters
-abbrev pub in_reach : Told → ℤ → ℕ → Bool
+abbrev pub in_reach : Advertised → ℤ → ℕ → Bool
 in_reach t at n =
     if n == 0 then int_le (pos t.base) at && int_le at (pos t.edge)
     else nat_lt t.base t.edge && (int_lt at (pos t.edge) && int_lt (pos t.base) (at +ℤ pos n))
@@ -57,7 +57,7 @@ first_answer at p =
     else answer.Ignored
 
 -- an RST on an open leg
-abbrev pub reset_answer : Told → ℤ → LegAnswer
+abbrev pub reset_answer : Advertised → ℤ → LegAnswer
 reset_answer t at =
     if is_at at t.base then answer.Reset
     else if int_lt (pos t.base) at && int_lt at (pos t.edge) then answer.Challenged

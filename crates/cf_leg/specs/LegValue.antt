@@ -14,7 +14,7 @@ use Rattle.cf_leg.specs.declared.ends.Phase.{Phase}
 use Rattle.cf_leg.specs.declared.ends.Phase.TheVariants as phase
 use Rattle.cf_leg.specs.declared.ends.Role.{Role}
 use Rattle.cf_leg.specs.declared.ends.Role.TheVariants as role
-use Rattle.cf_leg.specs.declared.ends.Told.{Told}
+use Rattle.cf_leg.specs.declared.ends.Advertised.{Advertised}
 use Rattle.cf_leg.specs.declared.ends.Way.{Way}
 
 -- what a contract sees of a `Leg`
@@ -49,7 +49,7 @@ pub record IsLeg (leg : LegValue) : Type 0 where
   pub early : leg.phase ≡ phase.Made → leg.window.edge ≡ 0
 
 -- what the peer was told, and between whom segments go
-abbrev pub told_of : LegValue → Told
+abbrev pub told_of : LegValue → Advertised
 told_of leg = record { base = leg.base; edge = leg.window.edge }
 
 abbrev pub way_at : LegValue → Way
@@ -87,7 +87,7 @@ owed_now r [] = false
 owed_now r (e ∷ es) = if is_spoken e.ending then false else owed r es e
 
 -- what a peer was told by the greeting
-abbrev pub first_told : Role → Told
+abbrev pub first_told : Role → Advertised
 first_told (role.Active own) = record { base = 0; edge = 0 }
 first_told (role.Passive other mss) = record { base = 0; edge = 16384 }
 

@@ -5,7 +5,7 @@ use Rattle.cf_packet.specs.Packet.{PacketValue}
 use Rattle.cf_stream.specs.Position.{sequence_number, position, place_or_zero}
 use Rattle.cf_leg.specs.Event.{Came, Greeting, Packet, LegEvent, sent_in}
 use Rattle.cf_leg.specs.Segment.{has_syn, has_rst, has_ack, letters_of}
-use Rattle.cf_leg.specs.declared.ends.Told.{Told}
+use Rattle.cf_leg.specs.declared.ends.Advertised.{Advertised}
 use Rattle.cf_leg.specs.declared.ends.Role.{Role}
 use Rattle.cf_leg.specs.declared.ends.Role.TheVariants as role
 
@@ -53,19 +53,19 @@ peer_number (role.Active own) es = seq_of (syn_ack own es)
 peer_number (role.Passive other mss) es = other
 
 -- the base and the edge told after a segment: it tells them where it has ACK and not RST
-abbrev pub told_by : ℕ → Told → PacketValue → Told
+abbrev pub told_by : ℕ → Advertised → PacketValue → Advertised
 told_by other t p =
     if has_ack p && not (has_rst p) then
     (let base = place_or_zero (position p.ack other t.base) in record { base = base; edge = base + p.window })
     else t
 
 -- the base and the edge told after segments, the oldest one first
-abbrev pub told_by_all : ℕ → Told → List PacketValue → Told
+abbrev pub told_by_all : ℕ → Advertised → List PacketValue → Advertised
 told_by_all other t [] = t
 told_by_all other t (p ∷ ps) = told_by_all other (told_by other t p) ps
 
 -- the base and the edge told after events
-abbrev pub told : Role → List LegEvent → Told
+abbrev pub told : Role → List LegEvent → Advertised
 told r [] = record { base = 0; edge = 0 }
 told r (e ∷ es) =
     told_by_all (peer_number r (e ∷ es)) (told_by_all (peer_number r es) (told r es) e.fired) (sent_in e)
@@ -88,7 +88,7 @@ letters_sent r (e ∷ es) =
     letters_sent_by_all (own_number r (e ∷ es)) (letters_sent_by_all (own_number r es) (letters_sent r es) e.fired) (sent_in e)
 
 -- the same as the packet half of an event begins
-abbrev pub told_at : Role → List LegEvent → LegEvent → Told
+abbrev pub told_at : Role → List LegEvent → LegEvent → Advertised
 told_at r es e = told_by_all (peer_number r es) (told r es) e.fired
 
 -- how many places were sent as the packet half of an event begins

@@ -81,7 +81,7 @@ pub enum ClockAnswer {
 /// What a peer was told: the place of the first letter that it has not sent or that did not come, and the place below
 /// which its letters are let in. RFC 9293, section 3.3.1: RCV.NXT, and RCV.NXT + RCV.WND.
 #[derive(Clone, Copy)]
-pub struct Told {
+pub struct Advertised {
     /// RCV.NXT, as a place.
     pub base: u64,
     /// RCV.NXT + RCV.WND, as a place.
@@ -115,7 +115,7 @@ pub struct EndState {
     /// IRS, the sequence number of the peer's SYN.
     pub other: u32,
     /// RCV.NXT and RCV.NXT + RCV.WND, as the peer was told them.
-    pub told: Told,
+    pub told: Advertised,
     /// How many letters were sent: SND.NXT as a place.
     pub sent: u64,
 }

@@ -6,7 +6,7 @@ ghost use Rattle.cf_leg.specs.Heard.{ack_place, answer_to, counts_as, first_answ
 ghost use Rattle.cf_leg.specs.Segment.{has_ack, has_fin, has_rst, has_syn, letters_of};
 ghost use Rattle.cf_leg.specs.Told.{answers_syn};
 
-use crate::ends::{EndState, LegAnswer, Role, Told};
+use crate::ends::{EndState, LegAnswer, Role, Advertised};
 use cf_packet::{ACK, Packet, RST, SYN, sequence_number};
 
 pub(crate) fn has_fin(packet: &Packet<'_>) -> bool
@@ -52,7 +52,7 @@ pub(crate) fn letters_of(packet: &Packet<'_>) -> u64
     packet.text.len() as u64 + u64::from(has_fin(packet))
 }
 
-fn in_reach(told: Told, at: i64, count: u64) -> bool
+fn in_reach(told: Advertised, at: i64, count: u64) -> bool
     requires told { (told.base ≤ 2 ^ 31) × (told.edge ≤ 2 ^ 31) }
     requires at { (negsuc (2 ^ 33) ≤ℤ at) × (at ≤ℤ pos (2 ^ 33)) }
     requires count { count ≤ 65536 }
@@ -151,7 +151,7 @@ fn first_answer(at: &EndState, packet: &Packet<'_>) -> LegAnswer
 }
 
 /// An RST on an open end.
-fn reset_answer(told: Told, at: i64) -> LegAnswer
+fn reset_answer(told: Advertised, at: i64) -> LegAnswer
     requires told { (told.base ≤ 2 ^ 31) × (told.edge ≤ 2 ^ 31) }
     ensures { result ≡ reset_answer told at }
 {

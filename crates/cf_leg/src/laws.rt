@@ -15,7 +15,7 @@ ghost use Rattle.cf_leg.specs.declared.ends.Role.TheVariants as role;
 ghost use Rattle.std.specs.Option.{is_some};
 ghost use Rattle.cf_leg.specs.Told.{letters_sent, is_greeted, syn_ack, told_by_all, letters_sent_by_all, told};
 ghost use Rattle.cf_leg.specs.declared.ends.Ends.{Ends};
-ghost use Rattle.cf_leg.specs.declared.ends.Told.{Told};
+ghost use Rattle.cf_leg.specs.declared.ends.Advertised.{Advertised};
 ghost use Rattle.cf_leg.specs.declared.ends.Way.{Way};
 
 /// Before it is due a clock call of a leg is quiet, and leaves the leg as it is.
@@ -26,8 +26,8 @@ pub fn clocks_are_quiet_before_due()
 
 /// Segments that carry what was not sent are read as that, and as telling one base and edge.
 pub fn pieces_are_read()
-    ensures told { (way : Way) (t b : Told) (whole : Stream) (mss edge from : ℕ) (outs : List PacketValue) → t.base ≤ t.edge → b.base ≤ t.base → t.base < b.base + 2 ^ 31 → from < min edge (letter_count whole) → Pieces way t whole mss edge from outs → told_by_all way.other b outs ≡ t }
-    ensures carried { (way : Way) (t : Told) (whole : Stream) (mss edge from : ℕ) (outs : List PacketValue) → t.base ≤ t.edge → Pieces way t whole mss edge from outs → letters_sent_by_all way.own from outs ≡ max from (min edge (letter_count whole)) }
+    ensures told { (way : Way) (t b : Advertised) (whole : Stream) (mss edge from : ℕ) (outs : List PacketValue) → t.base ≤ t.edge → b.base ≤ t.base → t.base < b.base + 2 ^ 31 → from < min edge (letter_count whole) → Pieces way t whole mss edge from outs → told_by_all way.other b outs ≡ t }
+    ensures carried { (way : Way) (t : Advertised) (whole : Stream) (mss edge from : ℕ) (outs : List PacketValue) → t.base ≤ t.edge → Pieces way t whole mss edge from outs → letters_sent_by_all way.own from outs ≡ max from (min edge (letter_count whole)) }
 {}
 
 /// A leg that is open has greeted its peer.

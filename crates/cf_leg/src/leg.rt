@@ -13,7 +13,7 @@ mod cutting;
 mod opening;
 mod speaking;
 
-use crate::ends::{Ends, Phase, Role, Told, Way};
+use crate::ends::{Ends, Phase, Role, Advertised, Way};
 use crate::send::place_or_zero;
 use cf_outq::Outq;
 use cf_rebuild::Rebuild;
@@ -170,12 +170,12 @@ impl Leg {
     }
 
     /// What the peer was told.
-    fn told(&self) -> Told
+    fn told(&self) -> Advertised
         ensures value { result ≡ told_of self.now }
         ensures leg { IsLeg self.now }
         ensures bounds { IsWindow self.now.window }
     {
-        Told {
+        Advertised {
             base: self.base,
             edge: place_or_zero(self.window.edge()),
         }
@@ -193,13 +193,13 @@ impl Leg {
     }
 
     /// What is to be told now.
-    fn to_tell(&self, roomy: bool) -> Told
+    fn to_tell(&self, roomy: bool) -> Advertised
         ensures value { result ≡ to_tell (told_of self.now) (base_of self.now.window) roomy }
         ensures bounds { IsWindow self.now.window }
     {
         let base = place_or_zero(self.window.base());
         let edge = place_or_zero(self.window.edge());
-        Told {
+        Advertised {
             base,
             edge: if roomy { base + WINDOW } else { edge },
         }

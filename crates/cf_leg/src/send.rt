@@ -14,7 +14,7 @@ ghost use Rattle.cf_leg.specs.Emitted.{BreaksOff, spelled, with_segment, with_se
 ghost use Rattle.cf_leg.specs.Segment.{flags_with, segment};
 ghost use Rattle.cf_leg.specs.Calls.{NewBreaks, PieceBreaks, SayingBreaks, SaysTo, SendsNew, SendsPiece};
 
-use crate::ends::{Told, Way};
+use crate::ends::{Advertised, Way};
 use arrayvec::ArrayVec;
 use cf_outq::{Outq, Piece};
 use cf_outside::{Desk, WriteAnswer};
@@ -50,7 +50,7 @@ fn flags_with(text: &[u8], end: bool) -> u8
 }
 
 /// The segment with a sequence number and these letters.
-fn segment<'a>(way: Way, told: Told, number: u32, text: &'a [u8], end: bool) -> Packet<'a>
+fn segment<'a>(way: Way, told: Advertised, number: u32, text: &'a [u8], end: bool) -> Packet<'a>
     requires told { (told.base ≤ told.edge) × (told.edge - told.base < 65536) × (told.base ≤ 2 ^ 31) }
     ensures { packet_value result ≡ segment way told number (record { bytes = text.now; ended = end }) }
 {
@@ -69,7 +69,7 @@ fn segment<'a>(way: Way, told: Told, number: u32, text: &'a [u8], end: bool) -> 
 /// Sends a segment without letters.
 pub(crate) fn send_empty<D: Desk>(
     way: Way,
-    told: Told,
+    told: Advertised,
     number: u32,
     now: u64,
     desk: &mut D,
@@ -103,7 +103,7 @@ fn place_of(piece: Piece) -> u64
 /// Sends the letters of a piece.
 pub(crate) fn send_piece<D: Desk>(
     way: Way,
-    told: Told,
+    told: Advertised,
     queue: &Outq,
     piece: Piece,
     now: u64,
@@ -129,7 +129,7 @@ pub(crate) fn send_piece<D: Desk>(
 /// Sends every letter that was not sent and that the peer lets in. Answers whether there was one.
 pub(crate) fn send_new<D: Desk>(
     way: Way,
-    told: Told,
+    told: Advertised,
     mss: usize,
     queue: &mut Outq,
     now: u64,
@@ -160,7 +160,7 @@ pub(crate) fn send_new<D: Desk>(
 fn acknowledge<D: Desk>(
     is_due: bool,
     way: Way,
-    told: Told,
+    told: Advertised,
     number: u32,
     now: u64,
     desk: &mut D,
@@ -205,7 +205,7 @@ pub(crate) fn next_number(own: u32, queue: &Outq) -> u32
 /// is due.
 pub(crate) fn say<D: Desk>(
     way: Way,
-    told: Told,
+    told: Advertised,
     mss: usize,
     is_due: bool,
     queue: &mut Outq,

@@ -1,4 +1,4 @@
--- Laws of one session among many. The main definition is `SessionsAreApart`. This project's own.
+-- Steps of the proof: laws of one session among many: `SessionsAreApart`.
 use Rattle.std.specs.Prelude.{◌≡◌, ◌==◌, ℕ, List, ◌++◌, false, map}
 use Rattle.cf_outside.specs.Pair.{Entry}
 use Rattle.cf_links.specs.Links.{LinksEntry, Of, answers_of}

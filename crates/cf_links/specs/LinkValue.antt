@@ -1,4 +1,4 @@
--- What a contract sees of the links of one session: LinkValue.
+-- Steps of the proof: what a contract sees of the links of one session: `LinkValue`.
 use Rattle.std.specs.Prelude.{ℕ}
 use Rattle.cf_links.specs.Links.{SessionTold}
 use Rattle.cf_links.specs.declared.links.Links.{Ghosts as LinksOf}

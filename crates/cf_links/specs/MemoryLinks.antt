@@ -1,4 +1,4 @@
--- What links in memory hold, and what the calls do to them. The main definitions are `entries_told` and `serves_in`.
+-- Beside the proof: what links in memory hold, and what the calls do to them: `entries_told` and `serves_in`.
 use Rattle.std.specs.Prelude.{◌≤◌, ◌&&◌, ℕ, ◌+◌, Bool, false, if◌then◌else◌, List, Result, Ok, Err, map, nat_le, slice_get}
 use Rattle.std.specs.Prelude.{unwrap_or, vec_capacity, vec_len}
 use Rattle.std.specs.List.{sum_by}

@@ -1,5 +1,5 @@
--- What links tell of sessions that come and go. The main definitions are `Opens`, `Wakes`, `Arrives`, `TellsReady` and `Leaves`, one
--- for each call, and `FaultsPlace` and `ChangesPlace`. This project's own.
+-- Steps of the proof: what links tell of sessions that come and go: `Opens`, `Wakes`, `Arrives`, `TellsReady` and `Leaves`, one for
+-- each call, and `FaultsPlace` and `ChangesPlace`.
 use Rattle.std.specs.Prelude.{◌≡◌, ◌==◌, ℕ, Bool, true, false, List, [], ◌∷◌, ◌++◌, Option, option_map}
 use Rattle.cf_outside.specs.Pair.{FaultsBy}
 use Rattle.cf_outside.specs.declared.pair.MomentAnswer.{MomentAnswer}

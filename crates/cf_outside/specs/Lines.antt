@@ -1,4 +1,4 @@
--- Steps of the proof: the lines of a text, each of which ends with its only line feed: `is_line` and `file_lines`.
+-- The lines of a text, each of which ends with its only line feed: `is_line` and `file_lines`.
 use Rattle.std.specs.Prelude.{ℕ, ◌==◌, Bool, true, false, Option, None, Some, List, [], ◌∷◌, ◌++◌, if◌then◌else◌}
 use Rattle.cf_outside.specs.Files.{Content, untold, absent, holds}
 

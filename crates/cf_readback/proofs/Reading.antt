@@ -14,7 +14,7 @@ use Rattle.cf_run.specs.Capture.{AreRecords, FileEnd, Fits, LastPlace, classic_a
 use Rattle.cf_run.specs.Form.{form_of}
 use Rattle.cf_run.specs.OutputFile.{record_octets}
 use Rattle.cf_run.specs.Run.{IsRun, capture_of, inputs_of}
-use Rattle.cf_run.specs.Trace.{Event, Input, sent}
+use Rattle.cf_run.specs.Trace.{RunEvent, Input, sent}
 use Rattle.cf_session.specs.Sent.{Sent}
 use Rattle.cf_session.specs.Told.{emitted}
 use Rattle.cf_view.specs.Octets.{IsOctets}
@@ -92,7 +92,7 @@ reads_back all w o small =
 
 -- ---- a run
 
-in_time : (events : List Event) → AllByRecursion (λ i. i.moment < moment_limit) (inputs_of events) → AllByRecursion (λ e. e.input.moment < moment_limit) events
+in_time : (events : List RunEvent) → AllByRecursion (λ i. i.moment < moment_limit) (inputs_of events) → AllByRecursion (λ e. e.input.moment < moment_limit) events
 in_time [] h = tt
 in_time (e ∷ earlier) h = let (before, now) = all_parts (inputs_of earlier) (e.input ∷ []) h in (now.0, in_time earlier before)
   where

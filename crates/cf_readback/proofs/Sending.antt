@@ -11,9 +11,9 @@ use Rattle.cf_view.specs.declared.Side.{Side}
 use Rattle.cf_session.specs.Event.{AreRight, IsBeginning}
 use Rattle.cf_session.specs.Sent.{Sent, at, early, is_first_half, late, sent_first, sent_second}
 use Rattle.cf_session.specs.Session.{Flow, SessionEvent}
-use Rattle.cf_run.specs.Sessions.{Each, IsRight as IsRightSession, SessionsAreRight, gone_after}
+use Rattle.cf_run.specs.Sessions.{Each, HasRightEvents as IsRightSession, SessionsAreRight, gone_after}
 use Rattle.cf_run.specs.Table.{Begins, Full, Goes, Match, Outside, Session, match_of}
-use Rattle.cf_run.specs.Trace.{AreEvents, AreTicks, Begun, Dropped, Event, GoesOnAt, GoesOnWith, NoRoom, NoSession, Received, Receives, ReceivesRecord, Went, kept, sent, sent_received, stays, table_after, tick_of, ticked, with_events}
+use Rattle.cf_run.specs.Trace.{AreRunEvents, AreTicks, Begun, Dropped, RunEvent, GoesOnAt, GoesOnWith, NoRoom, NoSession, Received, Receives, ReceivesRecord, Went, kept, sent, sent_received, stays, table_after, tick_of, ticked, with_events}
 use Rattle.cf_readback.specs.ReadBack.{MayBeWritten, SentMayBeWritten}
 use Rattle.cf_readback.proofs.Legs.{HasLegs, IfSession, LegsRight, each_back, each_filter, each_get, each_map, has_legs}
 use Rattle.cf_readback.proofs.Writing.{AreWritable, SendsWritable, all_both, sends_writable}
@@ -100,10 +100,10 @@ module _ (limit tick : ℕ) (small : tick + 1 < moment_limit) where
 -- ---- all events
 
 module _ (law : SessionsAreRight) (assets : List Asset) (limit : ℕ) where
-  legs_after : (events : List Event) → AreEvents assets limit events → Each HasLegs (table_after events)
+  legs_after : (events : List RunEvent) → AreRunEvents assets limit events → Each HasLegs (table_after events)
   legs_after events are = each_map (IsRightSession limit) HasLegs (has_legs limit) (table_after events) (each_back (IsRightSession limit) (gone_after events) (table_after events) (law assets limit events are))
 
-  written : (events : List Event) → AreEvents assets limit events → AllByRecursion (λ e. e.input.moment < moment_limit) events → AreWritten (sent events)
+  written : (events : List RunEvent) → AreRunEvents assets limit events → AllByRecursion (λ e. e.input.moment < moment_limit) events → AreWritten (sent events)
   written [] are m = tt
   written (e ∷ earlier) are m =
       let tick = tick_of e.input in

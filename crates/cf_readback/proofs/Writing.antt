@@ -4,7 +4,7 @@ use Rattle.std.specs.Prelude.{⊤, MatchBool, if◌then◌else◌, nat_lt}
 use Rattle.std.specs.List.{AllByRecursion}
 use Rattle.std.specs.Option.{option_or}
 use Rattle.std.proofs.lemmas.Bool.{cases_Bool}
-use Rattle.cf_leg.specs.Emits.{AllRight, EndsBy, Greets, IsGreeting, IsRight, Pieces, SpeaksOpen, again, cut_by, fired_at, peer_mss, piece, repeat_open, repeats, rst, send_mss, way_of}
+use Rattle.cf_leg.specs.Emits.{AllRight, EndsBy, Greets, IsGreeting, IsRight, Pieces, SpeaksOpen, again, cut_packet, fired_at, peer_mss, piece, repeat_open, repeats, rst, send_mss, way_of}
 use Rattle.cf_leg.specs.Event.{Came, Cut, Ending, Greeting, LegEvent, Nothing, Packet, Spoke, Unspoken, greeted_by, said_by, stream_after}
 use Rattle.cf_leg.specs.Heard.{acked, opened}
 use Rattle.cf_leg.specs.Segment.{segment}
@@ -13,7 +13,7 @@ use Rattle.cf_leg.specs.Told.{greeting, greeting_in, is_greeted, letters_sent, t
 use Rattle.cf_leg.specs.declared.ends.Ends.{Ends}
 use Rattle.cf_leg.specs.declared.ends.Role.{Role}
 use Rattle.cf_leg.specs.declared.ends.Role.TheVariants as role
-use Rattle.cf_leg.specs.declared.ends.Told.{Told}
+use Rattle.cf_leg.specs.declared.ends.Advertised.{Advertised}
 use Rattle.cf_leg.specs.declared.ends.Way.{Way}
 use Rattle.cf_packet.specs.Packet.{PacketValue}
 use Rattle.cf_packet.specs.Written.{IsWritable}
@@ -73,20 +73,20 @@ module _ (ends : Ends) (P : PacketValue → Type 0) (greets : (p : PacketValue) 
 
 -- what holds of segments and of RSTs
 module _ (ends : Ends) (P : PacketValue → Type 0)
-    (segments : (es : List LegEvent) (t : Told) (n : ℕ) (s : Stream) → length s.bytes ≤ 1460 → P (segment (way_of ends es) t n s))
+    (segments : (es : List LegEvent) (t : Advertised) (n : ℕ) (s : Stream) → length s.bytes ≤ 1460 → P (segment (way_of ends es) t n s))
     (resets : (number ack : ℕ) → P (rst ends number ack 20)) (takes_back : (number : ℕ) → P (rst ends number 0 4)) where
-  pieces_are : (es : List LegEvent) (t : Told) (whole : Stream) (mss edge from : ℕ) (ps : List PacketValue) → mss ≤ 1460 → Pieces (way_of ends es) t whole mss edge from ps → AllByRecursion P ps
+  pieces_are : (es : List LegEvent) (t : Advertised) (whole : Stream) (mss edge from : ℕ) (ps : List PacketValue) → mss ≤ 1460 → Pieces (way_of ends es) t whole mss edge from ps → AllByRecursion P ps
   pieces_are es t whole mss edge from [] h g = tt
   pieces_are es t whole mss edge from (p ∷ ps) h g = (
     subst P (sym g.1) (segments es t _ (piece whole mss edge from) (piece_short whole mss edge from h)),
     pieces_are es t whole mss edge (from + letter_count (piece whole mss edge from)) ps h g.2,
   )
 
-  due_are : (es : List LegEvent) (t : Told) (n : ℕ) (due : Bool) → AllByRecursion P (if due then segment (way_of ends es) t n no_letters ∷ [] else [])
+  due_are : (es : List LegEvent) (t : Advertised) (n : ℕ) (due : Bool) → AllByRecursion P (if due then segment (way_of ends es) t n no_letters ∷ [] else [])
   due_are es t n true = (segments es t n no_letters (omega arith), tt)
   due_are es t n false = tt
 
-  says_by : (b : Bool) (es : List LegEvent) (t : Told) (due : Bool) (whole : Stream) (mss edge from n : ℕ) (ps : List PacketValue) → mss ≤ 1460 →
+  says_by : (b : Bool) (es : List LegEvent) (t : Advertised) (due : Bool) (whole : Stream) (mss edge from n : ℕ) (ps : List PacketValue) → mss ≤ 1460 →
       MatchBool b (Pieces (way_of ends es) t whole mss edge from ps) (ps ≡ (if due then segment (way_of ends es) t n no_letters ∷ [] else [])) → AllByRecursion P ps
   says_by true es t due whole mss edge from n ps h g = pieces_are es t whole mss edge from ps h g
   says_by false es t due whole mss edge from n ps h g = subst (AllByRecursion P) (sym g) (due_are es t n due)
@@ -96,7 +96,7 @@ module _ (ends : Ends) (P : PacketValue → Type 0)
   speaks_by true es e whole roomy ps g = says_by _ (e ∷ es) _ _ whole _ _ _ _ ps (mss_small (peer_mss ends.role (e ∷ es))) g.says
   speaks_by false es e whole roomy ps g = subst (AllByRecursion P) (sym g) tt
 
-  cut_is : (es : List LegEvent) (from count : ℕ) (r : Role) → P (cut_by ends es from count r)
+  cut_is : (es : List LegEvent) (from count : ℕ) (r : Role) → P (cut_packet ends es from count r)
   cut_is es from count (role.Active own) = elim (cases_Bool (opened ends.role es)) [ inl a ↦ rw a (resets _ _) | inr a ↦ rw a (takes_back _) ]
   cut_is es from count (role.Passive other mss) = elim (cases_Bool (is_greeted es)) [ inl a ↦ rw a (resets _ _) | inr a ↦ rw a (resets _ _) ]
 
@@ -113,7 +113,7 @@ module _ (ends : Ends) (P : PacketValue → Type 0)
 
 -- what holds of all three holds of all that an end sends
 module _ (ends : Ends) (P : PacketValue → Type 0)
-    (segments : (es : List LegEvent) (t : Told) (n : ℕ) (s : Stream) → length s.bytes ≤ 1460 → P (segment (way_of ends es) t n s))
+    (segments : (es : List LegEvent) (t : Advertised) (n : ℕ) (s : Stream) → length s.bytes ≤ 1460 → P (segment (way_of ends es) t n s))
     (greets : (p : PacketValue) → IsGreeting ends ends.role p → P p)
     (resets : (number ack : ℕ) → P (rst ends number ack 20)) (takes_back : (number : ℕ) → P (rst ends number 0 4)) where
   repeats_are : (es : List LegEvent) → AllRight ends es → AllByRecursion P (repeats ends es)
@@ -143,7 +143,7 @@ flags_small_by true false = omega arith
 flags_small_by false true = omega arith
 flags_small_by false false = omega arith
 
-segment_writable : (way : Way) (t : Told) (n : ℕ) (s : Stream) → length s.bytes ≤ 1460 → IsWritable (segment way t n s)
+segment_writable : (way : Way) (t : Advertised) (n : ℕ) (s : Stream) → length s.bytes ≤ 1460 → IsWritable (segment way t n s)
 segment_writable way t n s h = record { short = h; bare = tt; flags = flags_small_by (length s.bytes == 0) s.ended }
 
 greeting_writable : (ends : Ends) (r : Role) (p : PacketValue) → IsGreeting ends r p → IsWritable p

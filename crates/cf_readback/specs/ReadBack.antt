@@ -10,7 +10,7 @@ use Rattle.cf_policy.specs.declared.Asset.{Asset}
 use Rattle.cf_run.specs.Capture.{AreRecords, FileEnd, LastPlace, Record}
 use Rattle.cf_run.specs.Form.{form_of}
 use Rattle.cf_run.specs.Run.{IsRun, capture_of}
-use Rattle.cf_run.specs.Trace.{AreEvents, Event, Input, sent}
+use Rattle.cf_run.specs.Trace.{AreRunEvents, RunEvent, Input, sent}
 use Rattle.cf_run.specs.declared.Form.{Form}
 use Rattle.cf_run.specs.declared.Form.TheVariants as form
 use Rattle.cf_run.specs.declared.summary.Summary.{Summary}
@@ -26,7 +26,7 @@ pub record MayBeWritten (s : Sent) : Type 0 where
 -- all that events over records in time send may be
 abbrev pub SentMayBeWritten : Type 0
 SentMayBeWritten =
-    (assets : List Asset) (limit : ℕ) (events : List Event) → AreEvents assets limit events →
+    (assets : List Asset) (limit : ℕ) (events : List RunEvent) → AreRunEvents assets limit events →
     AllByRecursion (λ e. e.input.moment < moment_limit) events → AllByRecursion MayBeWritten (sent events)
 
 -- the form of the files that are written

@@ -19,7 +19,7 @@ pub(crate) struct Sender {
 
 /// What a client sent to an asset. A count that would pass `u64::MAX` stays there.
 #[derive(Clone, Copy)]
-pub(crate) struct Heard {
+pub(crate) struct SenderCounts {
     /// Connections, each from its SYN on.
     pub(crate) flows: u64,
     /// Commands with the asset's station whose form is read.
@@ -35,12 +35,12 @@ pub(crate) struct Heard {
 }
 
 /// What clients sent in a capture, by asset and client.
-pub(crate) type Senders = BTreeMap<Sender, Heard>;
+pub(crate) type Senders = BTreeMap<Sender, SenderCounts>;
 
-impl Heard {
+impl SenderCounts {
     /// Nothing.
-    fn new() -> Heard {
-        Heard {
+    fn new() -> SenderCounts {
+        SenderCounts {
             flows: 0,
             commands: 0,
             stations: 0,
@@ -92,7 +92,7 @@ pub(crate) fn heard_in<F: Files>(
             asset: flow.asset,
             address: flow.client.address,
         };
-        let before = senders.get(&sender).copied().unwrap_or(Heard::new());
+        let before = senders.get(&sender).copied().unwrap_or(SenderCounts::new());
         let heard = heard_of(alloc, asset, flow, before).ok()?;
         senders.insert(sender, heard).ok()?;
     }
@@ -108,7 +108,7 @@ fn asset_at(assets: &[Asset], place: u32) -> Option<&Asset>
 }
 
 /// What a client sent, with what it sent in one more connection.
-fn heard_of(alloc: Global, asset: &Asset, flow: &Flow, before: Heard) -> Result<Heard, NoMemory>
+fn heard_of(alloc: Global, asset: &Asset, flow: &Flow, before: SenderCounts) -> Result<SenderCounts, NoMemory>
     requires within { IsAssetWithin asset.now }
 {
     let mut heard = before;

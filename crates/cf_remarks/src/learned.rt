@@ -2,7 +2,7 @@
 ghost use Rattle.cf_policy.specs.Within.{IsWithin};
 
 use crate::amid::amid_in;
-use crate::heard::{Heard, heard_in};
+use crate::heard::{SenderCounts, heard_in};
 use crate::text::{Lines, Piece};
 use Piece::{Number, Words};
 use cf_outside::Files;
@@ -49,7 +49,7 @@ const AMID: &str =
     record from before it begins";
 
 /// What a client sent to an asset.
-fn put_heard(lines: &mut Lines, asset: &str, address: u32, heard: &Heard) {
+fn put_heard(lines: &mut Lines, asset: &str, address: u32, heard: &SenderCounts) {
     let octets = address.to_be_bytes();
     lines.begin();
     lines.push_all(&[Words(asset), Words(": ")]);
@@ -79,7 +79,7 @@ fn put_heard(lines: &mut Lines, asset: &str, address: u32, heard: &Heard) {
 }
 
 /// What was left out of it.
-fn put_left(lines: &mut Lines, heard: &Heard) {
+fn put_left(lines: &mut Lines, heard: &SenderCounts) {
     let parts = [
         (heard.stations, " for another station"),
         (heard.forms, " whose form is not read"),

@@ -4,11 +4,11 @@ use Rattle.std.proofs.lemmas.Bool.Decides.{nat_tests}
 use Rattle.std.proofs.lemmas.Bool.{false≢true, cases_lt, le-ltb, lt-ltb}
 use Rattle.cf_renumber.specs.declared.answer.Stamp.{Stamp}
 use Rattle.std.proofs.lemmas.List.{drop-drop, length-drop, drop-append-le}
-use Rattle.cf_renumber.specs.declared.mark.Fate.{Fate}
-use Rattle.cf_renumber.specs.declared.mark.Fate.TheVariants as fates
+use Rattle.cf_renumber.specs.declared.mark.FrameFate.{FrameFate}
+use Rattle.cf_renumber.specs.declared.mark.FrameFate.TheVariants as fates
 use Rattle.cf_renumber.specs.declared.mark.Origin.{Origin}
 use Rattle.cf_renumber.specs.declared.mark.Origin.TheVariants as origins
-use Rattle.cf_renumber.specs.Counts.{Event, Admitted, Refused, ClientAck, Carried, ControllerAck, client_frames, frames_to_client, from_client, to_controller, from_controller, to_client, is_admitted, is_controllers, controllers_among, covered_by, count_from, acked_by_client, acked_by_controller, last_told, client_translated, owed_ack, outstanding_refusal}
+use Rattle.cf_renumber.specs.Counts.{NumberEvent, Admitted, Refused, ClientAck, Carried, ControllerAck, client_frames, frames_to_client, from_client, to_controller, from_controller, to_client, is_admitted, is_controllers, controllers_among, covered_by, count_from, acked_by_client, acked_by_controller, last_told, client_translated, owed_ack, outstanding_refusal}
 use Rattle.cf_renumber.specs.Numbers.{NumbersValue, IsNumbersValue, waiting, HasCountsOf, IsNumbersOf, IsNumbersAwaiting, uncovered, after_client_ack, after_controller_ack, after_admitted, after_dropped, after_mirror, after_refused, after_carried, stamp_for_controller, stamp_for_client, ack_owed, next_stamp_for_controller, next_stamp_for_client}
 use Rattle.cf_renumber.proofs.Lists.{count_by-append, count_by-split, among-add, among-append, uncovered-add, uncovered-append, uncovered_again, uncovered_admitted, count-uncovered, length-uncovered, covered_by-le}
 
@@ -19,7 +19,7 @@ waits : (o : Option ℕ) → IsSome o → waiting o ≡ 1
 waits None some = absurd (false≢true some)
 waits (Some moved) some = refl
 
-module _ (v : NumbersValue) (events : List Event) (j : ℕ) (h : HasCountsOf v events j) where
+module _ (v : NumbersValue) (events : List NumberEvent) (j : ℕ) (h : HasCountsOf v events j) where
   -- how many frames to the client are not acknowledged
   pub origins_left : length v.origins ≡ to_client events - j
   origins_left = ap length h.origins ∙ length-drop j (frames_to_client events)
@@ -34,7 +34,7 @@ module _ (v : NumbersValue) (events : List Event) (j : ℕ) (h : HasCountsOf v e
 
   pub admitted_left : acked_by_controller events + count_by is_admitted v.fates ≡ to_controller events
   admitted_left =
-      ap (λ (xs : List Fate). acked_by_controller events + count_by is_admitted xs) h.fates
+      ap (λ (xs : List FrameFate). acked_by_controller events + count_by is_admitted xs) h.fates
       ∙ count-uncovered (acked_by_controller events) (client_frames events) h.acked
 
   -- the client acknowledges n more, whatever is owed then
@@ -83,9 +83,9 @@ module _ (v : NumbersValue) (events : List Event) (j : ℕ) (h : HasCountsOf v e
   fates_controller_ack m = ap (uncovered m) h.fates ∙ sym (uncovered-add (acked_by_controller events) m (client_frames events))
 
   -- one more frame of the client
-  pub fates_more : (f : Fate) → uncovered 0 (v.fates ++ f ∷ []) ≡ uncovered (acked_by_controller events) (client_frames events ++ f ∷ [])
+  pub fates_more : (f : FrameFate) → uncovered 0 (v.fates ++ f ∷ []) ≡ uncovered (acked_by_controller events) (client_frames events ++ f ∷ [])
   fates_more f =
-      ap (λ (xs : List Fate). uncovered 0 (xs ++ f ∷ [])) h.fates
+      ap (λ (xs : List FrameFate). uncovered 0 (xs ++ f ∷ [])) h.fates
       ∙ sym (uncovered-append (acked_by_controller events) (client_frames events) (f ∷ []) h.acked)
 
   pub fates_admitted : v.fates ++ fates.Admitted ∷ [] ≡ uncovered (acked_by_controller events) (client_frames events ++ fates.Admitted ∷ [])
@@ -95,7 +95,7 @@ module _ (v : NumbersValue) (events : List Event) (j : ℕ) (h : HasCountsOf v e
   origins_more o =
       ap (λ (xs : List Origin). xs ++ o ∷ []) h.origins ∙ sym (drop-append-le j (frames_to_client events) (o ∷ []) h.within)
 
-  pub received_more : (f : Fate) → (v.received + 1) % 32768 ≡ length (client_frames events ++ f ∷ []) % 32768
+  pub received_more : (f : FrameFate) → (v.received + 1) % 32768 ≡ length (client_frames events ++ f ∷ []) % 32768
   received_more f = omega (arith, h.received, length-append (client_frames events) (f ∷ []))
 
   pub sent_more : (o : Origin) → (v.sent + 1) % 32768 ≡ length (frames_to_client events ++ o ∷ []) % 32768
@@ -117,7 +117,7 @@ module _ (v : NumbersValue) (events : List Event) (j : ℕ) (h : HasCountsOf v e
   carried_more = (let e : count_by is_controllers (frames_to_client events ++ origins.Controller ∷ []) ≡ from_controller events + 1 =
       count_by-append is_controllers (frames_to_client events) (origins.Controller ∷ []) in omega (arith, h.carried))
 
-module _ (v : NumbersValue) (events : List Event) where
+module _ (v : NumbersValue) (events : List NumberEvent) where
   pub awaits : (nr n : ℕ) → IsNumbersOf v events → n ≤ length v.origins →
       count_from (acked_by_client events) nr ≡ acked_by_client events + n →
       IsNumbersAwaiting (record (after_client_ack v n) { owed = Some (controllers_among n v.origins) }) events nr
@@ -323,7 +323,7 @@ module _ (v : NumbersValue) (i : IsNumbersValue v) where
         received = omega arith;
       }
 
-pub admits_dropped : (frames : List Fate) → count_by is_admitted (uncovered 0 (frames ++ fates.Refused ∷ [])) ≡ count_by is_admitted frames
+pub admits_dropped : (frames : List FrameFate) → count_by is_admitted (uncovered 0 (frames ++ fates.Refused ∷ [])) ≡ count_by is_admitted frames
 admits_dropped frames =
     let e : count_by is_admitted (frames ++ fates.Refused ∷ []) ≡ count_by is_admitted frames + 0 =
     count_by-append is_admitted frames (fates.Refused ∷ []) in

@@ -1,8 +1,8 @@
 -- What a number stands for, and which front is covered.
 use Rattle.std.proofs.Common.{◌≡◌, ℕ, zero, suc, ◌+◌, ◌<◌, ◌≤◌, true, List, [], ◌∷◌, length, take, arith, count_by}
 use Rattle.std.proofs.lemmas.Bool.Decides.{nat_tests}
-use Rattle.cf_renumber.specs.declared.mark.Fate.{Fate}
-use Rattle.cf_renumber.specs.declared.mark.Fate.TheVariants as fates
+use Rattle.cf_renumber.specs.declared.mark.FrameFate.{FrameFate}
+use Rattle.cf_renumber.specs.declared.mark.FrameFate.TheVariants as fates
 use Rattle.cf_renumber.specs.Counts.{IsCountOf, count_from, is_counted, is_admitted, covered_by}
 use Rattle.cf_renumber.proofs.Lists.{one_more}
 
@@ -23,13 +23,13 @@ is_count low high number e =
     let f : count_from low number ≤ high = grind (arith, nat_tests) in
     record { at_least = omega arith; at_most = f; agrees = omega arith }
 
-pub covered-few : (m : ℕ) (frames : List Fate) → count_by is_admitted (take (covered_by m frames) frames) ≤ m
+pub covered-few : (m : ℕ) (frames : List FrameFate) → count_by is_admitted (take (covered_by m frames) frames) ≤ m
 covered-few m [] = omega arith
 covered-few m (fates.Refused ∷ frames) = covered-few m frames
 covered-few zero (fates.Admitted ∷ frames) = omega arith
 covered-few (suc m) (fates.Admitted ∷ frames) = omega (arith, covered-few m frames, one_more (take (covered_by m frames) frames))
 
-pub covered-most : (m j : ℕ) (frames : List Fate) → j ≤ length frames → count_by is_admitted (take j frames) ≤ m → j ≤ covered_by m frames
+pub covered-most : (m j : ℕ) (frames : List FrameFate) → j ≤ length frames → count_by is_admitted (take j frames) ≤ m → j ≤ covered_by m frames
 covered-most m j [] l h = l
 covered-most m zero (f ∷ frames) l h = omega arith
 covered-most m (suc j) (fates.Refused ∷ frames) l h = omega (arith, covered-most m j frames (omega arith) h)

@@ -6,8 +6,8 @@ use Rattle.std.specs.List.{slice_get}
 use Rattle.std.proofs.lemmas.Option.{get_or_from_slice_get, slice_get_within}
 use Rattle.std.proofs.lemmas.List.{take_more, take-append-drop, length-drop, take-append-le}
 use Rattle.std.proofs.lemmas.List.Sums.{sum_by-append}
-use Rattle.cf_renumber.specs.declared.mark.Fate.{Fate}
-use Rattle.cf_renumber.specs.declared.mark.Fate.TheVariants as fates
+use Rattle.cf_renumber.specs.declared.mark.FrameFate.{FrameFate}
+use Rattle.cf_renumber.specs.declared.mark.FrameFate.TheVariants as fates
 use Rattle.cf_renumber.specs.declared.mark.Origin.{Origin}
 use Rattle.cf_renumber.specs.declared.mark.Origin.TheVariants as origins
 use Rattle.cf_renumber.specs.Counts.{is_admitted, is_controllers, controllers_among, covered_by}
@@ -29,25 +29,25 @@ among-add j n frames =
 pub among-append : (j : ℕ) (frames more : List Origin) → j ≤ length frames → controllers_among j (frames ++ more) ≡ controllers_among j frames
 among-append j frames more h = ap (count_by is_controllers) (take-append-le j frames more h)
 
-pub covered_by-le : (m : ℕ) (frames : List Fate) → covered_by m frames ≤ length frames
+pub covered_by-le : (m : ℕ) (frames : List FrameFate) → covered_by m frames ≤ length frames
 covered_by-le m [] = omega arith
 covered_by-le m (fates.Refused ∷ frames) = omega (arith, covered_by-le m frames)
 covered_by-le zero (fates.Admitted ∷ frames) = omega arith
 covered_by-le (suc m) (fates.Admitted ∷ frames) = omega (arith, covered_by-le m frames)
 
 -- what m + a leave is what a leave of what m leave
-pub uncovered-add : (m a : ℕ) (frames : List Fate) → uncovered (m + a) frames ≡ uncovered a (uncovered m frames)
+pub uncovered-add : (m a : ℕ) (frames : List FrameFate) → uncovered (m + a) frames ≡ uncovered a (uncovered m frames)
 uncovered-add m a [] = refl
 uncovered-add m a (fates.Refused ∷ frames) = uncovered-add m a frames
 uncovered-add zero a (fates.Admitted ∷ frames) = (let e : zero + a ≡ a = omega arith in ap (λ (n : ℕ). uncovered n (fates.Admitted ∷ frames)) e)
 uncovered-add (suc m) a (fates.Admitted ∷ frames) =
     ap (λ (n : ℕ). uncovered n (fates.Admitted ∷ frames)) (suc-add m a) ∙ uncovered-add m a frames
 
-pub one_more : (frames : List Fate) → count_by is_admitted (fates.Admitted ∷ frames) ≡ 1 + count_by is_admitted frames
+pub one_more : (frames : List FrameFate) → count_by is_admitted (fates.Admitted ∷ frames) ≡ 1 + count_by is_admitted frames
 one_more frames = count_by-append is_admitted (fates.Admitted ∷ []) frames
 
 -- where the list grows, what is left grows with it, unless nothing is left
-pub uncovered-append : (m : ℕ) (frames more : List Fate) → m ≤ count_by is_admitted frames →
+pub uncovered-append : (m : ℕ) (frames more : List FrameFate) → m ≤ count_by is_admitted frames →
     uncovered m (frames ++ more) ≡ uncovered 0 (uncovered m frames ++ more)
 uncovered-append zero [] more h = refl
 uncovered-append (suc m) [] more h = absurd (omega arith)
@@ -55,7 +55,7 @@ uncovered-append m (fates.Refused ∷ frames) more h = uncovered-append m frames
 uncovered-append zero (fates.Admitted ∷ frames) more h = refl
 uncovered-append (suc m) (fates.Admitted ∷ frames) more h = uncovered-append m frames more (omega (arith, one_more frames))
 
-pub count-uncovered : (m : ℕ) (frames : List Fate) → m ≤ count_by is_admitted frames →
+pub count-uncovered : (m : ℕ) (frames : List FrameFate) → m ≤ count_by is_admitted frames →
     m + count_by is_admitted (uncovered m frames) ≡ count_by is_admitted frames
 count-uncovered zero [] h = refl
 count-uncovered (suc m) [] h = absurd (omega arith)
@@ -64,7 +64,7 @@ count-uncovered zero (fates.Admitted ∷ frames) h = omega arith
 count-uncovered (suc m) (fates.Admitted ∷ frames) h =
     (let k = count-uncovered m frames (omega (arith, one_more frames)) in omega (arith, one_more frames))
 
-pub length-uncovered : (m : ℕ) (frames : List Fate) → length (uncovered m frames) ≡ length frames - covered_by m frames
+pub length-uncovered : (m : ℕ) (frames : List FrameFate) → length (uncovered m frames) ≡ length frames - covered_by m frames
 length-uncovered m frames = length-drop (covered_by m frames) frames
 
 among-next : (frames : List Origin) (i : ℕ) (o : Origin) → slice_get frames i ≡ Some o →
@@ -83,18 +83,18 @@ pub among_mirror : (frames : List Origin) (i : ℕ) → slice_get frames i ≡ S
     controllers_among (i + 1) frames ≡ controllers_among i frames + 0
 among_mirror frames i e = among-next frames i origins.Mirror e
 
-pub uncovered_again : (m : ℕ) (frames : List Fate) → uncovered 0 (uncovered m frames) ≡ uncovered m frames
+pub uncovered_again : (m : ℕ) (frames : List FrameFate) → uncovered 0 (uncovered m frames) ≡ uncovered m frames
 uncovered_again m frames = (let e : m + 0 ≡ m = omega arith in sym (uncovered-add m 0 frames) ∙ ap (λ (n : ℕ). uncovered n frames) e)
 
 -- a list that begins with an admitted frame
-pub uncovered_keeps : (frames more : List Fate) → uncovered 0 frames ≡ frames → 0 < length frames → uncovered 0 (frames ++ more) ≡ frames ++ more
+pub uncovered_keeps : (frames more : List FrameFate) → uncovered 0 frames ≡ frames → 0 < length frames → uncovered 0 (frames ++ more) ≡ frames ++ more
 uncovered_keeps [] more h l = absurd (omega arith)
 uncovered_keeps (fates.Refused ∷ frames) more h l =
     (let e : length (uncovered 0 frames) ≡ length (fates.Refused ∷ frames) = ap length h in
     absurd (omega (arith, length-uncovered 0 frames)))
 uncovered_keeps (fates.Admitted ∷ frames) more h l = refl
 
-pub uncovered_admitted : (frames : List Fate) → uncovered 0 frames ≡ frames →
+pub uncovered_admitted : (frames : List FrameFate) → uncovered 0 frames ≡ frames →
     uncovered 0 (frames ++ fates.Admitted ∷ []) ≡ frames ++ fates.Admitted ∷ []
 uncovered_admitted [] h = refl
 uncovered_admitted (f ∷ frames) h = uncovered_keeps (f ∷ frames) _ h (omega arith)

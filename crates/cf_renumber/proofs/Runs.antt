@@ -5,7 +5,7 @@ use Rattle.cf_view.specs.declared.Side.{Side}
 use Rattle.cf_renumber.specs.declared.answer.Stamp.{Stamp}
 use Rattle.cf_renumber.specs.declared.answer.RefusedStamp.{RefusedStamp}
 use Rattle.cf_renumber.specs.declared.answer.NumberRefusal.{NumberRefusal}
-use Rattle.cf_renumber.specs.Counts.{Event, Admitted, Refused, ClientAck, Carried, ControllerAck, client_refusal, client_ack_refusal, controller_refusal, controller_ack_refusal, admitted_stamp, refused_stamp, carried_stamp, client_translated, controller_translated, may_send}
+use Rattle.cf_renumber.specs.Counts.{NumberEvent, Admitted, Refused, ClientAck, Carried, ControllerAck, client_refusal, client_ack_refusal, controller_refusal, controller_ack_refusal, admitted_stamp, refused_stamp, carried_stamp, client_translated, controller_translated, may_send}
 use Rattle.cf_renumber.specs.NumbersCalls.{NumbersCall, MaySend, FromClient, Admit, Refuse, AckOfClient, FromController, AckOfController, Turn, Idle, Waiting, Over, MayCall, IsNumbersRun, IsInOrder, IsNumbersAt, Answered, AllAnswered, NumbersStep, turn_after, events_of, judged, answer, after_result, error_of}
 use Rattle.cf_renumber.specs.Numbers.{NumbersValue, IsNumbersOf, IsNumbersAwaiting}
 
@@ -19,119 +19,119 @@ runs (call ∷ earlier) v r o =
 
 -- a call that may be made only between frames
 module _ (v : NumbersValue) where
-  idle_client_ack : (nr : ℕ) (r : Result ℕ NumberRefusal) (p : Turn) (events : List Event) → MayCall p (AckOfClient nr r) →
+  idle_client_ack : (nr : ℕ) (r : Result ℕ NumberRefusal) (p : Turn) (events : List NumberEvent) → MayCall p (AckOfClient nr r) →
       IsNumbersAt p v events → IsNumbersOf v events
   idle_client_ack nr r Idle events m h = h
   idle_client_ack nr r (Waiting n) events m h = absurd m
   idle_client_ack nr r Over events m h = absurd m
 
-  idle_controller_ack : (nr : ℕ) (r : Result ℕ NumberRefusal) (p : Turn) (events : List Event) → MayCall p (AckOfController nr r) →
+  idle_controller_ack : (nr : ℕ) (r : Result ℕ NumberRefusal) (p : Turn) (events : List NumberEvent) → MayCall p (AckOfController nr r) →
       IsNumbersAt p v events → IsNumbersOf v events
   idle_controller_ack nr r Idle events m h = h
   idle_controller_ack nr r (Waiting n) events m h = absurd m
   idle_controller_ack nr r Over events m h = absurd m
 
-  idle_from_controller : (ns nr : ℕ) (r : Result Stamp NumberRefusal) (p : Turn) (events : List Event) → MayCall p (FromController ns nr r) →
+  idle_from_controller : (ns nr : ℕ) (r : Result Stamp NumberRefusal) (p : Turn) (events : List NumberEvent) → MayCall p (FromController ns nr r) →
       IsNumbersAt p v events → IsNumbersOf v events
   idle_from_controller ns nr r Idle events m h = h
   idle_from_controller ns nr r (Waiting n) events m h = absurd m
   idle_from_controller ns nr r Over events m h = absurd m
 
-  idle_from_client : (ns nr : ℕ) (r : Option NumberRefusal) (p : Turn) (events : List Event) → MayCall p (FromClient ns nr r) →
+  idle_from_client : (ns nr : ℕ) (r : Option NumberRefusal) (p : Turn) (events : List NumberEvent) → MayCall p (FromClient ns nr r) →
       IsNumbersAt p v events → IsNumbersOf v events
   idle_from_client ns nr r Idle events m h = h
   idle_from_client ns nr r (Waiting n) events m h = absurd m
   idle_from_client ns nr r Over events m h = absurd m
 
-  may_send_at : (side : Side) (b : Bool) → ((events : List Event) → IsNumbersOf v events → b ≡ may_send side events) →
-      (p : Turn) (events : List Event) → MayCall p (MaySend side b) → IsNumbersAt p v events → (b ≡ may_send side events) × IsNumbersOf v events
+  may_send_at : (side : Side) (b : Bool) → ((events : List NumberEvent) → IsNumbersOf v events → b ≡ may_send side events) →
+      (p : Turn) (events : List NumberEvent) → MayCall p (MaySend side b) → IsNumbersAt p v events → (b ≡ may_send side events) × IsNumbersOf v events
   may_send_at side b a Idle events m h = (a events h, h)
   may_send_at side b a (Waiting n) events m h = absurd m
   may_send_at side b a Over events m h = absurd m
 
-  pub did_may_send : (side : Side) (b : Bool) → ((events : List Event) → IsNumbersOf v events → b ≡ may_send side events) →
+  pub did_may_send : (side : Side) (b : Bool) → ((events : List NumberEvent) → IsNumbersOf v events → b ≡ may_send side events) →
       NumbersStep (MaySend side b) v v
   did_may_send side b a earlier m h = may_send_at side b a (turn_after earlier) (events_of earlier) m h
 
 module _ (old new : NumbersValue) where
-  judged_at : {S : Type 0} (s : S) (stamp : List Event → ℕ → S) (event : ℕ → Event) (call : NumbersCall)
-      → ((events : List Event) (nr : ℕ) → IsNumbersAwaiting old events nr → s ≡ stamp events nr)
-      → ((events : List Event) (nr : ℕ) → IsNumbersAwaiting old events nr → IsNumbersOf new (event nr ∷ events))
-      → (nr : ℕ) (events : List Event) → IsNumbersAwaiting old events nr → (s ≡ stamp events nr) × IsNumbersOf new (event nr ∷ events)
+  judged_at : {S : Type 0} (s : S) (stamp : List NumberEvent → ℕ → S) (event : ℕ → NumberEvent) (call : NumbersCall)
+      → ((events : List NumberEvent) (nr : ℕ) → IsNumbersAwaiting old events nr → s ≡ stamp events nr)
+      → ((events : List NumberEvent) (nr : ℕ) → IsNumbersAwaiting old events nr → IsNumbersOf new (event nr ∷ events))
+      → (nr : ℕ) (events : List NumberEvent) → IsNumbersAwaiting old events nr → (s ≡ stamp events nr) × IsNumbersOf new (event nr ∷ events)
   judged_at s stamp event call a b nr events w = (a events nr w, b events nr w)
 
-  admit_at : (s : Stamp) → ((events : List Event) (nr : ℕ) → IsNumbersAwaiting old events nr → s ≡ admitted_stamp events nr) →
-      ((events : List Event) (nr : ℕ) → IsNumbersAwaiting old events nr → IsNumbersOf new (Admitted nr ∷ events))
-      → (p : Turn) (events : List Event) → MayCall p (Admit s) → IsNumbersAt p old events →
+  admit_at : (s : Stamp) → ((events : List NumberEvent) (nr : ℕ) → IsNumbersAwaiting old events nr → s ≡ admitted_stamp events nr) →
+      ((events : List NumberEvent) (nr : ℕ) → IsNumbersAwaiting old events nr → IsNumbersOf new (Admitted nr ∷ events))
+      → (p : Turn) (events : List NumberEvent) → MayCall p (Admit s) → IsNumbersAt p old events →
       Answered p events (Admit s) × IsNumbersOf new (judged p (λ nr. Admitted nr) events)
   admit_at s a b Idle events m h = absurd m
   admit_at s a b (Waiting nr) events m h = (a events nr h, b events nr h)
   admit_at s a b Over events m h = absurd m
 
-  pub did_admit : (s : Stamp) → ((events : List Event) (nr : ℕ) → IsNumbersAwaiting old events nr → s ≡ admitted_stamp events nr) →
-      ((events : List Event) (nr : ℕ) → IsNumbersAwaiting old events nr → IsNumbersOf new (Admitted nr ∷ events)) → NumbersStep (Admit s) old new
+  pub did_admit : (s : Stamp) → ((events : List NumberEvent) (nr : ℕ) → IsNumbersAwaiting old events nr → s ≡ admitted_stamp events nr) →
+      ((events : List NumberEvent) (nr : ℕ) → IsNumbersAwaiting old events nr → IsNumbersOf new (Admitted nr ∷ events)) → NumbersStep (Admit s) old new
   did_admit s a b earlier m h = admit_at s a b (turn_after earlier) (events_of earlier) m h
 
   refuse_at : (reply : Bool) (s : RefusedStamp) →
-      ((events : List Event) (nr : ℕ) → IsNumbersAwaiting old events nr → s ≡ refused_stamp events nr reply) →
-      ((events : List Event) (nr : ℕ) → IsNumbersAwaiting old events nr → IsNumbersOf new (Refused nr reply ∷ events))
-      → (p : Turn) (events : List Event) → MayCall p (Refuse reply s) → IsNumbersAt p old events →
+      ((events : List NumberEvent) (nr : ℕ) → IsNumbersAwaiting old events nr → s ≡ refused_stamp events nr reply) →
+      ((events : List NumberEvent) (nr : ℕ) → IsNumbersAwaiting old events nr → IsNumbersOf new (Refused nr reply ∷ events))
+      → (p : Turn) (events : List NumberEvent) → MayCall p (Refuse reply s) → IsNumbersAt p old events →
       Answered p events (Refuse reply s) × IsNumbersOf new (judged p (λ nr. Refused nr reply) events)
   refuse_at reply s a b Idle events m h = absurd m
   refuse_at reply s a b (Waiting nr) events m h = (a events nr h, b events nr h)
   refuse_at reply s a b Over events m h = absurd m
 
   pub did_refuse : (reply : Bool) (s : RefusedStamp) →
-      ((events : List Event) (nr : ℕ) → IsNumbersAwaiting old events nr → s ≡ refused_stamp events nr reply) →
-      ((events : List Event) (nr : ℕ) → IsNumbersAwaiting old events nr → IsNumbersOf new (Refused nr reply ∷ events)) →
+      ((events : List NumberEvent) (nr : ℕ) → IsNumbersAwaiting old events nr → s ≡ refused_stamp events nr reply) →
+      ((events : List NumberEvent) (nr : ℕ) → IsNumbersAwaiting old events nr → IsNumbersOf new (Refused nr reply ∷ events)) →
       NumbersStep (Refuse reply s) old new
   did_refuse reply s a b earlier m h = refuse_at reply s a b (turn_after earlier) (events_of earlier) m h
 
   -- an answer with a number or a stamp
-  module _ {A : Type 0} (refusal : List Event → Option NumberRefusal) (value : List Event → A) (event : Event) where
+  module _ {A : Type 0} (refusal : List NumberEvent → Option NumberRefusal) (value : List NumberEvent → A) (event : NumberEvent) where
     result_at : (r : Result A NumberRefusal)
-        → ((events : List Event) → IsNumbersOf old events →
+        → ((events : List NumberEvent) → IsNumbersOf old events →
         MatchResult r (λ n. (refusal events ≡ None) × (n ≡ value events)) (λ e. refusal events ≡ Some e))
-        → IfOk r (λ _. (events : List Event) → IsNumbersOf old events → IsNumbersOf new (event ∷ events))
-        → (events : List Event) → IsNumbersOf old events →
+        → IfOk r (λ _. (events : List NumberEvent) → IsNumbersOf old events → IsNumbersOf new (event ∷ events))
+        → (events : List NumberEvent) → IsNumbersOf old events →
         (r ≡ answer (refusal events) (value events)) × IsNumbersAt (after_result r) new (event ∷ events)
     result_at (Ok x) a b events h = (let k = a events h in (rw (k.0, k.1) refl, b events h))
     result_at (Err e) a b events h = (let k = a events h in (rw k refl, tt))
 
   pub did_client_ack : (nr : ℕ) (r : Result ℕ NumberRefusal)
-      → ((events : List Event) → IsNumbersOf old events →
+      → ((events : List NumberEvent) → IsNumbersOf old events →
       MatchResult r (λ n. (client_ack_refusal events nr ≡ None)
       × (n ≡ client_translated events nr % 32768)) (λ e. client_ack_refusal events nr ≡ Some e))
-      → IfOk r (λ _. (events : List Event) → IsNumbersOf old events → IsNumbersOf new (ClientAck nr ∷ events)) →
+      → IfOk r (λ _. (events : List NumberEvent) → IsNumbersOf old events → IsNumbersOf new (ClientAck nr ∷ events)) →
       NumbersStep (AckOfClient nr r) old new
   did_client_ack nr r a b earlier m h =
       let events = events_of earlier in
       result_at (λ events. client_ack_refusal events nr) (λ events. client_translated events nr % 32768) (ClientAck nr) r a b events (idle_client_ack old nr r (turn_after earlier) events m h)
 
   pub did_controller_ack : (nr : ℕ) (r : Result ℕ NumberRefusal)
-      → ((events : List Event) → IsNumbersOf old events →
+      → ((events : List NumberEvent) → IsNumbersOf old events →
       MatchResult r (λ n. (controller_ack_refusal events nr ≡ None)
       × (n ≡ controller_translated events nr % 32768)) (λ e. controller_ack_refusal events nr ≡ Some e))
-      → IfOk r (λ _. (events : List Event) → IsNumbersOf old events → IsNumbersOf new (ControllerAck nr ∷ events)) →
+      → IfOk r (λ _. (events : List NumberEvent) → IsNumbersOf old events → IsNumbersOf new (ControllerAck nr ∷ events)) →
       NumbersStep (AckOfController nr r) old new
   did_controller_ack nr r a b earlier m h =
       let events = events_of earlier in
       result_at (λ events. controller_ack_refusal events nr) (λ events. controller_translated events nr % 32768) (ControllerAck nr) r a b events (idle_controller_ack old nr r (turn_after earlier) events m h)
 
   pub did_from_controller : (ns nr : ℕ) (r : Result Stamp NumberRefusal)
-      → ((events : List Event) → IsNumbersOf old events →
+      → ((events : List NumberEvent) → IsNumbersOf old events →
       MatchResult r (λ s. (controller_refusal events ns nr ≡ None)
       × (s ≡ carried_stamp events nr)) (λ e. controller_refusal events ns nr ≡ Some e))
-      → IfOk r (λ _. (events : List Event) → IsNumbersOf old events → IsNumbersOf new (Carried nr ∷ events)) →
+      → IfOk r (λ _. (events : List NumberEvent) → IsNumbersOf old events → IsNumbersOf new (Carried nr ∷ events)) →
       NumbersStep (FromController ns nr r) old new
   did_from_controller ns nr r a b earlier m h =
       let events = events_of earlier in
       result_at (λ events. controller_refusal events ns nr) (λ events. carried_stamp events nr) (Carried nr) r a b events (idle_from_controller old ns nr r (turn_after earlier) events m h)
 
   pub did_from_client : {A : Type 0} (ns nr : ℕ) (r : Result A NumberRefusal)
-      → ((events : List Event) → IsNumbersOf old events →
+      → ((events : List NumberEvent) → IsNumbersOf old events →
       MatchResult r (λ _. client_refusal events ns nr ≡ None) (λ e. client_refusal events ns nr ≡ Some e))
-      → IfOk r (λ _. (events : List Event) → IsNumbersOf old events → IsNumbersAwaiting new events nr) →
+      → IfOk r (λ _. (events : List NumberEvent) → IsNumbersOf old events → IsNumbersAwaiting new events nr) →
       NumbersStep (FromClient ns nr (error_of r)) old new
   did_from_client ns nr (Ok x) a b earlier m h =
       let s = idle_from_client old ns nr None (turn_after earlier) (events_of earlier) m h in

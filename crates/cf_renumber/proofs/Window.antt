@@ -7,10 +7,10 @@ use Rattle.std.proofs.lemmas.List.Sums.{count_by-le-length}
 use Rattle.cf_renumber.specs.declared.answer.Stamp.{Stamp}
 use Rattle.cf_renumber.specs.declared.answer.RefusedStamp.{RefusedStamp}
 use Rattle.cf_renumber.specs.declared.answer.NumberRefusal.{NumberRefusal}
-use Rattle.cf_renumber.specs.declared.mark.Fate.{Fate}
-use Rattle.cf_renumber.specs.declared.mark.Fate.TheVariants as fates
+use Rattle.cf_renumber.specs.declared.mark.FrameFate.{FrameFate}
+use Rattle.cf_renumber.specs.declared.mark.FrameFate.TheVariants as fates
 use Rattle.cf_renumber.specs.declared.mark.Origin.TheVariants as origins
-use Rattle.cf_renumber.specs.Counts.{Event, Started, Stopped, Admitted, Refused, ClientAck, Carried, ControllerAck, IsCountOf, client_frames, frames_to_client, from_client, to_controller, to_client, is_admitted, count_from, is_counted, covered_by, acked_by_client, acked_by_controller, send_refusal, receive_refusal, outstanding_refusal, unacked_by_controller, client_refusal, client_ack_refusal, controller_refusal, controller_ack_refusal, from_controller}
+use Rattle.cf_renumber.specs.Counts.{NumberEvent, Started, Stopped, Admitted, Refused, ClientAck, Carried, ControllerAck, IsCountOf, client_frames, frames_to_client, from_client, to_controller, to_client, is_admitted, count_from, is_counted, covered_by, acked_by_client, acked_by_controller, send_refusal, receive_refusal, outstanding_refusal, unacked_by_controller, client_refusal, client_ack_refusal, controller_refusal, controller_ack_refusal, from_controller}
 use Rattle.cf_renumber.specs.Numbers.{uncovered}
 use Rattle.cf_renumber.specs.NumbersCalls.{NumbersCall, Start, Stop, MaySend, FromClient, Admit, Refuse, AckOfClient, FromController, AckOfController, Turn, Idle, Waiting, Over, MayCall, IsInOrder, AllAnswered, turn_after, events_of, judged, answer}
 use Rattle.cf_renumber.proofs.Greatest.{counted, count_is, is_count}
@@ -38,7 +38,7 @@ answered_ok None x y e = refl
 answered_ok (Some r) x y e = absurd (false≢true (sym (ap is_ok e)))
 
 -- one more frame of the client, and more that the controller acknowledges
-unacked_more : (m : ℕ) (frames : List Fate) (f : Fate) → m ≤ count_by is_admitted frames →
+unacked_more : (m : ℕ) (frames : List FrameFate) (f : FrameFate) → m ≤ count_by is_admitted frames →
     length (frames ++ f ∷ []) - covered_by m (frames ++ f ∷ []) ≤ length frames - covered_by m frames + 1
 unacked_more m frames f h =
     let left = uncovered m frames in
@@ -49,7 +49,7 @@ unacked_more m frames f h =
     let d = length-uncovered m frames in
     omega (arith, a, b, c, d, e)
 
-unacked_less : (m n : ℕ) (frames : List Fate) → m ≤ n → length frames - covered_by n frames ≤ length frames - covered_by m frames
+unacked_less : (m n : ℕ) (frames : List FrameFate) → m ≤ n → length frames - covered_by n frames ≤ length frames - covered_by m frames
 unacked_less m n frames h =
     let k : m + (n - m) ≡ n = omega (arith, h) in
     let e : length (uncovered n frames) ≡ length (uncovered (n - m) (uncovered m frames)) =
@@ -60,19 +60,19 @@ unacked_less m n frames h =
     omega (arith, a, b, c, e)
 
 -- where the client has acknowledged j frames
-record IsNear (es : List Event) (j : ℕ) : Type 0 where
+record IsNear (es : List NumberEvent) (j : ℕ) : Type 0 where
   pub within : j ≤ to_client es
   pub few : to_client es ≤ j + 4096
   pub back : acked_by_controller es ≤ to_controller es
   pub unacked : unacked_by_controller es ≤ 4096
 
-record IsNearer (es : List Event) (j : ℕ) : Type 0 where
+record IsNearer (es : List NumberEvent) (j : ℕ) : Type 0 where
   pub within : j ≤ to_client es
   pub few : to_client es < j + 4096
   pub back : acked_by_controller es ≤ to_controller es
   pub unacked : unacked_by_controller es < 4096
 
-abbrev Near : Turn → List Event → Type 0
+abbrev Near : Turn → List NumberEvent → Type 0
 Near Idle es = IsNear es (acked_by_client es)
 Near (Waiting nr) es = IsNear es (acked_by_client es) × IsNearer es (count_from (acked_by_client es) nr)
 Near Over es = Unit {0}
@@ -82,7 +82,7 @@ less : (n : ℕ) → n ≤ 4096 → outstanding_refusal n ≡ None → n < 4096
 less n h e =
     elim (cases_lt n 4096) [ inl l ↦ l | inr l ↦ absurd (not_full n e (omega (arith, h, l))) ]
 
-module _ (es : List Event) (n : IsNear es (acked_by_client es)) where
+module _ (es : List NumberEvent) (n : IsNear es (acked_by_client es)) where
   nearer : (ns nr : ℕ) → client_refusal es ns nr ≡ None → IsNearer es (count_from (acked_by_client es) nr)
   nearer ns nr e =
       let j = count_from (acked_by_client es) nr in
@@ -125,7 +125,7 @@ module _ (es : List Event) (n : IsNear es (acked_by_client es)) where
         unacked = m.unacked;
       }
 
-module _ (es : List Event) (nr : ℕ) (n : IsNearer es (count_from (acked_by_client es) nr)) where
+module _ (es : List NumberEvent) (nr : ℕ) (n : IsNearer es (count_from (acked_by_client es) nr)) where
   near_admitted : IsNear (Admitted nr ∷ es) (count_from (acked_by_client es) nr)
   near_admitted =
       let one : count_by is_admitted (client_frames es ++ fates.Admitted ∷ []) ≡ to_controller es + 1 =
@@ -161,26 +161,26 @@ over (FromController ns nr r) m = absurd m
 over (AckOfController nr r) m = absurd m
 
 -- a call that may be made only between frames
-only_idle : (call : NumbersCall) (p : Turn) (es : List Event) → ((nr : ℕ) → MayCall (Waiting nr) call → ⊥) → MayCall p call → Near p es →
+only_idle : (call : NumbersCall) (p : Turn) (es : List NumberEvent) → ((nr : ℕ) → MayCall (Waiting nr) call → ⊥) → MayCall p call → Near p es →
     IsNear es (acked_by_client es)
 only_idle call Idle es none m n = n
 only_idle call (Waiting nr) es none m n = absurd (none nr m)
 only_idle call Over es none m n = absurd (over call m)
 
-near_admit : (s : Stamp) (p : Turn) (es : List Event) → MayCall p (Admit s) → Near p es →
+near_admit : (s : Stamp) (p : Turn) (es : List NumberEvent) → MayCall p (Admit s) → Near p es →
     IsNear (judged p (λ nr. Admitted nr) es) (acked_by_client (judged p (λ nr. Admitted nr) es))
 near_admit s Idle es m n = absurd m
 near_admit s (Waiting nr) es m n = near_admitted es nr n.1
 near_admit s Over es m n = absurd m
 
-near_refuse : (reply : Bool) (s : RefusedStamp) (p : Turn) (es : List Event) → MayCall p (Refuse reply s) → Near p es →
+near_refuse : (reply : Bool) (s : RefusedStamp) (p : Turn) (es : List NumberEvent) → MayCall p (Refuse reply s) → Near p es →
     IsNear (judged p (λ nr. Refused nr reply) es) (acked_by_client (judged p (λ nr. Refused nr reply) es))
 near_refuse reply s Idle es m n = absurd m
 near_refuse reply s (Waiting nr) es m n = near_refused es nr n.1 reply
 near_refuse reply s Over es m n = absurd m
 
 -- what stays where frames neither come nor go
-same : (es more : List Event) → IsNear es (acked_by_client es) → frames_to_client more ≡ frames_to_client es → client_frames more ≡ client_frames es →
+same : (es more : List NumberEvent) → IsNear es (acked_by_client es) → frames_to_client more ≡ frames_to_client es → client_frames more ≡ client_frames es →
     acked_by_client more ≡ acked_by_client es → acked_by_controller more ≡ acked_by_controller es → IsNear more (acked_by_client more)
 same es more n a b c d =
     record { within = rw (a, c) n.within; few = rw (a, c) n.few; back = rw (b, d) n.back; unacked = rw (b, d) n.unacked }
@@ -214,7 +214,7 @@ near (AckOfController nr (Ok x) ∷ earlier) o a =
 near (AckOfController nr (Err e) ∷ earlier) o a = tt
 
 -- the ranges of a number where no call was refused
-ranges_at : (p : Turn) (es : List Event) → (p ≡ Over → ⊥) → Near p es → IsNear es (acked_by_client es)
+ranges_at : (p : Turn) (es : List NumberEvent) → (p ≡ Over → ⊥) → Near p es → IsNear es (acked_by_client es)
 ranges_at Idle es going n = n
 ranges_at (Waiting nr) es going n = n.0
 ranges_at Over es going n = absurd (going refl)

@@ -12,32 +12,32 @@ use Rattle.cf_renumber.specs.declared.answer.Stamp.{Stamp}
 use Rattle.cf_renumber.specs.declared.answer.RefusedStamp.{RefusedStamp}
 use Rattle.cf_renumber.specs.declared.answer.NumberRefusal.{NumberRefusal}
 use Rattle.cf_renumber.specs.declared.answer.NumberRefusal.TheVariants as refusals
-use Rattle.cf_renumber.specs.declared.mark.Fate.{Fate}
-use Rattle.cf_renumber.specs.declared.mark.Fate.TheVariants as fates
+use Rattle.cf_renumber.specs.declared.mark.FrameFate.{FrameFate}
+use Rattle.cf_renumber.specs.declared.mark.FrameFate.TheVariants as fates
 use Rattle.cf_renumber.specs.declared.mark.Origin.{Origin}
 use Rattle.cf_renumber.specs.declared.mark.Origin.TheVariants as origins
 
 -- what happened. The number is the N(R) of the frame that came
-pub data Event : Type 0 where
-  Started : Event
-  Stopped : Event
+pub data NumberEvent : Type 0 where
+  Started : NumberEvent
+  Stopped : NumberEvent
   -- an I frame of the client that goes on; one that does not, and whether its mirror goes back; an S frame
-  Admitted : ℕ → Event
-  Refused : ℕ → Bool → Event
-  ClientAck : ℕ → Event
+  Admitted : ℕ → NumberEvent
+  Refused : ℕ → Bool → NumberEvent
+  ClientAck : ℕ → NumberEvent
   -- an I frame of the controller, which goes on; an S frame
-  Carried : ℕ → Event
-  ControllerAck : ℕ → Event
+  Carried : ℕ → NumberEvent
+  ControllerAck : ℕ → NumberEvent
 
 -- the client's I frames in their order, and what became of each
-abbrev pub client_frames : List Event → List Fate
+abbrev pub client_frames : List NumberEvent → List FrameFate
 client_frames [] = []
 client_frames (Admitted nr ∷ earlier) = client_frames earlier ++ fates.Admitted ∷ []
 client_frames (Refused nr mirrored ∷ earlier) = client_frames earlier ++ fates.Refused ∷ []
 client_frames (_ ∷ earlier) = client_frames earlier
 
 -- the I frames to the client in their order, and whose each is
-abbrev pub frames_to_client : List Event → List Origin
+abbrev pub frames_to_client : List NumberEvent → List Origin
 frames_to_client [] = []
 frames_to_client (Refused nr mirrored ∷ earlier) =
     if mirrored then frames_to_client earlier ++ origins.Mirror ∷ [] else frames_to_client earlier
@@ -45,7 +45,7 @@ frames_to_client (Carried nr ∷ earlier) = frames_to_client earlier ++ origins.
 frames_to_client (_ ∷ earlier) = frames_to_client earlier
 
 -- which frames of the client went on
-abbrev pub is_admitted : Fate → Bool
+abbrev pub is_admitted : FrameFate → Bool
 is_admitted fates.Admitted = true
 is_admitted fates.Refused = false
 
@@ -55,19 +55,19 @@ is_controllers origins.Controller = true
 is_controllers origins.Mirror = false
 
 -- how many I frames came from each side, and how many went to each
-abbrev pub from_client : List Event → ℕ
+abbrev pub from_client : List NumberEvent → ℕ
 from_client events = length (client_frames events)
 
 -- how many I frames went to the controller
-abbrev pub to_controller : List Event → ℕ
+abbrev pub to_controller : List NumberEvent → ℕ
 to_controller events = count_by is_admitted (client_frames events)
 
 -- how many I frames the controller sent
-abbrev pub from_controller : List Event → ℕ
+abbrev pub from_controller : List NumberEvent → ℕ
 from_controller events = count_by is_controllers (frames_to_client events)
 
 -- how many I frames went to the client, the controller's and mirrors
-abbrev pub to_client : List Event → ℕ
+abbrev pub to_client : List NumberEvent → ℕ
 to_client events = length (frames_to_client events)
 
 -- a count from low to high that agrees with a number modulo 32768
@@ -86,7 +86,7 @@ abbrev pub is_counted : ℕ → ℕ → ℕ → Bool
 is_counted low high number = nat_lt number 32768 && nat_le (count_from low number) high
 
 -- how many of the I frames to it the client has acknowledged
-abbrev pub acked_by_client : List Event → ℕ
+abbrev pub acked_by_client : List NumberEvent → ℕ
 acked_by_client [] = 0
 acked_by_client (Admitted nr ∷ earlier) = count_from (acked_by_client earlier) nr
 acked_by_client (Refused nr mirrored ∷ earlier) = count_from (acked_by_client earlier) nr
@@ -94,7 +94,7 @@ acked_by_client (ClientAck nr ∷ earlier) = count_from (acked_by_client earlier
 acked_by_client (_ ∷ earlier) = acked_by_client earlier
 
 -- of the admitted ones, those that the controller has
-abbrev pub acked_by_controller : List Event → ℕ
+abbrev pub acked_by_controller : List NumberEvent → ℕ
 acked_by_controller [] = 0
 acked_by_controller (Carried nr ∷ earlier) = count_from (acked_by_controller earlier) nr
 acked_by_controller (ControllerAck nr ∷ earlier) = count_from (acked_by_controller earlier) nr
@@ -105,23 +105,23 @@ abbrev pub controllers_among : ℕ → List Origin → ℕ
 controllers_among j frames = count_by is_controllers (take j frames)
 
 -- the greatest j such that the first j frames of the client hold at most m admitted ones
-abbrev pub covered_by : ℕ → List Fate → ℕ
+abbrev pub covered_by : ℕ → List FrameFate → ℕ
 covered_by m [] = 0
 covered_by m (fates.Refused ∷ frames) = suc (covered_by m frames)
 covered_by zero (fates.Admitted ∷ frames) = 0
 covered_by (suc m) (fates.Admitted ∷ frames) = suc (covered_by m frames)
 
 -- what the N(R) of a client's frame becomes towards the controller
-abbrev pub client_translated : List Event → ℕ → ℕ
+abbrev pub client_translated : List NumberEvent → ℕ → ℕ
 client_translated earlier nr = controllers_among (count_from (acked_by_client earlier) nr) (frames_to_client earlier)
 
 -- what the N(R) of a controller's frame becomes towards the client
-abbrev pub controller_translated : List Event → ℕ → ℕ
+abbrev pub controller_translated : List NumberEvent → ℕ → ℕ
 controller_translated earlier nr = covered_by (count_from (acked_by_controller earlier) nr) (client_frames earlier)
 
 -- the last N(R) that went to the controller, as a count: with an admitted frame, with an S frame of the client, or with
 -- one that a refused frame leaves
-abbrev pub last_told : List Event → ℕ
+abbrev pub last_told : List NumberEvent → ℕ
 last_told [] = 0
 last_told (Admitted nr ∷ earlier) = client_translated earlier nr
 last_told (Refused nr mirrored ∷ earlier) =
@@ -130,29 +130,29 @@ last_told (ClientAck nr ∷ earlier) = client_translated earlier nr
 last_told (_ ∷ earlier) = last_told earlier
 
 -- whether the last of start and stop was a start
-abbrev pub is_running : List Event → Bool
+abbrev pub is_running : List NumberEvent → Bool
 is_running [] = false
 is_running (Started ∷ earlier) = true
 is_running (Stopped ∷ earlier) = false
 is_running (_ ∷ earlier) = is_running earlier
 
 -- whether a start ever came
-abbrev pub has_started : List Event → Bool
+abbrev pub has_started : List NumberEvent → Bool
 has_started [] = false
 has_started (Started ∷ earlier) = true
 has_started (_ ∷ earlier) = has_started earlier
 
 -- whether a side may send I frames: the client while the last of the two is a start, the controller from the first start on
-abbrev pub may_send : Side → List Event → Bool
+abbrev pub may_send : Side → List NumberEvent → Bool
 may_send sides.Client events = is_running events
 may_send sides.Controller events = has_started events
 
 -- the numbers of a client's frame that goes on
-abbrev pub admitted_stamp : List Event → ℕ → Stamp
+abbrev pub admitted_stamp : List NumberEvent → ℕ → Stamp
 admitted_stamp earlier nr = record { send = to_controller earlier % 32768; receive = client_translated earlier nr % 32768 }
 
 -- the numbers of the mirror of a refused frame, which is itself among the client's frames
-abbrev pub mirror_stamp : List Event → Stamp
+abbrev pub mirror_stamp : List NumberEvent → Stamp
 mirror_stamp earlier =
     record {
       send = to_client earlier % 32768;
@@ -160,17 +160,17 @@ mirror_stamp earlier =
     }
 
 -- the N(R) of the S frame that a refused frame leaves towards the controller
-abbrev pub owed_ack : List Event → ℕ → Option ℕ
+abbrev pub owed_ack : List NumberEvent → ℕ → Option ℕ
 owed_ack earlier nr =
     if nat_lt (last_told earlier) (client_translated earlier nr) then Some (client_translated earlier nr % 32768) else None
 
 -- what a refused frame leaves: the numbers of its mirror, where one goes back, and the N(R) of an S frame
-abbrev pub refused_stamp : List Event → ℕ → Bool → RefusedStamp
+abbrev pub refused_stamp : List NumberEvent → ℕ → Bool → RefusedStamp
 refused_stamp earlier nr mirrored =
     record { reply = (if mirrored then Some (mirror_stamp earlier) else None); ack = owed_ack earlier nr }
 
 -- the numbers of a controller's frame
-abbrev pub carried_stamp : List Event → ℕ → Stamp
+abbrev pub carried_stamp : List NumberEvent → ℕ → Stamp
 carried_stamp earlier nr = record { send = to_client earlier % 32768; receive = controller_translated earlier nr % 32768 }
 
 -- why an N(S) is refused, if it is: it is not the number of the frames before it
@@ -188,19 +188,19 @@ abbrev pub outstanding_refusal : ℕ → Option NumberRefusal
 outstanding_refusal unacked = if unacked == 4096 then Some refusals.Outstanding else None
 
 -- the client's frames that the controller has not acknowledged
-abbrev pub unacked_by_controller : List Event → ℕ
+abbrev pub unacked_by_controller : List NumberEvent → ℕ
 unacked_by_controller events = from_client events - covered_by (acked_by_controller events) (client_frames events)
 
 -- why the N(R) of a side is refused, if it is
-abbrev pub client_ack_refusal : List Event → ℕ → Option NumberRefusal
+abbrev pub client_ack_refusal : List NumberEvent → ℕ → Option NumberRefusal
 client_ack_refusal events nr = receive_refusal (acked_by_client events) (to_client events) nr
 
 -- what is wrong with a receive number of the controller, if anything is
-abbrev pub controller_ack_refusal : List Event → ℕ → Option NumberRefusal
+abbrev pub controller_ack_refusal : List NumberEvent → ℕ → Option NumberRefusal
 controller_ack_refusal events nr = receive_refusal (acked_by_controller events) (to_controller events) nr
 
 -- why an I frame of the client is refused, if it is, in the order of the tests
-abbrev pub client_refusal : List Event → ℕ → ℕ → Option NumberRefusal
+abbrev pub client_refusal : List NumberEvent → ℕ → ℕ → Option NumberRefusal
 client_refusal events ns nr =
     option_or (send_refusal (from_client events) ns)
     (option_or (client_ack_refusal events nr)
@@ -208,7 +208,7 @@ client_refusal events ns nr =
     (outstanding_refusal (to_client events - count_from (acked_by_client events) nr))))
 
 -- why an I frame of the controller is refused, if it is, in the order of the tests
-abbrev pub controller_refusal : List Event → ℕ → ℕ → Option NumberRefusal
+abbrev pub controller_refusal : List NumberEvent → ℕ → ℕ → Option NumberRefusal
 controller_refusal events ns nr =
     option_or (send_refusal (from_controller events) ns)
     (option_or (controller_ack_refusal events nr) (outstanding_refusal (to_client events - acked_by_client events)))

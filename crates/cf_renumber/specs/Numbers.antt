@@ -1,18 +1,18 @@
 -- Steps of the proof: what is kept of the frames of a session to number the next ones: `IsNumbersOf`.
 use Rattle.std.specs.Prelude.{◌≡◌, ℕ, ◌+◌, ◌-◌, ◌%◌, ◌<◌, ◌≤◌, if◌then◌else◌, Bool, true, false, List, [], ◌∷◌, ◌++◌, length, drop, Option, Some, None, count_by, nat_lt}
 use Rattle.cf_renumber.specs.declared.answer.Stamp.{Stamp}
-use Rattle.cf_renumber.specs.declared.mark.Fate.{Fate}
-use Rattle.cf_renumber.specs.declared.mark.Fate.TheVariants as fates
+use Rattle.cf_renumber.specs.declared.mark.FrameFate.{FrameFate}
+use Rattle.cf_renumber.specs.declared.mark.FrameFate.TheVariants as fates
 use Rattle.cf_renumber.specs.declared.mark.Origin.{Origin}
 use Rattle.cf_renumber.specs.declared.mark.Origin.TheVariants as origins
-use Rattle.cf_renumber.specs.Counts.{Event, client_frames, frames_to_client, from_client, to_controller, from_controller, to_client, is_controllers, acked_by_client, acked_by_controller, controllers_among, covered_by, count_from, last_told, is_running, has_started}
+use Rattle.cf_renumber.specs.Counts.{NumberEvent, client_frames, frames_to_client, from_client, to_controller, from_controller, to_client, is_controllers, acked_by_client, acked_by_controller, controllers_among, covered_by, count_from, last_told, is_running, has_started}
 
 -- what a contract sees of a `Numbers`
 pub record NumbersValue : Type 0 where
   pub started : Bool
   pub running : Bool
   -- the client's frames that the controller has not acknowledged, and the frames to the client that it has not
-  pub fates : List Fate
+  pub fates : List FrameFate
   pub origins : List Origin
   -- how many frames came from the client, went to the controller, came from the controller, went to the client, modulo
   -- 32768
@@ -33,7 +33,7 @@ abbrev pub IsSmall : Stamp → Type 0
 IsSmall stamp = (stamp.send < 32768) × (stamp.receive < 32768)
 
 -- what is left of the client's frames past the greatest front with at most m admitted ones
-abbrev pub uncovered : ℕ → List Fate → List Fate
+abbrev pub uncovered : ℕ → List FrameFate → List FrameFate
 uncovered m frames = drop (covered_by m frames) frames
 
 -- what holds whatever happened
@@ -48,7 +48,7 @@ pub record IsNumbersValue (numbers : NumbersValue) : Type 0 where
   pub sent : numbers.sent < 32768
 
 -- the values are those of the events, where the client has acknowledged j frames
-pub record HasCountsOf (numbers : NumbersValue) (events : List Event) (j : ℕ) : Type 0 where
+pub record HasCountsOf (numbers : NumbersValue) (events : List NumberEvent) (j : ℕ) : Type 0 where
   pub starts : numbers.started ≡ has_started events
   pub runs : numbers.running ≡ is_running events
   pub fates : numbers.fates ≡ uncovered (acked_by_controller events) (client_frames events)
@@ -61,13 +61,13 @@ pub record HasCountsOf (numbers : NumbersValue) (events : List Event) (j : ℕ) 
   pub within : j ≤ to_client events
 
 -- the numbers stand for what happened
-pub record IsNumbersOf (numbers : NumbersValue) (events : List Event) : Type 0 where
+pub record IsNumbersOf (numbers : NumbersValue) (events : List NumberEvent) : Type 0 where
   pub holds : HasCountsOf numbers events (acked_by_client events)
   pub told : last_told events ≡ controllers_among (acked_by_client events) (frames_to_client events)
   pub idle : numbers.owed ≡ None
 
 -- the numbers stand for what happened, and for a frame of the client that was numbered so and is not judged
-pub record IsNumbersAwaiting (numbers : NumbersValue) (events : List Event) (nr : ℕ) : Type 0 where
+pub record IsNumbersAwaiting (numbers : NumbersValue) (events : List NumberEvent) (nr : ℕ) : Type 0 where
   pub holds : HasCountsOf numbers events (count_from (acked_by_client events) nr)
   pub moved : ℕ
   pub owed : numbers.owed ≡ Some moved
@@ -127,10 +127,10 @@ ack_owed numbers None = None
 ack_owed numbers (Some moved) = if nat_lt 0 moved then Some (stamp_for_controller numbers).receive else None
 
 -- the numbers of the next frame to each side, where the client has acknowledged j frames
-abbrev pub next_stamp_for_controller : List Event → ℕ → Stamp
+abbrev pub next_stamp_for_controller : List NumberEvent → ℕ → Stamp
 next_stamp_for_controller events j = record { send = to_controller events % 32768; receive = controllers_among j (frames_to_client events) % 32768 }
 
-abbrev pub next_stamp_for_client : List Event → Stamp
+abbrev pub next_stamp_for_client : List NumberEvent → Stamp
 next_stamp_for_client events =
     record { send = to_client events % 32768; receive = covered_by (acked_by_controller events) (client_frames events) % 32768 }
 

@@ -5,7 +5,7 @@ use Rattle.cf_view.specs.declared.Side.{Side}
 use Rattle.cf_renumber.specs.declared.answer.Stamp.{Stamp}
 use Rattle.cf_renumber.specs.declared.answer.RefusedStamp.{RefusedStamp}
 use Rattle.cf_renumber.specs.declared.answer.NumberRefusal.{NumberRefusal}
-use Rattle.cf_renumber.specs.Counts.{Event, Started, Stopped, Admitted, Refused, ClientAck, Carried, ControllerAck, may_send, client_refusal, client_ack_refusal, controller_refusal, controller_ack_refusal, admitted_stamp, refused_stamp, carried_stamp, client_translated, controller_translated}
+use Rattle.cf_renumber.specs.Counts.{NumberEvent, Started, Stopped, Admitted, Refused, ClientAck, Carried, ControllerAck, may_send, client_refusal, client_ack_refusal, controller_refusal, controller_ack_refusal, admitted_stamp, refused_stamp, carried_stamp, client_translated, controller_translated}
 use Rattle.cf_renumber.specs.Numbers.{NumbersValue, IsNumbersOf, IsNumbersAwaiting}
 
 -- a call with its arguments and its answer; of a client's frame the refusal alone
@@ -62,12 +62,12 @@ IsInOrder [] = Unit {0}
 IsInOrder (call ∷ earlier) = MayCall (turn_after earlier) call × IsInOrder earlier
 
 -- what happened by the judging of a frame that waits
-abbrev pub judged : Turn → (ℕ → Event) → List Event → List Event
+abbrev pub judged : Turn → (ℕ → NumberEvent) → List NumberEvent → List NumberEvent
 judged (Waiting nr) event events = event nr ∷ events
 judged _ event events = events
 
 -- what happened by the calls
-abbrev pub events_of : List NumbersCall → List Event
+abbrev pub events_of : List NumbersCall → List NumberEvent
 events_of [] = []
 events_of (Start ∷ earlier) = Started ∷ events_of earlier
 events_of (Stop ∷ earlier) = Stopped ∷ events_of earlier
@@ -84,7 +84,7 @@ answer None x = Ok x
 answer (Some e) x = Err e
 
 -- the answer is the one that the counts of what happened before give
-abbrev pub Answered : Turn → List Event → NumbersCall → Type 0
+abbrev pub Answered : Turn → List NumberEvent → NumbersCall → Type 0
 Answered p events Start = Unit {0}
 Answered p events Stop = Unit {0}
 Answered p events (MaySend side b) = b ≡ may_send side events
@@ -102,7 +102,7 @@ AllAnswered [] = Unit {0}
 AllAnswered (call ∷ earlier) = Answered (turn_after earlier) (events_of earlier) call × AllAnswered earlier
 
 -- the values are those of what happened
-abbrev pub IsNumbersAt : Turn → NumbersValue → List Event → Type 0
+abbrev pub IsNumbersAt : Turn → NumbersValue → List NumberEvent → Type 0
 IsNumbersAt Idle numbers events = IsNumbersOf numbers events
 IsNumbersAt (Waiting nr) numbers events = IsNumbersAwaiting numbers events nr
 IsNumbersAt Over numbers events = Unit {0}

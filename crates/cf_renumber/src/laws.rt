@@ -1,6 +1,6 @@
 //! Laws of the definitions. The calls do nothing.
 ghost use Rattle.std.specs.Prelude.{◌≡◌, ℕ, ◌+◌, ◌<◌, ◌≤◌, true, List, length, take, count_by};
-ghost use Rattle.cf_renumber.specs.declared.mark.Fate.{Fate};
+ghost use Rattle.cf_renumber.specs.declared.mark.FrameFate.{FrameFate};
 ghost use Rattle.cf_renumber.specs.Counts.{IsCountOf, count_from, is_counted, covered_by, is_admitted, acked_by_client, acked_by_controller, to_client, to_controller};
 ghost use Rattle.cf_renumber.specs.NumbersCalls.{NumbersCall, Over, IsNumbersRun, IsInOrder, AllAnswered, IsNumbersAt, turn_after, events_of};
 ghost use Rattle.cf_renumber.specs.Numbers.{NumbersValue};
@@ -28,9 +28,9 @@ pub fn one_count_in_every_run()
 
 /// The front that m covers holds at most m admitted frames, and no longer front does.
 pub fn covers_the_most()
-    ensures inside { (m : ℕ) (frames : List Fate) → covered_by m frames ≤ length frames }
-    ensures few { (m : ℕ) (frames : List Fate) → count_by is_admitted (take (covered_by m frames) frames) ≤ m }
-    ensures most { (m j : ℕ) (frames : List Fate) → j ≤ length frames → count_by is_admitted (take j frames) ≤ m → j ≤ covered_by m frames }
+    ensures inside { (m : ℕ) (frames : List FrameFate) → covered_by m frames ≤ length frames }
+    ensures few { (m : ℕ) (frames : List FrameFate) → count_by is_admitted (take (covered_by m frames) frames) ≤ m }
+    ensures most { (m j : ℕ) (frames : List FrameFate) → j ≤ length frames → count_by is_admitted (take j frames) ≤ m → j ≤ covered_by m frames }
 {}
 
 /// Over every list of calls in their order the numbers answer what the counts give.

@@ -3,9 +3,9 @@ ghost use Rattle.std.specs.Prelude.{◌≡◌, ◌+◌, ◌-◌, ◌<◌, ◌≤
 ghost use Rattle.circular_buffer.specs.Buffer.{buffer};
 ghost use Rattle.cf_renumber.specs.Counts.{controllers_among, is_controllers, is_admitted};
 ghost use Rattle.cf_renumber.specs.Numbers.{uncovered};
-ghost use Rattle.cf_renumber.specs.declared.mark.Fate.TheVariants as fates;
+ghost use Rattle.cf_renumber.specs.declared.mark.FrameFate.TheVariants as fates;
 
-use crate::mark::{Fate, Origin};
+use crate::mark::{FrameFate, Origin};
 use circular_buffer::HeapCircularBuffer;
 
 /// 1 where the frame at a place is the controller's, else 0.
@@ -48,22 +48,22 @@ pub fn acknowledge(ring: &mut HeapCircularBuffer<Origin>, n: u16) -> u16
 
 /// Forgets the first frame of the client where it is refused, or admitted and some are left to forget; tells how many are
 /// left then.
-fn forget_one(ring: &mut HeapCircularBuffer<Fate>, left: u16) -> Option<u16>
+fn forget_one(ring: &mut HeapCircularBuffer<FrameFate>, left: u16) -> Option<u16>
     ensures some { IfSome result (λ less. (uncovered left ring.old.items ≡ uncovered less ring.new.items)
         × (length ring.new.items < length ring.old.items)) }
     ensures none { IfNone result ((uncovered left ring.old.items ≡ ring.new.items)) }
     ensures capacity { ring.new.capacity ≡ ring.old.capacity }
 {
     let less = match ring.get(0).copied()? {
-        Fate::Refused => left,
-        Fate::Admitted => left.checked_sub(1)?,
+        FrameFate::Refused => left,
+        FrameFate::Admitted => left.checked_sub(1)?,
     };
     ring.pop_front();
     Some(less)
 }
 
 /// Forgets the greatest front of the client's frames that holds at most `admitted` admitted ones.
-pub fn cover(ring: &mut HeapCircularBuffer<Fate>, admitted: u16)
+pub fn cover(ring: &mut HeapCircularBuffer<FrameFate>, admitted: u16)
     ensures { ring.new ≡ buffer (uncovered admitted ring.old.items) ring.old.capacity }
 {
     let mut left = admitted;
@@ -73,7 +73,7 @@ pub fn cover(ring: &mut HeapCircularBuffer<Fate>, admitted: u16)
 }
 
 /// Adds a frame of the client.
-pub fn note_fate(ring: &mut HeapCircularBuffer<Fate>, fate: Fate)
+pub fn note_fate(ring: &mut HeapCircularBuffer<FrameFate>, fate: FrameFate)
     requires { length ring.old.items < ring.old.capacity }
     ensures { ring.new ≡ buffer (ring.old.items ++ fate ∷ []) ring.old.capacity }
 {
@@ -90,7 +90,7 @@ pub fn note_origin(ring: &mut HeapCircularBuffer<Origin>, origin: Origin)
 
 /// Adds a refused frame of the client, unless all before it are acknowledged, and it with them.
 #[tactic(auto, using(crate::proofs::Lists::uncovered_keeps, std::proofs::lemmas::List::nil_from_length))]
-pub fn note_refused(ring: &mut HeapCircularBuffer<Fate>)
+pub fn note_refused(ring: &mut HeapCircularBuffer<FrameFate>)
     requires room { length ring.old.items < ring.old.capacity }
     requires front { uncovered 0 ring.old.items ≡ ring.old.items }
     ensures { ring.new ≡ buffer (uncovered 0 (ring.old.items ++ fates.Refused ∷ [])) ring.old.capacity }
@@ -98,5 +98,5 @@ pub fn note_refused(ring: &mut HeapCircularBuffer<Fate>)
     if ring.is_empty() {
         return;
     }
-    note_fate(ring, Fate::Refused);
+    note_fate(ring, FrameFate::Refused);
 }

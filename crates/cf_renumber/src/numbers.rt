@@ -1,13 +1,13 @@
 //! The numbers of one session.
 ghost use Rattle.std.specs.Prelude.{◌≡◌, ℕ, ◌+◌, ◌%◌, ◌<◌, ◌≤◌, ◌↔◌, length, false, List, [], ◌∷◌, IfOk, IfSome, OnErr, MatchResult, IsSome, IsTrue, Some, None, count_by};
-ghost use Rattle.cf_renumber.specs.Counts.{Event, Started, Stopped, Admitted, Refused, ClientAck, Carried, ControllerAck, client_refusal, client_ack_refusal, controller_refusal, controller_ack_refusal, receive_refusal, admitted_stamp, refused_stamp, carried_stamp, client_translated, controller_translated, acked_by_controller, controllers_among, count_from, is_admitted, is_controllers, to_client};
+ghost use Rattle.cf_renumber.specs.Counts.{NumberEvent, Started, Stopped, Admitted, Refused, ClientAck, Carried, ControllerAck, client_refusal, client_ack_refusal, controller_refusal, controller_ack_refusal, receive_refusal, admitted_stamp, refused_stamp, carried_stamp, client_translated, controller_translated, acked_by_controller, controllers_among, count_from, is_admitted, is_controllers, to_client};
 ghost use Rattle.cf_renumber.specs.Numbers.{HasCountsOf, IsNumbersOf, IsNumbersAwaiting, IsNumbersValue, empty, after_admitted, after_refused, after_mirror, after_carried, after_controller_ack, after_dropped, ack_owed, after_start, after_stop, after_client_ack, IsSmall};
 ghost use Rattle.cf_renumber.specs.Counts as counts;
 ghost use Rattle.cf_renumber.specs.NumbersCalls.{NumbersStep, Start, Stop, MaySend, Admit, Refuse, FromClient, AckOfClient, FromController, AckOfController, error_of};
 ghost use Rattle.cf_renumber.specs.Numbers as kept;
 
 use crate::answer::{NumberRefusal, RefusedStamp, Stamp};
-use crate::mark::{Fate, Origin};
+use crate::mark::{FrameFate, Origin};
 use crate::marks::{acknowledge, cover, note_fate, note_origin, note_refused};
 use crate::number::{before, check_receive, check_send, next};
 use cf_view::{NoMemory, Side};
@@ -27,7 +27,7 @@ pub struct Numbers {
     /// It has come, and no STOPDT act since: the client may send I frames.
     running: bool,
     /// Of the client's frames, from the first one on that the controller has not acknowledged: what became of each.
-    fates: HeapCircularBuffer<Fate>,
+    fates: HeapCircularBuffer<FrameFate>,
     /// How many of these were admitted.
     admits: u16,
     /// Of the frames to the client, from the first one on that it has not acknowledged: whose each is.
@@ -89,7 +89,7 @@ impl Numbers {
     pub fn start(&mut self)
         requires idle { self.old.owed ≡ None }
         ensures idle { self.new.owed ≡ None }
-        ensures stands { (events : List Event) → IsNumbersOf self.old events → IsNumbersOf self.new (Started ∷ events) }
+        ensures stands { (events : List NumberEvent) → IsNumbersOf self.old events → IsNumbersOf self.new (Started ∷ events) }
         ensures did { NumbersStep Start self.old self.new }
     {
         self.started = true;
@@ -100,7 +100,7 @@ impl Numbers {
     pub fn stop(&mut self)
         requires idle { self.old.owed ≡ None }
         ensures idle { self.new.owed ≡ None }
-        ensures stands { (events : List Event) → IsNumbersOf self.old events → IsNumbersOf self.new (Stopped ∷ events) }
+        ensures stands { (events : List NumberEvent) → IsNumbersOf self.old events → IsNumbersOf self.new (Stopped ∷ events) }
         ensures did { NumbersStep Stop self.old self.new }
     {
         self.running = false;
@@ -108,14 +108,14 @@ impl Numbers {
 
     /// Whether a side may send I frames now.
     pub fn may_send(&self, side: Side) -> bool
-        ensures answer { (events : List Event) → IsNumbersOf self.now events → result ≡ counts.may_send side events }
+        ensures answer { (events : List NumberEvent) → IsNumbersOf self.now events → result ≡ counts.may_send side events }
         ensures did { NumbersStep (MaySend side result) self.now self.now }
     {
         self.allows(side)
     }
 
     fn allows(&self, side: Side) -> bool
-        ensures { (events : List Event) → IsNumbersOf self.now events → result ≡ counts.may_send side events }
+        ensures { (events : List NumberEvent) → IsNumbersOf self.now events → result ≡ counts.may_send side events }
     {
         match side {
             Side::Client => self.running,
@@ -126,9 +126,9 @@ impl Numbers {
     /// Takes the numbers of a client's I frame. After `Ok` exactly one of `admitted` and `refused` is owed.
     pub fn from_client(&mut self, ns: u16, nr: u16) -> Result<(), NumberRefusal>
         requires idle { self.old.owed ≡ None }
-        ensures answer { (events : List Event) → IsNumbersOf self.old events →
+        ensures answer { (events : List NumberEvent) → IsNumbersOf self.old events →
             MatchResult result (λ _. client_refusal events ns nr ≡ None) (λ e. client_refusal events ns nr ≡ Some e) }
-        ensures stands { IfOk result (λ _. (events : List Event) → IsNumbersOf self.old events → IsNumbersAwaiting self.new events nr) }
+        ensures stands { IfOk result (λ _. (events : List NumberEvent) → IsNumbersOf self.old events → IsNumbersAwaiting self.new events nr) }
         ensures owed { IfOk result (λ _. IsSome self.new.owed) }
         ensures idle { OnErr result (self.new.owed ≡ None) }
         ensures did { NumbersStep (FromClient ns nr (error_of result)) self.old self.new }
@@ -138,9 +138,9 @@ impl Numbers {
 
     fn take_from_client(&mut self, ns: u16, nr: u16) -> Result<(), NumberRefusal>
         requires idle { self.old.owed ≡ None }
-        ensures answer { (events : List Event) → IsNumbersOf self.old events →
+        ensures answer { (events : List NumberEvent) → IsNumbersOf self.old events →
             MatchResult result (λ _. client_refusal events ns nr ≡ None) (λ e. client_refusal events ns nr ≡ Some e) }
-        ensures stands { IfOk result (λ _. (events : List Event) → IsNumbersOf self.old events → IsNumbersAwaiting self.new events nr) }
+        ensures stands { IfOk result (λ _. (events : List NumberEvent) → IsNumbersOf self.old events → IsNumbersAwaiting self.new events nr) }
         ensures owed { IfOk result (λ _. IsSome self.new.owed) }
         ensures idle { OnErr result (self.new.owed ≡ None) }
     {
@@ -157,8 +157,8 @@ impl Numbers {
     /// The client's frame goes on: the numbers that it has towards the controller.
     pub fn admitted(&mut self) -> Stamp
         requires owed { IsSome self.old.owed }
-        ensures stamp { (events : List Event) (nr : ℕ) → IsNumbersAwaiting self.old events nr → result ≡ admitted_stamp events nr }
-        ensures stands { (events : List Event) (nr : ℕ) → IsNumbersAwaiting self.old events nr → IsNumbersOf self.new (Admitted nr ∷ events) }
+        ensures stamp { (events : List NumberEvent) (nr : ℕ) → IsNumbersAwaiting self.old events nr → result ≡ admitted_stamp events nr }
+        ensures stands { (events : List NumberEvent) (nr : ℕ) → IsNumbersAwaiting self.old events nr → IsNumbersOf self.new (Admitted nr ∷ events) }
         ensures did { NumbersStep (Admit result) self.old self.new }
         ensures small { IsSmall result }
         ensures idle { self.new.owed ≡ None }
@@ -172,8 +172,8 @@ impl Numbers {
     /// leaves towards the controller, where one is owed.
     pub fn refused(&mut self, reply: bool) -> RefusedStamp
         requires owed { IsSome self.old.owed }
-        ensures stamp { (events : List Event) (nr : ℕ) → IsNumbersAwaiting self.old events nr → result ≡ refused_stamp events nr reply }
-        ensures stands { (events : List Event) (nr : ℕ) → IsNumbersAwaiting self.old events nr → IsNumbersOf self.new (Refused nr reply ∷ events) }
+        ensures stamp { (events : List NumberEvent) (nr : ℕ) → IsNumbersAwaiting self.old events nr → result ≡ refused_stamp events nr reply }
+        ensures stands { (events : List NumberEvent) (nr : ℕ) → IsNumbersAwaiting self.old events nr → IsNumbersOf self.new (Refused nr reply ∷ events) }
         ensures did { NumbersStep (Refuse reply result) self.old self.new }
         ensures small { IfSome result.reply IsSmall }
         ensures small_ack { IfSome result.ack (λ n. n < 32768) }
@@ -196,10 +196,10 @@ impl Numbers {
     /// Translates the N(R) of a client's S frame.
     pub fn client_ack(&mut self, nr: u16) -> Result<u16, NumberRefusal>
         requires idle { self.old.owed ≡ None }
-        ensures answer { (events : List Event) → IsNumbersOf self.old events →
+        ensures answer { (events : List NumberEvent) → IsNumbersOf self.old events →
             MatchResult result (λ n. (client_ack_refusal events nr ≡ None)
             × (n ≡ client_translated events nr % 32768)) (λ e. client_ack_refusal events nr ≡ Some e) }
-        ensures stands { IfOk result (λ _. (events : List Event) → IsNumbersOf self.old events → IsNumbersOf self.new (ClientAck nr ∷ events)) }
+        ensures stands { IfOk result (λ _. (events : List NumberEvent) → IsNumbersOf self.old events → IsNumbersOf self.new (ClientAck nr ∷ events)) }
         ensures owed { self.new.owed ≡ None }
         ensures did { NumbersStep (AckOfClient nr result) self.old self.new }
         ensures small { IfOk result (λ n. n < 32768) }
@@ -209,10 +209,10 @@ impl Numbers {
 
     fn translate_client(&mut self, nr: u16) -> Result<u16, NumberRefusal>
         requires idle { self.old.owed ≡ None }
-        ensures answer { (events : List Event) → IsNumbersOf self.old events →
+        ensures answer { (events : List NumberEvent) → IsNumbersOf self.old events →
             MatchResult result (λ n. (client_ack_refusal events nr ≡ None)
             × (n ≡ client_translated events nr % 32768)) (λ e. client_ack_refusal events nr ≡ Some e) }
-        ensures stands { IfOk result (λ _. (events : List Event) → IsNumbersOf self.old events → IsNumbersOf self.new (ClientAck nr ∷ events)) }
+        ensures stands { IfOk result (λ _. (events : List NumberEvent) → IsNumbersOf self.old events → IsNumbersOf self.new (ClientAck nr ∷ events)) }
         ensures small { IfOk result (λ n. n < 32768) }
         ensures owed { self.new.owed ≡ None }
     {
@@ -224,10 +224,10 @@ impl Numbers {
     /// Takes the numbers of a controller's I frame, which goes on: the numbers that it has towards the client.
     pub fn from_controller(&mut self, ns: u16, nr: u16) -> Result<Stamp, NumberRefusal>
         requires idle { self.old.owed ≡ None }
-        ensures answer { (events : List Event) → IsNumbersOf self.old events →
+        ensures answer { (events : List NumberEvent) → IsNumbersOf self.old events →
             MatchResult result (λ s. (controller_refusal events ns nr ≡ None)
             × (s ≡ carried_stamp events nr)) (λ e. controller_refusal events ns nr ≡ Some e) }
-        ensures stands { IfOk result (λ _. (events : List Event) → IsNumbersOf self.old events → IsNumbersOf self.new (Carried nr ∷ events)) }
+        ensures stands { IfOk result (λ _. (events : List NumberEvent) → IsNumbersOf self.old events → IsNumbersOf self.new (Carried nr ∷ events)) }
         ensures owed { self.new.owed ≡ None }
         ensures did { NumbersStep (FromController ns nr result) self.old self.new }
         ensures small { IfOk result IsSmall }
@@ -237,10 +237,10 @@ impl Numbers {
 
     fn take_from_controller(&mut self, ns: u16, nr: u16) -> Result<Stamp, NumberRefusal>
         requires idle { self.old.owed ≡ None }
-        ensures answer { (events : List Event) → IsNumbersOf self.old events →
+        ensures answer { (events : List NumberEvent) → IsNumbersOf self.old events →
             MatchResult result (λ s. (controller_refusal events ns nr ≡ None)
             × (s ≡ carried_stamp events nr)) (λ e. controller_refusal events ns nr ≡ Some e) }
-        ensures stands { IfOk result (λ _. (events : List Event) → IsNumbersOf self.old events → IsNumbersOf self.new (Carried nr ∷ events)) }
+        ensures stands { IfOk result (λ _. (events : List NumberEvent) → IsNumbersOf self.old events → IsNumbersOf self.new (Carried nr ∷ events)) }
         ensures small { IfOk result IsSmall }
         ensures owed { self.new.owed ≡ None }
     {
@@ -258,10 +258,10 @@ impl Numbers {
     /// Translates the N(R) of a controller's S frame.
     pub fn controller_ack(&mut self, nr: u16) -> Result<u16, NumberRefusal>
         requires idle { self.old.owed ≡ None }
-        ensures answer { (events : List Event) → IsNumbersOf self.old events →
+        ensures answer { (events : List NumberEvent) → IsNumbersOf self.old events →
             MatchResult result (λ n. (controller_ack_refusal events nr ≡ None)
             × (n ≡ controller_translated events nr % 32768)) (λ e. controller_ack_refusal events nr ≡ Some e) }
-        ensures stands { IfOk result (λ _. (events : List Event) → IsNumbersOf self.old events → IsNumbersOf self.new (ControllerAck nr ∷ events)) }
+        ensures stands { IfOk result (λ _. (events : List NumberEvent) → IsNumbersOf self.old events → IsNumbersOf self.new (ControllerAck nr ∷ events)) }
         ensures owed { self.new.owed ≡ None }
         ensures did { NumbersStep (AckOfController nr result) self.old self.new }
         ensures small { IfOk result (λ n. n < 32768) }
@@ -271,10 +271,10 @@ impl Numbers {
 
     fn translate_controller(&mut self, nr: u16) -> Result<u16, NumberRefusal>
         requires idle { self.old.owed ≡ None }
-        ensures answer { (events : List Event) → IsNumbersOf self.old events →
+        ensures answer { (events : List NumberEvent) → IsNumbersOf self.old events →
             MatchResult result (λ n. (controller_ack_refusal events nr ≡ None)
             × (n ≡ controller_translated events nr % 32768)) (λ e. controller_ack_refusal events nr ≡ Some e) }
-        ensures stands { IfOk result (λ _. (events : List Event) → IsNumbersOf self.old events → IsNumbersOf self.new (ControllerAck nr ∷ events)) }
+        ensures stands { IfOk result (λ _. (events : List NumberEvent) → IsNumbersOf self.old events → IsNumbersOf self.new (ControllerAck nr ∷ events)) }
         ensures small { IfOk result (λ n. n < 32768) }
         ensures owed { self.new.owed ≡ None }
     {
@@ -287,7 +287,7 @@ impl Numbers {
     #[tactic(auto, using(crate::proofs::Counting::origins_left))]
     fn check_client(&self, nr: u16) -> Result<u16, NumberRefusal>
         ensures within { IfOk result (λ n. n ≤ length self.now.origins) }
-        ensures answer { (events : List Event) (j : ℕ) → HasCountsOf self.now events j →
+        ensures answer { (events : List NumberEvent) (j : ℕ) → HasCountsOf self.now events j →
             MatchResult result (λ n. (receive_refusal j (to_client events) nr ≡ None)
             × (count_from j nr ≡ j + n)) (λ e. receive_refusal j (to_client events) nr ≡ Some e) }
     {
@@ -298,7 +298,7 @@ impl Numbers {
     #[tactic(auto, using(crate::proofs::Counting::admitted_left))]
     fn check_controller(&self, nr: u16) -> Result<u16, NumberRefusal>
         ensures within { IfOk result (λ m. m ≤ count_by is_admitted self.now.fates) }
-        ensures answer { (events : List Event) (j : ℕ) → HasCountsOf self.now events j →
+        ensures answer { (events : List NumberEvent) (j : ℕ) → HasCountsOf self.now events j →
             MatchResult result (λ m. (controller_ack_refusal events nr ≡ None)
             × (count_from (acked_by_controller events) nr ≡ acked_by_controller events + m)) (λ e. controller_ack_refusal events nr ≡ Some e) }
     {
@@ -390,7 +390,7 @@ impl Numbers {
         requires owed { IsSome self.old.owed }
         ensures { self.new ≡ after_admitted self.old }
     {
-        note_fate(&mut self.fates, Fate::Admitted);
+        note_fate(&mut self.fates, FrameFate::Admitted);
         self.admits += 1;
         self.received = next(self.received);
         self.admitted = next(self.admitted);

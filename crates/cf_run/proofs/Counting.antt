@@ -6,7 +6,7 @@ use Rattle.cf_run.specs.Receiving.{IsOutcome}
 use Rattle.cf_run.specs.Step.{IsCounted}
 use Rattle.cf_run.specs.Summary.{capped, cuts_in, decided_in, found, has_begun, found_no_room, one_if, summary_of, total, was_cut, was_dropped, was_outside}
 use Rattle.cf_run.specs.Table.{Session}
-use Rattle.cf_run.specs.Trace.{Begun, Dropped, Event, NoRoom, NoSession, Received, Went, is_cut, table_after}
+use Rattle.cf_run.specs.Trace.{Begun, Dropped, RunEvent, NoRoom, NoSession, Received, Went, is_cut, table_after}
 use Rattle.cf_run.specs.declared.second_half.Outcome.{Outcome}
 use Rattle.cf_run.specs.declared.second_half.Outcome.TheVariants as outcome
 use Rattle.cf_run.specs.declared.summary.Happened.{Happened}
@@ -36,7 +36,7 @@ eight s t a b c d e f g h =
     rw (a, b, c, d, e, f, g, h) refl
 
 -- ---- one event more, by what became of its packet
-module _ (events : List Event) (event : Event) where
+module _ (events : List RunEvent) (event : RunEvent) where
   abbrev ticks_cut : ℕ
   ticks_cut = count_by (λ t. is_cut t.cut) event.ticks
 
@@ -90,6 +90,6 @@ module _ (events : List Event) (event : Event) where
       (both _ _ cuts ∙ ap (λ n. capped (total cuts_in events + (ticks_cut + n))) h.2)
 
 -- a summary goes on by one event
-pub counts_on : (events : List Event) (event : Event) (happened : Happened) → IsCounted (table_after events) happened event → counted (summary_of events) happened ≡ summary_of (event ∷ events)
+pub counts_on : (events : List RunEvent) (event : RunEvent) (happened : Happened) → IsCounted (table_after events) happened event → counted (summary_of events) happened ≡ summary_of (event ∷ events)
 counts_on events event happened h =
     ap (λ n. counted (summary_of events) (record { cuts = n; outcome = happened.outcome })) h.ticks ∙ by_outcome events event happened.outcome event.received h.received

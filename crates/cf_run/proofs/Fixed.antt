@@ -9,7 +9,7 @@ use Rattle.cf_packet.specs.declared.packet.PacketRefusal.{PacketRefusal}
 use Rattle.cf_policy.specs.declared.Asset.{Asset}
 use Rattle.cf_view.specs.declared.Side.{Side}
 use Rattle.cf_view.specs.declared.Side.TheVariants as side
-use Rattle.cf_session.specs.Event.{AreEvents as AreSessionEvents, IsBeginning, IsPacket, IsTick}
+use Rattle.cf_session.specs.Event.{AreRunEvents as AreSessionEvents, IsBeginning, IsPacket, IsTick}
 use Rattle.cf_session.specs.Laws.{EventsAreFixed, Given, given, packet_in}
 use Rattle.cf_session.specs.Session.{Flow, SessionEvent, client_ends, is_expired}
 use Rattle.cf_run.specs.Fixed.{RecordsFixEvents, RecordsFixRuns}
@@ -17,7 +17,7 @@ use Rattle.cf_run.specs.Run.{IsRun, capture_of, inputs_of}
 use Rattle.cf_run.specs.Sessions.{Each}
 use Rattle.cf_run.specs.Summary.{summary_of}
 use Rattle.cf_run.specs.Table.{Begins, Full, Goes, Match, Outside, Session, match_of}
-use Rattle.cf_run.specs.Trace.{AreEvents, AreTicks, Begun, Dropped, Event, GoesOnAt, GoesOnWith, Input, IsEvent, NoRoom, NoSession, Received, Receives, ReceivesRecord, Went, kept, logged, sent, table_after, tick_of, ticked}
+use Rattle.cf_run.specs.Trace.{AreRunEvents, AreTicks, Begun, Dropped, RunEvent, GoesOnAt, GoesOnWith, Input, IsRunEvent, NoRoom, NoSession, Received, Receives, ReceivesRecord, Went, kept, logged, sent, table_after, tick_of, ticked}
 use Rattle.cf_run.specs.declared.summary.Summary.{Summary}
 use Rattle.cf_run.proofs.Sessions.{HasGone, HasTick, IsGoing, IsTicked, begun_one, each-at, each-filter, each-ticked, goes_on, of_run, tick_right}
 
@@ -126,11 +126,11 @@ module _ (law : EventsAreFixed) (limit : ℕ) where
 
   -- ---- both
 
-  abbrev one : Input → List SessionEvent → Received → Event
+  abbrev one : Input → List SessionEvent → Received → RunEvent
   one input ticks received = record { input = input; ticks = ticks; received = received }
 
   event_once : (assets : List Asset) (table : List Session) (input : Input) (ts us : List SessionEvent) (r q : Received) → Each (IsGoing limit) table →
-      IsEvent assets limit table (one input ts r) → IsEvent assets limit table (one input us q) → one input ts r ≡ one input us q
+      IsRunEvent assets limit table (one input ts r) → IsRunEvent assets limit table (one input us q) → one input ts r ≡ one input us q
   event_once assets table input ts us r q h a b =
       let tick = tick_of input in
       let going = each-filter (IsGoing limit) (λ s. not (is_expired s.flow s.events tick)) table h in
@@ -147,8 +147,8 @@ events_fixed law assets limit (e ∷ es) [] h g same = absurd (no_record (inputs
 events_fixed law assets limit (e ∷ es) (o ∷ os) h g same =
     let (before, input) = last_record (inputs_of es) (inputs_of os) e.input o.input same in
     let earlier : es ≡ os = events_fixed law assets limit es os h.1 g.1 before in
-    let there : IsEvent assets limit (table_after es) (one law limit e.input o.ticks o.received) =
-    subst (λ i. IsEvent assets limit (table_after es) (one law limit i o.ticks o.received)) (sym input) (subst (λ xs. IsEvent assets limit (table_after xs) o) (sym earlier) g.0) in
+    let there : IsRunEvent assets limit (table_after es) (one law limit e.input o.ticks o.received) =
+    subst (λ i. IsRunEvent assets limit (table_after es) (one law limit i o.ticks o.received)) (sym input) (subst (λ xs. IsRunEvent assets limit (table_after xs) o) (sym earlier) g.0) in
     let event : e ≡ one law limit e.input o.ticks o.received =
     event_once law limit assets (table_after es) e.input e.ticks o.ticks e.received o.received (of_run assets limit es h.1).here h.0 there in
     let same_event : e ≡ o = event ∙ ap (λ i. one law limit i o.ticks o.received) input in

@@ -5,15 +5,15 @@ use Rattle.cf_lane.specs.Laws.{RatesHold}
 use Rattle.cf_lane.specs.Output.{outputs}
 use Rattle.cf_audit.specs.declared.CutReason.{CutReason}
 use Rattle.cf_policy.specs.declared.Asset.{Asset}
-use Rattle.cf_session.specs.Event.{AreEvents as AreSessionEvents}
+use Rattle.cf_session.specs.Event.{AreRunEvents as AreSessionEvents}
 use Rattle.cf_session.specs.Laws.{HasOneStream as SessionHasOneStream, IsFront, SendsWhatIsLetIn, WorkIsOfTheTaken}
 use Rattle.cf_session.specs.Session.{Flow, SessionEvent, client_of, history, work_of}
 use Rattle.cf_session.specs.Work.{Work, Works}
 use Rattle.cf_stream.specs.Stream.{Byte, End, Letter, Stream, letters}
 use Rattle.cf_view.specs.declared.Side.TheVariants as side
 use Rattle.cf_run.specs.Headline.{HasHeadline, IsFaithful, RunsHaveHeadline, SendsUpToTheEdge, bytes_among}
-use Rattle.cf_run.specs.Sessions.{HasEvents, IsRight, sessions_of}
-use Rattle.cf_run.specs.Trace.{AreEvents, Event, ends_cut, is_cut}
+use Rattle.cf_run.specs.Sessions.{HasEvents, HasRightEvents, sessions_of}
+use Rattle.cf_run.specs.Trace.{AreRunEvents, RunEvent, ends_cut, is_cut}
 use Rattle.cf_run.proofs.Isolation.{right_events, uncut_before}
 use Rattle.cf_run.proofs.Sessions.{each-map, sessions_right}
 
@@ -66,10 +66,10 @@ module _ (one : SessionHasOneStream) (works : WorkIsOfTheTaken) (fragments : Fra
             record { front = front; makes = fragments f.asset (client_of f).address (history es) w.judged (bytes_among taken) (bytes_among front.more) w.are_judged bytes });
       }
 
-  pub headline : (assets : List Asset) (es : List Event) → AreEvents assets limit es → HasHeadline es
+  pub headline : (assets : List Asset) (es : List RunEvent) → AreRunEvents assets limit es → HasHeadline es
   headline assets [] h = tt
   headline assets (e ∷ es) h =
-      (each-map (IsRight limit) IsFaithful (λ s right. faithful s.flow s.events right) (sessions_of (e ∷ es)) (sessions_right assets limit (e ∷ es) h), headline assets es h.1)
+      (each-map (HasRightEvents limit) IsFaithful (λ s right. faithful s.flow s.events right) (sessions_of (e ∷ es)) (sessions_right assets limit (e ∷ es) h), headline assets es h.1)
 
 pub has_headline : SessionHasOneStream → WorkIsOfTheTaken → FragmentsDecode → RatesHold → SendsWhatIsLetIn → RunsHaveHeadline
 has_headline one works fragments keep reaches assets limit es small h = headline one works fragments keep reaches limit small assets es h

@@ -12,7 +12,7 @@ use Rattle.cf_policy.specs.declared.Asset.{Asset}
 use Rattle.cf_view.specs.declared.Endpoint.{Endpoint}
 use Rattle.cf_view.specs.declared.Side.{Side}
 use Rattle.cf_view.specs.declared.Side.TheVariants as side
-use Rattle.cf_session.specs.Event.{AreEvents as AreSessionEvents, IsBeginning, IsPacket, IsTick, came_client}
+use Rattle.cf_session.specs.Event.{AreRunEvents as AreSessionEvents, IsBeginning, IsPacket, IsTick, came_client}
 use Rattle.cf_session.specs.Laws.{EventsAreFixed, Given, given, packet_in}
 use Rattle.cf_session.specs.Session.{Flow, SessionEvent, client_of, is_expired}
 use Rattle.cf_session.specs.Sent.{Sent, logged_second, sent_first, sent_second}
@@ -21,14 +21,14 @@ use Rattle.cf_run.specs.Run.{inputs_of}
 use Rattle.cf_run.specs.Sessions.{Each}
 use Rattle.cf_run.specs.Summary.{found}
 use Rattle.cf_run.specs.Table.{Begins, Full, Goes, Match, Outside, Session, is_between, match_of, same_endpoint, without}
-use Rattle.cf_run.specs.Trace.{AreEvents, AreTicks, Begun, Dropped, Event, GoesOnWith, Input, IsEvent, NoRoom, NoSession, Received, Receives, ReceivesRecord, Went, after_received, behind, kept, logged_received, logged_ticks, replaced, sent_received, stays, table_after, tick_of, ticked, with_events}
+use Rattle.cf_run.specs.Trace.{AreRunEvents, AreTicks, Begun, Dropped, RunEvent, GoesOnWith, Input, IsRunEvent, NoRoom, NoSession, Received, Receives, ReceivesRecord, Went, after_received, behind, kept, logged_received, logged_ticks, replaced, sent_received, stays, table_after, tick_of, ticked, with_events}
 use Rattle.cf_run.proofs.Matched.{same_is}
 use Rattle.cf_run.proofs.Pairs.{and_first, and_second, filter_at_most, filter_keeps, filter_swap, next_are, ticks_are, without_theirs}
 use Rattle.cf_run.proofs.Sessions.{HasGone, HasTick, IsGoing, IsTicked, each-filter, each-ticked, of_run}
 use Rattle.cf_run.proofs.Shares.{HasNothing, HasPacket, Share, endpoint_same, share, side_of, with_nothing, with_packet}
 
 -- at each place both have the same moment
-abbrev pub SameMoments : List Event → List Event → Type 0
+abbrev pub SameMoments : List RunEvent → List RunEvent → Type 0
 SameMoments [] [] = Unit {0}
 SameMoments [] (y ∷ ys) = ⊥
 SameMoments (x ∷ xs) [] = ⊥
@@ -223,8 +223,8 @@ module _ (law : EventsAreFixed) (limit : ℕ) where
 
     module _ (assets : List Asset) where
       -- an event of each run, after tables in which theirs is the same
-      next_same : (e d : Event) (here there : List Session) → theirs here ≡ theirs there → Each (IsGoing limit) here → Each (IsGoing limit) there →
-          e.input.moment ≡ d.input.moment → IsEvent assets limit here e → IsEvent assets limit there d → begins_theirs client asset e.received ≡ false → begins_theirs client asset d.received ≡ false →
+      next_same : (e d : RunEvent) (here there : List Session) → theirs here ≡ theirs there → Each (IsGoing limit) here → Each (IsGoing limit) there →
+          e.input.moment ≡ d.input.moment → IsRunEvent assets limit here e → IsRunEvent assets limit there d → begins_theirs client asset e.received ≡ false → begins_theirs client asset d.received ≡ false →
           matched_to assets client asset here e ≡ matched_to assets client asset there d → EventSame (tick_of e.input) (tick_of d.input) here there e.ticks d.ticks e.received d.received
       next_same e d here there same going others_going moment h g none others_none matched =
           let tick : tick_of d.input ≡ tick_of e.input = ap (λ n. n - 1) (sym moment) in
@@ -278,13 +278,13 @@ module _ (law : EventsAreFixed) (limit : ℕ) where
       one_by tick table p NoSession true begins ticked h small = absurd (true≢false (sym begins))
       one_by tick table p (Went i e) true begins ticked h small = absurd (true≢false (sym begins))
 
-      found_ticked : (e : Event) (es : List Event) → AreEvents assets limit (e ∷ es) → Each (IsTicked limit) (found (table_after es) e)
+      found_ticked : (e : RunEvent) (es : List RunEvent) → AreRunEvents assets limit (e ∷ es) → Each (IsTicked limit) (found (table_after es) e)
       found_ticked e es h =
           let tick = tick_of e.input in
           let going = of_run assets limit es h.1 in
           each-ticked limit tick (kept tick (table_after es)) e.ticks (each-filter (IsGoing limit) (λ s. not (is_expired s.flow s.events tick)) (table_after es) going.here) h.0.ticks
 
-      at_most_one : (es : List Event) → AreEvents assets limit es → length (theirs (table_after es)) ≤ 1
+      at_most_one : (es : List RunEvent) → AreRunEvents assets limit es → length (theirs (table_after es)) ≤ 1
       at_most_one [] h = omega arith
       at_most_one (e ∷ es) h =
           one_by (tick_of e.input) (found (table_after es) e) e.input.packet e.received (begins_theirs client asset e.received) refl (found_ticked e es h) h.0.received
@@ -302,7 +302,7 @@ module _ (law : EventsAreFixed) (limit : ℕ) where
       begun_is tick table (Err refusal) g e h = absurd (never_dropped g e h)
       begun_is tick table (Ok p) g e h = begun_by tick table p (match_of assets table p) g e h
 
-      begin_same : (flow : Flow) (e d : Event) (es ds : List Event) (b c : SessionEvent) → is_flow_of client asset flow ≡ true → AreEvents assets limit (e ∷ es) → AreEvents assets limit (d ∷ ds) →
+      begin_same : (flow : Flow) (e d : RunEvent) (es ds : List RunEvent) (b c : SessionEvent) → is_flow_of client asset flow ≡ true → AreRunEvents assets limit (e ∷ es) → AreRunEvents assets limit (d ∷ ds) →
           e.input.moment ≡ d.input.moment → e.received ≡ Begun flow b → d.received ≡ Begun flow c → (b ≡ c) × (theirs (table_after (e ∷ es)) ≡ theirs (table_after (d ∷ ds)))
       begin_same flow e d es ds b c is h g moment begins others_begin =
           let tick : tick_of d.input ≡ tick_of e.input = ap (λ n. n - 1) (sym moment) in
@@ -318,13 +318,13 @@ module _ (law : EventsAreFixed) (limit : ℕ) where
 
       -- ---- all events that are considered
 
-      pub record StretchSame (first other_first : Event) (earlier other_earlier later other_later : List Event) : Type 0 where
+      pub record StretchSame (first other_first : RunEvent) (earlier other_earlier later other_later : List RunEvent) : Type 0 where
         pub table : theirs (table_after (later ++ first ∷ earlier)) ≡ theirs (table_after (other_later ++ other_first ∷ other_earlier))
         pub sent : sent_over client asset first earlier later ≡ sent_over client asset other_first other_earlier other_later
         pub logged : logged_over client asset first earlier later ≡ logged_over client asset other_first other_earlier other_later
 
-      module _ (e d : Event) (es ds : List Event) (starts : StretchSame e d es ds [] []) where
-        stretch : (xs ys : List Event) → AreEvents assets limit (xs ++ e ∷ es) → AreEvents assets limit (ys ++ d ∷ ds) → SameMoments xs ys →
+      module _ (e d : RunEvent) (es ds : List RunEvent) (starts : StretchSame e d es ds [] []) where
+        stretch : (xs ys : List RunEvent) → AreRunEvents assets limit (xs ++ e ∷ es) → AreRunEvents assets limit (ys ++ d ∷ ds) → SameMoments xs ys →
             NoneBegins client asset xs → NoneBegins client asset ys → AreMatched assets client asset (e ∷ es) (d ∷ ds) xs ys → StretchSame e d es ds xs ys
         stretch [] [] h g moments none others_none matched = starts
         stretch [] (y ∷ ys) h g moments none others_none matched = absurd matched
@@ -342,11 +342,11 @@ module _ (law : EventsAreFixed) (limit : ℕ) where
 -- ---- moments
 
 -- the moments of events, the oldest first
-abbrev times : List Event → List ℕ
+abbrev times : List RunEvent → List ℕ
 times [] = []
 times (e ∷ es) = times es ++ e.input.moment ∷ []
 
-times_are : (es : List Event) → moments_of (inputs_of es) ≡ times es
+times_are : (es : List RunEvent) → moments_of (inputs_of es) ≡ times es
 times_are [] = refl
 times_are (e ∷ es) = map-append (λ (i : Input). i.moment) (inputs_of es) (e.input ∷ []) ∙ ap (λ l. l ++ e.input.moment ∷ []) (times_are es)
 
@@ -354,11 +354,11 @@ no_more : (xs : List ℕ) → xs ≡ xs ++ []
 no_more [] = refl
 no_more (x ∷ xs) = ap (λ l. x ∷ l) (no_more xs)
 
-times_append : (xs ys : List Event) → times (xs ++ ys) ≡ times ys ++ times xs
+times_append : (xs ys : List RunEvent) → times (xs ++ ys) ≡ times ys ++ times xs
 times_append [] ys = no_more (times ys)
 times_append (x ∷ xs) ys = ap (λ l. l ++ x.input.moment ∷ []) (times_append xs ys) ∙ append_assoc (times ys) (times xs) (x.input.moment ∷ [])
 
-times_length : (es : List Event) → length (times es) ≡ length es
+times_length : (es : List RunEvent) → length (times es) ≡ length es
 times_length [] = refl
 times_length (e ∷ es) = let a = length-append (times es) (e.input.moment ∷ []) in let b = times_length es in omega (arith, a, b)
 
@@ -370,7 +370,7 @@ same_parts (x ∷ xs) ys (u ∷ us) vs n h =
     let rest = same_parts xs ys us vs (omega (arith, n)) (same_tail x u (xs ++ ys) (us ++ vs) h) in
     (ap (λ z. z ∷ xs) (same_head x u (xs ++ ys) (us ++ vs) h) ∙ ap (λ l. u ∷ l) rest.0, rest.1)
 
-same_moments : (xs ys : List Event) → length xs ≡ length ys → times xs ≡ times ys → SameMoments xs ys
+same_moments : (xs ys : List RunEvent) → length xs ≡ length ys → times xs ≡ times ys → SameMoments xs ys
 same_moments [] [] n h = tt
 same_moments [] (y ∷ ys) n h = absurd (omega (arith, n))
 same_moments (x ∷ xs) [] n h = absurd (omega (arith, n))
@@ -379,18 +379,18 @@ same_moments (x ∷ xs) (y ∷ ys) n h =
     let parts = same_parts (times xs) (x.input.moment ∷ []) (times ys) (y.input.moment ∷ []) (times_length xs ∙ shorter ∙ sym (times_length ys)) h in
     (same_head x.input.moment y.input.moment [] [] parts.1, same_moments xs ys shorter parts.0)
 
-matched_length : (assets : List Asset) (client asset : Endpoint) (here there xs ys : List Event) → AreMatched assets client asset here there xs ys → length xs ≡ length ys
+matched_length : (assets : List Asset) (client asset : Endpoint) (here there xs ys : List RunEvent) → AreMatched assets client asset here there xs ys → length xs ≡ length ys
 matched_length assets client asset here there [] [] h = refl
 matched_length assets client asset here there [] (y ∷ ys) h = absurd h
 matched_length assets client asset here there (x ∷ xs) [] h = absurd h
 matched_length assets client asset here there (x ∷ xs) (y ∷ ys) h = ap suc (matched_length assets client asset here there xs ys h.1)
 
 -- the events of two runs with equal moments, in parts of equal lengths
-pub record PartsSame (e d : Event) (xs ys : List Event) : Type 0 where
+pub record PartsSame (e d : RunEvent) (xs ys : List RunEvent) : Type 0 where
   pub first : e.input.moment ≡ d.input.moment
   pub later : SameMoments xs ys
 
-parts_same : (after others_after xs ys : List Event) (e d : Event) (es ds : List Event) → length es ≡ length ds → length xs ≡ length ys →
+parts_same : (after others_after xs ys : List RunEvent) (e d : RunEvent) (es ds : List RunEvent) → length es ≡ length ds → length xs ≡ length ys →
     times (after ++ (xs ++ e ∷ es)) ≡ times (others_after ++ (ys ++ d ∷ ds)) → PartsSame e d xs ys
 parts_same after others_after xs ys e d es ds earlier later h =
     let whole : times (xs ++ e ∷ es) ++ times after ≡ times (ys ++ d ∷ ds) ++ times others_after = sym (times_append after (xs ++ e ∷ es)) ∙ h ∙ times_append others_after (ys ++ d ∷ ds) in
@@ -407,12 +407,12 @@ parts_same after others_after xs ys e d es ds earlier later h =
 
 -- ---- two runs
 
-events_behind : (assets : List Asset) (limit : ℕ) (after es : List Event) → AreEvents assets limit (after ++ es) → AreEvents assets limit es
+events_behind : (assets : List Asset) (limit : ℕ) (after es : List RunEvent) → AreRunEvents assets limit (after ++ es) → AreRunEvents assets limit es
 events_behind assets limit [] es h = h
 events_behind assets limit (x ∷ after) es h = events_behind assets limit after es h.1
 
-module _ (law : EventsAreFixed) (assets : List Asset) (limit : ℕ) (flow : Flow) (e d : Event) (es ds xs ys : List Event) (b c : SessionEvent)
-    (are : AreEvents assets limit (xs ++ e ∷ es)) (others_are : AreEvents assets limit (ys ++ d ∷ ds)) (moments : PartsSame e d xs ys)
+module _ (law : EventsAreFixed) (assets : List Asset) (limit : ℕ) (flow : Flow) (e d : RunEvent) (es ds xs ys : List RunEvent) (b c : SessionEvent)
+    (are : AreRunEvents assets limit (xs ++ e ∷ es)) (others_are : AreRunEvents assets limit (ys ++ d ∷ ds)) (moments : PartsSame e d xs ys)
     (begins : e.received ≡ Begun flow b) (others_begin : d.received ≡ Begun flow c) where
   pub stretch_same : NoneBegins (client_of flow) flow.asset.endpoint xs → NoneBegins (client_of flow) flow.asset.endpoint ys →
       AreMatched assets (client_of flow) flow.asset.endpoint (e ∷ es) (d ∷ ds) xs ys → StretchSame law limit (client_of flow) flow.asset.endpoint assets e d es ds xs ys
@@ -436,8 +436,8 @@ isolates law assets limit given other_given out other_out log other_log summary 
     sym (times_are run.events) ∙ ap moments_of run.are_inputs ∙ moments ∙ sym (sym (times_are other_run.events) ∙ ap moments_of other_run.are_inputs) in
     let later = matched_length assets (client_of flow) flow.asset.endpoint (one.first ∷ one.earlier) (other.first ∷ other.earlier) one.later other.later matched in
     let parts = parts_same one.after other.after one.later other.later one.first other.first one.earlier other.earlier earlier later (sym (ap times one.are) ∙ all ∙ ap times other.are) in
-    let are = events_behind assets limit one.after (one.later ++ one.first ∷ one.earlier) (subst (AreEvents assets limit) one.are run.are) in
-    let others_are = events_behind assets limit other.after (other.later ++ other.first ∷ other.earlier) (subst (AreEvents assets limit) other.are other_run.are) in
+    let are = events_behind assets limit one.after (one.later ++ one.first ∷ one.earlier) (subst (AreRunEvents assets limit) one.are run.are) in
+    let others_are = events_behind assets limit other.after (other.later ++ other.first ∷ other.earlier) (subst (AreRunEvents assets limit) other.are other_run.are) in
     let same = stretch_same law assets limit flow one.first other.first one.earlier other.earlier one.later other.later one.begun other.begun are others_are parts one.begins other.begins
     one.none other.none matched in
     record { sent = same.sent; logged = same.logged }

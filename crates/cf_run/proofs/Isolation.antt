@@ -1,9 +1,9 @@
 -- Sessions of one run, and of two.
 use Rattle.std.proofs.Common.{◌≡◌, ◌∷◌, [], ℕ, List, refl, subst}
 use Rattle.cf_session.specs.Event.{AreEvents as AreSessionEvents}
-use Rattle.cf_session.specs.Laws.{AreUncutBefore, EventsAreFixed, HasOneStream as SessionHasOneStream}
+use Rattle.cf_session.specs.Laws.{AreUncutBefore, EventsAreFixed, SendsOneStream as SessionHasOneStream}
 use Rattle.cf_session.specs.Session.{Flow, SessionEvent}
-use Rattle.cf_run.specs.Sessions.{HasEvents, HasOneStream, IsRight, SessionsAreIsolated, SessionsHaveOneStream, sessions_of}
+use Rattle.cf_run.specs.Sessions.{HasEvents, SendsOneStream, HasRightEvents, SessionsAreIsolated, SessionsHaveOneStream, sessions_of}
 use Rattle.cf_run.specs.Table.{Session}
 use Rattle.cf_run.proofs.Sessions.{each-at, each-map, sessions_right}
 
@@ -17,7 +17,7 @@ uncut_before limit f (e ∷ es) h = h.1
 
 pub one_stream : SessionHasOneStream → SessionsHaveOneStream
 one_stream law assets limit es small h =
-    each-map (IsRight limit) HasOneStream
+    each-map (HasRightEvents limit) SendsOneStream
     (λ s right taken. law s.flow limit s.events taken small (right_events limit s.flow s.events right) (uncut_before limit s.flow s.events right))
     (sessions_of es) (sessions_right assets limit es h)
 
@@ -26,6 +26,6 @@ same_session s t p q = rw (p, q) refl
 
 pub isolated : EventsAreFixed → SessionsAreIsolated
 isolated law assets limit es ds he hd i j s t is js alike =
-    let a = right_events limit s.flow s.events (each-at (IsRight limit) (sessions_of es) i s (sessions_right assets limit es he) is) in
-    let b = right_events limit t.flow t.events (each-at (IsRight limit) (sessions_of ds) j t (sessions_right assets limit ds hd) js) in
+    let a = right_events limit s.flow s.events (each-at (HasRightEvents limit) (sessions_of es) i s (sessions_right assets limit es he) is) in
+    let b = right_events limit t.flow t.events (each-at (HasRightEvents limit) (sessions_of ds) j t (sessions_right assets limit ds hd) js) in
     same_session s t alike.flow (law t.flow limit s.events t.events (subst (λ f. AreSessionEvents f limit s.events) alike.flow a) b alike.same)

@@ -25,9 +25,9 @@ use Rattle.cf_run.specs.Half.{StepBreaks, StepStops}
 use Rattle.cf_run.specs.OutputFile.{ends_with_record, file_packets, packet_part, record_octets}
 use Rattle.cf_run.specs.Reader.{FindsRecord, HasForm, PassesTo, ReaderValue, StopsAt}
 use Rattle.cf_run.specs.Run.{capture_of, input_of, inputs, inputs_from, inputs_of}
-use Rattle.cf_run.specs.RunCapture.{BeginsWithRecords, BreaksOff, HasRecords, HoldsOctets, LeavesRun, RunNamesValue, RunsPartly, RunsRecords, RunsTo, StopsBetween, StopsIn, step_fault}
+use Rattle.cf_run.specs.RunCapture.{BeginsWithRecords, BreaksOff, HasTimedRecords, HoldsOctets, LeavesRun, RunNamesValue, RunsPartly, RunsRecords, RunsTo, StopsBetween, StopsIn, step_fault}
 use Rattle.cf_run.specs.Step.{EngineValue, IsEngineOf, StepsOn}
-use Rattle.cf_run.specs.Trace.{AreEvents, Event, Input, logged, logged_in_first, logged_in_second, sent, sent_in_first, sent_in_second, table_after}
+use Rattle.cf_run.specs.Trace.{AreRunEvents, RunEvent, Input, logged, logged_in_first, logged_in_second, sent, sent_in_first, sent_in_second, table_after}
 use Rattle.cf_run.specs.declared.engine.StepFault.{StepFault}
 use Rattle.cf_run.specs.declared.engine.StepFault.TheVariants as stepped
 use Rattle.cf_run.specs.declared.record_reader.NextRecord.TheVariants as answer
@@ -81,7 +81,7 @@ leads_on (holds all) start old new least stamp records leads (count, f, place, u
 
 -- the records end where something else stands
 leads_to : (file : Content) (start : Form) (old : ReaderValue) (least place : ℕ) (records : List Record) (found last : AtPlace) → Leads file start old.form least old.place records →
-    StandsBehind file old place found → timed least found ≡ last → IsLast last → HasRecords file start records (record { place = place; found = last })
+    StandsBehind file old place found → timed least found ≡ last → IsLast last → HasTimedRecords file start records (record { place = place; found = last })
 leads_to untold start old least place records found last leads stands e is = tt
 leads_to absent start old least place records found last leads stands e is = absurd leads
 leads_to (holds all) start old least place records found last leads (count, f, passes, at) e is =
@@ -139,7 +139,7 @@ pub record SoFar (assets : List Asset) (limit : ℕ) (names : RunNamesValue) (be
   pub log : IsWhole (before names.log) []
   pub capture : now names.capture ≡ before names.capture
   pub records : List Record
-  pub events : List Event
+  pub events : List RunEvent
   pub leads : Leads (before names.capture) start reader.form least reader.place records
   pub given : (more : List Record) → inputs (records ++ more) ≡ inputs_of events ++ inputs_from least more
   pub stands : IsEngineOf assets engine events
@@ -169,7 +169,7 @@ module _ {assets : List Asset} {limit : ℕ} {names : RunNamesValue} {before now
   -- one record more: it is read, it is in time, and its event is handled
   pub one_so_far : (stamp : ℕ) {next : ReaderValue} {moment : ℕ} {files after : List ℕ → Content} {new : EngineValue} → FindsRecord (now names.capture) reader next (answer.Whole stamp) →
       files ≡ now → moment ≡ max stamp least → moment < 2 ^ 32 * 1000000 →
-      ((events : List Event) → IsEngineOf assets engine events → (event : Event) × StepsOn assets moment (read_record next.link next.body) events new
+      ((events : List RunEvent) → IsEngineOf assets engine events → (event : RunEvent) × StepsOn assets moment (read_record next.link next.body) events new
       (files_told names.out names.log files) (files_told names.out names.log after) event) →
       new.limit ≡ engine.limit → after names.capture ≡ files names.capture → SoFar assets limit names before after start (moment + 2) next new
   one_so_far stamp {next} {moment} {files} {after} {new} found still is early steps limited kept =
@@ -222,7 +222,7 @@ module _ {assets : List Asset} {limit : ℕ} {names : RunNamesValue} {before now
           records = a.records;
           next = r;
           are_first = leads_somewhere (before names.capture) start next.form (moment_from least r + 2) next.place (a.records ++ r ∷ []) on;
-          are = subst (λ n. AreEvents assets n a.events) a.limited a.stands.are;
+          are = subst (λ n. AreRunEvents assets n a.events) a.limited a.stands.are;
           rises = a.stands.rises;
           are_inputs = ap (λ i. inputs_of a.events ++ i ∷ []) same_input ∙ sym (a.given (r ∷ []));
         }
@@ -282,7 +282,7 @@ module _ {assets : List Asset} {limit : ℕ} {names : RunNamesValue} {before now
           log = concat (logged a.events);
           is_run = record {
             events = a.events;
-            are = subst (λ n. AreEvents assets n a.events) a.limited a.stands.are;
+            are = subst (λ n. AreRunEvents assets n a.events) a.limited a.stands.are;
             rises = a.stands.rises;
             are_inputs = sym (rw append-nil at (a.given []) ∙ append-nil (inputs_of a.events));
             capture = refl;
@@ -303,7 +303,7 @@ module _ {assets : List Asset} {limit : ℕ} {names : RunNamesValue} {before now
           form = start;
           has_form = a.has_form;
           records = a.records;
-          are_records = subst (λ (n : ℕ). HasRecords (before names.capture) start a.records (record { place = n; found = last })) (sym p)
+          are_records = subst (λ (n : ℕ). HasTimedRecords (before names.capture) start a.records (record { place = n; found = last })) (sym p)
               (leads_to (before names.capture) start reader least at a.records found last a.leads stood e is);
           leaves = subst (λ counts. LeavesRun assets limit names before files a.records counts) (sym s) (leaves still);
         }

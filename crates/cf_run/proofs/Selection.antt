@@ -14,7 +14,7 @@ use Rattle.cf_session.specs.Sent.{Sent, at, sent_first, sent_second}
 use Rattle.cf_session.specs.Session.{Flow, SessionEvent}
 use Rattle.cf_run.specs.Selected.{IsSelected, Rises, SelectsByMoment, last_moment, with_moment}
 use Rattle.cf_run.specs.Table.{Begins, Full, Goes, Match, Outside, Session, match_of}
-use Rattle.cf_run.specs.Trace.{AreEvents, AreTicks, Begun, Dropped, Event, GoesOnAt, GoesOnWith, IsEvent, NoRoom, NoSession, Received, Receives, ReceivesRecord, Went, kept, sent, sent_in_first, sent_in_second, sent_received, stays, table_after, tick_of, ticked, with_events}
+use Rattle.cf_run.specs.Trace.{AreRunEvents, AreTicks, Begun, Dropped, RunEvent, GoesOnAt, GoesOnWith, IsRunEvent, NoRoom, NoSession, Received, Receives, ReceivesRecord, Went, kept, sent, sent_in_first, sent_in_second, sent_received, stays, table_after, tick_of, ticked, with_events}
 
 abbrev Each : (Session → Type 0) → List Session → Type 0
 Each P [] = Unit {0}
@@ -106,10 +106,10 @@ record_at assets limit tick table (Err refusal) r h is = subst (λ x. AllOf (λ 
 record_at assets limit tick table (Ok p) r h is = received_at limit tick table p (match_of assets table p) r h is
 
 module _ (assets : List Asset) (limit : ℕ) where
-  in_first : (e : Event) (es : List Event) → IsEvent assets limit (table_after es) e → AllOf (λ n. n ≡ tick_of e.input) (sent_in_first e)
+  in_first : (e : RunEvent) (es : List RunEvent) → IsRunEvent assets limit (table_after es) e → AllOf (λ n. n ≡ tick_of e.input) (sent_in_first e)
   in_first e es h = first_at (tick_of e.input) (kept (tick_of e.input) (table_after es)) e.ticks h.ticks
 
-  in_second : (e : Event) (es : List Event) → 1 ≤ e.input.moment → IsEvent assets limit (table_after es) e → AllOf (λ n. n ≡ e.input.moment) (sent_in_second e)
+  in_second : (e : RunEvent) (es : List RunEvent) → 1 ≤ e.input.moment → IsRunEvent assets limit (table_after es) e → AllOf (λ n. n ≡ e.input.moment) (sent_in_second e)
   in_second e es some h =
       let tick = tick_of e.input in
       let back : tick + 1 ≡ e.input.moment = omega arith in
@@ -117,7 +117,7 @@ module _ (assets : List Asset) (limit : ℕ) where
       subst (λ m. AllOf (λ n. n ≡ m) (sent_in_second e)) back (record_at assets limit tick (ticked e.ticks tick (table_after es)) e.input.packet e.received table h.received)
 
   -- nothing was sent after the last moment
-  until : (es : List Event) → AreEvents assets limit es → Rises es → AllOf (λ n. n ≤ last_moment es) (sent es)
+  until : (es : List RunEvent) → AreRunEvents assets limit es → Rises es → AllOf (λ n. n ≤ last_moment es) (sent es)
   until [] h r = tt
   until (e ∷ es) h r =
       let m = e.input.moment in
@@ -130,7 +130,7 @@ module _ (assets : List Asset) (limit : ℕ) where
   split : (m : ℕ) (a b c : List Sent) → with_moment m (a ++ (b ++ c)) ≡ with_moment m a ++ (with_moment m b ++ with_moment m c)
   split m a b c = filter-append (λ s. s.moment == m) a (b ++ c) ∙ ap (λ xs. with_moment m a ++ xs) (filter-append (λ s. s.moment == m) b c)
 
-  pub selected : (e : Event) (es : List Event) → AreEvents assets limit (e ∷ es) → Rises (e ∷ es) → IsSelected e es
+  pub selected : (e : RunEvent) (es : List RunEvent) → AreRunEvents assets limit (e ∷ es) → Rises (e ∷ es) → IsSelected e es
   selected e es h r =
       let m = e.input.moment in
       let tick = tick_of e.input in

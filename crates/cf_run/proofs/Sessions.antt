@@ -9,12 +9,12 @@ use Rattle.cf_packet.specs.Packet.{PacketValue}
 use Rattle.cf_packet.specs.declared.packet.PacketRefusal.{PacketRefusal}
 use Rattle.cf_policy.specs.declared.Asset.{Asset}
 use Rattle.cf_view.specs.declared.Side.{Side}
-use Rattle.cf_session.specs.Event.{IsBeginning, IsTick, AreEvents as AreSessionEvents}
+use Rattle.cf_session.specs.Event.{IsBeginning, IsTick, AreRunEvents as AreSessionEvents}
 use Rattle.cf_session.specs.Laws.{AreUncut}
 use Rattle.cf_session.specs.Session.{Flow, SessionEvent, client_of, is_expired}
-use Rattle.cf_run.specs.Sessions.{Each, HasEvents, IsRight, gone_after, leaves, left_by_packet, left_in, session_at, sessions_of}
+use Rattle.cf_run.specs.Sessions.{Each, HasEvents, HasRightEvents, gone_after, leaves, left_by_packet, left_in, session_at, sessions_of}
 use Rattle.cf_run.specs.Table.{Session, Match, Begins, Full, Goes, Outside, match_of, place_of, without}
-use Rattle.cf_run.specs.Trace.{AreEvents, AreTicks, Begun, Dropped, Event, GoesOnAt, GoesOnWith, NoRoom, NoSession, Received, Receives, ReceivesRecord, Went, after_received, ends_cut, is_cut, kept, replaced, stays, table_after, tick_of, ticked, with_event_at, with_events}
+use Rattle.cf_run.specs.Trace.{AreRunEvents, AreTicks, Begun, Dropped, RunEvent, GoesOnAt, GoesOnWith, NoRoom, NoSession, Received, Receives, ReceivesRecord, Went, after_received, ends_cut, is_cut, kept, replaced, stays, table_after, tick_of, ticked, with_event_at, with_events}
 use Rattle.cf_run.proofs.Timers.{removed_is}
 
 -- ---- of each session of a list
@@ -84,8 +84,8 @@ going_by limit f [] h = h
 going_by limit f (t ∷ []) h = absurd h.2
 going_by limit f (t ∷ (e ∷ es)) h = ((inl h.0, h.2.0), (h.1, h.2.1))
 
-each-right : (limit : ℕ) (ss : List Session) → Each (IsGoing limit) ss → Each (IsRight limit) ss
-each-right limit ss h = each-map (IsGoing limit) (IsRight limit) (λ s g. right_by limit s.flow s.events g) ss h
+each-right : (limit : ℕ) (ss : List Session) → Each (IsGoing limit) ss → Each (HasRightEvents limit) ss
+each-right limit ss h = each-map (IsGoing limit) (HasRightEvents limit) (λ s g. right_by limit s.flow s.events g) ss h
 
 each-going : (limit : ℕ) (ss : List Session) → Each (IsTicked limit) ss → Each (IsGoing limit) ss
 each-going limit ss h = each-map (IsTicked limit) (IsGoing limit) (λ s t. going_by limit s.flow s.events t) ss h
@@ -99,7 +99,7 @@ going_one : (limit : ℕ) (f : Flow) (es : List SessionEvent) → HasEvents limi
 going_one limit f [] h e = h
 going_one limit f (d ∷ es) h e = (h.0, (uncut d.cut e, h.1))
 
-each-stays : (limit : ℕ) (ss : List Session) → Each (IsRight limit) ss → Each (IsGoing limit) (filter stays ss)
+each-stays : (limit : ℕ) (ss : List Session) → Each (HasRightEvents limit) ss → Each (IsGoing limit) (filter stays ss)
 each-stays limit [] h = tt
 each-stays limit (s ∷ ss) h =
     let rest = each-stays limit ss h.1 in
@@ -129,7 +129,7 @@ pub tick_right : (limit : ℕ) (f : Flow) (es : List SessionEvent) (tick : ℕ) 
 tick_right limit f [] tick t h is = absurd h
 tick_right limit f (e ∷ es) tick t h is = ((inl (subst (λ n. IsTick f (e ∷ es) n t) (sym is.client_tick) is), h.0), h.1)
 
-each-next : (limit tick : ℕ) (ss : List Session) (ts : List SessionEvent) → Each (IsGoing limit) ss → AreTicks tick ss ts → Each (IsRight limit) (with_events ss ts)
+each-next : (limit tick : ℕ) (ss : List Session) (ts : List SessionEvent) → Each (IsGoing limit) ss → AreTicks tick ss ts → Each (HasRightEvents limit) (with_events ss ts)
 each-next limit tick [] ts h are = tt
 each-next limit tick (s ∷ ss) [] h are = absurd are
 each-next limit tick (s ∷ ss) (t ∷ ts) h are = (tick_right limit s.flow s.events tick t h.0 are.0, each-next limit tick ss ts h.1 are.1)
@@ -141,7 +141,7 @@ goes_on limit s p e f [] h g = absurd h
 goes_on limit s p e f (t ∷ []) h g = absurd h.2
 goes_on limit s p e f (t ∷ (d ∷ es)) h g = ((inr (t, s, p, h.0, h.1, g), h.2.0), h.2.1)
 
-each-went : (limit : ℕ) (s : Side) (p : PacketValue) (e : SessionEvent) (i : ℕ) (ss : List Session) → Each (IsTicked limit) ss → GoesOnAt limit s p e (slice_get ss i) → Each (IsRight limit) (with_event_at i e ss)
+each-went : (limit : ℕ) (s : Side) (p : PacketValue) (e : SessionEvent) (i : ℕ) (ss : List Session) → Each (IsTicked limit) ss → GoesOnAt limit s p e (slice_get ss i) → Each (HasRightEvents limit) (with_event_at i e ss)
 each-went limit s p e i [] h g = tt
 each-went limit s p e zero (x ∷ ss) h g = (goes_on limit s p e x.flow x.events h.0 g, each-right limit ss (each-going limit ss h.1))
 each-went limit s p e (suc i) (x ∷ ss) h g = (right_by limit x.flow x.events (going_by limit x.flow x.events h.0), each-went limit s p e i ss h.1 g)
@@ -152,12 +152,12 @@ begun_one f tick e h = subst (λ n. IsBeginning f n e) (sym (ap (λ x. x.tick) h
 -- both those that stay and those that leave
 record Both (limit : ℕ) (r : Received) (table : List Session) : Type 0 where
   stay : Each (IsGoing limit) (after_received r table)
-  left : Each (IsRight limit) (left_by_packet r table)
+  left : Each (HasRightEvents limit) (left_by_packet r table)
 
 nothing_left : (limit : ℕ) (table : List Session) (r : Received) → after_received r table ≡ table → left_by_packet r table ≡ [] → Each (IsTicked limit) table → Both limit r table
 nothing_left limit table r same none h = record {
   stay = subst (Each (IsGoing limit)) (sym same) (each-going limit table h);
-  left = subst (Each (IsRight limit)) (sym none) tt;
+  left = subst (Each (HasRightEvents limit)) (sym none) tt;
 }
 
 each-received : (limit tick : ℕ) (table : List Session) (p : PacketValue) (m : Match) (r : Received) → Each (IsTicked limit) table → Receives limit tick table p m r → Both limit r table
@@ -168,11 +168,11 @@ each-received limit tick table p (Begins f) (Begun g e) h is =
     record {
       stay = each-append (IsGoing limit) (without (client_of g) g.asset.endpoint table) (record { flow = g; events = e ∷ [] } ∷ []) (each-removed (IsGoing limit) table place going)
           (((begun_one g tick e begins, tt), (begins.cut, tt)), tt);
-      left = each-session_at (IsRight limit) table place (each-right limit table going);
+      left = each-session_at (HasRightEvents limit) table place (each-right limit table going);
     }
 each-received limit tick table p (Goes i s) (Went j e) h is =
     let right = each-went limit s p e j table h (subst (λ k. GoesOnAt limit s p e (slice_get table k)) (sym is.0) is.1) in
-    record { stay = each-stays limit (with_event_at j e table) right; left = each-filter (IsRight limit) leaves (with_event_at j e table) right }
+    record { stay = each-stays limit (with_event_at j e table) right; left = each-filter (HasRightEvents limit) leaves (with_event_at j e table) right }
 each-received limit tick table p Full NoRoom h is = nothing_left limit table NoRoom refl refl h
 each-received limit tick table p Outside NoSession h is = nothing_left limit table NoSession refl refl h
 each-received limit tick table p (Begins f) Dropped h is = absurd is
@@ -198,11 +198,11 @@ each-record assets limit tick table (Ok p) r h is = each-received limit tick tab
 
 -- ---- the whole run
 
-pub record OfRun (limit : ℕ) (events : List Event) : Type 0 where
-  pub gone : Each (IsRight limit) (gone_after events)
+pub record OfRun (limit : ℕ) (events : List RunEvent) : Type 0 where
+  pub gone : Each (HasRightEvents limit) (gone_after events)
   pub here : Each (IsGoing limit) (table_after events)
 
-pub of_run : (assets : List Asset) (limit : ℕ) (es : List Event) → AreEvents assets limit es → OfRun limit es
+pub of_run : (assets : List Asset) (limit : ℕ) (es : List RunEvent) → AreRunEvents assets limit es → OfRun limit es
 of_run assets limit [] h = record { gone = tt; here = tt }
 of_run assets limit (e ∷ es) h =
     let before = of_run assets limit es h.1 in
@@ -213,13 +213,13 @@ of_run assets limit (e ∷ es) h =
     let expired = filter (λ s. is_expired s.flow s.events tick) table in
     let cut = filter leaves (with_events (kept tick table) e.ticks) in
     record {
-      gone = each-append (IsRight limit) (gone_after es) (left_in table e) before.gone
-          (each-append (IsRight limit) expired (cut ++ left_by_packet e.received (ticked e.ticks tick table))
-          (each-filter (IsRight limit) (λ s. is_expired s.flow s.events tick) table (each-right limit table before.here))
-          (each-append (IsRight limit) cut (left_by_packet e.received (ticked e.ticks tick table))
-          (each-filter (IsRight limit) leaves (with_events (kept tick table) e.ticks) (each-next limit tick (kept tick table) e.ticks keeps h.0.ticks)) both.left));
+      gone = each-append (HasRightEvents limit) (gone_after es) (left_in table e) before.gone
+          (each-append (HasRightEvents limit) expired (cut ++ left_by_packet e.received (ticked e.ticks tick table))
+          (each-filter (HasRightEvents limit) (λ s. is_expired s.flow s.events tick) table (each-right limit table before.here))
+          (each-append (HasRightEvents limit) cut (left_by_packet e.received (ticked e.ticks tick table))
+          (each-filter (HasRightEvents limit) leaves (with_events (kept tick table) e.ticks) (each-next limit tick (kept tick table) e.ticks keeps h.0.ticks)) both.left));
       here = both.stay;
     }
 
-pub sessions_right : (assets : List Asset) (limit : ℕ) (es : List Event) → AreEvents assets limit es → Each (IsRight limit) (sessions_of es)
-sessions_right assets limit es h = let all = of_run assets limit es h in each-append (IsRight limit) (gone_after es) (table_after es) all.gone (each-right limit (table_after es) all.here)
+pub sessions_right : (assets : List Asset) (limit : ℕ) (es : List RunEvent) → AreRunEvents assets limit es → Each (HasRightEvents limit) (sessions_of es)
+sessions_right assets limit es h = let all = of_run assets limit es h in each-append (HasRightEvents limit) (gone_after es) (table_after es) all.gone (each-right limit (table_after es) all.here)

@@ -15,7 +15,7 @@ use Rattle.cf_run.specs.Receiving.{AreTicked}
 use Rattle.cf_run.specs.Counted.{counted}
 use Rattle.cf_run.specs.Step.{EngineValue, IsEngineOf, ReceivesRecordOne, Steps, StepsOn}
 use Rattle.cf_run.specs.Table.{Session}
-use Rattle.cf_run.specs.Trace.{AreEvents, AreTicks, Event, is_cut, kept, logged_received, logged_ticks, sent_received, stays, table_after, ticked, with_events}
+use Rattle.cf_run.specs.Trace.{AreRunEvents, AreTicks, RunEvent, is_cut, kept, logged_received, logged_ticks, sent_received, stays, table_after, ticked, with_events}
 use Rattle.cf_run.specs.declared.entry.Entry.{Entry}
 use Rattle.cf_run.specs.declared.summary.Happened.{Happened}
 use Rattle.cf_run.proofs.Counting.{counts_on}
@@ -52,7 +52,7 @@ pub stepped : (assets : List Asset) (limit now : ℕ) (packet : Result PacketVal
     ((known : List Session) → AreAll assets (now - 1) entries known → TickAll assets (now - 1) known middle old mid happened.cuts) →
     ReceivesRecordOne assets limit now packet middle after mid new happened.outcome →
     (before : List Session) (last : ℕ) → last + 1 ≤ now → AreAll assets last entries before →
-    (event : Event) × Steps assets limit now packet before after old new happened event
+    (event : RunEvent) × Steps assets limit now packet before after old new happened event
 stepped assets limit now packet entries middle after old mid new happened two ticks receives before last le all =
     let t = ticks before (all_later assets last (now - 1) (omega (arith, le)) entries before all) in
     let table : List Session = ticked t.ticks (now - 1) before in
@@ -75,18 +75,18 @@ stepped assets limit now packet entries middle after old mid new happened two ti
 pub steps_on : (assets : List Asset) (now : ℕ) (packet : Result PacketValue PacketRefusal) (before after : EngineValue) (old new : Told) (happened : Happened) →
     after.limit ≡ before.limit → after.last ≡ now → after.summary ≡ counted before.summary happened → before.last + 2 ≤ now →
     ((table : List Session) (last : ℕ) → last + 1 ≤ now → AreAll assets last before.table table →
-    (event : Event) × Steps assets before.limit now packet table after.table old new happened event) →
-    (events : List Event) → IsEngineOf assets before events → (event : Event) × StepsOn assets now packet events after old new event
+    (event : RunEvent) × Steps assets before.limit now packet table after.table old new happened event) →
+    (events : List RunEvent) → IsEngineOf assets before events → (event : RunEvent) × StepsOn assets now packet events after old new event
 steps_on assets now packet before after old new happened same_limit is_last counts later steps events h =
     let s = steps (table_after events) before.last (omega (arith, later)) h.all in
     let is_moment : s.0.input.moment ≡ now = ap (λ i. i.moment) s.1.input in
-    let are : AreEvents assets before.limit (s.0 ∷ events) = (s.1.is_event, h.are) in
+    let are : AreRunEvents assets before.limit (s.0 ∷ events) = (s.1.is_event, h.are) in
     let all : AreAll assets now after.table (table_after (s.0 ∷ events)) = s.1.all in (
       s.0,
       record {
         input = s.1.input;
         stands = record {
-          are = subst (λ n. AreEvents assets n (s.0 ∷ events)) (sym same_limit) are;
+          are = subst (λ n. AreRunEvents assets n (s.0 ∷ events)) (sym same_limit) are;
           rises = (omega (arith, later, h.last, is_moment), h.rises);
           last = is_moment ∙ sym is_last;
           all = subst (λ n. AreAll assets n after.table (table_after (s.0 ∷ events))) (sym is_last) all;

@@ -16,7 +16,7 @@ use Rattle.cf_run.specs.Half.{BreaksHalf, IsHalfOf, ReceiveRecordBreaks, StepBre
 use Rattle.cf_run.specs.Receiving.{AreTicked}
 use Rattle.cf_run.specs.Step.{EngineValue, IsEngineOf}
 use Rattle.cf_run.specs.Table.{Session}
-use Rattle.cf_run.specs.Trace.{Event, Input, kept, logged_ticks, table_after, ticked}
+use Rattle.cf_run.specs.Trace.{RunEvent, Input, kept, logged_ticks, table_after, ticked}
 use Rattle.cf_run.specs.declared.entry.Entry.{Entry}
 use Rattle.cf_run.proofs.Stepping.{all_later, have_ticked}
 use Rattle.cf_run.proofs.Timers.{both_both}
@@ -63,7 +63,7 @@ module _ (assets : List Asset) (limit now : ℕ) (packet : Result PacketValue Pa
       let on : AreTicked (now - 1) table = have_ticked (now - 1) (kept (now - 1) before) t.ticks t.are in
       let same : now - 1 + 1 ≡ now = omega (arith, some) in
       let r = receives table on (subst (λ m. AreAll assets m middle table) same t.all) in
-      let event : Event = record { input = input; ticks = t.ticks; received = r.received } in (
+      let event : RunEvent = record { input = input; ticks = t.ticks; received = r.received } in (
         second_half before event,
         inr (event, refl, record { ticks = t.are; received = r.receives }, refl),
         record {
@@ -85,11 +85,11 @@ module _ (assets : List Asset) (limit now : ℕ) (packet : Result PacketValue Pa
 
 module _ (assets : List Asset) (now : ℕ) (packet : Result PacketValue PacketRefusal) (before : EngineValue) (later : before.last + 2 ≤ now) where
   pub engine_breaks : (d0 d1 : DeskValue) → ((table : List Session) (last : ℕ) → last + 1 ≤ now → AreAll assets last before.table table → StepBreaks assets before.limit table (record { moment = now; packet = packet }) d0 d1) →
-      (events : List Event) → IsEngineOf assets before events → StepBreaks assets before.limit (table_after events) (record { moment = now; packet = packet }) d0 d1
+      (events : List RunEvent) → IsEngineOf assets before events → StepBreaks assets before.limit (table_after events) (record { moment = now; packet = packet }) d0 d1
   engine_breaks d0 d1 steps events h = steps (table_after events) before.last (omega (arith, later)) h.all
 
   pub engine_stops : (old new : Told) → ((table : List Session) (last : ℕ) → last + 1 ≤ now → AreAll assets last before.table table → StepStops assets table (record { moment = now; packet = packet }) old new) →
-      (events : List Event) → IsEngineOf assets before events → StepStops assets (table_after events) (record { moment = now; packet = packet }) old new
+      (events : List RunEvent) → IsEngineOf assets before events → StepStops assets (table_after events) (record { moment = now; packet = packet }) old new
   engine_stops old new steps events h = steps (table_after events) before.last (omega (arith, later)) h.all
 
 -- ---- a desk over two files

@@ -13,7 +13,7 @@ use Rattle.cf_session.specs.Told.{Told, told, with_both}
 use Rattle.cf_run.specs.Engine.{AreAll}
 use Rattle.cf_run.specs.Receiving.{AreTicked}
 use Rattle.cf_run.specs.Table.{Begins, Session, match_of}
-use Rattle.cf_run.specs.Trace.{AreTicks, Event, GoesOnAt, Input, IsEvent, Received, Receives, ReceivesRecord, kept, logged_at, logged_in_first, logged_in_second, logged_received, logged_ticks, sent_in_first, sent_in_second, sent_received, tick_of, ticked}
+use Rattle.cf_run.specs.Trace.{AreTicks, RunEvent, GoesOnAt, Input, IsRunEvent, Received, Receives, ReceivesRecord, kept, logged_at, logged_in_first, logged_in_second, logged_received, logged_ticks, sent_in_first, sent_in_second, sent_received, tick_of, ticked}
 use Rattle.cf_run.specs.declared.engine.StepFault.{StepFault}
 use Rattle.cf_run.specs.declared.engine.StepFault.TheVariants as stepped
 use Rattle.cf_run.specs.declared.entry.Entry.{Entry}
@@ -30,7 +30,7 @@ abbrev pub first_half : (tick : ℕ) → List Session → List SessionEvent → 
 first_half tick before ticks = record { sent_before = []; logged_before = []; sent = flat_map sent_first ticks; logged = logged_ticks (kept tick before) ticks }
 
 -- the second half
-abbrev pub second_half : List Session → Event → Half
+abbrev pub second_half : List Session → RunEvent → Half
 second_half before event = record {
   sent_before = sent_in_first event;
   logged_before = logged_in_first before event;
@@ -56,7 +56,7 @@ pub record IsHalfBeforeBeginning (assets : List Asset) (before : List Session) (
 
 -- there is an event with the record that is right after this table
 abbrev pub IsSecondHalf : List Asset → (limit : ℕ) → List Session → Input → Half → Type 0
-IsSecondHalf assets limit before input half = (event : Event) × (event.input ≡ input) × IsEvent assets limit before event × (half ≡ second_half before event)
+IsSecondHalf assets limit before input half = (event : RunEvent) × (event.input ≡ input) × IsRunEvent assets limit before event × (half ≡ second_half before event)
 
 -- a half that the event of a record may have at this table
 abbrev pub IsHalfOf : List Asset → (limit : ℕ) → List Session → Input → Half → Type 0

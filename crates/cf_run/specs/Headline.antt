@@ -20,7 +20,7 @@ use Rattle.cf_session.specs.Work.{work_by}
 use Rattle.cf_stream.specs.Stream.{Byte, End, Letter}
 use Rattle.cf_run.specs.Sessions.{Each, sessions_of}
 use Rattle.cf_run.specs.Table.{Session}
-use Rattle.cf_run.specs.Trace.{AreEvents, Event, ends_cut}
+use Rattle.cf_run.specs.Trace.{AreRunEvents, RunEvent, ends_cut}
 
 -- the bytes among letters
 abbrev pub bytes_among : List Letter → List ℕ
@@ -54,9 +54,9 @@ pub record IsFaithful (session : Session) : Type 0 where
       Decodes session judged taken
 
 -- so it is after each event of a run, of those in the table and those that left it
-abbrev pub HasHeadline : List Event → Type 0
+abbrev pub HasHeadline : List RunEvent → Type 0
 HasHeadline [] = Unit {0}
 HasHeadline (event ∷ earlier) = Each IsFaithful (sessions_of (event ∷ earlier)) × HasHeadline earlier
 
 abbrev pub RunsHaveHeadline : Type 0
-RunsHaveHeadline = (assets : List Asset) (limit : ℕ) (events : List Event) → limit ≤ 2 ^ 30 → AreEvents assets limit events → HasHeadline events
+RunsHaveHeadline = (assets : List Asset) (limit : ℕ) (events : List RunEvent) → limit ≤ 2 ^ 30 → AreRunEvents assets limit events → HasHeadline events

@@ -14,7 +14,7 @@ use Rattle.cf_view.specs.declared.Endpoint.{Endpoint}
 use Rattle.cf_run.specs.Run.{IsRun}
 use Rattle.cf_run.specs.Summary.{found}
 use Rattle.cf_run.specs.Table.{Begins, Full, Goes, Match, Outside, Session, is_between, match_of, same_endpoint}
-use Rattle.cf_run.specs.Trace.{Begun, Event, Input, Received, Went, kept, logged_in_second, logged_received, logged_ticks, sent_in_second, sent_received, table_after, tick_of}
+use Rattle.cf_run.specs.Trace.{Begun, RunEvent, Input, Received, Went, kept, logged_in_second, logged_received, logged_ticks, sent_in_second, sent_received, table_after, tick_of}
 use Rattle.cf_run.specs.declared.summary.Summary.{Summary}
 
 -- ---- what one event is to the session of a client and an asset
@@ -41,7 +41,7 @@ matched_in assets client asset table (Err refusal) = None
 matched_in assets client asset table (Ok packet) = matched_by client asset table packet (match_of assets table packet)
 
 -- the input packet of an event that is matched to their session, if one is
-abbrev pub matched_to : List Asset → (client asset : Endpoint) → (before : List Session) → Event → Option PacketValue
+abbrev pub matched_to : List Asset → (client asset : Endpoint) → (before : List Session) → RunEvent → Option PacketValue
 matched_to assets client asset before event = matched_in assets client asset (found before event) event.input.packet
 
 -- a session of theirs begins
@@ -64,13 +64,13 @@ goes_to_theirs client asset table (Went place event) = is_theirs client asset (s
 goes_to_theirs client asset table _ = false
 
 -- its output records, each with its moment
-abbrev pub sent_by : (client asset : Endpoint) → (before : List Session) → Event → List Sent
+abbrev pub sent_by : (client asset : Endpoint) → (before : List Session) → RunEvent → List Sent
 sent_by client asset before event =
     flat_map sent_first (ticks_of client asset (kept (tick_of event.input) before) event.ticks)
     ++ (if goes_to_theirs client asset (found before event) event.received then sent_received event.received else [])
 
 -- its lines of the log
-abbrev pub logged_by : (client asset : Endpoint) → (before : List Session) → Event → List (List ℕ)
+abbrev pub logged_by : (client asset : Endpoint) → (before : List Session) → RunEvent → List (List ℕ)
 logged_by client asset before event =
     logged_ticks (filter (is_between client asset) (kept (tick_of event.input) before)) (ticks_of client asset (kept (tick_of event.input) before) event.ticks)
     ++ (if goes_to_theirs client asset (found before event) event.received then logged_received (found before event) event.received else [])
@@ -78,49 +78,49 @@ logged_by client asset before event =
 -- ---- a session of a run, over the events that are considered
 
 -- none of these events begins a session of theirs
-abbrev pub NoneBegins : (client asset : Endpoint) → List Event → Type 0
+abbrev pub NoneBegins : (client asset : Endpoint) → List RunEvent → Type 0
 NoneBegins client asset [] = Unit {0}
 NoneBegins client asset (event ∷ earlier) = (begins_theirs client asset event.received ≡ false) × NoneBegins client asset earlier
 
 -- in one of the events a session of this flow begins: of its asset and client, by its SYN. The events from that one on are considered
 -- up to any one, if no other session of that client and asset begins in those after it
-pub record HasSession (flow : Flow) (events : List Event) : Type 0 where
+pub record HasSession (flow : Flow) (events : List RunEvent) : Type 0 where
   -- the events after those that are considered
-  pub after : List Event
+  pub after : List RunEvent
   -- those that are considered, after the one in which it begins
-  pub later : List Event
-  pub first : Event
+  pub later : List RunEvent
+  pub first : RunEvent
   -- the events before it begins
-  pub earlier : List Event
+  pub earlier : List RunEvent
   pub are : events ≡ after ++ (later ++ first ∷ earlier)
   pub begun : SessionEvent
   pub begins : first.received ≡ Begun flow begun
   pub none : NoneBegins (client_of flow) flow.asset.endpoint later
 
 -- all that it sends from its beginning on, in its order
-abbrev pub sent_over : (client asset : Endpoint) → (first : Event) → (earlier later : List Event) → List Sent
+abbrev pub sent_over : (client asset : Endpoint) → (first : RunEvent) → (earlier later : List RunEvent) → List Sent
 sent_over client asset first earlier [] = sent_in_second first
 sent_over client asset first earlier (event ∷ later) =
     sent_over client asset first earlier later ++ sent_by client asset (table_after (later ++ first ∷ earlier)) event
 
 -- what a session sent in the events from its beginning on
-abbrev pub session_sent : {events : List Event} → (flow : Flow) → HasSession flow events → List Sent
+abbrev pub session_sent : {events : List RunEvent} → (flow : Flow) → HasSession flow events → List Sent
 session_sent flow has = sent_over (client_of flow) flow.asset.endpoint has.first has.earlier has.later
 
 -- all that it logs from its beginning on, in its order
-abbrev pub logged_over : (client asset : Endpoint) → (first : Event) → (earlier later : List Event) → List (List ℕ)
+abbrev pub logged_over : (client asset : Endpoint) → (first : RunEvent) → (earlier later : List RunEvent) → List (List ℕ)
 logged_over client asset first earlier [] = logged_in_second (table_after earlier) first
 logged_over client asset first earlier (event ∷ later) =
     logged_over client asset first earlier later ++ logged_by client asset (table_after (later ++ first ∷ earlier)) event
 
 -- what a session logged in the events from its beginning on
-abbrev pub session_logged : {events : List Event} → (flow : Flow) → HasSession flow events → List (List ℕ)
+abbrev pub session_logged : {events : List RunEvent} → (flow : Flow) → HasSession flow events → List (List ℕ)
 session_logged flow has = logged_over (client_of flow) flow.asset.endpoint has.first has.earlier has.later
 
 -- ---- two runs
 
 -- at each of the events after the beginning the same packet is matched to both sessions, or none to either
-abbrev pub AreMatched : List Asset → (client asset : Endpoint) → (here there : List Event) → (events others : List Event) → Type 0
+abbrev pub AreMatched : List Asset → (client asset : Endpoint) → (here there : List RunEvent) → (events others : List RunEvent) → Type 0
 AreMatched assets client asset here there [] [] = Unit {0}
 AreMatched assets client asset here there [] (other ∷ others) = ⊥
 AreMatched assets client asset here there (event ∷ events) [] = ⊥
@@ -129,7 +129,7 @@ AreMatched assets client asset here there (event ∷ events) (other ∷ others) 
     × AreMatched assets client asset here there events others
 
 -- in each event after their beginning both sessions are matched the same packet, or none
-abbrev pub AreMatchedAlike : {events others : List Event} → List Asset → (flow : Flow) → HasSession flow events → HasSession flow others → Type 0
+abbrev pub AreMatchedAlike : {events others : List RunEvent} → List Asset → (flow : Flow) → HasSession flow events → HasSession flow others → Type 0
 AreMatchedAlike assets flow one other =
     AreMatched assets (client_of flow) flow.asset.endpoint (one.first ∷ one.earlier) (other.first ∷ other.earlier) one.later other.later
 
@@ -138,7 +138,7 @@ abbrev pub moments_of : List Input → List ℕ
 moments_of inputs = map (λ i. i.moment) inputs
 
 -- two sessions have the same output records at the same moments, and the same lines in the same order
-pub record DoTheSame {events others : List Event} (flow : Flow) (one : HasSession flow events) (other : HasSession flow others) : Type 0 where
+pub record DoTheSame {events others : List RunEvent} (flow : Flow) (one : HasSession flow events) (other : HasSession flow others) : Type 0 where
   pub sent : session_sent flow one ≡ session_sent flow other
   pub logged : session_logged flow one ≡ session_logged flow other
 

@@ -63,14 +63,14 @@ IsNoRecord next.Large = Unit {0}
 IsNoRecord next.Failed = Unit {0}
 
 -- after a record a reader goes on
-abbrev pub GoesOn : NextRecord → (from to : ℕ) → Type 0
-GoesOn (next.Whole stamp) from to = from < to
-GoesOn next.End from to = from ≤ to
-GoesOn next.Cut from to = from ≤ to
-GoesOn next.TooLong from to = from ≤ to
-GoesOn (next.Refused refusal) from to = from ≤ to
-GoesOn next.Large from to = from ≤ to
-GoesOn next.Failed from to = from ≤ to
+abbrev pub IsPastRecord : NextRecord → (from to : ℕ) → Type 0
+IsPastRecord (next.Whole stamp) from to = from < to
+IsPastRecord next.End from to = from ≤ to
+IsPastRecord next.Cut from to = from ≤ to
+IsPastRecord next.TooLong from to = from ≤ to
+IsPastRecord (next.Refused refusal) from to = from ≤ to
+IsPastRecord next.Large from to = from ≤ to
+IsPastRecord next.Failed from to = from ≤ to
 
 -- a piece stands in the buffer and below place 2^40
 abbrev pub IsPieceInside : ℕ → ℕ → Piece → Type 0

@@ -16,7 +16,7 @@ use Rattle.cf_run.specs.OutputFile.{record_octets}
 use Rattle.cf_run.specs.Reader.{HasForm}
 use Rattle.cf_run.specs.Run.{IsRun, capture_of, inputs, inputs_of}
 use Rattle.cf_run.specs.Selected.{Rises}
-use Rattle.cf_run.specs.Trace.{AreEvents, Event, Input, logged, sent, table_after}
+use Rattle.cf_run.specs.Trace.{AreRunEvents, RunEvent, Input, logged, sent, table_after}
 use Rattle.cf_run.specs.declared.engine.StepFault.{StepFault}
 use Rattle.cf_run.specs.declared.engine.StepFault.TheVariants as stepped
 use Rattle.cf_run.specs.declared.record_reader.OpenFault.{OpenFault}
@@ -57,14 +57,14 @@ abbrev pub KeepsOtherFiles : RunNamesValue → (before after : List ℕ → Cont
 KeepsOtherFiles names before after = (other : List ℕ) → IsNoneOf (names.out ∷ names.log ∷ []) other → after other ≡ before other
 
 -- a file of this form has these records up to its last place, as far as it is told
-abbrev pub HasRecords : Content → Form → List Record → LastPlace → Type 0
-HasRecords untold form records last = Unit {0}
-HasRecords absent form records last = ⊥
-HasRecords (holds all) form records last = AreTimed form first_moment (first_place form) (drop (first_place form) all) records last
+abbrev pub HasTimedRecords : Content → Form → List Record → LastPlace → Type 0
+HasTimedRecords untold form records last = Unit {0}
+HasTimedRecords absent form records last = ⊥
+HasTimedRecords (holds all) form records last = AreTimed form first_moment (first_place form) (drop (first_place form) all) records last
 
 -- these are its first records
 abbrev pub BeginsWithRecords : Content → Form → List Record → Type 0
-BeginsWithRecords file form records = (more : List Record) × (last : LastPlace) × HasRecords file form (records ++ more) last
+BeginsWithRecords file form records = (more : List Record) × (last : LastPlace) × HasTimedRecords file form (records ++ more) last
 
 -- a creation failed, or the append of the header: OUT is created first, then LOG, and then OUT gets its header
 pub data IsCreatedInPart (names : RunNamesValue) (before after : List ℕ → Content) : Type 0 where
@@ -93,7 +93,7 @@ module _ (assets : List Asset) (limit : ℕ) (names : RunNamesValue) (before aft
     pub form : Form
     pub has_form : HasForm (before names.capture) (Ok form)
     pub records : List Record
-    pub are_records : HasRecords (before names.capture) form records (record { place = place; found = found })
+    pub are_records : HasTimedRecords (before names.capture) form records (record { place = place; found = found })
     pub leaves : LeavesRun records summary
 
   -- a read failed after records that were run over
@@ -106,20 +106,20 @@ module _ (assets : List Asset) (limit : ℕ) (names : RunNamesValue) (before aft
     pub leaves : LeavesRun records summary
 
   -- these first records were run over, and the run stopped in the event of the next one
-  pub record StopsIn (events : List Event) (input : Input) : Type 0 where
+  pub record StopsIn (events : List RunEvent) (input : Input) : Type 0 where
     pub form : Form
     pub has_form : HasForm (before names.capture) (Ok form)
     pub records : List Record
     pub next : Record
     pub are_first : BeginsWithRecords (before names.capture) form (records ++ next ∷ [])
-    pub are : AreEvents assets limit events
+    pub are : AreRunEvents assets limit events
     pub rises : Rises events
     pub are_inputs : inputs_of events ++ input ∷ [] ≡ inputs (records ++ next ∷ [])
 
   -- a write failed amid a half of that event: the two files have what the events and the event before that half gave, and a
   -- beginning of what is right in that half
   pub record BreaksOff : Type 0 where
-    pub events : List Event
+    pub events : List RunEvent
     pub input : Input
     pub stops : StopsIn events input
     pub half : Half
@@ -131,7 +131,7 @@ module _ (assets : List Asset) (limit : ℕ) (names : RunNamesValue) (before aft
 
   -- memory ran out after the first half of that event, where its packet begins a session
   pub record StopsBetween : Type 0 where
-    pub events : List Event
+    pub events : List RunEvent
     pub input : Input
     pub stops : StopsIn events input
     pub half : Half

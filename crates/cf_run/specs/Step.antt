@@ -9,7 +9,7 @@ use Rattle.cf_run.specs.Receiving.{AreTicked, IsOutcome}
 use Rattle.cf_run.specs.Selected.{Rises, last_moment}
 use Rattle.cf_run.specs.Summary.{found, summary_of}
 use Rattle.cf_run.specs.Table.{Session}
-use Rattle.cf_run.specs.Trace.{AreEvents, Event, IsEvent, Received, ReceivesRecord, after_received, is_cut, logged_in_first, logged_in_second, logged_received, sent_in_first, sent_in_second, sent_received, table_after}
+use Rattle.cf_run.specs.Trace.{AreRunEvents, RunEvent, IsRunEvent, Received, ReceivesRecord, after_received, is_cut, logged_in_first, logged_in_second, logged_received, sent_in_first, sent_in_second, sent_received, table_after}
 use Rattle.cf_run.specs.declared.entry.Entry.{Entry}
 use Rattle.cf_run.specs.declared.second_half.Outcome.{Outcome}
 use Rattle.cf_run.specs.declared.summary.Happened.{Happened}
@@ -29,15 +29,15 @@ ReceivesRecordOne assets limit now packet before after old new result =
     (received : Received) × ReceivingRecord assets limit now packet table after old new result received
 
 -- what is counted of an event, after this table
-pub record IsCounted (before : List Session) (happened : Happened) (event : Event) : Type 0 where
+pub record IsCounted (before : List Session) (happened : Happened) (event : RunEvent) : Type 0 where
   pub ticks : happened.cuts ≡ count_by (λ t. is_cut t.cut) event.ticks
   pub received : IsOutcome (found before event) happened.outcome event.received
 
 -- an event with a record, after this table
 pub record Steps (assets : List Asset) (limit now : ℕ) (packet : Result PacketValue PacketRefusal) (before : List Session) (entries : List Entry) (old new : Told)
-    (happened : Happened) (event : Event) : Type 0 where
+    (happened : Happened) (event : RunEvent) : Type 0 where
   pub input : event.input ≡ record { moment = now; packet = packet }
-  pub is_event : IsEvent assets limit before event
+  pub is_event : IsRunEvent assets limit before event
   pub told : new ≡ with_both old (sent_in_first event ++ sent_in_second event) (logged_in_first before event ++ logged_in_second before event)
   pub all : AreAll assets now entries (after_received event.received (found before event))
   pub counts : IsCounted before happened event
@@ -60,15 +60,15 @@ pub record IsSoundEngine (assets : List Asset) (engine : EngineValue) : Type 0 w
   pub limit : engine.limit ≤ 2 ^ 30
 
 -- the engine stands for these events, the newest first
-pub record IsEngineOf (assets : List Asset) (engine : EngineValue) (events : List Event) : Type 0 where
-  pub are : AreEvents assets engine.limit events
+pub record IsEngineOf (assets : List Asset) (engine : EngineValue) (events : List RunEvent) : Type 0 where
+  pub are : AreRunEvents assets engine.limit events
   pub rises : Rises events
   pub last : last_moment events ≡ engine.last
   pub all : AreAll assets engine.last engine.table (table_after events)
   pub counts : engine.summary ≡ summary_of events
 
 -- it went on by one event
-pub record StepsOn (assets : List Asset) (now : ℕ) (packet : Result PacketValue PacketRefusal) (events : List Event) (engine : EngineValue) (old new : Told) (event : Event) :
+pub record StepsOn (assets : List Asset) (now : ℕ) (packet : Result PacketValue PacketRefusal) (events : List RunEvent) (engine : EngineValue) (old new : Told) (event : RunEvent) :
     Type 0 where
   pub input : event.input ≡ record { moment = now; packet = packet }
   pub stands : IsEngineOf assets engine (event ∷ events)

@@ -3,7 +3,7 @@ use Rattle.std.specs.Prelude.{ℕ, ◌+◌, ◌-◌, ◌^◌, min, Bool, true, f
 use Rattle.cf_session.specs.Session.{work_of}
 use Rattle.cf_session.specs.Work.{Work, no_work}
 use Rattle.cf_run.specs.Table.{Session}
-use Rattle.cf_run.specs.Trace.{Begun, Dropped, Event, NoRoom, NoSession, Received, Went, behind, is_cut, table_after, tick_of, ticked}
+use Rattle.cf_run.specs.Trace.{Begun, Dropped, RunEvent, NoRoom, NoSession, Received, Went, behind, is_cut, table_after, tick_of, ticked}
 use Rattle.cf_run.specs.declared.summary.Summary.{Summary}
 
 -- 1 where it holds, and else 0
@@ -23,7 +23,7 @@ decided_in count table _ = 0
 -- ---- what one event counts, after this table
 
 -- the table as the packet of an event finds it
-abbrev pub found : List Session → Event → List Session
+abbrev pub found : List Session → RunEvent → List Session
 found before event = ticked event.ticks (tick_of event.input) before
 
 -- the record was no packet
@@ -52,13 +52,13 @@ was_cut (Went place event) = is_cut event.cut
 was_cut _ = false
 
 -- how many sessions an event cut, in both of its halves
-abbrev pub cuts_in : List Session → Event → ℕ
+abbrev pub cuts_in : List Session → RunEvent → ℕ
 cuts_in before event = count_by (λ t. is_cut t.cut) event.ticks + one_if (was_cut event.received)
 
 -- ---- over all events, the newest first
 
 -- the sum of what each event counts, after the table that those before it left
-abbrev pub total : (List Session → Event → ℕ) → List Event → ℕ
+abbrev pub total : (List Session → RunEvent → ℕ) → List RunEvent → ℕ
 total count [] = 0
 total count (event ∷ earlier) = total count earlier + count (table_after earlier) event
 
@@ -67,7 +67,7 @@ abbrev pub capped : ℕ → ℕ
 capped n = min n (2 ^ 64 - 1)
 
 -- the counts of events, each up to 2^64 - 1
-abbrev pub summary_of : List Event → Summary
+abbrev pub summary_of : List RunEvent → Summary
 summary_of events = record {
   records = capped (length events);
   dropped = capped (total (λ before event. one_if (was_dropped event.received)) events);

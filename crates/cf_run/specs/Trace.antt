@@ -1,4 +1,4 @@
--- What happens, record by record: `Event` and `AreEvents`, and what is `sent` and `logged`. Each record of a capture is one event,
+-- What happens, record by record: `RunEvent` and `AreRunEvents`, and what is `sent` and `logged`. Each record of a capture is one event,
 -- which fires the timers that are due and then handles the packet.
 --
 -- Lists of events have the newest one first, so that what was before an event is the list after it.
@@ -34,7 +34,7 @@ pub data Received : Type 0 where
 
 -- one event: the record, the first half of each session in the table that has not expired, in their order, and what became of
 -- the packet
-pub record Event : Type 0 where
+pub record RunEvent : Type 0 where
   pub input : Input
   pub ticks : List SessionEvent
   pub received : Received
@@ -91,7 +91,7 @@ after_received (Went place event) table = filter stays (with_event_at place even
 after_received _ table = table
 
 -- the table after events
-abbrev pub table_after : List Event → List Session
+abbrev pub table_after : List RunEvent → List Session
 table_after [] = []
 table_after (event ∷ earlier) = after_received event.received (ticked event.ticks (tick_of event.input) (table_after earlier))
 
@@ -127,14 +127,14 @@ ReceivesRecord assets limit tick table (Err refusal) received = received ≡ Dro
 ReceivesRecord assets limit tick table (Ok packet) received = Receives limit tick table packet (match_of assets table packet) received
 
 -- an event is right after the table before it: each session has its first half, and the packet is received
-pub record IsEvent (assets : List Asset) (limit : ℕ) (before : List Session) (event : Event) : Type 0 where
+pub record IsRunEvent (assets : List Asset) (limit : ℕ) (before : List Session) (event : RunEvent) : Type 0 where
   pub ticks : AreTicks (tick_of event.input) (kept (tick_of event.input) before) event.ticks
   pub received : ReceivesRecord assets limit (tick_of event.input) (ticked event.ticks (tick_of event.input) before) event.input.packet event.received
 
 -- events, each right after the earlier ones
-abbrev pub AreEvents : List Asset → (limit : ℕ) → List Event → Type 0
-AreEvents assets limit [] = Unit {0}
-AreEvents assets limit (event ∷ earlier) = IsEvent assets limit (table_after earlier) event × AreEvents assets limit earlier
+abbrev pub AreRunEvents : List Asset → (limit : ℕ) → List RunEvent → Type 0
+AreRunEvents assets limit [] = Unit {0}
+AreRunEvents assets limit (event ∷ earlier) = IsRunEvent assets limit (table_after earlier) event × AreRunEvents assets limit earlier
 
 -- ---- what is sent and logged
 
@@ -167,27 +167,27 @@ logged_received table (Went place event) = logged_at (slice_get table place) eve
 logged_received table _ = []
 
 -- each half of an event
-abbrev pub sent_in_first : Event → List Sent
+abbrev pub sent_in_first : RunEvent → List Sent
 sent_in_first event = flat_map sent_first event.ticks
 
 -- what is sent in the second half of an event
-abbrev pub sent_in_second : Event → List Sent
+abbrev pub sent_in_second : RunEvent → List Sent
 sent_in_second event = sent_received event.received
 
 -- the lines of the first half of an event
-abbrev pub logged_in_first : (before : List Session) → Event → List (List ℕ)
+abbrev pub logged_in_first : (before : List Session) → RunEvent → List (List ℕ)
 logged_in_first before event = logged_ticks (kept (tick_of event.input) before) event.ticks
 
 -- the lines of the second half of an event
-abbrev pub logged_in_second : (before : List Session) → Event → List (List ℕ)
+abbrev pub logged_in_second : (before : List Session) → RunEvent → List (List ℕ)
 logged_in_second before event = logged_received (ticked event.ticks (tick_of event.input) before) event.received
 
 -- all that events sent and logged, the oldest first
-abbrev pub sent : List Event → List Sent
+abbrev pub sent : List RunEvent → List Sent
 sent [] = []
 sent (event ∷ earlier) = sent earlier ++ (sent_in_first event ++ sent_in_second event)
 
 -- all lines of events, the oldest first
-abbrev pub logged : List Event → List (List ℕ)
+abbrev pub logged : List RunEvent → List (List ℕ)
 logged [] = []
 logged (event ∷ earlier) = logged earlier ++ (logged_in_first (table_after earlier) event ++ logged_in_second (table_after earlier) event)

@@ -13,7 +13,7 @@ ghost use Rattle.cf_run.specs.Half.{has_failed, ReceiveRecordBreaks, StepBreaks,
 ghost use Rattle.cf_run.specs.Receiving.{IsSized, MayBegin};
 ghost use Rattle.cf_run.specs.Step.{EngineValue, IsEngineOf, IsSoundEngine, ReceivesRecordOne, Steps, StepsOn};
 ghost use Rattle.cf_run.specs.Table.{Session as Known};
-ghost use Rattle.cf_run.specs.Trace.{Event, table_after};
+ghost use Rattle.cf_run.specs.Trace.{RunEvent, table_after};
 
 use crate::entry::Table;
 use crate::first_half::tick_all;
@@ -98,13 +98,13 @@ impl Engine {
         requires later { self.old.last + 2 ≤ moment }
         requires moment { moment < 2 ^ 32 * 1000000 }
         requires whole { DeskValue.whole (D.value desk.old) ≡ true }
-        ensures steps { OnOk result ((events : List Event) → IsEngineOf policy.now.assets self.old events →
-            (event : Event) × StepsOn policy.now.assets moment (read_record link.now bytes.now) events self.new
+        ensures steps { OnOk result ((events : List RunEvent) → IsEngineOf policy.now.assets self.old events →
+            (event : RunEvent) × StepsOn policy.now.assets moment (read_record link.now bytes.now) events self.new
             (told (D.value desk.old)) (told (D.value desk.new)) event) }
-        ensures broken { IsErrOf result StepFault.Write → (events : List Event) → IsEngineOf policy.now.assets self.old events
+        ensures broken { IsErrOf result StepFault.Write → (events : List RunEvent) → IsEngineOf policy.now.assets self.old events
             → StepBreaks policy.now.assets self.old.limit (table_after events) (record { moment = moment; packet = read_record link.now bytes.now })
             (D.value desk.old) (D.value desk.new) }
-        ensures stops { IsErrOf result StepFault.NoMemory → (events : List Event) → IsEngineOf policy.now.assets self.old events
+        ensures stops { IsErrOf result StepFault.NoMemory → (events : List RunEvent) → IsEngineOf policy.now.assets self.old events
             → StepStops policy.now.assets (table_after events) (record { moment = moment; packet = read_record link.now bytes.now })
             (told (D.value desk.old)) (told (D.value desk.new)) }
         ensures stops_whole { IsErrOf result StepFault.NoMemory → DeskValue.whole (D.value desk.new) ≡ true }
@@ -162,7 +162,7 @@ fn step_table<D: Desk>(
     requires moment { (2 ≤ now) × (now < 2 ^ 32 * 1000000) }
     requires whole { DeskValue.whole (D.value desk.old) ≡ true }
     ensures steps { IfOk result (λ happened. (before : List Known) (last : ℕ) → last + 1 ≤ now → AreAll assets.now last table.old.sessions.items before →
-        (event : Event) × Steps assets.now limit now (read_record link.now bytes.now) before table.new.sessions.items
+        (event : RunEvent) × Steps assets.now limit now (read_record link.now bytes.now) before table.new.sessions.items
         (told (D.value desk.old)) (told (D.value desk.new)) happened event) }
     ensures broken { IsErrOf result StepFault.Write → (before : List Known) (last : ℕ) → last + 1 ≤ now → AreAll assets.now last table.old.sessions.items before
         → StepBreaks assets.now limit before (record { moment = now; packet = read_record link.now bytes.now }) (D.value desk.old) (D.value desk.new) }

@@ -2,7 +2,7 @@
 ghost use Rattle.std.specs.Prelude.{◌≡◌, ℕ, ◌+◌, ◌^◌, ◌<◌, ◌≤◌, IsErrOf, length};
 ghost use Rattle.cf_outside.specs.Faults.{HasCause};
 ghost use Rattle.cf_run.specs.Form.{interface_of, room_of};
-ghost use Rattle.cf_run.specs.Pieces.{FindsBehind, FindsPiece, GoesOn, IsPieceInside};
+ghost use Rattle.cf_run.specs.Pieces.{FindsBehind, FindsPiece, IsPastRecord, IsPieceInside};
 ghost use Rattle.cf_run.specs.Reader.{FindsRecord, OpensAs};
 ghost use Rattle.cf_run.specs.declared.record_reader.NextRecord.TheVariants as next;
 ghost use Rattle.cf_run.specs.declared.record_reader.Piece.TheVariants as piece;
@@ -156,7 +156,7 @@ impl RecordReader {
     pub fn next<F: Files>(&mut self, files: &mut F, name: &str) -> NextRecord
         ensures found { FindsRecord (F.content files.old name.now) self.old self.new result }
         ensures near { self.new.place ≤ 2 ^ 40 }
-        ensures on { GoesOn result self.old.place self.new.place }
+        ensures on { IsPastRecord result self.old.place self.new.place }
         ensures same { F.content files.new ≡ F.content files.old }
         ensures cause { HasCause (F.read_faults files.old) (F.read_faults files.new) (result ≡ next.Failed) }
         ensures writes { F.write_faults files.new ≡ F.write_faults files.old }

@@ -12,7 +12,7 @@ ghost use Rattle.cf_run.specs.Form.{first_place};
 ghost use Rattle.cf_run.specs.Reader.{HasForm};
 ghost use Rattle.cf_run.specs.RunCapture.{AreApart, IsCreatedInPart, KeepsOtherFiles, RunsAs, RunsRecords, open_fault, run_names_value, step_fault};
 ghost use Rattle.cf_run.specs.Step.{IsEngineOf, IsSoundEngine, StepsOn};
-ghost use Rattle.cf_run.specs.Trace.{Event, table_after};
+ghost use Rattle.cf_run.specs.Trace.{RunEvent, table_after};
 
 use crate::blocks::BlockRefusal;
 use crate::engine::{Engine, StepFault};
@@ -214,15 +214,15 @@ fn run_record<F: Files>(
     requires later { engine.old.last + 2 ≤ moment }
     requires moment { moment < 2 ^ 32 * 1000000 }
     requires whole { are_whole names.now.out.now names.now.log.now (F.content files.old) ≡ true }
-    ensures steps { OnOk result ((events : List Event) → IsEngineOf policy.now.assets engine.old events →
-        (event : Event) × StepsOn policy.now.assets moment (read_record reader.now.link reader.now.body) events engine.new
+    ensures steps { OnOk result ((events : List RunEvent) → IsEngineOf policy.now.assets engine.old events →
+        (event : RunEvent) × StepsOn policy.now.assets moment (read_record reader.now.link reader.now.body) events engine.new
         (files_told names.now.out.now names.now.log.now (F.content files.old))
         (files_told names.now.out.now names.now.log.now (F.content files.new)) event) }
-    ensures broken { IsErrOf result StepFault.Write → (events : List Event) → IsEngineOf policy.now.assets engine.old events
+    ensures broken { IsErrOf result StepFault.Write → (events : List RunEvent) → IsEngineOf policy.now.assets engine.old events
         → StepBreaks policy.now.assets engine.old.limit (table_after events)
         (record { moment = moment; packet = read_record reader.now.link reader.now.body })
         (files_desk names.now.out.now names.now.log.now (F.content files.old)) (files_desk names.now.out.now names.now.log.now (F.content files.new)) }
-    ensures stops { IsErrOf result StepFault.NoMemory → (events : List Event) → IsEngineOf policy.now.assets engine.old events
+    ensures stops { IsErrOf result StepFault.NoMemory → (events : List RunEvent) → IsEngineOf policy.now.assets engine.old events
         → StepStops policy.now.assets (table_after events) (record { moment = moment; packet = read_record reader.now.link reader.now.body })
         (files_told names.now.out.now names.now.log.now (F.content files.old)) (files_told names.now.out.now names.now.log.now (F.content files.new)) }
     ensures stops_whole { IsErrOf result StepFault.NoMemory → are_whole names.now.out.now names.now.log.now (F.content files.new) ≡ true }

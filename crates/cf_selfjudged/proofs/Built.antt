@@ -7,10 +7,10 @@ use Rattle.cf_isolation.proofs.Tables.{BegunHave, Has, begun_in, each_append, ea
 use Rattle.cf_packet.specs.Packet.{PacketValue}
 use Rattle.cf_policy.specs.declared.Asset.{Asset}
 use Rattle.cf_run.specs.Entries.{asset_place}
-use Rattle.cf_run.specs.Sessions.{Each, HasEvents, IsRight as IsRightSession, gone_after, leaves, left_by_packet, session_at, sessions_of}
+use Rattle.cf_run.specs.Sessions.{Each, HasEvents, HasRightEvents as IsRightSession, gone_after, leaves, left_by_packet, session_at, sessions_of}
 use Rattle.cf_run.specs.Table.{Session, asset_at, place_of, same_endpoint}
-use Rattle.cf_run.specs.Trace.{AreEvents, Begun, Dropped, Event, NoRoom, NoSession, Received, Went, kept, table_after, tick_of, ticked, with_event_at, with_events}
-use Rattle.cf_session.specs.Event.{AreEvents as AreSessionEvents}
+use Rattle.cf_run.specs.Trace.{AreRunEvents, Begun, Dropped, RunEvent, NoRoom, NoSession, Received, Went, kept, table_after, tick_of, ticked, with_event_at, with_events}
+use Rattle.cf_session.specs.Event.{AreRunEvents as AreSessionEvents}
 use Rattle.cf_session.specs.Laws.{AreUncutBefore}
 use Rattle.cf_session.specs.Session.{Flow, SessionEvent, client_of, controllers, is_expired}
 use Rattle.cf_view.specs.declared.Endpoint.{Endpoint}
@@ -29,7 +29,7 @@ use Rattle.cf_selfjudged.proofs.Theirs.{spoken, told}
 abbrev pub IsFound : List Asset → Flow → Type 0
 IsFound assets f = asset_at assets f.asset.endpoint ≡ Some f.asset
 
-all_found : (assets : List Asset) (limit : ℕ) (es : List Event) → AreEvents assets limit es → BegunHave (IsFound assets) es
+all_found : (assets : List Asset) (limit : ℕ) (es : List RunEvent) → AreRunEvents assets limit es → BegunHave (IsFound assets) es
 all_found assets limit [] h = tt
 all_found assets limit (e ∷ es) h = ((λ f b is. (begun_in assets limit e es h f b is).2.found), all_found assets limit es h.1)
 
@@ -49,7 +49,7 @@ module _ (K : Flow → Type 0) where
   left_has table (Begun f e) h = session_has table (place_of (client_of f) f.asset.endpoint table) h
   left_has table (Went i e) h = each_filter (Has K) leaves (with_event_at i e table) (went_has K i e table h)
 
-  gone_has : (es : List Event) → BegunHave K es → Each (Has K) (gone_after es)
+  gone_has : (es : List RunEvent) → BegunHave K es → Each (Has K) (gone_after es)
   gone_has [] h = tt
   gone_has (e ∷ es) h =
       let tick = tick_of e.input in
@@ -61,7 +61,7 @@ module _ (K : Flow → Type 0) where
       (each_append (Has K) (filter leaves with) _ (each_filter (Has K) leaves with (next_has K (kept tick table) e.ticks (kept_has K tick table has)))
       (left_has (ticked e.ticks tick table) e.received (found_has_all K tick e.ticks table has))))
 
-pub sessions_found : (assets : List Asset) (limit : ℕ) (es : List Event) → AreEvents assets limit es → Each (Has (IsFound assets)) (sessions_of es)
+pub sessions_found : (assets : List Asset) (limit : ℕ) (es : List RunEvent) → AreRunEvents assets limit es → Each (Has (IsFound assets)) (sessions_of es)
 sessions_found assets limit es h =
     let begun = all_found assets limit es h in
     each_append (Has (IsFound assets)) (gone_after es) (table_after es) (gone_has (IsFound assets) es begun) (table_has (IsFound assets) es begun)

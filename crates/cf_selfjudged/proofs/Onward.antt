@@ -11,9 +11,9 @@ use Rattle.cf_packet.specs.declared.packet.PacketRefusal.{PacketRefusal}
 use Rattle.cf_policy.specs.declared.Asset.{Asset}
 use Rattle.cf_readback.proofs.Legs.{each_back}
 use Rattle.cf_run.specs.Entries.{asset_place}
-use Rattle.cf_run.specs.Sessions.{Each, IsRight as IsRightSession, SessionsAreRight, gone_after, leaves, left_by_packet, session_at, sessions_of}
+use Rattle.cf_run.specs.Sessions.{Each, HasRightEvents as IsRightSession, SessionsAreRight, gone_after, leaves, left_by_packet, session_at, sessions_of}
 use Rattle.cf_run.specs.Table.{Begins, Full, Goes, Match, Outside, Session, is_between, match_of, place_of, same_endpoint, without}
-use Rattle.cf_run.specs.Trace.{AreEvents, Begun, Dropped, Event, GoesOnAt, NoRoom, NoSession, Received, Receives, ReceivesRecord, Went, after_received, kept, sent, sent_received, stays, table_after, tick_of, ticked, with_event_at, with_events}
+use Rattle.cf_run.specs.Trace.{AreRunEvents, Begun, Dropped, RunEvent, GoesOnAt, NoRoom, NoSession, Received, Receives, ReceivesRecord, Went, after_received, kept, sent, sent_received, stays, table_after, tick_of, ticked, with_event_at, with_events}
 use Rattle.cf_session.specs.Event.{IsBeginning}
 use Rattle.cf_session.specs.Sent.{Sent, is_first_half, late, sent_first, sent_second}
 use Rattle.cf_session.specs.Session.{Flow, SessionEvent, client_of, controllers, is_expired}
@@ -191,12 +191,12 @@ module _ (assets : List Asset) (client : Endpoint) (place : ℕ) where
   ticked_few : (tick : ℕ) (ts : List SessionEvent) (table : List Session) → count ours table ≤ 1 → count ours (ticked ts tick table) ≤ 1
   ticked_few tick ts table few = let w = with_few tick ts table few in let f = fewer ours stays (with_events (kept tick table) ts) in omega (arith, w, f)
 
-  few_after : (es : List Event) → count ours (table_after es) ≤ 1
+  few_after : (es : List RunEvent) → count ours (table_after es) ≤ 1
   few_after [] = omega arith
   few_after (e ∷ es) = received_few (ticked e.ticks (tick_of e.input) (table_after es)) e.received (ticked_few (tick_of e.input) e.ticks (table_after es) (few_after es))
 
   module _ (law : SessionsAreRight) (limit : ℕ) where
-    pub onward : (es : List Event) → AreEvents assets limit es → P (sent es) ≡ told ours (sessions_of es)
+    pub onward : (es : List RunEvent) → AreRunEvents assets limit es → P (sent es) ≡ told ours (sessions_of es)
     onward [] h = refl
     onward (e ∷ es) h =
         let tick = tick_of e.input in

@@ -3,7 +3,7 @@ use Rattle.std.proofs.Common.{◌≡◌, ◌||◌, ◌&&◌, ◌==◌, ℕ, Bool
 use Rattle.std.specs.Prelude.{MatchBool, nat_lt}
 use Rattle.std.specs.List.{AllByRecursion}
 use Rattle.std.proofs.lemmas.Bool.{cases_Bool, false≢true, true≢false}
-use Rattle.cf_leg.specs.Emits.{AllRight, EndsBy, IsGreeting, IsRight, SpeaksOpen, cut_by, fired_at}
+use Rattle.cf_leg.specs.Emits.{AllRight, EndsBy, IsGreeting, IsRight, SpeaksOpen, cut_packet, fired_at}
 use Rattle.cf_leg.specs.Event.{Cut, Ending, LegEvent, Spoke, Unspoken, greeted_by, said_by, sent_in}
 use Rattle.cf_leg.specs.Heard.{opened}
 use Rattle.cf_leg.specs.Segment.{has_ack, has_syn}
@@ -66,7 +66,7 @@ module _ (f : Flow) where
   speaks_shut true es e whole roomy ps h g = absurd (true≢false h)
   speaks_shut false es e whole roomy ps h g = subst (AllByRecursion NoAck) (sym g) tt
 
-  cut_shut : (es : List LegEvent) (from count : ℕ) → opened (controller_ends f).role es ≡ false → NoAck (cut_by (controller_ends f) es from count (controller_ends f).role)
+  cut_shut : (es : List LegEvent) (from count : ℕ) → opened (controller_ends f).role es ≡ false → NoAck (cut_packet (controller_ends f) es from count (controller_ends f).role)
   cut_shut es from count h = rw h refl
 
   said_shut : (es : List LegEvent) (e : LegEvent) (x : Ending) → opened (controller_ends f).role (e ∷ es) ≡ false → EndsBy (controller_ends f) es e x → AllByRecursion NoAck (said_by x)

@@ -14,7 +14,7 @@ use Rattle.cf_run.specs.Form.{first_place, form_of}
 use Rattle.cf_run.specs.declared.FormRefusal.{FormRefusal}
 use Rattle.cf_run.specs.Records.{HaveOneList}
 use Rattle.cf_run.specs.Sessions.{SessionsAreRight, sessions_of}
-use Rattle.cf_run.specs.Trace.{AreEvents, Event, sent}
+use Rattle.cf_run.specs.Trace.{AreRunEvents, RunEvent, sent}
 use Rattle.cf_run.specs.declared.Form.{Form}
 use Rattle.cf_session.specs.Sent.{Sent}
 use Rattle.cf_session.specs.Session.{Flow, client_of}
@@ -87,7 +87,7 @@ module _ (one : OneFlowIsUnobjected) (speaks : SessionsSpeak) (law : SessionsAre
         (record { silent = h.silent; are_silent = h.are_silent; heard = h.session.first ∷ h.session.rest; packets = h.holds.packets; is = h.is });
   }
 
-  all_fine : (events : List Event) → AreEvents assets limit events → AllByRecursion (λ w. IsFine assets w.client w.asset w) (heard_on assets (numbered_from 1 (sent events)) [])
+  all_fine : (events : List RunEvent) → AreRunEvents assets limit events → AllByRecursion (λ w. IsFine assets w.client w.asset w) (heard_on assets (numbered_from 1 (sent events)) [])
   all_fine events are =
       let heard = numbered_from 1 (sent events) in
       all_of_pairs (IsFine assets) (heard_on assets heard [])

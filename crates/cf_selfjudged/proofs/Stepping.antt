@@ -12,7 +12,7 @@ use Rattle.cf_leg.specs.declared.Ends.{Ends}
 use Rattle.cf_packet.specs.Packet.{PacketValue}
 use Rattle.cf_policy.specs.declared.Asset.{Asset}
 use Rattle.cf_readback.proofs.Legs.{legs_right}
-use Rattle.cf_run.specs.Sessions.{Each, HasEvents, IsRight as IsRightSession}
+use Rattle.cf_run.specs.Sessions.{Each, HasEvents, HasRightEvents as IsRightSession}
 use Rattle.cf_run.specs.Table.{Session}
 use Rattle.cf_run.specs.Trace.{AreTicks, GoesOnAt, GoesOnWith, ends_cut, is_cut, replaced, stays, with_event_at, with_events}
 use Rattle.cf_session.specs.Event.{AreEvents as AreSessionEvents, EndsTick, IsPacket, IsTick}

@@ -6,7 +6,7 @@ use Rattle.std.proofs.lemmas.Bool.{false≢true, true≢false}
 use Rattle.cf_leg.specs.Emits.{AllRight, IsRight, rst, syn, way_of}
 use Rattle.cf_leg.specs.Event.{LegEvent, greeted_by, said_by}
 use Rattle.cf_leg.specs.Segment.{segment}
-use Rattle.cf_leg.specs.declared.ends.Told.{Told}
+use Rattle.cf_leg.specs.declared.ends.Advertised.{Advertised}
 use Rattle.cf_session.specs.Session.{Flow, controller_ends}
 use Rattle.cf_stream.specs.Stream.{Stream}
 use Rattle.cf_selfjudged.specs.OneFlow.{packets_of}
@@ -25,7 +25,7 @@ some_ack true false = refl
 some_ack false true = refl
 some_ack false false = refl
 
-segment_goes : (f : Flow) (es : List LegEvent) (t : Told) (n : ℕ) (s : Stream) → GoesTo f (segment (way_of (controller_ends f) es) t n s)
+segment_goes : (f : Flow) (es : List LegEvent) (t : Advertised) (n : ℕ) (s : Stream) → GoesTo f (segment (way_of (controller_ends f) es) t n s)
 segment_goes f es t n s = record {
   source = refl;
   dest = refl;

@@ -6,7 +6,7 @@
 -- spent, and whatever the capture holds that the run was given.
 use Rattle.std.specs.Prelude.{◌≡◌, ◌<◌, ◌≤◌, ◌^◌, ℕ, List, None, Ok, reverse}
 use Rattle.std.specs.List.{AllByRecursion}
-use Rattle.cf_isolation.specs.Isolated.{HasRecords, IsInTime}
+use Rattle.cf_isolation.specs.Isolated.{HasWrittenRecords, IsInTime}
 use Rattle.cf_judge.specs.Objections.{IsJudgementOf}
 use Rattle.cf_judge.specs.declared.judging.Judged.{Judged as Judgement}
 use Rattle.cf_outside.specs.Files.{holds}
@@ -28,7 +28,7 @@ abbrev pub RunsAreUnobjected : Type 0
 RunsAreUnobjected =
     (assets : List Asset) (limit : ℕ) (given : List Input) (out log : List ℕ) (summary : Summary) →
     IsRun assets limit given out log summary → limit ≤ 2 ^ 30 → IsInTime given out →
-    (newest : List Record) → HasRecords out (reverse newest) → (flows : List FlowValue) → AreFlowsOf (watched assets newest) flows →
+    (newest : List Record) → HasWrittenRecords out (reverse newest) → (flows : List FlowValue) → AreFlowsOf (watched assets newest) flows →
     (j : Judgement) → IsJudgementOf assets flows j → j.objection ≡ None
 
 -- so it is of the flows that a watcher answers about a file that holds these octets

@@ -1,4 +1,4 @@
--- The sessions that stand, as a list, and what they stand for. The main definitions are `IsTable` and `Keeps`. This project's own.
+-- Steps of the proof: the sessions that stand, as a list, and what they stand for: `IsTable` and `Keeps`.
 use Rattle.cf_links.specs.Links.{LinksEntry}
 use Rattle.cf_lane.specs.Log.{with_lines}
 use Rattle.cf_view.specs.declared.Endpoint.{Endpoint}

@@ -2,7 +2,7 @@
 use Rattle.std.proofs.Common.{◌≡◌, ◌<◌, min, ℕ, Bool, true, false, cond, ◌||◌, List, [], ◌∷◌, Option, Some, None, refl, subst, arith}
 use Rattle.std.specs.Prelude.{MatchBool, nat_lt}
 use Rattle.cf_leg.proofs.Saying.{all_pieces, send_mss_some}
-use Rattle.cf_leg.specs.Emits.{IsRight, Pieces, SaysIf, SpeaksOpen, cut_by, differs, fired_at, peer_mss, send_mss, syn_ack_for, to_tell, way_of}
+use Rattle.cf_leg.specs.Emits.{IsRight, Pieces, SaysIf, SpeaksOpen, cut_packet, differs, fired_at, peer_mss, send_mss, syn_ack_for, to_tell, way_of}
 use Rattle.cf_leg.specs.Event.{Came, Cut, Greeting, LegEvent, Nothing, Spoke, Unspoken, clocked, is_settled}
 use Rattle.cf_leg.specs.Heard.{offers, opened, owed, shown}
 use Rattle.cf_leg.specs.LegValue.{LegValue}
@@ -38,11 +38,11 @@ pub can_cut : (own peer : Endpoint) (r : Role) (es : List LegEvent) (e : LegEven
     IsTaken (first_copy (offers r (record e { ending = Unspoken } ∷ es))) taken → (rst : PacketValue) × IsRight (ends_by own peer r) es (record e { ending = Cut rst })
 can_cut own peer (role.Active n) es e taken h is =
     let half : LegEvent = record e { ending = Unspoken } in
-    let rst : PacketValue = cut_by (ends_by own peer (role.Active n)) (half ∷ es) (letters_sent_at (role.Active n) es half) (letter_count taken) (role.Active n) in
+    let rst : PacketValue = cut_packet (ends_by own peer (role.Active n)) (half ∷ es) (letters_sent_at (role.Active n) es half) (letter_count taken) (role.Active n) in
     (rst, record { over = h.over; fired = h.fired; came = h.came; ending = record { taken = taken; is_taken = is; rst = refl } })
 can_cut own peer (role.Passive n m) es e taken h is =
     let half : LegEvent = record e { ending = Unspoken } in
-    let rst : PacketValue = cut_by (ends_by own peer (role.Passive n m)) (half ∷ es) (letters_sent_at (role.Passive n m) es half) (letter_count taken) (role.Passive n m) in
+    let rst : PacketValue = cut_packet (ends_by own peer (role.Passive n m)) (half ∷ es) (letters_sent_at (role.Passive n m) es half) (letter_count taken) (role.Passive n m) in
     (rst, record { over = h.over; fired = h.fired; came = h.came; ending = record { taken = taken; is_taken = is; rst = refl } })
 
 -- ---- a greeting

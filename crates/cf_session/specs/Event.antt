@@ -96,14 +96,14 @@ EndsPacket None stream roomy ending = (outs : List PacketValue) × (ending ≡ S
 EndsPacket (Some because) stream roomy ending = IsBrokenOff ending
 
 -- the event of a leg goes on from its first half
-abbrev pub GoesOn : (half event : LegEvent) → Type 0
-GoesOn half event = (event.tick ≡ half.tick) × (event.ticked ≡ half.ticked)
+abbrev pub GoesOnFromHalf : (half event : LegEvent) → Type 0
+GoesOnFromHalf half event = (event.tick ≡ half.tick) × (event.ticked ≡ half.ticked)
 
 -- the second half: it goes on with the first, its packet comes at the end of its side, and what is taken is fed to the lane
 pub record IsPacket (flow : Flow) (limit : ℕ) (earlier : List SessionEvent) (half : SessionEvent) (from : Side) (packet : PacketValue) (event : SessionEvent) : Type 0 where
   pub right : AreRight flow earlier event
-  pub controller_on : GoesOn half.controller event.controller
-  pub client_on : GoesOn half.client event.client
+  pub controller_on : GoesOnFromHalf half.controller event.controller
+  pub client_on : GoesOnFromHalf half.client event.client
   pub controller_came : event.controller.came ≡ came_controller from packet
   pub client_came : event.client.came ≡ came_client flow from packet (opening (controller_ends flow).role (controllers earlier) event.controller && is_none event.cut)
   pub fed : AreFed (moment event.client) from event.fed

@@ -10,7 +10,7 @@ use Rattle.cf_dnptrans.specs.Passing.{IsSent, PutTogether, all_segments, answers
 use Rattle.cf_dnptrans.specs.Transport.{unfinished}
 use Rattle.cf_dnptrans.specs.declared.assembly.SegmentAnswer.TheVariants as answers
 use Rattle.cf_policy.specs.declared.Asset.{Asset}
-use Rattle.cf_unobjected.specs.Passed.{IsRight}
+use Rattle.cf_unobjected.specs.Passed.{IsRightlyPassed}
 use Rattle.cf_unobjected.specs.Unobjected.{IsUnobjected}
 use Rattle.cf_unobjected.proofs.Dnp3.{IsRightFragment, IsServed, IsTaken, all_both, all_front, fine, fragments_in, more_taken, right_fragments, segments_append, sent_fragments, unit_segments, units_served, whole_taken}
 use Rattle.cf_unobjected.proofs.Unobjected.{reads}
@@ -21,7 +21,7 @@ PutsTogether =
     all_segments start fragments ≡ segments ++ more → PutTogether earlier start fragments segments
 
 pub unobjected : PutsTogether → ((user : List ℕ) → user_of (blocks_of user) ≡ user) → (asset : Asset) (client : ℕ) (ps : List Passed) (bytes born : List ℕ) →
-    AllByRecursion (IsRight asset client) ps → DecodesTo asset.protocol (units_from asset 0 ps) bytes → IsUnobjected asset client bytes born
+    AllByRecursion (IsRightlyPassed asset client) ps → DecodesTo asset.protocol (units_from asset 0 ps) bytes → IsUnobjected asset client bytes born
 unobjected puts back asset client ps bytes born h d =
     let right = right_fragments asset client back ps h in
     let served = all_front (IsServed asset client back) d.units d.following (subst (AllByRecursion (IsServed asset client back)) d.are_first (units_served asset client back 0 ps h)) in

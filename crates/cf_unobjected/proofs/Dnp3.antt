@@ -28,7 +28,7 @@ use Rattle.cf_dnptrans.specs.declared.assembly.SegmentAnswer.TheVariants as answ
 use Rattle.cf_lane.specs.declared.fate.Fate.TheVariants as fate
 use Rattle.cf_audit.specs.declared.line.Why.TheVariants as why
 use Rattle.cf_view.specs.declared.Side.TheVariants as side
-use Rattle.cf_unobjected.specs.Passed.{IsRight}
+use Rattle.cf_unobjected.specs.Passed.{IsRightlyPassed}
 use Rattle.cf_unobjected.proofs.Unobjected.{AreFine, no_complaint}
 
 -- no segment is dropped
@@ -72,7 +72,7 @@ module _ (asset : Asset) (client : ℕ) (back : (user : List ℕ) → user_of (b
   frames_segments [] = refl
   frames_segments (s ∷ segs) = ap (λ x. x ∷ segments_in (map (data_frame asset) segs)) (back s) ∙ ap (λ xs. s ∷ xs) (frames_segments segs)
 
-  pub unit_segments : (start : ℕ) (ps : List Passed) → AllByRecursion (IsRight asset client) ps → segments_in (units_from asset start ps) ≡ all_segments start (fragments_in ps)
+  pub unit_segments : (start : ℕ) (ps : List Passed) → AllByRecursion (IsRightlyPassed asset client) ps → segments_in (units_from asset start ps) ≡ all_segments start (fragments_in ps)
   unit_segments start [] h = refl
   unit_segments start (Whole (Adu a) ∷ ps) h = unit_segments start ps h.1
   unit_segments start (Whole (Apdu a) ∷ ps) h = unit_segments start ps h.1
@@ -85,7 +85,7 @@ module _ (asset : Asset) (client : ℕ) (back : (user : List ℕ) → user_of (b
   abbrev pub IsRightFragment : List ℕ → Type 0
   IsRightFragment octets = (2 ≤ length octets) × (length octets ≤ 2048) × (goes_on (fate_of_fragment asset (verdict_of asset client) side.Client octets) ≡ true)
 
-  pub right_fragments : (ps : List Passed) → AllByRecursion (IsRight asset client) ps → AllByRecursion IsRightFragment (fragments_in ps)
+  pub right_fragments : (ps : List Passed) → AllByRecursion (IsRightlyPassed asset client) ps → AllByRecursion IsRightFragment (fragments_in ps)
   right_fragments [] h = tt
   right_fragments (Whole u ∷ ps) h = right_fragments ps h.1
   right_fragments (Fragment octets ∷ ps) h = (h.0, right_fragments ps h.1)
@@ -107,7 +107,7 @@ module _ (asset : Asset) (client : ℕ) (back : (user : List ℕ) → user_of (b
   frames_served [] = tt
   frames_served (s ∷ segs) = (data_served s, frames_served segs)
 
-  pub units_served : (start : ℕ) (ps : List Passed) → AllByRecursion (IsRight asset client) ps → AllByRecursion IsServed (units_from asset start ps)
+  pub units_served : (start : ℕ) (ps : List Passed) → AllByRecursion (IsRightlyPassed asset client) ps → AllByRecursion IsServed (units_from asset start ps)
   units_served start [] h = tt
   units_served start (Whole (Adu a) ∷ ps) h = (h.0, units_served start ps h.1)
   units_served start (Whole (Apdu a) ∷ ps) h = (h.0, units_served start ps h.1)

@@ -50,7 +50,7 @@ use Rattle.cf_dnptrans.specs.declared.assembly.SegmentAnswer.TheVariants as answ
 use Rattle.cf_lane.specs.declared.fate.Fate.TheVariants as fate
 use Rattle.cf_audit.specs.declared.line.Why.TheVariants as why
 use Rattle.cf_view.specs.declared.Side.TheVariants as side
-use Rattle.cf_unobjected.specs.Passed.{IsRight}
+use Rattle.cf_unobjected.specs.Passed.{IsRightlyPassed}
 use Rattle.cf_unobjected.proofs.Dnp3.{all_both}
 
 fits_by : (octets xs : List ℕ) (b : Bool) → nat_le (length octets) 2048 ≡ b → (if b then Some octets else None) ≡ Some xs → length xs ≤ 2048
@@ -144,7 +144,7 @@ module _ (asset : Asset) (client : ℕ) (says : Says) (allows : Allows says (ver
   asdu_goes octets e = short_goes octets (nat_lt (length octets) 9) _ _ (station_goes octets (nat_eq (station_of octets) asset.station)) e
 
   abbrev AreRight : List Passed → Type 0
-  AreRight = AllByRecursion (IsRight asset client)
+  AreRight = AllByRecursion (IsRightlyPassed asset client)
 
   -- ---- Modbus
 
@@ -154,7 +154,7 @@ module _ (asset : Asset) (client : ℕ) (says : Says) (allows : Allows says (ver
   admitted_plainly a f g (of_its_acts s r p e) =
       (plain (requests.acts r), of_its_acts s r p (sym (acts_admitted (requests.acts r) (sym (ap goes_on e) ∙ g))))
 
-  adu_if : (b : Bool) (a : AduValue) → (b ≡ true → IsRight asset client (Whole (Adu a))) → AreRight (if b then Whole (Adu a) ∷ [] else [])
+  adu_if : (b : Bool) (a : AduValue) → (b ≡ true → IsRightlyPassed asset client (Whole (Adu a))) → AreRight (if b then Whole (Adu a) ∷ [] else [])
   adu_if true a right = (right refl, tt)
   adu_if false a right = tt
 
@@ -226,8 +226,8 @@ module _ (asset : Asset) (client : ℕ) (says : Says) (allows : Allows says (ver
   by_item earlier j (Ended s n) h = tt
   by_item earlier j (Broke s because) h = tt
 
-pub all_right : (asset : Asset) (client : ℕ) (earlier js : List Judged) → HaveFates asset client earlier js → AllByRecursion (IsRight asset client) (in_turn (λ before j. passed_by asset before j j.item) earlier js)
+pub all_right : (asset : Asset) (client : ℕ) (earlier js : List Judged) → HaveFates asset client earlier js → AllByRecursion (IsRightlyPassed asset client) (in_turn (λ before j. passed_by asset before j j.item) earlier js)
 all_right asset client earlier [] h = tt
 all_right asset client earlier (j ∷ js) h =
-    all_both (IsRight asset client) _ _ (by_item asset client (says_at asset client earlier j.moment) (says_allows asset client earlier j.moment) earlier j j.item h.0)
+    all_both (IsRightlyPassed asset client) _ _ (by_item asset client (says_at asset client earlier j.moment) (says_allows asset client earlier j.moment) earlier j j.item h.0)
     (all_right asset client (earlier ++ j ∷ []) js h.1)

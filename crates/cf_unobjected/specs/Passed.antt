@@ -18,14 +18,14 @@ use Rattle.cf_view.specs.declared.Side.TheVariants as side
 -- by the verdict on each act, whatever rule was spent: an ADU is an admitted command; a frame is a served link status frame; an APDU,
 -- whatever its numbers, is carried or an admitted command; a fragment has two octets or more, at most 2,048, and is a confirmation or an
 -- admitted command
-abbrev pub IsRight : Asset → (client : ℕ) → Passed → Type 0
-IsRight asset client (Whole (Adu a)) = (used : List Bool) × HasCommandFate asset (verdict_of asset client) a (fate.Admitted used)
-IsRight asset client (Whole (Frame x)) = (stray_of asset side.Client x ≡ None) × (is_data x ≡ false)
-IsRight asset client (Whole (Apdu a)) = goes_on (fate_by_asdu asset client a) ≡ true
-IsRight asset client (Fragment octets) =
+abbrev pub IsRightlyPassed : Asset → (client : ℕ) → Passed → Type 0
+IsRightlyPassed asset client (Whole (Adu a)) = (used : List Bool) × HasCommandFate asset (verdict_of asset client) a (fate.Admitted used)
+IsRightlyPassed asset client (Whole (Frame x)) = (stray_of asset side.Client x ≡ None) × (is_data x ≡ false)
+IsRightlyPassed asset client (Whole (Apdu a)) = goes_on (fate_by_asdu asset client a) ≡ true
+IsRightlyPassed asset client (Fragment octets) =
     (2 ≤ length octets) × (length octets ≤ 2048) × (goes_on (fate_of_fragment asset (verdict_of asset client) side.Client octets) ≡ true)
 
 abbrev pub PassedAreRight : Type 0
 PassedAreRight =
     (asset : Asset) (client : ℕ) (h : List Element) (js : List Judged) → AreJudged asset client h js →
-    AllByRecursion (IsRight asset client) (passed asset js)
+    AllByRecursion (IsRightlyPassed asset client) (passed asset js)

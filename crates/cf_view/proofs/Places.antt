@@ -6,7 +6,7 @@ use Rattle.std.proofs.lemmas.Bool.{cases_lt, cases_Bool, false≢true}
 use Rattle.cf_view.proofs.OctetLists.{IsOctets-take, IsOctets-append}
 use Rattle.cf_view.specs.Octets.{IsOctets}
 use Rattle.cf_view.specs.Framing.{Begins, IsPartial, IsFront, BreaksAt, HasFront, IsPrefixFree}
-use Rattle.cf_view.specs.Places.{IsRight, IsUnit, SpellsBy}
+use Rattle.cf_view.specs.Places.{EachFollows, IsUnit, SpellsBy}
 
 -- the size is told by any front that is as long, and by any front that is as long as it tells
 pub record IsTold (size : List ℕ → ℕ) : Type 0 where
@@ -41,11 +41,11 @@ module _ (follows : List ℕ → ℕ → Bool) (size : List ℕ → ℕ) (told :
       ]
 
   -- the first octets of a longer list are as right as they are
-  right_front : (xs : List ℕ) (n p : ℕ) → IsRight follows xs n → p < n → follows (take p (take n xs)) (get_or (take n xs) p 0) ≡ true
+  right_front : (xs : List ℕ) (n p : ℕ) → EachFollows follows xs n → p < n → follows (take p (take n xs)) (get_or (take n xs) p 0) ≡ true
   right_front xs n p r h =
       rw (take-take p n xs (omega arith), get_or-take n xs p 0 h) (r p h)
 
-  unit_front : (xs : List ℕ) → IsOctets xs → size xs ≤ length xs → IsRight follows xs (size xs) → IsUnit follows size (take (size xs) xs)
+  unit_front : (xs : List ℕ) → IsOctets xs → size xs ≤ length xs → EachFollows follows xs (size xs) → IsUnit follows size (take (size xs) xs)
   unit_front xs o h r =
       let n = size xs in
       let long : length (take n xs) ≡ n = length-take-le n xs h in
@@ -58,7 +58,7 @@ module _ (follows : List ℕ → ℕ → Bool) (size : List ℕ → ℕ) (told :
       }
 
   module _ (next : List ℕ → ℕ) (on : GoesOn follows size next) where
-    right_more : (xs : List ℕ) (c : ℕ) → IsRight follows xs (length xs) → follows xs c ≡ true → IsRight follows (xs ++ c ∷ []) (length (xs ++ c ∷ []))
+    right_more : (xs : List ℕ) (c : ℕ) → EachFollows follows xs (length xs) → follows xs c ≡ true → EachFollows follows (xs ++ c ∷ []) (length (xs ++ c ∷ []))
     right_more xs c r f p h =
         elim (cases_lt p (length xs)) [
           | inl v ↦ rw (take-append-le p xs (c ∷ []) (omega arith), get_or_append_left xs (c ∷ []) 0 p v) (r p v)
@@ -68,7 +68,7 @@ module _ (follows : List ℕ → ℕ → Bool) (size : List ℕ → ℕ) (told :
         ]
 
     -- octets that are right and too few are the beginning of a unit
-    grown : (n : ℕ) (xs : List ℕ) → IsOctets xs → IsRight follows xs (length xs) → length xs + n ≡ size xs → (more : List ℕ) × (length more ≡ n) × IsUnit follows size (xs ++ more)
+    grown : (n : ℕ) (xs : List ℕ) → IsOctets xs → EachFollows follows xs (length xs) → length xs + n ≡ size xs → (more : List ℕ) × (length more ≡ n) × IsUnit follows size (xs ++ more)
     grown zero xs o r h = ([], refl, rw (append-nil xs) (record { octets_are = o; whole = omega arith; right = r }))
     grown (suc n) xs o r h =
         let short : length xs < size xs = omega arith in
@@ -78,13 +78,13 @@ module _ (follows : List ℕ → ℕ → Bool) (size : List ℕ → ℕ) (told :
         (c ∷ g.0, ap suc g.1, subst (IsUnit follows size) (append_assoc xs (c ∷ []) g.0) g.2)
 
     module _ {U : Type 0} (of : List ℕ → U) where
-      pub partial : (xs : List ℕ) → IsOctets xs → IsRight follows xs (length xs) → length xs < size xs → IsPartial (SpellsBy follows size of) xs
+      pub partial : (xs : List ℕ) → IsOctets xs → EachFollows follows xs (length xs) → length xs < size xs → IsPartial (SpellsBy follows size of) xs
       partial xs o r h =
           let g = grown (size xs - length xs) xs o r (omega arith) in
           record { whole = of (xs ++ g.0); more = g.0; proper = omega (arith, g.1); spells = record { unit = g.2; fields = refl } }
 
       -- an octet that may not follow breaks
-      pub breaks : (xs : List ℕ) (i : ℕ) → IsOctets xs → i < length xs → i < size xs → IsRight follows xs i → follows (take i xs) (get_or xs i 0) ≡ false → BreaksAt (SpellsBy follows size of) xs i
+      pub breaks : (xs : List ℕ) (i : ℕ) → IsOctets xs → i < length xs → i < size xs → EachFollows follows xs i → follows (take i xs) (get_or xs i 0) ≡ false → BreaksAt (SpellsBy follows size of) xs i
       breaks xs i o inside h r f =
           let long : length (take i xs) ≡ i = length-take-le i xs (omega arith) in
           let whole : take i xs ++ drop i xs ≡ xs = take-append-drop i xs in
@@ -92,7 +92,7 @@ module _ (follows : List ℕ → ℕ → Bool) (size : List ℕ → ℕ) (told :
             | inl v ↦ v
             | inr v ↦ (let same = ap size (sym whole) ∙ told.by_front (take i xs) (drop i xs) (omega (arith, long)) in absurd (omega (arith, same)))
           ] in
-          let right : IsRight follows (take i xs) (length (take i xs)) = λ p l. right_front xs i p r (omega (arith, long)) in
+          let right : EachFollows follows (take i xs) (length (take i xs)) = λ p l. right_front xs i p r (omega (arith, long)) in
           record {
             inside = inside;
             before = partial (take i xs) (IsOctets-take xs i o) right (omega (arith, long));
@@ -105,7 +105,7 @@ module _ (follows : List ℕ → ℕ → Bool) (size : List ℕ → ℕ) (told :
           }
 
   module _ {U : Type 0} (of : List ℕ → U) where
-    pub begins : (xs : List ℕ) → IsOctets xs → size xs ≤ length xs → IsRight follows xs (size xs) → Begins (SpellsBy follows size of) xs (of (take (size xs) xs)) (size xs)
+    pub begins : (xs : List ℕ) → IsOctets xs → size xs ≤ length xs → EachFollows follows xs (size xs) → Begins (SpellsBy follows size of) xs (of (take (size xs) xs)) (size xs)
     begins xs o h r = record { inside = h; spells = record { unit = unit_front xs o h r; fields = refl } }
 
     pub prefix_free : IsPrefixFree (SpellsBy follows size of)
@@ -114,7 +114,7 @@ module _ (follows : List ℕ → ℕ → Bool) (size : List ℕ → ℕ) (told :
         (s.fields ∙ ap of same ∙ sym t.fields, same)
 
 -- the first of n octets that may not follow those before it, or none
-first_wrong : (follows : List ℕ → ℕ → Bool) (xs : List ℕ) (n : ℕ) → IsRight follows xs n ⊎ ((p : ℕ) × (p < n) × IsRight follows xs p × (follows (take p xs) (get_or xs p 0) ≡ false))
+first_wrong : (follows : List ℕ → ℕ → Bool) (xs : List ℕ) (n : ℕ) → EachFollows follows xs n ⊎ ((p : ℕ) × (p < n) × EachFollows follows xs p × (follows (take p xs) (get_or xs p 0) ≡ false))
 first_wrong follows xs zero = inl (λ p h. absurd (omega (arith, h)))
 first_wrong follows xs (suc n) =
     elim (first_wrong follows xs n) [

@@ -7,7 +7,7 @@ ghost use Rattle.cf_lane.specs.Numbers.{control_event, number_cut};
 ghost use Rattle.cf_lane.specs.Rates.{Says};
 ghost use Rattle.cf_lane.specs.Renumbered.{TakesApdu, numbered, unless_cut};
 ghost use Rattle.cf_policy.specs.declared.Asset.{Asset};
-ghost use Rattle.cf_renumber.specs.Counts.{Event};
+ghost use Rattle.cf_renumber.specs.Counts.{NumberEvent};
 ghost use Rattle.cf_renumber.specs.Numbers.{IsNumbersOf};
 ghost use Rattle.cf_view.specs.declared.Endpoint.{Endpoint};
 
@@ -42,7 +42,7 @@ pub(crate) fn number_cut(side: Side, refusal: NumberRefusal) -> CutReason
 fn note_control(numbers: &mut Numbers, octet: u8)
     requires idle { numbers.old.owed ≡ None }
     ensures idle { numbers.new.owed ≡ None }
-    ensures stands { (events : List Event) → IsNumbersOf numbers.old events → IsNumbersOf numbers.new (control_event octet ++ events) }
+    ensures stands { (events : List NumberEvent) → IsNumbersOf numbers.old events → IsNumbersOf numbers.new (control_event octet ++ events) }
 {
     if octet == START {
         numbers.start();

@@ -11,7 +11,7 @@ ghost use Rattle.cf_outside.specs.Frames.{OnlyEmits};
 ghost use Rattle.std.specs.Result.{is_err};
 
 use super::{Leg, SECOND};
-use crate::ends::Told;
+use crate::ends::Advertised;
 use crate::send::say;
 use cf_outq::Outq;
 use cf_outside::Desk;
@@ -19,7 +19,7 @@ use cf_view::WriteFault;
 
 impl Leg {
     /// Tells a base and an edge, and what is due.
-    fn tell(&mut self, told: Told)
+    fn tell(&mut self, told: Advertised)
         requires is_open { is_open self.old.phase ≡ true }
         requires grows { self.old.window.edge ≤ told.edge }
         requires base { told.base ≡ base_of self.old.window }
@@ -107,7 +107,7 @@ impl Leg {
 }
 
 /// Whether an acknowledgment is due: one is owed, or something new is to be told.
-fn is_due(owes: bool, told: Told, tell: Told) -> bool
+fn is_due(owes: bool, told: Advertised, tell: Advertised) -> bool
     ensures { result ≡ (owes || differs told tell) }
 {
     owes || !(told.base == tell.base) || !(told.edge == tell.edge)

@@ -1,5 +1,5 @@
 use Rattle.std.proofs.Common.{arith, ◌≡◌, ◌+◌, ◌++◌, ◌∷◌, [], count_by}
-use Rattle.cf_renumber.specs.declared.mark.Fate.TheVariants as fates
+use Rattle.cf_renumber.specs.declared.mark.FrameFate.TheVariants as fates
 use Rattle.cf_renumber.specs.Counts.{is_admitted}
 use Rattle.cf_renumber.proofs.Counting.{numbering_admitted}
 use Rattle.cf_renumber.proofs.Lists.{count_by-append}

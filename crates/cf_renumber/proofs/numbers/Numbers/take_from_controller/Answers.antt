@@ -1,10 +1,10 @@
 use Rattle.std.proofs.Common.{◌≡◌, ◌-◌, ◌∷◌, ◌∙◌, ap, length, refl, None, List}
-use Rattle.cf_renumber.specs.Counts.{Event, ControllerAck, acked_by_client, from_controller, to_client, outstanding_refusal}
+use Rattle.cf_renumber.specs.Counts.{NumberEvent, ControllerAck, acked_by_client, from_controller, to_client, outstanding_refusal}
 use Rattle.cf_renumber.specs.Numbers.{NumbersValue, IsNumbersOf}
 use Rattle.cf_renumber.proofs.Counting.{stands_controller_ack, stamp_client, stands_carried, origins_left, not_full}
 use Rattle.cf_renumber.proofs.numbers.Numbers.take_from_controller.Goals as goal
 
-acked : (c : goal.After-take_carried) (events : List Event) → IsNumbersOf c.args.self.now events →
+acked : (c : goal.After-take_carried) (events : List NumberEvent) → IsNumbersOf c.args.self.now events →
     IsNumbersOf c.forget_from_client.new.self (ControllerAck c.args.nr ∷ events)
 acked c events s =
     let a = c.in_ok-anew.ensures.answer events (acked_by_client events) s.holds in

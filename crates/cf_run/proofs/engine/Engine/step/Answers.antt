@@ -5,7 +5,7 @@ use Rattle.cf_session.specs.Told.{told}
 use Rattle.cf_run.specs.Engine.{AreAll}
 use Rattle.cf_run.specs.Step.{EngineValue, IsEngineOf, Steps}
 use Rattle.cf_run.specs.Table.{Session}
-use Rattle.cf_run.specs.Trace.{Event}
+use Rattle.cf_run.specs.Trace.{RunEvent}
 use Rattle.cf_run.proofs.Stepping.{steps_on}
 use Rattle.cf_run.specs.Half.{StepBreaks, StepStops}
 use Rattle.cf_run.specs.Trace.{Input, table_after}
@@ -24,7 +24,7 @@ returns-clause-steps g c =
     let old = told (g.D.Desk.value c.args.desk.now) in
     let new = told (g.D.Desk.value c.step_table.new.desk) in
     let P : List Asset → Type 0 = λ xs. (table : List Session) (last : ℕ) → last + 1 ≤ now → AreAll xs last before.table table →
-    (event : Event) × Steps xs before.limit now packet table after.table old new c.in-Ok.happened event in
+    (event : RunEvent) × Steps xs before.limit now packet table after.table old new c.in-Ok.happened event in
     let view : c.args.self.now ≡ before = sym c.self.view_is in
     λ events h. steps_on assets now packet before after old new c.in-Ok.happened refl refl c.count.ensures
     (subst (λ (e : EngineValue). e.last + 2 ≤ now) view c.requires.later) (subst P c.as_slice.ensures c.in-Ok.ensures.steps) events
