@@ -6,7 +6,7 @@ use Rattle.cf_run.proofs.RecordLists.{one_list, one_timed_list}
 use Rattle.cf_run.specs.Capture.{AreRecords, AtPlace, Clock, Cut, FileEnd, Large, LastPlace, Record, Refused, TooLong}
 use Rattle.cf_run.specs.Form.{first_place, form_of}
 use Rattle.cf_run.specs.Moments.{AreTimed, first_moment}
-use Rattle.cf_run.specs.RunCapture.{HasTimedRecords as HasRunRecords, RunNamesValue}
+use Rattle.cf_run.specs.RunCapture.{HasRunRecords, RunNamesValue}
 use Rattle.cf_run.specs.declared.BlockRefusal.TheVariants as block
 use Rattle.cf_run.specs.declared.Form.{Form}
 use Rattle.cf_run.specs.declared.FormRefusal.{FormRefusal}

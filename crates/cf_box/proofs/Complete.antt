@@ -15,7 +15,7 @@ use Rattle.cf_policy.specs.declared.Asset.{Asset}
 use Rattle.cf_policy.specs.declared.Policy.{Policy}
 use Rattle.cf_policylang.specs.Documents.{policy_meaning}
 use Rattle.cf_policylang.specs.declared.PolicyRefusal.{PolicyRefusal}
-use Rattle.cf_run.specs.RunCapture.{HasRecordsToItsEnd as HasRunRecords}
+use Rattle.cf_run.specs.RunCapture.{HasRunRecords}
 use Rattle.cf_box.specs.Captures.{EndsAt, Refuses}
 use Rattle.cf_box.specs.Command.{Command, Check, Compare, Judge, Migrate, Packets, Review, Run, Relay, World, Sift, asset_name, capture_file, policy_file, Learn}
 use Rattle.cf_box.specs.Compare.{ExceedsAt, IsNotIncluded}

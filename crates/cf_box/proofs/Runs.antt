@@ -7,7 +7,7 @@ use Rattle.cf_outside.specs.Faults.{Rose}
 use Rattle.cf_outside.specs.Files.{Content}
 use Rattle.cf_run.specs.Capture.{AtPlace}
 use Rattle.cf_policy.specs.declared.Policy.{Policy}
-use Rattle.cf_run.specs.RunCapture.{HasTimedRecords, RunNamesValue, RunsAs, RunsTo}
+use Rattle.cf_run.specs.RunCapture.{HasRunRecords, RunNamesValue, RunsAs, RunsTo}
 use Rattle.cf_run.specs.declared.run.RunFault.{RunFault}
 use Rattle.cf_run.specs.declared.run.RunFault.TheVariants as fault
 use Rattle.cf_run.specs.declared.run.RunRefusal.TheVariants as by
@@ -43,7 +43,7 @@ module _ (policy_name : List ℕ) (names : RunNamesValue) (before after : Outsid
   }
 
   -- where the records ended
-  ends_at : (found : AtPlace) (place : ℕ) (summary : Summary) → RunsTo policy.assets LETTER_LIMIT names before.files.content after.files.content found place summary → EndsAt HasTimedRecords (before.files.content names.capture) found place
+  ends_at : (found : AtPlace) (place : ℕ) (summary : Summary) → RunsTo policy.assets LETTER_LIMIT names before.files.content after.files.content found place summary → EndsAt HasRunRecords (before.files.content names.capture) found place
   ends_at found place summary r = record { form = r.form; has_form = r.has_form; records = r.records; are_records = r.are_records }
 
   stops : (f : RunFault) → RunsAs policy.assets LETTER_LIMIT names before.files.content after.files.content (Err f) →
@@ -52,9 +52,9 @@ module _ (policy_name : List ℕ) (names : RunNamesValue) (before after : Outsid
   stops fault.NoMemory h read write = tt
   stops fault.Read h read write = read refl
   stops fault.Write h read write = (inl (write refl), passes)
-  stops (fault.Refused (by.Header of)) h read write = (form_refuses HasTimedRecords (before.files.content names.capture) of h.0, passes)
+  stops (fault.Refused (by.Header of)) h read write = (form_refuses HasRunRecords (before.files.content names.capture) of h.0, passes)
   stops (fault.Refused (by.Block of)) h read write =
-      (block_refuses HasTimedRecords (before.files.content names.capture) of (h.0, ends_at _ h.0 h.1 h.2), passes)
+      (block_refuses HasRunRecords (before.files.content names.capture) of (h.0, ends_at _ h.0 h.1 h.2), passes)
   stops (fault.Refused by.TooLong) h read write = ((h.0, ends_at _ h.0 h.1 h.2), passes)
   stops (fault.Refused by.Clock) h read write = ((h.0, ends_at _ h.0 h.1 h.2), passes)
   stops (fault.Refused by.Large) h read write = ((h.0, ends_at _ h.0 h.1 h.2), passes)

@@ -22,8 +22,8 @@ use Rattle.cf_box.specs.declared.ending.Done.TheVariants as done
 use Rattle.cf_box.specs.declared.ending.Stop.{Stop}
 use Rattle.cf_box.specs.declared.ending.Stop.TheVariants as stop
 use Rattle.cf_box.specs.declared.objection.Objected.{Objected}
-use Rattle.cf_box.specs.declared.objection.Objection.{Objection}
-use Rattle.cf_box.specs.declared.objection.Objection.TheVariants as told
+use Rattle.cf_box.specs.declared.objection.Ground.{Ground}
+use Rattle.cf_box.specs.declared.objection.Ground.TheVariants as told
 
 -- the words after `judge`: the names of a policy and of a capture
 abbrev pub judge_of : List (List ℕ) → Option Command
@@ -33,7 +33,7 @@ judge_of _ = None
 -- ---- what is said of flows
 
 -- what is told of a complaint and of an objection, with the names that an asset has
-abbrev pub IsToldAs : Asset → Complaint → Objection → Type 0
+abbrev pub IsToldAs : Asset → Complaint → Ground → Type 0
 IsToldAs asset (complaint.Conflict position) what = what ≡ told.Conflict position
 IsToldAs asset (complaint.Broken reason) what = what ≡ told.Broken reason
 IsToldAs asset (complaint.Stray why) what = what ≡ told.Stray why

@@ -4,11 +4,11 @@ use Rattle.std.specs.Fmt.{signed_decimal}
 use Rattle.cf_audit.specs.Names.{break_name, reason_name, why_name}
 use Rattle.cf_view.specs.Text.{endpoint_text}
 use Rattle.cf_box.specs.declared.objection.Objected.{Objected}
-use Rattle.cf_box.specs.declared.objection.Objection.{Objection}
-use Rattle.cf_box.specs.declared.objection.Objection.TheVariants as told
+use Rattle.cf_box.specs.declared.objection.Ground.{Ground}
+use Rattle.cf_box.specs.declared.objection.Ground.TheVariants as told
 
 -- what is objected to
-abbrev pub told_text : Objection → List ℕ
+abbrev pub told_text : Ground → List ℕ
 told_text (told.Conflict position) = codes "conflict " ++ signed_decimal position
 told_text (told.Broken reason) = codes "broken " ++ break_name reason
 told_text (told.Refused rule reason) = codes "refused " ++ rule.bytes ++ codes " " ++ reason_name reason

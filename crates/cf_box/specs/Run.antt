@@ -4,7 +4,7 @@ use Rattle.cf_lane.specs.declared.limit.TheConstants.{LETTER_LIMIT}
 use Rattle.cf_outside.specs.Files.{Content}
 use Rattle.cf_run.specs.Capture.{Cut}
 use Rattle.cf_policy.specs.declared.Policy.{Policy}
-use Rattle.cf_run.specs.RunCapture.{HasTimedRecords, RunNamesValue, RunsAs}
+use Rattle.cf_run.specs.RunCapture.{HasRunRecords, RunNamesValue, RunsAs}
 use Rattle.cf_run.specs.declared.run.RunFault.{RunFault}
 use Rattle.cf_run.specs.declared.run.RunFault.TheVariants as fault
 use Rattle.cf_run.specs.declared.run.RunRefusal.TheVariants as by
@@ -37,11 +37,11 @@ run_of _ = None
 
 -- the capture that is run is refused, for this reason
 abbrev pub RunRefuses : Content → CaptureRefusal → Type 0
-RunRefuses file r = Refuses HasTimedRecords file r
+RunRefuses file r = Refuses HasRunRecords file r
 
 -- it ends inside the record at this place
 abbrev pub RunCuts : Content → (place : ℕ) → Type 0
-RunCuts file place = EndsAt HasTimedRecords file Cut place
+RunCuts file place = EndsAt HasRunRecords file Cut place
 
 -- why the work stops at a fault
 abbrev pub run_stop : RunFault → Stop

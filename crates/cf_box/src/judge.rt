@@ -17,7 +17,7 @@ use crate::command::Command;
 use crate::denial::{AssetName, Denial};
 use crate::ending::{Done, Stop};
 use crate::names::are_names;
-use crate::objection::{Objected, Objection};
+use crate::objection::{Objected, Ground};
 use crate::policy_file::load_policy;
 use cf_judge::{Complaint, Objection, judge};
 use cf_outside::Files;
@@ -92,7 +92,7 @@ fn objection_told(policy: &Policy, objection: &Objection) -> Objected
             at_record: objection.at_record,
             client: objection.client,
             asset: AssetName::new(),
-            what: Objection::Conflict(0),
+            what: Ground::Conflict(0),
         },
     }
 }
@@ -108,17 +108,17 @@ fn told_of(asset: &Asset, objection: &Objection) -> Objected
     }
 }
 
-fn complaint_told(asset: &Asset, complaint: &Complaint) -> Objection
+fn complaint_told(asset: &Asset, complaint: &Complaint) -> Ground
     ensures { IsToldAs asset.now complaint.now result }
 {
     match complaint {
-        Complaint::Conflict(position) => Objection::Conflict(*position),
-        Complaint::Broken(reason) => Objection::Broken(*reason),
-        Complaint::Refused(decider, reason) => Objection::Refused {
+        Complaint::Conflict(position) => Ground::Conflict(*position),
+        Complaint::Broken(reason) => Ground::Broken(*reason),
+        Complaint::Refused(decider, reason) => Ground::Refused {
             rule: rule_name(asset, decider),
             reason: *reason,
         },
-        Complaint::Stray(why) => Objection::Stray(*why),
+        Complaint::Stray(why) => Ground::Stray(*why),
     }
 }
 

@@ -9,7 +9,7 @@ use cf_view::{Break, Endpoint, Reason, push_endpoint, push_number, push_signed};
 
 /// What a flow is objected to for, with the name of the rule.
 #[derive(Clone, Copy)]
-pub enum Objection {
+pub enum Ground {
     /// Two packets carried different letters at this position.
     Conflict(i64),
     /// The bytes are no units of the protocol.
@@ -28,7 +28,7 @@ pub struct Objected {
     pub client: Endpoint,
     /// The name of the asset.
     pub asset: AssetName,
-    pub what: Objection,
+    pub what: Ground,
 }
 
 /// Pushes what is told of an objection, after a word.
@@ -46,27 +46,27 @@ pub(crate) fn push_objected(text: &mut EndText, objected: &Objected)
     push_told(text, &objected.what);
 }
 
-fn push_told(text: &mut EndText, told: &Objection)
+fn push_told(text: &mut EndText, told: &Ground)
     requires { length text.old.bytes ≤ 200 }
     ensures text { text.new.bytes ≡ text.old.bytes ++ told_text told.now }
     ensures short { length text.new.bytes ≤ length text.old.bytes + 64 }
 {
     match told {
-        Objection::Conflict(position) => {
+        Ground::Conflict(position) => {
             text.push_str("conflict ");
             push_signed(text, *position);
         }
-        Objection::Broken(reason) => {
+        Ground::Broken(reason) => {
             text.push_str("broken ");
             text.push_str(break_word(*reason));
         }
-        Objection::Refused { rule, reason } => {
+        Ground::Refused { rule, reason } => {
             text.push_str("refused ");
             text.push_str(rule.as_str());
             text.push_str(" ");
             text.push_str(reason_word(*reason));
         }
-        Objection::Stray(why) => {
+        Ground::Stray(why) => {
             text.push_str("stray ");
             text.push_str(why_word(*why));
         }

@@ -9,7 +9,7 @@ use Rattle.cf_packet.specs.declared.packet.PacketRefusal.{PacketRefusal}
 use Rattle.cf_policy.specs.declared.Asset.{Asset}
 use Rattle.cf_view.specs.declared.Side.{Side}
 use Rattle.cf_view.specs.declared.Side.TheVariants as side
-use Rattle.cf_session.specs.Event.{AreRunEvents as AreSessionEvents, IsBeginning, IsPacket, IsTick}
+use Rattle.cf_session.specs.Event.{AreEvents as AreSessionEvents, IsBeginning, IsPacket, IsTick}
 use Rattle.cf_session.specs.Laws.{EventsAreFixed, Given, given, packet_in}
 use Rattle.cf_session.specs.Session.{Flow, SessionEvent, client_ends, is_expired}
 use Rattle.cf_run.specs.Fixed.{RecordsFixEvents, RecordsFixRuns}

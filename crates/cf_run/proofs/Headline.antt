@@ -5,7 +5,7 @@ use Rattle.cf_lane.specs.Laws.{RatesHold}
 use Rattle.cf_lane.specs.Output.{outputs}
 use Rattle.cf_audit.specs.declared.CutReason.{CutReason}
 use Rattle.cf_policy.specs.declared.Asset.{Asset}
-use Rattle.cf_session.specs.Event.{AreRunEvents as AreSessionEvents}
+use Rattle.cf_session.specs.Event.{AreEvents as AreSessionEvents}
 use Rattle.cf_session.specs.Laws.{HasOneStream as SessionHasOneStream, IsFront, SendsWhatIsLetIn, WorkIsOfTheTaken}
 use Rattle.cf_session.specs.Session.{Flow, SessionEvent, client_of, history, work_of}
 use Rattle.cf_session.specs.Work.{Work, Works}

@@ -12,7 +12,7 @@ use Rattle.cf_policy.specs.declared.Asset.{Asset}
 use Rattle.cf_view.specs.declared.Endpoint.{Endpoint}
 use Rattle.cf_view.specs.declared.Side.{Side}
 use Rattle.cf_view.specs.declared.Side.TheVariants as side
-use Rattle.cf_session.specs.Event.{AreRunEvents as AreSessionEvents, IsBeginning, IsPacket, IsTick, came_client}
+use Rattle.cf_session.specs.Event.{AreEvents as AreSessionEvents, IsBeginning, IsPacket, IsTick, came_client}
 use Rattle.cf_session.specs.Laws.{EventsAreFixed, Given, given, packet_in}
 use Rattle.cf_session.specs.Session.{Flow, SessionEvent, client_of, is_expired}
 use Rattle.cf_session.specs.Sent.{Sent, logged_second, sent_first, sent_second}

@@ -1,7 +1,7 @@
 -- Sessions of one run, and of two.
 use Rattle.std.proofs.Common.{◌≡◌, ◌∷◌, [], ℕ, List, refl, subst}
 use Rattle.cf_session.specs.Event.{AreEvents as AreSessionEvents}
-use Rattle.cf_session.specs.Laws.{AreUncutBefore, EventsAreFixed, SendsOneStream as SessionHasOneStream}
+use Rattle.cf_session.specs.Laws.{AreUncutBefore, EventsAreFixed, HasOneStream as SessionHasOneStream}
 use Rattle.cf_session.specs.Session.{Flow, SessionEvent}
 use Rattle.cf_run.specs.Sessions.{HasEvents, SendsOneStream, HasRightEvents, SessionsAreIsolated, SessionsHaveOneStream, sessions_of}
 use Rattle.cf_run.specs.Table.{Session}

@@ -25,7 +25,7 @@ use Rattle.cf_run.specs.Half.{StepBreaks, StepStops}
 use Rattle.cf_run.specs.OutputFile.{ends_with_record, file_packets, packet_part, record_octets}
 use Rattle.cf_run.specs.Reader.{FindsRecord, HasForm, PassesTo, ReaderValue, StopsAt}
 use Rattle.cf_run.specs.Run.{capture_of, input_of, inputs, inputs_from, inputs_of}
-use Rattle.cf_run.specs.RunCapture.{BeginsWithRecords, BreaksOff, HasTimedRecords, HoldsOctets, LeavesRun, RunNamesValue, RunsPartly, RunsRecords, RunsTo, StopsBetween, StopsIn, step_fault}
+use Rattle.cf_run.specs.RunCapture.{BeginsWithRecords, BreaksOff, HasRunRecords, HoldsOctets, LeavesRun, RunNamesValue, RunsPartly, RunsRecords, RunsTo, StopsBetween, StopsIn, step_fault}
 use Rattle.cf_run.specs.Step.{EngineValue, IsEngineOf, StepsOn}
 use Rattle.cf_run.specs.Trace.{AreRunEvents, RunEvent, Input, logged, logged_in_first, logged_in_second, sent, sent_in_first, sent_in_second, table_after}
 use Rattle.cf_run.specs.declared.engine.StepFault.{StepFault}
@@ -81,7 +81,7 @@ leads_on (holds all) start old new least stamp records leads (count, f, place, u
 
 -- the records end where something else stands
 leads_to : (file : Content) (start : Form) (old : ReaderValue) (least place : ℕ) (records : List Record) (found last : AtPlace) → Leads file start old.form least old.place records →
-    StandsBehind file old place found → timed least found ≡ last → IsLast last → HasTimedRecords file start records (record { place = place; found = last })
+    StandsBehind file old place found → timed least found ≡ last → IsLast last → HasRunRecords file start records (record { place = place; found = last })
 leads_to untold start old least place records found last leads stands e is = tt
 leads_to absent start old least place records found last leads stands e is = absurd leads
 leads_to (holds all) start old least place records found last leads (count, f, passes, at) e is =
@@ -303,7 +303,7 @@ module _ {assets : List Asset} {limit : ℕ} {names : RunNamesValue} {before now
           form = start;
           has_form = a.has_form;
           records = a.records;
-          are_records = subst (λ (n : ℕ). HasTimedRecords (before names.capture) start a.records (record { place = n; found = last })) (sym p)
+          are_records = subst (λ (n : ℕ). HasRunRecords (before names.capture) start a.records (record { place = n; found = last })) (sym p)
               (leads_to (before names.capture) start reader least at a.records found last a.leads stood e is);
           leaves = subst (λ counts. LeavesRun assets limit names before files a.records counts) (sym s) (leaves still);
         }

@@ -9,7 +9,7 @@ use Rattle.cf_packet.specs.Packet.{PacketValue}
 use Rattle.cf_packet.specs.declared.packet.PacketRefusal.{PacketRefusal}
 use Rattle.cf_policy.specs.declared.Asset.{Asset}
 use Rattle.cf_view.specs.declared.Side.{Side}
-use Rattle.cf_session.specs.Event.{IsBeginning, IsTick, AreRunEvents as AreSessionEvents}
+use Rattle.cf_session.specs.Event.{IsBeginning, IsTick, AreEvents as AreSessionEvents}
 use Rattle.cf_session.specs.Laws.{AreUncut}
 use Rattle.cf_session.specs.Session.{Flow, SessionEvent, client_of, is_expired}
 use Rattle.cf_run.specs.Sessions.{Each, HasEvents, HasRightEvents, gone_after, leaves, left_by_packet, left_in, session_at, sessions_of}

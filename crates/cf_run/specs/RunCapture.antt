@@ -57,14 +57,14 @@ abbrev pub KeepsOtherFiles : RunNamesValue → (before after : List ℕ → Cont
 KeepsOtherFiles names before after = (other : List ℕ) → IsNoneOf (names.out ∷ names.log ∷ []) other → after other ≡ before other
 
 -- a file of this form has these records up to its last place, as far as it is told
-abbrev pub HasTimedRecords : Content → Form → List Record → LastPlace → Type 0
-HasTimedRecords untold form records last = Unit {0}
-HasTimedRecords absent form records last = ⊥
-HasTimedRecords (holds all) form records last = AreTimed form first_moment (first_place form) (drop (first_place form) all) records last
+abbrev pub HasRunRecords : Content → Form → List Record → LastPlace → Type 0
+HasRunRecords untold form records last = Unit {0}
+HasRunRecords absent form records last = ⊥
+HasRunRecords (holds all) form records last = AreTimed form first_moment (first_place form) (drop (first_place form) all) records last
 
 -- these are its first records
 abbrev pub BeginsWithRecords : Content → Form → List Record → Type 0
-BeginsWithRecords file form records = (more : List Record) × (last : LastPlace) × HasTimedRecords file form (records ++ more) last
+BeginsWithRecords file form records = (more : List Record) × (last : LastPlace) × HasRunRecords file form (records ++ more) last
 
 -- a creation failed, or the append of the header: OUT is created first, then LOG, and then OUT gets its header
 pub data IsCreatedInPart (names : RunNamesValue) (before after : List ℕ → Content) : Type 0 where
@@ -93,7 +93,7 @@ module _ (assets : List Asset) (limit : ℕ) (names : RunNamesValue) (before aft
     pub form : Form
     pub has_form : HasForm (before names.capture) (Ok form)
     pub records : List Record
-    pub are_records : HasTimedRecords (before names.capture) form records (record { place = place; found = found })
+    pub are_records : HasRunRecords (before names.capture) form records (record { place = place; found = found })
     pub leaves : LeavesRun records summary
 
   -- a read failed after records that were run over

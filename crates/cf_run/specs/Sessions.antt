@@ -1,7 +1,7 @@
 -- All sessions of a run, and what holds of each: SessionsAreRight, SessionsHaveOneStream and SessionsAreIsolated.
 use Rattle.std.specs.Prelude.{◌≡◌, ℕ, ◌^◌, ◌≤◌, Bool, not, List, [], ◌∷◌, ◌++◌, filter, map, slice_get, Option, None, Some}
 use Rattle.cf_policy.specs.declared.Asset.{Asset}
-use Rattle.cf_session.specs.Event.{AreRunEvents as AreSessionEvents}
+use Rattle.cf_session.specs.Event.{AreEvents as AreSessionEvents}
 use Rattle.cf_session.specs.Laws.{AreUncut, IsFront, IsReassembly, given, parts_of}
 use Rattle.cf_session.specs.Session.{Flow, SessionEvent, client_ends, client_of, clients, controller_ends, controllers, is_expired, work_of}
 use Rattle.cf_stream.specs.Stream.{Letter}

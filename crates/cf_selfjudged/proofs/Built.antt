@@ -10,7 +10,7 @@ use Rattle.cf_run.specs.Entries.{asset_place}
 use Rattle.cf_run.specs.Sessions.{Each, HasEvents, HasRightEvents as IsRightSession, gone_after, leaves, left_by_packet, session_at, sessions_of}
 use Rattle.cf_run.specs.Table.{Session, asset_at, place_of, same_endpoint}
 use Rattle.cf_run.specs.Trace.{AreRunEvents, Begun, Dropped, RunEvent, NoRoom, NoSession, Received, Went, kept, table_after, tick_of, ticked, with_event_at, with_events}
-use Rattle.cf_session.specs.Event.{AreRunEvents as AreSessionEvents}
+use Rattle.cf_session.specs.Event.{AreEvents as AreSessionEvents}
 use Rattle.cf_session.specs.Laws.{AreUncutBefore}
 use Rattle.cf_session.specs.Session.{Flow, SessionEvent, client_of, controllers, is_expired}
 use Rattle.cf_view.specs.declared.Endpoint.{Endpoint}
