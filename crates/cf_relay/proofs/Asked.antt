@@ -2,7 +2,8 @@
 use Rattle.std.proofs.Common.{Err, List, None, Ok, Option, Result, [], ap, arith, inl, inr, length, refl, subst, sym, ℕ, ◌+◌, ◌<◌, ◌∙◌, ◌∷◌, ◌≡◌, ◌≤◌}
 use Rattle.std.specs.Prelude.{IfErr, OnOk}
 use Rattle.std.specs.Result.{IsErrAnd}
-use Rattle.std.proofs.lemmas.Bool.{lt-leb}
+use Rattle.cf_driver.proofs.Limits.{limit_none}
+use Rattle.cf_driver.specs.declared.heard.Heard.{Heard}
 use Rattle.cf_lane.specs.Follows.{rest_of}
 use Rattle.cf_lane.specs.Handled.{IsLaneOf, LaneValue, WritesLog, debt, state}
 use Rattle.cf_lane.specs.Laws.{QuietBehindEnd, StreamsGoOn}
@@ -33,10 +34,6 @@ use Rattle.cf_relay.specs.declared.relaying.Relaying.{Relaying}
 use Rattle.cf_relay.specs.declared.sides.Sides.{Sides}
 use Rattle.cf_relay.specs.declared.stop.Stop.{Stop}
 use Rattle.cf_relay.specs.declared.stop.Stop.TheVariants as stop
-use Rattle.cf_relay.specs.declared.take.Heard.{Heard}
-
-limit_none : (l a b c d : ℕ) → a < l → b < l → c < l → d < l → limit_by l a b c d ≡ None
-limit_none l a b c d ha hb hc hd = rw (lt-leb l a ha, lt-leb l b hb, lt-leb l c hc, lt-leb l d hd) refl
 
 short_none : (now : RelayingValue) → IsShort now → limit_by LETTER_LIMIT now.client_letters now.controller_letters (queue_length now.to_client) (queue_length now.to_controller) ≡ None
 short_none now h = limit_none LETTER_LIMIT now.client_letters now.controller_letters (queue_length now.to_client) (queue_length now.to_controller) h.client h.controller h.to_client h.to_controller
@@ -154,7 +151,7 @@ module _ (law : StreamsGoOn) (quiet : QuietBehindEnd) (asset : Asset) (most : �
           few = subst (λ (n : ℕ). n < most) (sym (ap (λ (z : TakeState). z.idle) same)) sound.few;
         }
     sound_by (inr (may, few, done)) short qc qk =
-        let each = rests_at (done.hears.keeps refl).1 in
+        let each = rests_at done.hears.short in
         record {
           of_asset = done.hears.of_asset;
           debt = done.hears.debt;
@@ -163,7 +160,7 @@ module _ (law : StreamsGoOn) (quiet : QuietBehindEnd) (asset : Asset) (most : �
           to_controller = queue_fits k qk;
           client_rest = each.0;
           controller_rest = each.1;
-          counts = counts_at (old.lane.admitted + old.lane.refused) (lane.admitted + lane.refused) (letters_brought done.answer) sound.counts (done.hears.counts refl) done.answers.letters;
+          counts = counts_at (old.lane.admitted + old.lane.refused) (lane.admitted + lane.refused) (letters_brought old.moment s done.answer) sound.counts (omega (arith, done.hears.counts)) done.answers.letters;
           few = few;
         }
 

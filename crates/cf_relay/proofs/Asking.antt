@@ -3,6 +3,7 @@ use Rattle.std.proofs.Common.{Err, List, None, Ok, Option, Result, Some, [], ap,
 use Rattle.std.specs.Prelude.{IfErr, OnOk}
 use Rattle.std.specs.List.{list_any}
 use Rattle.std.specs.Option.{option_or}
+use Rattle.std.proofs.Math.Bool.{or-false}
 use Rattle.cf_audit.specs.declared.line.CutReason.{CutReason}
 use Rattle.cf_lane.specs.Follows.{over, rest_of}
 use Rattle.cf_lane.specs.Handled.{WritesLog}
@@ -20,7 +21,6 @@ use Rattle.cf_view.specs.declared.Side.{Side}
 use Rattle.cf_view.specs.declared.Side.TheVariants as side
 use Rattle.cf_relay.proofs.Doing.{IsQuiet, by_own, by_side, quiet_idle, quiet_none, silent_kept}
 use Rattle.cf_relay.proofs.Giving.{with_none}
-use Rattle.cf_relay.proofs.Hearing.{or_false}
 use Rattle.cf_relay.proofs.Lined.{apart_none}
 use Rattle.cf_relay.proofs.Stages.{breaks_nothing, no_take, one_broken, one_stage, open_ended, takes_stage}
 use Rattle.cf_relay.proofs.Standing.{Silent, TakesTo, left_apart, stands_cut, stands_full, stands_heard, stands_missed, stands_silent}
@@ -57,7 +57,7 @@ silent_asked s answers old new log log' told told' t n to quiet unclosed same id
       moment = to.moment;
     })
     (ap (λ (x : TakeState). x.state.lines) same) (ap (λ (x : TakeState). x.idle) same ∙ idle)
-    (λ t. to.closed t ∙ sym (ap (λ b. is_closed t old || b) (unclosed t) ∙ or_false (is_closed t old))) (λ t is. inl (sym (to.closed t) ∙ is))
+    (λ t. to.closed t ∙ sym (ap (λ b. is_closed t old || b) (unclosed t) ∙ or-false (is_closed t old))) (λ t is. inl (sym (to.closed t) ∙ is))
 
 none_some : (x : Option CutReason) (reason : CutReason) → x ≡ None → x ≡ Some reason → ⊥
 none_some x reason none is = cc

@@ -1,6 +1,7 @@
 -- What the code does between two places is a stage that is done, or one that breaks off.
 use Rattle.std.proofs.Common.{Bool, Err, List, Ok, Option, [], ap, arith, false, inl, inr, length, map, max, refl, subst, sym, true, ℕ, ◌++◌, ◌+◌, ◌<◌, ◌∙◌, ◌∷◌, ◌≡◌, ◌≤◌, ◌||◌, ◌⊎◌}
 use Rattle.std.specs.List.{flat_map, list_any}
+use Rattle.std.proofs.Math.Bool.{or-false}
 use Rattle.std.proofs.lemmas.List.{append-nil}
 use Rattle.cf_lane.specs.Output.{other}
 use Rattle.cf_links.specs.LinkValue.{LinkValue}
@@ -14,7 +15,6 @@ use Rattle.cf_stream.specs.Stream.{Stream}
 use Rattle.cf_view.specs.declared.Side.{Side}
 use Rattle.cf_view.specs.declared.Side.TheVariants as side
 use Rattle.cf_relay.proofs.Giving.{given_more, with_none}
-use Rattle.cf_relay.proofs.Hearing.{or_false}
 use Rattle.cf_relay.proofs.Lined.{apart_none}
 use Rattle.cf_relay.proofs.Lists.{closes_more, history_more, met_more, told_more}
 use Rattle.cf_relay.proofs.Scenes.{writes_none}
@@ -104,7 +104,7 @@ silent_moment old log m = record {
   ended = by_side (λ t. (queue_to t (record old { moment = max old.moment m })).ended ≡ (queue_to t old).ended) refl refl;
   kept = by_side (λ t. (queue_to t old).kept ≡ [] ++ (queue_to t (record old { moment = max old.moment m })).kept) refl refl;
   acked = by_side (λ t. (queue_to t (record old { moment = max old.moment m })).acked ≡ (queue_to t old).acked + 0) (omega arith) (omega arith);
-  closed = λ es t e. by_side (λ t. is_closed t (record old { moment = max old.moment m }) ≡ is_closed t old) refl refl t ∙ e ∙ sym (closes_more t es (Moment m ∷ []) ∙ or_false (is_finished t es));
+  closed = λ es t e. by_side (λ t. is_closed t (record old { moment = max old.moment m }) ≡ is_closed t old) refl refl t ∙ e ∙ sym (closes_more t es (Moment m ∷ []) ∙ or-false (is_finished t es));
   done = λ t is. inl (by_side (λ t. is_closed t old ≡ is_closed t (record old { moment = max old.moment m })) refl refl t ∙ is);
   moment = λ es e. ap (λ n. max n m) e ∙ sym (greatest_more (moments es) m) ∙ ap greatest (sym (told_more es (Moment m ∷ [])));
   idle = refl;
@@ -191,7 +191,7 @@ silent_gives s old new log told told' answers is to gave stands = record {
   kept = by_own (λ t. (queue_to t old).kept ≡ given t answers ++ (queue_to t new).kept) s gave.kept (ap (λ (k : Queue). k.kept) (sym to.same) ∙ ap (λ xs. xs ++ (queue_to (other s) new).kept) (sym is.others));
   acked = by_own (λ t. (queue_to t new).acked ≡ (queue_to t old).acked + length (given t answers)) s gave.acked (omega (arith, ap (λ (k : Queue). k.acked) to.same, ap length is.others));
   done = λ t is. inl (sym (to.closed t) ∙ is);
-  closed = λ es t e. to.closed t ∙ e ∙ sym (closes_more t es answers ∙ ap (λ b. is_finished t es || b) (is.closes_nothing t) ∙ or_false (is_finished t es));
+  closed = λ es t e. to.closed t ∙ e ∙ sym (closes_more t es answers ∙ ap (λ b. is_finished t es || b) (is.closes_nothing t) ∙ or-false (is_finished t es));
   moment = λ es e. to.moment ∙ e ∙ ap greatest (sym (told_more es answers ∙ ap (λ ms. moments es ++ ms) is.told ∙ append-nil (moments es)));
   idle = gave.counts;
 }
@@ -299,7 +299,7 @@ silent_close s old new log to closed last =
 silent_same : (s : Side) (old new : RelayingValue) (log : Option (List (List ℕ))) → ClosesTo s old new → is_closed s new ≡ is_closed s old → Silent [] old new log log
 silent_same s old new log to closed =
     let same : (t : Side) → is_closed t new ≡ is_closed t old = by_own (λ t. is_closed t new ≡ is_closed t old) s closed to.others in
-    silent_kept [] old new log log quiet_none to.keeps refl to.idle (λ t. same t ∙ sym (or_false (is_closed t old))) (λ t is. inl (sym (same t) ∙ is))
+    silent_kept [] old new log log quiet_none to.keeps refl to.idle (λ t. same t ∙ sym (or-false (is_closed t old))) (λ t is. inl (sym (same t) ∙ is))
 
 module _ (asset : Asset) (most : ℕ) (s : Side) (old new : RelayingValue) (links links' : LinkValue) (desk : DeskValue) (few : old.idle < most) (to : ClosesTo s old new)
     (later : links.faults ≤ links'.faults) (same : links'.idles ≡ links.idles) where

@@ -6,7 +6,6 @@ mod Ending
 mod Files
 mod Gave
 mod Giving
-mod Hearing
 pub mod Lined
 mod Lists
 mod Moving

@@ -3,6 +3,7 @@ use Rattle.std.proofs.Common.{Bool, List, Ok, Option, [], ap, arith, cond, false
 use Rattle.std.specs.List.{concat}
 use Rattle.std.proofs.Math.Nat.{mul-le-mul_left}
 use Rattle.std.proofs.lemmas.List.{length-append}
+use Rattle.cf_driver.specs.Small.{IsSmall}
 use Rattle.cf_lane.specs.Handled.{IsOpen}
 use Rattle.cf_lane.specs.Output.{other}
 use Rattle.cf_links.specs.Links.{SessionTold}
@@ -15,11 +16,12 @@ use Rattle.cf_view.specs.declared.Side.TheVariants as side
 use Rattle.cf_relay.proofs.Asking.{take_state_of}
 use Rattle.cf_relay.proofs.Doing.{ClosesTo, GivesTo, by_own, by_side}
 use Rattle.cf_relay.proofs.Giving.{given_more, given_pieces}
+use Rattle.cf_relay.proofs.Lists.{own_bytes, own_end}
 use Rattle.cf_relay.proofs.Standing.{TakesTo}
 use Rattle.cf_relay.specs.Answers.{given, idles_after}
 use Rattle.cf_relay.specs.Gave.{FinishesBy, Gave, GaveBy}
 use Rattle.cf_relay.specs.Relaying.{AreClosed, AsksOrRests, IsSound, RelayingValue, ServesOrRests, Unmoved, is_closed, letters_from, moved, progress, queue_to}
-use Rattle.cf_relay.specs.Taken.{IsSmall, MayTakeNow, TakeState, TakesBy, letters_brought}
+use Rattle.cf_relay.specs.Taken.{MayTakeNow, TakeState, TakesBy, letters_brought}
 use Rattle.cf_relay.specs.Turn.{GivesQueued, HasBytes, IsTakeAnswer, TookPieces}
 
 -- ---- progress
@@ -122,14 +124,15 @@ module _ (most : ℕ) (s : Side) (old mid new : RelayingValue) (few : old.idle <
 
 -- ---- asking
 
-answer_moves : (s : Side) (e : Entry) (letters letters' idle idle' : ℕ) → IsTakeAnswer s e → letters' ≡ letters + letters_brought e → idle' ≡ idles_after idle (e ∷ []) → (letters < letters') ⊎ ((letters' ≡ letters) × (idle' ≡ idle + 1))
-answer_moves s (Met c) letters letters' idle idle' is e d = absurd is
-answer_moves s (Moment m) letters letters' idle idle' is e d = absurd is
-answer_moves s (Got of bytes) letters letters' idle idle' is e d = inl (omega (arith, is.1, e))
-answer_moves s (Took of bytes) letters letters' idle idle' is e d = absurd is
-answer_moves s (Ended of) letters letters' idle idle' is e d = inl (omega (arith, e))
-answer_moves s (Idle of) letters letters' idle idle' is e d = inr (omega (arith, e), omega (arith, d))
-answer_moves s (Finished of) letters letters' idle idle' is e d = absurd is
+answer_moves : (m : ℕ) (s : Side) (e : Entry) (letters letters' idle idle' : ℕ) → IsTakeAnswer s e → letters' ≡ letters + letters_brought m s e → idle' ≡ idles_after idle (e ∷ []) →
+    (letters < letters') ⊎ ((letters' ≡ letters) × (idle' ≡ idle + 1))
+answer_moves m s (Met c) letters letters' idle idle' is e d = absurd is
+answer_moves m s (Moment m') letters letters' idle idle' is e d = absurd is
+answer_moves m s (Got of bytes) letters letters' idle idle' is e d = inl (omega (arith, is.1, e, ap (λ o. letters_brought m s (Got o bytes)) is.0, own_bytes m s bytes))
+answer_moves m s (Took of bytes) letters letters' idle idle' is e d = absurd is
+answer_moves m s (Ended of) letters letters' idle idle' is e d = inl (omega (arith, e, ap (λ o. letters_brought m s (Ended o)) is, own_end m s))
+answer_moves m s (Idle of) letters letters' idle idle' is e d = inr (omega (arith, e), omega (arith, d))
+answer_moves m s (Finished of) letters letters' idle idle' is e d = absurd is
 
 letters_sum : (s : Side) (old new : RelayingValue) → letters_from s old < letters_from s new → letters_from (other s) new ≡ letters_from (other s) old →
     old.client_letters + old.controller_letters < new.client_letters + new.controller_letters
@@ -155,7 +158,7 @@ module _ (asset : Asset) (most : ℕ) (s : Side) (old new : RelayingValue) (log 
   )
   ask_moves x (inr (may, goes, takes)) =
       let acked : new.to_client.acked + new.to_controller.acked ≡ old.to_client.acked + old.to_controller.acked = omega (arith, takes.hears.to_client.acked, takes.hears.to_controller.acked) in
-      elim (answer_moves s takes.answer (letters_from s old) (letters_from s new) old.idle new.idle takes.answers.is_taken takes.answers.letters takes.answers.idles) [
+      elim (answer_moves old.moment s takes.answer (letters_from s old) (letters_from s new) old.idle new.idle takes.answers.is_taken takes.answers.letters takes.answers.idles) [
         | inl more ↦ inl (rises most (moved old) (moved new) old.idle new.idle (omega (arith, acked, letters_sum s old new more to.other_letters)) few)
         | inr (still, one) ↦ inl (
             let a : moved new ≡ moved old = omega (arith, acked, letters_still s old new still to.other_letters) in

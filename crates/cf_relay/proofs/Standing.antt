@@ -1,11 +1,15 @@
 -- A relay stands for the longer list: after answers that add nothing to the history, and after an answer of a side that was
 -- asked.
 use Rattle.cf_lane.specs.Rings.{KnowsRules}
-use Rattle.std.proofs.Common.{Bool, List, None, Option, Some, [], ap, arith, cond, drop, false, inl, inr, length, refl, subst, sym, true, ℕ, ◌++◌, ◌+◌, ◌∙◌, ◌∷◌, ◌≡◌, ◌||◌, ◌⊎◌}
+use Rattle.std.proofs.Common.{Bool, List, None, Option, Some, [], ap, drop, false, inl, inr, length, refl, subst, sym, true, ℕ, ◌++◌, ◌+◌, ◌∙◌, ◌∷◌, ◌≡◌, ◌||◌, ◌⊎◌}
 use Rattle.std.specs.List.{flat_map}
 use Rattle.std.specs.Option.{option_or}
+use Rattle.std.proofs.Math.Bool.{or-false}
 use Rattle.std.proofs.lemmas.List.{append-nil, append_assoc, append_cancel_left, length-append}
 use Rattle.cf_audit.specs.declared.line.CutReason.{CutReason}
+use Rattle.cf_driver.proofs.Histories.{ended_of-append, letters_more, letters_still}
+use Rattle.cf_driver.proofs.Limits.{limit_is}
+use Rattle.cf_driver.specs.Takes.{Takes}
 use Rattle.cf_lane.specs.Follows.{AddsTo, AreJudged, AreRests, Began, Follows, Rests, rest_of, with_rest}
 use Rattle.cf_lane.specs.Handled.{LaneValue, State}
 use Rattle.cf_lane.specs.History.{Element, bytes_at, bytes_of, end_at, ended_of, taken}
@@ -16,21 +20,20 @@ use Rattle.cf_lane.specs.Limit.{limit_by, limit_cut}
 use Rattle.cf_lane.specs.Log.{lines, with_lines}
 use Rattle.cf_lane.specs.Output.{other, outputs, stream_to}
 use Rattle.cf_lane.specs.declared.limit.TheConstants.{LETTER_LIMIT}
-use Rattle.cf_outq.specs.SendQueue.{IsQueueOf, Queue, queue_length}
+use Rattle.cf_outq.specs.SendQueue.{IsQueueOf, queue_length}
 use Rattle.cf_outside.specs.Desk.{DeskValue}
-use Rattle.cf_outside.specs.Pair.{Ended, Entry, Finished, Got, Idle, Met, Moment, Took}
+use Rattle.cf_outside.specs.Pair.{Entry}
 use Rattle.cf_policy.specs.declared.Asset.{Asset}
 use Rattle.cf_stream.specs.Stream.{Stream, letter_count}
 use Rattle.cf_view.specs.declared.Endpoint.{Endpoint}
 use Rattle.cf_view.specs.declared.Side.{Side}
 use Rattle.cf_view.specs.declared.Side.TheVariants as side
 use Rattle.cf_relay.proofs.Giving.{given_more, idles_more}
-use Rattle.cf_relay.proofs.Hearing.{or_false}
-use Rattle.cf_relay.proofs.Lists.{closes_more, closes_none, ended_more, gives_none, history_more, letters_more, letters_other, meets_none, other_bytes, met_more, tells_none, told_more}
+use Rattle.cf_relay.proofs.Lists.{closes_more, closes_none, gives_none, history_more, meets_none, met_more, other_bytes, other_end, tells_none, told_more}
 use Rattle.cf_relay.specs.Answers.{client_of, element_of, first_of, given, greatest, history_after, history_of, idles_after, is_finished, met_in, moment_of, moments}
 use Rattle.cf_relay.specs.Relaying.{RelayingValue, is_closed, lane_state, letters_from, queue_to, rests_of}
 use Rattle.cf_relay.specs.Stands.{Apart, IsCutShort, StandsCut, StandsFor, StandsMissed}
-use Rattle.cf_relay.specs.Taken.{IsHeard, MissesLine, ended_after, letters_brought}
+use Rattle.cf_relay.specs.Taken.{MissesLine, letters_brought}
 use Rattle.cf_relay.specs.Turn.{IsTakeAnswer, cut_at}
 
 -- the same items of the same history
@@ -49,18 +52,6 @@ follows_at asset h h' r r' cut first now e d f = (
   },
   refl,
 )
-
--- the limit by the numbers is the limit of the streams
-pub limit_is : (asset : Asset) (h : List Element) (js : List Judged) (a b : ℕ) (c k : Queue) → a ≡ letter_count (taken side.Client h) → b ≡ letter_count (taken side.Controller h) →
-    IsQueueOf c (stream_to asset side.Client js) → IsQueueOf k (stream_to asset side.Controller js) →
-    limit_by LETTER_LIMIT a b (queue_length c) (queue_length k) ≡ limit_cut LETTER_LIMIT h (stream_to asset side.Client js) (stream_to asset side.Controller js)
-limit_is asset h js a b c k e d qc qk =
-    let lc : queue_length c ≡ letter_count (stream_to asset side.Client js) = omega (arith, qc.pushed, ap {B = ℕ} (λ x. cond x 1 0) qc.ended) in
-    let lk : queue_length k ≡ letter_count (stream_to asset side.Controller js) = omega (arith, qk.pushed, ap {B = ℕ} (λ x. cond x 1 0) qk.ended) in
-    ap (λ n. limit_by LETTER_LIMIT n b (queue_length c) (queue_length k)) e
-    ∙ ap (λ n. limit_by LETTER_LIMIT (letter_count (taken side.Client h)) n (queue_length c) (queue_length k)) d
-    ∙ ap (λ n. limit_by LETTER_LIMIT (letter_count (taken side.Client h)) (letter_count (taken side.Controller h)) n (queue_length k)) lc
-    ∙ ap (λ n. limit_by LETTER_LIMIT (letter_count (taken side.Client h)) (letter_count (taken side.Controller h)) (letter_count (stream_to asset side.Client js)) n) lk
 
 -- ---- answers that add nothing to the history: a moment, what a side took, Idle, and a close
 
@@ -183,6 +174,9 @@ module _ (law : StreamsGoOn) (asset : Asset) (first : Option (List (List ℕ))) 
   one_history : history_of (es ++ answer ∷ []) ≡ history_of es ++ element_of (moment_of es) answer
   one_history = history_more [] es (answer ∷ []) ∙ ap (λ x. history_of es ++ x) (append-nil (element_of (moment_of es) answer))
 
+  history_is : history_of es ++ element_of old.moment answer ≡ history_of (es ++ answer ∷ [])
+  history_is = ap (λ m. history_of es ++ element_of m answer) st.moment ∙ sym one_history
+
   one_client : client_of (es ++ answer ∷ []) ≡ client_of es
   one_client = ap first_of (met_more es (answer ∷ []) ∙ ap (λ zs. flat_map met_in es ++ (zs ++ [])) (meets_none s answer taken_is) ∙ append-nil (flat_map met_in es))
 
@@ -193,7 +187,7 @@ module _ (law : StreamsGoOn) (asset : Asset) (first : Option (List (List ℕ))) 
   one_moment = ap greatest (told_more es (answer ∷ []) ∙ ap (λ zs. moments es ++ (zs ++ [])) (tells_none s answer taken_is) ∙ append-nil (moments es))
 
   one_finished : (t : Side) → is_finished t (es ++ answer ∷ []) ≡ is_finished t es
-  one_finished t = closes_more t es (answer ∷ []) ∙ ap (λ b. is_finished t es || (b || false)) (closes_none s t answer taken_is) ∙ or_false (is_finished t es)
+  one_finished t = closes_more t es (answer ∷ []) ∙ ap (λ b. is_finished t es || (b || false)) (closes_none s t answer taken_is) ∙ or-false (is_finished t es)
 
   -- each later list of items puts out what was given first
   later_prefix : (client : Endpoint) (more : List Element) (ks : List Judged) → client ≡ client_of es → AreJudged asset client.address (history_of es ++ more) ks →
@@ -216,10 +210,8 @@ module _ (law : StreamsGoOn) (asset : Asset) (first : Option (List (List ℕ))) 
       }
 
   -- a line failed
-  missed_by : (desk : DeskValue) (e : Entry) → e ≡ answer → IsTakeAnswer s e → MissesLine asset old.moment s e (rest_of s (rests_of old)) (lane_state old log) desk → Apart own log desk.lines (λ lines. StandsMissed asset first (es ++ answer ∷ []) lines desk.line_part)
-  missed_by desk (Met c) is t misses = absurd t
-  missed_by desk (Moment m) is t misses = absurd t
-  missed_by desk (Got of bytes) is t misses =
+  pub stands_missed : (desk : DeskValue) → MissesLine asset old.moment s answer (rest_of s (rests_of old)) (lane_state old log) desk → Apart own log desk.lines (λ lines. StandsMissed asset first (es ++ answer ∷ []) lines desk.line_part)
+  stands_missed desk (inl (bytes, is, misses)) =
       let b = misses (history_of es) (rests_of old) first own refl st.follows in
       let w = b.began in
       record {
@@ -233,45 +225,34 @@ module _ (law : StreamsGoOn) (asset : Asset) (first : Option (List (List ℕ))) 
               w.handled,
               w.rest,
               refl,
-              one_history ∙ ap (λ x. history_of es ++ element_of (moment_of es) x) (sym is) ∙ ap (λ m. history_of es ++ bytes_at m of bytes ∷ []) (sym st.moment)
-                  ∙ ap (λ o. history_of es ++ bytes_at old.moment o bytes ∷ []) t.0 ∙ ap (λ xs. history_of es ++ bytes_at old.moment s xs ∷ []) w.piece_is,
+              sym history_is ∙ ap (λ x. history_of es ++ element_of old.moment x) is ∙ ap (λ xs. history_of es ++ bytes_at old.moment s xs ∷ []) w.piece_is,
             ))
             w.began;
       }
-  missed_by desk (Took of bytes) is t misses = absurd t
-  missed_by desk (Ended of) is t misses =
+  stands_missed desk (inr (is, misses)) =
       let b = misses (history_of es) (rests_of old) first own refl st.follows in
       record {
         more = b.more;
         added = b.added;
         stands = missed_at (history_of es ++ end_at old.moment s ∷ []) (end_at old.moment s ∷ []) (with_lines own b.more) desk.line_part refl
-            (inl (ap (λ m. history_of es ++ end_at m s ∷ []) st.moment ∙ ap (λ o. history_of es ++ end_at (moment_of es) o ∷ []) (sym t)
-            ∙ ap (λ x. history_of es ++ element_of (moment_of es) x) is ∙ sym one_history))
+            (inl (ap (λ x. history_of es ++ element_of old.moment x) (sym is) ∙ history_is))
             b.began;
       }
-  missed_by desk (Idle of) is t misses = absurd misses
-  missed_by desk (Finished of) is t misses = absurd t
-
-  pub stands_missed : (desk : DeskValue) → MissesLine asset old.moment s answer (rest_of s (rests_of old)) (lane_state old log) desk → Apart own log desk.lines (λ lines. StandsMissed asset first (es ++ answer ∷ []) lines desk.line_part)
-  stands_missed desk misses = missed_by desk answer refl taken_is misses
 
   module _ (new : RelayingValue) (log' : Option (List (List ℕ))) (cut : Option CutReason) (to : TakesTo s old new)
-      (hears : IsHeard asset old.moment s answer cut (rest_of s (rests_of old)) (rest_of s (rests_of new)) (lane_state old log) (lane_state new log')) where
-    pub adds_left : AddsTo asset (history_of es ++ element_of old.moment answer) (with_rest s (rests_of old) hears.left) cut first own log (lane_state new log')
+      (hears : Takes asset s (element_of old.moment answer) cut (rest_of s (rests_of old)) (rest_of s (rests_of new)) (lane_state old log) (lane_state new log')) where
+    pub adds_left : AddsTo asset (history_of es ++ element_of old.moment answer) (with_rest s (rests_of old) (rest_of s (rests_of new))) cut first own log (lane_state new log')
     adds_left = hears.follows (history_of es) (rests_of old) first own refl st.follows
 
     -- its own log with the lines that were added
     abbrev pub own_left : Option (List (List ℕ))
     own_left = with_lines own adds_left.more
 
-    pub follows_left : Follows asset (history_of es ++ element_of old.moment answer) (with_rest s (rests_of old) hears.left) cut first (lane_state new own_left)
+    pub follows_left : Follows asset (history_of es ++ element_of old.moment answer) (with_rest s (rests_of old) (rest_of s (rests_of new))) cut first (lane_state new own_left)
     follows_left = adds_left.follows
 
     pub left_apart : (A : Option (List (List ℕ)) → Type 0) → A own_left → Apart own log log' A
     left_apart A a = record { more = adds_left.more; added = adds_left.added; stands = a }
-
-    history_is : history_of es ++ element_of old.moment answer ≡ history_of (es ++ answer ∷ [])
-    history_is = ap (λ m. history_of es ++ element_of m answer) st.moment ∙ sym one_history
 
     -- cut by an item, or by the limit after it
     pub stands_cut : (reason : CutReason) → ((js : List Judged) → cut_of js ≡ cut → IsQueueOf new.to_client (stream_to asset side.Client js) → IsQueueOf new.to_controller (stream_to asset side.Controller js) →
@@ -292,15 +273,17 @@ module _ (law : StreamsGoOn) (asset : Asset) (first : Option (List (List ℕ))) 
         }
 
   module _ (new : RelayingValue) (log' : Option (List (List ℕ))) (to : TakesTo s old new) (going : ended_of s (history_of es) ≡ false)
-      (letters : letters_from s new ≡ letters_from s old + letters_brought answer) (idle : new.idle ≡ idles_after old.idle (answer ∷ []))
-      (hears : IsHeard asset old.moment s answer None (rest_of s (rests_of old)) (rest_of s (rests_of new)) (lane_state old log) (lane_state new log')) where
+      (letters : letters_from s new ≡ letters_from s old + letters_brought old.moment s answer) (idle : new.idle ≡ idles_after old.idle (answer ∷ []))
+      (hears : Takes asset s (element_of old.moment answer) None (rest_of s (rests_of old)) (rest_of s (rests_of new)) (lane_state old log) (lane_state new log')) where
     letters_own : letters_from s new ≡ letter_count (taken s (history_of (es ++ answer ∷ [])))
     letters_own =
-        letters ∙ ap (λ n. n + letters_brought answer) (st.letters s) ∙ sym (letters_more (moment_of es) s (history_of es) answer taken_is going) ∙ ap (λ h. letter_count (taken s h)) (sym one_history)
+        letters ∙ ap (λ n. n + letters_brought old.moment s answer) (st.letters s) ∙ sym (letters_more s (history_of es) (element_of old.moment answer) going) ∙ ap (λ h. letter_count (taken s h)) history_is
 
     letters_others : letters_from (other s) new ≡ letter_count (taken (other s) (history_of (es ++ answer ∷ [])))
     letters_others =
-        to.other_letters ∙ st.letters (other s) ∙ sym (letters_other (moment_of es) s (history_of es) answer taken_is) ∙ ap (λ h. letter_count (taken (other s) h)) (sym one_history)
+        to.other_letters ∙ st.letters (other s)
+        ∙ sym (letters_still (other s) (history_of es) (element_of old.moment answer) (other_bytes old.moment s answer taken_is) (other_end old.moment s answer taken_is))
+        ∙ ap (λ h. letter_count (taken (other s) h)) history_is
 
     letters_here : (t : Side) → letters_from t new ≡ letter_count (taken t (history_of (es ++ answer ∷ [])))
     letters_here t = both_sides (λ u. letters_from u new ≡ letter_count (taken u (history_of (es ++ answer ∷ [])))) s letters_own letters_others t
@@ -311,16 +294,16 @@ module _ (law : StreamsGoOn) (asset : Asset) (first : Option (List (List ℕ))) 
     follows_new : (f : Follows asset (history_of (es ++ answer ∷ [])) (rests_of new) None first (lane_state new own_new))
         × (f.judged ≡ (follows_left new log' None to hears).judged)
     follows_new =
-        follows_at asset _ (history_of (es ++ answer ∷ [])) _ (rests_of new) None first (lane_state new own_new) (history_is new log' None to hears)
-        (ap (with_rest s (rests_of old)) (sym (hears.keeps refl).0) ∙ rests_with s old new to.other_rest) (follows_left new log' None to hears)
+        follows_at asset _ (history_of (es ++ answer ∷ [])) _ (rests_of new) None first (lane_state new own_new) history_is
+        (rests_with s old new to.other_rest) (follows_left new log' None to hears)
 
     ended_here : (t : Side) → (queue_to t new).ended ≡ ended_of (other t) (history_of (es ++ answer ∷ []))
     ended_here side.Client =
-        hears.controller_ended ∙ ap (ended_after side.Controller answer) (st.ended side.Client) ∙ sym (ended_more (moment_of es) side.Controller s (history_of es) answer taken_is)
-        ∙ ap (ended_of side.Controller) (sym one_history)
+        hears.controller_ended ∙ ap (λ b. b || ended_of side.Controller (element_of old.moment answer)) (st.ended side.Client)
+        ∙ sym (ended_of-append side.Controller (history_of es) (element_of old.moment answer)) ∙ ap (ended_of side.Controller) history_is
     ended_here side.Controller =
-        hears.client_ended ∙ ap (ended_after side.Client answer) (st.ended side.Controller) ∙ sym (ended_more (moment_of es) side.Client s (history_of es) answer taken_is)
-        ∙ ap (ended_of side.Client) (sym one_history)
+        hears.client_ended ∙ ap (λ b. b || ended_of side.Client (element_of old.moment answer)) (st.ended side.Controller)
+        ∙ sym (ended_of-append side.Client (history_of es) (element_of old.moment answer)) ∙ ap (ended_of side.Client) history_is
 
     acked_here : (t : Side) → (queue_to t new).acked ≡ (queue_to t old).acked
     acked_here side.Client = hears.to_client.acked
@@ -340,21 +323,12 @@ module _ (law : StreamsGoOn) (asset : Asset) (first : Option (List (List ℕ))) 
     -- the limit by the numbers that are kept
     limit_here : limit_by LETTER_LIMIT new.client_letters new.controller_letters (queue_length new.to_client) (queue_length new.to_controller)
         ≡ limit_cut LETTER_LIMIT (history_of (es ++ answer ∷ [])) (stream_to asset side.Client (follows_left new log' None to hears).judged) (stream_to asset side.Controller (follows_left new log' None to hears).judged)
-    limit_here = limit_is asset (history_of (es ++ answer ∷ [])) (follows_left new log' None to hears).judged _ _ new.to_client new.to_controller (letters_here side.Client) (letters_here side.Controller)
+    limit_here = limit_is LETTER_LIMIT asset (history_of (es ++ answer ∷ [])) (follows_left new log' None to hears).judged _ _ new.to_client new.to_controller (letters_here side.Client) (letters_here side.Controller)
         (follows_left new log' None to hears).client_stream (follows_left new log' None to hears).controller_stream
 
-    ended_stays : (t : Side) (e : Entry) → ended_after t e true ≡ true
-    ended_stays t (Met c) = refl
-    ended_stays t (Moment m) = refl
-    ended_stays t (Got of bytes) = refl
-    ended_stays t (Took of bytes) = refl
-    ended_stays t (Ended of) = refl
-    ended_stays t (Idle of) = refl
-    ended_stays t (Finished of) = refl
-
     ended_kept : (t : Side) → (queue_to t old).ended ≡ true → (queue_to t new).ended ≡ true
-    ended_kept side.Client is = hears.controller_ended ∙ ap (ended_after side.Controller answer) is ∙ ended_stays side.Controller answer
-    ended_kept side.Controller is = hears.client_ended ∙ ap (ended_after side.Client answer) is ∙ ended_stays side.Client answer
+    ended_kept side.Client is = hears.controller_ended ∙ ap (λ b. b || ended_of side.Controller (element_of old.moment answer)) is
+    ended_kept side.Controller is = hears.client_ended ∙ ap (λ b. b || ended_of side.Client (element_of old.moment answer)) is
 
     has_end : (t : Side) → (queue_to t old).ended ≡ true → has_ended (other t) st.follows.judged ≡ true
     has_end side.Client is = sym st.follows.knows.client_ended ∙ is
@@ -411,4 +385,4 @@ module _ (law : StreamsGoOn) (asset : Asset) (first : Option (List (List ℕ))) 
     stands_full reason full =
         stands_cut new log' None to hears reason (λ js none qc qk.
         ap (λ c. option_or c (limit_cut LETTER_LIMIT (history_of (es ++ answer ∷ [])) (stream_to asset side.Client js) (stream_to asset side.Controller js))) none
-        ∙ sym (limit_is asset (history_of (es ++ answer ∷ [])) js _ _ new.to_client new.to_controller (letters_here side.Client) (letters_here side.Controller) qc qk) ∙ full)
+        ∙ sym (limit_is LETTER_LIMIT asset (history_of (es ++ answer ∷ [])) js _ _ new.to_client new.to_controller (letters_here side.Client) (letters_here side.Controller) qc qk) ∙ full)

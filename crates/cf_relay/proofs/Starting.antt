@@ -3,11 +3,13 @@ use Rattle.std.proofs.Common.{List, None, Option, [], ap, arith, drop, inl, inr,
 use Rattle.std.specs.List.{concat}
 use Rattle.std.proofs.lemmas.List.{append-nil}
 use Rattle.cf_audit.specs.Line.{Begun}
+use Rattle.cf_driver.proofs.Limits.{limit_is}
 use Rattle.cf_lane.specs.Follows.{AreJudged, Follows, no_rests}
 use Rattle.cf_lane.specs.Handled.{IsLaneOf, LaneValue, MayHaveMore, debt, state}
 use Rattle.cf_lane.specs.History.{ended_of, taken}
 use Rattle.cf_lane.specs.Log.{line_about, with_lines}
 use Rattle.cf_lane.specs.Output.{other, outputs}
+use Rattle.cf_lane.specs.declared.limit.TheConstants.{LETTER_LIMIT}
 use Rattle.cf_outq.specs.SendQueue.{IsQueueOf, Queue, empty}
 use Rattle.cf_outside.specs.Pair.{Entry, Moment, met_at}
 use Rattle.cf_policy.specs.declared.Asset.{Asset}
@@ -16,7 +18,6 @@ use Rattle.cf_view.specs.declared.Endpoint.{Endpoint}
 use Rattle.cf_view.specs.declared.Side.{Side}
 use Rattle.cf_relay.proofs.Doing.{by_side}
 use Rattle.cf_relay.proofs.Lined.{lines_both, lines_none}
-use Rattle.cf_relay.proofs.Standing.{limit_is}
 use Rattle.cf_relay.proofs.Stages.{breaks_nothing, does_broken}
 use Rattle.cf_relay.specs.Answers.{given, history_of, is_finished}
 use Rattle.cf_relay.specs.Closing.{BeginsLines}
@@ -119,7 +120,7 @@ first_by : (asset : Asset) (listen : ℕ) (client : Endpoint) (m : ℕ) (first :
     StandsFor asset first (met_at listen asset.endpoint client ∷ Moment m ∷ []) (begun_value lane m) first
 first_by asset listen client m first lane is f = record {
   follows = f;
-  uncut = sym (limit_is asset [] f.judged 0 0 empty empty refl refl f.client_stream f.controller_stream);
+  uncut = sym (limit_is LETTER_LIMIT asset [] f.judged 0 0 empty empty refl refl f.client_stream f.controller_stream);
   client = is;
   acked = by_side (λ s. (queue_to s (begun_value lane m)).acked ≡ length (given s (met_at listen asset.endpoint client ∷ Moment m ∷ []))) refl refl;
   front = by_side (λ s. outputs asset s [] f.judged ≡ given s (met_at listen asset.endpoint client ∷ Moment m ∷ []) ++ (queue_to s (begun_value lane m)).kept) (sym f.client_stream.kept) (sym f.controller_stream.kept);

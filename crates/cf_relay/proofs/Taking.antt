@@ -1,26 +1,37 @@
 -- An answer to a side that was asked for bytes.
-use Rattle.std.proofs.Common.{Err, List, None, Ok, Option, Result, [], arith, inr, length, refl, sym, ap, subst, take, ℕ, ◌++◌, ◌+◌, ◌<◌, ◌∙◌, ◌≡◌, ◌≤◌}
+use Rattle.std.proofs.Common.{Err, List, None, Ok, Option, Result, [], arith, inr, length, refl, sym, ap, subst, take, ℕ, ◌++◌, ◌+◌, ◌<◌, ◌^◌, ◌∙◌, ◌≡◌, ◌≤◌}
 use Rattle.std.specs.Prelude.{OnErr, OnOk}
+use Rattle.std.proofs.Math.Bool.{or-false}
 use Rattle.std.proofs.lemmas.List.{append-nil, length-take-le}
-use Rattle.cf_lane.specs.Follows.{Follows, over, with_rest}
-use Rattle.cf_lane.specs.Handled.{IsLaneOf, State, debt}
+use Rattle.cf_audit.specs.declared.line.CutReason.{CutReason}
+use Rattle.cf_driver.specs.Takes.{OnlyPushed, Takes}
+use Rattle.cf_lane.specs.Follows.{Follows, Rests, over, rest_of, with_rest}
+use Rattle.cf_lane.specs.Handled.{IsLaneOf, MayEnd, State, debt}
 use Rattle.cf_lane.specs.History.{Element}
 use Rattle.cf_links.specs.Links.{SessionTold, with_entry}
+use Rattle.cf_outq.specs.SendQueue.{Queue, queue_length}
 use Rattle.cf_outside.specs.Desk.{DeskValue}
-use Rattle.cf_outside.specs.Pair.{Ended, Got, Idle}
+use Rattle.cf_outside.specs.Pair.{Ended, Entry, Got, Idle}
 use Rattle.cf_policy.specs.declared.Asset.{Asset}
 use Rattle.cf_view.specs.declared.Side.{Side}
-use Rattle.cf_relay.proofs.Hearing.{same_pushed, same_rest}
+use Rattle.cf_view.specs.declared.Side.TheVariants as side
 use Rattle.cf_relay.proofs.Lined.{lines_none}
-use Rattle.cf_relay.specs.Taken.{AnswersTo, IsHeard, MayTakeNow, TakesAnswer, TakesBy, take_state}
+use Rattle.cf_relay.proofs.Lists.{own_bytes, own_end}
+use Rattle.cf_relay.specs.Answers.{element_of}
+use Rattle.cf_relay.specs.Taken.{AnswersTo, MayTakeNow, TakeState, TakesAnswer, TakesBy, take_state}
 use Rattle.cf_relay.specs.declared.stop.Stop.{Stop}
 use Rattle.cf_relay.specs.declared.stop.Stop.TheVariants as stop
 
-hears_idle : (asset : Asset) (moment : ℕ) (s : Side) (rest : List ℕ) (now : State) → length rest < 300 → IsLaneOf asset now.lane → debt now.lane ≤ 5300 →
-    IsHeard asset moment s (Idle s) None rest rest now now
-hears_idle asset moment s rest now short of_asset owed = record {
-  left = rest;
-  keeps = λ n. (refl, short);
+same_pushed : (q : Queue) → OnlyPushed q q
+same_pushed q = record { acked = refl; sent = refl; shown = refl }
+
+same_rest : (s : Side) (rests : Rests) → with_rest s rests (rest_of s rests) ≡ rests
+same_rest side.Client rests = refl
+same_rest side.Controller rests = refl
+
+-- nothing came
+hears_idle : (asset : Asset) (s : Side) (rest : List ℕ) (now : State) → length rest < 300 → IsLaneOf asset now.lane → debt now.lane ≤ 5300 → Takes asset s [] None rest rest now now
+hears_idle asset s rest now short of_asset owed = record {
   follows = λ h rests first own is f. record {
     more = [];
     added = lines_none now.lines;
@@ -28,14 +39,15 @@ hears_idle asset moment s rest now short of_asset owed = record {
         (subst (λ r. Follows asset (h ++ []) r None first (over own now)) (sym (ap (with_rest s rests) is ∙ same_rest s rests))
         (subst (λ (k : List Element). Follows asset k rests None first (over own now)) (sym (append-nil h)) f));
   };
+  short = short;
   of_asset = of_asset;
   debt = owed;
   client = refl;
   to_client = same_pushed now.to_client;
   to_controller = same_pushed now.to_controller;
-  client_ended = refl;
-  controller_ended = refl;
-  counts = λ n. omega arith;
+  client_ended = sym (or-false now.to_controller.ended);
+  controller_ended = sym (or-false now.to_client.ended);
+  counts = omega arith;
 }
 
 module _ (asset : Asset) (moment most : ℕ) (s : Side) (rest : List ℕ) (letters : ℕ) (told told' : SessionTold) (idle idle' : ℕ) (now : State) (desk : DeskValue) where
@@ -44,7 +56,7 @@ module _ (asset : Asset) (moment most : ℕ) (s : Side) (rest : List ℕ) (lette
   idle_answer short of_asset owed i e = record {
     answer = Idle s;
     answers = record { is_taken = refl; tells = e; idles = i ∙ omega arith; letters = omega arith };
-    hears = hears_idle asset moment s rest now short of_asset owed;
+    hears = hears_idle asset s rest now short of_asset owed;
   }
 
   pub takes_idle : (r : Result Unit Stop) → MayTakeNow s now.to_client now.to_controller → length rest < 300 → IsLaneOf asset now.lane → debt now.lane ≤ 5300 →
@@ -55,12 +67,29 @@ module _ (asset : Asset) (moment most : ℕ) (s : Side) (rest : List ℕ) (lette
       subst (λ r. TakesBy asset moment most s (take_state now rest letters idle told) (take_state now rest letters idle' told') desk r) (sym error)
       (may, stops, ap (λ n. take_state now rest letters n told') i ∙ ap (λ t. take_state now rest letters (idle + 1) t) e)
 
-pub got_size : (n : ℕ) (buf : List ℕ) → 1 ≤ n → n ≤ length buf → length buf ≡ 4096 → (1 ≤ length (take n buf)) × (length (take n buf) ≤ 4096)
-got_size n buf some inside size = (omega (arith, some, length-take-le n buf inside), omega (arith, inside, size, length-take-le n buf inside))
+module _ (moment : ℕ) (s : Side) (told told' : SessionTold) (idle letters letters' : ℕ) where
+  -- the bytes that a call left at the front of the buffer
+  pub got_answers : (n : ℕ) (buf : List ℕ) → 1 ≤ n → n ≤ length buf → length buf ≡ 4096 → told' ≡ with_entry told (Got s (take n buf)) → letters' ≡ letters + length (take n buf) →
+      AnswersTo moment s (Got s (take n buf)) told told' idle 0 letters letters'
+  got_answers n buf some inside size tells more = record {
+    is_taken = (refl, omega (arith, some, length-take-le n buf inside), omega (arith, inside, size, length-take-le n buf inside));
+    tells = tells;
+    idles = refl;
+    letters = more ∙ ap (λ k. letters + k) (sym (own_bytes moment s (take n buf)));
+  }
 
-pub got_answers : (s : Side) (bytes : List ℕ) (told told' : SessionTold) (idle letters letters' : ℕ) → 1 ≤ length bytes → length bytes ≤ 4096 → told' ≡ with_entry told (Got s bytes) → letters' ≡ letters + length bytes →
-    AnswersTo s (Got s bytes) told told' idle 0 letters letters'
-got_answers s bytes told told' idle letters letters' some most tells more = record { is_taken = (refl, some, most); tells = tells; idles = refl; letters = more }
+  pub end_answers : told' ≡ with_entry told (Ended s) → letters' ≡ letters + 1 → AnswersTo moment s (Ended s) told told' idle 0 letters letters'
+  end_answers tells more = record { is_taken = refl; tells = tells; idles = refl; letters = more ∙ ap (λ k. letters + k) (sym (own_end moment s)) }
 
-pub end_answers : (s : Side) (told told' : SessionTold) (idle letters letters' : ℕ) → told' ≡ with_entry told (Ended s) → letters' ≡ letters + 1 → AnswersTo s (Ended s) told told' idle 0 letters letters'
-end_answers s told told' idle letters letters' tells more = record { is_taken = refl; tells = tells; idles = refl; letters = more }
+-- the answer cuts for this reason, or for none
+pub takes_as : (asset : Asset) (moment : ℕ) (s : Side) (answer : Entry) (cut why : Option CutReason) (old new : TakeState) → cut ≡ why → AnswersTo moment s answer old.told new.told old.idle new.idle old.letters new.letters →
+    Takes asset s (element_of moment answer) cut old.rest new.rest old.state new.state → TakesAnswer asset moment s why old new
+takes_as asset moment s answer cut why old new is answers hears = record {
+  answer = answer;
+  answers = answers;
+  hears = subst (λ k. Takes asset s (element_of moment answer) k old.rest new.rest old.state new.state) is hears;
+}
+
+pub may_end : (s : Side) (c k : Queue) → queue_length c < 2 ^ 30 → queue_length k < 2 ^ 30 → MayEnd s c k
+may_end side.Client c k few less = omega (arith, less)
+may_end side.Controller c k few less = omega (arith, few)

@@ -1,26 +1,23 @@
 -- Steps of the proof: what taking does to a lane, its queues and its log: `TakesBy`.
 use Rattle.cf_audit.specs.declared.line.CutReason.{CutReason}
-use Rattle.cf_lane.specs.Follows.{AddsTo, BeganApart, BeganApartWithin, Follows, Rests, over, rest_of, with_rest}
-use Rattle.cf_lane.specs.Handled.{IsLaneOf, IsOpen, State, debt}
-use Rattle.cf_lane.specs.History.{Element, end_at, is_side}
+use Rattle.cf_driver.specs.Small.{IsSmall}
+use Rattle.cf_driver.specs.Takes.{MissesEnd, MissesPiece, Takes}
+use Rattle.cf_lane.specs.Handled.{IsOpen, State}
+use Rattle.cf_lane.specs.History.{taken}
 use Rattle.cf_lane.specs.Limit.{limit_by}
 use Rattle.cf_lane.specs.declared.limit.TheConstants.{LETTER_LIMIT}
 use Rattle.cf_links.specs.Links.{SessionTold, with_answers}
 use Rattle.cf_outq.specs.SendQueue.{Queue}
 use Rattle.cf_outside.specs.Desk.{DeskValue}
-use Rattle.cf_outside.specs.Pair.{Ended, Entry, Finished, Got, Idle, Met, Moment, Took}
+use Rattle.cf_outside.specs.Pair.{Ended, Entry, Got, Idle}
 use Rattle.cf_policy.specs.declared.Asset.{Asset}
+use Rattle.cf_stream.specs.Stream.{letter_count}
 use Rattle.cf_view.specs.declared.Side.{Side}
-use Rattle.std.specs.Prelude.{Bool, Err, List, None, Ok, Option, Result, Some, [], if◌then◌else◌, length, true, ℕ, ◌++◌, ◌+◌, ◌<◌, ◌∷◌, ◌≡◌, ◌≤◌, ◌||◌, ◌⊎◌}
-use Rattle.cf_view.specs.declared.Side.TheVariants as side
+use Rattle.std.specs.Prelude.{Err, List, None, Ok, Option, Result, Some, [], true, ℕ, ◌+◌, ◌<◌, ◌∷◌, ◌≡◌, ◌⊎◌}
 use Rattle.cf_relay.specs.Answers.{element_of, idles_after}
 use Rattle.cf_relay.specs.Turn.{IsTakeAnswer}
 use Rattle.cf_relay.specs.declared.stop.Stop.{Stop}
 use Rattle.cf_relay.specs.declared.stop.Stop.TheVariants as stop
-
--- the queue has at most 16,384 letters
-abbrev pub IsSmall : Queue → Type 0
-IsSmall q = length q.kept + (if q.ended then 1 else 0) ≤ 16384
 
 -- the side has not ended, and both queues are small
 pub record MayTakeNow (s : Side) (to_client to_controller : Queue) : Type 0 where
@@ -28,73 +25,23 @@ pub record MayTakeNow (s : Side) (to_client to_controller : Queue) : Type 0 wher
   pub client : IsSmall to_client
   pub controller : IsSmall to_controller
 
--- how many letters an answer brings
-abbrev pub letters_brought : Entry → ℕ
-letters_brought (Met meeting) = 0
-letters_brought (Moment moment) = 0
-letters_brought (Got s bytes) = length bytes
-letters_brought (Took s bytes) = 0
-letters_brought (Ended s) = 1
-letters_brought (Idle s) = 0
-letters_brought (Finished s) = 0
+-- how many letters of a side an answer brings
+abbrev pub letters_brought : (moment : ℕ) → Side → Entry → ℕ
+letters_brought moment s answer = letter_count (taken s (element_of moment answer))
 
--- what a queue keeps beside what was pushed stays
-pub record OnlyPushed (old new : Queue) : Type 0 where
-  pub acked : new.acked ≡ old.acked
-  pub sent : new.sent ≡ old.sent
-  pub shown : new.shown ≡ old.shown
-
--- whether a side has ended, after an answer
-abbrev pub ended_after : Side → Entry → Bool → Bool
-ended_after s (Met meeting) ended = ended
-ended_after s (Moment moment) ended = ended
-ended_after s (Got of bytes) ended = ended
-ended_after s (Took of bytes) ended = ended
-ended_after s (Ended of) ended = ended || is_side s of
-ended_after s (Idle of) ended = ended
-ended_after s (Finished of) ended = ended
-
--- what came was handled by the lane, whatever history came before
-pub record IsHeard (asset : Asset) (moment : ℕ) (s : Side) (answer : Entry) (cut : Option CutReason)
-    (rest_before rest_after : List ℕ) (old new : State) : Type 0 where
-  pub left : List ℕ
-  pub keeps : cut ≡ None → (rest_after ≡ left) × (length rest_after < 300)
-  pub follows : (h : List Element) (rests : Rests) (first own : Option (List (List ℕ))) → rest_before ≡ rest_of s rests
-      → Follows asset h rests None first (over own old)
-      → AddsTo asset (h ++ element_of moment answer) (with_rest s rests left) cut first own old.lines new
-  pub of_asset : IsLaneOf asset new.lane
-  pub debt : debt new.lane ≤ 5300
-  pub client : new.lane.client ≡ old.lane.client
-  pub to_client : OnlyPushed old.to_client new.to_client
-  pub to_controller : OnlyPushed old.to_controller new.to_controller
-  pub client_ended : new.to_controller.ended ≡ ended_after side.Client answer old.to_controller.ended
-  pub controller_ended : new.to_client.ended ≡ ended_after side.Controller answer old.to_client.ended
-  pub counts : cut ≡ None → new.lane.admitted + new.lane.refused + length rest_after ≤ old.lane.admitted + old.lane.refused +
-      (length rest_before + letters_brought answer)
-
--- a line of what came failed, whatever history came before: the log has a beginning of the lines of what was handled
+-- a line of the bytes that a side gave failed, or that of its End
 abbrev pub MissesLine : Asset → (moment : ℕ) → Side → Entry → (rest : List ℕ) → (old : State) → DeskValue → Type 0
-MissesLine asset moment s (Met meeting) rest old desk = ⊥
-MissesLine asset moment s (Moment other) rest old desk = ⊥
-MissesLine asset moment s (Got of bytes) rest old desk =
-    (h : List Element) (rests : Rests) (first own : Option (List (List ℕ))) → rest ≡ rest_of s rests
-    → Follows asset h rests None first (over own old)
-    → BeganApartWithin asset old.lane.client h moment s bytes first own old.lines desk.lines desk.line_part
-MissesLine asset moment s (Took of bytes) rest old desk = ⊥
-MissesLine asset moment s (Ended of) rest old desk =
-    (h : List Element) (rests : Rests) (first own : Option (List (List ℕ))) → rest ≡ rest_of s rests
-    → Follows asset h rests None first (over own old)
-    → BeganApart asset old.lane.client (h ++ end_at moment s ∷ []) first own old.lines desk.lines desk.line_part
-MissesLine asset moment s (Idle of) rest old desk = ⊥
-MissesLine asset moment s (Finished of) rest old desk = ⊥
+MissesLine asset moment s answer rest old desk =
+    ((bytes : List ℕ) × (answer ≡ Got s bytes) × MissesPiece asset moment s bytes rest old desk.lines desk.line_part)
+    ⊎ ((answer ≡ Ended s) × MissesEnd asset moment s rest old desk.lines desk.line_part)
 
 -- a side that was asked answered
-pub record AnswersTo (s : Side) (answer : Entry) (told_before told_after : SessionTold)
+pub record AnswersTo (moment : ℕ) (s : Side) (answer : Entry) (told_before told_after : SessionTold)
     (idle_before idle_after letters_before letters_after : ℕ) : Type 0 where
   pub is_taken : IsTakeAnswer s answer
   pub tells : told_after ≡ with_answers told_before (answer ∷ [])
   pub idles : idle_after ≡ idles_after idle_before (answer ∷ [])
-  pub letters : letters_after ≡ letters_before + letters_brought answer
+  pub letters : letters_after ≡ letters_before + letters_brought moment s answer
 
 -- what a call on a side and its lane changes
 pub record TakeState : Type 0 where
@@ -110,8 +57,8 @@ take_state state rest letters idle told = record { state = state; rest = rest; l
 -- a side was asked, answered, and the lane handled it
 pub record TakesAnswer (asset : Asset) (moment : ℕ) (s : Side) (cut : Option CutReason) (old new : TakeState) : Type 0 where
   pub answer : Entry
-  pub answers : AnswersTo s answer old.told new.told old.idle new.idle old.letters new.letters
-  pub hears : IsHeard asset moment s answer cut old.rest new.rest old.state new.state
+  pub answers : AnswersTo moment s answer old.told new.told old.idle new.idle old.letters new.letters
+  pub hears : Takes asset s (element_of moment answer) cut old.rest new.rest old.state new.state
 
 -- what came of asking a side, which happens exactly where it has not ended and both queues are small
 abbrev pub TakesBy : Asset → (moment most : ℕ) → Side → (old new : TakeState) → DeskValue → Result Unit Stop → Type 0
@@ -124,7 +71,7 @@ TakesBy asset moment most s old new desk (Err stop.Idle) =
 TakesBy asset moment most s old new desk (Err stop.Link) = new ≡ old
 TakesBy asset moment most s old new desk (Err stop.Write) =
     MayTakeNow s old.state.to_client old.state.to_controller
-    × ((answer : Entry) × AnswersTo s answer old.told new.told old.idle new.idle old.letters new.letters
+    × ((answer : Entry) × AnswersTo moment s answer old.told new.told old.idle new.idle old.letters new.letters
     × MissesLine asset moment s answer old.rest old.state desk)
 TakesBy asset moment most s old new desk (Err (stop.Cut reason)) =
     MayTakeNow s old.state.to_client old.state.to_controller × TakesAnswer asset moment s (Some reason) old new

@@ -4,7 +4,6 @@
 
 mod done;
 mod give;
-mod lines;
 mod only;
 mod relaying;
 mod sides;
@@ -14,7 +13,6 @@ mod top;
 mod turns;
 
 pub use done::{RelayDone, RelayEnd, RelayFault};
-pub use lines::log_line;
 pub use relaying::Relaying;
 pub use stop::Stop;
 pub use top::relay;

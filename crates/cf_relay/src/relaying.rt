@@ -1,7 +1,5 @@
 //! A relay between two stages of a turn, and each stage. This project's own.
-ghost use Rattle.std.specs.Prelude.{◌≡◌, ℕ, ◌+◌, ◌*◌, ◌<◌, ◌≤◌, ◌^◌, ◌⊎◌, [], ◌∷◌, List, Option, max, true, IfErr, OnOk, length};
-ghost use Rattle.cf_lane.specs.Limit.{limit_by};
-ghost use Rattle.cf_lane.specs.declared.limit.TheConstants.{LETTER_LIMIT};
+ghost use Rattle.std.specs.Prelude.{◌≡◌, ℕ, ◌<◌, [], ◌∷◌, List, Option, max, true, IfErr, OnOk, length};
 ghost use Rattle.cf_links.specs.LinkValue.{link_value};
 ghost use Rattle.cf_links.specs.Links.{LinksPlace};
 ghost use Rattle.cf_outq.specs.SendQueue.{IsQueue, empty, queue_length};
@@ -19,9 +17,9 @@ ghost use Rattle.cf_view.specs.declared.Endpoint.{Endpoint as EndpointOf};
 use crate::give::{finish_to, give_to};
 use crate::sides::Sides;
 use crate::stop::Stop;
-use crate::take::{Heard, take_from};
-use cf_audit::CutReason;
-use cf_lane::{LETTER_LIMIT, Lane, Lengths, limit_cut, streams_go_on};
+use crate::take::take_from;
+use cf_driver::{Heard, length_cut};
+use cf_lane::{LETTER_LIMIT, Lane, streams_go_on};
 use cf_links::Links;
 use cf_outq::Outq;
 use cf_outside::{Desk, MomentAnswer};
@@ -158,28 +156,17 @@ impl Relaying {
         ensures to_client { IsQueue self.now.to.client }
         ensures to_controller { IsQueue self.now.to.controller }
     {
-        match self.full() {
+        let cut = length_cut(
+            LETTER_LIMIT,
+            self.from.client.letters,
+            self.from.controller.letters,
+            &self.to.client,
+            &self.to.controller,
+        );
+        match cut {
             Some(reason) => Err(Stop::Cut(reason)),
             None => Ok(()),
         }
-    }
-
-    /// Why a stream that has as many letters as the limit cuts, if one has.
-    fn full(&self) -> Option<CutReason>
-        ensures limit { result ≡ limit_by LETTER_LIMIT (self.now.from.client).letters (self.now.from.controller).letters
-            (queue_length self.now.to.client) (queue_length self.now.to.controller) }
-        ensures to_client { IsQueue self.now.to.client }
-        ensures to_controller { IsQueue self.now.to.controller }
-    {
-        limit_cut(
-            LETTER_LIMIT,
-            &Lengths {
-                client: self.from.client.letters,
-                controller: self.from.controller.letters,
-                to_client: self.to.client.length() as u64,
-                to_controller: self.to.controller.length() as u64,
-            },
-        )
     }
 
     /// Gives a side what is queued for it, and closes it for sending where that is all.

@@ -18,10 +18,10 @@ ghost use Rattle.cf_relay.specs.Stands.{StandsFor};
 ghost use Rattle.cf_relay.specs.Taken.{StaysWhole};
 
 use crate::done::{RelayDone, RelayEnd, RelayFault};
-use crate::lines::log_line;
 use crate::relaying::Relaying;
 use crate::stop::Stop;
 use cf_audit::What;
+use cf_driver::log_line;
 use cf_lane::Lane;
 use cf_outq::Outq;
 use cf_outside::{Desk, Files, LineDesk, MeetAnswer, MomentAnswer, Pair, WriteAnswer};

@@ -17,12 +17,13 @@ ghost use Rattle.cf_view.specs.declared.Endpoint.{Endpoint as EndpointOf};
 
 use crate::end::SessionEnd;
 use cf_audit::What;
+use cf_driver::log_line;
 use cf_lane::Lane;
 use cf_links::{Links, ReachAnswer};
 use cf_outq::Outq;
 use cf_outside::{Desk, MomentAnswer};
 use cf_policy::Asset;
-use cf_relay::{Relaying, Stop, log_line};
+use cf_relay::{Relaying, Stop};
 use cf_view::{Endpoint, NoMemory, WriteFault};
 use std::alloc::Global;
 

@@ -19,10 +19,10 @@ ghost use Rattle.std.specs.List.{AllByRecursion};
 use crate::fault::ServeFault;
 use crate::session::{Served, Terms};
 use cf_audit::What;
+use cf_driver::log_line;
 use cf_links::{ArriveAnswer, Service};
 use cf_outside::{Desk, MomentAnswer};
 use cf_policy::Asset;
-use cf_relay::log_line;
 use cf_view::{Endpoint, WriteFault};
 use std::alloc::{AllocError, Global};
 

@@ -17,9 +17,9 @@ ghost use Rattle.cf_serve.specs.declared.table.Place.{Place as PlaceOf};
 use crate::fault::ServeFault;
 use crate::table::{Place, Table, place_of};
 use cf_audit::What;
+use cf_driver::log_line;
 use cf_links::Service;
 use cf_outside::{Desk, Files, LineDesk, MomentAnswer, WriteAnswer};
-use cf_relay::log_line;
 use std::alloc::Global;
 
 /// Listens at each place, and says so in the log.

@@ -1,6 +1,9 @@
-use Rattle.std.proofs.Common.{arith}
-use Rattle.cf_relay.proofs.Taking.{end_answers, got_answers, got_size, takes_idle}
+use Rattle.std.proofs.Common.{arith, inl, inr, refl}
+use Rattle.cf_relay.proofs.Taking.{end_answers, got_answers, may_end, takes_as, takes_idle}
 use Rattle.cf_relay.proofs.take.take_from.Goals as goal
+
+pub end-requires-clause-limit : goal.end-requires-clause-limit
+end-requires-clause-limit g c = may_end c.args.side _ _ c.requires.client_limit c.requires.controller_limit
 
 pub returns-in-Idle-clause-takes : goal.returns-in-Idle-clause-takes
 returns-in-Idle-clause-takes g c =
@@ -9,14 +12,37 @@ returns-in-Idle-clause-takes g c =
 
 pub returns-in-Err-clause-takes : goal.returns-in-Err-clause-takes
 returns-in-Err-clause-takes g c =
-    let e = c.in-Got.ensures.entry in
-    let size = got_size c.in-Got.n c.take.new.buf e.0 e.1 (omega (arith, c.requires.buffer)) in (
+    let e = c.in-Got.ensures.entry in (
       c.may_take.ensures.0 c.if-not-may_take.false,
-      (_, got_answers c.args.side _ _ _ _ _ _ size.0 size.1 e.2 c.feed_lane.ensures.letters, c.in-Err.ensures.misses),
+      (_, got_answers _ c.args.side _ _ _ _ _ c.in-Got.n c.take.new.buf e.0 e.1 (omega (arith, c.requires.buffer)) e.2 c.feed.ensures.letters, inl (_, refl, c.in-Err.ensures.misses)),
     )
 
-pub returns-in-Err-end_lane-clause-takes : goal.returns-in-Err-end_lane-clause-takes
-returns-in-Err-end_lane-clause-takes g c = (
+pub returns-in-Some-clause-takes : goal.returns-in-Some-clause-takes
+returns-in-Some-clause-takes g c =
+    let e = c.in-Got.ensures.entry in (
+      c.may_take.ensures.0 c.if-not-may_take.false,
+      takes_as _ _ _ _ _ _ _ _ c.in-Some.is (got_answers _ c.args.side _ _ _ _ _ c.in-Got.n c.take.new.buf e.0 e.1 (omega (arith, c.requires.buffer)) e.2 c.feed.ensures.letters) c.in-Ok.ensures.takes,
+    )
+
+pub returns-in-None-clause-takes : goal.returns-in-None-clause-takes
+returns-in-None-clause-takes g c =
+    let e = c.in-Got.ensures.entry in
+    inr (
+      c.may_take.ensures.0 c.if-not-may_take.false,
+      omega (arith, c.requires.few),
+      takes_as _ _ _ _ _ _ _ _ c.in-None.is (got_answers _ c.args.side _ _ _ _ _ c.in-Got.n c.take.new.buf e.0 e.1 (omega (arith, c.requires.buffer)) e.2 c.feed.ensures.letters) c.in-Ok.ensures.takes,
+    )
+
+pub returns-in-Err-end-clause-takes : goal.returns-in-Err-end-clause-takes
+returns-in-Err-end-clause-takes g c = (
   c.may_take.ensures.0 c.if-not-may_take.false,
-  (_, end_answers c.args.side _ _ _ _ _ c.in-End.ensures.entry c.end_lane.ensures.letters, c.in-Err-end_lane.ensures.misses),
+  (_, end_answers _ c.args.side _ _ _ _ _ c.in-End.ensures.entry c.end.ensures.letters, inr (refl, c.in-Err-end.ensures.misses)),
 )
+
+pub returns-in-Ok-end-clause-takes : goal.returns-in-Ok-end-clause-takes
+returns-in-Ok-end-clause-takes g c =
+    inr (
+      c.may_take.ensures.0 c.if-not-may_take.false,
+      omega (arith, c.requires.few),
+      record { answer = _; answers = end_answers _ c.args.side _ _ _ _ _ c.in-End.ensures.entry c.end.ensures.letters; hears = c.in-Ok-end.ensures.takes },
+    )
