@@ -1,10 +1,11 @@
 -- A leg whose event begins without a clock call.
-use Rattle.std.proofs.Common.{◌≡◌, ℕ, ◌+◌, Bool, true, false, cond, not, ◌&&◌, ◌||◌, List, [], ◌∷◌, length, refl, sym, ◌∙◌, ap}
+use Rattle.std.proofs.Common.{◌≡◌, ℕ, ◌+◌, Bool, true, false, cond, not, ◌&&◌, ◌||◌, List, [], ◌∷◌, refl, sym, ◌∙◌, ap}
 use Rattle.cf_rebuild.specs.ReceiveWindow.{base_of}
 use Rattle.cf_stream.proofs.Taken.{same_taken}
 use Rattle.cf_stream.specs.FirstCopy.{first_copy, IsTaken}
 use Rattle.cf_stream.specs.Stream.{Stream, letter_count}
-use Rattle.cf_leg.proofs.Clocked.{own_idle, peer_idle, mss_idle, greeted_idle, opened_idle, armed_idle, and_not, settled_armed, settled_owes}
+use Rattle.cf_leg.proofs.Clocked.{own_idle, peer_idle, mss_idle, greeted_idle, opened_idle, armed_idle, settled_armed, settled_owes}
+use Rattle.cf_leg.proofs.Events.{and_not, taken_is}
 use Rattle.cf_leg.specs.Emits.{send_mss}
 use Rattle.cf_leg.specs.Event.{LegEvent, begun, is_settled}
 use Rattle.cf_leg.specs.Heard.{opened, offers}
@@ -36,5 +37,5 @@ begun_stands leg m tick es settled h = record {
 
 pub base_is : (leg : LegValue) (m : Marks) (es : List LegEvent) (s : Stream) → IsLegOf leg m es → IsTaken (first_copy (offers leg.ends.role es)) s → base_of leg.window ≡ letter_count s
 base_is leg m es s h t =
-    sym (ap (λ (b : Bool). length h.of_window.taken.bytes + cond b 1 0) (sym h.of_window.ended) ∙ ap (λ (n : ℕ). n + cond leg.window.ended 1 0) (sym h.of_window.count))
+    sym (taken_is h)
     ∙ ap (λ (u : Stream). letter_count u) (same_taken (first_copy (offers leg.ends.role es)) h.of_window.taken s h.of_window.is_taken t)

@@ -1,9 +1,10 @@
 -- What segments carry of the list that their letters were cut from.
+use Rattle.std.proofs.lemmas.Option.{none-some}
 use Rattle.std.proofs.Common.{◌≡◌, ℕ, suc, ◌+◌, ◌-◌, ◌<◌, ◌≤◌, min, Bool, true, false, cond, ◌&&◌, List, [], ◌∷◌, length, take, drop, get_or, refl, sym, ◌∙◌, ap, subst, arith, ℤ, pos, negsuc, inl, inr, Option, Some, None, length-take, length-drop}
 use Rattle.std.specs.Prelude.{MatchBool, ◌==◌, nat_lt}
-use Rattle.std.proofs.lemmas.Bool.{and_parts, cases_lt, cases_Bool, false≢true, eqb-true, lt-ltb, le-ltb, eq-eqb}
+use Rattle.std.proofs.lemmas.Bool.{and_parts, cases_lt, cases_Bool, eqb-true, lt-ltb, le-ltb, eq-eqb}
 use Rattle.std.proofs.lemmas.List.{get_or-drop, get_or-take, get_or_append_left, length-append}
-use Rattle.std.specs.Option.{is_some, option_or}
+use Rattle.std.specs.Option.{option_or}
 use Rattle.cf_packet.specs.Packet.{PacketValue}
 use Rattle.cf_stream.specs.Position.{sequence_number, position}
 use Rattle.cf_stream.specs.Stream.{Stream, Letter, Byte, End, Carries, Extends, IsPart, letter_at, letter_count, letter_from, no_letters, part}
@@ -17,9 +18,6 @@ use Rattle.cf_leg.specs.declared.ends.Way.{Way}
 
 -- ---- letters and their places
 
-pub none≢some : (l : Letter) → ◌≡◌ {A = Option Letter} None (Some l) → ⊥
-none≢some l e = false≢true (ap is_some e)
-
 pub at_inside : (t : Stream) (i : ℕ) (l : Letter) → letter_at t i ≡ Some l → i < letter_count t
 at_inside t i l e =
     elim (cases_lt i (length t.bytes)) [
@@ -29,7 +27,7 @@ at_inside t i l e =
             | inl k ↦ (let parts = and_parts (i == length t.bytes) t.ended k in
                 let here = eqb-true i (length t.bytes) parts.0 in
                 rw parts.1 (omega (arith, here)))
-            | inr k ↦ (let none = rw (le-ltb i (length t.bytes) v, k) at e in absurd (none≢some l none))
+            | inr k ↦ (let none = rw (le-ltb i (length t.bytes) v, k) at e in absurd (none-some l none))
           ]
     ]
 
@@ -49,7 +47,7 @@ module _ (a : ℕ) (t : Stream) where
   pub from_inside : (q : ℕ) (l : Letter) → letter_from (pos a) t q ≡ Some l → (a ≤ q) × (q < a + letter_count t)
   from_inside q l e =
       elim (cases_lt q a) [
-        | inl v ↦ (let none = rw (lt-ltb q a v) at e in absurd (none≢some l none))
+        | inl v ↦ (let none = rw (lt-ltb q a v) at e in absurd (none-some l none))
         | inr v ↦ (let there = rw (le-ltb q a v) at e in let inside = at_inside t (q - a) l there in (v, omega (arith, inside)))
       ]
 

@@ -1,21 +1,15 @@
 -- A leg that was cut.
-use Rattle.std.specs.Prelude.{OnErr, OnOk, is_err}
-use Rattle.std.proofs.Common.{◌≡◌, ℕ, ◌+◌, Bool, cond, List, [], ◌∷◌, ◌++◌, length, Result, refl, sym, ◌∙◌, ap, subst}
-use Rattle.cf_outside.specs.Desk.{DeskValue}
+use Rattle.std.proofs.Common.{◌≡◌, ℕ, List, [], ◌∷◌, ◌++◌, refl, sym, ◌∙◌, ap, subst}
 use Rattle.cf_outq.specs.SendQueue.{Queue}
 use Rattle.cf_packet.specs.Packet.{PacketValue}
-use Rattle.cf_rebuild.specs.ReceiveWindow.{base_of}
-use Rattle.cf_stream.specs.Position.{sequence_number}
 use Rattle.cf_stream.specs.Stream.{letter_count}
-use Rattle.cf_leg.proofs.Broken.{gets_by}
-use Rattle.cf_leg.proofs.Events.{open_is_greeted, own_same, peer_same}
-use Rattle.cf_leg.proofs.Hears.{phase_greeted, phase_is_open}
-use Rattle.cf_leg.specs.Calls.{CutOff, is_greeted_phase, rst_as, rst_of}
-use Rattle.cf_leg.specs.Emits.{Greets, IsGreeting, IsRight, cut_packet, rst}
-use Rattle.cf_leg.specs.Emitted.{BreaksOff, with_segment}
+use Rattle.cf_leg.proofs.Events.{open_is, taken_is, open_is_greeted, own_same, peer_same}
+use Rattle.cf_leg.proofs.Hears.{phase_greeted}
+use Rattle.cf_leg.specs.Calls.{is_greeted_phase, rst_as, rst_of}
+use Rattle.cf_leg.specs.Emits.{Greets, IsGreeting, IsRight, cut_packet}
 use Rattle.cf_leg.specs.Event.{Came, Nothing, Greeting, Packet, Unspoken, Cut, LegEvent, greeted_by}
 use Rattle.cf_leg.specs.Heard.{opened}
-use Rattle.cf_leg.specs.LegValue.{LegValue, IsLegOf, is_open, marks}
+use Rattle.cf_leg.specs.LegValue.{LegValue, IsLegOf, marks}
 use Rattle.cf_leg.specs.Told.{letters_sent_at, letters_sent_by, letters_sent_by_all, is_greeted, own_number, peer_number}
 use Rattle.cf_leg.specs.declared.ends.Ends.{Ends}
 use Rattle.cf_leg.specs.declared.ends.Role.{Role}
@@ -35,32 +29,16 @@ module _ (leg : LegValue) (q : Queue) (e : LegEvent) (es : List LegEvent) (h : I
   sent_is : q.sent ≡ letters_sent_at leg.ends.role es e
   sent_is = h.of_sent ∙ came_carries leg.ends es e.came h.of_right.0.came (own_number leg.ends.role (record e { ending = Unspoken } ∷ es)) (letters_sent_at leg.ends.role es e)
 
-  open_is : is_open leg.phase ≡ opened leg.ends.role (record e { ending = Unspoken } ∷ es)
-  open_is = ap is_open h.of_phase ∙ phase_is_open (opened leg.ends.role (record e { ending = Unspoken } ∷ es)) (is_greeted (record e { ending = Unspoken } ∷ es))
-
   greeted_is : is_greeted_phase leg.phase ≡ is_greeted (record e { ending = Unspoken } ∷ es)
   greeted_is = ap is_greeted_phase h.of_phase ∙ phase_greeted (opened leg.ends.role (record e { ending = Unspoken } ∷ es)) (is_greeted (record e { ending = Unspoken } ∷ es)) (open_is_greeted leg.ends.role (record e { ending = Unspoken } ∷ es))
-
-  taken_is : base_of leg.window ≡ letter_count h.of_window.taken
-  taken_is = sym (ap (λ (b : Bool). length h.of_window.taken.bytes + cond b 1 0) (sym h.of_window.ended) ∙ ap (λ (n : ℕ). n + cond leg.window.ended 1 0) (sym h.of_window.count))
 
   pub rst_is : rst_of leg q ≡ cut_packet leg.ends (record e { ending = Cut out } ∷ es) (letters_sent_at leg.ends.role es e) (letter_count h.of_window.taken) leg.ends.role
   rst_is = by leg.ends.role h.of_own h.of_other
     where
       by : (r : Role) → leg.own ≡ own_number r (record e { ending = Unspoken } ∷ es) → leg.other ≡ peer_number r (record e { ending = Unspoken } ∷ es)
           → rst_as leg q r ≡ cut_packet leg.ends (record e { ending = Cut out } ∷ es) (letters_sent_at leg.ends.role es e) (letter_count h.of_window.taken) r
-      by (role.Active n) o p =
-          ap (λ (b : Bool). cond b (rst leg.ends (sequence_number leg.own q.sent) (sequence_number leg.other (base_of leg.window)) 20) (rst leg.ends (sequence_number leg.own 0) 0 4)) open_is
-          ∙ ap (λ (x : ℕ). cond (opened leg.ends.role (record e { ending = Unspoken } ∷ es)) (rst leg.ends (sequence_number x q.sent) (sequence_number leg.other (base_of leg.window)) 20) (rst leg.ends (sequence_number x 0) 0 4)) o
-          ∙ ap (λ (x : ℕ). cond (opened leg.ends.role (record e { ending = Unspoken } ∷ es)) (rst leg.ends (sequence_number n x) (sequence_number leg.other (base_of leg.window)) 20) (rst leg.ends (sequence_number n 0) 0 4)) sent_is
-          ∙ ap (λ (x : ℕ). cond (opened leg.ends.role (record e { ending = Unspoken } ∷ es)) (rst leg.ends (sequence_number n (letters_sent_at leg.ends.role es e)) (sequence_number leg.other x) 20) (rst leg.ends (sequence_number n 0) 0 4)) taken_is
-          ∙ ap (λ (x : ℕ). cond (opened leg.ends.role (record e { ending = Unspoken } ∷ es)) (rst leg.ends (sequence_number n (letters_sent_at leg.ends.role es e)) (sequence_number x (letter_count h.of_window.taken)) 20) (rst leg.ends (sequence_number n 0) 0 4)) (h.of_other ∙ sym (peer_same (record e { ending = Unspoken }) es (Cut out) leg.ends.role))
-      by (role.Passive n mss) o p =
-          ap (λ (b : Bool). cond b (rst leg.ends (sequence_number leg.own q.sent) (sequence_number leg.other (base_of leg.window)) 20) (rst leg.ends 0 (sequence_number leg.other 0) 20)) greeted_is
-          ∙ ap (λ (x : ℕ). cond (is_greeted (record e { ending = Unspoken } ∷ es)) (rst leg.ends (sequence_number x q.sent) (sequence_number leg.other (base_of leg.window)) 20) (rst leg.ends 0 (sequence_number leg.other 0) 20)) (h.of_own ∙ sym (own_same (record e { ending = Unspoken }) es (Cut out) leg.ends.role))
-          ∙ ap (λ (x : ℕ). cond (is_greeted (record e { ending = Unspoken } ∷ es)) (rst leg.ends (sequence_number (own_number leg.ends.role (record e { ending = Cut out } ∷ es)) x) (sequence_number leg.other (base_of leg.window)) 20) (rst leg.ends 0 (sequence_number leg.other 0) 20)) sent_is
-          ∙ ap (λ (x : ℕ). cond (is_greeted (record e { ending = Unspoken } ∷ es)) (rst leg.ends (sequence_number (own_number leg.ends.role (record e { ending = Cut out } ∷ es)) (letters_sent_at leg.ends.role es e)) (sequence_number leg.other x) 20) (rst leg.ends 0 (sequence_number leg.other 0) 20)) taken_is
-          ∙ ap (λ (x : ℕ). cond (is_greeted (record e { ending = Unspoken } ∷ es)) (rst leg.ends (sequence_number (own_number leg.ends.role (record e { ending = Cut out } ∷ es)) (letters_sent_at leg.ends.role es e)) (sequence_number x (letter_count h.of_window.taken)) 20) (rst leg.ends 0 (sequence_number x 0) 20)) p
+      by (role.Active n) o p = rw (open_is h, o, sent_is, ← taken_is h, h.of_other, peer_same (record e { ending = Unspoken }) es (Cut out) leg.ends.role) refl
+      by (role.Passive n mss) o p = rw (greeted_is, h.of_own, own_same (record e { ending = Unspoken }) es (Cut out) leg.ends.role, sent_is, ← taken_is h, p) refl
 
 pub cut_right : (leg : LegValue) (q : Queue) (e : LegEvent) (es : List LegEvent) → IsLegOf leg (marks q) (record e { ending = Unspoken } ∷ es) → IsRight leg.ends es (record e { ending = Cut (rst_of leg q) })
 cut_right leg q e es h = record {
@@ -69,7 +47,3 @@ cut_right leg q e es h = record {
   came = h.of_right.0.came;
   ending = record { taken = h.of_window.taken; is_taken = h.of_window.is_taken; rst = rst_is leg q e es h (rst_of leg q) };
 }
-
-pub cut_of : {T E : Type 0} (r : Result T E) (now : ℕ) (leg : LegValue) (q : Queue) (old new : DeskValue) → OnOk r (new.packets ≡ with_segment old.packets now (rst_of leg q)) → OnErr r (BreaksOff now (rst_of leg q ∷ []) old new) →
-    CutOff now leg q old new (is_err r)
-cut_of r now leg q old new all broken = record { gets = gets_by r now (rst_of leg q) old new all broken; right = cut_right leg q }

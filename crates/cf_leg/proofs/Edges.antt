@@ -1,16 +1,15 @@
 -- What is told never moves back.
+use Rattle.std.proofs.lemmas.Option.{none-some}
 use Rattle.std.proofs.Common.{◌≡◌, ℕ, ◌+◌, ◌-◌, ◌^◌, ◌%◌, ◌⊎◌, ◌<◌, ◌≤◌, Bool, true, false, cond, ◌&&◌, ◌||◌, List, [], ◌∷◌, ◌++◌, length, refl, sym, ◌∙◌, ap, subst, arith, inl, inr, Option, Some, None}
 use Rattle.std.specs.Prelude.{MatchBool, nat_lt}
 use Rattle.std.specs.Option.{option_or, is_some}
-use Rattle.std.proofs.lemmas.Bool.{cases_lt, cases_Bool, le-ltb, true≢false, false≢true}
+use Rattle.std.proofs.lemmas.Bool.{cases_lt, cases_Bool, le-ltb, or_parts, true≢false, false≢true}
 use Rattle.cf_packet.specs.Packet.{PacketValue}
 use Rattle.cf_stream.proofs.Taken.{same_taken, some_taken, taken_extends}
 use Rattle.cf_stream.specs.FirstCopy.{IsTaken, Offer, first_copy, offered}
 use Rattle.cf_stream.specs.Position.{place_or_zero, position, sequence_number}
 use Rattle.cf_stream.specs.Stream.{End, Letter, Stream, letter_count, no_letters}
-use Rattle.cf_leg.proofs.Carried.{none≢some}
-use Rattle.cf_leg.proofs.Clocked.{greeting_right}
-use Rattle.cf_leg.proofs.Events.{open_is_greeted}
+use Rattle.cf_leg.proofs.Events.{greeting_right, open_is_greeted, option_or_none}
 use Rattle.cf_leg.proofs.Speech.{position_ahead, told_segment}
 use Rattle.cf_leg.proofs.Spoken.{told_said}
 use Rattle.cf_leg.proofs.Streams.{count_grows}
@@ -51,7 +50,7 @@ syn_ack_tells ends other number base edge z =
     ∙ ap (λ (n : ℕ). let t : Advertised = record { base = n; edge = n + 16384 } in t) zero
 
 -- the first one, and one that goes out again, tell the same
-greeting_tells : (ends : Ends) (r : Role) (es : List LegEvent) (p : PacketValue) (t : Advertised) → IsGreeting ends r p → t.base ≡ 0 → (r ≡ r → t ≡ record { base = 0; edge = 0 } ⊎ t ≡ first_told r) → told_by (peer_number r es) t p ≡ first_told r
+pub greeting_tells : (ends : Ends) (r : Role) (es : List LegEvent) (p : PacketValue) (t : Advertised) → IsGreeting ends r p → t.base ≡ 0 → (r ≡ r → t ≡ record { base = 0; edge = 0 } ⊎ t ≡ first_told r) → told_by (peer_number r es) t p ≡ first_told r
 greeting_tells ends (role.Active own) es p t k z f = subst (λ (x : PacketValue). told_by (peer_number (role.Active own) es) t x ≡ first_told (role.Active own)) (sym k) (by (f refl))
   where
     by : (t ≡ record { base = 0; edge = 0 }) ⊎ (t ≡ first_told (role.Active own)) → t ≡ first_told (role.Active own)
@@ -96,14 +95,6 @@ module _ (ends : Ends) (es : List LegEvent) (all : AllRight ends es) (h : TellsU
       by false = refl
 
 -- ---- the packet half
-or_first : (a b : Bool) → (a || b) ≡ false → a ≡ false
-or_first true b k = k
-or_first false b k = refl
-
-option_or_none : (o : Option PacketValue) → option_or o None ≡ o
-option_or_none None = refl
-option_or_none (Some p) = refl
-
 some_last : (o : Option PacketValue) (p : PacketValue) → is_some (option_or o (Some p)) ≡ true
 some_last None p = refl
 some_last (Some q) p = refl
@@ -148,7 +139,7 @@ module _ (ends : Ends) (e : LegEvent) (es : List LegEvent) (right : IsRight ends
       last o m None z w =
           elim (cases_lt p o.edge) [
             | inl v ↦ omega (arith, m, v)
-            | inr v ↦ (let none = rw (le-ltb p o.edge v) at w in absurd (none≢some l none))
+            | inr v ↦ (let none = rw (le-ltb p o.edge v) at w in absurd (none-some l none))
           ]
 
       of : (b : Bool) (o : Offer) → o.edge ≡ (told ends.role es).edge → first_copy (cond b (o ∷ offers ends.role es) (offers ends.role es)) p ≡ Some l → p < (told ends.role es).edge
@@ -230,7 +221,7 @@ module _ (ends : Ends) (e : LegEvent) (es : List LegEvent) (right : IsRight ends
     none : is_greeted (e ∷ es) ≡ false → t ≡ record { base = 0; edge = 0 }
 
   open_before : opened ends.role (e ∷ es) ≡ false → opened ends.role es ≡ false
-  open_before o = or_first (opened ends.role es) (opens (end_state ends.role es e) e.came) o
+  open_before o = (or_parts (opened ends.role es) (opens (end_state ends.role es e) e.came) o).0
 
   closed_unless_greeted : is_greeted (e ∷ es) ≡ false → opened ends.role (e ∷ es) ≡ false
   closed_unless_greeted n =
@@ -315,7 +306,7 @@ tells_up ends [] a = record {
   order = omega arith;
   near = omega arith;
   low = λ s t. omega arith;
-  high = λ p l k. absurd (none≢some l k);
+  high = λ p l k. absurd (none-some l k);
   first = λ o g. absurd (false≢true g);
   none = λ g. refl;
 }

@@ -1,21 +1,31 @@
 -- What of a list of events does not depend on how the last one ends, and what an event in which nothing came leaves.
-use Rattle.std.proofs.Common.{◌≡◌, ◌≢◌, ℕ, ◌≤◌, max, Bool, true, false, cond, ◌&&◌, ◌||◌, List, [], ◌∷◌, refl, sym, ◌∙◌, ap, subst, arith, Option, Some, None, inl, inr}
+use Rattle.std.proofs.Common.{◌≡◌, ℕ, ◌≤◌, max, Bool, true, false, cond, ◌&&◌, ◌||◌, List, [], ◌∷◌, refl, sym, ◌∙◌, ap, not, subst, arith, Option, Some, None, inl, inr, ◌+◌, length}
 use Rattle.std.proofs.lemmas.Bool.{cases_Bool, true≢false, false≢true}
 use Rattle.std.specs.Option.{option_or, is_some}
 use Rattle.cf_packet.specs.Packet.{PacketValue}
-use Rattle.cf_leg.specs.Emits.{Greets, peer_mss}
+use Rattle.std.proofs.lemmas.Option.{same_Some}
+use Rattle.cf_rebuild.specs.ReceiveWindow.{base_of}
+use Rattle.cf_stream.specs.Stream.{letter_count}
+use Rattle.cf_leg.specs.LegValue.{IsLegOf, LegValue, Marks, is_open, phase_of}
+use Rattle.cf_leg.specs.Emits.{AllRight, Greets, IsGreeting, peer_mss}
 use Rattle.cf_stream.specs.Position.{place_or_zero}
 use Rattle.cf_leg.specs.declared.ends.Ends.{Ends}
 use Rattle.cf_leg.specs.Event.{Came, Nothing, Greeting, Packet, Ending, LegEvent, greeted_by}
 use Rattle.cf_leg.specs.Heard.{opened, opens, end_state_if, first_answer, open_answer, acked_by, counts, ack_place, is_opening, opens_as, resets_as}
 use Rattle.cf_leg.specs.Segment.{has_rst}
-use Rattle.cf_leg.specs.LegValue.{phase_of, is_open}
-use Rattle.cf_leg.specs.Told.{greeting, is_greeted, own_number, peer_number}
+use Rattle.cf_leg.specs.Told.{greeting, greeting_in, is_greeted, own_number, peer_number}
 use Rattle.cf_leg.specs.declared.ends.LegAnswer.TheVariants as answer
-use Rattle.cf_leg.specs.declared.ends.Phase.TheVariants as phase
 use Rattle.cf_leg.specs.declared.ends.EndState.{EndState}
 use Rattle.cf_leg.specs.declared.ends.Role.{Role}
 use Rattle.cf_leg.specs.declared.ends.Role.TheVariants as role
+
+pub option_or_none : {A : Type 0} (o : Option A) → option_or o None ≡ o
+option_or_none None = refl
+option_or_none (Some x) = refl
+
+pub and_not : (b : Bool) → (b && not b) ≡ false
+and_not true = refl
+and_not false = refl
 
 -- ---- the ending of the last event bears on none of these
 module _ (e : LegEvent) (es : List LegEvent) (n : Ending) where
@@ -63,14 +73,28 @@ open_is_greeted r (e ∷ es) h =
     ]
 
 -- ---- phases
-pub phase_open : (o g : Bool) → phase_of o g ≡ phase.Open → o ≡ true
-phase_open true g h = refl
-phase_open false true h = ap is_open h
-phase_open false false h = ap is_open h
+pub phase_is_open : (o g : Bool) → is_open (phase_of o g) ≡ o
+phase_is_open true g = refl
+phase_is_open false true = refl
+phase_is_open false false = refl
 
-pub phase_closed : (o g : Bool) → phase_of o g ≢ phase.Open → o ≡ false
-phase_closed true g h = absurd (h refl)
-phase_closed false g h = refl
+pub open_is : {leg : LegValue} {m : Marks} {es : List LegEvent} → IsLegOf leg m es → is_open leg.phase ≡ opened leg.ends.role es
+open_is {leg} {m} {es} h = ap is_open h.of_phase ∙ phase_is_open (opened leg.ends.role es) (is_greeted es)
+
+-- ---- what is taken
+pub taken_is : {leg : LegValue} {m : Marks} {es : List LegEvent} (h : IsLegOf leg m es) → letter_count h.of_window.taken ≡ base_of leg.window
+taken_is {leg} h = ap (λ (b : Bool). length h.of_window.taken.bytes + cond b 1 0) (sym h.of_window.ended) ∙ ap (λ (n : ℕ). n + cond leg.window.ended 1 0) (sym h.of_window.count)
+
+-- ---- what was sent as a greeting
+pub greeting_right : (ends : Ends) (es : List LegEvent) → AllRight ends es → (p : PacketValue) → greeting es ≡ Some p → IsGreeting ends ends.role p
+greeting_right ends [] a p g = absurd (false≢true (ap is_some g))
+greeting_right ends (e ∷ es) a p g = by (greeting_right ends es a.1) (greeting es) refl e.came a.0.came g
+  where
+    by : ((x : PacketValue) → greeting es ≡ Some x → IsGreeting ends ends.role x) → (o : Option PacketValue) → greeting es ≡ o → (c : Came) → Greets ends es c → option_or o (greeting_in c) ≡ Some p → IsGreeting ends ends.role p
+    by r (Some x) k c b m = r p (k ∙ m)
+    by r None k Nothing b m = absurd (false≢true (ap is_some m))
+    by r None k (Packet x) b m = absurd (false≢true (ap is_some m))
+    by r None k (Greeting x) b m = subst (λ (y : PacketValue). IsGreeting ends ends.role y) (same_Some x p m) b.0
 
 -- ---- a greeting is no greeting of an open leg
 pub no_greeting : (ends : Ends) (es : List LegEvent) (b : Bool) (at : EndState) (c : Came) → (b ≡ true → is_greeted es ≡ true) → Greets ends es c → (b || opens at c) ≡ true → greeted_by c ≡ []

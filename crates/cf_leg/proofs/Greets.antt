@@ -1,6 +1,6 @@
--- A new leg, and one that greeted.
-use Rattle.std.proofs.Common.{◌≡◌, ℕ, ◌+◌, Bool, true, false, cond, not, ◌&&◌, ◌||◌, List, [], ◌∷◌, Result, Option, Some, None, refl, sym, ◌∙◌, ap, subst, arith}
-use Rattle.std.specs.Prelude.{OnErr, OnOk, is_err, nat_lt}
+-- A leg that greeted.
+use Rattle.std.proofs.Math.Bool.{or-false}
+use Rattle.std.proofs.Common.{◌≡◌, ℕ, Bool, true, false, not, ◌&&◌, ◌||◌, List, [], ◌∷◌, Option, Some, None, refl, sym, ◌∙◌, ap, subst, arith, inl}
 use Rattle.std.specs.Option.{option_or, is_some}
 use Rattle.std.proofs.lemmas.Bool.{true≢false, false≢true}
 use Rattle.cf_outside.specs.Desk.{DeskValue}
@@ -8,48 +8,21 @@ use Rattle.cf_packet.specs.Packet.{PacketValue}
 use Rattle.cf_rebuild.specs.ReceiveWindow.{IsWindow}
 use Rattle.cf_rebuild.specs.ReceiveWindow.{IsWindowOf}
 use Rattle.cf_stream.specs.FirstCopy.{Offer}
-use Rattle.cf_stream.specs.Position.{place_or_zero, position, sequence_number}
-use Rattle.cf_stream.specs.Stream.{letter_count}
-use Rattle.cf_leg.proofs.Broken.{gets_by}
-use Rattle.cf_leg.proofs.Clocked.{greeted_idle, peer_idle, or_none}
-use Rattle.cf_leg.proofs.Speech.{position_ahead}
+use Rattle.cf_leg.proofs.Edges.{greeting_tells}
+use Rattle.cf_leg.proofs.Clocked.{greeted_idle, peer_idle}
 use Rattle.cf_leg.proofs.Spoken.{parts_told}
-use Rattle.cf_leg.specs.Calls.{Greeted, IsMade, IsOwn, greeted_as, greeting_as, greeting_by, greeting_of, is_greeted_phase, no_marks, window_by}
+use Rattle.cf_leg.specs.Calls.{Greeted, IsOwn, greeted_as, greeting_as, greeting_by, greeting_of, is_greeted_phase, window_by}
 use Rattle.cf_leg.specs.Emits.{IsGreeting, peer_mss, send_mss, syn, syn_ack_for}
-use Rattle.cf_leg.specs.Emitted.{BreaksOff, GetsSegments, with_segment}
-use Rattle.cf_leg.specs.Event.{Greeting, Nothing, Unspoken, LegEvent, moment, stream_after}
-use Rattle.cf_leg.specs.Heard.{opened, acked, offers}
+use Rattle.cf_leg.specs.Emitted.{GetsSegments}
+use Rattle.cf_leg.specs.Event.{Greeting, Nothing, Unspoken, LegEvent, moment}
+use Rattle.cf_leg.specs.Heard.{opened, offers}
 use Rattle.cf_leg.specs.LegValue.{Marks, LegValue, IsLeg, IsLegOf, first_told, phase_of}
-use Rattle.cf_leg.specs.Timer.{armed, due, tries, backoff, has_fired, second}
-use Rattle.cf_leg.specs.Told.{told, told_at, told_by, letters_sent_at, letters_sent_by_all, greeting, is_greeted, own_number, peer_number, seq_of}
-use Rattle.cf_leg.specs.declared.ends.Ends.{Ends}
+use Rattle.cf_leg.specs.Timer.{armed}
+use Rattle.cf_leg.specs.Told.{told, told_at, letters_sent_at, letters_sent_by_all, greeting, is_greeted, own_number, peer_number, seq_of}
 use Rattle.cf_leg.specs.declared.ends.Phase.TheVariants as phase
 use Rattle.cf_leg.specs.declared.ends.Role.{Role}
 use Rattle.cf_leg.specs.declared.ends.Role.TheVariants as role
 use Rattle.cf_leg.specs.declared.ends.Advertised.{Advertised}
-
--- ---- a new leg stands for no events
-pub made_stands : (ends : Ends) (own other mss : ℕ) (leg : LegValue) → own ≡ own_number ends.role [] → other ≡ peer_number ends.role [] → mss ≡ send_mss (peer_mss ends.role [])
-    → IsMade ends own other mss leg → IsLegOf leg no_marks []
-made_stands ends own other mss leg o n m i = subst (λ (l : LegValue). IsLegOf l no_marks []) (sym i.parts) (record {
-  of_right = tt;
-  of_phase = refl;
-  of_own = o;
-  of_other = n;
-  of_mss = m;
-  of_base = refl;
-  of_edge = i.edge;
-  of_first = λ c g. absurd (false≢true g);
-  of_window = i.window;
-  of_sent = refl;
-  of_edge_shown = refl;
-  of_shown = refl;
-  of_acked = refl;
-  of_owes = refl;
-  of_running = refl;
-  of_deadline = refl;
-  of_fired = refl;
-})
 
 -- ---- a leg that greeted
 made_parts : (o g : Bool) → phase.Made ≡ phase_of o g → (o ≡ false) × (g ≡ false)
@@ -63,14 +36,11 @@ none_of (Some p) h = absurd (true≢false h)
 
 module _ (leg : LegValue) (i : IsLeg leg) (w : IsWindow leg.window) (m : Marks) (now number : ℕ) (e : LegEvent) (es : List LegEvent)
     (made : leg.phase ≡ phase.Made) (own : IsOwn leg.ends.role number) (at : now ≡ moment e) (h : IsLegOf leg m (record e { came = Nothing; ending = Unspoken } ∷ es)) where
-  out : PacketValue
-  out = greeting_as leg.ends number leg.other leg.ends.role
-
   parts : (opened leg.ends.role (record e { came = Nothing; ending = Unspoken } ∷ es) ≡ false) × (is_greeted (record e { came = Nothing; ending = Unspoken } ∷ es) ≡ false)
   parts = made_parts (opened leg.ends.role (record e { came = Nothing; ending = Unspoken } ∷ es)) (is_greeted (record e { came = Nothing; ending = Unspoken } ∷ es)) (sym made ∙ h.of_phase)
 
   closed : opened leg.ends.role es ≡ false
-  closed = sym (or_none (opened leg.ends.role es)) ∙ parts.0
+  closed = sym (or-false (opened leg.ends.role es)) ∙ parts.0
 
   ungreeted : is_greeted es ≡ false
   ungreeted = sym (greeted_idle e.tick e.ticked e.fired es) ∙ parts.1
@@ -84,10 +54,6 @@ module _ (leg : LegValue) (i : IsLeg leg) (w : IsWindow leg.window) (m : Marks) 
   told_zero : told_at leg.ends.role es e ≡ record { base = 0; edge = 0 }
   told_zero = sym (parts_told leg.base leg.window.edge 0 0 (told leg.ends.role (record e { came = Nothing; ending = Unspoken } ∷ es)) h.of_base h.of_edge)
       ∙ parts_told leg.base leg.window.edge 0 0 (record { base = 0; edge = 0 }) (omega (arith, i.base, w.base, i.early made)) (i.early made)
-
-  seq_is : (r : Role) → (greeting_as leg.ends number leg.other r).seq ≡ number
-  seq_is (role.Active k) = refl
-  seq_is (role.Passive other mss) = refl
 
   own_is : (r : Role) → IsOwn r number → number ≡ own_number r (record e { came = Greeting (greeting_as leg.ends number leg.other r); ending = Unspoken } ∷ es)
   own_is (role.Active k) o = o
@@ -105,16 +71,9 @@ module _ (leg : LegValue) (i : IsLeg leg) (w : IsWindow leg.window) (m : Marks) 
   right (role.Active k) o n = ap (λ (x : ℕ). syn leg.ends x) o
   right (role.Passive other mss) o n = ap (λ (x : ℕ). syn_ack_for leg.ends x number) n
 
-  told_then : (r : Role) → leg.other ≡ peer_number r es → (T : Advertised) → T ≡ record { base = 0; edge = 0 }
-      → told_by (peer_number r (record e { came = Greeting (greeting_as leg.ends number leg.other r); ending = Unspoken } ∷ es)) T (greeting_as leg.ends number leg.other r) ≡ first_told r
-  told_then (role.Active k) n T z = z
-  told_then (role.Passive other mss) n T z =
-      subst (λ (u : Advertised). ◌≡◌ {A = Advertised} (record { base = place_or_zero (position (sequence_number leg.other 0) other u.base); edge = place_or_zero (position (sequence_number leg.other 0) other u.base) + 16384 }) (record { base = 0; edge = 16384 })) (sym z)
-      (subst (λ (x : ℕ). ◌≡◌ {A = Advertised} (record { base = place_or_zero (position (sequence_number x 0) other 0); edge = place_or_zero (position (sequence_number x 0) other 0) + 16384 }) (record { base = 0; edge = 16384 })) (sym n)
-      (ap (λ (b : ℕ). record { base = b; edge = b + 16384 }) (ap place_or_zero (position_ahead other 0 0 (omega arith) (omega arith)))))
-
   told_first : told leg.ends.role (record e { came = Greeting (greeting_as leg.ends number leg.other leg.ends.role); ending = Unspoken } ∷ es) ≡ first_told leg.ends.role
-  told_first = told_then leg.ends.role (h.of_other ∙ peer_idle e.tick e.ticked e.fired es leg.ends.role) (told_at leg.ends.role es e) told_zero
+  told_first = greeting_tells leg.ends leg.ends.role (record e { came = Greeting (greeting_as leg.ends number leg.other leg.ends.role); ending = Unspoken } ∷ es) _ (told_at leg.ends.role es e)
+      (right leg.ends.role own (h.of_other ∙ peer_idle e.tick e.ticked e.fired es leg.ends.role)) (ap (λ (t : Advertised). t.base) told_zero) (λ _. inl told_zero)
 
   base_first : (r : Role) → leg.base ≡ (first_told r).base
   base_first (role.Active k) = omega (arith, i.base, w.base, i.early made)
@@ -149,22 +108,17 @@ module _ (leg : LegValue) (i : IsLeg leg) (w : IsWindow leg.window) (m : Marks) 
     of_acked = h.of_acked;
     of_owes = h.of_owes;
     of_running = h.of_running;
-    of_deadline = ap (λ (n : ℕ). n + second) at
-        ∙ sym (ap (λ (b : Bool). cond (b || false) (moment e + second) (cond (has_fired e) (e.tick + backoff (tries leg.ends.role es + 1)) (due leg.ends.role es))) arms);
+    of_deadline = rw (at, arms) refl;
     of_fired = h.of_fired;
   }
     where
       arms : (armed leg.ends.role (record e { came = Greeting (greeting_as leg.ends number leg.other leg.ends.role); ending = Unspoken } ∷ es) && not (armed leg.ends.role es)) ≡ true
-      arms =
-          ap (λ (b : Bool). cond b (nat_lt (acked leg.ends.role es) (letter_count (stream_after es))) (is_greeted (record e { came = Greeting (greeting_as leg.ends number leg.other leg.ends.role); ending = Unspoken } ∷ es)) && not (armed leg.ends.role es)) parts.0
-          ∙ ap (λ (b : Bool). b && not (armed leg.ends.role es)) greets
-          ∙ ap (λ (b : Bool). not (cond b (nat_lt (acked leg.ends.role es) (letter_count (stream_after es))) (is_greeted es))) closed
-          ∙ ap not ungreeted
+      arms = rw (closed, greets, ungreeted) refl
 
-pub greeted_of : {T E : Type 0} (r : Result T E) (leg mid : LegValue) (now number : ℕ) (old new : DeskValue) → IsLeg leg → IsWindow leg.window → leg.phase ≡ phase.Made → IsOwn leg.ends.role number
-    → mid ≡ greeted_as leg number now → OnOk r (new.packets ≡ with_segment old.packets now (greeting_of mid)) → OnErr r (BreaksOff now (greeting_of mid ∷ []) old new) → Greeted now number leg mid old new (is_err r)
-greeted_of r leg mid now number old new i w made own is all broken = record {
-  gets = subst (λ (l : LegValue). GetsSegments (is_err r) now (greeting_of l ∷ []) old new) is (gets_by r now (greeting_of mid) old new all broken);
+pub greeted_of : (failed : Bool) (leg mid : LegValue) (now number : ℕ) (old new : DeskValue) → IsLeg leg → IsWindow leg.window → leg.phase ≡ phase.Made → IsOwn leg.ends.role number
+    → mid ≡ greeted_as leg number now → GetsSegments failed now (greeting_of mid ∷ []) old new → Greeted now number leg mid old new failed
+greeted_of failed leg mid now number old new i w made own is gets = record {
+  gets = subst (λ (l : LegValue). GetsSegments failed now (greeting_of l ∷ []) old new) is gets;
   stands = λ m e es at h. subst (λ (l : LegValue). IsLegOf l m (record e { came = Greeting (greeting_by leg number); ending = Unspoken } ∷ es)) (sym is) (greeted_stands leg i w m now number e es made own at h);
 }
 

@@ -1,9 +1,10 @@
 -- A leg that heard a packet stands for the events with the packet.
-use Rattle.std.proofs.Common.{◌≡◌, ℕ, ◌+◌, ◌<◌, ◌≤◌, max, Bool, true, false, cond, not, ◌&&◌, ◌||◌, List, ◌∷◌, Option, Some, None, refl, sym, ◌∙◌, ap, subst, arith, ℤ, pos, negsuc, ◌+ℤ◌}
+use Rattle.std.proofs.Math.Bool.{or-false}
+use Rattle.std.proofs.Common.{◌≡◌, ℕ, ◌+◌, ◌<◌, ◌≤◌, max, Bool, true, false, cond, not, ◌&&◌, ◌||◌, List, ◌∷◌, Option, Some, None, refl, sym, ◌∙◌, ap, subst, arith, ℤ, pos, ◌+ℤ◌}
 use Rattle.std.specs.Prelude.{nat_lt, int_le, ◌≤ℤ◌}
 use Rattle.std.proofs.lemmas.Int.{ints}
 use Rattle.std.specs.Option.{option_or, is_some}
-use Rattle.std.proofs.lemmas.Bool.{true≢false, false≢true, ltb-true, ltb-false, and_parts}
+use Rattle.std.proofs.lemmas.Bool.{true≢false, false≢true, ltb-true, ltb-false, and_parts, or_left, or_parts}
 use Rattle.cf_outq.specs.SendQueue.{Queue}
 use Rattle.cf_packet.specs.Packet.{PacketValue}
 use Rattle.cf_rebuild.specs.ReceiveWindow.{Window}
@@ -11,26 +12,24 @@ use Rattle.cf_rebuild.specs.ReceiveWindow.{IsWindowOf}
 use Rattle.cf_stream.specs.FirstCopy.{Offer}
 use Rattle.cf_stream.specs.Position.{place_or_zero}
 use Rattle.cf_stream.specs.Stream.{letter_count}
-use Rattle.cf_leg.proofs.Clocked.{own_idle, peer_idle, mss_idle, greeted_idle, armed_idle, option_or_none, or_none, and_not}
+use Rattle.cf_leg.proofs.Clocked.{own_idle, peer_idle, mss_idle, greeted_idle, armed_idle}
 use Rattle.cf_leg.proofs.Counts.{counts_is}
-use Rattle.cf_leg.proofs.Events.{open_is_greeted, acked_grows, or_cases, opens_greeted}
+use Rattle.cf_leg.proofs.Events.{and_not, open_is_greeted, acked_grows, option_or_none, or_cases, opens_greeted, phase_is_open}
 use Rattle.cf_leg.proofs.Phases.{active_opened, open_opens_not, first_active}
-use Rattle.cf_leg.proofs.Spoken.{parts_told}
 use Rattle.cf_leg.specs.Calls.{Counts, Heard, end_state_of, is_greeted_phase, leg_opened, queue_opened, leg_counted, queue_counted, other_by, mss_by, edge_by, rises_by}
 use Rattle.cf_leg.specs.Emits.{peer_mss, send_mss, mss_in}
 use Rattle.cf_leg.specs.Event.{Nothing, Packet, Unspoken, LegEvent, moment, stream_after}
 use Rattle.cf_leg.specs.Heard.{opens_as, resets_as, counts_open, is_in_reach, is_at, opened, opens, end_state, answer_to, open_answer, first_answer, is_opening, counts, counts_as, counts_first, owes_for, acked, shown, offers, ack_place, text_place}
 use Rattle.cf_leg.specs.Segment.{has_ack, has_rst, has_syn, letters_in}
-use Rattle.cf_leg.specs.LegValue.{LegValue, Marks, IsLegOf, is_open, marks, phase_of, told_of}
+use Rattle.cf_leg.specs.LegValue.{LegValue, Marks, IsLegOf, is_open, marks, phase_of}
 use Rattle.cf_leg.specs.Timer.{armed, due, tries, rises, has_fired, backoff, second}
-use Rattle.cf_leg.specs.Told.{told, told_at, is_greeted, greeting, own_number, peer_number, syn_ack, syn_ack_in, seq_of}
+use Rattle.cf_leg.specs.Told.{told_at, is_greeted, greeting, own_number, peer_number, syn_ack, syn_ack_in, seq_of}
 use Rattle.cf_leg.specs.declared.ends.LegAnswer.{LegAnswer}
 use Rattle.cf_leg.specs.declared.ends.LegAnswer.TheVariants as answer
 use Rattle.cf_leg.specs.declared.ends.Phase.TheVariants as phase
 use Rattle.cf_leg.specs.declared.ends.EndState.{EndState}
 use Rattle.cf_leg.specs.declared.ends.Role.{Role}
 use Rattle.cf_leg.specs.declared.ends.Role.TheVariants as role
-use Rattle.cf_leg.specs.declared.ends.Advertised.{Advertised}
 
 -- ---- the place is that of the definitions
 pub phase_greeted : (o g : Bool) → (o ≡ true → g ≡ true) → is_greeted_phase (phase_of o g) ≡ g
@@ -38,14 +37,9 @@ phase_greeted true g h = sym (h refl)
 phase_greeted false true h = refl
 phase_greeted false false h = refl
 
-pub phase_is_open : (o g : Bool) → is_open (phase_of o g) ≡ o
-phase_is_open true g = refl
-phase_is_open false true = refl
-phase_is_open false false = refl
-
 module _ (leg : LegValue) (q : Queue) (e : LegEvent) (es : List LegEvent) (h : IsLegOf leg (marks q) (record e { came = Nothing; ending = Unspoken } ∷ es)) where
   phase_now : leg.phase ≡ phase_of (opened leg.ends.role es) (is_greeted es)
-  phase_now = h.of_phase ∙ ap (λ (b : Bool). phase_of b (is_greeted (record e { came = Nothing; ending = Unspoken } ∷ es))) (or_none (opened leg.ends.role es))
+  phase_now = h.of_phase ∙ ap (λ (b : Bool). phase_of b (is_greeted (record e { came = Nothing; ending = Unspoken } ∷ es))) (or-false (opened leg.ends.role es))
       ∙ ap (λ (b : Bool). phase_of (opened leg.ends.role es) b) (greeted_idle e.tick e.ticked e.fired es)
 
   greeted_now : is_greeted_phase leg.phase ≡ is_greeted es
@@ -61,14 +55,7 @@ module _ (leg : LegValue) (q : Queue) (e : LegEvent) (es : List LegEvent) (h : I
   other_now = h.of_other ∙ peer_idle e.tick e.ticked e.fired es leg.ends.role
 
   pub place_is : end_state_of leg q ≡ end_state leg.ends.role es e
-  place_is =
-      ap (λ (b : Bool). record { role = leg.ends.role; is_greeted = b; is_open = is_open leg.phase; own = leg.own; other = leg.other; told = told_of leg; sent = q.sent }) greeted_now
-      ∙ ap (λ (b : Bool). record { role = leg.ends.role; is_greeted = is_greeted es; is_open = b; own = leg.own; other = leg.other; told = told_of leg; sent = q.sent }) open_now
-      ∙ ap (λ (n : ℕ). record { role = leg.ends.role; is_greeted = is_greeted es; is_open = opened leg.ends.role es; own = n; other = leg.other; told = told_of leg; sent = q.sent }) own_now
-      ∙ ap (λ (n : ℕ). record { role = leg.ends.role; is_greeted = is_greeted es; is_open = opened leg.ends.role es; own = own_number leg.ends.role es; other = n; told = told_of leg; sent = q.sent }) other_now
-      ∙ ap (λ (t : Advertised). record { role = leg.ends.role; is_greeted = is_greeted es; is_open = opened leg.ends.role es; own = own_number leg.ends.role es; other = peer_number leg.ends.role es; told = t; sent = q.sent })
-      (parts_told leg.base leg.window.edge 0 0 (told leg.ends.role (record e { came = Nothing; ending = Unspoken } ∷ es)) h.of_base h.of_edge)
-      ∙ ap (λ (n : ℕ). record { role = leg.ends.role; is_greeted = is_greeted es; is_open = opened leg.ends.role es; own = own_number leg.ends.role es; other = peer_number leg.ends.role es; told = told_at leg.ends.role es e; sent = n }) h.of_sent
+  place_is = rw (greeted_now, open_now, own_now, other_now, h.of_base, h.of_edge, h.of_sent) refl
 
 -- ---- the numbers of the peer once a packet came
 module _ (e : LegEvent) (es : List LegEvent) (p : PacketValue) where
@@ -143,21 +130,6 @@ or_true : (b : Bool) → (b || true) ≡ true
 or_true true = refl
 or_true false = refl
 
-or_left : (a b : Bool) → (a || b) ≡ false → a ≡ false
-or_left true b h = absurd (true≢false h)
-or_left false b h = refl
-
-opened_on : (a b : Bool) → a ≡ true → (a || b) ≡ true
-opened_on true b h = refl
-opened_on false b h = absurd (false≢true h)
-
--- what a leg and its queue keep after a packet, part by part
-leg_phase : (b x : Bool) (leg : LegValue) (p : PacketValue) (w : Window) (a : ℕ) (ack : ℤ) (size now : ℕ) → (leg_counted x (leg_opened b leg p) w a ack size now).phase ≡ cond b phase.Open leg.phase
-leg_phase true true leg p w a ack size now = refl
-leg_phase true false leg p w a ack size now = refl
-leg_phase false true leg p w a ack size now = refl
-leg_phase false false leg p w a ack size now = refl
-
 -- ---- the step
 module _ (leg : LegValue) (q : Queue) (now : ℕ) (e : LegEvent) (es : List LegEvent) (p : PacketValue) (at : now ≡ moment e) (h : IsLegOf leg (marks q) (record e { came = Nothing; ending = Unspoken } ∷ es)) where
   unarmed : (armed leg.ends.role (record e { came = Packet p; ending = Unspoken } ∷ es) && not (armed leg.ends.role es)) ≡ false
@@ -166,7 +138,7 @@ module _ (leg : LegValue) (q : Queue) (now : ℕ) (e : LegEvent) (es : List LegE
       ∙ no_arming (opened leg.ends.role (record e { came = Packet p; ending = Unspoken } ∷ es)) (opened leg.ends.role es) (is_greeted es)
       (acked leg.ends.role (record e { came = Packet p; ending = Unspoken } ∷ es)) (acked leg.ends.role es) (letter_count (stream_after es))
       (acked_grows (end_state leg.ends.role es e) (Packet p) (acked leg.ends.role es))
-      (opened_on (opened leg.ends.role es) (opens (end_state leg.ends.role es e) (Packet p)))
+      (or_left (opened leg.ends.role es) (opens (end_state leg.ends.role es e) (Packet p)))
       (λ o c. opens_greeted (end_state leg.ends.role es e) (Packet p) c (or_cases (opened leg.ends.role es) (opens (end_state leg.ends.role es e) (Packet p)) o c))
 
   -- the deadline before the packet
@@ -182,14 +154,8 @@ module _ (leg : LegValue) (q : Queue) (now : ℕ) (e : LegEvent) (es : List LegE
       by : (x : Bool) → counts (end_state leg.ends.role es e) p ≡ x → (x ≡ true → s ≡ leg.shown)
           → cond x (cond (rises_by q.acked s (ack_place (end_state leg.ends.role es e) p) p.window) (now + second) leg.deadline) leg.deadline
           ≡ cond (counts (end_state leg.ends.role es e) p && rises leg.ends.role es (record e { came = Packet p; ending = Unspoken })) (moment e + second) (cond (has_fired e) (e.tick + backoff (tries leg.ends.role es + 1)) (due leg.ends.role es))
-      by false k m = deadline_before ∙ sym (ap (λ (b : Bool). cond (b && rises leg.ends.role es (record e { came = Packet p; ending = Unspoken })) (moment e + second) (cond (has_fired e) (e.tick + backoff (tries leg.ends.role es + 1)) (due leg.ends.role es))) k)
-      by true k m =
-          ap (λ (n : ℕ). cond (rises_by n s (ack_place (end_state leg.ends.role es e) p) p.window) (now + second) leg.deadline) h.of_acked
-          ∙ ap (λ (n : ℕ). cond (rises_by (acked leg.ends.role es) n (ack_place (end_state leg.ends.role es e) p) p.window) (now + second) leg.deadline) (m refl ∙ h.of_edge_shown)
-          ∙ ap (λ (n : ℕ). cond (rises_by (acked leg.ends.role es) (shown leg.ends.role es) (ack_place (end_state leg.ends.role es e) p) p.window) (n + second) leg.deadline) at
-          ∙ ap (λ (n : ℕ). cond (rises_by (acked leg.ends.role es) (shown leg.ends.role es) (ack_place (end_state leg.ends.role es e) p) p.window) (moment e + second) n) deadline_before
-          ∙ sym (ap (λ (b : Bool). cond (b && (nat_lt (acked leg.ends.role es) (cond b (max (acked leg.ends.role es) (place_or_zero (ack_place (end_state leg.ends.role es e) p))) (acked leg.ends.role es)) || nat_lt (shown leg.ends.role es) (cond b (max (shown leg.ends.role es) (place_or_zero (ack_place (end_state leg.ends.role es e) p +ℤ pos p.window))) (cond (is_opening (answer_to (end_state leg.ends.role es e) p)) (max (shown leg.ends.role es) p.window) (shown leg.ends.role es)))))
-          (moment e + second) (cond (has_fired e) (e.tick + backoff (tries leg.ends.role es + 1)) (due leg.ends.role es))) k)
+      by false k m = rw (deadline_before, k) refl
+      by true k m = rw (h.of_acked, m refl, h.of_edge_shown, at, deadline_before, k) refl
 
   module _ (b x : Bool) (kb : is_opening (answer_to (end_state leg.ends.role es e) p) ≡ b) (kx : counts (end_state leg.ends.role es e) p ≡ x) where
     passive : b ≡ true → x ≡ is_passive leg.ends.role
@@ -208,25 +174,20 @@ module _ (leg : LegValue) (q : Queue) (now : ℕ) (e : LegEvent) (es : List LegE
     shown_heard : cond x (max (cond b (edge_by leg.ends.role leg.shown p) leg.shown) (place_or_zero (ack_place (end_state leg.ends.role es e) p +ℤ pos p.window))) (cond b (edge_by leg.ends.role leg.shown p) leg.shown)
         ≡ shown leg.ends.role (record e { came = Packet p; ending = Unspoken } ∷ es)
     shown_heard = edge_heard leg.ends.role b x leg.shown p.window (place_or_zero (ack_place (end_state leg.ends.role es e) p +ℤ pos p.window)) passive p refl
-        ∙ ap (λ (n : ℕ). cond x (max n (place_or_zero (ack_place (end_state leg.ends.role es e) p +ℤ pos p.window))) (cond b (max n p.window) n)) h.of_edge_shown
-        ∙ ap (λ (c : Bool). cond x (max (shown leg.ends.role es) (place_or_zero (ack_place (end_state leg.ends.role es e) p +ℤ pos p.window))) (cond c (max (shown leg.ends.role es) p.window) (shown leg.ends.role es))) (sym kb)
-        ∙ ap (λ (c : Bool). cond c (max (shown leg.ends.role es) (place_or_zero (ack_place (end_state leg.ends.role es e) p +ℤ pos p.window))) (cond (is_opening (answer_to (end_state leg.ends.role es e) p)) (max (shown leg.ends.role es) p.window) (shown leg.ends.role es))) (sym kx)
+        ∙ rw (h.of_edge_shown, kb, kx) refl
 
     queue_shown_heard : cond x (max (cond b (edge_by leg.ends.role q.shown p) q.shown) (place_or_zero (ack_place (end_state leg.ends.role es e) p +ℤ pos p.window))) (cond b (edge_by leg.ends.role q.shown p) q.shown)
         ≡ shown leg.ends.role (record e { came = Packet p; ending = Unspoken } ∷ es)
     queue_shown_heard = ap (λ (n : ℕ). cond x (max (cond b (edge_by leg.ends.role n p) n) (place_or_zero (ack_place (end_state leg.ends.role es e) p +ℤ pos p.window))) (cond b (edge_by leg.ends.role n p) n)) (h.of_shown ∙ sym h.of_edge_shown) ∙ shown_heard
 
     acked_heard : cond x (max q.acked (place_or_zero (ack_place (end_state leg.ends.role es e) p))) q.acked ≡ acked leg.ends.role (record e { came = Packet p; ending = Unspoken } ∷ es)
-    acked_heard = ap (λ (n : ℕ). cond x (max n (place_or_zero (ack_place (end_state leg.ends.role es e) p))) n) h.of_acked
-        ∙ ap (λ (c : Bool). cond c (max (acked leg.ends.role es) (place_or_zero (ack_place (end_state leg.ends.role es e) p))) (acked leg.ends.role es)) (sym kx)
+    acked_heard = rw (h.of_acked, kx) refl
 
     fired_heard : cond (x || b) 0 leg.fired ≡ tries leg.ends.role (record e { came = Packet p; ending = Unspoken } ∷ es)
-    fired_heard = ap (λ (n : ℕ). cond (x || b) 0 n) h.of_fired
-        ∙ ap (λ (c : Bool). cond (c || b) 0 (cond (has_fired e) (tries leg.ends.role es + 1) (tries leg.ends.role es))) (sym kx)
-        ∙ ap (λ (c : Bool). cond (counts (end_state leg.ends.role es e) p || c) 0 (cond (has_fired e) (tries leg.ends.role es + 1) (tries leg.ends.role es))) (sym kb)
+    fired_heard = rw (h.of_fired, kx, kb) refl
 
     told_first : (o : opened leg.ends.role (record e { came = Packet p; ending = Unspoken } ∷ es) ≡ false) → opened leg.ends.role (record e { came = Nothing; ending = Unspoken } ∷ es) ≡ false
-    told_first o = or_none (opened leg.ends.role es) ∙ or_left (opened leg.ends.role es) (opens (end_state leg.ends.role es e) (Packet p)) o
+    told_first o = or-false (opened leg.ends.role es) ∙ (or_parts (opened leg.ends.role es) (opens (end_state leg.ends.role es e) (Packet p)) o).0
 
     -- the window
     window_heard : (w : Window) → (x ≡ true → (os : List Offer) → IsWindowOf leg.window os → IsWindowOf w (record { at = text_place (end_state leg.ends.role es e) p; text = letters_in p; edge = leg.window.edge } ∷ os))
@@ -404,10 +365,6 @@ counted_within at p k = by at.is_open k
 pub sent_of : (b : Bool) (r : Role) (q : Queue) (p : PacketValue) → (queue_opened b r q p).sent ≡ q.sent
 sent_of true r q p = refl
 sent_of false r q p = refl
-
-pub place_or_zero_below : (z : ℤ) (n : ℕ) → z ≤ℤ pos n → place_or_zero z ≤ n
-place_or_zero_below (pos m) n h = omega (arith, ints, h)
-place_or_zero_below (negsuc m) n h = omega arith
 
 pub cond_below : (b : Bool) (x y n : ℕ) → x < n → y < n → cond b x y < n
 cond_below true x y n h k = h

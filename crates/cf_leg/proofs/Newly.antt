@@ -1,10 +1,10 @@
 -- Which letters are taken by a packet.
+use Rattle.std.proofs.Math.Bool.{or-false}
 use Rattle.std.proofs.Common.{◌≡◌, ℕ, ◌≤◌, Bool, true, false, cond, ◌||◌, List, [], ◌∷◌, ◌++◌, length, drop, refl, sym, ap, ◌∙◌, subst, arith, ℤ}
 use Rattle.std.proofs.lemmas.List.{append-nil, append_cancel_left, drop-append-le}
 use Rattle.cf_packet.specs.Packet.{PacketValue}
 use Rattle.cf_outq.specs.SendQueue.{Queue}
 use Rattle.cf_rebuild.specs.ReceiveWindow.{Window, unread, IsWindowOf}
-use Rattle.cf_leg.proofs.Clocked.{or_none}
 use Rattle.cf_leg.specs.Calls.{Continues, Heard, Newly, leg_counted, leg_opened, with_letters}
 use Rattle.cf_leg.specs.Event.{Packet, Unspoken}
 use Rattle.cf_leg.specs.Heard.{counts, end_state, offers}
@@ -53,9 +53,6 @@ module _ (w v : Window) (os : List Offer) (b : Bool) (o : Offer) (t : Stream) (o
       let e : t.ended ≡ true = ap (λ (s : Stream). s.ended) (sym old_is) ∙ sym old.ended ∙ ended_ in
       subst (IsTaken (first_copy (cond b (o ∷ os) os))) (went.ended e ∙ same_stream t (with_letters t no_letters) (sym (append-nil t.bytes)) refl) new.is_taken
 
-  pub ended_is : w.ended ≡ t.ended
-  ended_is = old.ended ∙ ap (λ (s : Stream). s.ended) old_is
-
 pub newly_of : (now : ℕ) (p : PacketValue) (leg new : LegValue) (q q' : Queue) (given : LegAnswer) → Heard now p leg new q q' given → new.ends ≡ leg.ends → Continues leg.window new.window → Newly now p leg new q
 newly_of now p leg new q q' given h same c = by leg.window.ended refl
   where
@@ -63,7 +60,7 @@ newly_of now p leg new q q' given h same c = by leg.window.ended refl
     by true k = record {
       letters = no_letters;
       pending = ap (λ (s : Stream). s.bytes) (c.unread.ended k) ∙ sym (append-nil leg.window.pending);
-      ended = ap (λ (s : Stream). s.ended) (c.unread.ended k) ∙ sym (or_none leg.window.ended);
+      ended = ap (λ (s : Stream). s.ended) (c.unread.ended k) ∙ sym (or-false leg.window.ended);
       taken = λ e es t at s g.
           (let n = subst (λ (x : Ends). IsWindowOf new.window (offers x.role (record e { came = Packet p; ending = Unspoken } ∷ es))) same (h.stands e es at s).of_window in
           taken_still leg.window new.window (offers leg.ends.role es) (counts (end_state leg.ends.role es e) p) _ t s.of_window n c.consumed c.unread g k);

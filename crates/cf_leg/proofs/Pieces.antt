@@ -1,9 +1,9 @@
 -- Pieces of a queue, and the segments that carry them.
-use Rattle.std.proofs.Common.{◌≡◌, ℕ, ◌+◌, ◌-◌, ◌<◌, ◌≤◌, min, max, Bool, true, false, cond, not, ◌&&◌, List, [], ◌∷◌, ◌++◌, length, refl, sym, ◌∙◌, ap, arith, Option, Some, append_assoc, eq-eqb, lt-ltb, subst, drop, inl, inr, ℤ}
+use Rattle.std.proofs.Common.{◌≡◌, ℕ, ◌+◌, ◌-◌, ◌<◌, ◌≤◌, min, max, Bool, true, false, cond, not, ◌&&◌, List, [], ◌∷◌, ◌++◌, length, refl, sym, ◌∙◌, ap, arith, Some, append_assoc, eq-eqb, lt-ltb, subst, drop, ◌⊎◌, inl, inr, ℤ}
 use Rattle.std.specs.Prelude.{MatchBool, ◌==◌, nat_lt, ◌↔◌, IsTrue}
 use Rattle.std.proofs.lemmas.List.{append-nil, length-take, length-drop}
 use Rattle.std.proofs.lemmas.Bool.{cases_lt, true≢false, eqb-true, ltb-true, ltb-false}
-use Rattle.cf_outside.specs.Desk.{SentValue}
+use Rattle.cf_outside.specs.Desk.{DeskValue}
 use Rattle.cf_outq.specs.SendQueue.{Queue, IsPiece, IsAnswer, carried, piece_letters, queue_length}
 use Rattle.cf_outq.specs.SendQueue.{IsQueueOf}
 use Rattle.cf_outq.specs.declared.Piece.{Piece}
@@ -11,8 +11,10 @@ use Rattle.cf_packet.specs.Packet.{PacketValue}
 use Rattle.cf_stream.specs.Position.{place_or_zero, sequence_number}
 use Rattle.cf_stream.specs.Stream.{Stream, letter_count, no_letters}
 use Rattle.cf_leg.specs.Calls.{SaysTo, SendsPiece, SendsSome, SendsNew}
-use Rattle.cf_leg.specs.Emits.{Pieces, piece}
-use Rattle.cf_leg.specs.Emitted.{with_segment, with_segments}
+use Rattle.cf_leg.proofs.Broken.{all_or_first, gets_after}
+use Rattle.cf_leg.proofs.Saying.{all_pieces}
+use Rattle.cf_leg.specs.Emits.{Pieces, SaysIf, piece}
+use Rattle.cf_leg.specs.Emitted.{GetsSegments}
 use Rattle.cf_leg.specs.Segment.{segment}
 use Rattle.cf_leg.specs.declared.ends.Advertised.{Advertised}
 use Rattle.cf_leg.specs.declared.ends.Way.{Way}
@@ -27,10 +29,6 @@ same_end false a n m l h = by a (n == m) (nat_lt m l) refl refl refl
     by true false d e f g = refl
     by false c d e f g = refl
 
-with_segments-append : (told : Option (List SentValue)) (now : ℕ) (xs : List PacketValue) (p : PacketValue) → with_segments told now (xs ++ p ∷ []) ≡ with_segment (with_segments told now xs) now p
-with_segments-append told now [] p = refl
-with_segments-append told now (x ∷ xs) p = with_segments-append (with_segment told now x) now xs p
-
 -- a piece of a queue is that of the list that it stands for
 module _ (q : Queue) (whole : Stream) (h : IsQueueOf q whole) (mss from limit : ℕ) (p : Piece) (i : IsPiece q mss from limit p) where
   len_is : p.len ≡ min mss (min limit (length whole.bytes) - from)
@@ -41,9 +39,6 @@ module _ (q : Queue) (whole : Stream) (h : IsQueueOf q whole) (mss from limit : 
 
   pub piece_is : carried whole p ≡ piece whole mss limit from
   piece_is = rw (i.at, end_is, len_is) refl
-
-pub starts_none : (way : Way) (t : Advertised) (mss : ℕ) (q : Queue) (now : ℕ) (old : Option (List SentValue)) → SendsSome way t mss q q.sent now old old
-starts_none way t mss q now old = record { outs = []; packets = refl; none = λ e. refl; pieces = λ whole s more h. h }
 
 -- where there is a piece, a letter is left
 pub left_of : (q : Queue) (mss : ℕ) (p : Piece) → IsAnswer q mss q.sent q.shown (Some p) → q.sent < min q.shown (queue_length q)
@@ -68,15 +63,19 @@ module _ (q : Queue) (whole : Stream) (h : IsQueueOf q whole) (mss from limit : 
       let fits : p.len ≤ length (drop (place_or_zero p.at) whole.bytes) = rw i.at (simp length-drop (omega (arith, len_is q whole h mss from limit p i))) in
       ap (λ (u : Stream). letter_count u) (sym (piece_is q whole h mss from limit p i)) ∙ (ap (λ (n : ℕ). n + cond p.end 1 0) (length-take p.len (drop (place_or_zero p.at) whole.bytes) ∙ omega (arith, fits)))
 
-module _ (way : Way) (t : Advertised) (mss : ℕ) (q before after : Queue) (now : ℕ) (old mid new : Option (List SentValue)) (p : Piece)
-    (some : SendsSome way t mss q before.sent now old mid)
+module _ (way : Way) (t : Advertised) (mss : ℕ) (q before after : Queue) (now : ℕ) (old mid new : DeskValue) (failed : Bool) (p : Piece)
+    (some : SendsSome way t mss q before.sent now old.packets mid.packets)
+    (octets : mid.octets ≡ old.octets)
     (shown : before.shown ≡ q.shown)
     (low : q.sent ≤ before.sent)
     (letters : 0 < piece_letters p)
     (answer : IsAnswer before mss before.sent before.shown (Some p))
-    (one : SendsPiece way t after p now mid new)
+    (one : SendsPiece way t after p now mid new failed)
     (stands_before : (whole : Stream) → IsQueueOf q whole → IsQueueOf before whole)
     (stands_after : (whole : Stream) → IsQueueOf q whole → IsQueueOf after whole) where
+  abbrev outs : List PacketValue
+  outs = some.outs ++ segment way t (sequence_number way.own (place_or_zero p.at)) (record { bytes = one.text; ended = p.end }) ∷ []
+
   out_is : (whole : Stream) → IsQueueOf q whole
       → segment way t (sequence_number way.own (place_or_zero p.at)) (record { bytes = one.text; ended = p.end }) ≡ segment way t (sequence_number way.own before.sent) (piece whole mss q.shown before.sent)
   out_is whole s =
@@ -95,58 +94,80 @@ module _ (way : Way) (t : Advertised) (mss : ℕ) (q before after : Queue) (now 
       ]
 
   -- with it and what may follow it they are the pieces
-  pub goes_on : (whole : Stream) → IsQueueOf q whole → (more : List PacketValue) → Pieces way t whole mss q.shown (before.sent + piece_letters p) more
-      → Pieces way t whole mss q.shown q.sent ((some.outs ++ segment way t (sequence_number way.own (place_or_zero p.at)) (record { bytes = one.text; ended = p.end }) ∷ []) ++ more)
+  goes_on : (whole : Stream) → IsQueueOf q whole → (more : List PacketValue) → Pieces way t whole mss q.shown (before.sent + piece_letters p) more → Pieces way t whole mss q.shown q.sent (outs ++ more)
   goes_on whole s more rest =
       let count : letter_count (piece whole mss q.shown before.sent) ≡ piece_letters p = subst (λ (n : ℕ). letter_count (piece whole mss n before.sent) ≡ piece_letters p) shown (piece_count before whole (stands_before whole s) mss before.sent before.shown p answer.piece) in
       let rest' = subst (λ (n : ℕ). Pieces way t whole mss q.shown (before.sent + n) more) (sym count) rest in
-      subst (λ (ps : List PacketValue). Pieces way t whole mss q.shown q.sent ps) (sym (append_assoc some.outs (segment way t (sequence_number way.own (place_or_zero p.at)) (record { bytes = one.text; ended = p.end }) ∷ []) more))
-      (some.pieces whole s (segment way t (sequence_number way.own (place_or_zero p.at)) (record { bytes = one.text; ended = p.end }) ∷ more) (left whole s, out_is whole s, rest'))
+      let one_more = segment way t (sequence_number way.own (place_or_zero p.at)) (record { bytes = one.text; ended = p.end }) in
+      subst (λ (ps : List PacketValue). Pieces way t whole mss q.shown q.sent ps) (sym (append_assoc some.outs (one_more ∷ []) more))
+      (some.pieces whole s (one_more ∷ more) (left whole s, out_is whole s, rest'))
 
-  pub sends_one_more : SendsSome way t mss q (before.sent + piece_letters p) now old new
-  sends_one_more = record {
-    outs = some.outs ++ segment way t (sequence_number way.own (place_or_zero p.at)) (record { bytes = one.text; ended = p.end }) ∷ [];
-    packets = one.packets ∙ ap (λ (told : Option (List SentValue)). with_segment told now (segment way t (sequence_number way.own (place_or_zero p.at)) (record { bytes = one.text; ended = p.end }))) some.packets
-        ∙ sym (with_segments-append old now some.outs (segment way t (sequence_number way.own (place_or_zero p.at)) (record { bytes = one.text; ended = p.end })));
+  gets : GetsSegments failed now outs old new
+  gets = gets_after failed now some.outs (segment way t (sequence_number way.own (place_or_zero p.at)) (record { bytes = one.text; ended = p.end }) ∷ []) old mid new some.packets octets one.gets
+
+  pub sends_one_more : failed ≡ false → SendsSome way t mss q (before.sent + piece_letters p) now old.packets new.packets
+  sends_one_more f = record {
+    outs = outs;
+    packets = subst (λ (b : Bool). GetsSegments b now outs old new) f gets;
     none = λ e. absurd (omega (arith, e, low, letters));
     pieces = goes_on;
   }
 
-pub sends_all : (way : Way) (t : Advertised) (mss : ℕ) (q : Queue) (now sent : ℕ) (old new : Option (List SentValue)) → SendsSome way t mss q sent now old new
-    → min q.shown (queue_length q) ≤ sent → q.sent ≤ sent → sent ≤ max q.sent (min q.shown (queue_length q)) → SendsNew way t mss q now old new
+  pub sends_first : failed ≡ true → 0 < mss → q.sent < min q.shown (queue_length q) → SendsNew way t mss q now old new true
+  sends_first f some_mss below = record {
+    outs = outs;
+    gets = subst (λ (b : Bool). GetsSegments b now outs old new) f gets;
+    none = λ e. absurd (omega (arith, e, below));
+    pieces = λ whole s.
+        (let rest = all_pieces way t whole mss q.shown some_mss (min q.shown (letter_count whole)) (before.sent + piece_letters p) (omega arith) in
+        (rest.0, goes_on whole s rest.0 rest.1));
+  }
+
+pub sends_all : (way : Way) (t : Advertised) (mss : ℕ) (q : Queue) (now sent : ℕ) (old new : DeskValue) → SendsSome way t mss q sent now old.packets new.packets
+    → min q.shown (queue_length q) ≤ sent → q.sent ≤ sent → sent ≤ max q.sent (min q.shown (queue_length q)) → SendsNew way t mss q now old new false
 sends_all way t mss q now sent old new some none low high = record {
-  none = λ l. some.none (omega (arith, l, low, high));
+  none = λ l. (refl, some.none (omega (arith, l, low, high)));
   outs = some.outs;
-  packets = some.packets;
+  gets = some.packets;
   pieces = λ whole s. rw append-nil at (some.pieces whole s [] (rw (← s.pushed, ← s.ended) none));
 }
 
 pub count_is : (q : Queue) (whole : Stream) → IsQueueOf q whole → queue_length q ≡ letter_count whole
 count_is q whole s = ap (λ (n : ℕ). n + cond q.ended 1 0) s.pushed ∙ ap (λ (b : Bool). length whole.bytes + cond b 1 0) s.ended
 
--- what was said
-pub says_of : (way : Way) (t : Advertised) (mss : ℕ) (due : Bool) (q : Queue) (now : ℕ) (old mid new : Option (List SentValue)) (some : Bool)
-    → some ≡ nat_lt q.sent (min q.shown (queue_length q)) → SendsNew way t mss q now old mid
-    → new ≡ with_segments mid now (cond (due && not some) (segment way t (sequence_number way.own q.sent) no_letters ∷ []) [])
-    → SaysTo way t mss due q now old new
-says_of way t mss due q now old mid new true e sends is = record {
-  outs = sends.outs;
-  packets = is ∙ none due ∙ sends.packets;
-  says = λ whole s. subst (λ (b : Bool). MatchBool b (Pieces way t whole mss q.shown q.sent sends.outs) (sends.outs ≡ cond due (segment way t (sequence_number way.own q.sent) no_letters ∷ []) [])) (e ∙ ap (λ (n : ℕ). nat_lt q.sent (min q.shown n)) (count_is q whole s)) (sends.pieces whole s);
-}
-  where
-    none : (d : Bool) → with_segments mid now (cond (d && not true) (segment way t (sequence_number way.own q.sent) no_letters ∷ []) []) ≡ mid
-    none true = refl
-    none false = refl
-says_of way t mss due q now old mid new false e sends is = record {
-  outs = cond due (segment way t (sequence_number way.own q.sent) no_letters ∷ []) [];
-  packets = is ∙ same due ∙ ap (λ (told : Option (List SentValue)). with_segments told now (cond due (segment way t (sequence_number way.own q.sent) no_letters ∷ []) [])) before;
-  says = λ whole s. subst (λ (b : Bool). MatchBool b (Pieces way t whole mss q.shown q.sent (cond due (segment way t (sequence_number way.own q.sent) no_letters ∷ []) [])) (cond due (segment way t (sequence_number way.own q.sent) no_letters ∷ []) [] ≡ cond due (segment way t (sequence_number way.own q.sent) no_letters ∷ []) [])) (e ∙ ap (λ (n : ℕ). nat_lt q.sent (min q.shown n)) (count_is q whole s)) refl;
-}
-  where
-    same : (d : Bool) → with_segments mid now (cond (d && not false) (segment way t (sequence_number way.own q.sent) no_letters ∷ []) []) ≡ with_segments mid now (cond d (segment way t (sequence_number way.own q.sent) no_letters ∷ []) [])
-    same true = refl
-    same false = refl
+-- ---- what is said
+module _ (way : Way) (t : Advertised) (mss : ℕ) (due : Bool) (q : Queue) (now : ℕ) (old mid new : DeskValue) where
+  abbrev alone : List PacketValue
+  alone = segment way t (sequence_number way.own q.sent) no_letters ∷ []
 
-    before : mid ≡ old
-    before = sends.packets ∙ ap (λ (ps : List PacketValue). with_segments old now ps) (sends.none (ltb-false q.sent (min q.shown (queue_length q)) (sym e)))
+  says_if : (some : Bool) → some ≡ nat_lt q.sent (min q.shown (queue_length q)) → (whole : Stream) → IsQueueOf q whole → (outs : List PacketValue)
+      → MatchBool some (Pieces way t whole mss q.shown q.sent outs) (outs ≡ cond due alone []) → SaysIf way t due whole mss q.shown q.sent outs
+  says_if some e whole s outs = subst (λ (b : Bool). MatchBool b (Pieces way t whole mss q.shown q.sent outs) (outs ≡ cond due alone [])) (e ∙ ap (λ (n : ℕ). nat_lt q.sent (min q.shown n)) (count_is q whole s))
+
+  -- the pieces were broken off
+  pub says_first : SendsNew way t mss q now old new true → SaysTo way t mss due q now old new true
+  says_first h = record {
+    outs = h.outs;
+    gets = h.gets;
+    says = λ whole s. (let x = h.pieces whole s in (x.0, says_if true (sym (some (cases_lt q.sent (min q.shown (queue_length q))))) whole s (h.outs ++ x.0) x.1));
+  }
+    where
+      some : (q.sent < min q.shown (queue_length q)) ⊎ (min q.shown (queue_length q) ≤ q.sent) → nat_lt q.sent (min q.shown (queue_length q)) ≡ true
+      some (inl l) = lt-ltb q.sent (min q.shown (queue_length q)) l
+      some (inr g) = absurd (true≢false (h.none g).0)
+
+  -- after the pieces, or where there is none
+  pub says_of : (failed some : Bool) → some ≡ nat_lt q.sent (min q.shown (queue_length q)) → SendsNew way t mss q now old mid false → mid.octets ≡ old.octets
+      → GetsSegments failed now (cond (due && not some) alone []) mid new → SaysTo way t mss due q now old new failed
+  says_of failed some e sends octets h = record {
+    outs = sends.outs ++ cond (due && not some) alone [];
+    gets = gets_after failed now sends.outs (cond (due && not some) alone []) old mid new sends.gets octets h;
+    says = λ whole s. all_or_first failed (SaysIf way t due whole mss q.shown q.sent) _ (says_if some e whole s _ (by some due e whole s));
+  }
+    where
+      by : (b d : Bool) → b ≡ nat_lt q.sent (min q.shown (queue_length q)) → (whole : Stream) → IsQueueOf q whole
+          → MatchBool b (Pieces way t whole mss q.shown q.sent (sends.outs ++ cond (d && not b) alone [])) (sends.outs ++ cond (d && not b) alone [] ≡ cond d alone [])
+      by true true e whole s = subst (Pieces way t whole mss q.shown q.sent) (sym (append-nil sends.outs)) (sends.pieces whole s)
+      by true false e whole s = subst (Pieces way t whole mss q.shown q.sent) (sym (append-nil sends.outs)) (sends.pieces whole s)
+      by false true e whole s = ap (λ (ps : List PacketValue). ps ++ alone) (sends.none (ltb-false q.sent (min q.shown (queue_length q)) (sym e))).1
+      by false false e whole s = append-nil sends.outs ∙ (sends.none (ltb-false q.sent (min q.shown (queue_length q)) (sym e))).1

@@ -1,4 +1,5 @@
 -- Between two events of an open leg every letter that the peer lets in was sent.
+use Rattle.std.proofs.Math.Bool.{or-false}
 use Rattle.std.proofs.Common.{◌≡◌, min, max, ◌&&◌, ◌||◌, Bool, true, false, List, [], ◌∷◌, ◌++◌, refl, sym, ◌∙◌, ap, subst, arith}
 use Rattle.std.specs.Prelude.{MatchBool}
 use Rattle.std.proofs.lemmas.Bool.{false≢true}
@@ -15,10 +16,6 @@ use Rattle.cf_leg.specs.Heard.{opened, opens, end_state, shown, shown_by}
 use Rattle.cf_leg.specs.OneStream.{IsRightRun}
 use Rattle.cf_leg.specs.Told.{letters_sent, letters_sent_at, letters_sent_by_all, own_number}
 use Rattle.cf_leg.specs.declared.ends.Ends.{Ends}
-
-or_false : (b : Bool) → (b || false) ≡ true → b ≡ true
-or_false true e = refl
-or_false false e = e
 
 -- the letters sent are those of the queue's list below the greatest edge shown
 abbrev Goal : Ends → List LegEvent → Type 0
@@ -54,7 +51,7 @@ module _ (ends : Ends) (e : LegEvent) (es : List LegEvent) (whole : Stream) (r :
       let edge : shown ends.role (e ∷ es) ≡ shown ends.role es = ap (λ (c : Came). shown_by (end_state ends.role es e) c (shown ends.role es)) n in
       let stream : stream_after (e ∷ es) ≡ stream_after es = ap (λ x. stream_at x (stream_after es)) k in
       let opens_not : opened ends.role (e ∷ es) ≡ (opened ends.role es || false) = ap (λ (c : Came). opened ends.role es || opens (end_state ends.role es e) c) n in
-      let is_open : opened ends.role es ≡ true = or_false (opened ends.role es) (sym opens_not ∙ o) in
+      let is_open : opened ends.role es ≡ true = sym (or-false (opened ends.role es)) ∙ sym opens_not ∙ o in
       omega (arith, before is_open, still, same, edge, ap (λ (t : Stream). letter_count t) stream)
 
   by_came : e.ending ≡ Unspoken → (c : Came) → e.came ≡ c → is_idle c ≡ true → (opened ends.role es ≡ true → Goal ends es) → Goal ends (e ∷ es)

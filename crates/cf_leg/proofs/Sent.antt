@@ -1,13 +1,13 @@
 -- What the segments of one event carry, and how many letters have gone out after it.
+use Rattle.std.proofs.lemmas.Option.{none-some}
 use Rattle.std.proofs.Common.{◌≡◌, ℕ, suc, ◌+◌, ◌%◌, ◌^◌, ◌<◌, ◌≤◌, min, max, Bool, true, false, cond, ◌&&◌, List, [], ◌∷◌, ◌++◌, refl, sym, ◌∙◌, ap, subst, arith, ℤ, pos, negsuc, inl, inr, Option, Some, None, ◌+ℤ◌}
 use Rattle.std.specs.Prelude.{MatchBool, ◌==◌, nat_lt}
-use Rattle.std.specs.Option.{option_or}
 use Rattle.std.proofs.lemmas.Bool.{cases_Bool, ltb-true}
 use Rattle.cf_packet.specs.Packet.{PacketValue}
 use Rattle.cf_stream.specs.Position.{place_or_zero, position, sequence_number}
 use Rattle.cf_stream.specs.Stream.{Stream, Letter, Carries, Extends, letter_count, letter_from, no_letters}
-use Rattle.cf_leg.proofs.Carried.{at_inside, carries_none, carry_piece, carry_said, from_inside, none≢some, said_some, some_right}
-use Rattle.cf_leg.proofs.Clocked.{greeting_right}
+use Rattle.cf_leg.proofs.Carried.{at_inside, carries_none, carry_piece, carry_said, from_inside, said_some, some_right}
+use Rattle.cf_leg.proofs.Events.{greeting_right, option_or_none}
 use Rattle.cf_leg.proofs.Reach.{carried_after}
 use Rattle.cf_leg.proofs.Speech.{piece_short, position_behind, segment_letters, segment_stream}
 use Rattle.cf_leg.specs.Emits.{AllRight, EndsBy, Greets, IsGreeting, IsRight, SpeaksOpen, again, cut_packet, fired_at, peer_mss, piece, repeat_open, repeats, rst, send_mss, way_of}
@@ -46,12 +46,8 @@ no_letter_from : (z : ℤ) (q : ℕ) (l : Letter) → letter_from z no_letters q
 no_letter_from (pos a) q l e = (let i = from_inside a no_letters q l e in omega (arith, i.0, i.1))
 no_letter_from (negsuc a) q l e = (let i = at_inside no_letters (q + suc a) l e in omega (arith, i))
 
-option_or_none : (o : Option Letter) → option_or o None ≡ o
-option_or_none None = refl
-option_or_none (Some l) = refl
-
 repeats_none : (whole : Stream) (own sent : ℕ) → Repeats whole own sent []
-repeats_none whole own sent = record { carries = tt; same = refl; old = λ q l e. absurd (none≢some l e) }
+repeats_none whole own sent = record { carries = tt; same = refl; old = λ q l e. absurd (none-some l e) }
 
 repeats_empty : (whole : Stream) (own sent : ℕ) (p : PacketValue) → letters_in p ≡ no_letters → Repeats whole own sent (p ∷ [])
 repeats_empty whole own sent p h = record {

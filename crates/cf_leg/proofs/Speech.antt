@@ -114,6 +114,7 @@ module _ (way : Way) (t : Advertised) (whole : Stream) (mss edge : ℕ) (e : t.b
       let one : told_by way.other b p ≡ t = rw h.1 (told_segment way t (sequence_number way.own from) (piece whole mss edge from) b low high e) in
       rw one (told_again (from + letter_count (piece whole mss edge from)) ps h.2)
 
+module _ (way : Way) (t : Advertised) (whole : Stream) (mss edge : ℕ) where
   pub carried_pieces : (from : ℕ) (outs : List PacketValue) → Pieces way t whole mss edge from outs → letters_sent_by_all way.own from outs ≡ max from (min edge (letter_count whole))
   carried_pieces from [] h = omega (arith, h)
   carried_pieces from (p ∷ ps) h =

@@ -1,7 +1,7 @@
 -- A leg that spoke stands for the events with the speech.
-use Rattle.std.proofs.Common.{◌≡◌, ℕ, ◌+◌, ◌^◌, ◌<◌, ◌≤◌, min, max, Bool, true, false, cond, not, ◌&&◌, ◌||◌, List, [], ◌∷◌, ◌++◌, length, Option, refl, sym, ◌∙◌, ap, subst, arith, inl, inr}
+use Rattle.std.proofs.Common.{◌≡◌, ℕ, ◌+◌, ◌^◌, ◌<◌, ◌≤◌, min, max, Bool, true, false, cond, not, ◌&&◌, ◌||◌, List, [], ◌∷◌, ◌++◌, Option, refl, sym, ◌∙◌, ap, subst, arith, inl, inr}
 use Rattle.std.specs.Prelude.{MatchBool, nat_lt, ◌==◌}
-use Rattle.std.proofs.lemmas.Bool.{cases_Bool, true≢false, false≢true, eqb-true, ltb-true, ltb-false}
+use Rattle.std.proofs.lemmas.Bool.{cases_Bool, not-false, or_parts, true≢false, false≢true, eqb-true, ltb-true, ltb-false}
 use Rattle.cf_outq.specs.SendQueue.{Queue, queue_length}
 use Rattle.cf_outq.specs.SendQueue.{IsQueueOf}
 use Rattle.cf_packet.specs.Packet.{PacketValue}
@@ -12,12 +12,14 @@ use Rattle.cf_stream.specs.FirstCopy.{Offer}
 use Rattle.cf_leg.specs.Calls.{AddressBreaks, Addressed, SpeakingBreaks, Spoken, rearmed}
 use Rattle.cf_stream.specs.Position.{sequence_number}
 use Rattle.cf_stream.specs.Stream.{Stream, letter_count, no_letters}
-use Rattle.cf_leg.proofs.Events.{opens_greeted, or_cases, own_same, peer_same, mss_same, open_is_greeted, no_greeting, acked_grows}
+use Rattle.cf_leg.proofs.Reach.{carried_after}
+use Rattle.cf_leg.proofs.Events.{open_is, taken_is, opens_greeted, or_cases, own_same, peer_same, mss_same, open_is_greeted, no_greeting, acked_grows}
+use Rattle.cf_leg.proofs.Broken.{broken_before}
 use Rattle.cf_leg.proofs.Pieces.{count_is}
-use Rattle.cf_leg.proofs.Speech.{told_pieces, carried_pieces, told_segment, carried_segment}
-use Rattle.cf_leg.specs.Emits.{Pieces, SaysIf, Says, SpeaksOpen, differs, to_tell, way_of, send_mss, peer_mss}
+use Rattle.cf_leg.proofs.Speech.{told_pieces, told_segment}
+use Rattle.cf_leg.specs.Emits.{Pieces, SaysIf, SpeaksOpen, differs, to_tell, send_mss, peer_mss}
 use Rattle.cf_leg.specs.Event.{Unspoken, Spoke, LegEvent, moment, greeted_by, stream_after}
-use Rattle.cf_leg.specs.Heard.{opened, opens, end_state, counted, acked, shown, offers, owed}
+use Rattle.cf_leg.specs.Heard.{opened, opens, end_state, counted, acked, offers, owed}
 use Rattle.cf_leg.specs.Timer.{armed, due, tries, rises, has_fired, second, backoff}
 use Rattle.cf_leg.specs.Segment.{segment}
 use Rattle.cf_leg.specs.LegValue.{LegValue, IsLeg, IsLegOf, first_told, arms, is_open, marks, phase_of, told_of, way_at}
@@ -27,19 +29,11 @@ use Rattle.cf_leg.specs.declared.ends.Advertised.{Advertised}
 use Rattle.cf_leg.specs.declared.ends.Way.{Way}
 
 -- ---- where nothing differs, the same was told
-or_false : (a b : Bool) → (a || b) ≡ false → (a ≡ false) × (b ≡ false)
-or_false true b h = absurd (true≢false h)
-or_false false b h = (refl, h)
-
-not_false : (a : Bool) → not a ≡ false → a ≡ true
-not_false true h = refl
-not_false false h = absurd (true≢false h)
-
 pub same_told : (t u : Advertised) → differs t u ≡ false → t ≡ u
 same_told t u h =
-    let k = or_false (not (t.base == u.base)) (not (t.edge == u.edge)) h in
-    let base = eqb-true t.base u.base (not_false (t.base == u.base) k.0) in
-    let edge = eqb-true t.edge u.edge (not_false (t.edge == u.edge) k.1) in
+    let k = or_parts (not (t.base == u.base)) (not (t.edge == u.edge)) h in
+    let base = eqb-true t.base u.base (not-false (t.base == u.base) k.0) in
+    let edge = eqb-true t.edge u.edge (not-false (t.edge == u.edge) k.1) in
     ap (λ (n : ℕ). record { base = n; edge = t.edge }) base ∙ ap (λ (n : ℕ). record { base = u.base; edge = n }) edge
 
 -- ---- what was said, read again
@@ -50,26 +44,13 @@ module _ (way : Way) (b t : Advertised) (owes : Bool) (whole : Stream) (mss show
     where
       after : (d : Bool) → (owes || differs b t) ≡ d → told_by_all way.other b (cond d (segment way t (sequence_number way.own sent) no_letters ∷ []) []) ≡ t
       after true k = told_segment way t (sequence_number way.own sent) no_letters b low high e
-      after false k = same_told b t (or_false owes (differs b t) k).1
+      after false k = same_told b t (or_parts owes (differs b t) k).1
 
       by : (x : Bool) → nat_lt sent (min shown (letter_count whole)) ≡ x
           → MatchBool x (Pieces way t whole mss shown sent outs) (outs ≡ cond (owes || differs b t) (segment way t (sequence_number way.own sent) no_letters ∷ []) [])
           → told_by_all way.other b outs ≡ t
       by true k p = told_pieces way t whole mss shown e b sent outs low high (ltb-true sent (min shown (letter_count whole)) k) p
       by false k p = ap (λ (ps : List PacketValue). told_by_all way.other b ps) p ∙ after (owes || differs b t) refl
-
-  pub carried_said : SaysIf way t (owes || differs b t) whole mss shown sent outs → letters_sent_by_all way.own sent outs ≡ max sent (min shown (letter_count whole))
-  carried_said h = by (nat_lt sent (min shown (letter_count whole))) refl h
-    where
-      after : (d : Bool) → letters_sent_by_all way.own sent (cond d (segment way t (sequence_number way.own sent) no_letters ∷ []) []) ≡ sent
-      after true = carried_segment way t (sequence_number way.own sent) no_letters sent refl ∙ omega arith
-      after false = refl
-
-      by : (x : Bool) → nat_lt sent (min shown (letter_count whole)) ≡ x
-          → MatchBool x (Pieces way t whole mss shown sent outs) (outs ≡ cond (owes || differs b t) (segment way t (sequence_number way.own sent) no_letters ∷ []) [])
-          → letters_sent_by_all way.own sent outs ≡ max sent (min shown (letter_count whole))
-      by true k p = carried_pieces way t whole mss shown e sent outs p
-      by false k p = ap (λ (ps : List PacketValue). letters_sent_by_all way.own sent ps) p ∙ after (owes || differs b t) ∙ omega (arith, ltb-false sent (min shown (letter_count whole)) k)
 
 -- ---- what is to be told
 module _ (leg : LegValue) (i : IsLeg leg) (w : IsWindow leg.window) (roomy : Bool) where
@@ -143,13 +124,16 @@ module _ (leg : LegValue) (i : IsLeg leg) (w : IsWindow leg.window) (q : Queue) 
   due_is : (q' : Queue) → q'.acked ≡ q.acked → queue_length q' ≡ queue_length q
       → cond (arms leg.phase q' && not leg.running) (now + second) leg.deadline ≡ due leg.ends.role (record e { ending = Spoke whole roomy outs } ∷ es)
   due_is q' a l =
-      ap (λ (b : Bool). cond (b && not leg.running) (now + second) leg.deadline) (running_is q' a l)
-      ∙ ap (λ (b : Bool). cond (armed leg.ends.role (record e { ending = Spoke whole roomy outs } ∷ es) && not b) (now + second) leg.deadline) h.of_running
-      ∙ ap (λ (n : ℕ). cond (armed leg.ends.role (record e { ending = Spoke whole roomy outs } ∷ es) && not (armed leg.ends.role es)) (now + second) n) h.of_deadline
-      ∙ ap (λ (n : ℕ). cond (armed leg.ends.role (record e { ending = Spoke whole roomy outs } ∷ es) && not (armed leg.ends.role es)) (n + second) (due leg.ends.role (record e { ending = Unspoken } ∷ es))) at
-      ∙ deadline_is (armed leg.ends.role (record e { ending = Spoke whole roomy outs } ∷ es)) (armed leg.ends.role es) (armed leg.ends.role (record e { ending = Unspoken } ∷ es))
+      rw (running_is q' a l, h.of_running, h.of_deadline, at)
+      (deadline_is (armed leg.ends.role (record e { ending = Spoke whole roomy outs } ∷ es)) (armed leg.ends.role es) (armed leg.ends.role (record e { ending = Unspoken } ∷ es))
       (counted leg.ends.role es e && rises leg.ends.role es e) (moment e + second)
-      (cond (has_fired e) (e.tick + backoff (tries leg.ends.role es + 1)) (due leg.ends.role es)) still
+      (cond (has_fired e) (e.tick + backoff (tries leg.ends.role es + 1)) (due leg.ends.role es)) still)
+
+  own_is : leg.own ≡ own_number leg.ends.role (record e { ending = Spoke whole roomy outs } ∷ es)
+  own_is = h.of_own ∙ sym (own_same (record e { ending = Unspoken }) es (Spoke whole roomy outs) leg.ends.role)
+
+  other_is : leg.other ≡ peer_number leg.ends.role (record e { ending = Spoke whole roomy outs } ∷ es)
+  other_is = h.of_other ∙ sym (peer_same (record e { ending = Unspoken }) es (Spoke whole roomy outs) leg.ends.role)
 
   -- what was told and letters_sent before the speech
   quiet : opened leg.ends.role (record e { ending = Unspoken } ∷ es) ≡ true → greeted_by e.came ≡ []
@@ -165,23 +149,10 @@ module _ (leg : LegValue) (i : IsLeg leg) (w : IsWindow leg.window) (q : Queue) 
 
   -- and after it
   told_after : (n : Advertised) (o : opened leg.ends.role (record e { ending = Unspoken } ∷ es) ≡ true) → told_by_all leg.other (told_of leg) outs ≡ n → told leg.ends.role (record e { ending = Spoke whole roomy outs } ∷ es) ≡ n
-  told_after n o k =
-      ap (λ (ps : List PacketValue). told_by_all (peer_number leg.ends.role (record e { ending = Spoke whole roomy outs } ∷ es)) (told_at leg.ends.role es e) (ps ++ outs)) (quiet o)
-      ∙ ap (λ (x : ℕ). told_by_all x (told_at leg.ends.role es e) outs) (peer_same (record e { ending = Unspoken }) es (Spoke whole roomy outs) leg.ends.role ∙ sym h.of_other)
-      ∙ ap (λ (x : Advertised). told_by_all leg.other x outs) (sym (told_before o)) ∙ k
+  told_after n o k = rw (quiet o, ← other_is, ← told_before o) k
 
-  carried_after : (n : ℕ) (o : opened leg.ends.role (record e { ending = Unspoken } ∷ es) ≡ true) → letters_sent_by_all leg.own q.sent outs ≡ n → letters_sent leg.ends.role (record e { ending = Spoke whole roomy outs } ∷ es) ≡ n
-  carried_after n o k =
-      ap (λ (ps : List PacketValue). letters_sent_by_all (own_number leg.ends.role (record e { ending = Spoke whole roomy outs } ∷ es)) (letters_sent_at leg.ends.role es e) (ps ++ outs)) (quiet o)
-      ∙ ap (λ (x : ℕ). letters_sent_by_all x (letters_sent_at leg.ends.role es e) outs) (own_same (record e { ending = Unspoken }) es (Spoke whole roomy outs) leg.ends.role ∙ sym h.of_own)
-      ∙ ap (λ (x : ℕ). letters_sent_by_all leg.own x outs) (sym (carried_before o)) ∙ k
-
-  taken_is : letter_count h.of_window.taken ≡ base_of leg.window
-  taken_is = ap (λ (b : Bool). length h.of_window.taken.bytes + cond b 1 0) (sym h.of_window.ended) ∙ ap (λ (n : ℕ). n + cond leg.window.ended 1 0) (sym h.of_window.count)
-
-  way_is : way_at leg ≡ way_of leg.ends (record e { ending = Spoke whole roomy outs } ∷ es)
-  way_is = ap (λ (n : ℕ). record { source = leg.ends.own; dest = leg.ends.peer; own = n; other = leg.other }) (h.of_own ∙ sym (own_same (record e { ending = Unspoken }) es (Spoke whole roomy outs) leg.ends.role))
-      ∙ ap (λ (n : ℕ). record { source = leg.ends.own; dest = leg.ends.peer; own = own_number leg.ends.role (record e { ending = Spoke whole roomy outs } ∷ es); other = n }) (h.of_other ∙ sym (peer_same (record e { ending = Unspoken }) es (Spoke whole roomy outs) leg.ends.role))
+  sent_after : (n : ℕ) (o : opened leg.ends.role (record e { ending = Unspoken } ∷ es) ≡ true) → letters_sent_by_all leg.own q.sent outs ≡ n → letters_sent leg.ends.role (record e { ending = Spoke whole roomy outs } ∷ es) ≡ n
+  sent_after n o k = rw (quiet o, ← own_is, ← carried_before o) k
 
   mss_is : leg.mss ≡ send_mss (peer_mss leg.ends.role (record e { ending = Spoke whole roomy outs } ∷ es))
   mss_is = h.of_mss ∙ ap send_mss (sym (mss_same (record e { ending = Unspoken }) es (Spoke whole roomy outs) leg.ends.role))
@@ -195,8 +166,8 @@ module _ (leg : LegValue) (i : IsLeg leg) (w : IsWindow leg.window) (q : Queue) 
   spoke_as base window sent ending of_base of_edge of_first of_window of_sent = record {
     of_right = (record { over = h.of_right.0.over; fired = h.of_right.0.fired; came = h.of_right.0.came; ending = ending }, h.of_right.1);
     of_phase = h.of_phase;
-    of_own = h.of_own ∙ sym (own_same (record e { ending = Unspoken }) es (Spoke whole roomy outs) leg.ends.role);
-    of_other = h.of_other ∙ sym (peer_same (record e { ending = Unspoken }) es (Spoke whole roomy outs) leg.ends.role);
+    of_own = own_is;
+    of_other = other_is;
     of_mss = mss_is;
     of_base = of_base;
     of_edge = of_edge;
@@ -216,21 +187,13 @@ module _ (leg : LegValue) (i : IsLeg leg) (w : IsWindow leg.window) (q : Queue) 
   module _ (o : opened leg.ends.role (record e { ending = Unspoken } ∷ es) ≡ true)
       (says : SaysIf (way_at leg) (to_tell (told_of leg) (base_of leg.window) roomy) (leg.owes || differs (told_of leg) (to_tell (told_of leg) (base_of leg.window) roomy)) whole leg.mss q.shown q.sent outs)
       (window : IsWindowOf (record leg.window { edge = (to_tell (told_of leg) (base_of leg.window) roomy).edge }) (offers leg.ends.role (record e { ending = Unspoken } ∷ es))) where
-    tell_is : ◌≡◌ {A = Advertised} (to_tell (told_of leg) (base_of leg.window) roomy) (to_tell (told_at leg.ends.role es e) (letter_count h.of_window.taken) roomy)
-    tell_is = ap (λ (t : Advertised). to_tell t (base_of leg.window) roomy) (told_before o) ∙ ap (λ (n : ℕ). to_tell (told_at leg.ends.role es e) n roomy) (sym taken_is)
-
     speaks_open : SpeaksOpen leg.ends es (record e { ending = Spoke whole roomy outs }) whole roomy outs
     speaks_open = record {
       taken = h.of_window.taken;
       is_taken = h.of_window.is_taken;
       says =
-          subst (λ (v : Way). Says v (told_at leg.ends.role es e) (to_tell (told_at leg.ends.role es e) (letter_count h.of_window.taken) roomy) (owed leg.ends.role es e) whole (send_mss (peer_mss leg.ends.role (record e { ending = Spoke whole roomy outs } ∷ es))) (shown leg.ends.role (record e { ending = Spoke whole roomy outs } ∷ es)) (letters_sent_at leg.ends.role es e) outs) way_is
-          (subst (λ (n : ℕ). Says (way_at leg) (told_at leg.ends.role es e) (to_tell (told_at leg.ends.role es e) (letter_count h.of_window.taken) roomy) (owed leg.ends.role es e) whole n (shown leg.ends.role (record e { ending = Spoke whole roomy outs } ∷ es)) (letters_sent_at leg.ends.role es e) outs) mss_is
-          (subst (λ (n : ℕ). Says (way_at leg) (told_at leg.ends.role es e) (to_tell (told_at leg.ends.role es e) (letter_count h.of_window.taken) roomy) (owed leg.ends.role es e) whole leg.mss n (letters_sent_at leg.ends.role es e) outs) h.of_shown
-          (subst (λ (n : ℕ). Says (way_at leg) (told_at leg.ends.role es e) (to_tell (told_at leg.ends.role es e) (letter_count h.of_window.taken) roomy) (owed leg.ends.role es e) whole leg.mss q.shown n outs) (carried_before o)
-          (subst (λ (b : Bool). Says (way_at leg) (told_at leg.ends.role es e) (to_tell (told_at leg.ends.role es e) (letter_count h.of_window.taken) roomy) b whole leg.mss q.shown q.sent outs) h.of_owes
-          (subst (λ (t : Advertised). Says (way_at leg) (told_at leg.ends.role es e) t leg.owes whole leg.mss q.shown q.sent outs) tell_is
-          (subst (λ (t : Advertised). Says (way_at leg) t (to_tell (told_of leg) (base_of leg.window) roomy) leg.owes whole leg.mss q.shown q.sent outs) (told_before o) says))))));
+          (let owes : leg.owes ≡ owed leg.ends.role es e = h.of_owes in
+          rw (← owes, ← own_is, ← other_is, ← mss_is, ← h.of_shown, ← carried_before o, taken_is h, ← told_before o) says);
     }
 
     told_now : told leg.ends.role (record e { ending = Spoke whole roomy outs } ∷ es) ≡ to_tell (told_of leg) (base_of leg.window) roomy
@@ -238,8 +201,8 @@ module _ (leg : LegValue) (i : IsLeg leg) (w : IsWindow leg.window) (q : Queue) 
         (told_said (way_at leg) (told_of leg) (to_tell (told_of leg) (base_of leg.window) roomy) leg.owes whole leg.mss q.shown q.sent outs (tell_low leg i w roomy) (tell_high leg i w roomy) (tell_edge leg i w roomy) says)
 
     carried_now : letters_sent leg.ends.role (record e { ending = Spoke whole roomy outs } ∷ es) ≡ max q.sent (min q.shown (letter_count whole))
-    carried_now = carried_after (max q.sent (min q.shown (letter_count whole))) o
-        (carried_said (way_at leg) (told_of leg) (to_tell (told_of leg) (base_of leg.window) roomy) leg.owes whole leg.mss q.shown q.sent outs (tell_low leg i w roomy) (tell_high leg i w roomy) (tell_edge leg i w roomy) says)
+    carried_now = sent_after (max q.sent (min q.shown (letter_count whole))) o
+        (carried_after (way_at leg) (to_tell (told_of leg) (base_of leg.window) roomy) (leg.owes || differs (told_of leg) (to_tell (told_of leg) (base_of leg.window) roomy)) whole leg.mss q.shown q.sent outs says)
 
     pub spoke_open : IsLegOf
         (rearmed (record leg { base = base_of leg.window; window = record leg.window { edge = (to_tell (told_of leg) (base_of leg.window) roomy).edge }; owes = false }) (record q { sent = max q.sent (min q.shown (queue_length q)) }) now)
@@ -252,14 +215,10 @@ module _ (leg : LegValue) (i : IsLeg leg) (w : IsWindow leg.window) (q : Queue) 
   -- a leg that is not open says nothing
   module _ (o : opened leg.ends.role (record e { ending = Unspoken } ∷ es) ≡ false) (none : outs ≡ []) where
     told_still : told leg.ends.role (record e { ending = Spoke whole roomy outs } ∷ es) ≡ told leg.ends.role (record e { ending = Unspoken } ∷ es)
-    told_still =
-        ap (λ (ps : List PacketValue). told_by_all (peer_number leg.ends.role (record e { ending = Spoke whole roomy outs } ∷ es)) (told_at leg.ends.role es e) (greeted_by e.came ++ ps)) none
-        ∙ ap (λ (x : ℕ). told_by_all x (told_at leg.ends.role es e) (greeted_by e.came ++ [])) (peer_same (record e { ending = Unspoken }) es (Spoke whole roomy outs) leg.ends.role)
+    told_still = rw (peer_same (record e { ending = Unspoken }) es (Spoke whole roomy outs) leg.ends.role, none) refl
 
     carried_still : letters_sent leg.ends.role (record e { ending = Spoke whole roomy outs } ∷ es) ≡ letters_sent leg.ends.role (record e { ending = Unspoken } ∷ es)
-    carried_still =
-        ap (λ (ps : List PacketValue). letters_sent_by_all (own_number leg.ends.role (record e { ending = Spoke whole roomy outs } ∷ es)) (letters_sent_at leg.ends.role es e) (greeted_by e.came ++ ps)) none
-        ∙ ap (λ (x : ℕ). letters_sent_by_all x (letters_sent_at leg.ends.role es e) (greeted_by e.came ++ [])) (own_same (record e { ending = Unspoken }) es (Spoke whole roomy outs) leg.ends.role)
+    carried_still = rw (own_same (record e { ending = Unspoken }) es (Spoke whole roomy outs) leg.ends.role, none) refl
 
     pub spoke_closed : IsLegOf (rearmed leg q now) (marks q) (record e { ending = Spoke whole roomy outs } ∷ es)
     spoke_closed = spoke_as leg.base leg.window q.sent
@@ -271,15 +230,6 @@ module _ (leg : LegValue) (i : IsLeg leg) (w : IsWindow leg.window) (q : Queue) 
 window_opened : (v : Window) (edge : ℕ) (os : List Offer) → IsWindowOf v os → IsWindowOf (record v { edge = edge }) os
 window_opened v edge os x = record { taken = x.taken; is_taken = x.is_taken; ended = x.ended; count = x.count; pending = x.pending; ahead = x.ahead }
 
-phase_true : (o g : Bool) → is_open (phase_of o g) ≡ true → o ≡ true
-phase_true true g k = refl
-phase_true false true k = absurd (false≢true k)
-phase_true false false k = absurd (false≢true k)
-
-phase_false : (o g : Bool) → is_open (phase_of o g) ≡ false → o ≡ false
-phase_false true g k = absurd (true≢false k)
-phase_false false g k = refl
-
 pub spoken_of : (leg mid new : LegValue) (q q' : Queue) (roomy : Bool) (now : ℕ) (before after : Option (List SentValue))
     → IsLeg leg → IsWindow leg.window → Addressed roomy now leg mid q q' before after → new ≡ rearmed mid q' now → Spoken roomy now leg new q q' before after
 spoken_of leg mid new q q' roomy now before after i w a is = record {
@@ -287,13 +237,13 @@ spoken_of leg mid new q q' roomy now before after i w a is = record {
   packets = a.packets;
   stands = λ e es whole at h s.
       elim (cases_Bool (is_open leg.phase)) [
-        | inl o ↦ (let open_now : opened leg.ends.role (record e { ending = Unspoken } ∷ es) ≡ true = phase_true (opened leg.ends.role (record e { ending = Unspoken } ∷ es)) (is_greeted (record e { ending = Unspoken } ∷ es)) (sym (ap is_open h.of_phase) ∙ o) in
+        | inl o ↦ (let open_now : opened leg.ends.role (record e { ending = Unspoken } ∷ es) ≡ true = (sym (open_is h) ∙ o) in
             let is' : new ≡ rearmed (record leg { base = base_of leg.window; window = record leg.window { edge = (to_tell (told_of leg) (base_of leg.window) roomy).edge }; owes = false }) (record q { sent = max q.sent (min q.shown (queue_length q)) }) now =
             is ∙ ap (λ (l : LegValue). rearmed l q' now) (a.leg o) ∙ ap (λ (x : Queue). rearmed (record leg { base = base_of leg.window; window = record leg.window { edge = (to_tell (told_of leg) (base_of leg.window) roomy).edge }; owes = false }) x now) (a.sent o) in
             subst (λ (l : LegValue). IsLegOf l (marks q') (record e { ending = Spoke whole roomy a.outs } ∷ es)) (sym is')
             (subst (λ (x : Queue). IsLegOf (rearmed (record leg { base = base_of leg.window; window = record leg.window { edge = (to_tell (told_of leg) (base_of leg.window) roomy).edge }; owes = false }) (record q { sent = max q.sent (min q.shown (queue_length q)) }) now) (marks x) (record e { ending = Spoke whole roomy a.outs } ∷ es)) (sym (a.sent o))
             (spoke_open leg i w q roomy now e es whole a.outs at h s open_now (a.says o whole s) (window_opened leg.window (to_tell (told_of leg) (base_of leg.window) roomy).edge (offers leg.ends.role (record e { ending = Unspoken } ∷ es)) h.of_window))))
-        | inr o ↦ (let closed_now : opened leg.ends.role (record e { ending = Unspoken } ∷ es) ≡ false = phase_false (opened leg.ends.role (record e { ending = Unspoken } ∷ es)) (is_greeted (record e { ending = Unspoken } ∷ es)) (sym (ap is_open h.of_phase) ∙ o) in
+        | inr o ↦ (let closed_now : opened leg.ends.role (record e { ending = Unspoken } ∷ es) ≡ false = (sym (open_is h) ∙ o) in
             let is' : new ≡ rearmed leg q now = is ∙ ap (λ (l : LegValue). rearmed l q' now) (a.same o) ∙ ap (λ (x : Queue). rearmed leg x now) (a.kept o) in
             subst (λ (l : LegValue). IsLegOf l (marks q') (record e { ending = Spoke whole roomy a.outs } ∷ es)) (sym is')
             (subst (λ (x : Queue). IsLegOf (rearmed leg q now) (marks x) (record e { ending = Spoke whole roomy a.outs } ∷ es)) (sym (a.kept o))
@@ -305,10 +255,10 @@ spoken_of leg mid new q q' roomy now before after i w a is = record {
 pub speaking_breaks : (leg : LegValue) (q : Queue) (roomy : Bool) (now : ℕ) (before after : DeskValue) → IsLeg leg → IsWindow leg.window
     → AddressBreaks roomy now leg q before after → SpeakingBreaks roomy now leg q before after
 speaking_breaks leg q roomy now before after i w a e es whole at h s =
-    let open_now = phase_true (opened leg.ends.role (record e { ending = Unspoken } ∷ es)) (is_greeted (record e { ending = Unspoken } ∷ es)) (sym (ap is_open h.of_phase) ∙ a.is_open) in
-    let b = a.breaks whole s in
+    let open_now = (sym (open_is h) ∙ a.is_open) in
+    let said = a.says.says whole s in
     record {
-      outs = b.0;
-      right = (spoke_open leg i w q roomy now e es whole b.0 at h s open_now b.1.0 (window_opened leg.window (to_tell (told_of leg) (base_of leg.window) roomy).edge (offers leg.ends.role (record e { ending = Unspoken } ∷ es)) h.of_window)).of_right.0;
-      breaks = b.1.1;
+      outs = a.says.outs ++ said.0;
+      right = (spoke_open leg i w q roomy now e es whole (a.says.outs ++ said.0) at h s open_now said.1 (window_opened leg.window (to_tell (told_of leg) (base_of leg.window) roomy).edge (offers leg.ends.role (record e { ending = Unspoken } ∷ es)) h.of_window)).of_right.0;
+      breaks = broken_before now a.says.outs said.0 before after a.says.gets;
     }

@@ -1,4 +1,5 @@
 -- All segments of an end carry one stream.
+use Rattle.std.proofs.lemmas.Option.{none-some}
 use Rattle.std.proofs.Common.{◌≡◌, ℕ, ◌+◌, ◌^◌, ◌<◌, ◌≤◌, max, Bool, true, false, cond, List, [], ◌∷◌, length, refl, sym, ◌∙◌, ap, arith, pos, inl, inr, Option, Some, None, ◌+ℤ◌}
 use Rattle.std.specs.Option.{option_or}
 use Rattle.std.proofs.lemmas.Bool.{cases_lt, cases_Bool}
@@ -7,7 +8,7 @@ use Rattle.cf_packet.specs.Packet.{PacketValue}
 use Rattle.cf_stream.proofs.Extends.{extends_both}
 use Rattle.cf_stream.specs.Position.{place_or_zero}
 use Rattle.cf_stream.specs.Stream.{Stream, Letter, Extends, letter_at, letter_count}
-use Rattle.cf_leg.proofs.Carried.{none≢some, some_left, some_right}
+use Rattle.cf_leg.proofs.Carried.{some_left, some_right}
 use Rattle.cf_leg.proofs.Sent.{event_goes, fired_repeats}
 use Rattle.cf_leg.specs.Emits.{AllRight}
 use Rattle.cf_leg.specs.Event.{Came, Nothing, Greeting, Packet, LegEvent, sent_in, stream_after}
@@ -67,7 +68,7 @@ along ends (e ∷ es) whole a g x m =
 
 -- ---- what went out first is the stream's
 first_of : (whole : Stream) (own sent : ℕ) (ps : List PacketValue) (q : ℕ) (l : Letter) → CarryAll whole own sent ps → first_in own sent ps q ≡ Some l → letter_at whole q ≡ Some l
-first_of whole own sent [] q l c e = absurd (none≢some l e)
+first_of whole own sent [] q l c e = absurd (none-some l e)
 first_of whole own sent (p ∷ ps) q l c e = by (first_of whole own (letters_sent_by own sent p) ps q l c.1) (letter_in own sent p q) refl e
   where
     by : (first_in own (letters_sent_by own sent p) ps q ≡ Some l → letter_at whole q ≡ Some l) → (o : Option Letter) → letter_in own sent p q ≡ o

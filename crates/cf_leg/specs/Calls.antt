@@ -20,7 +20,7 @@ use Rattle.cf_leg.specs.declared.ends.LegAnswer.{LegAnswer}
 use Rattle.cf_leg.specs.declared.ends.Phase.{Phase}
 use Rattle.cf_leg.specs.declared.ends.Phase.TheVariants as phase
 use Rattle.cf_leg.specs.declared.ends.EndState.{EndState}
-use Rattle.cf_leg.specs.Emitted.{BreaksOff, GetsSegments, with_segment, with_segments}
+use Rattle.cf_leg.specs.Emitted.{AllOrFirst, BreaksOff, GetsSegments, with_segments}
 use Rattle.cf_leg.specs.Segment.{letters_in, segment}
 use Rattle.cf_leg.specs.declared.ends.ClockAnswer.{ClockAnswer}
 use Rattle.cf_leg.specs.declared.ends.ClockAnswer.TheVariants as answers
@@ -30,10 +30,10 @@ use Rattle.cf_leg.specs.declared.ends.Role.TheVariants as role
 use Rattle.cf_leg.specs.declared.ends.Advertised.{Advertised}
 use Rattle.cf_leg.specs.declared.ends.Way.{Way}
 
--- the letters of a piece went out in a segment
-pub record SendsPiece (way : Way) (t : Advertised) (queue : Queue) (piece : Piece) (now : ℕ) (old new : Option (List SentValue)) : Type 0 where
+-- the letters of a piece went out in a segment, or the desk failed amid it
+pub record SendsPiece (way : Way) (t : Advertised) (queue : Queue) (piece : Piece) (now : ℕ) (old new : DeskValue) (failed : Bool) : Type 0 where
   pub text : List ℕ
-  pub packets : new ≡ with_segment old now (segment way t (sequence_number way.own (place_or_zero piece.at)) (record { bytes = text; ended = piece.end }))
+  pub gets : GetsSegments failed now (segment way t (sequence_number way.own (place_or_zero piece.at)) (record { bytes = text; ended = piece.end }) ∷ []) old new
   pub carries : (whole : Stream) → IsQueueOf queue whole → text ≡ (carried whole piece).bytes
 
 -- some pieces went out, and so many letters were sent then
@@ -43,19 +43,19 @@ pub record SendsSome (way : Way) (t : Advertised) (mss : ℕ) (queue : Queue) (s
   pub none : sent ≡ queue.sent → outs ≡ []
   pub pieces : (whole : Stream) → IsQueueOf queue whole → (more : List PacketValue) → Pieces way t whole mss queue.shown sent more → Pieces way t whole mss queue.shown queue.sent (outs ++ more)
 
--- what was not sent and is let in went out in pieces
-pub record SendsNew (way : Way) (t : Advertised) (mss : ℕ) (queue : Queue) (now : ℕ) (old new : Option (List SentValue)) : Type 0 where
+-- what was not sent and is let in went out in pieces, or the desk failed amid them
+pub record SendsNew (way : Way) (t : Advertised) (mss : ℕ) (queue : Queue) (now : ℕ) (old new : DeskValue) (failed : Bool) : Type 0 where
   pub outs : List PacketValue
-  pub packets : new ≡ with_segments old now outs
-  pub none : min queue.shown (queue_length queue) ≤ queue.sent → outs ≡ []
-  pub pieces : (whole : Stream) → IsQueueOf queue whole → Pieces way t whole mss queue.shown queue.sent outs
+  pub gets : GetsSegments failed now outs old new
+  pub none : min queue.shown (queue_length queue) ≤ queue.sent → (failed ≡ false) × (outs ≡ [])
+  pub pieces : (whole : Stream) → IsQueueOf queue whole → AllOrFirst failed (Pieces way t whole mss queue.shown queue.sent) outs
 
 -- the peer of an open leg was told something, and got what it lets in: every new letter, or an acknowledgment if there is
--- none and one is due
-pub record SaysTo (way : Way) (t : Advertised) (mss : ℕ) (owes : Bool) (queue : Queue) (now : ℕ) (old new : Option (List SentValue)) : Type 0 where
+-- none and one is due; or the desk failed amid that
+pub record SaysTo (way : Way) (t : Advertised) (mss : ℕ) (owes : Bool) (queue : Queue) (now : ℕ) (old new : DeskValue) (failed : Bool) : Type 0 where
   pub outs : List PacketValue
-  pub packets : new ≡ with_segments old now outs
-  pub says : (whole : Stream) → IsQueueOf queue whole → SaysIf way t owes whole mss queue.shown queue.sent outs
+  pub gets : GetsSegments failed now outs old new
+  pub says : (whole : Stream) → IsQueueOf queue whole → AllOrFirst failed (SaysIf way t owes whole mss queue.shown queue.sent) outs
 
 -- the leg said what it has to say, if it is open
 pub record Addressed (roomy : Bool) (now : ℕ) (old new : LegValue) (queue queue' : Queue) (before after : Option (List SentValue)) : Type 0 where
@@ -291,27 +291,11 @@ pub record Widens (roomy : Bool) (old new : Window) : Type 0 where
 -- ---- calls that the desk broke off: each sent the first segments of a list that it may send, of which a beginning of the
 -- next one stands after them
 
--- the segment with the letters of a piece
-pub record PieceBreaks (way : Way) (t : Advertised) (queue : Queue) (piece : Piece) (now : ℕ) (before after : DeskValue) : Type 0 where
-  pub text : List ℕ
-  pub breaks : BreaksOff now (segment way t (sequence_number way.own (place_or_zero piece.at)) (record { bytes = text; ended = piece.end }) ∷ []) before after
-  pub carries : (whole : Stream) → IsQueueOf queue whole → text ≡ (carried whole piece).bytes
-
--- the pieces of what was not sent and is let in
-pub record NewBreaks (way : Way) (t : Advertised) (mss : ℕ) (queue : Queue) (now : ℕ) (before after : DeskValue) : Type 0 where
-  pub some : nat_lt queue.sent (min queue.shown (queue_length queue)) ≡ true
-  pub breaks : (whole : Stream) → IsQueueOf queue whole
-      → (outs : List PacketValue) × (Pieces way t whole mss queue.shown queue.sent outs × BreaksOff now outs before after)
-
 -- what an open leg says
-abbrev pub SayingBreaks : Way → Advertised → ℕ → Bool → Queue → ℕ → DeskValue → DeskValue → Type 0
-SayingBreaks way t mss due queue now before after = (whole : Stream) → IsQueueOf queue whole
-    → (outs : List PacketValue) × (SaysIf way t due whole mss queue.shown queue.sent outs × BreaksOff now outs before after)
-
 pub record AddressBreaks (roomy : Bool) (now : ℕ) (old : LegValue) (queue : Queue) (before after : DeskValue) : Type 0 where
   pub is_open : is_open old.phase ≡ true
-  pub breaks : SayingBreaks (way_at old) (to_tell (told_of old) (base_of old.window) roomy) old.mss
-      (old.owes || differs (told_of old) (to_tell (told_of old) (base_of old.window) roomy)) queue now before after
+  pub says : SaysTo (way_at old) (to_tell (told_of old) (base_of old.window) roomy) old.mss
+      (old.owes || differs (told_of old) (to_tell (told_of old) (base_of old.window) roomy)) queue now before after true
 
 -- the speech of an event
 pub record SpeechBreaks (roomy : Bool) (now : ℕ) (ends : Ends) (e : LegEvent) (es : List LegEvent) (whole : Stream) (before after : DeskValue) : Type 0 where

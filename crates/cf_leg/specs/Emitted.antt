@@ -29,6 +29,11 @@ pub record BreaksOff (moment : ℕ) (outs : List PacketValue) (old new : DeskVal
   pub packets : new.packets ≡ with_segments old.packets moment gone
   pub part : BeginsNext old.octets moment left new.packet_part
 
+-- these segments are all that may be said, or, where the desk failed, the first ones of it
+abbrev pub AllOrFirst : (failed : Bool) → (MaySay : List PacketValue → Type 0) → List PacketValue → Type 0
+AllOrFirst false MaySay outs = MaySay outs
+AllOrFirst true MaySay outs = (more : List PacketValue) × MaySay (outs ++ more)
+
 -- the desk got these segments: all of them, or, where it failed, a beginning
 abbrev pub GetsSegments : (failed : Bool) → (moment : ℕ) → List PacketValue → (old new : DeskValue) → Type 0
 GetsSegments false moment outs old new = new.packets ≡ with_segments old.packets moment outs

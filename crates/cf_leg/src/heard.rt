@@ -6,7 +6,7 @@ ghost use Rattle.cf_leg.specs.Heard.{ack_place, answer_to, counts_as, first_answ
 ghost use Rattle.cf_leg.specs.Segment.{has_ack, has_fin, has_rst, has_syn, letters_of};
 ghost use Rattle.cf_leg.specs.Told.{answers_syn};
 
-use crate::ends::{EndState, LegAnswer, Role, Advertised};
+use crate::ends::{Advertised, EndState, LegAnswer, Role};
 use cf_packet::{ACK, Packet, RST, SYN, sequence_number};
 
 pub(crate) fn has_fin(packet: &Packet<'_>) -> bool

@@ -13,7 +13,7 @@ mod cutting;
 mod opening;
 mod speaking;
 
-use crate::ends::{Ends, Phase, Role, Advertised, Way};
+use crate::ends::{Advertised, Ends, Phase, Role, Way};
 use crate::send::place_or_zero;
 use cf_outq::Outq;
 use cf_rebuild::Rebuild;

@@ -8,7 +8,7 @@ mod leg;
 mod runs;
 mod send;
 
-pub use ends::{ClockAnswer, EndState, Ends, LegAnswer, Phase, Role, Advertised, Way};
+pub use ends::{Advertised, ClockAnswer, EndState, Ends, LegAnswer, Phase, Role, Way};
 pub use laws::{
     active_legs_open_by_a_syn_ack, base_counts_the_taken, clocks_are_quiet_before_due,
     events_begin, open_legs_have_greeted, pieces_are_read, sends_are_fixed, speeches_reach,

@@ -10,9 +10,9 @@ ghost use Rattle.cf_packet.specs.Written.{IsWritable};
 ghost use Rattle.cf_stream.specs.Position.{place_or_zero, sequence_number};
 ghost use Rattle.cf_stream.specs.Stream.{Stream, no_letters};
 ghost use Rattle.cf_leg.specs.Emits.{piece};
-ghost use Rattle.cf_leg.specs.Emitted.{BreaksOff, spelled, with_segment, with_segments};
+ghost use Rattle.cf_leg.specs.Emitted.{GetsSegments, spelled};
 ghost use Rattle.cf_leg.specs.Segment.{flags_with, segment};
-ghost use Rattle.cf_leg.specs.Calls.{NewBreaks, PieceBreaks, SayingBreaks, SaysTo, SendsNew, SendsPiece};
+ghost use Rattle.cf_leg.specs.Calls.{SaysTo, SendsNew, SendsPiece};
 
 use crate::ends::{Advertised, Way};
 use arrayvec::ArrayVec;
@@ -27,8 +27,7 @@ pub(crate) fn send<D: Desk>(desk: &mut D, now: u64, packet: &Packet<'_>) -> Resu
     requires whole { DeskValue.whole (D.value desk.old) ≡ true }
     requires moment { now < 2 ^ 32 * 1000000 }
     requires writable { IsWritable (packet_value packet.now) }
-    ensures packets { OnOk result (DeskValue.packets (D.value desk.new) ≡ with_segment (DeskValue.packets (D.value desk.old)) now (packet_value packet.now)) }
-    ensures broken { OnErr result (BreaksOff now (packet_value packet.now ∷ []) (D.value desk.old) (D.value desk.new)) }
+    ensures gets { GetsSegments (is_err result) now (packet_value packet.now ∷ []) (D.value desk.old) (D.value desk.new) }
     ensures frame { OnlyEmits (D.value desk.old) (D.value desk.new) (is_err result) }
 {
     let mut octets = ArrayVec::new();
@@ -77,8 +76,7 @@ pub(crate) fn send_empty<D: Desk>(
     requires told { (told.base ≤ told.edge) × (told.edge - told.base < 65536) × (told.base ≤ 2 ^ 31) }
     requires whole { DeskValue.whole (D.value desk.old) ≡ true }
     requires moment { now < 2 ^ 32 * 1000000 }
-    ensures packets { OnOk result (DeskValue.packets (D.value desk.new) ≡ with_segment (DeskValue.packets (D.value desk.old)) now (segment way told number no_letters)) }
-    ensures broken { OnErr result (BreaksOff now (segment way told number no_letters ∷ []) (D.value desk.old) (D.value desk.new)) }
+    ensures gets { GetsSegments (is_err result) now (segment way told number no_letters ∷ []) (D.value desk.old) (D.value desk.new) }
     ensures frame { OnlyEmits (D.value desk.old) (D.value desk.new) (is_err result) }
 {
     send(desk, now, &segment(way, told, number, &[], false))
@@ -115,8 +113,7 @@ pub(crate) fn send_piece<D: Desk>(
     requires place { place_or_zero piece.at ≤ 2 ^ 31 }
     requires whole { DeskValue.whole (D.value desk.old) ≡ true }
     requires moment { now < 2 ^ 32 * 1000000 }
-    ensures packets { OnOk result (SendsPiece way told queue.now piece now (DeskValue.packets (D.value desk.old)) (DeskValue.packets (D.value desk.new))) }
-    ensures broken { OnErr result (PieceBreaks way told queue.now piece now (D.value desk.old) (D.value desk.new)) }
+    ensures sends { SendsPiece way told queue.now piece now (D.value desk.old) (D.value desk.new) (is_err result) }
     ensures frame { OnlyEmits (D.value desk.old) (D.value desk.new) (is_err result) }
 {
     let mut buffer = [0; 1460];
@@ -140,10 +137,10 @@ pub(crate) fn send_new<D: Desk>(
     requires whole { DeskValue.whole (D.value desk.old) ≡ true }
     requires moment { now < 2 ^ 32 * 1000000 }
     ensures some { IfOk result (λ some. some ≡ nat_lt queue.old.sent (min queue.old.shown (queue_length queue.old))) }
-    ensures pieces { OnOk result (SendsNew way told mss queue.old now (DeskValue.packets (D.value desk.old)) (DeskValue.packets (D.value desk.new))) }
+    ensures pieces { OnOk result (SendsNew way told mss queue.old now (D.value desk.old) (D.value desk.new) false) }
     ensures new { OnOk result (queue.new ≡ record queue.old { sent = max queue.old.sent (min queue.old.shown (queue_length queue.old)) }) }
     ensures stands { (whole : Stream) → IsQueueOf queue.old whole → IsQueueOf queue.new whole }
-    ensures broken { OnErr result (NewBreaks way told mss queue.old now (D.value desk.old) (D.value desk.new)) }
+    ensures broken { OnErr result (SendsNew way told mss queue.old now (D.value desk.old) (D.value desk.new) true) }
     ensures frame { OnlyEmits (D.value desk.old) (D.value desk.new) (is_err result) }
 {
     let mut some = false;
@@ -168,8 +165,7 @@ fn acknowledge<D: Desk>(
     requires told { (told.base ≤ told.edge) × (told.edge - told.base < 65536) × (told.base ≤ 2 ^ 31) }
     requires whole { DeskValue.whole (D.value desk.old) ≡ true }
     requires moment { now < 2 ^ 32 * 1000000 }
-    ensures packets { OnOk result (DeskValue.packets (D.value desk.new) ≡ with_segments (DeskValue.packets (D.value desk.old)) now (if is_due then segment way told number no_letters ∷ [] else [])) }
-    ensures broken { OnErr result ((is_due ≡ true) × BreaksOff now (segment way told number no_letters ∷ []) (D.value desk.old) (D.value desk.new)) }
+    ensures gets { GetsSegments (is_err result) now (if is_due then segment way told number no_letters ∷ [] else []) (D.value desk.old) (D.value desk.new) }
     ensures frame { OnlyEmits (D.value desk.old) (D.value desk.new) (is_err result) }
 {
     if is_due {
@@ -216,10 +212,10 @@ pub(crate) fn say<D: Desk>(
     requires mss { (0 < mss) × (mss ≤ 1460) }
     requires whole { DeskValue.whole (D.value desk.old) ≡ true }
     requires moment { now < 2 ^ 32 * 1000000 }
-    ensures says { OnOk result (SaysTo way told mss is_due queue.old now (DeskValue.packets (D.value desk.old)) (DeskValue.packets (D.value desk.new))) }
+    ensures says { OnOk result (SaysTo way told mss is_due queue.old now (D.value desk.old) (D.value desk.new) false) }
     ensures new { OnOk result (queue.new ≡ record queue.old { sent = max queue.old.sent (min queue.old.shown (queue_length queue.old)) }) }
     ensures stands { (whole : Stream) → IsQueueOf queue.old whole → IsQueueOf queue.new whole }
-    ensures broken { OnErr result (SayingBreaks way told mss is_due queue.old now (D.value desk.old) (D.value desk.new)) }
+    ensures broken { OnErr result (SaysTo way told mss is_due queue.old now (D.value desk.old) (D.value desk.new) true) }
     ensures frame { OnlyEmits (D.value desk.old) (D.value desk.new) (is_err result) }
 {
     let number = next_number(way.own, queue);

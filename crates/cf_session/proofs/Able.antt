@@ -11,7 +11,7 @@ use Rattle.cf_leg.specs.Told.{is_greeted, letters_sent_at, told_at}
 use Rattle.cf_leg.specs.declared.Ends.{Ends}
 use Rattle.cf_leg.specs.declared.Role.{Role}
 use Rattle.cf_leg.specs.declared.Role.TheVariants as role
-use Rattle.cf_leg.specs.declared.Told.{Told}
+use Rattle.cf_leg.specs.declared.Advertised.{Advertised}
 use Rattle.cf_leg.specs.declared.Way.{Way}
 use Rattle.cf_outq.specs.SendQueue.{Queue}
 use Rattle.cf_packet.specs.Packet.{PacketValue}
@@ -65,7 +65,7 @@ hello_taken f r (Some n) e es taken may is = subst (λ (x : Came). IsTaken (firs
 
 -- ---- a speech
 
-module _ (way : Way) (t : Told) (due : Bool) (whole : Stream) (mss edge from : ℕ) (some : 0 < mss) where
+module _ (way : Way) (t : Advertised) (due : Bool) (whole : Stream) (mss edge from : ℕ) (some : 0 < mss) where
   says_by : (b : Bool) → (outs : List PacketValue) × MatchBool b (Pieces way t whole mss edge from outs) (outs ≡ cond due (segment way t (sequence_number way.own from) no_letters ∷ []) [])
   says_by true = all_pieces way t whole mss edge some (min edge (letter_count whole)) from (omega arith)
   says_by false = (_, refl)

@@ -1,10 +1,11 @@
 -- The second half of an event of a session, from what its steps did.
+use Rattle.cf_session.proofs.Events.{not_first}
 use Rattle.std.proofs.Common.{◌≡◌, ℕ, Bool, true, false, cond, ◌&&◌, ◌||◌, List, [], ◌∷◌, ◌++◌, length, drop, Option, Some, None, refl, sym, ap, ◌∙◌}
 use Rattle.std.specs.Option.{is_some, option_or}
 use Rattle.std.proofs.Math.Bool.{or-false}
 use Rattle.std.proofs.Math.Seq.{drop-append_seam}
 use Rattle.cf_audit.specs.declared.CutReason.{CutReason}
-use Rattle.cf_leg.specs.Event.{Came, Ending, Greeting, LegEvent, Nothing, Packet, Spoke, Unspoken, greeted_by, is_idle}
+use Rattle.cf_leg.specs.Event.{Came, Ending, Greeting, LegEvent, Nothing, Spoke, Unspoken, greeted_by, is_idle}
 use Rattle.cf_leg.specs.Heard.{answer_to, end_state, is_opening, opened, opening}
 use Rattle.cf_leg.specs.Emits.{syn_ack_for}
 use Rattle.cf_leg.specs.Told.{greeting, greeting_in, is_greeted}
@@ -129,11 +130,6 @@ rsts_are t s p a b =
     ∙ ap (λ xs. (a ∷ []) ++ (xs ++ b ∷ [])) (first_said s p)
 
 -- ---- lines
-
-not_first : (c : Came) (p : PacketValue) → c ≡ Nothing → c ≡ Greeting p → ⊥
-not_first Nothing p a b = cc
-not_first (Greeting q) p a b = cc
-not_first (Packet q) p a b = cc
 
 -- an event with a packet is not the first
 pub later_line : (f : Flow) (limit : ℕ) (es : List SessionEvent) (t e : SessionEvent) → AreEvents f limit (t ∷ es) → IsTick f es t.client.tick t → first_line f es e ≡ []

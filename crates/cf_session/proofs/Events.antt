@@ -24,7 +24,7 @@ pub before_history : (es : List SessionEvent) (t : SessionEvent) → t.fed ≡ [
 before_history es t e = ap (λ x. history es ++ x) e ∙ append-nil (history es)
 
 -- a beginning is no tick
-not_first : (c : Came) (p : PacketValue) → c ≡ Nothing → c ≡ Greeting p → ⊥
+pub not_first : (c : Came) (p : PacketValue) → c ≡ Nothing → c ≡ Greeting p → ⊥
 not_first Nothing p a b = cc
 not_first (Greeting q) p a b = cc
 not_first (Packet q) p a b = cc

@@ -1,4 +1,5 @@
 -- The letters that an event takes newly, in the history of a session.
+use Rattle.std.proofs.Math.Bool.{or-false}
 use Rattle.std.proofs.Common.{◌≡◌, ℕ, ◌==◌, ◌&&◌, ◌||◌, inl, inr, append_assoc, arith, Bool, true, false, List, [], ◌∷◌, ◌++◌, cond, refl, sym, ap, ◌∙◌}
 use Rattle.std.proofs.lemmas.Bool.{cases_Bool}
 use Rattle.std.proofs.lemmas.List.{append-nil, append_cancel_left}
@@ -33,16 +34,12 @@ fed_bytes now s (b ∷ bytes) ended =
     let some : (letter_count (record { bytes = b ∷ bytes; ended = ended }) == 0) ≡ false = grind arith in
     rw (some, own_side s) (append-nil (b ∷ bytes))
 
-or_false : (b : Bool) → (b || false) ≡ b
-or_false true = refl
-or_false false = refl
-
 pub fed_ended : (now : ℕ) (s : Side) (bytes : List ℕ) (ended : Bool) → ended_of s (fed_at now s (record { bytes = bytes; ended = ended })) ≡ ended
 fed_ended now s [] true = rw (own_side s) refl
 fed_ended now s [] false = refl
 fed_ended now s (b ∷ bytes) ended =
     let some : (letter_count (record { bytes = b ∷ bytes; ended = ended }) == 0) ≡ false = grind arith in
-    rw (some, own_side s) (or_false ended)
+    rw (some, own_side s) (or-false ended)
 
 module _ (now : ℕ) (s : Side) (earlier : List Element) (l m : Stream) where
   letters_fixed : ended_of s earlier ≡ false → taken s (earlier ++ fed_at now s l) ≡ taken s (earlier ++ fed_at now s m) → fed_at now s l ≡ fed_at now s m
@@ -87,16 +84,12 @@ other_ended : (now : ℕ) (s : Side) (l : Stream) → ended_of (other s) (fed_at
 other_ended now side.Client l = elim (letter_count l == 0) as (λ b. ended_of side.Controller (cond b [] (record { moment = now; side = side.Client; letters = l } ∷ [])) ≡ false) [ true ↦ refl | false ↦ refl ]
 other_ended now side.Controller l = elim (letter_count l == 0) as (λ b. ended_of side.Client (cond b [] (record { moment = now; side = side.Controller; letters = l } ∷ [])) ≡ false) [ true ↦ refl | false ↦ refl ]
 
-or_no : (b : Bool) → (b || false) ≡ b
-or_no true = refl
-or_no false = refl
-
 pub taken_other : (now : ℕ) (s : Side) (h : List Element) (l : Stream) → taken (other s) (h ++ fed_at now s l) ≡ taken (other s) h
 taken_other now s h l =
     let P : Element → Bool = λ e. is_side (other s) e.side && e.letters.ended in
     same_stream (taken (other s) (h ++ fed_at now s l)) (taken (other s) h)
     (bytes_of-append (other s) h (fed_at now s l) ∙ ap (λ xs. bytes_of (other s) h ++ xs) (other_bytes now s l) ∙ append-nil (bytes_of (other s) h))
-    (list_any-append P h (fed_at now s l) ∙ ap (λ b. ended_of (other s) h || b) (other_ended now s l) ∙ or_no (ended_of (other s) h))
+    (list_any-append P h (fed_at now s l) ∙ ap (λ b. ended_of (other s) h || b) (other_ended now s l) ∙ or-false (ended_of (other s) h))
 
 pub nothing_fed : (now : ℕ) (s : Side) (l : Stream) → letter_count l ≡ 0 → fed_at now s l ≡ []
 nothing_fed now s l e = rw e refl

@@ -1,17 +1,16 @@
 -- The second half of an event of a session, whole.
-use Rattle.std.proofs.Common.{◌≡◌, ℕ, ◌+◌, Bool, false, not, cond, ◌&&◌, List, [], ◌∷◌, ◌++◌, length, drop, inl, inr, Option, Some, None, refl, sym, ap, ◌∙◌, subst}
+use Rattle.std.proofs.Common.{◌≡◌, ℕ, ◌+◌, Bool, false, cond, ◌&&◌, List, [], ◌∷◌, ◌++◌, length, drop, inl, inr, Option, Some, None, refl, sym, ap, ◌∙◌, subst}
 use Rattle.std.specs.Option.{is_some, option_or}
 use Rattle.std.proofs.lemmas.List.{append-nil}
-use Rattle.cf_audit.specs.Line.{Close, Cut as CutLine}
+use Rattle.cf_audit.specs.Line.{Cut as CutLine}
 use Rattle.cf_audit.specs.declared.CutReason.{CutReason}
 use Rattle.cf_lane.specs.Handled.{LaneValue}
-use Rattle.cf_lane.specs.Log.{line_about}
 use Rattle.cf_leg.specs.Event.{Came, Cut, LegEvent, Spoke, greeted_by, is_idle, moment}
 use Rattle.cf_leg.specs.Heard.{offers, opened}
 use Rattle.cf_leg.specs.Told.{is_greeted}
 use Rattle.cf_leg.specs.LegValue.{IsLegOf, LegValue, Marks}
 use Rattle.cf_leg.specs.declared.LegAnswer.{LegAnswer}
-use Rattle.cf_outq.specs.SendQueue.{IsQueueOf, Queue}
+use Rattle.cf_outq.specs.SendQueue.{IsQueueOf}
 use Rattle.cf_outside.specs.Desk.{DeskValue}
 use Rattle.cf_packet.specs.Packet.{PacketValue}
 use Rattle.cf_policy.specs.declared.Asset.{Asset}
@@ -33,7 +32,7 @@ use Rattle.cf_session.specs.Sent.{at, first_line, last_line, late, line, new_lin
 use Rattle.cf_session.specs.Session.{Flow, SessionEvent, client_ends, client_of, clients, closed_at, controller_ends, controllers, has_room, history, is_closed, was_closed, work_of}
 use Rattle.cf_session.specs.Stands.{CountsAs, Hears, HearsBy, IsSessionOf, life_by}
 use Rattle.cf_session.specs.Told.{Told, with_both}
-use Rattle.cf_session.specs.Turn.{RightCuts, HeardBy, IsHalf, MayGreet, MaySpeak, OnlySpeaks, SaysAmid, SaysBoth, came_first, came_greeted, closing_lines, greetings, heard_half, is_acknowledged, is_done_now, number_by, roomy_by}
+use Rattle.cf_session.specs.Turn.{RightCuts, HeardBy, IsHalf, MayGreet, MaySpeak, OnlySpeaks, SaysAmid, SaysBoth, came_first, came_greeted, closing_lines, greetings, heard_half, is_done_now, number_by, roomy_by}
 use Rattle.cf_session.specs.Work.{Work, Works}
 
 abbrev pub BaseCounts : Type 0
@@ -196,11 +195,7 @@ module _ {f : Flow} {es : List SessionEvent} {t : SessionEvent} {s0 : SessionVal
     -- ---- closing
 
     done_same : is_done_now s2 ≡ is_done_now s1
-    done_same =
-        ap (λ (w : Window). (w.ended && s2.controller.window.ended) && (is_acknowledged s2.to_client && is_acknowledged s2.to_controller)) only.client_window
-        ∙ ap (λ (w : Window). (s1.client.window.ended && w.ended) && (is_acknowledged s2.to_client && is_acknowledged s2.to_controller)) only.controller_window
-        ∙ ap (λ (q : Queue). (s1.client.window.ended && s1.controller.window.ended) && (is_acknowledged q && is_acknowledged s2.to_controller)) only.to_client
-        ∙ ap (λ (q : Queue). (s1.client.window.ended && s1.controller.window.ended) && (is_acknowledged s1.to_client && is_acknowledged q)) only.to_controller
+    done_same = rw (only.client_window, only.controller_window, only.to_client, only.to_controller) refl
 
     done_closed : is_done_now s2 ≡ is_closed f (live_event ∷ es)
     done_closed = done_same ∙ done_is f es t s p s1 given cut t0 t1 h None number fits (Spoke h.work.to_controller roomy says.outs_c) (Spoke h.work.to_client roomy says.outs_d)
@@ -209,10 +204,7 @@ module _ {f : Flow} {es : List SessionEvent} {t : SessionEvent} {s0 : SessionVal
     closed_two = ap (λ (x : SessionValue). x.closed) only.rest ∙ closed_before
 
     pub closed_three : s3.closed ≡ closed_at f (live_event ∷ es)
-    closed_three =
-        closing ∙ ap (λ o. option_or o (cond (is_done_now s2) (Some now) None)) closed_two
-        ∙ ap (λ b. option_or (closed_at f es) (cond b (Some now) None)) done_closed
-        ∙ ap (λ n. option_or (closed_at f es) (cond (is_closed f (live_event ∷ es)) (Some n) None)) (sym is_now)
+    closed_three = rw (closing, closed_two, done_closed, is_now) refl
 
     source_two : s2.source ≡ client_of f
     source_two = ap (λ (x : SessionValue). x.source) only.rest ∙ same.1 ∙ stands.source
@@ -222,15 +214,11 @@ module _ {f : Flow} {es : List SessionEvent} {t : SessionEvent} {s0 : SessionVal
 
     pub close_line : closing_lines asset s2 now ≡ last_line f es live_event None
     close_line =
-        ap (λ b. cond (b && not (is_some s2.closed)) (line_about asset s2.source now (Close s2.lane.admitted s2.lane.refused) ∷ []) []) done_closed
-        ∙ ap (λ o. cond (is_closed f (live_event ∷ es) && not (is_some o)) (line_about asset s2.source now (Close s2.lane.admitted s2.lane.refused) ∷ []) []) closed_two
-        ∙ ap (λ l. cond (is_closed f (live_event ∷ es) && not (was_closed f es)) (l ∷ []) [])
-        (ap (λ (a : Asset). line_about a s2.source now (Close s2.lane.admitted s2.lane.refused)) (sym is)
-        ∙ ap (λ (e : Endpoint). line_about f.asset e now (Close s2.lane.admitted s2.lane.refused)) source_two
-        ∙ ap (λ n. line_about f.asset (client_of f) n (Close s2.lane.admitted s2.lane.refused)) (sym is_now)
-        ∙ ap (λ (l : LaneValue). line_about f.asset (client_of f) (moment t.client) (Close l.admitted l.refused)) lane_two
-        ∙ ap (λ n. line_about f.asset (client_of f) (moment t.client) (Close n s1.lane.refused)) (admitted_is f.asset (client_of f) s1.lane _ _ h.work s1.to_client s1.to_controller h.parts.lane h.parts.to_client h.parts.to_controller)
-        ∙ ap (λ n. line_about f.asset (client_of f) (moment t.client) (Close h.work.admitted n)) (refused_is f.asset (client_of f) s1.lane _ _ h.work s1.to_client s1.to_controller h.parts.lane h.parts.to_client h.parts.to_controller))
+        rw (
+          done_closed, closed_two, ← is, source_two, ← is_now, lane_two,
+          admitted_is f.asset (client_of f) s1.lane _ _ h.work s1.to_client s1.to_controller h.parts.lane h.parts.to_client h.parts.to_controller,
+          refused_is f.asset (client_of f) s1.lane _ _ h.work s1.to_client s1.to_controller h.parts.lane h.parts.to_client h.parts.to_controller
+        ) refl
 
     -- ---- what is told
 

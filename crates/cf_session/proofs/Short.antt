@@ -1,7 +1,7 @@
 -- What a leg was to say in a session is below the limit, so what it sent is one stream.
 use Rattle.std.proofs.Common.{◌≡◌, ℕ, ◌^◌, ◌≤◌, Bool, true, false, ◌&&◌, if◌then◌else◌, cond, inl, inr, List, [], ◌∷◌, ◌++◌, map, Option, Some, None, refl, sym, ap, ◌∙◌, subst, append_assoc, arith}
 use Rattle.std.specs.Option.{is_some, option_or}
-use Rattle.std.proofs.lemmas.Bool.{cases_Bool, false≢true, true≢false}
+use Rattle.std.proofs.lemmas.Bool.{cases_Bool, false≢true, true≢false, and_parts}
 use Rattle.std.proofs.lemmas.List.{append-nil, map-append}
 use Rattle.std.proofs.lemmas.List.Folds.{list_any-append}
 use Rattle.cf_audit.specs.declared.CutReason.{CutReason}
@@ -28,17 +28,9 @@ use Rattle.cf_session.proofs.Sound.{limits_none}
 
 -- ---- a closed session has taken both Ends
 
-and_first : (a b : Bool) → (a && b) ≡ true → a ≡ true
-and_first true b e = refl
-and_first false b e = e
-
-and_second : (a b : Bool) → (a && b) ≡ true → b ≡ true
-and_second true b e = e
-and_second false b e = absurd (false≢true e)
-
 ended_by : (s : Side) (h : List Element) (done : Bool) → ((ended_of side.Client h && ended_of side.Controller h) && done) ≡ true → ended_of s h ≡ true
-ended_by side.Client h done e = and_first _ _ (and_first _ done e)
-ended_by side.Controller h done e = and_second (ended_of side.Client h) _ (and_first _ done e)
+ended_by side.Client h done e = (and_parts _ _ (and_parts _ done e).0).0
+ended_by side.Controller h done e = (and_parts (ended_of side.Client h) _ (and_parts _ done e).0).1
 
 closed_now : (o : Option ℕ) (now : Bool) (moment : ℕ) → is_some (option_or o (if now then Some moment else None)) ≡ true → is_some o ≡ false → now ≡ true
 closed_now None true moment h e = refl

@@ -1,8 +1,9 @@
 -- A session is sound after a packet that did not cut it.
-use Rattle.std.proofs.Common.{◌≡◌, ◌≢◌, ℕ, ◌<◌, Bool, true, false, cond, ◌&&◌, ◌||◌, Option, Some, None, refl, sym, ap, ◌∙◌, subst, arith}
+use Rattle.std.proofs.lemmas.Option.{none-some}
+use Rattle.std.proofs.Common.{◌≡◌, ◌≢◌, ℕ, ◌<◌, Bool, true, false, cond, ◌||◌, Option, Some, None, refl, sym, ap, ◌∙◌, subst, arith}
 use Rattle.std.specs.Prelude.{nat_le}
 use Rattle.std.specs.Option.{is_some, option_or}
-use Rattle.std.proofs.lemmas.Bool.{false≢true, true≢false}
+use Rattle.std.proofs.lemmas.Bool.{true≢false, and_parts, or_parts}
 use Rattle.cf_audit.specs.declared.CutReason.{CutReason}
 use Rattle.cf_lane.specs.Handled.{IsLaneOf, LaneValue}
 use Rattle.cf_leg.specs.declared.LegAnswer.{LegAnswer}
@@ -19,13 +20,6 @@ use Rattle.cf_session.specs.Parts.{SessionValue}
 use Rattle.cf_session.specs.Stands.{IsSound}
 use Rattle.cf_session.specs.Turn.{IsShort, IsSteady, OnlySpeaks, is_done_now}
 
-abbrev is_none_of : Option CutReason → Bool
-is_none_of None = true
-is_none_of (Some r) = false
-
-none_some : (r : CutReason) → None ≡ Some r → ⊥
-none_some r e = true≢false (ap (λ (o : Option CutReason). is_none_of o) e)
-
 some_closed : (o : Option ℕ) → is_some o ≡ true → o ≢ None
 some_closed o e n = true≢false (sym e ∙ ap is_some n)
 
@@ -41,10 +35,10 @@ reason_is {x} {y} {closed} {reset} {full} s given cut same c r l asked =
 -- where nothing cuts, the lane did not
 lane_none : (closed reset : Bool) (s : Side) (cut full : Option CutReason) → None ≡ cut_by closed reset s cut full → (closed ≡ true → cut ≡ None) → cut ≡ None
 lane_none true reset s cut full e done = done refl
-lane_none false true side.Client cut full e done = absurd (none_some _ e)
-lane_none false true side.Controller cut full e done = absurd (none_some _ e)
+lane_none false true side.Client cut full e done = absurd (none-some _ e)
+lane_none false true side.Controller cut full e done = absurd (none-some _ e)
 lane_none false false s None full e done = refl
-lane_none false false s (Some r) full e done = absurd (none_some r e)
+lane_none false false s (Some r) full e done = absurd (none-some r e)
 
 pub lane_uncut : (s : Side) (given : LegAnswer) (cut : Option CutReason) (x : SessionValue) → IsSteady x cut → None ≡ cut_by (is_some x.closed) (is_reset given) s cut (full_of x) → cut ≡ None
 lane_uncut s given cut x steady because = lane_none (is_some x.closed) (is_reset given) s cut (full_of x) because (λ b. steady.uncut (some_closed x.closed b))
@@ -52,28 +46,24 @@ lane_uncut s given cut x steady because = lane_none (is_some x.closed) (is_reset
 -- and no stream is full
 full_none : (closed reset : Bool) (s : Side) (cut full : Option CutReason) → None ≡ cut_by closed reset s cut full → closed ≡ false → full ≡ None
 full_none true reset s cut full e c = absurd (true≢false c)
-full_none false true side.Client cut full e c = absurd (none_some _ e)
-full_none false true side.Controller cut full e c = absurd (none_some _ e)
+full_none false true side.Client cut full e c = absurd (none-some _ e)
+full_none false true side.Controller cut full e c = absurd (none-some _ e)
 full_none false false s None full e c = sym e
-full_none false false s (Some r) full e c = absurd (none_some r e)
+full_none false false s (Some r) full e c = absurd (none-some r e)
 
 below : (limit a : ℕ) → nat_le limit a ≡ false → a < limit
 below limit a e = grind arith
 
-parts_false : (a b : Bool) → (a || b) ≡ false → (a ≡ false) × (b ≡ false)
-parts_false false b e = (refl, e)
-parts_false true b e = absurd (true≢false e)
-
 two_none : (x y : Bool) (r q : CutReason) → cond x (Some r) (cond y (Some q) None) ≡ None → (x ≡ false) × (y ≡ false)
 two_none false false r q e = (refl, refl)
-two_none false true r q e = absurd (none_some q (sym e))
-two_none true y r q e = absurd (none_some r (sym e))
+two_none false true r q e = absurd (none-some q (sym e))
+two_none true y r q e = absurd (none-some r (sym e))
 
 pub limits_none : (limit client controller to_client to_controller : ℕ) → limit_by limit client controller to_client to_controller ≡ None → (client < limit) × (controller < limit) × (to_client < limit) × (to_controller < limit)
 limits_none limit client controller to_client to_controller e =
     let both = two_none (nat_le limit client || nat_le limit to_client) (nat_le limit controller || nat_le limit to_controller) _ _ e in
-    let x = parts_false (nat_le limit client) (nat_le limit to_client) both.0 in
-    let y = parts_false (nat_le limit controller) (nat_le limit to_controller) both.1 in
+    let x = or_parts (nat_le limit client) (nat_le limit to_client) both.0 in
+    let y = or_parts (nat_le limit controller) (nat_le limit to_controller) both.1 in
     (below limit client x.0, below limit controller y.0, below limit to_client x.1, below limit to_controller y.1)
 
 short_by : (s : SessionValue) (cut : Option CutReason) (o : Option ℕ) → s.closed ≡ o → IsSteady s cut → (is_some o ≡ false → full_of s ≡ None) → IsShort s
@@ -94,14 +84,6 @@ short_on s1 s2 o h =
       client_taken = (let a = h.client_taken in let b = ap (λ (w : Window). base_of w) o.client_window in omega (arith, a, b, l));
       controller_taken = (let a = h.controller_taken in let b = ap (λ (w : Window). base_of w) o.controller_window in omega (arith, a, b, l));
     }
-
-left_true : (a b : Bool) → (a && b) ≡ true → a ≡ true
-left_true true b e = refl
-left_true false b e = absurd (false≢true e)
-
-right_true : (a b : Bool) → (a && b) ≡ true → b ≡ true
-right_true true b e = e
-right_true false b e = absurd (false≢true e)
 
 -- what closes has ended on both sides
 closed_done : (o : Option ℕ) (done : Bool) (now : ℕ) → option_or o (cond done (Some now) None) ≢ None → (P : Type 0) → (o ≢ None → P) → (done ≡ true → P) → P
@@ -128,9 +110,9 @@ sound_after asset s1 s2 s3 now within serves only h short same closing =
       client_open = h.client_open;
       controller_open = h.controller_open;
       client_done = λ n. closed_done s2.closed (is_done_now s2) now (closed n) (s2.client.window.ended ≡ true) h.client_done
-          (λ d. left_true s2.client.window.ended s2.controller.window.ended (left_true _ _ d));
+          (λ d. (and_parts s2.client.window.ended s2.controller.window.ended (and_parts _ _ d).0).0);
       controller_done = λ n. closed_done s2.closed (is_done_now s2) now (closed n) (s2.controller.window.ended ≡ true) h.controller_done
-          (λ d. right_true s2.client.window.ended s2.controller.window.ended (left_true _ _ d));
+          (λ d. (and_parts s2.client.window.ended s2.controller.window.ended (and_parts _ _ d).0).1);
       commands = h.commands;
       owed = h.owed;
       client_room = h.client_room;

@@ -1,9 +1,9 @@
 //! The retransmission timer of an end.
 ghost use Rattle.std.specs.Prelude.{◌≡◌, ◌+◌, ◌-◌, ◌*◌, ◌%◌, ◌^◌, ◌<◌, ◌≤◌, ◌==◌, min, not, nat_lt, ◌&&◌, ◌||◌, if◌then◌else◌, true, [], ◌∷◌, None, Some, Ok, IfOk, OnErr, OnOk, ◌≤ℤ◌, ◌+ℤ◌, false};
-ghost use Rattle.cf_rebuild.specs.ReceiveWindow.{IsWindow, base_of};
+ghost use Rattle.cf_rebuild.specs.ReceiveWindow.{base_of};
 ghost use Rattle.cf_leg.specs.Calls.{ClockBreaks, Clocked, SendsAgain, SendsOldest, answer_again, answer_oldest, due_of, is_due};
 ghost use Rattle.cf_leg.specs.Timer.{backoff};
-ghost use Rattle.cf_leg.specs.LegValue.{IsLeg, is_open};
+ghost use Rattle.cf_leg.specs.LegValue.{is_open};
 ghost use Rattle.cf_outside.specs.Desk.{DeskValue};
 ghost use Rattle.cf_outside.specs.Frames.{OnlyEmits};
 ghost use Rattle.std.specs.Result.{is_err};
@@ -58,14 +58,10 @@ impl Leg {
         requires base { base_of self.now.window ≤ 2 ^ 30 + 16384 }
         requires whole { DeskValue.whole (D.value desk.old) ≡ true }
         requires moment { now < 2 ^ 32 * 1000000 }
-        ensures bounds { IsLeg self.now }
-        ensures window { IsWindow self.now.window }
         ensures sends { IfOk result (λ answer. SendsAgain self.now queue.now now (D.value desk.old) (D.value desk.new) false × (answer ≡ answer_again self.now queue.now)) }
         ensures broken { OnErr result (SendsAgain self.now queue.now now (D.value desk.old) (D.value desk.new) true) }
         ensures frame { OnlyEmits (D.value desk.old) (D.value desk.new) (is_err result) }
     {
-        // The fact: the window and what was told keep their bounds.
-        let _told = self.told();
         if self.is_open() {
             return self.send_oldest(now, queue, desk);
         }

@@ -5,7 +5,7 @@ ghost use Rattle.cf_rebuild.specs.ReceiveWindow.{base_of};
 ghost use Rattle.cf_leg.specs.Calls.{CutOff, rst_of};
 ghost use Rattle.cf_leg.specs.Emits.{rst};
 ghost use Rattle.cf_stream.specs.Position.{place_or_zero};
-ghost use Rattle.cf_leg.specs.Emitted.{BreaksOff, with_segment};
+ghost use Rattle.cf_leg.specs.Emitted.{GetsSegments};
 ghost use Rattle.cf_leg.specs.LegValue.{is_open};
 ghost use Rattle.cf_outside.specs.Desk.{DeskValue};
 ghost use Rattle.cf_outside.specs.Frames.{OnlyEmits};
@@ -24,8 +24,7 @@ impl Leg {
         requires base { base_of self.now.window ≤ 2 ^ 30 + 16384 }
         requires whole { DeskValue.whole (D.value desk.old) ≡ true }
         requires moment { now < 2 ^ 32 * 1000000 }
-        ensures packets { OnOk result (DeskValue.packets (D.value desk.new) ≡ with_segment (DeskValue.packets (D.value desk.old)) now (rst_of self.now queue.now)) }
-        ensures broken { OnErr result (BreaksOff now (rst_of self.now queue.now ∷ []) (D.value desk.old) (D.value desk.new)) }
+        ensures gets { GetsSegments (is_err result) now (rst_of self.now queue.now ∷ []) (D.value desk.old) (D.value desk.new) }
         ensures frame { OnlyEmits (D.value desk.old) (D.value desk.new) (is_err result) }
     {
         let sent = next_number(self.own, queue);

@@ -6,7 +6,7 @@ ghost use Rattle.cf_rebuild.specs.ReceiveWindow.{IsWindow};
 ghost use Rattle.cf_stream.specs.Stream.{Stream};
 ghost use Rattle.cf_leg.specs.Calls.{window_by, Greeted, IsOwn, greeted_as, greeting_of, leg_opened, queue_opened};
 ghost use Rattle.cf_leg.specs.Emits.{send_mss};
-ghost use Rattle.cf_leg.specs.Emitted.{BreaksOff, with_segment};
+ghost use Rattle.cf_leg.specs.Emitted.{GetsSegments};
 ghost use Rattle.cf_leg.specs.LegValue.{IsLeg};
 ghost use Rattle.cf_outside.specs.Desk.{DeskValue};
 ghost use Rattle.cf_outside.specs.Frames.{OnlyEmits};
@@ -60,8 +60,7 @@ impl Leg {
     pub(super) fn send_greeting<D: Desk>(&self, now: u64, desk: &mut D) -> Result<(), WriteFault>
         requires whole { DeskValue.whole (D.value desk.old) ≡ true }
         requires moment { now < 2 ^ 32 * 1000000 }
-        ensures packets { OnOk result (DeskValue.packets (D.value desk.new) ≡ with_segment (DeskValue.packets (D.value desk.old)) now (greeting_of self.now)) }
-        ensures broken { OnErr result (BreaksOff now (greeting_of self.now ∷ []) (D.value desk.old) (D.value desk.new)) }
+        ensures gets { GetsSegments (is_err result) now (greeting_of self.now ∷ []) (D.value desk.old) (D.value desk.new) }
         ensures frame { OnlyEmits (D.value desk.old) (D.value desk.new) (is_err result) }
     {
         let (ack, flags) = match self.ends.role {
