@@ -1,10 +1,11 @@
 -- What is counted of one event more.
 use Rattle.std.proofs.Common.{◌≡◌, ℕ, suc, ◌+◌, List, ◌∷◌, length, refl, ap, ◌∙◌, arith}
 use Rattle.std.specs.Prelude.{count_by}
+use Rattle.cf_lane.specs.Judged.{one_if}
 use Rattle.cf_run.specs.Counted.{counted, plus}
 use Rattle.cf_run.specs.Receiving.{IsOutcome}
 use Rattle.cf_run.specs.Step.{IsCounted}
-use Rattle.cf_run.specs.Summary.{capped, cuts_in, decided_in, found, has_begun, found_no_room, one_if, summary_of, total, was_cut, was_dropped, was_outside}
+use Rattle.cf_run.specs.Summary.{capped, cuts_in, decided_in, found, has_begun, found_no_room, summary_of, total, was_cut, was_dropped, was_outside}
 use Rattle.cf_run.specs.Table.{Session}
 use Rattle.cf_run.specs.Trace.{Begun, Dropped, RunEvent, NoRoom, NoSession, Received, Went, is_cut, table_after}
 use Rattle.cf_run.specs.declared.second_half.Outcome.{Outcome}

@@ -2,6 +2,7 @@
 use Rattle.std.proofs.Common.{◌≡◌, ℕ, zero, suc, ◌-◌, ◌<◌, ◌≤◌, not, Bool, true, false, List, [], ◌∷◌, length, cond, Some, refl, sym, ap, ◌∙◌, subst, arith}
 use Rattle.std.specs.Prelude.{filter, slice_get, slice_set}
 use Rattle.std.specs.List.{remove}
+use Rattle.cf_lane.specs.Judged.{one_if}
 use Rattle.cf_leg.specs.Event.{moment}
 use Rattle.cf_packet.specs.Packet.{PacketValue}
 use Rattle.cf_policy.specs.declared.Asset.{Asset}
@@ -15,11 +16,11 @@ use Rattle.cf_session.specs.Told.{Told, with_both}
 use Rattle.cf_session.specs.declared.life.Life.{Life}
 use Rattle.cf_session.specs.declared.life.Life.TheVariants as life
 use Rattle.cf_run.specs.Engine.{AreAll, IsOne, IsOneBy, IsOneWith}
-use Rattle.cf_run.specs.Entries.{cuts_by, number_if, stays_by}
+use Rattle.cf_run.specs.Entries.{cuts_by, stays_by}
 use Rattle.cf_session.specs.Work.{Work}
 use Rattle.cf_audit.specs.declared.CutReason.{CutReason}
 use Rattle.cf_run.specs.Receiving.{AreTicked, Going, HasTicked}
-use Rattle.cf_run.specs.Summary.{decided_in, one_if, work_before}
+use Rattle.cf_run.specs.Summary.{decided_in, work_before}
 use Rattle.cf_run.specs.Table.{Session}
 use Rattle.cf_run.specs.Trace.{GoesOnAt, Went, is_cut, logged_at, replaced, stays, with_event_at}
 use Rattle.cf_run.specs.declared.entry.Entry.{Entry}
@@ -162,7 +163,7 @@ module _ (assets : List Asset) (limit now place : ℕ) (from : Side) (packet : P
       ((flow : Flow) (earlier : List SessionEvent) (event : SessionEvent) → IsSessionOf flow earlier event y → y.lane.admitted ≡ event.work.admitted) →
       ((flow : Flow) (earlier : List SessionEvent) (event : SessionEvent) → IsSessionOf flow earlier event y → y.lane.refused ≡ event.work.refused) →
       (event : SessionEvent) × Going assets limit now place from packet table (entries_by (stays_by l)) old new
-      (outcome.Went (y.lane.admitted - admitted) (y.lane.refused - refused) (number_if (cuts_by l))) event
+      (outcome.Went (y.lane.admitted - admitted) (y.lane.refused - refused) (one_if (cuts_by l))) event
   heard_by s flow earlier half is here within one half_ticked life.Expired h ca cr = absurd h
   heard_by s flow earlier half is here within one half_ticked life.Live h ca cr =
       (h.0, going_on s flow earlier half is here within one half_ticked h.0 h.1 h.2.stands ca cr)
@@ -178,7 +179,7 @@ module _ (assets : List Asset) (limit now place : ℕ) (from : Side) (packet : P
       ((flow : Flow) (earlier : List SessionEvent) (event : SessionEvent) → IsSessionOf flow earlier event y → y.lane.admitted ≡ event.work.admitted) →
       ((flow : Flow) (earlier : List SessionEvent) (event : SessionEvent) → IsSessionOf flow earlier event y → y.lane.refused ≡ event.work.refused) →
       (event : SessionEvent) × Going assets limit now place from packet table (entries_by (stays_by l)) old new
-      (outcome.Went (y.lane.admitted - admitted) (y.lane.refused - refused) (number_if (cuts_by l))) event
+      (outcome.Went (y.lane.admitted - admitted) (y.lane.refused - refused) (one_if (cuts_by l))) event
   heard_in s flow [] is here within one half_ticked l hears ca cr = absurd half_ticked
   heard_in s flow (half ∷ earlier) is here within one half_ticked l hears ca cr =
       let served : flow.asset ≡ asset = let e : Some flow.asset ≡ Some asset = sym one.asset ∙ asset_at in cc in
@@ -192,7 +193,7 @@ module _ (assets : List Asset) (limit now place : ℕ) (from : Side) (packet : P
       ((flow : Flow) (earlier : List SessionEvent) (event : SessionEvent) → IsSessionOf flow earlier event y → y.lane.admitted ≡ event.work.admitted) →
       ((flow : Flow) (earlier : List SessionEvent) (event : SessionEvent) → IsSessionOf flow earlier event y → y.lane.refused ≡ event.work.refused) →
       (event : SessionEvent) × Going assets limit now place from packet table (entries_by (stays_by l)) old new
-      (outcome.Went (y.lane.admitted - admitted) (y.lane.refused - refused) (number_if (cuts_by l))) event
+      (outcome.Went (y.lane.admitted - admitted) (y.lane.refused - refused) (one_if (cuts_by l))) event
   heard l hears ca cr =
       let o = one_at assets now (now - 1) entries table place x all ticked at in
       heard_in o.0 o.0.flow o.0.events refl o.1 o.2 o.3 o.4 l hears ca cr
@@ -203,11 +204,11 @@ module _ (assets : List Asset) (limit now place : ℕ) (from : Side) (packet : P
       moment half.client ≡ now → HearsBy flow limit earlier half from packet y old new l) →
       ((flow : Flow) (earlier : List SessionEvent) (event : SessionEvent) → IsSessionOf flow earlier event y → y.lane.admitted ≡ event.work.admitted) →
       ((flow : Flow) (earlier : List SessionEvent) (event : SessionEvent) → IsSessionOf flow earlier event y → y.lane.refused ≡ event.work.refused) →
-      (stay : Bool) → stays_by l ≡ stay → (more_admitted more_refused cut : ℕ) → more_admitted ≡ y.lane.admitted - admitted → more_refused ≡ y.lane.refused - refused → cut ≡ number_if (cuts_by l) →
+      (stay : Bool) → stays_by l ≡ stay → (more_admitted more_refused cut : ℕ) → more_admitted ≡ y.lane.admitted - admitted → more_refused ≡ y.lane.refused - refused → cut ≡ one_if (cuts_by l) →
       (event : SessionEvent) × Going assets limit now place from packet table (entries_by stay) old new (outcome.Went more_admitted more_refused cut) event
   heard_as l hears ca cr stay is a r n ea er en =
       let h = heard l hears ca cr in (
         h.0,
         rw (ea, er, en) (subst (λ b. Going assets limit now place from packet table (entries_by b) old new
-            (outcome.Went (y.lane.admitted - admitted) (y.lane.refused - refused) (number_if (cuts_by l))) h.0) is h.1),
+            (outcome.Went (y.lane.admitted - admitted) (y.lane.refused - refused) (one_if (cuts_by l))) h.0) is h.1),
       )

@@ -5,12 +5,13 @@ use Rattle.std.specs.List.{remove}
 use Rattle.std.proofs.lemmas.Option.{slice_get-get_or}
 use Rattle.std.proofs.lemmas.List.{take_more}
 use Rattle.std.proofs.Math.Seq.{drop-cons}
+use Rattle.cf_lane.specs.Judged.{one_if}
 use Rattle.cf_policy.specs.declared.Asset.{Asset}
 use Rattle.cf_session.specs.Parts.{SessionValue}
 use Rattle.cf_session.specs.Stands.{IsLife, IsSound, due_of}
 use Rattle.cf_session.specs.declared.life.Life.{Life}
 use Rattle.cf_session.specs.declared.life.Life.TheVariants as life
-use Rattle.cf_run.specs.Entries.{cuts_by, number_if, stays_by}
+use Rattle.cf_run.specs.Entries.{cuts_by, stays_by}
 use Rattle.cf_run.specs.Engine.{AreSound, IsSoundEntry}
 use Rattle.cf_run.specs.declared.entry.Entry.{Entry}
 
@@ -63,18 +64,18 @@ first_of (e ∷ es) place h =
     (get_or table place e, slice_get-get_or table place e h, drop-cons table place e h ∙ ap (λ n. get_or table place e ∷ drop n table) (sym (add-one place)), take_more table place e h)
 
 -- a session that was cut does not stay
-pub cuts_stay : (l : Life) → number_if (not (stays_by l) && cuts_by l) ≡ number_if (cuts_by l)
+pub cuts_stay : (l : Life) → one_if (not (stays_by l) && cuts_by l) ≡ one_if (cuts_by l)
 cuts_stay life.Live = refl
 cuts_stay life.Closed = refl
 cuts_stay life.Expired = refl
 cuts_stay (life.Cut because) = refl
 
-pub cuts_gone : (l : Life) → stays_by l ≡ true → number_if (cuts_by l) ≡ 0
+pub cuts_gone : (l : Life) → stays_by l ≡ true → one_if (cuts_by l) ≡ 0
 cuts_gone life.Live h = refl
 cuts_gone life.Closed h = refl
 cuts_gone life.Expired h = refl
 cuts_gone (life.Cut because) h = cc
 
-pub one_less : (b : Bool) → number_if b ≤ 1
+pub one_less : (b : Bool) → one_if b ≤ 1
 one_less true = omega arith
 one_less false = omega arith

@@ -8,6 +8,7 @@ use Rattle.std.proofs.lemmas.Grind.{flat_map-append}
 use Rattle.std.proofs.Math.ListN.{drop_of_length-le}
 use Rattle.std.proofs.lemmas.List.Elements.{filter-append}
 use Rattle.std.proofs.lemmas.List.Concat.{flat_map-cons}
+use Rattle.cf_lane.specs.Judged.{one_if}
 use Rattle.cf_policy.specs.declared.Asset.{Asset}
 use Rattle.cf_session.specs.declared.life.Life.{Life}
 use Rattle.cf_session.specs.declared.life.Life.TheVariants as life
@@ -18,7 +19,7 @@ use Rattle.cf_session.specs.Session.{Flow, SessionEvent, is_expired}
 use Rattle.cf_session.specs.Stands.{Ticks, TicksBy, life_by}
 use Rattle.cf_session.specs.Told.{Told, emitted, with_both, with_more}
 use Rattle.cf_run.specs.Engine.{AreAll, IsOne, TickAll, TickAs, TickAt, TickSome}
-use Rattle.cf_run.specs.Entries.{cuts_by, number_if, stays_by}
+use Rattle.cf_run.specs.Entries.{cuts_by, stays_by}
 use Rattle.cf_run.specs.Table.{Session}
 use Rattle.cf_run.specs.Trace.{AreTicks, is_cut, kept, logged_ticks, stays, ticked, with_events}
 use Rattle.cf_run.specs.declared.entry.Entry.{Entry}
@@ -105,20 +106,24 @@ all-one assets last (x' ∷ xs) (s' ∷ ss) x s all one = (all.0, all-one assets
 sent-one : (ts : List SessionEvent) (t : SessionEvent) → flat_map sent_first (ts ++ t ∷ []) ≡ flat_map sent_first ts ++ sent_first t
 sent-one ts t = flat_map-append sent_first ts (t ∷ []) ∙ ap (λ xs. flat_map sent_first ts ++ xs) (flat_map-cons sent_first t [] ∙ append-nil (sent_first t))
 
-plus_none : (n : ℕ) → n ≡ n + number_if false
+plus_none : (n : ℕ) → n ≡ n + one_if false
 plus_none n = omega arith
 
-abbrev counts : ℕ → SessionEvent → ℕ
-counts n t = n + number_if (is_cut t.cut)
+one_is : (b : Bool) → one_if b ≡ cond b 1 0
+one_is true = refl
+one_is false = refl
 
-cut_from : (ts : List SessionEvent) (t : SessionEvent) (n : ℕ) → fold counts n ts + number_if (is_cut t.cut) ≡ fold counts n (ts ++ t ∷ [])
+abbrev counts : ℕ → SessionEvent → ℕ
+counts n t = n + cond (is_cut t.cut) 1 0
+
+cut_from : (ts : List SessionEvent) (t : SessionEvent) (n : ℕ) → fold counts n ts + cond (is_cut t.cut) 1 0 ≡ fold counts n (ts ++ t ∷ [])
 cut_from [] t n = refl
 cut_from (x ∷ ts) t n = cut_from ts t (counts n x)
 
 -- how many were cut
 cut_more : (ts : List SessionEvent) (t : SessionEvent) (b : Bool) → is_cut t.cut ≡ b →
-    count_by (λ x. is_cut x.cut) ts + number_if b ≡ count_by (λ x. is_cut x.cut) (ts ++ t ∷ [])
-cut_more ts t b e = ap (λ c. count_by (λ x. is_cut x.cut) ts + number_if c) (sym e) ∙ cut_from ts t 0
+    count_by (λ x. is_cut x.cut) ts + one_if b ≡ count_by (λ x. is_cut x.cut) (ts ++ t ∷ [])
+cut_more ts t b e = ap (λ n. count_by (λ x. is_cut x.cut) ts + n) (ap one_if (sym e) ∙ one_is (is_cut t.cut)) ∙ cut_from ts t 0
 
 -- what stays of the sessions with one more event
 pub ticked-more : (now : ℕ) (ts : List SessionEvent) (done : List Session) (s : Session) (t : SessionEvent) (b : Bool) → AreTicks now (kept now done) ts → is_expired s.flow s.events now ≡ false → is_cut t.cut ≡ b →
@@ -131,8 +136,8 @@ ticked-more now ts done s t b are here cut =
 
 module _ (assets : List Asset) (now : ℕ) (done : List Session) (front : List Entry) (old mid new : Told) (n : ℕ) (a : TickAll assets now done front old mid n) (s : Session) where
   -- the sessions that were cut, with one more
-  counts_more : (t : SessionEvent) (b : Bool) → is_cut t.cut ≡ b → n + number_if b ≡ count_by (λ x. is_cut x.cut) (a.ticks ++ t ∷ [])
-  counts_more t b e = ap (λ m. m + number_if b) a.cuts_is ∙ cut_more a.ticks t b e
+  counts_more : (t : SessionEvent) (b : Bool) → is_cut t.cut ≡ b → n + one_if b ≡ count_by (λ x. is_cut x.cut) (a.ticks ++ t ∷ [])
+  counts_more t b e = ap (λ m. m + one_if b) a.cuts_is ∙ cut_more a.ticks t b e
 
   -- a session has expired
   pub all_gone : is_expired s.flow s.events now ≡ true → new ≡ mid → TickAll assets now (done ++ s ∷ []) front old new n
@@ -203,7 +208,7 @@ module _ (assets : List Asset) (tick : ℕ) (known : List Session) (place : ℕ)
   one_further : (done rest : List Session) (f : Flow) (es : List SessionEvent) (stay cut : Bool) → TickAt assets tick x y mid new stay cut → known ≡ done ++ (record { flow = f; events = es } ∷ rest) →
       TickAll assets tick done (take place entries) old mid n →
       IsOne assets tick x (record { flow = f; events = es }) → AreAll assets tick xs rest → take j after ≡ take place entries ++ cond stay (y ∷ []) [] →
-      TickSome assets tick known after j old new (n + number_if (not stay && cut))
+      TickSome assets tick known after j old new (n + one_if (not stay && cut))
   one_further done rest f [] stay cut at split a one others front = absurd one
   one_further done rest f (e ∷ es) true cut at split a one others front =
       let s : Session = record { flow = f; events = e ∷ es } in
@@ -224,14 +229,14 @@ module _ (assets : List Asset) (tick : ℕ) (known : List Session) (place : ℕ)
       subst (TickSome assets tick known after j old new) (plus_none n) (some_by n done rest s split others (subst P stay (all_gone assets tick done (take place entries) old mid new n a s gone.0 gone.1)))
 
   further : (stay cut : Bool) → TickAt assets tick x y mid new stay cut → (done rest : List Session) → known ≡ done ++ rest → TickAll assets tick done (take place entries) old mid n → AreAll assets tick (x ∷ xs) rest →
-      take j after ≡ take place entries ++ cond stay (y ∷ []) [] → TickSome assets tick known after j old new (n + number_if (not stay && cut))
+      take j after ≡ take place entries ++ cond stay (y ∷ []) [] → TickSome assets tick known after j old new (n + one_if (not stay && cut))
   further stay cut at done [] split a others front = absurd others
   further stay cut at done (s ∷ rest) split a others front = one_further done rest s.flow s.events stay cut at split a others.0 others.1 front
 
 -- the loop goes one session further
 pub some_more : (assets : List Asset) (tick : ℕ) (known : List Session) (place : ℕ) (entries : List Entry) (old mid new : Told) (x y : Entry) (xs after : List Entry) (j : ℕ) (stay cut : Bool) (n : ℕ) →
     TickSome assets tick known entries place old mid n → drop place entries ≡ x ∷ xs → TickAt assets tick x y mid new stay cut → drop j after ≡ xs → take j after ≡ take place entries ++ cond stay (y ∷ []) [] →
-    TickSome assets tick known after j old new (n + number_if (not stay && cut))
+    TickSome assets tick known after j old new (n + one_if (not stay && cut))
 some_more assets tick known place entries old mid new x y xs after j stay cut n a here at back front =
     further assets tick known place entries old mid new x y xs after j back n stay cut at a.done a.rest a.split a.some (subst (λ zs. AreAll assets tick zs a.rest) here a.others) front
 

@@ -28,9 +28,6 @@ cuts_by life.Live = false
 cuts_by life.Closed = false
 cuts_by life.Expired = false
 
-abbrev pub number_if : Bool → ℕ
-number_if holds = if holds then 1 else 0
-
 -- an asset stands at an endpoint
 abbrev pub is_at : Endpoint → Option Asset → Bool
 is_at endpoint None = false

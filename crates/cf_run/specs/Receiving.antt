@@ -1,6 +1,7 @@
 -- Steps of the proof: what the second half of an event does to the sessions in memory: `ReceivesOne`.
 use Rattle.std.specs.Prelude.{◌≡◌, ℕ, ◌+◌, ◌-◌, ◌≤◌, ◌&&◌, Bool, true, List, [], ◌∷◌, Option, Some, None, Result, Ok, Err, filter, slice_get}
 use Rattle.std.specs.Option.{is_some}
+use Rattle.cf_lane.specs.Judged.{one_if}
 use Rattle.cf_packet.specs.Packet.{PacketValue}
 use Rattle.cf_packet.specs.declared.packet.PacketRefusal.{PacketRefusal}
 use Rattle.cf_policy.specs.declared.Asset.{Asset}
@@ -10,7 +11,7 @@ use Rattle.cf_session.specs.Session.{Flow, SessionEvent, client_of}
 use Rattle.cf_session.specs.Told.{Told, with_both}
 use Rattle.cf_view.specs.declared.Side.{Side}
 use Rattle.cf_run.specs.Engine.{AreAll}
-use Rattle.cf_run.specs.Summary.{decided_in, one_if}
+use Rattle.cf_run.specs.Summary.{decided_in}
 use Rattle.cf_run.specs.Table.{Session, asset_at, match_of, may_begin, place_of}
 use Rattle.cf_run.specs.Trace.{Begun, Dropped, GoesOnAt, NoRoom, NoSession, Received, Receives, Went, after_received, is_cut, logged_at, logged_received, sent_received, stays, with_event_at}
 use Rattle.cf_run.specs.declared.entry.Entry.{Entry}

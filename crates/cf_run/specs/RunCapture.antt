@@ -52,9 +52,9 @@ pub record AreApart (names : RunNamesValue) : Type 0 where
   pub capture_log : names.capture ≢ names.log
   pub out_log : names.out ≢ names.log
 
--- every file but the two that are written is as it was
-abbrev pub KeepsOtherFiles : RunNamesValue → (before after : List ℕ → Content) → Type 0
-KeepsOtherFiles names before after = (other : List ℕ) → IsNoneOf (names.out ∷ names.log ∷ []) other → after other ≡ before other
+-- every file but those that are written is as it was
+abbrev pub KeepsOtherFiles : (written : List (List ℕ)) → (before after : List ℕ → Content) → Type 0
+KeepsOtherFiles written before after = (other : List ℕ) → IsNoneOf written other → after other ≡ before other
 
 -- a file of this form has these records up to its last place, as far as it is told
 abbrev pub HasRunRecords : Content → Form → List Record → LastPlace → Type 0

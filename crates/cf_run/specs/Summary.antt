@@ -1,14 +1,11 @@
 -- What is counted over events: summary_of.
-use Rattle.std.specs.Prelude.{ℕ, ◌+◌, ◌-◌, ◌^◌, min, Bool, true, false, if◌then◌else◌, List, [], ◌∷◌, length, count_by, Option, Some, None, slice_get}
+use Rattle.std.specs.Prelude.{ℕ, ◌+◌, ◌-◌, ◌^◌, min, Bool, true, false, List, [], ◌∷◌, length, count_by, Option, Some, None, slice_get}
+use Rattle.cf_lane.specs.Judged.{one_if}
 use Rattle.cf_session.specs.Session.{work_of}
 use Rattle.cf_session.specs.Work.{Work, no_work}
 use Rattle.cf_run.specs.Table.{Session}
 use Rattle.cf_run.specs.Trace.{Begun, Dropped, RunEvent, NoRoom, NoSession, Received, Went, behind, is_cut, table_after, tick_of, ticked}
 use Rattle.cf_run.specs.declared.summary.Summary.{Summary}
-
--- 1 where it holds, and else 0
-abbrev pub one_if : Bool → ℕ
-one_if holds = if holds then 1 else 0
 
 -- the commands that an event decided: what the lane of its session counts now, without what it counted before
 abbrev pub work_before : Option Session → Work

@@ -1,6 +1,7 @@
 //! The sessions of the table in memory.
 ghost use Rattle.std.specs.Prelude.{◌≡◌, ◌<◌, Some, length, slice_get};
-ghost use Rattle.cf_run.specs.Entries.{cuts_by, entry_between, number_if, place_in, stays_by};
+ghost use Rattle.cf_lane.specs.Judged.{one_if};
+ghost use Rattle.cf_run.specs.Entries.{cuts_by, entry_between, place_in, stays_by};
 ghost use Rattle.cf_run.specs.Table.{has_asset_at, same_endpoint};
 
 use cf_policy::Asset;
@@ -90,7 +91,7 @@ pub(crate) fn stays(life: &Life) -> bool
 
 /// How many sessions a call cut: one or none.
 pub(crate) fn cuts(life: &Life) -> u64
-    ensures { result ≡ number_if (cuts_by life.now) }
+    ensures { result ≡ one_if (cuts_by life.now) }
 {
     match life {
         Life::Cut(_) => 1,

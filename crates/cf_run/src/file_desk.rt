@@ -1,6 +1,8 @@
 //! A desk over two lent files: packets go to a capture file, lines to a log.
-ghost use Rattle.std.specs.Prelude.{◌≡◌, ◌<◌, ◌≤◌, ◌*◌, ◌^◌, ◌↔◌, length};
+ghost use Rattle.std.specs.Prelude.{◌≡◌, ◌<◌, ◌≤◌, ◌+◌, ◌++◌, List, length, ℕ};
 ghost use Rattle.cf_outside.specs.Files.{Appends};
+ghost use Rattle.cf_pcap.specs.Header.{output_header};
+ghost use Rattle.cf_pcap.specs.Record.{Whole, moment_limit, record_of};
 ghost use Rattle.cf_run.specs.OutputFile.{IsRecord, record_octets};
 ghost use Rattle.cf_run.specs.FileDesk.{file_desk};
 
@@ -31,7 +33,7 @@ impl<'a, F: Files> Desk for FileDesk<'a, F> {
 
     /// Appends a record to the capture file. The desk is no longer whole where that failed.
     fn emit(&mut self, moment: u64, packet: &[u8]) -> WriteAnswer {
-        let record = record_of(moment, packet);
+        let record = packet_record(moment, packet);
         match self.files.append(self.out, &record) {
             WriteAnswer::Done => WriteAnswer::Done,
             WriteAnswer::Failed => {
@@ -53,12 +55,15 @@ impl<'a, F: Files> Desk for FileDesk<'a, F> {
     }
 }
 
-/// The octets of the record of a packet.
-fn record_of(moment: u64, packet: &[u8]) -> ArrayVec<u8, 1516>
-    requires moment { moment < 2 ^ 32 * 1000000 }
+/// The octets of the record of a packet of at most 1,500 octets, at a moment in microseconds, below 2^32 seconds.
+pub fn packet_record(moment: u64, packet: &[u8]) -> ArrayVec<u8, 1516>
+    requires moment { moment < moment_limit }
     requires packet { length packet.now ≤ 1500 }
     ensures octets { result.items ≡ record_octets (record { moment = moment; bytes = packet.now }) }
     ensures one { IsRecord result.items (record { moment = moment; bytes = packet.now }) }
+    // It is read again, whatever follows.
+    ensures again { (rest : List ℕ) → record_of output_header (record_octets (record { moment = moment; bytes = packet.now }) ++ rest)
+        ≡ Whole moment packet.now (16 + length packet.now) }
 {
     let mut head = [0u8; 16];
     write_record_head(moment, packet.len() as u32, &mut head);

@@ -19,7 +19,7 @@ mod summary;
 pub use blocks::BlockRefusal;
 pub use engine::{Engine, StepFault};
 pub use entry::{Entry, Table};
-pub use file_desk::FileDesk;
+pub use file_desk::{FileDesk, packet_record};
 pub use first_half::tick_all;
 pub use form::{Form, FormRefusal};
 pub use laws::{

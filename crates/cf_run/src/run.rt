@@ -110,7 +110,7 @@ pub fn run_capture<F: Files>(
     requires within { AreAssetsWithin policy.now.assets }
     requires apart { AreApart (run_names_value names.now) }
     ensures runs { RunsAs policy.now.assets LETTER_LIMIT (run_names_value names.now) (F.content files.old) (F.content files.new) result }
-    ensures others { KeepsOtherFiles (run_names_value names.now) (F.content files.old) (F.content files.new) }
+    ensures others { KeepsOtherFiles (names.now.out.now ∷ names.now.log.now ∷ []) (F.content files.old) (F.content files.new) }
     ensures read { HasCause (F.read_faults files.old) (F.read_faults files.new) (IsErrOf result RunFault.Read) }
     ensures write { HasCause (F.write_faults files.old) (F.write_faults files.new) (IsErrOf result RunFault.Write) }
 {
@@ -132,7 +132,7 @@ fn create_outputs<F: Files>(names: &RunNames<'_>, files: &mut F) -> WriteAnswer
     ensures log { result ≡ WriteAnswer.Done →
         F.content files.new names.now.log.now ≡ content_after_create (F.content files.old names.now.log.now) }
     ensures failed { result ≡ WriteAnswer.Failed → IsCreatedInPart (run_names_value names.now) (F.content files.old) (F.content files.new) }
-    ensures others { KeepsOtherFiles (run_names_value names.now) (F.content files.old) (F.content files.new) }
+    ensures others { KeepsOtherFiles (names.now.out.now ∷ names.now.log.now ∷ []) (F.content files.old) (F.content files.new) }
     ensures cause { HasCause (F.write_faults files.old) (F.write_faults files.new) (result ≡ WriteAnswer.Failed) }
     ensures reads { F.read_faults files.new ≡ F.read_faults files.old }
 {
@@ -166,7 +166,7 @@ fn run_records<F: Files>(
     requires log { IsWhole (F.content files.old names.now.log.now) [] }
     ensures runs { RunsRecords policy.now.assets engine.old.limit (run_names_value names.now)
         (F.content files.old) (F.content files.new) result }
-    ensures others { KeepsOtherFiles (run_names_value names.now) (F.content files.old) (F.content files.new) }
+    ensures others { KeepsOtherFiles (names.now.out.now ∷ names.now.log.now ∷ []) (F.content files.old) (F.content files.new) }
     ensures read { HasCause (F.read_faults files.old) (F.read_faults files.new) (IsErrOf result RunFault.Read) }
     ensures write { HasCause (F.write_faults files.old) (F.write_faults files.new) (IsErrOf result RunFault.Write) }
 {
@@ -230,7 +230,7 @@ fn run_record<F: Files>(
     ensures last { OnOk result (engine.new.last ≡ moment) }
     ensures limit { engine.new.limit ≡ engine.old.limit }
     ensures whole { OnOk result (are_whole names.now.out.now names.now.log.now (F.content files.new) ≡ true) }
-    ensures others { KeepsOtherFiles (run_names_value names.now) (F.content files.old) (F.content files.new) }
+    ensures others { KeepsOtherFiles (names.now.out.now ∷ names.now.log.now ∷ []) (F.content files.old) (F.content files.new) }
     ensures cause { HasCause (F.write_faults files.old) (F.write_faults files.new) (IsErrOf result StepFault.Write) }
     ensures reads { F.read_faults files.new ≡ F.read_faults files.old }
 {

@@ -8,10 +8,10 @@ use Rattle.cf_leg.specs.Heard.{offers, opened, owed, shown}
 use Rattle.cf_leg.specs.LegValue.{LegValue}
 use Rattle.cf_leg.specs.Segment.{segment}
 use Rattle.cf_leg.specs.Told.{is_greeted, letters_sent_at, told_at}
+use Rattle.cf_leg.specs.declared.Advertised.{Advertised}
 use Rattle.cf_leg.specs.declared.Ends.{Ends}
 use Rattle.cf_leg.specs.declared.Role.{Role}
 use Rattle.cf_leg.specs.declared.Role.TheVariants as role
-use Rattle.cf_leg.specs.declared.Advertised.{Advertised}
 use Rattle.cf_leg.specs.declared.Way.{Way}
 use Rattle.cf_outq.specs.SendQueue.{Queue}
 use Rattle.cf_packet.specs.Packet.{PacketValue}

@@ -1,6 +1,7 @@
 -- The second half of an event of a session, whatever side the packet came from and however the event ends.
 use Rattle.std.proofs.Common.{◌≡◌, ℕ, inr, true, ◌&&◌, List, [], ◌∷◌, ◌++◌, Option, None, refl, sym, ap, ◌∙◌, subst}
 use Rattle.std.proofs.lemmas.List.{append-nil}
+use Rattle.std.specs.Option.{is_none}
 use Rattle.cf_audit.specs.declared.CutReason.{CutReason}
 use Rattle.cf_lane.specs.History.{ended_of, taken}
 use Rattle.cf_lane.specs.Output.{other}
@@ -14,7 +15,7 @@ use Rattle.cf_stream.specs.Stream.{Stream, letter_count}
 use Rattle.cf_view.specs.declared.Side.{Side}
 use Rattle.cf_session.proofs.Fed.{nothing_fed, taken_more, taken_other}
 use Rattle.cf_session.specs.Cuts.{packet_cut}
-use Rattle.cf_session.specs.Event.{AreEvents, AreTaken, EndsPacket, IsEvent, IsPacket, IsTick, came_client, came_controller, is_none}
+use Rattle.cf_session.specs.Event.{AreEvents, AreTaken, EndsPacket, IsEvent, IsPacket, IsTick, came_client, came_controller}
 use Rattle.cf_session.specs.Session.{Flow, SessionEvent, client_ends, client_of, clients, controller_ends, controllers, has_room, history}
 use Rattle.cf_session.specs.Turn.{heard_event}
 use Rattle.cf_session.specs.Work.{Work, Works}

@@ -32,7 +32,7 @@ use Rattle.cf_session.specs.Sent.{at, first_line, last_line, late, line, new_lin
 use Rattle.cf_session.specs.Session.{Flow, SessionEvent, client_ends, client_of, clients, closed_at, controller_ends, controllers, has_room, history, is_closed, was_closed, work_of}
 use Rattle.cf_session.specs.Stands.{CountsAs, Hears, HearsBy, IsSessionOf, life_by}
 use Rattle.cf_session.specs.Told.{Told, with_both}
-use Rattle.cf_session.specs.Turn.{RightCuts, HeardBy, IsHalf, MayGreet, MaySpeak, OnlySpeaks, SaysAmid, SaysBoth, came_first, came_greeted, closing_lines, greetings, heard_half, is_done_now, number_by, roomy_by}
+use Rattle.cf_session.specs.Turn.{RightCuts, HeardBy, IsHalf, MayGreet, MaySpeak, OnlySpeaks, SaysAmid, SaysBoth, came_first, came_greeted, closing_lines, greetings, heard_half, is_done_now, is_roomy, number_by}
 use Rattle.cf_session.specs.Work.{Work, Works}
 
 abbrev pub BaseCounts : Type 0
@@ -103,13 +103,13 @@ module _ {f : Flow} {es : List SessionEvent} {t : SessionEvent} {s0 : SessionVal
       (subst (λ m. MayGreet m half_heard.client (clients es)) (sym is) may)
       (record { controller_stands = h.parts.controller; client_stands = h.parts.client; to_client_stands = h.parts.to_client; to_controller_stands = h.parts.to_controller }))
 
-  pub says_here : (s2 : SessionValue) (t2 : Told) {n : Option ℕ} → n ≡ number → Speaks now n s1 (λ f m x cs y ds v u. SaysBoth f now m x cs y ds v u (roomy_by s1.to_client s1.to_controller) s2 t1 t2) →
-      SaysBoth f now number half_heard.controller (controllers es) half_heard.client (clients es) h.work.to_client h.work.to_controller (roomy_by s1.to_client s1.to_controller) s2 t1 t2
-  says_here s2 t2 {n} is says = speaks_here (λ f m x cs y ds v u. SaysBoth f now m x cs y ds v u (roomy_by s1.to_client s1.to_controller) s2 t1 t2) n is says
+  pub says_here : (s2 : SessionValue) (t2 : Told) {n : Option ℕ} → n ≡ number → Speaks now n s1 (λ f m x cs y ds v u. SaysBoth f now m x cs y ds v u (is_roomy s1) s2 t1 t2) →
+      SaysBoth f now number half_heard.controller (controllers es) half_heard.client (clients es) h.work.to_client h.work.to_controller (is_roomy s1) s2 t1 t2
+  says_here s2 t2 {n} is says = speaks_here (λ f m x cs y ds v u. SaysBoth f now m x cs y ds v u (is_roomy s1) s2 t1 t2) n is says
 
-  pub amid_here : (d1 d2 : DeskValue) {n : Option ℕ} → n ≡ number → Speaks now n s1 (λ f m x cs y ds v u. SaysAmid f now m x cs y ds v u (roomy_by s1.to_client s1.to_controller) d1 d2) →
-      SaysAmid f now number half_heard.controller (controllers es) half_heard.client (clients es) h.work.to_client h.work.to_controller (roomy_by s1.to_client s1.to_controller) d1 d2
-  amid_here d1 d2 {n} is says = speaks_here (λ f m x cs y ds v u. SaysAmid f now m x cs y ds v u (roomy_by s1.to_client s1.to_controller) d1 d2) n is says
+  pub amid_here : (d1 d2 : DeskValue) {n : Option ℕ} → n ≡ number → Speaks now n s1 (λ f m x cs y ds v u. SaysAmid f now m x cs y ds v u (is_roomy s1) d1 d2) →
+      SaysAmid f now number half_heard.controller (controllers es) half_heard.client (clients es) h.work.to_client h.work.to_controller (is_roomy s1) d1 d2
+  amid_here d1 d2 {n} is says = speaks_here (λ f m x cs y ds v u. SaysAmid f now m x cs y ds v u (is_roomy s1) d1 d2) n is says
 
   pub lines_are : (e : SessionEvent) → e.work ≡ h.work → first_line f es e ++ new_lines es e ≡ h.lines
   lines_are e same =
@@ -163,12 +163,12 @@ module _ {f : Flow} {es : List SessionEvent} {t : SessionEvent} {s0 : SessionVal
   -- ---- the session goes on
   module _ (because : None ≡ cut_by (is_some s1.closed) (is_reset given) s cut (full_of s1)) (uncut : cut ≡ None)
       (s2 s3 : SessionValue) (t2 t3 : Told)
-      (says : SaysBoth f now number half_heard.controller (controllers es) half_heard.client (clients es) h.work.to_client h.work.to_controller (roomy_by s1.to_client s1.to_controller) s2 t1 t2)
+      (says : SaysBoth f now number half_heard.controller (controllers es) half_heard.client (clients es) h.work.to_client h.work.to_controller (is_roomy s1) s2 t1 t2)
       (only : OnlySpeaks s1 s2) (queue_c : IsQueueOf s2.to_client h.work.to_client) (queue_k : IsQueueOf s2.to_controller h.work.to_controller)
       (others : s3 ≡ record s2 { closed = s3.closed }) (closing : s3.closed ≡ option_or s2.closed (cond (is_done_now s2) (Some now) None))
       (asset : Asset) (is : f.asset ≡ asset) (put : t3 ≡ with_both t2 [] (closing_lines asset s2 now)) where
     abbrev roomy : Bool
-    roomy = roomy_by s1.to_client s1.to_controller
+    roomy = is_roomy s1
 
     abbrev pub live_event : SessionEvent
     live_event = ended_as f es t s p s1 given cut t0 t1 h None number (Spoke h.work.to_controller roomy says.outs_c) (Spoke h.work.to_client roomy says.outs_d)

@@ -32,7 +32,7 @@ use Rattle.cf_session.specs.Sent.{at, first_line, last_line, late, line, new_lin
 use Rattle.cf_session.specs.Session.{Flow, SessionEvent, client_ends, client_of, clients, controller_ends, controllers, has_room, history, was_closed, work_of}
 use Rattle.cf_session.specs.Stands.{IsSessionOf}
 use Rattle.cf_session.specs.Told.{Told, told, with_both}
-use Rattle.cf_session.specs.Turn.{CutsBoth, HeardAmid, OnlySpeaks, SaysAmid, SaysBoth, came_first, came_greeted, closing_lines, ends_of, greetings, heard_event, heard_half, is_done_now, leg_in, legs_of, number_by, roomy_by}
+use Rattle.cf_session.specs.Turn.{CutsBoth, HeardAmid, OnlySpeaks, SaysAmid, SaysBoth, came_first, came_greeted, closing_lines, ends_of, greetings, heard_event, heard_half, is_done_now, is_roomy, leg_in, legs_of, number_by}
 use Rattle.cf_session.specs.Work.{Work}
 
 module _ (f : Flow) (es : List SessionEvent) (t : SessionEvent) (s0 : SessionValue) (stands : IsSessionOf f es t s0) (tick : IsTick f es t.client.tick t) (s : Side) (p : PacketValue) where
@@ -139,7 +139,7 @@ module _ {f : Flow} {es : List SessionEvent} {t : SessionEvent} {s0 : SessionVal
     number = number_by s given p.seq
 
     abbrev roomy : Bool
-    roomy = roomy_by s1.to_client s1.to_controller
+    roomy = is_roomy s1
 
     -- amid the speeches
     pub speak_failed : (d2 : DeskValue) →

@@ -2,6 +2,7 @@
 use Rattle.std.proofs.Common.{◌≡◌, ℕ, ◌+◌, ◌&&◌, inl, inr, Bool, true, false, not, List, [], ◌∷◌, ◌++◌, map, Option, Some, None, refl, sym, ap, ◌∙◌, subst}
 use Rattle.std.proofs.lemmas.Bool.{false≢true}
 use Rattle.std.proofs.lemmas.Option.{same_Some}
+use Rattle.std.specs.Option.{is_none}
 use Rattle.cf_audit.specs.declared.CutReason.{CutReason}
 use Rattle.cf_lane.specs.History.{Element, taken}
 use Rattle.cf_lane.specs.Laws.{HasOneJudgement}
@@ -21,7 +22,7 @@ use Rattle.cf_view.specs.declared.Side.{Side}
 use Rattle.cf_view.specs.declared.Side.TheVariants as side
 use Rattle.cf_session.proofs.Fed.{fed_fixed}
 use Rattle.cf_session.specs.Cuts.{clock_cut, gives_up, packet_cut, resets}
-use Rattle.cf_session.specs.Event.{AreEvents, EndsPacket, EndsTick, IsBeginning, IsEvent, IsPacket, IsTick, came_client, is_none}
+use Rattle.cf_session.specs.Event.{AreEvents, EndsPacket, EndsTick, IsBeginning, IsEvent, IsPacket, IsTick, came_client}
 use Rattle.cf_session.specs.Laws.{Given, given, packet_in}
 use Rattle.cf_session.specs.Session.{Flow, SessionEvent, client_ends, client_of, clients, controller_ends, controllers, has_room, history}
 use Rattle.cf_session.specs.Work.{Work, Works, fed_at, work_by}

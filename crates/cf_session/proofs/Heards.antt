@@ -31,7 +31,7 @@ use Rattle.cf_session.specs.Event.{AreTaken, IsTick, came_controller}
 use Rattle.cf_session.specs.Parts.{SessionValue}
 use Rattle.cf_session.specs.Session.{Flow, SessionEvent, client_ends, clients, closed_at, controller_ends, controllers, has_room, history, is_closed, is_done, was_closed, work_of}
 use Rattle.cf_session.specs.Told.{Told}
-use Rattle.cf_session.specs.Turn.{HeardBy, came_first, came_greeted, ends_of, heard_event, heard_half, is_acknowledged, is_done_now, leg_in, legs_of, number_by, roomy_by}
+use Rattle.cf_session.specs.Turn.{HeardBy, came_first, came_greeted, ends_of, heard_event, heard_half, is_acknowledged, is_done_now, is_roomy, leg_in, legs_of, number_by}
 use Rattle.cf_session.specs.Work.{Work}
 
 -- ---- a greeting changes nothing that reads packets alone
@@ -173,7 +173,7 @@ module _ (f : Flow) (es : List SessionEvent) (t : SessionEvent) (s : Side) (p : 
     acked_controller : s1.to_controller.acked ≡ acked (controller_ends f).role (controllers (half ∷ es))
     acked_controller = subst (λ (n : Ends). s1.to_controller.acked ≡ acked n.role (controllers (half ∷ es))) h.parts.controller.is h.parts.controller.stands.of_acked
 
-    pub room_is : roomy_by s1.to_client s1.to_controller ≡ has_room f (event ∷ es)
+    pub room_is : is_roomy s1 ≡ has_room f (event ∷ es)
     room_is =
         ap (λ n. nat_le (n - s1.to_client.acked) 16384 && nat_le (queue_length s1.to_controller - s1.to_controller.acked) 16384) (length_is s1.to_client h.work.to_client h.parts.to_client)
         ∙ ap (λ n. nat_le (letter_count h.work.to_client - n) 16384 && nat_le (queue_length s1.to_controller - s1.to_controller.acked) 16384) (acked_client ∙ sym same_acked)

@@ -2,6 +2,7 @@
 use Rattle.std.proofs.Common.{◌≡◌, ℕ, Bool, true, false, cond, ◌||◌, List, [], ◌∷◌, ◌++◌, refl, sym, ap, ◌∙◌, subst}
 use Rattle.std.proofs.lemmas.Bool.{true≢false}
 use Rattle.std.proofs.lemmas.List.{append-nil, append_cancel_left}
+use Rattle.cf_driver.specs.Takes.{OnlyPushed}
 use Rattle.cf_leg.specs.Calls.{Continues, Heard, Newly, with_letters}
 use Rattle.cf_leg.specs.Event.{LegEvent, Nothing, Packet, Unspoken, moment}
 use Rattle.cf_leg.specs.Heard.{answer_to, end_state, offers}
@@ -18,7 +19,6 @@ use Rattle.cf_view.specs.declared.Side.TheVariants as side
 use Rattle.cf_lane.specs.Follows.{Rests, rest_of, with_rest}
 use Rattle.cf_session.proofs.Heards.{window_ended}
 use Rattle.cf_session.specs.Parts.{IsLegBetween, own_queue}
-use Rattle.cf_session.specs.Turn.{IsPushed}
 
 -- the leg stands for the event with the packet, which brings these letters
 pub record Took (ends : Ends) (e : LegEvent) (es : List LegEvent) (p : PacketValue) (leg new : LegValue) (q : Queue) (answer : LegAnswer) (letters : Stream) : Type 0 where
@@ -75,19 +75,19 @@ newly_none l old new t o k pending same =
 
 -- ---- the leg once the lane has put bytes into its queue, and its window was consumed
 
-same_marks : (a b : Queue) → IsPushed a b → marks b ≡ marks a
+same_marks : (a b : Queue) → OnlyPushed a b → marks b ≡ marks a
 same_marks a b h =
     ap (λ n. let m : Marks = record { acked = n; sent = b.sent; shown = b.shown } in m) h.acked
     ∙ ap (λ n. let m : Marks = record { acked = a.acked; sent = n; shown = b.shown } in m) h.sent
     ∙ ap (λ n. let m : Marks = record { acked = a.acked; sent = a.sent; shown = n } in m) h.shown
 
-pub stands_on : (ends : Ends) (leg new : LegValue) (q q' : Queue) (es : List LegEvent) → IsLegBetween ends leg q es → new.ends ≡ leg.ends → ((m : Marks) (xs : List LegEvent) → IsLegOf leg m xs → IsLegOf new m xs) → IsPushed q q' → IsLegBetween ends new q' es
+pub stands_on : (ends : Ends) (leg new : LegValue) (q q' : Queue) (es : List LegEvent) → IsLegBetween ends leg q es → new.ends ≡ leg.ends → ((m : Marks) (xs : List LegEvent) → IsLegOf leg m xs → IsLegOf new m xs) → OnlyPushed q q' → IsLegBetween ends new q' es
 stands_on ends leg new q q' es s same on pushed = record { is = same ∙ s.is; stands = subst (λ m. IsLegOf new m es) (sym (same_marks q q' pushed)) (on (marks q) es s.stands) }
 
-pub stands_pushed : (ends : Ends) (leg : LegValue) (q q' : Queue) (es : List LegEvent) → IsLegBetween ends leg q es → IsPushed q q' → IsLegBetween ends leg q' es
+pub stands_pushed : (ends : Ends) (leg : LegValue) (q q' : Queue) (es : List LegEvent) → IsLegBetween ends leg q es → OnlyPushed q q' → IsLegBetween ends leg q' es
 stands_pushed ends leg q q' es s pushed = stands_on ends leg leg q q' es s refl (λ m xs h. h) pushed
 
-pub own_pushed : (s : Side) (c k c' k' : Queue) → IsPushed c c' → IsPushed k k' → IsPushed (own_queue s c k) (own_queue s c' k')
+pub own_pushed : (s : Side) (c k c' k' : Queue) → OnlyPushed c c' → OnlyPushed k k' → OnlyPushed (own_queue s c k) (own_queue s c' k')
 own_pushed side.Client c k c' k' a b = a
 own_pushed side.Controller c k c' k' a b = b
 

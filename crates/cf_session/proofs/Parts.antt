@@ -3,6 +3,7 @@ use Rattle.std.proofs.Common.{◌≡◌, ℕ, List, ◌∷◌, ◌++◌, Option,
 use Rattle.cf_audit.specs.declared.CutReason.{CutReason}
 use Rattle.cf_lane.specs.Follows.{Rests, with_rest}
 use Rattle.cf_lane.specs.History.{ended_of, taken}
+use Rattle.cf_driver.specs.Takes.{OnlyPushed}
 use Rattle.cf_leg.specs.Calls.{with_letters}
 use Rattle.cf_leg.specs.Event.{Came, Ending, LegEvent, Nothing, Packet, Unspoken, moment}
 use Rattle.cf_leg.specs.Heard.{offers}
@@ -22,7 +23,7 @@ use Rattle.cf_session.specs.Event.{AreTaken}
 use Rattle.cf_session.specs.Parts.{AreParts, IsLaneAfter, IsLegBetween, SessionValue, rests}
 use Rattle.cf_session.specs.Session.{Flow, SessionEvent, client_ends, client_of, clients, controller_ends, controllers, history}
 use Rattle.cf_session.specs.Told.{Told}
-use Rattle.cf_session.specs.Turn.{AreUncut, HeardBy, Hearing, IsHalf, IsPushed, ends_of, heard_half, leg_in, legs_of}
+use Rattle.cf_session.specs.Turn.{AreUncut, HeardBy, Hearing, IsHalf, ends_of, heard_half, leg_in, legs_of}
 use Rattle.cf_session.specs.Work.{Work}
 
 -- the event with nothing come and nothing said is as it was
@@ -47,7 +48,7 @@ are_uncut {f} {es} {t} {s} half parts is = record {
 }
 
 -- the other leg, of which only the queue has changed
-other_leg : (ends : Ends) (old new : LegValue) (q q' : Queue) (d : LegEvent) (es : List LegEvent) → d.came ≡ Nothing → d.ending ≡ Unspoken → new ≡ old → IsPushed q q' → IsLegBetween ends old q (d ∷ es) →
+other_leg : (ends : Ends) (old new : LegValue) (q q' : Queue) (d : LegEvent) (es : List LegEvent) → d.came ≡ Nothing → d.ending ≡ Unspoken → new ≡ old → OnlyPushed q q' → IsLegBetween ends old q (d ∷ es) →
     IsLegBetween ends new q' (record d { came = Nothing; ending = Unspoken } ∷ es)
 other_leg ends old new q q' d es a b same pushed h =
     subst (λ l. IsLegBetween ends l q' (record d { came = Nothing; ending = Unspoken } ∷ es)) (sym same) (stands_pushed ends old q q' _ (idle_leg ends old q d es a b h) pushed)
@@ -105,13 +106,13 @@ module _ (f : Flow) (es : List SessionEvent) (t : SessionEvent) (half : IsHalf t
     as_flow : (s : Side) (leg : LegValue) → Hears s leg asset time → Hears s leg f.asset (moment t.client)
     as_flow s leg h = subst (Hears s leg f.asset) (sym at) (subst (λ a. Hears s leg a time) (sym is) h)
 
-    pub client_at : Hears side.Client new.client asset time → new.controller ≡ old.controller → IsPushed old.to_controller new.to_controller → HeardBy f es t side.Client p new answer cut t0 t1
+    pub client_at : Hears side.Client new.client asset time → new.controller ≡ old.controller → OnlyPushed old.to_controller new.to_controller → HeardBy f es t side.Client p new answer cut t0 t1
     client_at h same pushed =
         let own = as_flow side.Client new.client h in
         heard_by side.Client new.client own (ap (λ (l : LegValue). let r : Rests = record { client = new.client.window.pending; controller = l.window.pending } in r) (sym same)) own.leg_stands
         (other_leg (controller_ends f) old.controller new.controller old.to_controller new.to_controller t.controller (controllers es) half.controller_came half.controller_ending same pushed parts.controller)
 
-    pub controller_at : Hears side.Controller new.controller asset time → new.client ≡ old.client → IsPushed old.to_client new.to_client → HeardBy f es t side.Controller p new answer cut t0 t1
+    pub controller_at : Hears side.Controller new.controller asset time → new.client ≡ old.client → OnlyPushed old.to_client new.to_client → HeardBy f es t side.Controller p new answer cut t0 t1
     controller_at h same pushed =
         let own = as_flow side.Controller new.controller h in
         heard_by side.Controller new.controller own (ap (λ (l : LegValue). let r : Rests = record { client = l.window.pending; controller = new.controller.window.pending } in r) (sym same))

@@ -5,6 +5,7 @@ use Rattle.std.proofs.lemmas.Bool.{cases_Bool, false≢true, true≢false, and_p
 use Rattle.std.proofs.lemmas.List.{append-nil, map-append}
 use Rattle.std.proofs.lemmas.List.Folds.{list_any-append}
 use Rattle.cf_audit.specs.declared.CutReason.{CutReason}
+use Rattle.cf_driver.proofs.Limits.{limit_short}
 use Rattle.cf_lane.specs.History.{Element, ended_of, is_side}
 use Rattle.cf_lane.specs.Laws.{QuietBehindEnd, StreamsGoOn}
 use Rattle.cf_lane.specs.Limit.{limit_cut}
@@ -24,7 +25,6 @@ use Rattle.cf_session.specs.Session.{Flow, SessionEvent, client_ends, client_of,
 use Rattle.cf_session.specs.Work.{Work, Works, no_work}
 use Rattle.cf_session.proofs.Fixed.{WorkIsOne, clients_right, controllers_right}
 use Rattle.cf_session.proofs.OneStream.{Grown, all_parts, client_grown, controller_grown, front, or_true, tick_still, works_of}
-use Rattle.cf_session.proofs.Sound.{limits_none}
 
 -- ---- a closed session has taken both Ends
 
@@ -58,7 +58,7 @@ or_none None b e = e
 or_none (Some r) b e = cc e
 
 short_by : (limit : ℕ) (h : List Element) (w : Work) → limit_cut limit h w.to_client w.to_controller ≡ None → IsShortWork limit w
-short_by limit h w e = let l = limits_none limit _ _ (letter_count w.to_client) (letter_count w.to_controller) e in record { to_client = omega (arith, l.2); to_controller = omega (arith, l.3) }
+short_by limit h w e = let l = limit_short limit _ _ (letter_count w.to_client) (letter_count w.to_controller) e in record { to_client = omega (arith, l.2); to_controller = omega (arith, l.3) }
 
 module _ (one : WorkIsOne) (f : Flow) (limit : ℕ) where
   packet_short : (es : List SessionEvent) (half : SessionEvent) (e : SessionEvent) → Works f.asset (client_of f) (history es) (work_of es) → IsShortWork limit (work_of es) →

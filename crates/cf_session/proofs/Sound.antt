@@ -1,10 +1,10 @@
 -- A session is sound after a packet that did not cut it.
 use Rattle.std.proofs.lemmas.Option.{none-some}
-use Rattle.std.proofs.Common.{◌≡◌, ◌≢◌, ℕ, ◌<◌, Bool, true, false, cond, ◌||◌, Option, Some, None, refl, sym, ap, ◌∙◌, subst, arith}
-use Rattle.std.specs.Prelude.{nat_le}
+use Rattle.std.proofs.Common.{◌≡◌, ◌≢◌, ℕ, Bool, true, false, cond, ◌&&◌, Option, Some, None, refl, sym, ap, ◌∙◌, subst, arith}
 use Rattle.std.specs.Option.{is_some, option_or}
-use Rattle.std.proofs.lemmas.Bool.{true≢false, and_parts, or_parts}
+use Rattle.std.proofs.lemmas.Bool.{true≢false, and_parts}
 use Rattle.cf_audit.specs.declared.CutReason.{CutReason}
+use Rattle.cf_driver.proofs.Limits.{limit_short}
 use Rattle.cf_lane.specs.Handled.{IsLaneOf, LaneValue}
 use Rattle.cf_leg.specs.declared.LegAnswer.{LegAnswer}
 use Rattle.cf_outq.specs.SendQueue.{Queue, queue_length}
@@ -15,7 +15,6 @@ use Rattle.cf_view.specs.declared.Side.{Side}
 use Rattle.cf_view.specs.declared.Side.TheVariants as side
 use Rattle.cf_session.proofs.Heards.{full_of}
 use Rattle.cf_session.specs.Cuts.{cut_by, is_reset}
-use Rattle.cf_lane.specs.Limit.{limit_by}
 use Rattle.cf_session.specs.Parts.{SessionValue}
 use Rattle.cf_session.specs.Stands.{IsSound}
 use Rattle.cf_session.specs.Turn.{IsShort, IsSteady, OnlySpeaks, is_done_now}
@@ -51,24 +50,9 @@ full_none false true side.Controller cut full e c = absurd (none-some _ e)
 full_none false false s None full e c = sym e
 full_none false false s (Some r) full e c = absurd (none-some r e)
 
-below : (limit a : ℕ) → nat_le limit a ≡ false → a < limit
-below limit a e = grind arith
-
-two_none : (x y : Bool) (r q : CutReason) → cond x (Some r) (cond y (Some q) None) ≡ None → (x ≡ false) × (y ≡ false)
-two_none false false r q e = (refl, refl)
-two_none false true r q e = absurd (none-some q (sym e))
-two_none true y r q e = absurd (none-some r (sym e))
-
-pub limits_none : (limit client controller to_client to_controller : ℕ) → limit_by limit client controller to_client to_controller ≡ None → (client < limit) × (controller < limit) × (to_client < limit) × (to_controller < limit)
-limits_none limit client controller to_client to_controller e =
-    let both = two_none (nat_le limit client || nat_le limit to_client) (nat_le limit controller || nat_le limit to_controller) _ _ e in
-    let x = or_parts (nat_le limit client) (nat_le limit to_client) both.0 in
-    let y = or_parts (nat_le limit controller) (nat_le limit to_controller) both.1 in
-    (below limit client x.0, below limit controller y.0, below limit to_client x.1, below limit to_controller y.1)
-
 short_by : (s : SessionValue) (cut : Option CutReason) (o : Option ℕ) → s.closed ≡ o → IsSteady s cut → (is_some o ≡ false → full_of s ≡ None) → IsShort s
 short_by s cut None e h full =
-    let x = limits_none s.limit (base_of s.client.window) (base_of s.controller.window) (queue_length s.to_client) (queue_length s.to_controller) (full refl) in
+    let x = limit_short s.limit (base_of s.client.window) (base_of s.controller.window) (queue_length s.to_client) (queue_length s.to_controller) (full refl) in
     record { client_letters = x.2; controller_letters = x.3; client_taken = x.0; controller_taken = x.1 }
 short_by s cut (Some m) e h full = h.short (some_closed s.closed (ap is_some e))
 

@@ -1,6 +1,7 @@
 -- What each event of a session must be, given those before it: `AreEvents`, read from the end. Nothing here speaks of another session:
 -- each definition reads the flow, the limit of letters, the session's earlier events and the event.
-use Rattle.std.specs.Prelude.{◌≡◌, ℕ, ◌⊎◌, not, Bool, true, false, ◌&&◌, if◌then◌else◌, List, [], ◌∷◌, Option, None, Some}
+use Rattle.std.specs.Prelude.{◌≡◌, ℕ, ◌⊎◌, not, Bool, true, ◌&&◌, if◌then◌else◌, List, [], ◌∷◌, Option, None, Some}
+use Rattle.std.specs.Option.{is_none}
 use Rattle.cf_audit.specs.declared.CutReason.{CutReason}
 use Rattle.cf_lane.specs.History.{Element, ended_of, taken}
 use Rattle.cf_leg.specs.Emits.{IsRight, syn, syn_ack_for}
@@ -75,11 +76,6 @@ came_controller side.Controller packet = Packet packet
 abbrev pub came_client : Flow → (from : Side) → PacketValue → (opens : Bool) → Came
 came_client flow side.Client packet opens = Packet packet
 came_client flow side.Controller packet opens = if opens then Greeting (syn_ack_for (client_ends flow) flow.syn.seq packet.seq) else Nothing
-
--- nothing is cut
-abbrev pub is_none : Option CutReason → Bool
-is_none None = true
-is_none (Some because) = false
 
 -- the letters newly taken are of one side, or there are none
 abbrev pub AreFed : (now : ℕ) → (from : Side) → List Element → Type 0

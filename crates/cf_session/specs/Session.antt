@@ -6,6 +6,7 @@ use Rattle.std.specs.Prelude.{ℕ, ◌+◌, ◌-◌, ◌==◌, nat_le, Bool, fal
 use Rattle.std.specs.Option.{option_or, is_some}
 use Rattle.cf_audit.specs.declared.CutReason.{CutReason}
 use Rattle.cf_lane.specs.History.{Element, ended_of}
+use Rattle.cf_leg.specs.Emits.{window_size}
 use Rattle.cf_leg.specs.Event.{LegEvent, moment}
 use Rattle.cf_leg.specs.Heard.{acked}
 use Rattle.cf_leg.specs.declared.Ends.{Ends}
@@ -66,11 +67,7 @@ work_of (event ∷ earlier) = event.work
 
 -- ---- room: in both directions at most 16,384 letters are not acknowledged
 
--- the greatest window, and so the letters of a stream that may wait for an acknowledgment with room left
-abbrev pub window_size : ℕ
-window_size = 16384
-
--- no more letters of a stream than a window has are without acknowledgment
+-- no more letters of a stream than the greatest window has are without acknowledgment
 abbrev pub is_short : Stream → (acknowledged : ℕ) → Bool
 is_short stream acknowledged = nat_le (letter_count stream - acknowledged) window_size
 

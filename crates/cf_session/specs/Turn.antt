@@ -1,8 +1,10 @@
 -- Steps of the proof: what the steps of a call do, over the parts of a session: `Hearing`, `GreetsClient`, `SaysBoth` and `CutsBoth`.
-use Rattle.std.specs.Prelude.{◌≡◌, ◌≢◌, ℕ, ◌+◌, ◌*◌, ◌^◌, ◌<◌, ◌≤◌, Bool, true, false, List, [], ◌∷◌, ◌++◌, length, nat_le, ◌-◌, ◌&&◌, ◌==◌, not, if◌then◌else◌, Option, None, Some}
+use Rattle.std.specs.Prelude.{◌≡◌, ◌≢◌, ℕ, ◌+◌, ◌*◌, ◌^◌, ◌<◌, ◌≤◌, Bool, true, false, List, [], ◌∷◌, ◌++◌, length, ◌-◌, ◌&&◌, ◌==◌, not, if◌then◌else◌, Option, None, Some}
 use Rattle.std.specs.Option.{is_some}
 use Rattle.cf_audit.specs.Line.{Close, Cut as CutLine}
 use Rattle.cf_audit.specs.declared.CutReason.{CutReason}
+use Rattle.cf_driver.specs.Small.{is_small}
+use Rattle.cf_driver.specs.Takes.{OnlyPushed}
 use Rattle.cf_leg.specs.Emits.{IsRight, syn_ack_for}
 use Rattle.cf_leg.specs.Told.{is_greeted}
 use Rattle.cf_leg.specs.Calls.{with_letters}
@@ -87,12 +89,6 @@ pub record FollowsMore (asset : Asset) (client : Endpoint) (now : ℕ) (s : Side
   pub log_is : work.log ≡ before.log ++ lines
   pub told : new ≡ with_both old [] lines
 
--- nothing that a leg counts of its queue changed
-pub record IsPushed (old new : Queue) : Type 0 where
-  pub acked : new.acked ≡ old.acked
-  pub sent : new.sent ≡ old.sent
-  pub shown : new.shown ≡ old.shown
-
 -- what it does to the room, whatever came before
 pub record HandsOver (s : Side) (old new : Window) (lane lane' : LaneValue) (c c' k k' : Queue) : Type 0 where
   pub edge : new.edge ≡ old.edge
@@ -100,8 +96,8 @@ pub record HandsOver (s : Side) (old new : Window) (lane lane' : LaneValue) (c c
   pub base : base_of new ≡ base_of old
   pub client_room : length c'.kept + debt lane' + 2 * open_places new ≤ length c.kept + debt lane + 2 * open_places old
   pub controller_room : length k'.kept + debt lane' + 2 * open_places new ≤ length k.kept + debt lane + 2 * open_places old
-  pub client_pushed : IsPushed c c'
-  pub controller_pushed : IsPushed k k'
+  pub client_pushed : OnlyPushed c c'
+  pub controller_pushed : OnlyPushed k k'
   pub commands : lane'.admitted + lane'.refused + old.consumed ≤ lane.admitted + lane.refused + new.consumed
   pub owed : debt lane' ≤ 5300
   -- End went to the other side alone, and only where the window has it
@@ -133,7 +129,7 @@ pub record KeepsRoom (s : Side) (old new : Window) (lane lane' : LaneValue) (c c
   pub owed : debt lane ≤ 5300 → debt lane' ≤ 5300
   pub own_ended : (own_queue s c' k').ended ≡ (own_queue s c k).ended
   pub other_ended : new.ended ≡ false → (other_queue s c' k').ended ≡ (other_queue s c k).ended
-  pub other_pushed : IsPushed (other_queue s c k) (other_queue s c' k')
+  pub other_pushed : OnlyPushed (other_queue s c k) (other_queue s c' k')
   -- after End nothing comes
   pub still : old.ended ≡ true → (base_of new ≡ base_of old) × (queue_length c' ≡ queue_length c) × (queue_length k' ≡ queue_length k)
 
@@ -233,12 +229,8 @@ pub record IsSteady (s : SessionValue) (cut : Option CutReason) : Type 0 where
 -- ---- both legs speak
 
 -- in both directions at most 16,384 letters are not acknowledged
-abbrev pub roomy_by : (to_client to_controller : Queue) → Bool
-roomy_by c k = nat_le (queue_length c - c.acked) 16384 && nat_le (queue_length k - k.acked) 16384
-
--- the same of a session
 abbrev pub is_roomy : SessionValue → Bool
-is_roomy s = roomy_by s.to_client s.to_controller
+is_roomy s = is_small s.to_client && is_small s.to_controller
 
 -- the client is greeted with the number of the controller's SYN, where there is one
 abbrev pub came_greeted : Flow → (number : Option ℕ) → Came → Came

@@ -1,12 +1,9 @@
-//! How a session is cut, and the lines that it writes.
-ghost use Rattle.std.specs.Prelude.{false, ◌≡◌, ◌+◌, ◌*◌, ◌^◌, ◌<◌, ◌≤◌, true, List, [], ◌∷◌, IfOk, OnErr, OnOk};
+//! How a session is cut.
+ghost use Rattle.std.specs.Prelude.{false, ◌≡◌, ◌+◌, ◌*◌, ◌^◌, ◌<◌, ◌≤◌, true, List, ◌∷◌, IfOk, OnErr};
 ghost use Rattle.std.specs.Result.{is_err};
-ghost use Rattle.cf_audit.specs.Line.{HasShortRule, what_value};
-ghost use Rattle.cf_lane.specs.Handled.{HasAdded, MayHaveAdded};
-ghost use Rattle.cf_lane.specs.Log.{HasPlainRule, line_about};
 ghost use Rattle.cf_leg.specs.Event.{LegEvent, Unspoken};
 ghost use Rattle.cf_outside.specs.Desk.{DeskValue};
-ghost use Rattle.cf_outside.specs.Frames.{EmitsAndLogs, OnlyLogs};
+ghost use Rattle.cf_outside.specs.Frames.{EmitsAndLogs};
 ghost use Rattle.cf_policy.specs.Within.{IsAssetWithin};
 ghost use Rattle.cf_rebuild.specs.ReceiveWindow.{base_of};
 ghost use Rattle.cf_session.specs.Parts.{IsLegBetween, SessionValue};
@@ -15,36 +12,11 @@ ghost use Rattle.cf_session.specs.Turn.{CutsBoth};
 
 use crate::life::Life;
 use crate::session::Session;
-use cf_audit::{CutReason, Line, What};
-use cf_lane::put_line;
+use cf_audit::{CutReason, What};
+use cf_driver::log_line;
 use cf_outside::Desk;
 use cf_policy::Asset;
-use cf_view::{Endpoint, WriteFault};
-
-/// Puts a line about a client of an asset.
-pub(crate) fn log_line<D: Desk>(
-    asset: &Asset,
-    client: Endpoint,
-    now: u64,
-    what: What<'_>,
-    desk: &mut D,
-) -> Result<(), WriteFault>
-    requires within { IsAssetWithin asset.now }
-    requires short { HasShortRule (what_value what) }
-    requires plain { HasPlainRule (what_value what) }
-    requires whole { DeskValue.whole (D.value desk.old) ≡ true }
-    ensures lines { OnOk result (HasAdded (line_about asset.now client now (what_value what.entry) ∷ []) (D.value desk.old) (D.value desk.new)) }
-    ensures fails { OnErr result (MayHaveAdded (line_about asset.now client now (what_value what.entry) ∷ []) (D.value desk.old) (D.value desk.new)) }
-    ensures frame { OnlyLogs (D.value desk.old) (D.value desk.new) (is_err result) }
-{
-    let line = Line {
-        moment: now,
-        client,
-        asset: asset.name.as_str(),
-        what,
-    };
-    put_line(&line, desk)
-}
+use cf_view::WriteFault;
 
 impl Session {
     /// Cuts the session: each peer gets an RST, that of the controller first, and the log a line.

@@ -14,11 +14,10 @@ ghost use Rattle.cf_session.specs.Parts.{SessionValue};
 ghost use Rattle.cf_session.specs.Told.{told, with_both};
 ghost use Rattle.cf_session.specs.Turn.{closing_lines, is_acknowledged, is_done_now, number_by};
 
-use crate::cutting::log_line;
 use crate::handing::has_ended;
 use crate::session::Session;
 use cf_audit::{CutReason, What};
-use cf_lane::{Lengths, limit_cut};
+use cf_driver::{length_cut, log_line};
 use cf_leg::LegAnswer;
 use cf_outq::Outq;
 use cf_outside::Desk;
@@ -79,13 +78,13 @@ impl Session {
     pub(crate) fn full(&self) -> Option<CutReason>
         ensures { result ≡ limit_by (SessionValue.limit self.now) (base_of (self.now.client).window) (base_of (self.now.controller).window) (queue_length self.now.to_client) (queue_length self.now.to_controller) }
     {
-        let lengths = Lengths {
-            client: self.client.window().base() as u64,
-            controller: self.controller.window().base() as u64,
-            to_client: self.to_client.length() as u64,
-            to_controller: self.to_controller.length() as u64,
-        };
-        limit_cut(self.limit, &lengths)
+        length_cut(
+            self.limit,
+            self.client.window().base() as u64,
+            self.controller.window().base() as u64,
+            &self.to_client,
+            &self.to_controller,
+        )
     }
 
     /// Both sides have ended, and both ends are acknowledged.

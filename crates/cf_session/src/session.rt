@@ -16,8 +16,8 @@ ghost use Rattle.cf_session.specs.Stands.{Begins, IsSessionOf, IsSound};
 ghost use Rattle.cf_session.specs.Told.{told};
 ghost use Rattle.cf_session.specs.Turn.{IsMade};
 
-use crate::cutting::log_line;
 use cf_audit::What;
+use cf_driver::log_line;
 use cf_lane::Lane;
 use cf_leg::{Leg, Phase, Role, events_begin};
 use cf_outq::Outq;

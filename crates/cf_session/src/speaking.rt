@@ -1,8 +1,8 @@
 //! Both ends speak, that of the controller first, and the client is greeted where the controller's end has opened.
-ghost use Rattle.std.specs.Prelude.{◌≡◌, ◌+◌, ◌-◌, ◌*◌, ◌^◌, ◌<◌, ◌≤◌, true, nat_le, ◌&&◌, List, ◌∷◌, [], length, OnErr, OnOk, None};
+ghost use Rattle.std.specs.Prelude.{◌≡◌, ◌*◌, ◌^◌, ◌<◌, true, List, ◌∷◌, [], OnErr, OnOk, None};
 ghost use Rattle.std.specs.Result.{is_err};
 ghost use Rattle.cf_leg.specs.Event.{LegEvent, Unspoken, moment};
-ghost use Rattle.cf_outq.specs.SendQueue.{IsQueueOf, queue_length};
+ghost use Rattle.cf_outq.specs.SendQueue.{IsQueueOf};
 ghost use Rattle.cf_outside.specs.Desk.{DeskValue};
 ghost use Rattle.cf_outside.specs.Frames.{EmitsAndLogs};
 ghost use Rattle.cf_stream.specs.Stream.{Stream};
@@ -11,32 +11,14 @@ ghost use Rattle.cf_session.specs.Parts.{IsLegBetween, SessionValue};
 ghost use Rattle.cf_session.specs.Sent.{at};
 ghost use Rattle.cf_session.specs.Session.{Flow, client_ends};
 ghost use Rattle.cf_session.specs.Told.{told};
-ghost use Rattle.cf_session.specs.Turn.{GreetsClient, IsSteady, MayGreet, MaySpeak, OnlySpeaks, SaysAmid, SaysBoth, greetings, is_roomy, roomy_by};
+ghost use Rattle.cf_session.specs.Turn.{GreetsClient, IsSteady, MayGreet, MaySpeak, OnlySpeaks, SaysAmid, SaysBoth, greetings, is_roomy};
 
 use crate::handing::has_ended;
 use crate::session::Session;
+use cf_driver::are_small;
 use cf_leg::open_legs_have_greeted;
-use cf_outq::Outq;
 use cf_outside::Desk;
 use cf_view::WriteFault;
-
-/// How many letters of a queue may be unacknowledged where edges move. This project's own choice.
-const FEW: i64 = 16_384;
-
-/// In both directions few letters are not acknowledged.
-fn is_roomy(to_client: &Outq, to_controller: &Outq) -> bool
-    ensures value { result ≡ roomy_by to_client.now to_controller.now }
-    ensures kept { result ≡ true → (length to_client.now.kept ≤ 16384) × (length to_controller.now.kept ≤ 16384) }
-{
-    has_few(to_client) && has_few(to_controller)
-}
-
-fn has_few(queue: &Outq) -> bool
-    ensures value { result ≡ nat_le (queue_length queue.now - queue.now.acked) 16384 }
-    ensures kept { result ≡ true → length queue.now.kept ≤ 16384 }
-{
-    queue.unacked() <= FEW
-}
 
 impl Session {
     /// Greets the client with the number of the controller's SYN, where there is one.
@@ -97,7 +79,7 @@ impl Session {
     {
         // The fact: both windows keep their bounds.
         let _ended = (has_ended(&self.client), has_ended(&self.controller));
-        let roomy = is_roomy(&self.to_client, &self.to_controller);
+        let roomy = are_small(&self.to_client, &self.to_controller);
         self.controller
             .speak(now, roomy, &mut self.to_controller, desk)?;
         self.greet_client(now, number, desk)?;

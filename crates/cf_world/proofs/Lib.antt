@@ -1,6 +1,5 @@
 mod Begun
 mod Lengths
 mod Meaning
-mod Members
 mod Records
 mod SoFar

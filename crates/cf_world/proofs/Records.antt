@@ -13,7 +13,7 @@ use Rattle.cf_pcap.specs.declared.Header.{Header}
 use Rattle.cf_run.specs.Capture.{AtPlace, Cut, FileEnd, Fits, Record, TooLong, classic_at, is_past, records_among}
 use Rattle.cf_run.specs.Moments.{AreTimed, AreTimedPieces, first_moment, moment_from, timed}
 use Rattle.cf_run.specs.declared.Form.TheVariants as form
-use Rattle.cf_world.specs.Capture.{AreApart, HasPacket, IsCaptureOf}
+use Rattle.cf_world.specs.Capture.{AreSpaced, HasPacket, IsCaptureOf}
 use Rattle.cf_world.specs.Making.{AreMade, IsMade, least_after, record_octets, records_octets}
 
 -- one more record after the others
@@ -123,9 +123,9 @@ are_packets : (least : ℕ) (rs : List Record) → AreMade least rs → AllByRec
 are_packets least [] made = tt
 are_packets least (r ∷ rs) (a, b, made) = (b.packet, are_packets (r.stamp + 2000) rs made)
 
-are_apart : (least : ℕ) (rs : List Record) → AreMade least rs → AreApart least rs
-are_apart least [] made = tt
-are_apart least (r ∷ rs) (a, b, made) = (a, are_apart (r.stamp + 2000) rs made)
+are_spaced : (least : ℕ) (rs : List Record) → AreMade least rs → AreSpaced least rs
+are_spaced least [] made = tt
+are_spaced least (r ∷ rs) (a, b, made) = (a, are_spaced (r.stamp + 2000) rs made)
 
 -- the header and the octets of records that are made, of which there are not too many
 
@@ -145,5 +145,5 @@ is_capture rs made few =
       read = header_read xs;
       timed = rw behind (subst (λ n. AreTimed (form.Classic output_header) first_moment 24 xs rs (record { place = n; found = FileEnd })) size timed);
       packets = are_packets first_moment rs made;
-      apart = are_apart first_moment rs made;
+      apart = are_spaced first_moment rs made;
     }

@@ -29,9 +29,9 @@ pub record HasPacket (r : Record) : Type 0 where
   pub between : IsBetween session packet
 
 -- the first record's stamp is at least so much, and that of each other one at least 2 milliseconds later than the one before
-abbrev pub AreApart : (least : ℕ) → List Record → Type 0
-AreApart least [] = Unit {0}
-AreApart least (r ∷ rs) = (least ≤ r.stamp) × AreApart (r.stamp + 2000) rs
+abbrev pub AreSpaced : (least : ℕ) → List Record → Type 0
+AreSpaced least [] = Unit {0}
+AreSpaced least (r ∷ rs) = (least ≤ r.stamp) × AreSpaced (r.stamp + 2000) rs
 
 -- a capture file of these records alone: its header is the one that is written, each record is allowed and has its moment, each
 -- is a packet, and the file ends after the last one
@@ -40,7 +40,7 @@ pub record IsCaptureOf (records : List Record) (octets : List ℕ) : Type 0 wher
   pub read : header_of octets ≡ Ok output_header
   pub timed : AreTimed (form.Classic output_header) first_moment 24 (drop 24 octets) records (record { place = length octets; found = FileEnd })
   pub packets : AllByRecursion HasPacket records
-  pub apart : AreApart first_moment records
+  pub apart : AreSpaced first_moment records
 
 -- a record is a SYN with which a session may begin: from its client to its controller, without ACK, RST and FIN, with its sequence
 -- number, and no earlier than the client begins

@@ -1,15 +1,7 @@
 -- Steps of the proof: the table that the document of a world is, as it is made: `document_table`. Tables and values are those of TOML 1.1.
 use Rattle.std.specs.Prelude.{ℕ, ℤ, pos, List, codes}
-use Rattle.std.specs.Ordering.{match_ordering, nat_cmp}
-use Rattle.std.specs.Cmp.Lexicographic.{slice_cmp}
-use Rattle.toml.specs.Data.{Data, string, integer, array, table, Items, no_items, item, Members, no_members, member}
-
--- the members with this one, in the order of their keys
-abbrev pub with_member : (key : List ℕ) → Data → Members → Members
-with_member key value no_members = member key value no_members
-with_member key value (member other there more) =
-    match_ordering (slice_cmp nat_cmp key other)
-    (member key value (member other there more)) (member other value more) (member other there (with_member key value more))
+use Rattle.toml.specs.Data.{Data, string, integer, array, table, Items, no_items, item, Members, no_members}
+use Rattle.cf_policylang.specs.Spelling.{with_member}
 
 -- an array of one value
 abbrev pub only : Data → Data

@@ -1,6 +1,5 @@
 -- What the making of a world leaves in its two files: MakesWorld.
-use Rattle.std.specs.Prelude.{◌≡◌, ◌<◌, ◌⊎◌, ℕ, List, [], ◌∷◌, length, Result, Ok, Err}
-use Rattle.cf_outside.specs.Desk.{IsNoneOf}
+use Rattle.std.specs.Prelude.{◌≡◌, ◌<◌, ◌⊎◌, ℕ, List, length, Result, Ok, Err}
 use Rattle.cf_outside.specs.Files.{Content, IsPartly, content_after_write}
 use Rattle.cf_run.specs.Capture.{Record}
 use Rattle.cf_world.specs.Capture.{BeginsEach, IsCaptureOf}
@@ -16,10 +15,6 @@ pub record WorldNamesValue : Type 0 where
 
 abbrev pub world_names_value : WorldNames → WorldNamesValue
 world_names_value names = record { policy = names.policy.now; capture = names.capture.now }
-
--- every file but these two is as it was
-abbrev pub KeepsOtherFiles : WorldNamesValue → (before after : List ℕ → Content) → Type 0
-KeepsOtherFiles names before after = (other : List ℕ) → IsNoneOf (names.policy ∷ names.capture ∷ []) other → after other ≡ before other
 
 -- a policy file holds a text that means the policy of the world
 pub record HoldsPolicy (before after : Content) : Type 0 where

@@ -5,10 +5,8 @@ ghost use Rattle.cf_outside.specs.Files.{Appends, KeepsOthers};
 ghost use Rattle.cf_pcap.specs.Record.{moment_limit};
 ghost use Rattle.cf_world.specs.Making.{IsReadAgain, made_record, record_octets};
 
-use arrayvec::ArrayVec;
 use cf_outside::{Files, WriteAnswer};
-use cf_pcap::write_record_head;
-use cf_view::push_bytes;
+use cf_run::packet_record;
 
 /// Appends the record of a packet of at most 1,500 octets, at a moment in microseconds.
 pub(crate) fn append_record<F: Files>(
@@ -26,21 +24,6 @@ pub(crate) fn append_record<F: Files>(
     ensures cause { HasCause (F.write_faults files.old) (F.write_faults files.new) (result ≡ WriteAnswer.Failed) }
     ensures reads { F.read_faults files.new ≡ F.read_faults files.old }
 {
-    let record = record_of(moment, packet);
+    let record = packet_record(moment, packet);
     files.append(name, &record)
-}
-
-/// The octets of the record of a packet.
-fn record_of(moment: u64, packet: &[u8]) -> ArrayVec<u8, 1516>
-    requires moment { moment < moment_limit }
-    requires packet { length packet.now ≤ 1500 }
-    ensures octets { result.items ≡ record_octets (made_record moment packet.now) }
-    ensures again { IsReadAgain (made_record moment packet.now) }
-{
-    let mut head = [0u8; 16];
-    write_record_head(moment, packet.len() as u32, &mut head);
-    let mut record = ArrayVec::new();
-    push_bytes(&mut record, &head);
-    push_bytes(&mut record, packet);
-    record
 }

@@ -1,9 +1,10 @@
 //! The making of a world: its policy and its capture.
-ghost use Rattle.std.specs.Prelude.{◌≡◌, ◌≢◌, ◌≤◌, IsErr, IsErrOf, OnErr, OnOk};
+ghost use Rattle.std.specs.Prelude.{◌≡◌, ◌≢◌, ◌≤◌, ◌∷◌, [], IsErr, IsErrOf, OnErr, OnOk};
 ghost use Rattle.cf_outside.specs.Faults.{HasCause};
 ghost use Rattle.cf_outside.specs.Files.{IsPartly, KeepsOthers, content_after_write};
 ghost use Rattle.cf_pcap.specs.Header.{output_octets};
-ghost use Rattle.cf_world.specs.World.{KeepsOtherFiles, MakesWorld, world_names_value};
+ghost use Rattle.cf_run.specs.RunCapture.{KeepsOtherFiles};
+ghost use Rattle.cf_world.specs.World.{MakesWorld, world_names_value};
 
 use crate::document::make_document;
 use crate::hosts::Hosts;
@@ -76,7 +77,7 @@ pub fn make_world<F: Files>(
     requires few { sessions ≤ 200 }
     requires apart { names.now.policy.now ≢ names.now.capture.now }
     ensures makes { MakesWorld sessions (world_names_value names.now) (F.content files.old) (F.content files.new) result }
-    ensures others { KeepsOtherFiles (world_names_value names.now) (F.content files.old) (F.content files.new) }
+    ensures others { KeepsOtherFiles (names.now.policy.now ∷ names.now.capture.now ∷ []) (F.content files.old) (F.content files.new) }
     ensures write { HasCause (F.write_faults files.old) (F.write_faults files.new) (IsErrOf result WorldFault.Write) }
     ensures reads { F.read_faults files.new ≡ F.read_faults files.old }
 {

@@ -5,10 +5,11 @@ use Rattle.std.proofs.lemmas.List.{append-nil, take_all}
 use Rattle.std.proofs.lemmas.List.Elements.{All-nil}
 use Rattle.std.proofs.lemmas.Bool.Decides.{nat_tests}
 use Rattle.std.proofs.lemmas.List.Edits.{length-remove}
+use Rattle.cf_lane.specs.Judged.{one_if}
 use Rattle.cf_outside.proofs.Desks.{puts_none, puts_both}
 use Rattle.cf_session.specs.Told.{told}
 use Rattle.cf_run.specs.Engine.{AreDueFrom, AreSound, TickSome}
-use Rattle.cf_run.specs.Entries.{number_if, stays_by, cuts_by}
+use Rattle.cf_run.specs.Entries.{stays_by, cuts_by}
 use Rattle.cf_run.specs.declared.entry.Entry.{Entry}
 use Rattle.cf_run.proofs.Due.{due_more, quiet_all, quiet_more}
 use Rattle.cf_run.proofs.Soundness.{first_of, sound_removed, cuts_stay, cuts_gone, one_less}
@@ -59,7 +60,7 @@ sessions-preserved-then-stays g c =
     let y = first_of after place still in
     let least = c.min-due-then-stays.result in
     let stay : stays_by c.in_ok-life.life ≡ true = sym c.stays.ensures ∙ c.if-stays.true in
-    let more : c.sessions.count + number_if (not (stays_by c.in_ok-life.life) && cuts_by c.in_ok-life.life) ≡ c.sessions.count + c.cuts-count.result =
+    let more : c.sessions.count + one_if (not (stays_by c.in_ok-life.life) && cuts_by c.in_ok-life.life) ≡ c.sessions.count + c.cuts-count.result =
     ap (λ n. c.sessions.count + n) (cuts_stay c.in_ok-life.life ∙ sym c.cuts-count.ensures) in
     record {
       inside = omega (arith, still);
@@ -92,7 +93,7 @@ sessions-preserved g c =
     let front : take place after ≡ take place mid = ap (take place) removed ∙ take-removed mid place still in
     let back : drop place after ≡ drop (place + 1) mid = ap (drop place) removed ∙ drop-removed mid place still in
     let size : length after + 1 ≡ length mid = ap (λ xs. length xs + 1) removed ∙ length-remove mid place still in
-    let more : c.sessions.count + number_if (not (stays_by c.in_ok-life.life) && cuts_by c.in_ok-life.life) ≡ c.sessions.count + c.cuts-count.result =
+    let more : c.sessions.count + one_if (not (stays_by c.in_ok-life.life) && cuts_by c.in_ok-life.life) ≡ c.sessions.count + c.cuts-count.result =
     ap (λ n. c.sessions.count + n) (cuts_stay c.in_ok-life.life ∙ sym c.cuts-count.ensures) in
     record {
       inside = omega (arith, size, still);

@@ -1,4 +1,4 @@
-use Rattle.cf_world.proofs.Members.{members_with}
+use Rattle.cf_policylang.proofs.Members.{members_with}
 use Rattle.cf_world.proofs.document.insert.Goals as goal
 
 pub returns : goal.returns

@@ -27,7 +27,7 @@ returns-clause-says g c = λ flow x y cs ds w v at_c at_d may stands.
     let m = subst (MaySpeak flow x y cs ds w v) (sym c.self.view_is) stands in
     let a = c.in_ok-speak.ensures.spoken in
     let b = c.in_ok-speak-2.ensures.spoken in
-    let roomy = c.is_roomy-roomy.result in
+    let roomy = c.are_small-roomy.result in
     let greeted = c.in_ok-greet_client.ensures.greets flow y ds at_d may m.client_stands in
     let d0 = g.D.Desk.value c.args.desk.now in
     let d1 = g.D.Desk.value c.speak.new.desk in
@@ -37,7 +37,7 @@ returns-clause-says g c = λ flow x y cs ds w v at_c at_d may stands.
     let one = told_sent d0 d1 now a.outs a.packets c.speak.ensures.frame.lines in
     let three = told_sent d2 d3 now b.outs b.packets c.speak-2.ensures.frame.lines in
     let new : SessionValue = record middle { client = c.speak-2.new.self; to_client = c.speak-2.new.queue } in
-    subst (λ r. SaysBoth flow now c.args.number x cs y ds w v r new (told d0) (told d3)) (c.is_roomy-roomy.ensures.value ∙ ap is_roomy c.self.view_is)
+    subst (λ r. SaysBoth flow now c.args.number x cs y ds w v r new (told d0) (told d3)) (c.are_small-roomy.ensures.value ∙ ap is_roomy c.self.view_is)
     (record {
       outs_c = a.outs;
       outs_d = b.outs;
@@ -59,8 +59,8 @@ returns-clause-steady g c =
     let base : base_of c.self-2.inside.controller.window ≡ base_of c.self.inside.controller.window = ap (λ (s : SessionValue). base_of s.controller.window) path ∙ ap (λ (w : Window). base_of w) c.in_ok-speak.ensures.window.same in
     let edge : c.self-2.inside.controller.window.edge ≡ c.speak.new.self.window.edge = ap (λ (s : SessionValue). s.controller.window.edge) path in
     let near = c.in_ok-speak.ensures.window.near in
-    steady_on middle c.speak-2.new.self c.speak-2.new.queue c.is_roomy-roomy.result steady c.in_ok-speak-2.ensures.ends c.in_ok-speak-2.ensures.window c.in_ok-speak-2.ensures.queue
-    (λ e. (let k = (c.is_roomy-roomy.ensures.kept e).0 in omega (arith, k, kept_c))) (λ e. (let k = (c.is_roomy-roomy.ensures.kept e).1 in omega (arith, k, kept_k))) (omega (arith, near, base, edge))
+    steady_on middle c.speak-2.new.self c.speak-2.new.queue c.are_small-roomy.result steady c.in_ok-speak-2.ensures.ends c.in_ok-speak-2.ensures.window c.in_ok-speak-2.ensures.queue
+    (λ e. (let k = (c.are_small-roomy.ensures.kept e).0 in omega (arith, k, kept_c))) (λ e. (let k = (c.are_small-roomy.ensures.kept e).1 in omega (arith, k, kept_k))) (omega (arith, near, base, edge))
 
 pub returns-clause-only : goal.returns-clause-only
 returns-clause-only g c =
@@ -83,21 +83,21 @@ pub greet_client-requires-clause-steady : goal.greet_client-requires-clause-stea
 greet_client-requires-clause-steady g c =
     let s : SessionValue = record { client = c.self.inside.client; controller = c.self.inside.controller; lane = c.self.inside.lane; to_client = c.self.inside.to_client; to_controller = c.self.inside.to_controller; closed = c.self.inside.closed; limit = c.self.inside.limit; source = c.self.inside.source } in
     let steady = subst (λ s. IsSteady s _) (sym c.self.view_is) c.requires.steady in
-    steady_first s c.speak.new.self c.speak.new.queue c.is_roomy-roomy.result steady c.in_ok-speak.ensures.window c.in_ok-speak.ensures.queue
-    (λ e. (c.is_roomy-roomy.ensures.kept e).0) (λ e. (c.is_roomy-roomy.ensures.kept e).1) c.has_ended.ensures.bounds.near
+    steady_first s c.speak.new.self c.speak.new.queue c.are_small-roomy.result steady c.in_ok-speak.ensures.window c.in_ok-speak.ensures.queue
+    (λ e. (c.are_small-roomy.ensures.kept e).0) (λ e. (c.are_small-roomy.ensures.kept e).1) c.has_ended.ensures.bounds.near
 
 pub returns-in_err-speak-clause-broken : goal.returns-in_err-speak-clause-broken
 returns-in_err-speak-clause-broken g c =
     on_err c.from_residual.result (λ flow x y cs ds w v at_c at_d may stands.
     let now = c.args.now in
-    let roomy = c.is_roomy-roomy.result in
+    let roomy = c.are_small-roomy.result in
     let m = subst (MaySpeak flow x y cs ds w v) (sym c.self.view_is) stands in
     let d0 = g.D.Desk.value c.args.desk.now in
     let d1 = g.D.Desk.value c.speak.new.desk in
     let a = c.in_err-speak.ensures.broken x cs v at_c m.controller_stands.stands m.to_controller_stands in
     let b = can_answer flow c.args.number _ _ y ds w roomy may m.client_stands in
     let rest = greetings flow c.args.number ++ b.0 in
-    subst (λ r. SaysAmid flow now c.args.number x cs y ds w v r d0 d1) (c.is_roomy-roomy.ensures.value ∙ ap is_roomy c.self.view_is)
+    subst (λ r. SaysAmid flow now c.args.number x cs y ds w v r d0 d1) (c.are_small-roomy.ensures.value ∙ ap is_roomy c.self.view_is)
     (record {
       outs_c = a.outs;
       outs_d = b.0;
@@ -111,7 +111,7 @@ pub returns-in_err-greet_client-clause-broken : goal.returns-in_err-greet_client
 returns-in_err-greet_client-clause-broken g c =
     on_err c.from_residual-in_err-greet_client.result (λ flow x y cs ds w v at_c at_d may stands.
     let now = c.args.now in
-    let roomy = c.is_roomy-roomy.result in
+    let roomy = c.are_small-roomy.result in
     let m = subst (MaySpeak flow x y cs ds w v) (sym c.self.view_is) stands in
     let d0 = g.D.Desk.value c.args.desk.now in
     let d1 = g.D.Desk.value c.speak.new.desk in
@@ -122,7 +122,7 @@ returns-in_err-greet_client-clause-broken g c =
     let one = told_sent d0 d1 now a.outs a.packets c.speak.ensures.frame.lines in
     let greets = c.in_err-greet_client.ensures.broken flow y ds at_d may m.client_stands in
     let hi = greetings flow c.args.number in
-    subst (λ r. SaysAmid flow now c.args.number x cs y ds w v r d0 d2) (c.is_roomy-roomy.ensures.value ∙ ap is_roomy c.self.view_is)
+    subst (λ r. SaysAmid flow now c.args.number x cs y ds w v r d0 d2) (c.are_small-roomy.ensures.value ∙ ap is_roomy c.self.view_is)
     (record {
       outs_c = a.outs;
       outs_d = b.0;
@@ -137,7 +137,7 @@ pub returns-in_err-speak-2-clause-broken : goal.returns-in_err-speak-2-clause-br
 returns-in_err-speak-2-clause-broken g c =
     on_err c.from_residual-in_err-speak-2.result (λ flow x y cs ds w v at_c at_d may stands.
     let now = c.args.now in
-    let roomy = c.is_roomy-roomy.result in
+    let roomy = c.are_small-roomy.result in
     let path = c.self-2.view_is ∙ c.greet_client.ensures.same in
     let m = subst (MaySpeak flow x y cs ds w v) (sym c.self.view_is) stands in
     let d0 = g.D.Desk.value c.args.desk.now in
@@ -152,7 +152,7 @@ returns-in_err-speak-2-clause-broken g c =
     let legs = subst (λ (s : SessionValue). IsLegBetween (client_ends flow) s.client s.to_client (record hello { ending = Unspoken } ∷ ds)) (sym c.self-2.view_is) greeted.stands in
     let b = c.in_err-speak-2.ensures.broken hello ds w at_d legs.stands (subst (λ (s : SessionValue). IsQueueOf s.to_client w) (sym path) m.to_client_stands) in
     let one = told_sent d0 d1 now a.outs a.packets c.speak.ensures.frame.lines in
-    subst (λ r. SaysAmid flow now c.args.number x cs y ds w v r d0 d3) (c.is_roomy-roomy.ensures.value ∙ ap is_roomy c.self.view_is)
+    subst (λ r. SaysAmid flow now c.args.number x cs y ds w v r d0 d3) (c.are_small-roomy.ensures.value ∙ ap is_roomy c.self.view_is)
     (record {
       outs_c = a.outs;
       outs_d = b.outs;

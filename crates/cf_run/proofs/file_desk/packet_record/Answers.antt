@@ -3,7 +3,7 @@ use Rattle.std.proofs.lemmas.List.{append-nil}
 use Rattle.cf_pcap.specs.Header.{output_header}
 use Rattle.cf_pcap.specs.Record.{Whole, head_octets, record_of}
 use Rattle.cf_run.proofs.OutputFiles.{packet_in-record, packet_in-beginning}
-use Rattle.cf_run.proofs.file_desk.record_of.Goals as goal
+use Rattle.cf_run.proofs.file_desk.packet_record.Goals as goal
 
 pub returns-clause-one : goal.returns-clause-one
 returns-clause-one c =
