@@ -10,7 +10,7 @@ ghost use Rattle.cf_lane.specs.Rings.{IsRulesOf, says_by};
 ghost use Rattle.cf_lane.specs.Acts.{GivesActs, by_refusal, fate_of_acts, first_refusal};
 ghost use Rattle.cf_lane.specs.Fate.{HasOwnDecider};
 ghost use Rattle.cf_lane.specs.Judgement.{fate_of_judgement};
-ghost use Rattle.cf_lane.specs.Modbus.{HasCommandFate};
+ghost use Rattle.cf_lane.specs.Modbus.{HasCommandFate, station_refusal};
 
 use crate::rules::Rules;
 use crate::run::{judge_runs, takes_any_value};
@@ -57,6 +57,7 @@ pub(crate) enum Judgement {
 /// What becomes of an ADU of the client of the rules, at a moment in microseconds. The station is compared first, then the form is
 /// read, then each act is judged in its order; the first that is not allowed decides. This project's own order. Requests that
 /// write one point are read in one step.
+#[inline(always)]
 pub(crate) fn judge(asset: &Asset, rules: &Rules, moment: u64, adu: &Adu<'_>) -> Judgement
     requires at_least { 1 ≤ length adu.now.pdu.bytes }
     requires at_most { length adu.now.pdu.bytes ≤ 253 }
@@ -64,17 +65,54 @@ pub(crate) fn judge(asset: &Asset, rules: &Rules, moment: u64, adu: &Adu<'_>) ->
     ensures fate { (client : ℕ) → IsRulesOf asset.now client rules.now → HasCommandFate asset.now (says_by asset.now client rules.now moment) (adu_value adu.now) (fate_of_judgement result) }
     ensures decider { HasOwnDecider asset.now.rules (fate_of_judgement result) }
 {
-    let code = u16::from(adu.pdu.at(0));
     if u16::from(adu.unit) != asset.station {
-        return refused(Decider::Station, Reason::Station, code, u32::from(adu.unit));
+        return refused_station(adu);
     }
     if let Some(act) = single_write(adu) {
-        return judge_acts(asset, rules, moment, 1, |_| act);
+        if !rules.rings.is_empty() {
+            return judge_acts(asset, rules, moment, 1, |_| act);
+        }
+        return match rules.index.verdict(asset, &act) {
+            Verdict::Allow(_) => Judgement::Admitted([false; MOST_RATED]),
+            Verdict::Refuse(decider, reason) => Judgement::Refused(Refusal {
+                decider,
+                reason,
+                act,
+            }),
+        };
     }
+    judge_form(asset, rules, moment, adu)
+}
+
+/// What becomes of an ADU for the asset's station, by its form and its acts.
+#[inline(never)]
+fn judge_form(asset: &Asset, rules: &Rules, moment: u64, adu: &Adu<'_>) -> Judgement
+    requires at_least { 1 ≤ length adu.now.pdu.bytes }
+    requires at_most { length adu.now.pdu.bytes ≤ 253 }
+    requires few { length rules.now.rings.items ≤ most_rated }
+    requires station { adu.now.unit ≡ asset.now.station }
+    ensures fate { (client : ℕ) → IsRulesOf asset.now client rules.now → HasCommandFate asset.now (says_by asset.now client rules.now moment) (adu_value adu.now) (fate_of_judgement result) }
+    ensures decider { HasOwnDecider asset.now.rules (fate_of_judgement result) }
+{
     match read_request(adu) {
-        Err(refusal) => refused(Decider::Form, refusal.reason(), code, 0),
+        Err(refusal) => refused(Decider::Form, refusal.reason(), u16::from(adu.pdu.at(0)), 0),
         Ok(request) => judge_request(asset, rules, moment, &request),
     }
+}
+
+/// The refusal of a command for another station.
+#[cold]
+#[inline(never)]
+fn refused_station(adu: &Adu<'_>) -> Judgement
+    requires { 1 ≤ length adu.now.pdu.bytes }
+    ensures { result ≡ Judgement.Refused (station_refusal (adu_value adu.now)) }
+{
+    refused(
+        Decider::Station,
+        Reason::Station,
+        u16::from(adu.pdu.at(0)),
+        u32::from(adu.unit),
+    )
 }
 
 /// What becomes of a request. Where some of its acts are known to differ in nothing that rules of its code state but the point, they

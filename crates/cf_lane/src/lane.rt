@@ -228,8 +228,53 @@ impl Lane {
         self.refused
     }
 
-    /// Handles the unit at the front of a side's bytes.
+    /// Handles the unit at the front of a side's bytes. An ADU of Modbus is handled in place, as they are small and many.
+    #[inline(always)]
     fn step<D: Desk>(
+        &mut self,
+        asset: &Asset,
+        moment: u64,
+        side: Side,
+        bytes: &View<'_>,
+        to_client: &mut Outq,
+        to_controller: &mut Outq,
+        desk: &mut D,
+    ) -> Result<Step, WriteFault>
+        requires of_asset { IsLaneOf asset.now self.old }
+        requires within { IsAssetWithin asset.now }
+        requires whole { DeskValue.whole (D.value desk.old) ≡ true }
+        requires open { IsOpen side to_client.old to_controller.old }
+        requires client_room { HasRoom (debt self.old + 2 * length bytes.now.bytes) to_client.old }
+        requires controller_room { HasRoom (debt self.old + 2 * length bytes.now.bytes) to_controller.old }
+        requires counts { self.old.admitted + self.old.refused + length bytes.now.bytes < 2 ^ 64 }
+        ensures steps { IfOk result (λ s. Steps asset.now moment side bytes.now.bytes
+            (state self.old to_client.old to_controller.old (DeskValue.lines (D.value desk.old)))
+            (state self.new to_client.new to_controller.new (DeskValue.lines (D.value desk.new))) s) }
+        ensures misses { OnErr result (Misses asset.now moment side bytes.now.bytes
+            (state self.old to_client.old to_controller.old (DeskValue.lines (D.value desk.old)))
+            (DeskValue.lines (D.value desk.new)) (DeskValue.line_part (D.value desk.new))) }
+        ensures of_asset { OnOk result (IsLaneOf asset.now self.new) }
+        ensures client_grows { IfOk result (λ s. Grows (2 * letters_in s) (debt self.old) (debt self.new) to_client.old to_client.new) }
+        ensures controller_grows { IfOk result (λ s. Grows (2 * letters_in s) (debt self.old) (debt self.new) to_controller.old to_controller.new) }
+        ensures counts { IfOk result (λ s. CountsBy (letters_in s) self.old self.new) }
+        ensures inside { IfOk result (λ s. letters_in s ≤ length bytes.now.bytes) }
+        ensures whole { OnOk result (DeskValue.whole (D.value desk.new) ≡ true) }
+        ensures log { WritesLog (D.value desk.old) (D.value desk.new) }
+        ensures cause { HasCause (DeskValue.faults (D.value desk.old)) (DeskValue.faults (D.value desk.new)) (IsErr result) }
+    {
+        match &self.wire {
+            Wire::Modbus => {
+                self.step_modbus(asset, moment, side, bytes, to_client, to_controller, desk)
+            }
+            Wire::Dnp3(_) | Wire::Iec104(_) => {
+                self.step_by_wire(asset, moment, side, bytes, to_client, to_controller, desk)
+            }
+        }
+    }
+
+    /// Handles the unit at the front of a side's bytes by the protocol. This one is called and not in place.
+    #[inline(never)]
+    fn step_by_wire<D: Desk>(
         &mut self,
         asset: &Asset,
         moment: u64,
@@ -406,6 +451,7 @@ pub(crate) fn after<'a>(bytes: &View<'a>, from: usize) -> View<'a>
 }
 
 /// Puts octets into a queue as they came.
+#[inline(always)]
 pub(crate) fn push_octets(octets: &View<'_>, queue: &mut Outq)
     requires open { queue.old.ended ≡ false }
     requires room { HasRoom (length octets.now.bytes) queue.old }

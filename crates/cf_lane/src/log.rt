@@ -36,6 +36,7 @@ pub fn put_line<D: Desk>(line: &Line<'_>, desk: &mut D) -> Result<(), WriteFault
 }
 
 /// Writes the line of a refused command.
+#[inline(never)]
 pub(crate) fn log_refusal<D: Desk>(
     asset: &Asset,
     client: &Endpoint,

@@ -1,5 +1,5 @@
 //! Modbus in the lane: what becomes of an ADU.
-ghost use Rattle.std.specs.Prelude.{◌≡◌, ◌+◌, ◌*◌, ◌^◌, ◌<◌, ◌≤◌, false, true, IfOk, OnOk, OnErr, IsErr, length};
+ghost use Rattle.std.specs.Prelude.{◌≡◌, ◌+◌, ◌*◌, ◌^◌, ◌<◌, ◌≤◌, false, true, IfOk, OnOk, OnErr, IsErr, drop, length};
 ghost use Rattle.cf_modbus.specs.Adu.{adu_value, spelling};
 ghost use Rattle.cf_outq.specs.SendQueue.{after_push};
 ghost use Rattle.cf_outside.specs.Faults.{HasCause};
@@ -10,7 +10,7 @@ ghost use Rattle.cf_lane.specs.Log.{is_some_bytes};
 ghost use Rattle.cf_lane.specs.Modbus.{adu_reply};
 
 use crate::fate::{Fate, Judgement, Refusal, judge};
-use crate::lane::{Lane, Step, after, push_octets};
+use crate::lane::{Lane, Step, push_octets};
 use crate::log::log_refusal;
 use cf_audit::CutReason;
 use cf_modbus::{Adu, exception_octets, next_adu};
@@ -21,6 +21,7 @@ use cf_view::{Framed, Side, View, WriteFault};
 
 impl Lane {
     /// Handles the ADU at the front of a side's bytes.
+    #[inline(always)]
     pub(crate) fn step_modbus<D: Desk>(
         &mut self,
         asset: &Asset,
@@ -52,7 +53,7 @@ impl Lane {
         ensures log { WritesLog (D.value desk.old) (D.value desk.new) }
         ensures cause { HasCause (DeskValue.faults (D.value desk.old)) (DeskValue.faults (D.value desk.new)) (IsErr result) }
     {
-        match next_adu(after(bytes, 0)) {
+        match next_adu(all_of(bytes)) {
             Framed::More => Ok(Step::More),
             Framed::Broken(reason) => Ok(Step::Cut(CutReason::Framing(side, reason))),
             Framed::Unit { unit, used } => match side {
@@ -78,6 +79,7 @@ impl Lane {
     }
 
     /// Takes a client's command, which has these octets: it goes on, or it is answered and its line is written.
+    #[inline(always)]
     fn take_command<D: Desk>(
         &mut self,
         asset: &Asset,
@@ -124,6 +126,15 @@ impl Lane {
             }
         }
     }
+}
+
+/// All the bytes, to be taken apart.
+#[inline(always)]
+fn all_of<'a>(bytes: &View<'a>) -> View<'a>
+    ensures bytes { result.bytes ≡ drop 0 bytes.now.bytes }
+{
+    let (first, second) = bytes.pieces();
+    View::two(first, second)
 }
 
 /// Answers a refused command by its exception response, where the stream to the client goes on.

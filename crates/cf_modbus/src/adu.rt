@@ -25,6 +25,7 @@ pub struct Adu<'a> {
 ///
 /// `Broken(Protocol)` is told at the first octet of the protocol identifier that is not 0, `Broken(Length)` at the
 /// first octet of the length that no length from 2 to 254 has: no later octet is waited for.
+#[inline(always)]
 pub fn next_adu<'a>(bytes: View<'a>) -> Framed<Adu<'a>>
     ensures true_answer { Frames SpellsAdu mbap_break adu_value result bytes.entry.bytes }
     ensures unit { (a : AduValue) (n : ℕ) → Begins SpellsAdu bytes.entry.bytes a n
@@ -57,6 +58,7 @@ pub fn each_stream_has_adus()
 {}
 
 /// What `next_adu` answers. Most ADUs stand whole in one piece, and are read there.
+#[inline(always)]
 fn framed_adu<'a>(bytes: View<'a>) -> Framed<Adu<'a>>
     ensures { Frames SpellsAdu mbap_break adu_value result bytes.entry.bytes }
 {
@@ -67,6 +69,7 @@ fn framed_adu<'a>(bytes: View<'a>) -> Framed<Adu<'a>>
 }
 
 /// The first piece that has octets, if one has.
+#[inline(always)]
 fn front_piece<'a>(bytes: &View<'a>) -> &'a [u8]
     ensures { (rest : List ℕ) × (bytes.now.bytes ≡ result.now ++ rest) }
 {
@@ -75,6 +78,7 @@ fn front_piece<'a>(bytes: &View<'a>) -> &'a [u8]
 }
 
 /// The ADU at the front of these octets with its length, if it stands there whole.
+#[inline(always)]
 fn adu_in<'a>(octets: &'a [u8]) -> Option<(Adu<'a>, usize)>
     ensures { IfSome result (λ p. Begins SpellsAdu octets.now (adu_value p.0) p.1) }
 {
@@ -103,6 +107,7 @@ fn has_header(octets: &[u8]) -> bool
 
 /// What `next_adu` answers, found octet by octet.
 #[tactic(auto, using(crate::proofs::Framing::short_header, crate::proofs::Framing::short_pdu, crate::proofs::Framing::whole_adu))]
+#[inline(always)]
 fn framed_by_octet<'a>(bytes: View<'a>) -> Framed<Adu<'a>>
     ensures { Frames SpellsAdu mbap_break adu_value result bytes.entry.bytes }
 {

@@ -111,7 +111,7 @@ impl Outq {
         ensures new { self.new ≡ after_push self.old bytes.now }
         ensures stands { (whole : Stream) → IsQueueOf self.old whole → IsQueueOf self.new (with_bytes whole bytes.now) }
     {
-        self.ring.extend_from_slice(bytes);
+        self.ring.fill_from_slice(bytes);
         self.pushed += bytes.len() as u64;
     }
 

@@ -1,6 +1,7 @@
 -- Steps of the proof: the rules of an asset by the codes that they name for one client: `IsIndexOf`.
-use Rattle.std.specs.Prelude.{◌≡◌, ◌≢◌, ℕ, ◌+◌, ◌<◌, ◌≤◌, ◌⊎◌, ◌↔◌, pos, Bool, true, false, not, ◌&&◌, if◌then◌else◌, List, length, Option, None, Some, take, slice_get, option_and_then, AllPairs, Contains}
+use Rattle.std.specs.Prelude.{◌≡◌, ◌≢◌, ℕ, ◌+◌, ◌<◌, ◌≤◌, ◌⊎◌, ◌↔◌, pos, Bool, true, false, not, ltb, ◌&&◌, if◌then◌else◌, List, get_or, length, Option, None, Some, take, slice_get, option_and_then, AllPairs, Contains}
 use Rattle.std.specs.List.{Any, list_any, position}
+use Rattle.std.specs.List.Sorted.{IsPartitionPoint}
 use Rattle.std.specs.Option.{option_map_or}
 use Rattle.cf_view.specs.declared.base.Act.{Act}
 use Rattle.cf_view.specs.declared.base.Reason.{Reason}
@@ -51,6 +52,15 @@ has_group_and_point r act = has_group r act && takes r.points (pos act.point)
 -- and the value
 abbrev pub has_group_to_value : Rule → Act → Bool
 has_group_to_value r act = has_group_and_point r act && takes_value r.values act.value
+
+-- so many pairs stand at the front, and in pairs that ascend they are those of lower codes
+abbrev pub IsStartOf : ℕ → List CodePair → ℕ → Type 0
+IsStartOf code pairs start =
+    (start ≤ length pairs) × (AllPairs IsPairBefore pairs → IsPartitionPoint (λ p. ltb p.code code ≡ true) (λ p. ltb p.code code ≡ false) pairs start)
+
+-- of each code that has a place here, where its pairs begin
+abbrev pub HasStarts : List ℕ → List CodePair → Type 0
+HasStarts starts pairs = (code : ℕ) → code < length starts → IsStartOf code pairs (get_or starts code 0)
 
 -- exactly the pairs of this code, in their order
 pub record IsPartOfCode (code : ℕ) (pairs part : List CodePair) : Type 0 where

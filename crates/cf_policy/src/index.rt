@@ -2,7 +2,7 @@
 //! others.
 ghost use Rattle.std.specs.Prelude.{◌≡◌, ℕ, ◌<◌, ◌≤◌, ◌&&◌, pos, Bool, List, Some, false, true, take, length, All, AllPairs, option_and_then, option_map, position, slice_get, IfOk, IfSome, OnOk};
 ghost use Rattle.std.specs.List.{list_any};
-ghost use Rattle.cf_policy.specs.Index.{IsIndexOf, IsFrontOf, AddsCodes, HasPairsBelow, IsPairBefore, IsPartOfCode, rule_at, has_group, has_group_and_point, has_group_to_value, reason_of_pairs, verdict_by};
+ghost use Rattle.cf_policy.specs.Index.{IsIndexOf, IsFrontOf, IsStartOf, HasStarts, AddsCodes, HasPairsBelow, IsPairBefore, IsPartOfCode, rule_at, has_group, has_group_and_point, has_group_to_value, reason_of_pairs, verdict_by};
 ghost use Rattle.cf_policy.specs.Verdict.{verdict_of, decided, is_allow, numbered, IsInside};
 ghost use Rattle.cf_policy.specs.Within.{IsAssetWithin, IsRuleWithin};
 
@@ -11,6 +11,9 @@ use crate::policy::{Action, Asset, Decider, Rule, Verdict};
 use cf_view::{Act, NoMemory, Reason};
 use std::alloc::Global;
 use std::marker::Model;
+
+/// How many codes are octets.
+const CODES: usize = 256;
 
 /// A code and a rule that has it.
 #[derive(Clone, Copy, PartialEq, Eq, PartialOrd, Ord)]
@@ -25,15 +28,20 @@ pub struct CodePair {
 #[derive(Drop)]
 pub struct CodeIndex {
     pairs: Vec<CodePair>,
+    /// For each code that is an octet, how many pairs have a lower one.
+    starts: [usize; CODES],
 }
 
 impl Model for CodeIndex {
     ghost use Rattle.std.specs.Prelude.{List};
     ghost use Rattle.cf_policy.specs.declared.index.CodePair.{CodePair};
+    ghost use Rattle.cf_policy.specs.Index.{HasStarts};
 
     ghost Value = { List CodePair };
 
     ghost view = { λ i. i.pairs.items };
+
+    ghost invariant = { λ i. HasStarts i.starts i.pairs.items };
 }
 
 impl CodeIndex {
@@ -46,7 +54,8 @@ impl CodeIndex {
         let mut pairs = client_pairs(alloc, asset.rules.as_slice(), client)?;
         pairs.sort_unstable();
         pairs.dedup();
-        Ok(CodeIndex { pairs })
+        let starts = starts_of(pairs.as_slice());
+        Ok(CodeIndex { pairs, starts })
     }
 
     /// The pairs, ascending by code and then by place.
@@ -57,16 +66,56 @@ impl CodeIndex {
     }
 
     /// What the asset's rules say about an act of the client: what `verdict` says. The index is that of the asset.
+    #[inline(always)]
     pub fn verdict(&self, asset: &Asset, act: &Act) -> Verdict
         ensures decides { (client : ℕ) → IsIndexOf asset.now client self.now → result ≡ verdict_of asset.now client act.now }
         ensures inside { IsInside asset.now.rules result }
     {
-        let pairs = pairs_from(self.pairs.as_slice(), act.code);
+        let pairs = self.pairs_from(act.code);
         verdict_of_front(pairs, asset.rules.as_slice(), act)
+    }
+
+    /// The pairs from the first of a code on, where they ascend by code.
+    #[inline(always)]
+    fn pairs_from(&self, code: u16) -> &[CodePair]
+        ensures { AllPairs IsPairBefore self.now → (count : ℕ) → IsFrontOf code result.now count → IsPartOfCode code self.now (take count result.now) }
+    {
+        let (_, rest) = self.pairs.as_slice().split_at(self.start(code));
+        rest
+    }
+
+    /// How many pairs have a lower code, where they ascend by code.
+    #[inline(always)]
+    fn start(&self, code: u16) -> usize
+        ensures { IsStartOf code self.now result }
+    {
+        match self.starts.get(usize::from(code)) {
+            Some(start) => *start,
+            None => start_of(self.pairs.as_slice(), code),
+        }
     }
 }
 
+/// How many pairs have a lower code, of pairs that ascend by code.
+fn start_of(pairs: &[CodePair], code: u16) -> usize
+    ensures { IsStartOf code pairs.now result }
+{
+    pairs.partition_point(|pair| pair.code < code)
+}
+
+/// The same for each code that is an octet.
+fn starts_of(pairs: &[CodePair]) -> [usize; CODES]
+    ensures { HasStarts result pairs.now }
+{
+    let mut starts = [0; CODES];
+    for code in 0..CODES as u16 {
+        starts[usize::from(code)] = start_of(pairs, code);
+    }
+    starts
+}
+
 /// What the rules of the pairs of the act's code say that stand at the front. They are looked at until one has the act.
+#[inline(always)]
 fn verdict_of_front(pairs: &[CodePair], rules: &[Rule], act: &Act) -> Verdict
     ensures decides { (count : ℕ) → IsFrontOf act.now.code pairs.now count → result ≡ verdict_by (take count pairs.now) rules.now act.now }
     ensures inside { IsInside rules.now result }
@@ -135,14 +184,6 @@ pub(crate) fn verdict_at(
     }
 }
 
-/// The pairs from the first of a code on, of pairs that ascend by code.
-fn pairs_from(pairs: &[CodePair], code: u16) -> &[CodePair]
-    ensures { AllPairs IsPairBefore pairs.now → (count : ℕ) → IsFrontOf code result.now count → IsPartOfCode code pairs.now (take count result.now) }
-{
-    let (_, rest) = pairs.split_at(pairs.partition_point(|pair| pair.code < code));
-    rest
-}
-
 /// The pairs of a code, of pairs that ascend by code.
 pub(crate) fn pairs_of(pairs: &[CodePair], code: u16) -> &[CodePair]
     ensures { AllPairs IsPairBefore pairs.now → IsPartOfCode code pairs.now result.now }
@@ -173,6 +214,7 @@ pub(crate) fn first_place(pairs: &[CodePair], rules: &[Rule], act: &Act) -> Opti
         .position(|pair| rule_has(rules, pair.rule, act))
 }
 
+#[inline(never)]
 fn default_reason(pairs: &[CodePair], rules: &[Rule], act: &Act) -> Reason
     ensures { result ≡ reason_of_pairs pairs.now rules.now act.now }
 {

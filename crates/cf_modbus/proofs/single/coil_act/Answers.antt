@@ -4,7 +4,7 @@ use Rattle.cf_modbus.proofs.single.coil_act.Goals.{in-0, in-65280}
 use Rattle.cf_modbus.proofs.single.coil_act.Goals as goal
 
 pub returns : goal.returns
-returns c = elim c.match-u16_be.branch [
-  | in-0 w ↦ coil_off c.args.pdu.now.bytes _ c.requires.octets c.requires.size c.requires.code (search rules) (search rules)
-  | in-65280 w ↦ coil_on c.args.pdu.now.bytes _ c.requires.octets c.requires.size c.requires.code (search rules) (search rules)
+returns c = elim c.match-number_at.branch [
+  | in-0 w ↦ coil_off c.args.pdu.now _ c.number_at.ensures.octets c.requires.size c.requires.code (search rules) (search rules)
+  | in-65280 w ↦ coil_on c.args.pdu.now _ c.number_at.ensures.octets c.requires.size c.requires.code (search rules) (search rules)
 ]

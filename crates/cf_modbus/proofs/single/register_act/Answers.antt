@@ -3,4 +3,4 @@ use Rattle.cf_modbus.proofs.Singles.{register_written}
 use Rattle.cf_modbus.proofs.single.register_act.Goals as goal
 
 pub returns : goal.returns
-returns c = register_written c.args.pdu.now.bytes _ c.requires.octets c.requires.size c.requires.code (search rules)
+returns c = register_written c.args.pdu.now _ c.number_at.ensures.octets c.requires.size c.requires.code (search rules)

@@ -1,15 +1,13 @@
-use Rattle.std.proofs.Common.{◌≡◌, ◌∙◌, sym, subst, ap, take}
-use Rattle.cf_policy.specs.Index.{IsIndexOf, verdict_by}
+use Rattle.std.proofs.Common.{◌∙◌, ap, take}
+use Rattle.cf_policy.specs.Index.{verdict_by}
 use Rattle.cf_policy.proofs.ByCode.{verdict_is}
 use Rattle.cf_policy.proofs.Fronts.{front_of}
 use Rattle.cf_policy.proofs.index.CodeIndex.verdict.Goals as goal
 
 pub returns-clause-decides : goal.returns-clause-decides
 returns-clause-decides c = λ client index.
-    let at : c.as_slice.result.now ≡ c.args.self.now = c.as_slice.ensures.value ∙ c.self.view_is in
-    let own = subst (IsIndexOf c.args.asset.now client) (sym at) index in
     let rest = c.pairs_from-pairs.result.now in
     let front = front_of c.args.act.now.code rest in
-    let part = c.pairs_from-pairs.ensures own.ascending front.0 front.1 in
-    c.verdict_of_front.ensures.decides front.0 front.1 ∙ ap (λ rules. verdict_by (take front.0 rest) rules c.args.act.now) c.as_slice-2.ensures
-    ∙ verdict_is c.args.asset.now client c.args.act.now c.as_slice.result.now (take front.0 rest) own part
+    let part = c.pairs_from-pairs.ensures index.ascending front.0 front.1 in
+    c.verdict_of_front.ensures.decides front.0 front.1 ∙ ap (λ rules. verdict_by (take front.0 rest) rules c.args.act.now) c.as_slice.ensures
+    ∙ verdict_is c.args.asset.now client c.args.act.now c.args.self.now (take front.0 rest) index part
