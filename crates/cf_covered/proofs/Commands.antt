@@ -3,7 +3,7 @@ use Rattle.std.proofs.Common.{◌≡◌, Bool, ℕ, ◌^◌, ◌+◌, ◌<◌, �
 use mathlib.Core.Logic.{⊎_elim}
 use Rattle.std.specs.List.{flat_map, filter, list_all, list_any}
 use Rattle.std.proofs.lemmas.Int.{ints}
-use Rattle.std.proofs.lemmas.Bool.{true≢false, and_parts, and_from, or_cases, or_left, or_right, cases_lt}
+use Rattle.std.proofs.lemmas.Bool.{true≢false, and_parts, and_from, or_cases, or_left, or_right, cases_Bool, cases_lt}
 use Rattle.std.proofs.lemmas.List.{get_or-take}
 use Rattle.std.proofs.lemmas.List.Folds.{Any-from_list_any, list_any-append}
 use Rattle.std.proofs.lemmas.Option.{slice_get-get_or}
@@ -77,11 +77,20 @@ pub code_lacked : (p : Protocol) (others : List Rule) (rule : Rule) (code : ℕ)
 code_lacked p others rule code lacks client act same low of has =
     absurd (true≢false (sym (has_each rule client act has).codes ∙ subst (λ c. takes rule.codes (pos c) ≡ false) (sym same) lacks))
 
-pub codes_had : (p : Protocol) (others : List Rule) (rule : Rule) → ((code : ℕ) → code < 256 → HaveCodeOf p others rule code) → HaveAllOf p others rule
+codes_had : (p : Protocol) (others : List Rule) (rule : Rule) → ((code : ℕ) → code < 256 → HaveCodeOf p others rule code) → HaveAllOf p others rule
 codes_had p others rule each client act low of has = ⊎_elim
     (λ served. each act.code served client act refl low of has)
     (λ high. absurd (true≢false (sym (command_acts_in p act of) ∙ ap (list_any (is_of_kind act)) (kinds_end p act.code high))))
     (cases_lt act.code 256)
+
+-- where a rule has no code from an end on, those before the end are all
+pub codes_before : (p : Protocol) (others : List Rule) (rule : Rule) (end : ℕ)
+    → ((code : ℕ) → code < 256 → takes rule.codes (pos code) ≡ true → code < end)
+    → ((code : ℕ) → code < end → HaveCodeOf p others rule code) → HaveAllOf p others rule
+codes_before p others rule end before each = codes_had p others rule (λ code served. ⊎_elim
+    (λ has. each code (before code served has))
+    (λ lacks. code_lacked p others rule code lacks)
+    (cases_Bool (takes rule.codes (pos code))))
 
 filtered_any : {X : Type 0} (p q : X → Bool) (xs : List X) → list_any p (filter q xs) ≡ true → list_any p xs ≡ true
 filtered_any p q [] h = h

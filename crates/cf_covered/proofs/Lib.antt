@@ -1,3 +1,4 @@
 mod Commands
+mod LowCodes
 mod RegionActs
 mod SpanLists

@@ -1,8 +1,9 @@
 //! Whether the rules before a rule decide all that it has: every act that a command can have and that is the rule's. Beside it the
-//! points that such acts have, and numbers of rules that are likely slips.
+//! points that such acts have, an end of a rule's codes, and numbers of rules that are likely slips.
 #![tactic(auto)]
 
 mod answer;
+mod codes;
 mod common;
 mod points;
 mod regions;
@@ -11,6 +12,7 @@ mod slips;
 mod spans;
 
 pub use answer::{Cover, cover_of};
+pub use codes::code_end;
 pub use common::have_common;
 pub use points::highest_point;
 pub use slips::{Slip, likely_slip};

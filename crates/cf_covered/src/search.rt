@@ -6,13 +6,11 @@ ghost use Rattle.cf_policy.specs.Verdict.{has_act};
 ghost use Rattle.cf_covered.specs.Covered.{HaveAllOf, HaveCodeOf};
 ghost use Rattle.cf_covered.specs.Regions.{AreSettled, Begins, is_in};
 
+use crate::codes::code_end;
 use crate::regions::{Region, had_part, lacked_region, push_rest, regions_of};
 use cf_acts::kinds;
 use cf_policy::{Protocol, Rule, takes};
 use std::alloc::{AllocError, Global};
-
-/// One more than the highest code of a rule.
-const CODES: u16 = 256;
 
 /// What a search says.
 #[derive(Clone, Copy)]
@@ -36,7 +34,7 @@ pub(crate) fn have_all_of(
 ) -> Result<Search, AllocError>
     ensures { IfOk result (λ found. found ≡ Search.All → HaveAllOf protocol (map (λ r. r.now) others.now) rule.now) }
 {
-    for code in 0..CODES {
+    for code in 0..code_end(rule) {
         match have_code_of(alloc, protocol, others, rule, code, steps) {
             Ok(Search::All) => {}
             Ok(Search::Alone) => return Ok(Search::Alone),

@@ -25,9 +25,13 @@ fn first_covering(earlier: &[Rule], rule: &Rule) -> Option<usize>
     earlier.iter().position(|first| includes_rule(first, rule))
 }
 
+/// Points are looked at first, as rules of a code mostly differ there.
 fn includes_rule(outer: &Rule, inner: &Rule) -> bool
     ensures { result ≡ includes_rule outer.now inner.now }
 {
+    if !includes(&outer.points, &inner.points) {
+        return false;
+    }
     includes(&outer.clients, &inner.clients)
         && (includes(&outer.codes, &inner.codes)
             && (includes(&outer.groups, &inner.groups)

@@ -13,6 +13,7 @@ ghost use Rattle.cf_explain.specs.Rules.{Holds, IsMet, IsSound, NeverHas, NeverM
 
 use crate::covered::covering;
 use crate::unmet::{Unmet, why_unmet};
+use cf_covered::code_end;
 use cf_policy::{Asset, Protocol, Rule, takes};
 use std::alloc::{AllocError, Global};
 
@@ -20,7 +21,7 @@ use std::alloc::{AllocError, Global};
 const CODES: u16 = 256;
 
 /// What is found of a rule.
-#[derive(Clone, Copy, PartialEq, Eq, Debug)]
+#[derive(Clone, Copy)]
 pub enum What {
     /// No command meets it, for this reason at its first code.
     Never(u16, Unmet),
@@ -118,7 +119,7 @@ fn code_findings(
     ensures nothing { IfOk result (λ found. found.items ≡ [] → IsMet asset.now.protocol rule.now) }
 {
     let mut found = Vec::new(alloc);
-    for code in 0..CODES {
+    for code in 0..code_end(rule) {
         put(&mut found, code_finding(asset.protocol, rule, code))?;
     }
     Ok(found)

@@ -2,12 +2,9 @@
 ghost use Rattle.std.specs.Prelude.{◌<◌, length};
 
 use crate::found::{What, findings};
-use cf_covered::{Cover, Slip, cover_of, have_common, highest_point, likely_slip};
+use cf_covered::{Cover, Slip, code_end, cover_of, have_common, highest_point, likely_slip};
 use cf_policy::{Action, Asset, Policy, Rule, takes};
 use std::alloc::{AllocError, Global};
-
-/// One more than the highest code of a rule.
-const CODES: u16 = 256;
 
 /// What is warned of a rule.
 #[derive(Clone, Copy)]
@@ -113,7 +110,7 @@ fn is_whole(what: What) -> bool {
 
 /// That a rule names points which no act of a command with one of its codes has, beside some that they have.
 fn points_told(asset: &Asset, rule: &Rule) -> Option<Warning> {
-    for code in 0..CODES {
+    for code in 0..code_end(rule) {
         if let Some(high) = passed_point(asset, rule, code) {
             return Some(Warning::Points(code, high));
         }

@@ -9,7 +9,7 @@ use cf_acts::{Groups, Kind, kinds};
 use cf_policy::{Items, Protocol, Rule, Span};
 
 /// Why no act with a code meets a rule.
-#[derive(Clone, Copy, PartialEq, Eq, Debug)]
+#[derive(Clone, Copy)]
 pub enum Unmet {
     /// The protocol does not serve the code.
     Code,

@@ -166,7 +166,7 @@ fn push_set_name(out: &mut Page, number: usize, set: &Value) {
 }
 
 /// Which warnings about rules are written.
-#[derive(Clone, Copy, PartialEq, Eq)]
+#[derive(Clone, Copy)]
 enum Order {
     /// Refusals after rules that allow.
     Silent,
@@ -185,10 +185,18 @@ fn push_rules(
     for warned in all {
         if let Some(subject) = subject_of(policy, warned) {
             let silence = silence_about(subject.asset, warned);
-            if silence.is_some() == (order == Order::Silent) {
+            if is_of_order(silence, order) {
                 push_rule(report, source, &subject, warned.told, silence);
             }
         }
+    }
+}
+
+/// Whether a warning with or without a silence is of an order.
+fn is_of_order(silence: Option<Silence>, order: Order) -> bool {
+    match order {
+        Order::Silent => silence.is_some(),
+        Order::Other => silence.is_none(),
     }
 }
 

@@ -20,111 +20,8 @@ enum Role {
     Place,
 }
 
-/// A word after a command: what help calls it, and what it is.
-#[derive(Clone, Copy)]
-struct Slot {
-    name: &'static str,
-    role: Role,
-}
-
-const POLICY: Slot = Slot {
-    name: "POLICY",
-    role: Role::File,
-};
-
-const CAPTURE: Slot = Slot {
-    name: "CAPTURE",
-    role: Role::File,
-};
-
-const OUT: Slot = Slot {
-    name: "OUT",
-    role: Role::File,
-};
-
-const LOG: Slot = Slot {
-    name: "LOG",
-    role: Role::File,
-};
-
-const STREAM: Slot = Slot {
-    name: "STREAM",
-    role: Role::File,
-};
-
-const REPLIES: Slot = Slot {
-    name: "REPLIES",
-    role: Role::File,
-};
-
-const OTHER: Slot = Slot {
-    name: "OTHER",
-    role: Role::File,
-};
-
-const ASSET: Slot = Slot {
-    name: "ASSET",
-    role: Role::Asset,
-};
-
-const CLIENT: Slot = Slot {
-    name: "CLIENT",
-    role: Role::Client,
-};
-
-const PORT: Slot = Slot {
-    name: "PORT",
-    role: Role::Number(1, 65_535),
-};
-
-const IDLES: Slot = Slot {
-    name: "IDLES",
-    role: Role::Number(1, 1_000_000),
-};
-
-const SECONDS: Slot = Slot {
-    name: "SECONDS",
-    role: Role::Number(1, 1_000_000),
-};
-
-const PLACE: Slot = Slot {
-    name: "NAME=A.B.C.D:PORT",
-    role: Role::Place,
-};
-
-const SEED: Slot = Slot {
-    name: "SEED",
-    role: Role::Number(0, 18_446_744_073_709_551_615),
-};
-
-const SESSIONS: Slot = Slot {
-    name: "SESSIONS",
-    role: Role::Number(1, 200),
-};
-
-static CHECK_SLOTS: [Slot; 1] = [POLICY];
-
-static COMPARE_SLOTS: [Slot; 2] = [POLICY, OTHER];
-
-static JUDGE_SLOTS: [Slot; 2] = [POLICY, CAPTURE];
-
-static LEARN_SLOTS: [Slot; 3] = [POLICY, CAPTURE, OUT];
-
-static MIGRATE_SLOTS: [Slot; 2] = [POLICY, OUT];
-
-static PACKETS_SLOTS: [Slot; 1] = [CAPTURE];
-
-static SIFT_SLOTS: [Slot; 7] = [POLICY, ASSET, CLIENT, STREAM, OUT, REPLIES, LOG];
-
-static RUN_SLOTS: [Slot; 4] = [POLICY, CAPTURE, OUT, LOG];
-
-static REVIEW_SLOTS: [Slot; 3] = [POLICY, CAPTURE, LOG];
-
-static RELAY_SLOTS: [Slot; 5] = [POLICY, ASSET, PORT, IDLES, LOG];
-
-static SERVE_SLOTS: [Slot; 4] = [POLICY, SECONDS, LOG, PLACE];
-
-static WORLD_SLOTS: [Slot; 6] = [SEED, SESSIONS, POLICY, CAPTURE, OUT, LOG];
+/// What help calls a place of a service.
+const PLACE: &str = "NAME=A.B.C.D:PORT";
 
 static COMMANDS: [&str; 12] = [
     "sift", "check", "compare", "learn", "migrate", "packets", "judge", "review", "run", "relay",
@@ -134,22 +31,46 @@ static COMMANDS: [&str; 12] = [
 /// The most places of a service.
 const PLACE_LIMIT: usize = 256;
 
-/// The words after a command, if it is one.
-fn slots_of(command: &str) -> Option<&'static [Slot]> {
+/// What help calls the words after a command, with a space between two, if it is one.
+fn form_of(command: &str) -> Option<&'static str> {
     match command {
-        "sift" => Some(&SIFT_SLOTS),
-        "check" => Some(&CHECK_SLOTS),
-        "compare" => Some(&COMPARE_SLOTS),
-        "learn" => Some(&LEARN_SLOTS),
-        "migrate" => Some(&MIGRATE_SLOTS),
-        "judge" => Some(&JUDGE_SLOTS),
-        "review" => Some(&REVIEW_SLOTS),
-        "packets" => Some(&PACKETS_SLOTS),
-        "run" => Some(&RUN_SLOTS),
-        "relay" => Some(&RELAY_SLOTS),
-        "serve" => Some(&SERVE_SLOTS),
-        "world" => Some(&WORLD_SLOTS),
+        "sift" => Some("POLICY ASSET CLIENT STREAM OUT REPLIES LOG"),
+        "check" => Some("POLICY"),
+        "compare" => Some("POLICY OTHER"),
+        "learn" => Some("POLICY CAPTURE OUT"),
+        "migrate" => Some("POLICY OUT"),
+        "judge" => Some("POLICY CAPTURE"),
+        "review" => Some("POLICY CAPTURE LOG"),
+        "packets" => Some("CAPTURE"),
+        "run" => Some("POLICY CAPTURE OUT LOG"),
+        "relay" => Some("POLICY ASSET PORT IDLES LOG"),
+        "serve" => Some("POLICY SECONDS LOG NAME=A.B.C.D:PORT"),
+        "world" => Some("SEED SESSIONS POLICY CAPTURE OUT LOG"),
         _ => None,
+    }
+}
+
+/// How many words a form has.
+fn count_of(form: &str) -> usize {
+    form.split(' ').count()
+}
+
+/// What help calls the word at an index of a form: behind the last another place.
+fn name_at(form: &str, index: usize) -> &str {
+    form.split(' ').nth(index).unwrap_or(PLACE)
+}
+
+/// What a word is, by what help calls it.
+fn role_of(name: &str) -> Role {
+    match name {
+        "ASSET" => Role::Asset,
+        "CLIENT" => Role::Client,
+        "PORT" => Role::Number(1, 65_535),
+        "IDLES" | "SECONDS" => Role::Number(1, 1_000_000),
+        "SEED" => Role::Number(0, 18_446_744_073_709_551_615),
+        "SESSIONS" => Role::Number(1, 200),
+        "NAME=A.B.C.D:PORT" => Role::Place,
+        _ => Role::File,
     }
 }
 
@@ -176,8 +97,8 @@ fn push_asked(out: &mut Page, word: &str, rest: &[String]) {
 }
 
 fn push_command(out: &mut Page, command: &str, words: &[String]) {
-    match slots_of(command) {
-        Some(slots) => push_command_fault(out, command, slots, words),
+    match form_of(command) {
+        Some(form) => push_command_fault(out, command, form, words),
         None => push_no_command(out, command),
     }
 }
@@ -197,32 +118,28 @@ fn push_no_command(out: &mut Page, word: &str) {
 }
 
 /// What is wrong with the words after a command, and its form.
-fn push_command_fault(out: &mut Page, command: &str, slots: &[Slot], words: &[String]) {
-    let goes_on = has_places(slots);
-    if slots.len() == words.len() || (goes_on && slots.len() < words.len()) {
-        push_words_fault(out, command, slots, words);
+fn push_command_fault(out: &mut Page, command: &str, form: &str, words: &[String]) {
+    let wanted = count_of(form);
+    let goes_on = has_places(form);
+    if wanted == words.len() || (goes_on && wanted < words.len()) {
+        push_words_fault(out, command, form, words);
     } else {
-        push_wrong_count(out, command, slots, words.len());
+        push_wrong_count(out, command, form, words.len());
     }
-    out.push_all(&["\n  cmdwall ", command]);
-    for slot in slots {
-        out.push_all(&[" ", slot.name]);
-    }
+    out.push_all(&["\n  cmdwall ", command, " ", form]);
     out.push(if goes_on { ".." } else { "" });
 }
 
 /// Whether more places may follow the last word.
-fn has_places(slots: &[Slot]) -> bool {
-    slots
-        .last()
-        .is_some_and(|slot| matches!(slot.role, Role::Place))
+fn has_places(form: &str) -> bool {
+    form.ends_with(PLACE)
 }
 
 /// Too few or too many words.
-fn push_wrong_count(out: &mut Page, command: &str, slots: &[Slot], count: usize) {
-    let wanted = slots.len();
+fn push_wrong_count(out: &mut Page, command: &str, form: &str, count: usize) {
+    let wanted = count_of(form);
     out.push_all(&[command, " takes "]);
-    out.push(if has_places(slots) { "at least " } else { "" });
+    out.push(if has_places(form) { "at least " } else { "" });
     out.push_number(wanted as u64);
     out.push(if wanted == 1 { " word" } else { " words" });
     out.push(", and has ");
@@ -230,33 +147,25 @@ fn push_wrong_count(out: &mut Page, command: &str, slots: &[Slot], count: usize)
 }
 
 /// The first of these that holds: a word that is none of its role, two files of one name.
-fn push_words_fault(out: &mut Page, command: &str, slots: &[Slot], words: &[String]) {
-    if !push_word_faults(out, slots, words)
-        && !push_twins(out, slots, words)
-        && !push_same_places(out, slots, words)
+fn push_words_fault(out: &mut Page, command: &str, form: &str, words: &[String]) {
+    if !push_word_faults(out, form, words)
+        && !push_twins(out, form, words)
+        && !push_same_places(out, form, words)
     {
         out.push_all(&["the words behind ", command, " have no form"]);
     }
 }
 
 /// Says what is wrong with the first word that is none of its role, if there is one, and whether it did.
-fn push_word_faults(out: &mut Page, slots: &[Slot], words: &[String]) -> bool {
+fn push_word_faults(out: &mut Page, form: &str, words: &[String]) -> bool {
     for (index, word) in words.iter().enumerate() {
-        let slot = slot_at(slots, index);
-        if !has_role(slot.role, word.as_str()) {
-            push_word_fault(out, &slot, word.as_str());
+        let name = name_at(form, index);
+        if !has_role(role_of(name), word.as_str()) {
+            push_word_fault(out, name, word.as_str());
             return true;
         }
     }
     false
-}
-
-/// What the word at an index is: behind the last slot another place.
-fn slot_at(slots: &[Slot], index: usize) -> Slot {
-    match slots.get(index) {
-        Some(slot) => *slot,
-        None => PLACE,
-    }
 }
 
 /// Whether a word can be what stands there.
@@ -282,14 +191,14 @@ fn endpoint_of(word: &str) -> Option<&str> {
 }
 
 /// Says what is wrong with a word.
-fn push_word_fault(out: &mut Page, slot: &Slot, word: &str) {
-    if word.is_empty() && is_file(slot) {
-        out.push_all(&["the name of ", slot.name, " is empty"]);
+fn push_word_fault(out: &mut Page, name: &str, word: &str) {
+    if word.is_empty() && is_file(name) {
+        out.push_all(&["the name of ", name, " is empty"]);
         return;
     }
-    out.push_all(&[slot.name, " is "]);
+    out.push_all(&[name, " is "]);
     push_quoted(out, word);
-    push_role(out, slot.role, word);
+    push_role(out, role_of(name), word);
 }
 
 /// What a word has to be that is an address or a number.
@@ -323,13 +232,13 @@ fn is_number(low: u64, high: u64, word: &str) -> bool {
 }
 
 /// Says which two files have one name, if two have, and whether it did.
-fn push_twins(out: &mut Page, slots: &[Slot], words: &[String]) -> bool {
+fn push_twins(out: &mut Page, form: &str, words: &[String]) -> bool {
     for (index, word) in words.iter().enumerate() {
-        if let Some(earlier) = twin_of(slots, words, index) {
+        if let Some(earlier) = twin_of(form, words, index) {
             out.push_all(&[
-                name_at(slots, earlier),
+                name_at(form, earlier),
                 " and ",
-                name_at(slots, index),
+                name_at(form, index),
                 " are both ",
             ]);
             push_quoted(out, word.as_str());
@@ -341,11 +250,11 @@ fn push_twins(out: &mut Page, slots: &[Slot], words: &[String]) -> bool {
 }
 
 /// Says which asset or endpoint stands twice among the places, or that there are too many, and whether it did.
-fn push_same_places(out: &mut Page, slots: &[Slot], words: &[String]) -> bool {
-    if !has_places(slots) {
+fn push_same_places(out: &mut Page, form: &str, words: &[String]) -> bool {
+    if !has_places(form) {
         return false;
     }
-    let places = match words.get(slots.len().saturating_sub(1)..) {
+    let places = match words.get(count_of(form).saturating_sub(1)..) {
         Some(places) => places,
         None => return false,
     };
@@ -374,29 +283,18 @@ fn name_of(word: &str) -> Option<&str> {
 }
 
 /// The first file before that of an index that has the same name.
-fn twin_of(slots: &[Slot], words: &[String], index: usize) -> Option<usize> {
+fn twin_of(form: &str, words: &[String], index: usize) -> Option<usize> {
     let word = words.get(index)?;
     let earlier = words
         .iter()
         .position(|other| other.as_str() == word.as_str())?;
-    if earlier < index && is_file_at(slots, index) && is_file_at(slots, earlier) {
+    if earlier < index && is_file(name_at(form, index)) && is_file(name_at(form, earlier)) {
         Some(earlier)
     } else {
         None
     }
 }
 
-fn is_file_at(slots: &[Slot], index: usize) -> bool {
-    slots.get(index).is_some_and(is_file)
-}
-
-fn is_file(slot: &Slot) -> bool {
-    matches!(slot.role, Role::File)
-}
-
-fn name_at(slots: &[Slot], index: usize) -> &'static str {
-    match slots.get(index) {
-        Some(slot) => slot.name,
-        None => "a word",
-    }
+fn is_file(name: &str) -> bool {
+    matches!(role_of(name), Role::File)
 }

@@ -13,7 +13,7 @@ use std::time::{Clock, Duration, SystemTime};
 const CONNECT_SECONDS: u64 = 10;
 
 /// Where a call failed.
-#[derive(Clone, Copy, PartialEq, Eq)]
+#[derive(Clone, Copy)]
 pub enum Part {
     Port,
     Client,

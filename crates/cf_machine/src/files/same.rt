@@ -13,7 +13,7 @@ struct Node {
 }
 
 /// Where a name leads: to a file that is there, or to a name in a folder that is there.
-#[derive(Clone, Copy, PartialEq, Eq)]
+#[derive(Clone, Copy)]
 enum Leads {
     File(Node),
     Folder(Node),
@@ -119,11 +119,12 @@ fn twin_of<R: FileSystem>(
 
 /// Whether a place leads to where a name leads.
 fn is_same(place: &Place, leads: Leads, name: &str) -> bool {
-    match leads {
-        Leads::File(_) => place.leads == leads,
-        Leads::Folder(_) => place.leads == leads
-            && last_part(place.name.as_str()) == last_part(name),
-        Leads::Nowhere => false,
+    match (place.leads, leads) {
+        (Leads::File(one), Leads::File(other)) => one == other,
+        (Leads::Folder(one), Leads::Folder(other)) => {
+            one == other && last_part(place.name.as_str()) == last_part(name)
+        }
+        _ => false,
     }
 }
 

@@ -98,19 +98,17 @@ impl<'a, R: Net + Clock + Eprint> Sockets<'a, R> {
 
     /// How many milliseconds may pass before the next round; nothing where the system says when.
     fn longest_wait(&self) -> Option<u64> {
-        let places = self
-            .places
-            .iter()
-            .filter_map(|place| place.longest_wait(self.now));
-        let sessions = self
-            .sessions
-            .iter()
-            .map(|session| session.longest_wait(self.now));
-        let leaving = self
-            .leaving
-            .iter()
-            .map(|leaving| leaving.longest_wait(self.now));
-        places.chain(sessions).chain(leaving).min()
+        let mut wait = None;
+        for place in self.places.iter() {
+            wait = sooner(wait, place.longest_wait(self.now));
+        }
+        for session in self.sessions.iter() {
+            wait = sooner(wait, Some(session.longest_wait(self.now)));
+        }
+        for leaving in self.leaving.iter() {
+            wait = sooner(wait, Some(leaving.longest_wait(self.now)));
+        }
+        wait
     }
 
     fn read_clock(&mut self) -> io::Result<()> {
@@ -209,6 +207,15 @@ impl<'a, R: Net + Clock + Eprint> Sockets<'a, R> {
                 let _ = self.leaving.push(leaving);
             }
         }
+    }
+}
+
+/// The shorter of two waits, of which one that is nothing has no end.
+fn sooner(wait: Option<u64>, other: Option<u64>) -> Option<u64> {
+    match (wait, other) {
+        (Some(wait), Some(other)) => Some(wait.min(other)),
+        (None, other) => other,
+        (wait, None) => wait,
     }
 }
 
