@@ -13,6 +13,7 @@ ghost use Rattle.cf_serve.specs.declared.table.Place.{Place as PlaceOf};
 use crate::ending::{Stop, put_text, report};
 use crate::policy_file::{find_asset, load_policy};
 use crate::service::{PlaceWord, Service, read_service};
+use crate::status::{DONE, NO_MEMORY, USAGE};
 use cf_links::Service as Links;
 use cf_outside::{Files, Sink};
 use cf_policy::Policy;
@@ -124,7 +125,7 @@ fn serve_words<F: Files, O: Sink, L: Links>(
         (service_outside F.Files O.Sink L.Links files.new out.new links.new) result (Some (service_value service.now)) }
 {
     match serve_policy(alloc, service, files, links) {
-        Ok(()) => 0,
+        Ok(()) => DONE,
         Err(stop) => report(&Err(stop), out),
     }
 }
@@ -153,8 +154,8 @@ pub fn serve_main<F: Files, O: Sink, L: Links>(
 {
     sessions_are_isolated();
     match read_service(alloc, words) {
-        Err(_) => 13,
-        Ok(None) => put_text("usage\n", 2, 2, out),
+        Err(_) => NO_MEMORY,
+        Ok(None) => put_text("usage\n", USAGE, USAGE, out),
         Ok(Some(service)) => serve_words(alloc, &service, files, out, links),
     }
 }
