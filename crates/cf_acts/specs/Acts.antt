@@ -1,7 +1,8 @@
 -- Beside the proof: which acts commands of a protocol can have, as far as a policy can name them: `can_have`. Warnings about rules go
 -- by it. The tables are those of the policy language: MODBUS Application Protocol Specification V1.1b3, section 6; IEEE 1815-2012,
 -- section 4.4 and annex A; IEC 60870-5-101, sections 7.3.2, 7.3.4 and 7.3.5. What of them is served is this project's own.
-use Rattle.std.specs.Prelude.{ℕ, ◌+◌, ◌*◌, ℤ, pos, ◌-ℤ◌, ◌==◌, nat_le, Bool, true, false, ◌&&◌, ◌||◌, if◌then◌else◌, List, [], ◌∷◌, Option, Some, None}
+use Rattle.std.specs.Prelude.{ℕ, ◌+◌, ◌*◌, ℤ, pos, ◌-ℤ◌, ◌==◌, nat_le, Bool, true, false, ◌&&◌, ◌||◌, if◌then◌else◌, List, [], ◌∷◌, Option}
+use Rattle.std.specs.Prelude.{Some, None}
 use Rattle.std.specs.List.{list_any}
 use Rattle.cf_view.specs.declared.base.Act.{Act}
 use Rattle.cf_policy.specs.declared.policy.Protocol.{Protocol}

@@ -14,9 +14,6 @@ use Rattle.cf_apci.proofs.Places.{size_long, size_least, six, past, follows_fron
 is_equal : (a b : ℕ) → (a == b) ≡ true → a ≡ b
 is_equal a b h = grind (arith, nat_tests)
 
-same_number : (n : ℕ) → (n == n) ≡ true
-same_number n = grind (arith, nat_tests)
-
 between : (n : ℕ) → nat_le 4 n && nat_le n 253 ≡ true → (4 ≤ n) × (n ≤ 253)
 between n h = grind (arith, nat_tests)
 

@@ -1,6 +1,7 @@
 -- Steps of the proof: which octet may stand at a place of an APDU, after the octets before it (`follows`), and how long the APDU is
 -- (`size_of`).
-use Rattle.std.specs.Prelude.{ℕ, ◌+◌, ◌/◌, ◌%◌, ◌==◌, ◌&&◌, ◌||◌, nat_lt, nat_le, max, if◌then◌else◌, Bool, true, List, length, drop, slice_index}
+use Rattle.std.specs.Prelude.{ℕ, ◌+◌, ◌/◌, ◌%◌, ◌==◌, ◌&&◌, ◌||◌, nat_lt, nat_le, max, if◌then◌else◌, Bool, true, List, length, drop}
+use Rattle.std.specs.Prelude.{slice_index}
 use Rattle.cf_view.specs.Octets.{u16_le_at}
 use Rattle.cf_apci.specs.Apdu.{ApduValue, Info, Ack, Control, is_control}
 

@@ -30,10 +30,6 @@ shaped : (a : AsduValue) (e : Element) → has_objects (Some e) a ≡ true →
     (1 ≤ a.number) × (a.number ≤ 127) × (length a.objects ≡ a.number * (3 + e.octets))
 shaped a e h = grind (arith, nat_tests)
 
-element_there : (o : Option Element) (a : AsduValue) → has_objects o a ≡ true → is_some o ≡ true
-element_there None a h = absurd (false≢true h)
-element_there (Some e) a h = refl
-
 pub objects_there : (a : AsduValue) → IsRead a → has_objects (element_of a.kind) a ≡ true
 unfolding by_truths
 objects_there a (octets, (s, l, e)) = (all_hold (is_some (element_of a.kind)) (has_objects (element_of a.kind) a) (is_command_cause a.cause) e).1

@@ -1,7 +1,8 @@
 -- The ASDU of a command, and what is read of its octets: the main definition is Reads, read from the end.
 -- IEC 60870-5-101, section 7.2: type identification, variable structure qualifier, cause of transmission of two octets, common
 -- address of two octets, and information objects with addresses of three octets, as IEC 60870-5-104 has them.
-use Rattle.std.specs.Prelude.{◌≡◌, ℕ, ◌+◌, ◌*◌, ◌%◌, ◌<◌, ◌≤◌, ◌==◌, ◌&&◌, ◌||◌, not, nat_lt, nat_le, if◌then◌else◌, Bool, false, List, ◌∷◌, ◌++◌, length, Option, Some, None, is_some, Result, Ok, Err}
+use Rattle.std.specs.Prelude.{◌≡◌, ℕ, ◌+◌, ◌*◌, ◌%◌, ◌<◌, ◌≤◌, ◌==◌, ◌&&◌, ◌||◌, not, nat_lt, nat_le, if◌then◌else◌, Bool, false, List, ◌∷◌}
+use Rattle.std.specs.Prelude.{◌++◌, length, Option, Some, None, is_some, Result, Ok, Err}
 use Rattle.cf_view.specs.Octets.{IsOctets, u16_le_at, u16_le_octets}
 use Rattle.cf_view.specs.declared.Reason.{Reason}
 use Rattle.cf_view.specs.declared.Reason.TheVariants as reasons

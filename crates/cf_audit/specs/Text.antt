@@ -4,7 +4,8 @@ use Rattle.std.specs.Fmt.{signed_decimal}
 use Rattle.hex.specs.Hex.{encode_lower}
 use Rattle.cf_view.specs.Text.{endpoint_text, moment_text}
 use Rattle.cf_view.specs.declared.Act.{Act}
-use Rattle.cf_audit.specs.Line.{LineValue, WhatValue, Begun, Refuse, Stray, Partial, Close, Cut, Listen, Full, Unreached, Lost, Silent, NoMemory}
+use Rattle.cf_audit.specs.Line.{LineValue, WhatValue, Begun, Refuse, Stray, Partial, Close, Cut, Listen, Full, Unreached, Lost, Silent}
+use Rattle.cf_audit.specs.Line.{NoMemory}
 use Rattle.cf_audit.specs.Names.{side_name, reason_name, why_name, break_name, mark}
 use Rattle.cf_audit.specs.declared.line.CutReason.{CutReason}
 use Rattle.cf_audit.specs.declared.line.CutReason.TheVariants as cut

@@ -17,7 +17,8 @@ reviewed_text c =
     count_line (codes "flows ") c.flows ++ (count_line (codes "commands ") c.commands ++ (count_line (codes "admitted ") c.admitted
     ++ (count_line (codes "refused rule ") c.by_rule ++ (count_line (codes "refused default ") c.by_default
     ++ (count_line (codes "refused station ") c.by_station ++ (count_line (codes "refused form ") c.by_form
-    ++ (count_line (codes "strays ") c.strays ++ (count_line (codes "conflicts ") c.conflicts ++ count_line (codes "broken ") c.broken))))))))
+    ++ (count_line (codes "strays ") c.strays
+    ++ (count_line (codes "conflicts ") c.conflicts ++ count_line (codes "broken ") c.broken))))))))
 
 -- the name of the asset, and the first act that the first policy allows and the other refuses; or the first objection; or
 -- what was counted of a review that has remarks

@@ -37,7 +37,8 @@ abbrev pub IsToldAs : Asset → Complaint → Ground → Type 0
 IsToldAs asset (complaint.Conflict position) what = what ≡ told.Conflict position
 IsToldAs asset (complaint.Broken reason) what = what ≡ told.Broken reason
 IsToldAs asset (complaint.Stray why) what = what ≡ told.Stray why
-IsToldAs asset (complaint.Refused decider reason) (told.Refused rule because) = (rule.bytes ≡ name_of asset.rules decider) × (because ≡ reason)
+IsToldAs asset (complaint.Refused decider reason) (told.Refused rule because) = (rule.bytes ≡ name_of asset.rules decider)
+    × (because ≡ reason)
 IsToldAs asset (complaint.Refused decider reason) _ = ⊥
 
 -- what is told of an objection at an asset is the objection, with the asset's name in the place of its number
@@ -76,7 +77,8 @@ SaysOfFlows p flows (Err _) = ⊥
 module _ (policy capture : List ℕ) (before : Outside) where
   -- this is the first objection to the flows of the capture
   abbrev pub Objects : Denial → Type 0
-  Objects (denial.Objects tells) = (p : Policy) × (flows : List FlowValue) × HasWatched policy capture before p flows × ObjectsTo p flows tells
+  Objects (denial.Objects tells) = (p : Policy) × (flows : List FlowValue) × HasWatched policy capture before p flows
+      × ObjectsTo p flows tells
   Objects _ = ⊥
 
   -- no flow of the capture is objected to: each has one letter at each position, and its units are what the policy allows, what is

@@ -4,7 +4,10 @@ use Rattle.std.specs.Prelude.{◌≡◌, ◌-◌, ◌^◌, pos, neg_ℤ}
 use Rattle.cf_lane.specs.declared.limit.TheConstants.{LETTER_LIMIT}
 use Rattle.cf_pcap.specs.declared.record.TheConstants.{CAPTURED_LIMIT}
 use Rattle.cf_pcapng.specs.declared.block.TheConstants.{BLOCK_LIMIT, INTERFACE_LIMIT}
-use Rattle.cf_policy.specs.declared.limits.TheConstants.{HIGHEST_ADDRESS, HIGHEST_CODE, HIGHEST_COMMON_ADDRESS, HIGHEST_GROUP, HIGHEST_LINK_ADDRESS, HIGHEST_MOST, HIGHEST_POINT, HIGHEST_UNIT, HIGHEST_VALUE, LONGEST_NAME, LONGEST_RATE, LOWEST_VALUE, MOST_ASSETS, MOST_RATED, MOST_RULES, MOST_SPANS}
+use Rattle.cf_policy.specs.declared.limits.TheConstants.{HIGHEST_ADDRESS, HIGHEST_CODE, HIGHEST_COMMON_ADDRESS, HIGHEST_GROUP}
+use Rattle.cf_policy.specs.declared.limits.TheConstants.{HIGHEST_LINK_ADDRESS, HIGHEST_MOST, HIGHEST_POINT, HIGHEST_UNIT, HIGHEST_VALUE}
+use Rattle.cf_policy.specs.declared.limits.TheConstants.{LONGEST_NAME, LONGEST_RATE, LOWEST_VALUE, MOST_ASSETS, MOST_RATED, MOST_RULES}
+use Rattle.cf_policy.specs.declared.limits.TheConstants.{MOST_SPANS}
 use Rattle.cf_policylang.specs.declared.documents.TheConstants.{LONGEST_TEXT}
 use Rattle.cf_policylang.specs.declared.sets.TheConstants.{MOST_SETS}
 use Rattle.cf_watch.specs.declared.fault.TheConstants.{CAPTURE_LIMIT}

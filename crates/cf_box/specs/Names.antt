@@ -1,5 +1,6 @@
 -- Names of files (`are_names`) and numbers (`printed_number`) among the words.
-use Rattle.std.specs.Prelude.{ℕ, ◌==◌, ◌^◌, Bool, true, not, ◌&&◌, nat_le, nat_lt, if◌then◌else◌, List, [], ◌∷◌, length, Option, None, Some, decimal, bytes_eq, option_and_then}
+use Rattle.std.specs.Prelude.{ℕ, ◌==◌, ◌^◌, Bool, true, not, ◌&&◌, nat_le, nat_lt, if◌then◌else◌, List, [], ◌∷◌, length, Option, None, Some}
+use Rattle.std.specs.Prelude.{decimal, bytes_eq, option_and_then}
 use Rattle.std.specs.List.{list_any}
 use Rattle.std.specs.Str.Parse.{digits_value}
 

@@ -102,6 +102,7 @@ pub record Lists (file : List ℕ) (before after : Outside) (d : Done) : Type 0 
 
 -- the lines that were put before a stop, and no file changed
 pub record PacketsLeaves (file : List ℕ) (before after : Outside) (s : Stop) : Type 0 where
-  pub lines : StaysClosed (before.files.content file) before.sink after.sink s ⊎ ListsFile (before.files.content file) before.sink after.sink (Err s)
+  pub lines : StaysClosed (before.files.content file) before.sink after.sink s
+      ⊎ ListsFile (before.files.content file) before.sink after.sink (Err s)
   pub content : after.files.content ≡ before.files.content
   pub pair : after.pair ≡ before.pair

@@ -51,7 +51,8 @@ module _ (policy capture : List ℕ) (before : Outside) where
 
   -- there is a remark, and so much was counted
   abbrev pub Remarks : Denial → Type 0
-  Remarks (denial.Remarks counts) = (p : Policy) × (stamps : List ℕ) × (r : Reviewed) × HasReview p stamps r × (counts ≡ counts_of r) × (remarks_of r ≢ [])
+  Remarks (denial.Remarks counts) = (p : Policy) × (stamps : List ℕ) × (r : Reviewed) × HasReview p stamps r × (counts ≡ counts_of r)
+      × (remarks_of r ≢ [])
   Remarks _ = ⊥
 
   -- whatever is told of them, there is none
@@ -69,7 +70,8 @@ module _ (policy capture log : List ℕ) (before after : Outside) where
     pub stamps : List ℕ
     pub reviewed : Reviewed
     pub has : HasReview policy capture before known stamps reviewed
-    pub in_file : after.files.content log ≡ content_after_write (before.files.content log) (review_text known.assets stamps (remarks_of reviewed))
+    pub in_file : after.files.content log ≡ content_after_write (before.files.content log)
+        (review_text known.assets stamps (remarks_of reviewed))
 
   -- so it was, its remarks were counted, and no other file changed
   pub record WritesReview (counts : Counts) : Type 0 where

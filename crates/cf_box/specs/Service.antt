@@ -89,7 +89,13 @@ pub record ServiceOutside : Type 0 where
   pub waits : ℕ
 
 abbrev pub service_outside : {F O L : Type 0} → FilesOf F → SinkOf O → LinksOf L → F → O → L → ServiceOutside
-service_outside F O L files out links = record { files = files_value F files; sink = sink_value O out; told = L.told links; waits = LinksPlace.round_faults (L.place links) }
+service_outside F O L files out links = record {
+  files = files_value F files;
+  sink = sink_value O out;
+  told = L.told links;
+  waits =
+      LinksPlace.round_faults (L.place links);
+}
 
 -- why the work stops at a fault of the service
 abbrev pub service_stop : ServeFault → Stop

@@ -1,5 +1,6 @@
 -- `serve POLICY SECONDS LOG NAME=A.B.C.D:PORT..`: the words of a service. The main definition is `service_of`. This project's own.
-use Rattle.std.specs.Prelude.{ℕ, ◌≤◌, ◌==◌, Bool, true, not, ◌&&◌, ◌||◌, nat_le, if◌then◌else◌, List, [], ◌∷◌, length, map, Option, None, Some, bytes_eq, codes, option_and_then, option_map}
+use Rattle.std.specs.Prelude.{ℕ, ◌≤◌, ◌==◌, Bool, true, not, ◌&&◌, ◌||◌, nat_le, if◌then◌else◌, List, [], ◌∷◌, length, map, Option, None}
+use Rattle.std.specs.Prelude.{Some, bytes_eq, codes, option_and_then, option_map}
 use Rattle.std.specs.List.{list_any}
 use Rattle.cf_policylang.specs.Numbers.{address, split_at_mark}
 use Rattle.cf_view.specs.declared.Endpoint.{Endpoint}
@@ -37,7 +38,8 @@ IsFitService service = (1 ≤ service.seconds) × ((service.seconds ≤ 1000000)
 
 -- an address and a port from 1 to 65,535
 abbrev pub endpoint_of : (host port : List ℕ) → Option Endpoint
-endpoint_of host port = option_and_then (λ a. option_map (λ p. record { address = a; port = p }) (printed_number_in 1 65535 port)) (address host)
+endpoint_of host port = option_and_then (λ a. option_map (λ p. record { address = a; port = p }) (printed_number_in 1 65535 port))
+    (address host)
 
 -- `A.B.C.D:PORT`
 abbrev pub endpoint_word : List ℕ → Option Endpoint
@@ -46,7 +48,8 @@ endpoint_word text = option_and_then (λ halves. endpoint_of halves.0 halves.1) 
 -- `NAME=A.B.C.D:PORT`
 abbrev pub place_word : List ℕ → Option PlaceWord
 place_word text =
-    option_and_then (λ halves. option_map (λ at. record { asset = halves.0; at = at }) (endpoint_word halves.1)) (split_at_mark (codes "=") text)
+    option_and_then (λ halves. option_map (λ at. record { asset = halves.0; at = at }) (endpoint_word halves.1))
+    (split_at_mark (codes "=") text)
 
 -- one place for each word, if each is one
 abbrev pub place_words : List (List ℕ) → Option (List PlaceWord)

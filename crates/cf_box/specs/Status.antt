@@ -16,9 +16,11 @@ use Rattle.cf_policy.specs.declared.Policy.{Policy}
 use Rattle.cf_policylang.specs.Documents.{policy_meaning}
 use Rattle.cf_policylang.specs.declared.PolicyRefusal.{PolicyRefusal}
 use Rattle.cf_run.specs.RunCapture.{RunNamesValue}
-use Rattle.cf_box.specs.Command.{Command, Check, Compare, Judge, Migrate, Packets, Review, Run, Relay, World, Sift, AsksPair, asset_name, capture_file, other_file, output_files, policy_file, Learn}
+use Rattle.cf_box.specs.Command.{Command, Check, Compare, Judge, Migrate, Packets, Review, Run, Relay, World, Sift, AsksPair, asset_name}
+use Rattle.cf_box.specs.Command.{capture_file, other_file, output_files, policy_file, Learn}
 use Rattle.cf_box.specs.Compare.{IncludesAll, IsIncluded, OfPolicies, TellsNotIncluded}
-use Rattle.cf_box.specs.Ends.{CutsCapture, CutsStream, Denies, EndsIdle, ExceedsCells, LacksAsset, LinkFails, RefusesCapture, RefusesPolicy, ExceedsRules}
+use Rattle.cf_box.specs.Ends.{CutsCapture, CutsStream, Denies, EndsIdle, ExceedsCells, LacksAsset, LinkFails, RefusesCapture, RefusesPolicy}
+use Rattle.cf_box.specs.Ends.{ExceedsRules}
 use Rattle.cf_box.specs.Judge.{KeepsPolicy, NeverObjects}
 use Rattle.cf_box.specs.Watching.{WatchCuts, WatchRefuses}
 use Rattle.cf_box.specs.Learn.{NeverTooMuch}
@@ -147,7 +149,8 @@ pub record HasInput (c : Command) (before after : Outside) : Type 0 where
       (file : List ℕ) → policy_file c ≡ Some file →
       (bytes : List ℕ) × (before.files.content file ≡ holds bytes) × ((p : Policy) × (policy_meaning bytes ≡ Ok p)
       × ((name : List ℕ) → asset_name c ≡ Some name → (a : Asset) × (asset_named name p ≡ Some a)))
-  pub capture : (file : List ℕ) → capture_file c ≡ Some file → (bytes : List ℕ) × (before.files.content file ≡ holds bytes) × EndsWell c bytes
+  pub capture : (file : List ℕ) → capture_file c ≡ Some file → (bytes : List ℕ) × (before.files.content file ≡ holds bytes)
+      × EndsWell c bytes
   pub stream : (reason : CutReason) → CutsStream c before after.pair reason → ⊥
   pub idle : EndsIdle c before after.pair → ⊥
   pub made : TellsMade c before
@@ -258,19 +261,27 @@ pub record TellsCutAt (Cuts : Content → ℕ → Type 0) (file : Content) : Typ
 -- capture
 abbrev pub TellsRefusedCapture : Command → Outside → Type 0
 TellsRefusedCapture (Packets capture) before = TellsRefusal ListingRefuses (before.files.content capture)
-TellsRefusedCapture (Judge policy capture) before = TellsPolicy (before.files.content policy) × TellsRefusal WatchRefuses (before.files.content capture)
-TellsRefusedCapture (Run policy names) before = TellsPolicy (before.files.content policy) × TellsRefusal RunRefuses (before.files.content names.capture)
-TellsRefusedCapture (Review policy capture log) before = TellsPolicy (before.files.content policy) × TellsRefusal WatchRefuses (before.files.content capture)
-TellsRefusedCapture (Learn policy capture out) before = TellsPolicy (before.files.content policy) × TellsRefusal WatchRefuses (before.files.content capture)
+TellsRefusedCapture (Judge policy capture) before = TellsPolicy (before.files.content policy)
+    × TellsRefusal WatchRefuses (before.files.content capture)
+TellsRefusedCapture (Run policy names) before = TellsPolicy (before.files.content policy)
+    × TellsRefusal RunRefuses (before.files.content names.capture)
+TellsRefusedCapture (Review policy capture log) before = TellsPolicy (before.files.content policy)
+    × TellsRefusal WatchRefuses (before.files.content capture)
+TellsRefusedCapture (Learn policy capture out) before = TellsPolicy (before.files.content policy)
+    × TellsRefusal WatchRefuses (before.files.content capture)
 TellsRefusedCapture _ before = ⊥
 
 -- the same of one that is cut
 abbrev pub TellsCutCapture : Command → Outside → Type 0
 TellsCutCapture (Packets capture) before = TellsCutAt ListingCuts (before.files.content capture)
-TellsCutCapture (Judge policy capture) before = TellsPolicy (before.files.content policy) × TellsCutAt WatchCuts (before.files.content capture)
-TellsCutCapture (Run policy names) before = TellsPolicy (before.files.content policy) × TellsCutAt RunCuts (before.files.content names.capture)
-TellsCutCapture (Review policy capture log) before = TellsPolicy (before.files.content policy) × TellsCutAt WatchCuts (before.files.content capture)
-TellsCutCapture (Learn policy capture out) before = TellsPolicy (before.files.content policy) × TellsCutAt WatchCuts (before.files.content capture)
+TellsCutCapture (Judge policy capture) before = TellsPolicy (before.files.content policy)
+    × TellsCutAt WatchCuts (before.files.content capture)
+TellsCutCapture (Run policy names) before = TellsPolicy (before.files.content policy)
+    × TellsCutAt RunCuts (before.files.content names.capture)
+TellsCutCapture (Review policy capture log) before = TellsPolicy (before.files.content policy)
+    × TellsCutAt WatchCuts (before.files.content capture)
+TellsCutCapture (Learn policy capture out) before = TellsPolicy (before.files.content policy)
+    × TellsCutAt WatchCuts (before.files.content capture)
 TellsCutCapture _ before = ⊥
 
 -- what a capture, a cut stream and the idle answers yield to: these, and a write that failed

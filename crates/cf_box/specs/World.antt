@@ -18,7 +18,8 @@ use Rattle.cf_sift.specs.Outputs.{KeepsAllBut}
 abbrev pub world_of : List (List ℕ) → Option Command
 world_of (seed ∷ sessions ∷ policy ∷ capture ∷ out ∷ log ∷ []) =
     if are_names (policy ∷ capture ∷ out ∷ log ∷ []) then
-    option_and_then (λ s. option_map (λ n. World s n policy (record { capture = capture; out = out; log = log })) (printed_number_in 1 200 sessions))
+    option_and_then (λ s. option_map (λ n. World s n policy (record { capture = capture; out = out; log = log }))
+    (printed_number_in 1 200 sessions))
     (printed_number_in 0 (2 ^ 64 - 1) seed)
     else None
 world_of _ = None
@@ -65,7 +66,8 @@ module _ (sessions : ℕ) (policy : List ℕ) (names : RunNamesValue) (before af
   -- it was not made; or it was, and its run stopped
   abbrev pub WorldLeaves : Stop → Type 0
   WorldLeaves s =
-      ((why : WorldFault) × HasNotMade why × (s ≡ world_stop why)) ⊎ ((between : Outside) × HasMade between × RunLeaves policy names between after s)
+      ((why : WorldFault) × HasNotMade why × (s ≡ world_stop why))
+      ⊎ ((between : Outside) × HasMade between × RunLeaves policy names between after s)
 
   -- What holds where it was made and run: the policy's file has a text that means the document's policy, the capture's file a
   -- capture in form in which each session begins, and the headline is so of the files as they stand.

@@ -32,7 +32,8 @@ pub(crate) fn read_check(words: &[String]) -> Option<Command<'_>>
 /// Reads a policy, and counts its assets and rules. Changes no file.
 pub(crate) fn check<F: Files>(alloc: Global, policy_file: &str, files: &mut F) -> Result<Done, Stop>
     ensures meets { (sink : SinkValue) (pair : PairValue) →
-        Meets (Check policy_file.now) (outside (files_value F.Files files.old) sink pair) (outside (files_value F.Files files.new) sink pair) result }
+        Meets (Check policy_file.now) (outside (files_value F.Files files.old) sink pair)
+        (outside (files_value F.Files files.new) sink pair) result }
     ensures later { FilesNeverFall (files_value F.Files files.old) (files_value F.Files files.new) }
 {
     let policy = match load_policy(alloc, policy_file, files) {

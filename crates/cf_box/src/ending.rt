@@ -1,7 +1,8 @@
 //! How the program ends: what was done, or why the work stopped, as a status and a printed text.
 ghost use Rattle.std.specs.Prelude.{◌≡◌, ◌≤◌, ◌+◌, ◌++◌, codes, decimal, length, option_map};
 ghost use Rattle.cf_audit.specs.Text.{cut_text};
-ghost use Rattle.cf_box.specs.Ending.{Prints, Puts, capture_number, commands_text, done_text, end_text, status_of, stop_status, stop_text, summary_text, unobjected_text, unprinted_status};
+ghost use Rattle.cf_box.specs.Ending.{Prints, Puts, capture_number, commands_text, done_text, end_text, status_of, stop_status, stop_text};
+ghost use Rattle.cf_box.specs.Ending.{summary_text, unobjected_text, unprinted_status};
 ghost use Rattle.cf_box.specs.Outside.{sink_value};
 ghost use Rattle.cf_box.specs.Denial.{count_line, reviewed_text};
 ghost use Rattle.cf_policylang.specs.Keys.{refusal_text};

@@ -17,7 +17,7 @@ use crate::command::Command;
 use crate::denial::{AssetName, Denial};
 use crate::ending::{Done, Stop};
 use crate::names::are_names;
-use crate::objection::{Objected, Ground};
+use crate::objection::{Ground, Objected};
 use crate::policy_file::load_policy;
 use cf_judge::{Complaint, Objection, judge};
 use cf_outside::Files;

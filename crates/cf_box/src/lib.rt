@@ -32,6 +32,6 @@ pub use cf_sift::{SiftDone, SiftFault, SiftNames, sift_stream};
 pub use command::{Command, read_words};
 pub use denial::{AssetName, Denial};
 pub use ending::{CaptureRefusal, Done, Stop};
-pub use objection::{Objected, Ground};
+pub use objection::{Ground, Objected};
 pub use serve::serve_main;
 pub use top::box_main;

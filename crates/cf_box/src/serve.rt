@@ -70,7 +70,8 @@ fn serve_places<F: Files, L: Links>(
     ensures serves { OnOk result (HasServed (service_value service.now) (files_value F.Files files.old) (files_value F.Files files.new)
         (L.told links.old) (L.told links.new) (LinksPlace.round_faults (L.place links.old)) (LinksPlace.round_faults (L.place links.new))
         (λ made. made ≡ 2 ^ 64 - 1)) }
-    ensures stops { IfErr result (λ s. StopsService (service_value service.now) (files_value F.Files files.old) (files_value F.Files files.new)
+    ensures stops { IfErr result (λ s. StopsService (service_value service.now) (files_value F.Files files.old)
+        (files_value F.Files files.new)
         (L.told links.old) (L.told links.new) (LinksPlace.round_faults (L.place links.old)) (LinksPlace.round_faults (L.place links.new)) s) }
     ensures others { KeepsOthers (service.now.log).now (F.content files.old) (F.content files.new) }
 {
@@ -101,7 +102,8 @@ fn serve_policy<F: Files, L: Links>(
     ensures serves { OnOk result (HasServed (service_value service.now) (files_value F.Files files.old) (files_value F.Files files.new)
         (L.told links.old) (L.told links.new) (LinksPlace.round_faults (L.place links.old)) (LinksPlace.round_faults (L.place links.new))
         (λ made. made ≡ 2 ^ 64 - 1)) }
-    ensures stops { IfErr result (λ s. StopsService (service_value service.now) (files_value F.Files files.old) (files_value F.Files files.new)
+    ensures stops { IfErr result (λ s. StopsService (service_value service.now) (files_value F.Files files.old)
+        (files_value F.Files files.new)
         (L.told links.old) (L.told links.new) (LinksPlace.round_faults (L.place links.old)) (LinksPlace.round_faults (L.place links.new)) s) }
     ensures others { KeepsOthers (service.now.log).now (F.content files.old) (F.content files.new) }
 {

@@ -1,8 +1,10 @@
 //! `serve POLICY SECONDS LOG NAME=A.B.C.D:PORT..`: the words of a service.
-ghost use Rattle.std.specs.Prelude.{◌≡◌, ◌<◌, ◌≤◌, ◌+◌, ◌++◌, IfOk, IfSome, None, Ok, Some, false, length, map, option_map, string_bytes, true};
+ghost use Rattle.std.specs.Prelude.{◌≡◌, ◌<◌, ◌≤◌, ◌+◌, ◌++◌, IfOk, IfSome, None, Ok, Some, false, length, map, option_map, string_bytes};
+ghost use Rattle.std.specs.Prelude.{true};
 ghost use Rattle.std.specs.List.{list_any};
 ghost use Rattle.cf_policylang.specs.Numbers.{split_at_mark};
-ghost use Rattle.cf_box.specs.ServiceWords.{IsFitService, are_apart, is_same_place, place_word, place_word_value, place_words, places_of, service_of, service_value};
+ghost use Rattle.cf_box.specs.ServiceWords.{IsFitService, are_apart, is_same_place, place_word, place_word_value, place_words, places_of};
+ghost use Rattle.cf_box.specs.ServiceWords.{service_of, service_value};
 
 use crate::names::{are_names, printed_number_in};
 use cf_policylang::address;
@@ -56,7 +58,8 @@ pub(crate) fn read_service(alloc: Global, words: &[String]) -> Result<Option<Ser
 
 /// The places of some words: 1 to 256, no asset and no endpoint twice.
 fn read_places(alloc: Global, words: &[String]) -> Result<Option<Vec<PlaceWord<'_>>>, NoMemory>
-    ensures places { IfOk result (λ places. option_map (λ ps. map place_word_value ps.items) places ≡ places_of (map string_bytes words.now)) }
+    ensures places { IfOk result (λ places. option_map (λ ps. map place_word_value ps.items) places
+        ≡ places_of (map string_bytes words.now)) }
     ensures few { IfOk result (λ places. IfSome places (λ ps. length ps.items ≤ 256)) }
 {
     if words.is_empty() || words.len() > PLACE_LIMIT {
@@ -72,7 +75,8 @@ fn read_places(alloc: Global, words: &[String]) -> Result<Option<Vec<PlaceWord<'
 
 /// Adds the place of each word; false where one is none.
 fn push_places<'a>(words: &'a [String], places: &mut Vec<PlaceWord<'a>>) -> Result<bool, NoMemory>
-    ensures all { result ≡ Ok true → option_map (λ more. map place_word_value places.old.items ++ more) (place_words (map string_bytes words.now))
+    ensures all { result ≡ Ok true → option_map (λ more. map place_word_value places.old.items ++ more)
+        (place_words (map string_bytes words.now))
         ≡ Some (map place_word_value places.new.items) }
     ensures count { result ≡ Ok true → length places.new.items ≡ length places.old.items + length words.now }
     ensures none { result ≡ Ok false → place_words (map string_bytes words.now) ≡ None }

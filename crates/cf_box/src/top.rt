@@ -10,7 +10,10 @@ ghost use Rattle.cf_box.specs.Outside.{FilesNeverFall, files_value, outside_valu
 ghost use Rattle.cf_box.specs.Packets.{Lists};
 ghost use Rattle.cf_box.specs.Review.{ReviewHolds};
 ghost use Rattle.cf_box.specs.RunHolds.{RunHolds};
-ghost use Rattle.cf_box.specs.Status.{AsksItsPair, CutsItsCapture, CutsItsStream, DeniesWhatItAsks, EndsItsIdles, ExceedsItsCells, Includes, IsComplete, IsExactly, IsStatus, JudgedClean, LacksItsAsset, RefusesItsCapture, RefusesItsPolicy, SiftPassesAllowed, TakesItsOwn, TellsItsOwn, WritesNothing, outputs_of, ExceedsItsRules};
+ghost use Rattle.cf_box.specs.Status.{AsksItsPair, CutsItsCapture, CutsItsStream, DeniesWhatItAsks, EndsItsIdles, ExceedsItsCells};
+ghost use Rattle.cf_box.specs.Status.{Includes, IsComplete, IsExactly, IsStatus, JudgedClean, LacksItsAsset, RefusesItsCapture};
+ghost use Rattle.cf_box.specs.Status.{RefusesItsPolicy, SiftPassesAllowed, TakesItsOwn, TellsItsOwn, WritesNothing, outputs_of};
+ghost use Rattle.cf_box.specs.Status.{ExceedsItsRules};
 ghost use Rattle.cf_box.specs.Words.{HasFitWords, command_of, command_value};
 ghost use Rattle.cf_box.specs.World.{WorldHolds};
 ghost use Rattle.cf_outside.specs.Faults.{Rose};
@@ -162,7 +165,8 @@ pub fn box_main<F: Files, O: Sink, P: Pair>(
         (outside_value F.Files O.Sink P.Pair files.new out.new pair.new) }
 
     // A policy that was learned allows, of the acts that commands can have, exactly those that the capture shows, to the same clients.
-    ensures learns { (policy capture file : List ℕ) → command_of (map string_bytes words.now) ≡ Some (Learn policy capture file) → result ≡ 0 →
+    ensures learns { (policy capture file : List ℕ) → command_of (map string_bytes words.now) ≡ Some (Learn policy capture file)
+        → result ≡ 0 →
         HoldsLearned policy capture file (outside_value F.Files O.Sink P.Pair files.old out.old pair.old)
         (outside_value F.Files O.Sink P.Pair files.new out.new pair.new) }
 
@@ -185,7 +189,8 @@ pub fn box_main<F: Files, O: Sink, P: Pair>(
 
     // The headline: the outputs of a run are what the policy and the capture's records make of them, and whatever copies of
     // segments a controller takes decode to the first of what the policy lets through.
-    ensures headline { (policy : List ℕ) (names : RunNamesValue) → command_of (map string_bytes words.now) ≡ Some (Run policy names) → result ≡ 0 →
+    ensures headline { (policy : List ℕ) (names : RunNamesValue) → command_of (map string_bytes words.now) ≡ Some (Run policy names)
+        → result ≡ 0 →
         RunHolds policy names (outside_value F.Files O.Sink P.Pair files.old out.old pair.old)
         (outside_value F.Files O.Sink P.Pair files.new out.new pair.new) }
 
@@ -194,7 +199,8 @@ pub fn box_main<F: Files, O: Sink, P: Pair>(
         command_of (map string_bytes words.now) ≡ Some (World seed sessions policy names) → result ≡ 0 →
         WorldHolds sessions policy names (outside_value F.Files O.Sink P.Pair files.old out.old pair.old)
         (outside_value F.Files O.Sink P.Pair files.new out.new pair.new) }
-    ensures own { TakesItsOwn (command_of (map string_bytes words.now)) (outside_value F.Files O.Sink P.Pair files.old out.old pair.old) result }
+    ensures own { TakesItsOwn (command_of (map string_bytes words.now)) (outside_value F.Files O.Sink P.Pair files.old out.old pair.old)
+        result }
 
     // No file is written but the outputs of the command, and none at all where the words, the policy or the asset are at fault;
     // and nothing is asked of the pair but by a relay.

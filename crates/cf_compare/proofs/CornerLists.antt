@@ -1,5 +1,5 @@
 -- Lists of corners: how they come about, and how many there are.
-use Rattle.std.proofs.Common.{◌≡◌, ℕ, ◌+◌, ◌*◌, ◌<◌, ◌≤◌, ℤ, pos, ◌+ℤ◌, ◌<ℤ◌, Bool, true, false, cond, ◌||◌, List, [], ◌∷◌, ◌++◌, map, length, take, get_or, refl, sym, ap, subst, ◌∙◌, arith, append_assoc}
+use Rattle.std.proofs.Common.{◌≡◌, ◌+◌, ◌*◌, ◌<◌, ◌≤◌, ℤ, pos, ◌+ℤ◌, ◌<ℤ◌, Bool, true, false, cond, ◌||◌, List, [], ◌∷◌, ◌++◌, map, length, refl, sym, ap, subst, ◌∙◌, arith, append_assoc}
 use Rattle.std.specs.Prelude.{filter, flat_map, Contains, IsPermutation, IsSorted, Decides}
 use Rattle.std.specs.Set.{is_member}
 use Rattle.std.specs.List.{dedup}
@@ -13,7 +13,6 @@ use Rattle.std.proofs.lemmas.Int.{ints}
 use Rattle.std.proofs.lemmas.Cmp.{int_cmp_total, int_eq_equiv}
 use Rattle.std.proofs.lemmas.Bool.{false≢true}
 use Rattle.std.proofs.lemmas.Bool.Decides.{Decides-int_eq, same_from_decides}
-use Rattle.std.proofs.lemmas.List.{take_more}
 use Rattle.std.proofs.lemmas.List.Elements.{filter-append}
 use Rattle.std.proofs.lemmas.List.Folds.{flat_map-map}
 use Rattle.std.proofs.lemmas.List.Kept.{IsStrictlySortedBy-dedup, Contains-dedup, Contains-from_dedup}
@@ -31,19 +30,6 @@ use Rattle.cf_compare.specs.Corners.{AreCorners, AreAllCorners}
 use Rattle.cf_compare.specs.declared.corners.Corners.{Corners}
 
 module _ {X : Type 0} (p : ℤ → Bool) (f : X → List ℤ) where
-  -- one more item's numbers
-  pub more : (xs : List X) (i : ℕ) (d : X) (before now after : List ℤ) → i < length xs
-      → now ≡ before ++ filter p (flat_map f (take i xs)) → after ≡ now ++ filter p (f (get_or xs i d))
-      → after ≡ before ++ filter p (flat_map f (take (i + 1) xs))
-  more xs i d before now after lt e h =
-      let taken : flat_map f (take (i + 1) xs) ≡ flat_map f (take i xs) ++ f (get_or xs i d) =
-      ap (flat_map f) (take_more xs i d lt) ∙ (flat_map-append f (take i xs) (get_or xs i d ∷ []) ∙ ap (λ l. flat_map f (take i xs) ++ l) (last (f (get_or xs i d)))) in
-      h ∙ (ap (λ l. l ++ filter p (f (get_or xs i d))) e ∙ (append_assoc before (filter p (flat_map f (take i xs))) (filter p (f (get_or xs i d)))
-      ∙ ap (λ l. before ++ l) (sym (ap (filter p) taken ∙ filter-append p (flat_map f (take i xs)) (f (get_or xs i d))))))
-    where
-      last : (l : List ℤ) → l ++ [] ≡ l
-      last [] = refl
-      last (x ∷ l) = ap (λ m. x ∷ m) (last l)
 
 flat_map-flat_map : {A B C : Type 0} (g : B → List C) (f : A → List B) (xs : List A) → flat_map g (flat_map f xs) ≡ flat_map (λ x. flat_map g (f x)) xs
 flat_map-flat_map g f [] = refl

@@ -172,7 +172,16 @@ fn found_at(code: u16, cell: &Cell) -> (u32, Act)
     requires client { (pos 0 ≤ℤ cell.now.client) × (cell.now.client ≤ℤ highest_address) }
     requires group { (pos 0 ≤ℤ cell.now.group) × (cell.now.group ≤ℤ highest_group) }
     requires point { (pos 0 ≤ℤ cell.now.point) × (cell.now.point ≤ℤ highest_point) }
-    ensures { result ≡ (nat_abs cell.now.client, record { code = code; group = nat_abs cell.now.group; point = nat_abs cell.now.point; value = cell.now.value }) }
+    ensures { result ≡ (
+      nat_abs cell.now.client,
+      record {
+        code = code;
+        group = nat_abs cell.now.group;
+        point = nat_abs cell.now.point;
+        value
+            = cell.now.value;
+      },
+    ) }
 {
     let act = Act {
         code,

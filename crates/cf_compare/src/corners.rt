@@ -48,7 +48,8 @@ pub(crate) fn cell_count(corners: &Corners) -> u64
     requires clients { 1 ≤ length corners.now.clients.items }
     requires groups { 1 ≤ length corners.now.groups.items }
     requires points { 1 ≤ length corners.now.points.items }
-    ensures { result ≡ min (((length corners.now.clients.items * length corners.now.groups.items) * length corners.now.points.items) * (length corners.now.values.items + 1)) (most_cells + 1) }
+    ensures { result ≡ min (((length corners.now.clients.items * length corners.now.groups.items) * length corners.now.points.items) *
+        (length corners.now.values.items + 1)) (most_cells + 1) }
 {
     let groups = capped_product(corners.clients.len() as u64, corners.groups.len() as u64);
     let points = capped_product(groups, corners.points.len() as u64);
@@ -84,7 +85,8 @@ fn axis_corners(
 
 /// Adds the numbers at which the rules turn.
 fn push_rules(numbers: &mut Vec<i64>, axis: Axis, rules: &[&Rule]) -> Result<(), AllocError>
-    ensures { OnOk result (numbers.new.items ≡ numbers.old.items ++ filter (is_on axis) (flat_map turns (stated_spans axis (map (λ r. r.now) rules.now)))) }
+    ensures { OnOk result (numbers.new.items ≡ numbers.old.items
+        ++ filter (is_on axis) (flat_map turns (stated_spans axis (map (λ r. r.now) rules.now)))) }
 {
     for rule in rules {
         push_spans(numbers, axis, axis_spans(axis, rule).as_slice())?;

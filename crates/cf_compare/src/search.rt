@@ -16,7 +16,8 @@ pub(crate) fn found_cell(
     other: &[&Rule],
     corners: &Corners,
 ) -> Result<Option<Cell>, AllocError>
-    ensures { IfOk result (λ found. found ≡ first_cell (map (λ r. r.now) ours.now) (map (λ r. r.now) other.now) corners.now.clients.items corners.now.groups.items corners.now.points.items corners.now.values.items) }
+    ensures { IfOk result (λ found. found ≡ first_cell (map (λ r. r.now) ours.now) (map (λ r. r.now) other.now) corners.now.clients.items
+        corners.now.groups.items corners.now.points.items corners.now.values.items) }
 {
     let ours = rows_of(alloc, ours, corners)?;
     let other = rows_of(alloc, other, corners)?;
@@ -29,7 +30,8 @@ fn row_cell(
     other: &[Row],
     corners: &Corners,
 ) -> Result<Option<Cell>, AllocError>
-    ensures { IfOk result (λ found. found ≡ first_cell ours.now other.now corners.now.clients.items corners.now.groups.items corners.now.points.items corners.now.values.items) }
+    ensures { IfOk result (λ found. found ≡ first_cell ours.now other.now corners.now.clients.items corners.now.groups.items
+        corners.now.points.items corners.now.values.items) }
 {
     let ours = lent(alloc, ours)?;
     let other = lent(alloc, other)?;
@@ -43,7 +45,8 @@ fn first_cell(
     other: &[&Row],
     corners: &Corners,
 ) -> Result<Option<Cell>, AllocError>
-    ensures { IfOk result (λ found. found ≡ first_cell (map (λ r. r.now) ours.now) (map (λ r. r.now) other.now) corners.now.clients.items corners.now.groups.items corners.now.points.items corners.now.values.items) }
+    ensures { IfOk result (λ found. found ≡ first_cell (map (λ r. r.now) ours.now) (map (λ r. r.now) other.now) corners.now.clients.items
+        corners.now.groups.items corners.now.points.items corners.now.values.items) }
 {
     for client in corners.clients.as_slice() {
         match client_cell(alloc, ours, other, corners, *client)? {
@@ -62,7 +65,8 @@ fn client_cell(
     corners: &Corners,
     client: i64,
 ) -> Result<Option<Cell>, AllocError>
-    ensures { IfOk result (λ found. found ≡ client_cell (map (λ r. r.now) ours.now) (map (λ r. r.now) other.now) corners.now.groups.items corners.now.points.items corners.now.values.items client) }
+    ensures { IfOk result (λ found. found ≡ client_cell (map (λ r. r.now) ours.now) (map (λ r. r.now) other.now) corners.now.groups.items
+        corners.now.points.items corners.now.values.items client) }
 {
     let ours = rules_taking(alloc, ours, Axis::Clients, client)?;
     let other = rules_taking(alloc, other, Axis::Clients, client)?;
@@ -84,7 +88,8 @@ fn group_cell(
     client: i64,
     group: i64,
 ) -> Result<Option<Cell>, AllocError>
-    ensures { IfOk result (λ found. found ≡ group_cell client (map (λ r. r.now) ours.now) (map (λ r. r.now) other.now) corners.now.points.items corners.now.values.items group) }
+    ensures { IfOk result (λ found. found ≡ group_cell client (map (λ r. r.now) ours.now) (map (λ r. r.now) other.now)
+        corners.now.points.items corners.now.values.items group) }
 {
     let ours = rules_taking(alloc, ours, Axis::Groups, group)?;
     let other = rules_taking(alloc, other, Axis::Groups, group)?;
@@ -116,7 +121,8 @@ fn point_value(
     corners: &Corners,
     point: i64,
 ) -> Result<Option<Option<i64>>, AllocError>
-    ensures { IfOk result (λ found. found ≡ point_value (map (λ r. r.now) ours.now) (map (λ r. r.now) other.now) corners.now.values.items point) }
+    ensures { IfOk result (λ found. found ≡ point_value (map (λ r. r.now) ours.now) (map (λ r. r.now) other.now) corners.now.values.items
+        point) }
 {
     let ours = rules_taking(alloc, ours, Axis::Points, point)?;
     let other = rules_taking(alloc, other, Axis::Points, point)?;

@@ -7,7 +7,8 @@ use Rattle.cf_dnplink.specs.LinkFrame.{FrameValue, frame_with}
 use Rattle.cf_view.specs.declared.Side.{Side}
 use Rattle.cf_dnptrans.specs.Transport.{unfinished}
 use Rattle.cf_lane.specs.Judged.{Judged}
-use Rattle.cf_lane.specs.Rows.{a_write_refused_then_one_admitted, asked, dnp3_asset, iec104_asset, judge_all, modbus_asset, refused_behind_data, refused_then_admitted, write_of}
+use Rattle.cf_lane.specs.Rows.{a_write_refused_then_one_admitted, asked, dnp3_asset, iec104_asset, judge_all, modbus_asset}
+use Rattle.cf_lane.specs.Rows.{refused_behind_data, refused_then_admitted, write_of}
 use Rattle.cf_lane.specs.Unit.{Adu, Apdu, Frame, UnitValue}
 use Rattle.std.specs.Prelude.{List, Some, [], map, replicate, reverse, take, ℕ, ◌∷◌, ◌≡◌}
 use Rattle.cf_view.specs.declared.Side.TheVariants as side

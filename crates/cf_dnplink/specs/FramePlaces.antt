@@ -1,6 +1,7 @@
 -- Steps of the proof: a link frame by places: which octet may follow those before it (`follows`), and how long the frame is
 -- (`size_of`). The reader goes by these places; that they give the frames of `LinkFrame` is proved where the reader is.
-use Rattle.std.specs.Prelude.{ℕ, ◌+◌, ◌-◌, ◌*◌, ◌/◌, ◌%◌, ◌==◌, nat_lt, nat_le, min, Bool, true, if◌then◌else◌, List, length, drop, slice_index, slice_range}
+use Rattle.std.specs.Prelude.{ℕ, ◌+◌, ◌-◌, ◌*◌, ◌/◌, ◌%◌, ◌==◌, nat_lt, nat_le, min, Bool, true, if◌then◌else◌, List, length, drop}
+use Rattle.std.specs.Prelude.{slice_index, slice_range}
 use Rattle.cf_view.specs.Octets.{u16_le_at}
 use Rattle.cf_view.specs.Places.{SpellsBy}
 use Rattle.cf_dnplink.specs.Crc.{crc_of}

@@ -108,7 +108,8 @@ fn first_wrong(bytes: &View<'_>, end: usize) -> Option<usize>
     requires inside { end ≤ length bytes.now.bytes }
     requires size { end ≤ 300 }
     ensures { MatchOption result (EachFollows follows bytes.now.bytes end)
-        (λ p. (p < end) × EachFollows follows bytes.now.bytes p × (follows (take p bytes.now.bytes) (slice_index bytes.now.bytes p) ≡ false)) }
+        (λ p. (p < end) × EachFollows follows bytes.now.bytes p
+        × (follows (take p bytes.now.bytes) (slice_index bytes.now.bytes p) ≡ false)) }
 {
     let mut sum = 0;
     for place in 0..end {

@@ -13,7 +13,8 @@ pub fn write_frame(control: u8, dest: u16, source: u16, user: &[u8], out: &mut A
     requires { length user.now ≤ 250 }
     ensures written { out.new.items ≡ spelling control dest source user.now }
     ensures spelled { SpellsFrame (frame_with control dest source user.now) out.new.items }
-    ensures again { (rest : List ℕ) → Begins SpellsFrame (out.new.items ++ rest) (frame_with control dest source user.now) (array_vec_len out.new) }
+    ensures again { (rest : List ℕ) → Begins SpellsFrame (out.new.items ++ rest) (frame_with control dest source user.now)
+        (array_vec_len out.new) }
 {
     out.clear();
     push_header(out, user.len() as u8 + 5, control, dest, source);

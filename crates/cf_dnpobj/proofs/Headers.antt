@@ -54,11 +54,6 @@ headers_step code xs h b =
     after_first code xs (length h) (omega (arith, b.inside, b.least)) b.least b.size
     ∙ ap (λ (front : List ℕ). with_first front (headers_in code (drop (length h) xs))) (sym b.front)
 
--- the first fault
-pub headers_fault : (code : ℕ) (xs : List ℕ) (e : FragmentRefusal) → 0 < length xs → header_size code xs ≡ Err e → headers_in code xs ≡ Err e
-headers_fault code [] e some is = absurd (omega (arith, some))
-headers_fault code (o ∷ xs) e some is = ap (λ r. after_size r (o ∷ xs) (λ rest. headers_by (length xs) code rest)) is
-
 pub with_first_ok : (h : List ℕ) (r : Result (List (List ℕ)) FragmentRefusal) (hs : List (List ℕ)) → with_first h r ≡ Ok hs → (later : List (List ℕ)) × (r ≡ Ok later) × (hs ≡ h ∷ later)
 with_first_ok h (Ok later) hs e = (let same : hs ≡ h ∷ later = cc in (later, refl, same))
 with_first_ok h (Err x) hs e = cc

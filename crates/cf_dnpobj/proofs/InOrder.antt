@@ -1,7 +1,7 @@
 -- Acts and replies, header by header.
-use Rattle.std.proofs.Common.{◌≡◌, ℕ, zero, suc, ◌+◌, ◌-◌, ◌<◌, ◌≤◌, List, [], ◌∷◌, ◌++◌, length, map, drop, if◌then◌else◌, Bool, true, false, Option, Some, None, IsSome, Result, Ok, Err, refl, sym, ◌∙◌, ap, subst, arith, append_assoc}
+use Rattle.std.proofs.Common.{◌≡◌, ℕ, zero, suc, ◌+◌, ◌-◌, ◌<◌, ◌≤◌, List, [], ◌∷◌, ◌++◌, length, map, drop, if◌then◌else◌, Bool, true, false, Option, Some, IsSome, Result, Ok, Err, refl, sym, ◌∙◌, ap, subst, arith, append_assoc}
 use Rattle.std.specs.List.{flat_map, range_with_len, slice_get}
-use Rattle.std.proofs.lemmas.List.{drop-drop, drop_all}
+use Rattle.std.proofs.lemmas.List.{drop-drop}
 use Rattle.std.proofs.lemmas.Bool.{false≢true}
 use Rattle.std.proofs.lemmas.List.Concat.{flat_map-cons}
 use Rattle.cf_view.specs.declared.Act.{Act}
@@ -101,20 +101,6 @@ module _ (code : ℕ) (xs h : List ℕ) (place : ℕ) (b : BeginsWithHeader code
             ∙ ap (λ (ys : List ℕ). items ++ ys) (sym (ap (flat_map (refused code)) n.2 ∙ flat_map-cons (refused code) h n.0))
             ∙ l.2,
       )
-
--- past the last header nothing is left
-no_more : (code : ℕ) (xs : List ℕ) (place : ℕ) (later : List (List ℕ)) → length xs ≤ place → headers_in code (drop place xs) ≡ Ok later → later ≡ []
-no_more code xs place later end e = (let none : headers_in code (drop place xs) ≡ Ok [] = ap (headers_in code) (drop_all place xs end) in cc)
-
-pub not_found : (code : ℕ) (xs : List ℕ) (i place left : ℕ) → LeavesActs code xs i place left → length xs ≤ place →
-    (headers : List (List ℕ)) → headers_in code xs ≡ Ok headers → None ≡ slice_get (flat_map (header_acts code) headers) i
-not_found code xs i place left leaves end headers e =
-    let l = leaves headers e in
-    sym (l.2 ∙ ap (λ (hs : List (List ℕ)). slice_get (flat_map (header_acts code) hs) left) (no_more code xs place l.0 end l.1))
-
--- all headers whole and one of them faulty
-pub not_faulty : {A : Type 0} (code : ℕ) (xs : List ℕ) (place : ℕ) (e : FragmentRefusal) (later : List (List ℕ)) → headers_in code (drop place xs) ≡ Ok later → headers_in code (drop place xs) ≡ Err e → A
-not_faulty code xs place e later ok err = absurd cc
 
 act_of_headers : (code : ℕ) (hs : Result (List (List ℕ)) FragmentRefusal) (i : ℕ) (r : Option Act) → (hs ≡ Ok [] → ⊥) → i < length (acts_in code hs) →
     ((headers : List (List ℕ)) → hs ≡ Ok headers → r ≡ slice_get (flat_map (header_acts code) headers) i) →

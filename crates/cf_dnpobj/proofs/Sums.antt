@@ -94,10 +94,6 @@ sum_is code (Err x) n some e = cc
 pub acts_summed : (code : ℕ) (xs : List ℕ) (n : ℕ) → 0 < length xs → Ok n ≡ summed code (headers_in code xs) → n ≡ length (acts_in code (headers_in code xs))
 acts_summed code xs n some e = sum_is code (headers_in code xs) n (some_headers code xs some) e
 
-pub no_acts : (code : ℕ) (r : Result (List (List ℕ)) FragmentRefusal) (x : FragmentRefusal) → Err x ≡ summed code r → 0 ≡ length (acts_in code r)
-no_acts code (Err y) x e = refl
-no_acts code (Ok hs) x e = cc
-
 pub above_zero : (n : ℕ) → (n ≡ 0 → false ≡ true) → 0 < n
 above_zero zero h = absurd (false≢true (h refl))
 above_zero (suc n) h = omega arith

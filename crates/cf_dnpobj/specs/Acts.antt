@@ -1,6 +1,7 @@
 -- What a request does: `acts`. This project's own reduction to code, group and variation, index and value; the objects are those of
 -- IEEE 1815-2012, annex A.
-use Rattle.std.specs.Prelude.{ℕ, ◌+◌, ◌-◌, ◌*◌, ◌^◌, nat_lt, if◌then◌else◌, List, [], ◌∷◌, map, slice_index, Option, Some, None, Result, Ok, Err, ℤ, pos, ◌-ℤ◌}
+use Rattle.std.specs.Prelude.{ℕ, ◌+◌, ◌-◌, ◌*◌, ◌^◌, nat_lt, if◌then◌else◌, List, [], ◌∷◌, map, slice_index, Option, Some, None, Result, Ok}
+use Rattle.std.specs.Prelude.{Err, ℤ, pos, ◌-ℤ◌}
 use Rattle.std.specs.List.{flat_map, range_with_len, sum_by}
 use Rattle.cf_view.specs.Octets.{u16_le_at, u32_le_at}
 use Rattle.cf_view.specs.declared.Act.{Act}

@@ -1,6 +1,7 @@
 -- What a client's fragment says: `read_octets`. IEEE 1815-2012, sections 4.2 and 4.4. Which requests are served is this project's
 -- own.
-use Rattle.std.specs.Prelude.{◌≡◌, ℕ, ◌≤◌, ◌==◌, ◌||◌, nat_lt, if◌then◌else◌, not, Bool, true, List, ◌∷◌, length, drop, slice_index, Result, Ok, Err}
+use Rattle.std.specs.Prelude.{◌≡◌, ℕ, ◌≤◌, ◌==◌, ◌||◌, nat_lt, if◌then◌else◌, not, Bool, true, List, ◌∷◌, length, drop, slice_index, Result}
+use Rattle.std.specs.Prelude.{Ok, Err}
 use Rattle.std.specs.List.{AllByRecursion, concat}
 use Rattle.cf_dnpobj.specs.declared.fragment.Fragment.{Fragment}
 use Rattle.cf_dnpobj.specs.declared.fragment.FragmentRefusal.{FragmentRefusal}

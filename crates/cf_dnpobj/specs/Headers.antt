@@ -1,6 +1,7 @@
 -- Object headers with their objects, `headers_in`, which stands last: group, variation, qualifier, range, and the objects. IEEE
 -- 1815-2012, section 4.2.2.
-use Rattle.std.specs.Prelude.{◌≡◌, ℕ, zero, suc, ◌+◌, ◌-◌, ◌≤◌, ◌&&◌, ◌||◌, ◌==◌, nat_lt, nat_le, if◌then◌else◌, Bool, List, [], ◌∷◌, length, take, drop, slice_index, Option, Some, None, Result, Ok, Err}
+use Rattle.std.specs.Prelude.{◌≡◌, ℕ, zero, suc, ◌+◌, ◌-◌, ◌≤◌, ◌&&◌, ◌||◌, ◌==◌, nat_lt, nat_le, if◌then◌else◌, Bool, List, [], ◌∷◌}
+use Rattle.std.specs.Prelude.{length, take, drop, slice_index, Option, Some, None, Result, Ok, Err}
 use Rattle.cf_view.specs.Octets.{u16_le_at}
 use Rattle.cf_dnpobj.specs.declared.fragment.FragmentRefusal.{FragmentRefusal}
 use Rattle.cf_dnpobj.specs.declared.fragment.FragmentRefusal.TheVariants as refusal
@@ -58,7 +59,8 @@ with_first h (Ok hs) = Ok (h ∷ hs)
 with_first h (Err e) = Err e
 
 -- the first header, of this size, and then what the rest is
-abbrev pub after_size : Result ℕ FragmentRefusal → List ℕ → (List ℕ → Result (List (List ℕ)) FragmentRefusal) → Result (List (List ℕ)) FragmentRefusal
+abbrev pub after_size : Result ℕ FragmentRefusal → List ℕ → (List ℕ → Result (List (List ℕ)) FragmentRefusal)
+    → Result (List (List ℕ)) FragmentRefusal
 after_size (Err e) octets more = Err e
 after_size (Ok size) octets more = with_first (take size octets) (more (drop size octets))
 

@@ -1,6 +1,7 @@
 -- The reply to a refused request: `reply`. Its bits are this project's own choice; its form is that of a response, IEEE 1815-2012,
 -- section 4.2, and of the objects of select and operate, which a response repeats with a status.
-use Rattle.std.specs.Prelude.{ℕ, ◌+◌, ◌-◌, ◌%◌, ◌==◌, ◌&&◌, nat_le, Bool, if◌then◌else◌, List, [], ◌∷◌, length, map, slice_index, Result, Ok, Err}
+use Rattle.std.specs.Prelude.{ℕ, ◌+◌, ◌-◌, ◌%◌, ◌==◌, ◌&&◌, nat_le, Bool, if◌then◌else◌, List, [], ◌∷◌, length, map, slice_index, Result}
+use Rattle.std.specs.Prelude.{Ok, Err}
 use Rattle.std.specs.List.{flat_map, range_with_len}
 use Rattle.cf_view.specs.declared.Reason.{Reason}
 use Rattle.cf_view.specs.declared.Reason.TheVariants as reason_

@@ -1,7 +1,8 @@
 //! What a request does: one act for each object of a command, one for each header of every other request.
 ghost use Rattle.std.specs.Prelude.{◌≡◌, ◌≢◌, ◌≤◌, ◌*◌, ◌<◌, ◌+◌, ◌^◌, ℕ, List, length, slice_index, slice_get, IfOk, Some, Ok, true};
 ghost use Rattle.std.specs.List.{flat_map};
-ghost use Rattle.cf_dnpobj.specs.Acts.{acts, summed, each, group_of, signed, value_at, value_size, object_place, object_act, plain_act, header_acts, header_count};
+ghost use Rattle.cf_dnpobj.specs.Acts.{acts, summed, each, group_of, signed, value_at, value_size, object_place, object_act, plain_act};
+ghost use Rattle.cf_dnpobj.specs.Acts.{header_acts, header_count};
 ghost use Rattle.cf_dnpobj.specs.Headers.{headers_in, IsHeader, count_of};
 ghost use Rattle.cf_dnpobj.specs.Objects.{is_command, width};
 ghost use Rattle.cf_dnpobj.specs.Fragment.{fragment_value};

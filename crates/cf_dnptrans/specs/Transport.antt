@@ -3,7 +3,8 @@
 --
 -- The segments of a side so far are a list, the newest first. Each is the list of its octets. The main definitions are
 -- `answer_to` (what becomes of the next segment), `last_fragment` and `unfinished`.
-use Rattle.std.specs.Prelude.{ℕ, ◌+◌, ◌/◌, ◌%◌, ◌==◌, ◌&&◌, nat_le, Bool, false, not, if◌then◌else◌, List, [], ◌∷◌, ◌++◌, length, drop, slice_index, Option, Some, None}
+use Rattle.std.specs.Prelude.{ℕ, ◌+◌, ◌/◌, ◌%◌, ◌==◌, ◌&&◌, nat_le, Bool, false, not, if◌then◌else◌, List, [], ◌∷◌, ◌++◌, length, drop}
+use Rattle.std.specs.Prelude.{slice_index, Option, Some, None}
 use Rattle.cf_dnptrans.specs.declared.assembly.SegmentAnswer.{SegmentAnswer}
 use Rattle.cf_dnptrans.specs.declared.assembly.SegmentAnswer.TheVariants as answer_
 use Rattle.cf_dnptrans.specs.declared.assembly.DropReason.TheVariants as drop_

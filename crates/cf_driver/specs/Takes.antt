@@ -2,7 +2,7 @@
 -- before: `Takes`; and what a line that failed leaves of it, `MissesPiece` and `MissesEnd`.
 use Rattle.cf_audit.specs.declared.line.CutReason.{CutReason}
 use Rattle.cf_lane.specs.Follows.{AddsTo, BeganApart, BeganApartWithin, Follows, Rests, over, rest_of, with_rest}
-use Rattle.cf_lane.specs.Handled.{IsLaneOf, State, debt}
+use Rattle.cf_lane.specs.Handled.{IsLaneOf, State, debt, debt_limit, rest_limit}
 use Rattle.cf_lane.specs.History.{Element, bytes_of, end_at, ended_of}
 use Rattle.cf_outq.specs.SendQueue.{Queue}
 use Rattle.cf_policy.specs.declared.Asset.{Asset}
@@ -23,9 +23,9 @@ pub record Takes (asset : Asset) (s : Side) (elements : List Element) (cut : Opt
   pub follows : (h : List Element) (rests : Rests) (first own : Option (List (List ℕ))) → rest_before ≡ rest_of s rests
       → Follows asset h rests None first (over own old)
       → AddsTo asset (h ++ elements) (with_rest s rests rest_after) cut first own old.lines new
-  pub short : length rest_after < 300
+  pub short : length rest_after < rest_limit
   pub of_asset : IsLaneOf asset new.lane
-  pub debt : debt new.lane ≤ 5300
+  pub debt : debt new.lane ≤ debt_limit
   pub client : new.lane.client ≡ old.lane.client
   pub to_client : OnlyPushed old.to_client new.to_client
   pub to_controller : OnlyPushed old.to_controller new.to_controller

@@ -1,7 +1,7 @@
 //! What was heard of a side: its bytes that are no whole unit yet, and how many of its letters were taken. This project's own.
 ghost use Rattle.std.specs.Prelude.{◌≡◌, ◌+◌, ◌*◌, ◌^◌, ◌<◌, ◌≤◌, ◌++◌, [], ◌∷◌, IfOk, OnErr, OnOk, IsErr, None, drop, length, true};
 ghost use Rattle.cf_driver.specs.Takes.{MissesEnd, MissesPiece, Takes};
-ghost use Rattle.cf_lane.specs.Handled.{EndsOther, HasRoom, IsLaneOf, IsOpen, MayEnd, WritesLog, debt, state};
+ghost use Rattle.cf_lane.specs.Handled.{EndsOther, HasRoom, IsLaneOf, IsOpen, MayEnd, WritesLog, debt, debt_limit, rest_limit, state};
 ghost use Rattle.cf_lane.specs.History.{bytes_at, end_at};
 ghost use Rattle.cf_outside.specs.Desk.{DeskValue};
 ghost use Rattle.cf_outside.specs.Faults.{HasCause};
@@ -104,8 +104,8 @@ impl Heard {
         requires whole { DeskValue.whole (D.value desk.old) ≡ true }
         requires open { IsOpen side to_client.old to_controller.old }
         requires limit { MayEnd side to_client.old to_controller.old }
-        requires debt { debt lane.old ≤ 5300 }
-        requires little { length self.old.rest.items < 300 }
+        requires debt { debt lane.old ≤ debt_limit }
+        requires little { length self.old.rest.items < rest_limit }
         requires letters { self.old.letters + 1 < 2 ^ 64 }
         ensures takes { OnOk result (Takes asset.now side (end_at moment side ∷ []) None self.old.rest.items self.new.rest.items
             (state lane.old to_client.old to_controller.old (DeskValue.lines (D.value desk.old)))
@@ -131,7 +131,7 @@ impl Heard {
 /// Keeps what is left after so many bytes of a rest and a piece.
 fn keep_rest(rest: &mut ArrayVec<u8, REST>, piece: &[u8], used: usize)
     requires used { used ≤ length (rest.old.items ++ piece.now) }
-    requires little { length (drop used (rest.old.items ++ piece.now)) ≤ 300 }
+    requires little { length (drop used (rest.old.items ++ piece.now)) ≤ rest_limit }
     ensures { rest.new.items ≡ drop used (rest.old.items ++ piece.now) }
 {
     let mut left = [0u8; REST];

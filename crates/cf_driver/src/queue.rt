@@ -2,6 +2,7 @@
 ghost use Rattle.std.specs.Prelude.{◌≡◌, ◌+◌, ◌≤◌, ◌↔◌, ◌&&◌, IsTrue, min, take, drop, length, true};
 ghost use Rattle.cf_driver.specs.Small.{IsSmall, is_small};
 ghost use Rattle.cf_outq.specs.SendQueue.{IsQueueOf};
+ghost use Rattle.cf_stream.specs.Sizes.{window_size};
 ghost use Rattle.cf_stream.specs.Stream.{Stream};
 
 use cf_outq::{Outq, Piece};
@@ -16,7 +17,7 @@ const SMALL: i64 = 16_384;
 pub fn are_small(to_client: &Outq, to_controller: &Outq) -> bool
     ensures value { result ≡ (is_small to_client.now && is_small to_controller.now) }
     ensures small { IsTrue result ↔ (IsSmall to_client.now × IsSmall to_controller.now) }
-    ensures kept { result ≡ true → (length to_client.now.kept ≤ 16384) × (length to_controller.now.kept ≤ 16384) }
+    ensures kept { result ≡ true → (length to_client.now.kept ≤ window_size) × (length to_controller.now.kept ≤ window_size) }
 {
     is_small(to_client) && is_small(to_controller)
 }
@@ -25,7 +26,7 @@ pub fn are_small(to_client: &Outq, to_controller: &Outq) -> bool
 fn is_small(queue: &Outq) -> bool
     ensures value { result ≡ is_small queue.now }
     ensures small { IsTrue result ↔ IsSmall queue.now }
-    ensures kept { result ≡ true → length queue.now.kept ≤ 16384 }
+    ensures kept { result ≡ true → length queue.now.kept ≤ window_size }
 {
     queue.unacked() <= SMALL
 }

@@ -1,6 +1,6 @@
 //! What `check` warns of: sets that no rule names, and rules that decide nothing, or less than they seem to.
 use crate::found::What;
-use crate::gathered::{Silence, Warning, Warned, gathered, silence_about};
+use crate::gathered::{Silence, Warned, Warning, gathered, silence_about};
 use crate::page::Page;
 use crate::policy::push_rule_place;
 use crate::quote::push_quoted;

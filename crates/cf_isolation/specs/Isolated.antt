@@ -7,7 +7,7 @@
 -- have a first half, a microsecond before the packet, and the time then goes on up to that half.
 use Rattle.std.specs.Prelude.{◌≡◌, ◌<◌, ◌≤◌, ◌^◌, ℕ, List, [], ◌∷◌, ◌++◌, drop, length, map}
 use Rattle.std.specs.List.{AllByRecursion, flat_map}
-use Rattle.cf_pcap.specs.Record.{moment_limit}
+use Rattle.cf_view.specs.Moment.{moment_limit}
 use Rattle.cf_policy.specs.declared.Asset.{Asset}
 use Rattle.cf_readback.specs.ReadBack.{output_form, record_by}
 use Rattle.cf_run.specs.Capture.{AreRecords, LastPlace, Record}

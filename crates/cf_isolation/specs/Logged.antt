@@ -3,7 +3,7 @@
 use Rattle.std.specs.Prelude.{◌≡◌, ◌<◌, ℕ, List, ◌∷◌, ◌++◌, filter, length, IfOk}
 use Rattle.std.specs.List.{AllByRecursion}
 use Rattle.cf_packet.specs.Written.{HasRanges}
-use Rattle.cf_pcap.specs.Record.{moment_limit}
+use Rattle.cf_view.specs.Moment.{moment_limit}
 use Rattle.cf_policy.specs.Within.{AreAssetsWithin}
 use Rattle.cf_policy.specs.declared.Asset.{Asset}
 use Rattle.cf_run.specs.Isolation.{AreMatchedAlike, HasSession, moments_of, session_logged, ticks_of}

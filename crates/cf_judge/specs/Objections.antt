@@ -1,6 +1,7 @@
 -- What is objected to in flows: IsJudgementOf. The first record with which something is wrong counts; in one record a conflict comes
 -- before the items, and these in the order of the bytes.
-use Rattle.std.specs.Prelude.{◌≡◌, ◌+◌, ◌-◌, ◌^◌, min, ℕ, nat_lt, if◌then◌else◌, List, [], ◌∷◌, length, map, slice_get, Option, Some, None, option_map}
+use Rattle.std.specs.Prelude.{◌≡◌, ◌+◌, ◌-◌, ◌^◌, min, ℕ, nat_lt, if◌then◌else◌, List, [], ◌∷◌, length, map, slice_get, Option, Some, None}
+use Rattle.std.specs.Prelude.{option_map}
 use Rattle.std.specs.Option.{option_or}
 use Rattle.cf_lane.specs.Judged.{Judged, is_admitted, one_if}
 use Rattle.cf_lane.specs.declared.fate.Fate.{Fate}

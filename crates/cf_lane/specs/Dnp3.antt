@@ -22,7 +22,8 @@ use Rattle.cf_policy.specs.declared.Asset.{Asset}
 use Rattle.cf_view.specs.declared.Reason.{Reason}
 use Rattle.cf_view.specs.declared.Side.{Side}
 use Rattle.std.specs.List.{flat_map, sum_by}
-use Rattle.std.specs.Prelude.{Bool, Err, List, None, Ok, Option, Result, Some, [], false, if◌then◌else◌, is_some, length, nat_eq, nat_lt, not, reverse, slice_index, true, ℕ, ◌%◌, ◌&&◌, ◌/◌, ◌∷◌, ◌≢◌}
+use Rattle.std.specs.Prelude.{Bool, Err, List, None, Ok, Option, Result, Some, [], false, if◌then◌else◌, is_some, length, nat_eq, nat_lt}
+use Rattle.std.specs.Prelude.{not, reverse, slice_index, true, ℕ, ◌%◌, ◌&&◌, ◌/◌, ◌∷◌, ◌≢◌}
 use Rattle.cf_dnptrans.specs.declared.assembly.SegmentAnswer.TheVariants as answers
 use Rattle.cf_policy.specs.declared.Decider.TheVariants as decider
 use Rattle.cf_dnpobj.specs.declared.fragment.FragmentRefusal.TheVariants as refusals
@@ -95,7 +96,8 @@ answer_now asset s earlier f = transport.answer_to (segments_of asset s earlier)
 
 -- the fragment that it completes, if one
 abbrev pub whole_now : Asset → Side → List Judged → FrameValue → List (List ℕ)
-whole_now asset s earlier f = completed (answer_now asset s earlier f) (transport.last_fragment (user_of f.blocks ∷ segments_of asset s earlier))
+whole_now asset s earlier f = completed (answer_now asset s earlier f)
+    (transport.last_fragment (user_of f.blocks ∷ segments_of asset s earlier))
 
 -- the reason that a refused form stands for: this project's own division
 abbrev pub form_reason : FragmentRefusal → Reason
@@ -178,7 +180,8 @@ fragment_in asset to earlier j (Broke s because) = []
 
 -- how many segments earlier items put into the stream to a side
 abbrev pub segments_into : Asset → Side → List Judged → ℕ
-segments_into asset to earlier = sum_by (λ octets. count_of (length octets)) (in_turn (λ before j. fragment_in asset to before j j.item) [] earlier)
+segments_into asset to earlier = sum_by (λ octets. count_of (length octets))
+    (in_turn (λ before j. fragment_in asset to before j j.item) [] earlier)
 
 -- the octets of a data frame towards a side with a segment
 abbrev pub data_octets : Asset → Side → List ℕ → List ℕ

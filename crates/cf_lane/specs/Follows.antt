@@ -59,12 +59,14 @@ pub record IsRest (p : Protocol) (bytes rest : List ℕ) : Type 0 where
 
 -- the rests of both sides, where no item cut
 abbrev pub AreRests : Protocol → List Element → Rests → Option CutReason → Type 0
-AreRests p history rests None = IsRest p (bytes_of side.Client history) rests.client × IsRest p (bytes_of side.Controller history) rests.controller
+AreRests p history rests None = IsRest p (bytes_of side.Client history) rests.client
+    × IsRest p (bytes_of side.Controller history) rests.controller
 AreRests p history rests (Some reason) = Unit {0}
 
 -- lane, queues and log stand for a history: the queues have the two streams, the log has the lines after what it had
 -- first, and the cut is that of the history
-pub record Follows (asset : Asset) (history : List Element) (rests : Rests) (cut : Option CutReason) (first : Option (List (List ℕ))) (now : State) : Type 0 where
+pub record Follows (asset : Asset) (history : List Element) (rests : Rests) (cut : Option CutReason) (first : Option (List (List ℕ)))
+    (now : State) : Type 0 where
   pub judged : List Judged
   pub are_judged : AreJudged asset now.lane.client.address history judged
   pub is_cut : cut_of judged ≡ cut
@@ -93,16 +95,18 @@ IsEndBehindCut true (Some reason) = Unit {0}
 
 -- a log has, after what it had first, the first lines of a history's items, and the octets after its last line are a beginning
 -- of the lines that follow
-pub record Began (asset : Asset) (client : Endpoint) (history : List Element) (first log : Option (List (List ℕ))) (part : List ℕ) : Type 0 where
-  pub judged : List Judged
-  pub are_judged : AreJudged asset client.address history judged
-  pub count : ℕ
-  pub of_lines : log ≡ with_lines first (take count (lines asset client [] judged))
-  pub some : ℕ
-  pub of_part : part ≡ take some (concat (drop count (lines asset client [] judged)))
+pub record Began (asset : Asset) (client : Endpoint) (history : List Element) (first log : Option (List (List ℕ))) (part : List ℕ) : Type 0
+  where
+    pub judged : List Judged
+    pub are_judged : AreJudged asset client.address history judged
+    pub count : ℕ
+    pub of_lines : log ≡ with_lines first (take count (lines asset client [] judged))
+    pub some : ℕ
+    pub of_part : part ≡ take some (concat (drop count (lines asset client [] judged)))
 
 -- a piece was handled up to a unit whose line failed: the log has the first lines of the history up to there
-pub record BeganWithin (asset : Asset) (client : Endpoint) (history : List Element) (moment : ℕ) (s : Side) (piece : List ℕ) (first log : Option (List (List ℕ))) (part : List ℕ) : Type 0 where
+pub record BeganWithin (asset : Asset) (client : Endpoint) (history : List Element) (moment : ℕ) (s : Side) (piece : List ℕ)
+    (first log : Option (List (List ℕ))) (part : List ℕ) : Type 0 where
   pub handled : List ℕ
   pub rest : List ℕ
   pub piece_is : piece ≡ handled ++ rest
@@ -115,12 +119,14 @@ FailsWithin asset moment s bytes old log part =
     Follows asset h rests None first old → BeganWithin asset old.lane.client h moment s piece first log part
 
 -- a log has the lines by which such a history goes on up to a line that failed, and a part of what follows
-pub record BeganApart (asset : Asset) (client : Endpoint) (history : List Element) (first own old log : Option (List (List ℕ))) (part : List ℕ) : Type 0 where
+pub record BeganApart (asset : Asset) (client : Endpoint) (history : List Element) (first own old log : Option (List (List ℕ)))
+    (part : List ℕ) : Type 0 where
   pub more : List (List ℕ)
   pub added : log ≡ with_lines old more
   pub began : Began asset client history first (with_lines own more) part
 
-pub record BeganApartWithin (asset : Asset) (client : Endpoint) (history : List Element) (moment : ℕ) (s : Side) (piece : List ℕ) (first own old log : Option (List (List ℕ)))
+pub record BeganApartWithin (asset : Asset) (client : Endpoint) (history : List Element) (moment : ℕ) (s : Side) (piece : List ℕ)
+    (first own old log : Option (List (List ℕ)))
     (part : List ℕ) : Type 0 where
   pub more : List (List ℕ)
   pub added : log ≡ with_lines old more

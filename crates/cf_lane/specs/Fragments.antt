@@ -40,18 +40,25 @@ pub record Parts : Type 0 where
   pub lines : Option (List (List ℕ))
 
 abbrev pub parts : Fragments → Queue → Queue → Option (List (List ℕ)) → Parts
-parts fragments to_client to_controller lines = record { fragments = fragments; to_client = to_client; to_controller = to_controller; lines = lines }
+parts fragments to_client to_controller lines = record {
+  fragments = fragments;
+  to_client = to_client;
+  to_controller = to_controller;
+  lines
+      = lines;
+}
 
 -- the segments of some fragments
 abbrev pub counted : List (List ℕ) → ℕ
 counted fragments = sum_by (λ octets. count_of (length octets)) fragments
 
 -- fragments go into the stream to a side, the first with this transport sequence, and leave the next one
-pub record Sends (asset : Asset) (to : Side) (fragments : List (List ℕ)) (sequence : ℕ) (queue : Queue) (next : ℕ) (new : Queue) : Type 0 where
-  pub put : new ≡ after_push queue (flat_map (frames_at asset to sequence) fragments)
-  pub next_is : next ≡ (sequence + counted fragments) % 64
-  -- nothing follows an End
-  pub quiet : queue.ended ≡ true → fragments ≡ []
+pub record Sends (asset : Asset) (to : Side) (fragments : List (List ℕ)) (sequence : ℕ) (queue : Queue) (next : ℕ) (new : Queue) : Type 0
+  where
+    pub put : new ≡ after_push queue (flat_map (frames_at asset to sequence) fragments)
+    pub next_is : next ≡ (sequence + counted fragments) % 64
+    -- nothing follows an End
+    pub quiet : queue.ended ≡ true → fragments ≡ []
 
 -- whether the frames of fragments have any octet
 abbrev pub frames_exist : Asset → Side → (sequence : ℕ) → List (List ℕ) → Bool
@@ -83,16 +90,20 @@ pub record AddsSegment (s : Side) (user : List ℕ) (answer : SegmentAnswer) (ol
   pub to_controller : new.to_controller ≡ old.to_controller
 
 -- a segment that was put to its fragment was answered, and may have completed it: the fate, what goes out, and the lines
-pub record TakesSegment (asset : Asset) (says : Says) (client : Endpoint) (moment : ℕ) (s : Side) (answer : SegmentAnswer) (whole : List (List ℕ)) (f : Fate) (old new : Parts) : Type 0 where
+pub record TakesSegment (asset : Asset) (says : Says) (client : Endpoint) (moment : ℕ) (s : Side) (answer : SegmentAnswer)
+    (whole : List (List ℕ)) (f : Fate) (old new : Parts) : Type 0 where
   pub fate : f ≡ fate_of_segment asset says s answer whole
   pub client_part : new.fragments.client ≡ old.fragments.client
   pub controller_part : new.fragments.controller ≡ old.fragments.controller
-  pub to_client : Sends asset side.Client (frame_fragment side.Client old.to_client.ended s f whole) old.fragments.to_client old.to_client new.fragments.to_client new.to_client
-  pub to_controller : Sends asset side.Controller (frame_fragment side.Controller old.to_client.ended s f whole) old.fragments.to_controller old.to_controller new.fragments.to_controller new.to_controller
+  pub to_client : Sends asset side.Client (frame_fragment side.Client old.to_client.ended s f whole) old.fragments.to_client old.to_client
+      new.fragments.to_client new.to_client
+  pub to_controller : Sends asset side.Controller (frame_fragment side.Controller old.to_client.ended s f whole) old.fragments.to_controller
+      old.to_controller new.fragments.to_controller new.to_controller
   pub lines : new.lines ≡ with_lines old.lines (data_lines asset client moment s f whole old.fragments.to_client old.to_client)
 
 -- so it was but for its line, of which the log may have a part or all
-pub record MissesSegment (asset : Asset) (says : Says) (client : Endpoint) (moment : ℕ) (s : Side) (answer : SegmentAnswer) (whole : List (List ℕ)) (old : Parts) (log : Option (List (List ℕ))) (part : List ℕ) : Type 0 where
+pub record MissesSegment (asset : Asset) (says : Says) (client : Endpoint) (moment : ℕ) (s : Side) (answer : SegmentAnswer)
+    (whole : List (List ℕ)) (old : Parts) (log : Option (List (List ℕ))) (part : List ℕ) : Type 0 where
   pub fate : Fate
   pub unadmitted : is_admitted fate ≡ false
   pub new : Parts
@@ -100,7 +111,8 @@ pub record MissesSegment (asset : Asset) (says : Says) (client : Endpoint) (mome
   pub line : MayHaveMore (data_lines asset client moment s fate whole old.fragments.to_client old.to_client) old.lines log part
 
 -- what a frame does after the earlier items
-pub record DoesFrame (asset : Asset) (says : Says) (client : Endpoint) (earlier : List Judged) (j : Judged) (s : Side) (x : FrameValue) (old new : Parts) : Type 0 where
+pub record DoesFrame (asset : Asset) (says : Says) (client : Endpoint) (earlier : List Judged) (j : Judged) (s : Side) (x : FrameValue)
+    (old new : Parts) : Type 0 where
   pub fragments : KnowsFragments asset new.fragments (earlier ++ j ∷ [])
   pub fate : j.fate ≡ fate_of_frame asset says s earlier x (stray_of asset s x)
   pub of_client : new.to_client ≡ after_push old.to_client (frame_output asset side.Client earlier j s x)
@@ -109,17 +121,22 @@ pub record DoesFrame (asset : Asset) (says : Says) (client : Endpoint) (earlier 
   pub controller_quiet : old.to_controller.ended ≡ true → frame_output asset side.Controller earlier j s x ≡ []
 
 -- a frame was taken with this fate, whatever came before it
-pub record TakesFrame (asset : Asset) (says : Says) (client : Endpoint) (moment : ℕ) (s : Side) (x : FrameValue) (f : Fate) (old new : Parts) : Type 0 where
+pub record TakesFrame (asset : Asset) (says : Says) (client : Endpoint) (moment : ℕ) (s : Side) (x : FrameValue) (f : Fate)
+    (old new : Parts) : Type 0 where
   pub uncut : fate_cut f ≡ None
   pub more : List (List ℕ)
   pub lines : new.lines ≡ with_lines old.lines more
-  pub does : (earlier : List Judged) → KnowsFragments asset old.fragments earlier → old.to_client.ended ≡ has_ended side.Controller earlier →
+  pub does : (earlier : List Judged) → KnowsFragments asset old.fragments earlier → old.to_client.ended ≡ has_ended side.Controller earlier
+      →
       DoesFrame asset says client earlier (judged moment (Took s (Frame x)) f) s x old new
-  pub are_more : (earlier : List Judged) → KnowsFragments asset old.fragments earlier → old.to_client.ended ≡ has_ended side.Controller earlier →
-      unit_lines asset client moment (is_some_bytes (frame_output asset side.Client earlier (judged moment (Took s (Frame x)) f) s x)) s (frame_octets asset earlier s x) f ≡ more
+  pub are_more : (earlier : List Judged) → KnowsFragments asset old.fragments earlier
+      → old.to_client.ended ≡ has_ended side.Controller earlier →
+      unit_lines asset client moment (is_some_bytes (frame_output asset side.Client earlier (judged moment (Took s (Frame x)) f) s x)) s
+      (frame_octets asset earlier s x) f ≡ more
 
 -- a frame was taken but for its line, of which the log may have a part or all
-pub record MissesFrame (asset : Asset) (says : Says) (client : Endpoint) (moment : ℕ) (s : Side) (x : FrameValue) (old : Parts) (log : Option (List (List ℕ))) (part : List ℕ) : Type 0 where
+pub record MissesFrame (asset : Asset) (says : Says) (client : Endpoint) (moment : ℕ) (s : Side) (x : FrameValue) (old : Parts)
+    (log : Option (List (List ℕ))) (part : List ℕ) : Type 0 where
   pub fate : Fate
   pub unadmitted : is_admitted fate ≡ false
   pub new : Parts

@@ -12,7 +12,7 @@ use Rattle.cf_lane.specs.declared.fate.Fate.{Fate}
 use Rattle.cf_lane.specs.declared.lane.Step.{Step}
 use Rattle.cf_lane.specs.declared.wire.Wire.{Wire}
 use Rattle.cf_modbus.specs.Adu.{AduValue}
-use Rattle.cf_outq.specs.SendQueue.{Queue, after_end, after_push}
+use Rattle.cf_outq.specs.SendQueue.{Queue, after_end, after_push, queue_size}
 use Rattle.cf_outside.specs.Desk.{DeskValue, KeepsDesk}
 use Rattle.cf_lane.specs.Rings.{IsRulesOf, KnowsRules, RulesGoOn}
 use Rattle.cf_lane.specs.declared.rules.Rules.{Rules}
@@ -83,13 +83,14 @@ abbrev pub judged : ℕ → Item → Fate → Judged
 judged moment item f = record { moment = moment; item = item; fate = f }
 
 -- one unit at the front was handled
-pub record TakesUnit (asset : Asset) (moment : ℕ) (s : Side) (bytes : List ℕ) (used : ℕ) (cut : Option CutReason) (old new : State) : Type 0 where
-  pub unit : UnitValue
-  pub begins : Begins (SpellsUnit asset.protocol) bytes unit used
-  pub some_bytes : 0 < used
-  pub fate : Fate
-  pub is_cut : fate_cut fate ≡ cut
-  pub handled : Handled asset (judged moment (Took s unit) fate ∷ []) old new
+pub record TakesUnit (asset : Asset) (moment : ℕ) (s : Side) (bytes : List ℕ) (used : ℕ) (cut : Option CutReason) (old new : State) : Type 0
+  where
+    pub unit : UnitValue
+    pub begins : Begins (SpellsUnit asset.protocol) bytes unit used
+    pub some_bytes : 0 < used
+    pub fate : Fate
+    pub is_cut : fate_cut fate ≡ cut
+    pub handled : Handled asset (judged moment (Took s unit) fate ∷ []) old new
 
 -- an octet at the front is one that no unit has there
 pub record Breaks (asset : Asset) (s : Side) (bytes : List ℕ) (reason : CutReason) : Type 0 where
@@ -102,7 +103,8 @@ abbrev pub Steps : Asset → ℕ → Side → List ℕ → State → State → S
 Steps asset moment s bytes old new (step.Took used) = TakesUnit asset moment s bytes used None old new
 Steps asset moment s bytes old new step.More = IsPartial (SpellsUnit asset.protocol) bytes × (new ≡ old)
 Steps asset moment s bytes old new (step.Cut reason) =
-    (Breaks asset s bytes reason × (new ≡ old)) ⊎ ((asset.protocol ≡ protocol.Iec104) × ((used : ℕ) × TakesUnit asset moment s bytes used (Some reason) old new))
+    (Breaks asset s bytes reason × (new ≡ old))
+    ⊎ ((asset.protocol ≡ protocol.Iec104) × ((used : ℕ) × TakesUnit asset moment s bytes used (Some reason) old new))
 
 -- the octets that unfinished DNP3 fragments may still put out; a lane of another protocol has none
 abbrev pub debt : LaneValue → ℕ
@@ -199,21 +201,31 @@ outlets to_client to_controller lines = record { to_client = to_client; to_contr
 -- a lane of this client with these rules, which keeps this for its protocol and counted so many commands
 abbrev pub lane_at : Endpoint → Rules → Wire → (admitted refused : ℕ) → Outlets → State
 lane_at client rules wire admitted refused out =
-    state (record { client = client; admitted = admitted; refused = refused; rules = rules; wire = wire }) out.to_client out.to_controller out.lines
+    state (record { client = client; admitted = admitted; refused = refused; rules = rules; wire = wire }) out.to_client out.to_controller
+    out.lines
 
 -- what stands at the front, for a lane that counted any number of commands
 abbrev pub FrontsOf : Asset → Endpoint → Rules → ℕ → Side → List ℕ → (before after : Wire) → (old new : Outlets) → Framed Fate → Type 0
 FrontsOf asset client rules moment s bytes before after old new answer =
-    (admitted refused : ℕ) → Fronts asset moment s bytes (lane_at client rules before admitted refused old) (lane_at client rules after admitted refused new) answer
+    (admitted refused : ℕ) → Fronts asset moment s bytes (lane_at client rules before admitted refused old)
+    (lane_at client rules after admitted refused new) answer
 
 -- the queue to the other side is open, so that the side's bytes may go on
 abbrev pub IsOpen : Side → (to_client to_controller : Queue) → Type 0
 IsOpen side.Client to_client to_controller = to_controller.ended ≡ false
 IsOpen side.Controller to_client to_controller = to_client.ended ≡ false
 
+-- how many octets unfinished fragments may still put out at most
+abbrev pub debt_limit : ℕ
+debt_limit = 5300
+
+-- what is left of a side because it is no whole unit has fewer octets
+abbrev pub rest_limit : ℕ
+rest_limit = 300
+
 -- the queue has room for so many bytes, End besides
 pub record HasRoom (most : ℕ) (q : Queue) : Type 0 where
-  pub room : length q.kept + most ≤ 131072
+  pub room : length q.kept + most ≤ queue_size
   pub limit : q.pushed + most < 2 ^ 31
 
 -- the queue to the other side has its End, and the other queue is as it was
@@ -248,18 +260,21 @@ pub record WritesLog (old new : DeskValue) : Type 0 where
 
 -- an item has these lines, whatever came before it that does not cut
 abbrev pub HasLines : Asset → State → Judged → List (List ℕ) → Type 0
-HasLines asset old j more = (earlier : List Judged) → cut_of earlier ≡ None → Knows asset old earlier → lines asset old.lane.client earlier (j ∷ []) ≡ more
+HasLines asset old j more = (earlier : List Judged) → cut_of earlier ≡ None → Knows asset old earlier
+    → lines asset old.lane.client earlier (j ∷ []) ≡ more
 
 -- a command was handled but for its line, of which the log may have a part or all
-pub record MissesCommand (asset : Asset) (moment : ℕ) (a : AduValue) (old : State) (log : Option (List (List ℕ))) (part : List ℕ) : Type 0 where
-  pub new : State
-  pub takes : TakesCommand asset moment a old new
-  pub more : List (List ℕ)
-  pub are_more : HasLines asset old (judged moment (Took side.Client (Adu a)) takes.fate) more
-  pub line : MayHaveMore more old.lines log part
+pub record MissesCommand (asset : Asset) (moment : ℕ) (a : AduValue) (old : State) (log : Option (List (List ℕ))) (part : List ℕ) : Type 0
+  where
+    pub new : State
+    pub takes : TakesCommand asset moment a old new
+    pub more : List (List ℕ)
+    pub are_more : HasLines asset old (judged moment (Took side.Client (Adu a)) takes.fate) more
+    pub line : MayHaveMore more old.lines log part
 
 -- a unit was handled but for its line, of which the log may have a part or all
-pub record Misses (asset : Asset) (moment : ℕ) (s : Side) (bytes : List ℕ) (old : State) (log : Option (List (List ℕ))) (part : List ℕ) : Type 0 where
+pub record Misses (asset : Asset) (moment : ℕ) (s : Side) (bytes : List ℕ) (old : State) (log : Option (List (List ℕ))) (part : List ℕ) :
+    Type 0 where
   pub used : ℕ
   pub new : State
   pub takes : TakesUnit asset moment s bytes used None old new
@@ -268,6 +283,7 @@ pub record Misses (asset : Asset) (moment : ℕ) (s : Side) (bytes : List ℕ) (
   pub line : MayHaveMore more old.lines log part
 
 -- the same for a lane that counted any number of commands
-abbrev pub MissesOf : Asset → Endpoint → Rules → ℕ → Side → List ℕ → (before : Wire) → (old : Outlets) → (log : Option (List (List ℕ))) → (part : List ℕ) → Type 0
+abbrev pub MissesOf : Asset → Endpoint → Rules → ℕ → Side → List ℕ → (before : Wire) → (old : Outlets) → (log : Option (List (List ℕ)))
+    → (part : List ℕ) → Type 0
 MissesOf asset client rules moment s bytes before old log part =
     (admitted refused : ℕ) → Misses asset moment s bytes (lane_at client rules before admitted refused old) log part

@@ -119,7 +119,8 @@ info_number (Control octet) = 0
 abbrev pub apdu_output : Side → List Judged → Fate → Side → ApduValue → List ℕ
 apdu_output side.Client earlier f side.Client a = mirror_output earlier f a
 apdu_output side.Client earlier f side.Controller a = if goes_on f then apdu_spelling (renumbered side.Client earlier a) else []
-apdu_output side.Controller earlier f side.Client a = if goes_on f then apdu_spelling (renumbered side.Controller earlier a) else ack_output earlier f (info_number a)
+apdu_output side.Controller earlier f side.Client a = if goes_on f then apdu_spelling (renumbered side.Controller earlier a) else ack_output
+    earlier f (info_number a)
 apdu_output side.Controller earlier f side.Controller a = []
 
 -- its line shows the APDU

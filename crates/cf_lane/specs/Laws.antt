@@ -55,7 +55,8 @@ NothingTaken =
 -- bytes and then the End of their side at one moment are one element
 abbrev pub EndJoins : Type 0
 EndJoins =
-    (asset : Asset) (h : List Element) (rests : Rests) (cut : Option CutReason) (first : Option (List (List ℕ))) (now : State) (moment : ℕ) (s : Side) (piece : List ℕ) →
+    (asset : Asset) (h : List Element) (rests : Rests) (cut : Option CutReason) (first : Option (List (List ℕ))) (now : State) (moment : ℕ)
+    (s : Side) (piece : List ℕ) →
     Follows asset ((h ++ bytes_at moment s piece ∷ []) ++ end_at moment s ∷ []) rests cut first now →
     Follows asset (h ++ letters_at moment s piece true ∷ []) rests cut first now
 
@@ -92,13 +93,15 @@ StreamsGoOn =
 abbrev pub QuietBehindEnd : Type 0
 QuietBehindEnd =
     (asset : Asset) (client : ℕ) (h more : List Element) (js ms : List Judged) (to : Side) →
-    AreJudged asset client h js → AreJudged asset client (h ++ more) (js ++ ms) → has_ended (other to) js ≡ true → bytes_of (other to) more ≡ [] →
+    AreJudged asset client h js → AreJudged asset client (h ++ more) (js ++ ms) → has_ended (other to) js ≡ true
+    → bytes_of (other to) more ≡ [] →
     outputs asset to js ms ≡ []
 
 -- of a history's commands exactly those that are allowed go to the controller, in their spelling and at their place
 abbrev pub LanePassesAllowed : Type 0
 LanePassesAllowed =
-    (asset : Asset) (client : ℕ) (h : List Element) (js : List Judged) → AreJudged asset client h js → Passes asset client [] js (outputs asset side.Controller [] js)
+    (asset : Asset) (client : ℕ) (h : List Element) (js : List Judged) → AreJudged asset client h js
+    → Passes asset client [] js (outputs asset side.Controller [] js)
 
 -- whatever a history's commands are, no rule lets more of them through than its rate
 abbrev pub RatesHold : Type 0

@@ -1,5 +1,6 @@
 -- The lines of the log, `lines`: one for each refused command, each stray frame, and bytes that are left at an end.
-use Rattle.cf_audit.specs.Line.{Begun, Close, Cut, Full, LineValue, Listen, Lost, NoMemory, Partial, Refuse, Silent, Stray, Unreached, WhatValue}
+use Rattle.cf_audit.specs.Line.{Begun, Close, Cut, Full, LineValue, Listen, Lost, NoMemory, Partial, Refuse, Silent, Stray, Unreached}
+use Rattle.cf_audit.specs.Line.{WhatValue}
 use Rattle.cf_audit.specs.Text.{line_text}
 use Rattle.cf_lane.specs.Dnp3.{frame_octets, is_fragment_unfinished}
 use Rattle.cf_lane.specs.Iec104.{apdu_octets}
@@ -43,7 +44,8 @@ command_octets asset earlier s (Apdu a) = apdu_octets a
 
 -- the lines of a unit: that of a refused command says if anything went to the client for it
 abbrev pub unit_lines : Asset → Endpoint → ℕ → (replied : Bool) → Side → (octets : List ℕ) → Fate → List (List ℕ)
-unit_lines asset client moment replied s octets (fate.Refused refusal) = line_about asset client moment (refusal_line asset refusal replied octets) ∷ []
+unit_lines asset client moment replied s octets (fate.Refused refusal) = line_about asset client moment
+    (refusal_line asset refusal replied octets) ∷ []
 unit_lines asset client moment replied s octets (fate.Stray because) = line_about asset client moment (Stray s because) ∷ []
 unit_lines asset client moment replied s octets fate.Carried = []
 unit_lines asset client moment replied s octets (fate.Admitted used) = []

@@ -34,8 +34,10 @@ form_refusal a refusal = record { decider = decider.Form; reason = refusal_reaso
 -- the fate of a client's ADU: the station is compared first, then the form is read, then the acts are judged
 pub data HasCommandFate (asset : Asset) (says : Says) (a : AduValue) (f : Fate) : Type 0 where
   of_other_station : a.unit ≢ asset.station → f ≡ fate.Refused (station_refusal a) → HasCommandFate asset says a f
-  of_no_form : a.unit ≡ asset.station → (refusal : RequestRefusal) → Reads (Err refusal) a.pdu → f ≡ fate.Refused (form_refusal a refusal) → HasCommandFate asset says a f
-  of_its_acts : a.unit ≡ asset.station → (r : RequestValue) → Reads (Ok r) a.pdu → f ≡ fate_of_acts asset says (acts r) → HasCommandFate asset says a f
+  of_no_form : a.unit ≡ asset.station → (refusal : RequestRefusal) → Reads (Err refusal) a.pdu → f ≡ fate.Refused (form_refusal a refusal)
+      → HasCommandFate asset says a f
+  of_its_acts : a.unit ≡ asset.station → (r : RequestValue) → Reads (Ok r) a.pdu → f ≡ fate_of_acts asset says (acts r)
+      → HasCommandFate asset says a f
 
 -- the fate of an ADU: what the controller sends goes on
 abbrev pub HasAduFate : Asset → Says → Side → AduValue → Fate → Type 0

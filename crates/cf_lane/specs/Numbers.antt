@@ -6,7 +6,8 @@ use Rattle.cf_lane.specs.Item.{Broke, Ended, Item, Took}
 use Rattle.cf_lane.specs.Judged.{Judged, has_ended, in_turn}
 use Rattle.cf_lane.specs.Unit.{Adu, Apdu, Frame}
 use Rattle.cf_lane.specs.declared.fate.Fate.{Fate}
-use Rattle.cf_renumber.specs.Counts.{Admitted, Carried, ClientAck, ControllerAck, NumberEvent, Refused, Started, Stopped, client_ack_refusal, client_refusal, controller_ack_refusal, controller_refusal, may_send}
+use Rattle.cf_renumber.specs.Counts.{Admitted, Carried, ClientAck, ControllerAck, NumberEvent, Refused, Started, Stopped}
+use Rattle.cf_renumber.specs.Counts.{client_ack_refusal, client_refusal, controller_ack_refusal, controller_refusal, may_send}
 use Rattle.cf_renumber.specs.declared.answer.NumberRefusal.{NumberRefusal}
 use Rattle.cf_view.specs.declared.Side.{Side}
 use Rattle.std.specs.Prelude.{Bool, List, None, Option, Some, [], false, if◌then◌else◌, length, nat_eq, nat_lt, reverse, ℕ, ◌∷◌}

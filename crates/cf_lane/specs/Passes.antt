@@ -20,7 +20,8 @@ use Rattle.cf_policy.specs.declared.Asset.{Asset}
 use Rattle.cf_renumber.specs.Counts.{admitted_stamp, client_translated, owed_ack}
 use Rattle.cf_view.specs.declared.Act.{Act}
 use Rattle.std.specs.List.{AllByRecursion}
-use Rattle.std.specs.Prelude.{Bool, Err, List, None, Ok, Option, Result, Some, [], false, length, nat_eq, nat_lt, true, ℕ, ◌%◌, ◌++◌, ◌∷◌, ◌≡◌, ◌≤◌, ◌⊎◌}
+use Rattle.std.specs.Prelude.{Bool, Err, List, None, Ok, Option, Result, Some, [], false, length, nat_eq, nat_lt, true, ℕ, ◌%◌, ◌++◌, ◌∷◌}
+use Rattle.std.specs.Prelude.{◌≡◌, ◌≤◌, ◌⊎◌}
 use Rattle.cf_asdu.specs.Acts as asdus
 use Rattle.cf_dnpobj.specs.Acts as fragments
 use Rattle.cf_modbus.specs.Acts as requests
@@ -86,10 +87,12 @@ FrameGoes true true asset says earlier x Rest out = WholeGoes (whole_now asset s
 FrameGoes true false asset says earlier x Rest out = Leaves (frame_spelling x) Rest out
 
 -- a client's I frame whose numbers are right goes on with those of its place; a refused one may leave an S frame
-abbrev pub InfoGoes : (cut : Option CutReason) → Asset → Says → List Judged → (receive : ℕ) → (asdu : List ℕ) → (List ℕ → Type 0) → List ℕ → Type 0
+abbrev pub InfoGoes : (cut : Option CutReason) → Asset → Says → List Judged → (receive : ℕ) → (asdu : List ℕ) → (List ℕ → Type 0) → List ℕ
+    → Type 0
 InfoGoes (Some because) asset says earlier receive asdu Rest out = Leaves [] Rest out
 InfoGoes None asset says earlier receive asdu Rest out =
-    Goes (IsAllowedAsdu asset says asdu) (apdu_spelling (stamped (admitted_stamp (events_of earlier) receive) asdu)) (ack_octets (owed_ack (events_of earlier) receive))
+    Goes (IsAllowedAsdu asset says asdu) (apdu_spelling (stamped (admitted_stamp (events_of earlier) receive) asdu))
+    (ack_octets (owed_ack (events_of earlier) receive))
     Rest out
 
 -- an S frame goes with its number translated, and nothing does where its number cuts
@@ -107,7 +110,8 @@ ApduGoes asset says earlier (Control octet) Rest out = Leaves (apdu_spelling (Co
 -- what an item puts into the stream to the controller, and what follows it there
 abbrev pub ItemGoes : Asset → Says → List Judged → Item → (List ℕ → Type 0) → List ℕ → Type 0
 ItemGoes asset says earlier (Took side.Client (Adu a)) Rest out = Goes (IsAllowedCommand asset says a) (spelling a) [] Rest out
-ItemGoes asset says earlier (Took side.Client (Frame x)) Rest out = FrameGoes (is_none (stray_of asset side.Client x)) (is_data x) asset says earlier x Rest out
+ItemGoes asset says earlier (Took side.Client (Frame x)) Rest out = FrameGoes (is_none (stray_of asset side.Client x)) (is_data x) asset
+    says earlier x Rest out
 ItemGoes asset says earlier (Took side.Client (Apdu a)) Rest out = ApduGoes asset says earlier a Rest out
 ItemGoes asset says earlier (Took side.Controller u) Rest out = Leaves [] Rest out
 ItemGoes asset says earlier (Ended s n) Rest out = Leaves [] Rest out
@@ -116,4 +120,5 @@ ItemGoes asset says earlier (Broke s b) Rest out = Leaves [] Rest out
 -- what items put there one after the other, after the earlier ones
 abbrev pub Passes : Asset → ℕ → (earlier js : List Judged) → List ℕ → Type 0
 Passes asset client earlier [] out = out ≡ []
-Passes asset client earlier (j ∷ js) out = ItemGoes asset (says_at asset client earlier j.moment) earlier j.item (Passes asset client (earlier ++ j ∷ []) js) out
+Passes asset client earlier (j ∷ js) out = ItemGoes asset (says_at asset client earlier j.moment) earlier j.item
+    (Passes asset client (earlier ++ j ∷ []) js) out

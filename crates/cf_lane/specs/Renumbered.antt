@@ -28,15 +28,18 @@ pub record Numbered : Type 0 where
   pub lines : Option (List (List ℕ))
 
 abbrev pub numbered : NumbersValue → Queue → Queue → Option (List (List ℕ)) → Numbered
-numbered numbers to_client to_controller lines = record { numbers = numbers; to_client = to_client; to_controller = to_controller; lines = lines }
+numbered numbers to_client to_controller lines = record
+    { numbers = numbers; to_client = to_client; to_controller = to_controller; lines = lines }
 
 -- what an APDU of a side does after earlier items: its fate, the streams to both sides, its lines, and the numbers
-pub record DoesApdu (asset : Asset) (says : Says) (client : Endpoint) (moment : ℕ) (s : Side) (a : ApduValue) (f : Fate) (old new : Numbered) (earlier : List Judged) : Type 0 where
+pub record DoesApdu (asset : Asset) (says : Says) (client : Endpoint) (moment : ℕ) (s : Side) (a : ApduValue) (f : Fate)
+    (old new : Numbered) (earlier : List Judged) : Type 0 where
   pub fate : f ≡ fate_of_apdu asset says s earlier a
   pub numbers : fate_cut f ≡ None → IsNumbersOf new.numbers (reverse (item_event earlier f (Took s (Apdu a))) ++ events_of earlier)
   pub of_client : new.to_client ≡ after_push old.to_client (apdu_output side.Client earlier f s a)
   pub of_controller : new.to_controller ≡ after_push old.to_controller (apdu_output side.Controller earlier f s a)
-  pub of_lines : new.lines ≡ with_lines old.lines (unit_lines asset client moment (is_some_bytes (apdu_output side.Client earlier f s a)) s (apdu_octets a) f)
+  pub of_lines : new.lines ≡ with_lines old.lines (unit_lines asset client moment (is_some_bytes (apdu_output side.Client earlier f s a)) s
+      (apdu_octets a) f)
   -- nothing follows an End
   pub client_quiet : old.to_client.ended ≡ true → apdu_output side.Client earlier f s a ≡ []
   pub controller_quiet : old.to_controller.ended ≡ true → apdu_output side.Controller earlier f s a ≡ []
@@ -48,14 +51,16 @@ TakesApdu asset says client moment s a f old new =
     DoesApdu asset says client moment s a f old new earlier
 
 -- an APDU was taken but for its line, of which the log may have a part or all
-pub record MissesApdu (asset : Asset) (says : Says) (client : Endpoint) (moment : ℕ) (s : Side) (a : ApduValue) (old : Numbered) (log : Option (List (List ℕ))) (part : List ℕ) : Type 0 where
+pub record MissesApdu (asset : Asset) (says : Says) (client : Endpoint) (moment : ℕ) (s : Side) (a : ApduValue) (old : Numbered)
+    (log : Option (List (List ℕ))) (part : List ℕ) : Type 0 where
   pub fate : Fate
   pub uncut : fate_cut fate ≡ None
   pub unadmitted : is_admitted fate ≡ false
   pub new : Numbered
   pub takes : TakesApdu asset says client moment s a fate old new
   pub more : List (List ℕ)
-  pub are_more : (earlier : List Judged) → IsNumbersOf old.numbers (events_of earlier) → old.to_client.ended ≡ has_ended side.Controller earlier →
+  pub are_more : (earlier : List Judged) → IsNumbersOf old.numbers (events_of earlier)
+      → old.to_client.ended ≡ has_ended side.Controller earlier →
       unit_lines asset client moment (is_some_bytes (apdu_output side.Client earlier fate s a)) s (apdu_octets a) fate ≡ more
   pub line : MayHaveMore more old.lines log part
 

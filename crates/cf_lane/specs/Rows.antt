@@ -38,11 +38,29 @@ iec104_asset = record {
   protocol = protocol.Iec104;
   station = 1;
   master = 0;
-  rules = record { name = []; action = action.Allow; clients = []; codes = one 45 ∷ []; groups = one 6 ∷ []; points = one 1000 ∷ []; values = []; rate = None } ∷ [];
+  rules = record {
+    name = [];
+    action = action.Allow;
+    clients = [];
+    codes = one 45 ∷ [];
+    groups = one 6 ∷ [];
+    points = one 1000
+        ∷ [];
+    values = [];
+    rate = None;
+  } ∷ [];
 }
 
 abbrev pub dnp3_asset : Asset
-dnp3_asset = record { name = []; endpoint = record { address = 0; port = 20000 }; protocol = protocol.Dnp3; station = 10; master = 1; rules = [] }
+dnp3_asset = record {
+  name = [];
+  endpoint = record { address = 0; port = 20000 };
+  protocol = protocol.Dnp3;
+  station = 10;
+  master = 1;
+  rules
+      = [];
+}
 
 abbrev pub unit_fate : Asset → List Judged → Side → UnitValue → Fate
 unit_fate asset earlier s (Adu a) = fate.Carried
@@ -68,19 +86,23 @@ abbrev pub by_controller : ApduValue → Side × UnitValue
 by_controller a = (side.Controller, Apdu a)
 
 abbrev pub refused_then_admitted : List Judged
-refused_then_admitted = judge_all iec104_asset [] (by_client (Control 7) ∷ by_client (Info 0 0 (asked 0xe9 0x81)) ∷ by_client (Info 1 1 (asked 0xe8 1)) ∷ [])
+refused_then_admitted = judge_all iec104_asset [] (by_client (Control 7) ∷ by_client (Info 0 0 (asked 0xe9 0x81))
+    ∷ by_client (Info 1 1 (asked 0xe8 1)) ∷ [])
 
 abbrev pub refused_behind_data : List Judged
-refused_behind_data = judge_all iec104_asset [] (by_client (Control 7) ∷ by_controller (Info 0 0 measured) ∷ by_controller (Info 1 0 measured) ∷ by_controller (Info 2 0 measured) ∷ by_client (Info 0 3 (asked 0xe9 0x81)) ∷ [])
+refused_behind_data = judge_all iec104_asset [] (by_client (Control 7) ∷ by_controller (Info 0 0 measured)
+    ∷ by_controller (Info 1 0 measured) ∷ by_controller (Info 2 0 measured) ∷ by_client (Info 0 3 (asked 0xe9 0x81)) ∷ [])
 
 abbrev pub wrong_send : List Judged
 wrong_send = judge_all iec104_asset [] (by_client (Control 7) ∷ by_client (Info 1 0 (asked 0xe9 0x81)) ∷ [])
 
 abbrev pub acks_of_a_refusal : List Judged
-acks_of_a_refusal = judge_all iec104_asset [] (by_client (Control 7) ∷ by_controller (Info 0 0 measured) ∷ by_client (Info 0 0 (asked 0xe9 0x81)) ∷ by_client (Ack 1) ∷ by_client (Ack 2) ∷ [])
+acks_of_a_refusal = judge_all iec104_asset [] (by_client (Control 7) ∷ by_controller (Info 0 0 measured)
+    ∷ by_client (Info 0 0 (asked 0xe9 0x81)) ∷ by_client (Ack 1) ∷ by_client (Ack 2) ∷ [])
 
 abbrev pub other_station : List Judged
-other_station = judge_all iec104_asset [] (by_client (Control 7) ∷ by_client (Info 0 0 (0x2d ∷ 1 ∷ 6 ∷ 0 ∷ 2 ∷ 0 ∷ 0xe8 ∷ 3 ∷ 0 ∷ 1 ∷ [])) ∷ [])
+other_station = judge_all iec104_asset [] (by_client (Control 7) ∷ by_client (Info 0 0 (0x2d ∷ 1 ∷ 6 ∷ 0 ∷ 2 ∷ 0 ∷ 0xe8 ∷ 3 ∷ 0 ∷ 1 ∷ []))
+    ∷ [])
 
 abbrev pub start : List ℕ
 start = 0x68 ∷ 4 ∷ 7 ∷ 0 ∷ 0 ∷ 0 ∷ []
@@ -111,7 +133,14 @@ abbrev pub refused_direct_operate : List Judged
 refused_direct_operate = judge_all dnp3_asset [] ((side.Client, Frame (data_frame dnp3_asset side.Controller (0xc0 ∷ direct_operate))) ∷ [])
 
 abbrev pub modbus_asset : Asset
-modbus_asset = record { name = codes "pump"; endpoint = record { address = 167772169; port = 502 }; protocol = protocol.Modbus; station = 1; master = 0; rules = [] }
+modbus_asset = record {
+  name = codes "pump";
+  endpoint = record { address = 167772169; port = 502 };
+  protocol = protocol.Modbus;
+  station = 1;
+  master = 0;
+  rules = [];
+}
 
 abbrev pub write_of : ℕ → ℕ → AduValue
 write_of point value = record { transaction = 1; unit = 1; pdu = 6 ∷ 0 ∷ point ∷ 0 ∷ value ∷ [] }
@@ -120,30 +149,43 @@ abbrev pub from_client : AduValue → Fate → Judged
 from_client a f = record { moment = 0; item = Took side.Client (Adu a); fate = f }
 
 abbrev pub by_default : Fate
-by_default = fate.Refused (record { decider = decider.Default; reason = reason.Point; act = record { code = 6; group = 0; point = 50; value = Some (pos 100) } })
+by_default = fate.Refused (record {
+  decider = decider.Default;
+  reason = reason.Point;
+  act = record
+      { code = 6; group = 0; point = 50; value = Some (pos 100) };
+})
 
 abbrev pub a_write_refused_then_one_admitted : List Judged
-a_write_refused_then_one_admitted = from_client (write_of 50 100) by_default ∷ from_client (write_of 40 100) (fate.Admitted []) ∷ record { moment = 0; item = Ended side.Client 0; fate = fate.Carried } ∷ []
+a_write_refused_then_one_admitted = from_client (write_of 50 100) by_default ∷ from_client (write_of 40 100) (fate.Admitted [])
+    ∷ record { moment = 0; item = Ended side.Client 0; fate = fate.Carried } ∷ []
 
 abbrev pub refused_behind_the_end : List Judged
-refused_behind_the_end = record { moment = 0; item = Ended side.Controller 0; fate = fate.Carried } ∷ from_client (write_of 50 100) by_default ∷ []
+refused_behind_the_end = record { moment = 0; item = Ended side.Controller 0; fate = fate.Carried }
+    ∷ from_client (write_of 50 100) by_default ∷ []
 
 abbrev pub broken_behind_a_write : List Judged
-broken_behind_a_write = from_client (write_of 40 100) (fate.Admitted []) ∷ record { moment = 0; item = Broke side.Client break.Protocol; fate = fate.Cuts (cut.Framing side.Client break.Protocol) } ∷ []
+broken_behind_a_write = from_client (write_of 40 100) (fate.Admitted [])
+    ∷ record { moment = 0; item = Broke side.Client break.Protocol; fate = fate.Cuts (cut.Framing side.Client break.Protocol) } ∷ []
 
 abbrev pub stored : Endpoint
 stored = record { address = 167772165; port = 0 }
 
 pub record RowsHold : Type 0 where
   pub crc : u16_le_octets (crc_of (0x31 ∷ 0x32 ∷ 0x33 ∷ 0x34 ∷ 0x35 ∷ 0x36 ∷ 0x37 ∷ 0x38 ∷ 0x39 ∷ [])) ≡ 0x82 ∷ 0xea ∷ []
-  pub refused_then_admitted_controller : outputs iec104_asset side.Controller [] refused_then_admitted ≡ start ++ (0x68 ∷ 0x0e ∷ 0 ∷ 0 ∷ 0 ∷ 0 ∷ []) ++ asked 0xe8 1
-  pub refused_then_admitted_client : outputs iec104_asset side.Client [] refused_then_admitted ≡ (0x68 ∷ 0x0e ∷ 0 ∷ 0 ∷ 2 ∷ 0 ∷ []) ++ 0x2d ∷ 1 ∷ 0x47 ∷ 0 ∷ 1 ∷ 0 ∷ 0xe9 ∷ 3 ∷ 0 ∷ 0x81 ∷ []
+  pub refused_then_admitted_controller : outputs iec104_asset side.Controller [] refused_then_admitted ≡ start
+      ++ (0x68 ∷ 0x0e ∷ 0 ∷ 0 ∷ 0 ∷ 0 ∷ []) ++ asked 0xe8 1
+  pub refused_then_admitted_client : outputs iec104_asset side.Client [] refused_then_admitted ≡ (0x68 ∷ 0x0e ∷ 0 ∷ 0 ∷ 2 ∷ 0 ∷ []) ++ 0x2d
+      ∷ 1 ∷ 0x47 ∷ 0 ∷ 1 ∷ 0 ∷ 0xe9 ∷ 3 ∷ 0 ∷ 0x81 ∷ []
   pub refused_behind_data_controller : outputs iec104_asset side.Controller [] refused_behind_data ≡ start ++ 0x68 ∷ 4 ∷ 1 ∷ 0 ∷ 6 ∷ 0 ∷ []
-  pub refused_behind_data_mirror : take 6 (drop 48 (outputs iec104_asset side.Client [] refused_behind_data)) ≡ 0x68 ∷ 0x0e ∷ 6 ∷ 0 ∷ 2 ∷ 0 ∷ []
+  pub refused_behind_data_mirror : take 6 (drop 48 (outputs iec104_asset side.Client [] refused_behind_data)) ≡ 0x68 ∷ 0x0e ∷ 6 ∷ 0 ∷ 2 ∷ 0
+      ∷ []
   pub wrong_send_cut : cut_of wrong_send ≡ Some (cut.WrongSend side.Client 0 1)
-  pub acks_of_a_refusal_controller : outputs iec104_asset side.Controller [] acks_of_a_refusal ≡ start ++ (0x68 ∷ 4 ∷ 1 ∷ 0 ∷ 2 ∷ 0 ∷ []) ++ 0x68 ∷ 4 ∷ 1 ∷ 0 ∷ 2 ∷ 0 ∷ []
+  pub acks_of_a_refusal_controller : outputs iec104_asset side.Controller [] acks_of_a_refusal ≡ start ++ (0x68 ∷ 4 ∷ 1 ∷ 0 ∷ 2 ∷ 0 ∷ [])
+      ++ 0x68 ∷ 4 ∷ 1 ∷ 0 ∷ 2 ∷ 0 ∷ []
   pub acks_of_a_refusal_mirror : take 6 (drop 16 (outputs iec104_asset side.Client [] acks_of_a_refusal)) ≡ 0x68 ∷ 0x0e ∷ 2 ∷ 0 ∷ 2 ∷ 0 ∷ []
-  pub other_station_client : outputs iec104_asset side.Client [] other_station ≡ (0x68 ∷ 0x0e ∷ 0 ∷ 0 ∷ 2 ∷ 0 ∷ []) ++ 0x2d ∷ 1 ∷ 0x47 ∷ 0 ∷ 2 ∷ 0 ∷ 0xe8 ∷ 3 ∷ 0 ∷ 1 ∷ []
+  pub other_station_client : outputs iec104_asset side.Client [] other_station ≡ (0x68 ∷ 0x0e ∷ 0 ∷ 0 ∷ 2 ∷ 0 ∷ []) ++ 0x2d ∷ 1 ∷ 0x47 ∷ 0
+      ∷ 2 ∷ 0 ∷ 0xe8 ∷ 3 ∷ 0 ∷ 1 ∷ []
   pub refused_in_a_fragment_reply : slice_index (outputs dnp3_asset side.Client [] refused_in_a_fragment) 10 ≡ 0xc0
   pub refused_in_a_fragment_first : slice_index (drop 17 (outputs dnp3_asset side.Client [] refused_in_a_fragment)) 10 ≡ 0x41
   pub refused_in_a_fragment_second : slice_index (drop (17 + 292) (outputs dnp3_asset side.Client [] refused_in_a_fragment)) 10 ≡ 0x02
@@ -154,9 +196,12 @@ pub record RowsHold : Type 0 where
       ≡ 0x05 ∷ 0x64 ∷ 0x1a ∷ 0x44 ∷ 0x01 ∷ 0x00 ∷ 0x0a ∷ 0x00 ∷ 0xaf ∷ 0x5d ∷ 0xc0 ∷ 0xc3 ∷ 0x81 ∷ 0x00 ∷ 0x00 ∷ 0x0c ∷ 0x01 ∷ 0x17 ∷ 0x01
       ∷ 0x05 ∷ 0x03 ∷ 0x01 ∷ 0x64 ∷ 0x00 ∷ 0x00 ∷ 0x00 ∷ 0xbc ∷ 0x51 ∷ 0x64 ∷ 0x00 ∷ 0x00 ∷ 0x00 ∷ 0x09 ∷ 0xd7 ∷ 0x92 ∷ []
   pub other_master_none : outputs dnp3_asset side.Client [] other_master ++ outputs dnp3_asset side.Controller [] other_master ≡ []
-  pub a_write_refused_then_one_admitted_controller : outputs modbus_asset side.Controller [] a_write_refused_then_one_admitted ≡ 0 ∷ 1 ∷ 0 ∷ 0 ∷ 0 ∷ 6 ∷ 1 ∷ 6 ∷ 0 ∷ 40 ∷ 0 ∷ 100 ∷ []
-  pub a_write_refused_then_one_admitted_client : outputs modbus_asset side.Client [] a_write_refused_then_one_admitted ≡ 0 ∷ 1 ∷ 0 ∷ 0 ∷ 0 ∷ 3 ∷ 1 ∷ 0x86 ∷ 2 ∷ []
+  pub a_write_refused_then_one_admitted_controller : outputs modbus_asset side.Controller [] a_write_refused_then_one_admitted ≡ 0 ∷ 1 ∷ 0
+      ∷ 0 ∷ 0 ∷ 6 ∷ 1 ∷ 6 ∷ 0 ∷ 40 ∷ 0 ∷ 100 ∷ []
+  pub a_write_refused_then_one_admitted_client : outputs modbus_asset side.Client [] a_write_refused_then_one_admitted ≡ 0 ∷ 1 ∷ 0 ∷ 0 ∷ 0
+      ∷ 3 ∷ 1 ∷ 0x86 ∷ 2 ∷ []
   pub refused_behind_the_end_client : stream_to modbus_asset side.Client refused_behind_the_end ≡ record { bytes = []; ended = true }
   pub broken_behind_a_write_cut : cut_of broken_behind_a_write ≡ Some (cut.Framing side.Client break.Protocol)
-  pub broken_behind_a_write_controller : outputs modbus_asset side.Controller [] broken_behind_a_write ≡ 0 ∷ 1 ∷ 0 ∷ 0 ∷ 0 ∷ 6 ∷ 1 ∷ 6 ∷ 0 ∷ 40 ∷ 0 ∷ 100 ∷ []
+  pub broken_behind_a_write_controller : outputs modbus_asset side.Controller [] broken_behind_a_write ≡ 0 ∷ 1 ∷ 0 ∷ 0 ∷ 0 ∷ 6 ∷ 1 ∷ 6 ∷ 0
+      ∷ 40 ∷ 0 ∷ 100 ∷ []
   pub broken_behind_a_write_log : lines modbus_asset stored [] broken_behind_a_write ≡ []

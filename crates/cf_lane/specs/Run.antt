@@ -13,4 +13,6 @@ HaveVerdict says acts from to verdict = (j : ℕ) (act : Act) → from ≤ j →
 abbrev pub AreRun : List Act → (first last : ℕ) → Act → (open_value : Bool) → Type 0
 AreRun acts first last act open_value =
     (j : ℕ) → first ≤ j → j ≤ last
-    → (value : Option ℤ) × (slice_get acts j ≡ Some (record { code = act.code; group = act.group; point = act.point + (j - first); value = value })) × (open_value ≡ false → value ≡ act.value)
+    → (value : Option ℤ) × (slice_get acts j
+    ≡ Some (record { code = act.code; group = act.group; point = act.point + (j - first); value = value }))
+    × (open_value ≡ false → value ≡ act.value)

@@ -46,7 +46,8 @@ impl Fragments {
         requires open { IsOpen side to_client.old to_controller.old }
         requires client_room { HasRoom (owed_by self.old + 2 * length bytes.now.bytes) to_client.old }
         requires controller_room { HasRoom (owed_by self.old + 2 * length bytes.now.bytes) to_controller.old }
-        ensures fronts { IfOk result (λ a. FrontsOf asset.now client.now rules.now moment side bytes.now.bytes (Wire.Dnp3 self.old) (Wire.Dnp3 self.new)
+        ensures fronts { IfOk result (λ a. FrontsOf asset.now client.now rules.now moment side bytes.now.bytes (Wire.Dnp3 self.old)
+            (Wire.Dnp3 self.new)
             (outlets to_client.old to_controller.old (DeskValue.lines (D.value desk.old)))
             (outlets to_client.new to_controller.new (DeskValue.lines (D.value desk.new))) a) }
         ensures misses { OnErr result (MissesOf asset.now client.now rules.now moment side bytes.now.bytes (Wire.Dnp3 self.old)
@@ -54,7 +55,8 @@ impl Fragments {
             (DeskValue.lines (D.value desk.new)) (DeskValue.line_part (D.value desk.new))) }
         ensures are { OnOk result (AreFragments self.new) }
         ensures client_grows { IfOk result (λ a. Grows (2 * taken_in a) (owed_by self.old) (owed_by self.new) to_client.old to_client.new) }
-        ensures controller_grows { IfOk result (λ a. Grows (2 * taken_in a) (owed_by self.old) (owed_by self.new) to_controller.old to_controller.new) }
+        ensures controller_grows { IfOk result (λ a. Grows (2 * taken_in a) (owed_by self.old) (owed_by self.new) to_controller.old
+            to_controller.new) }
         ensures whole { OnOk result (DeskValue.whole (D.value desk.new) ≡ true) }
         ensures log { WritesLog (D.value desk.old) (D.value desk.new) }
         ensures cause { HasCause (DeskValue.faults (D.value desk.old)) (DeskValue.faults (D.value desk.new)) (IsErr result) }

@@ -62,7 +62,8 @@ pub(crate) fn judge(asset: &Asset, rules: &Rules, moment: u64, adu: &Adu<'_>) ->
     requires at_least { 1 ≤ length adu.now.pdu.bytes }
     requires at_most { length adu.now.pdu.bytes ≤ 253 }
     requires few { length rules.now.rings.items ≤ most_rated }
-    ensures fate { (client : ℕ) → IsRulesOf asset.now client rules.now → HasCommandFate asset.now (says_by asset.now client rules.now moment) (adu_value adu.now) (fate_of_judgement result) }
+    ensures fate { (client : ℕ) → IsRulesOf asset.now client rules.now
+        → HasCommandFate asset.now (says_by asset.now client rules.now moment) (adu_value adu.now) (fate_of_judgement result) }
     ensures decider { HasOwnDecider asset.now.rules (fate_of_judgement result) }
 {
     if u16::from(adu.unit) != asset.station {
@@ -91,7 +92,8 @@ fn judge_form(asset: &Asset, rules: &Rules, moment: u64, adu: &Adu<'_>) -> Judge
     requires at_most { length adu.now.pdu.bytes ≤ 253 }
     requires few { length rules.now.rings.items ≤ most_rated }
     requires station { adu.now.unit ≡ asset.now.station }
-    ensures fate { (client : ℕ) → IsRulesOf asset.now client rules.now → HasCommandFate asset.now (says_by asset.now client rules.now moment) (adu_value adu.now) (fate_of_judgement result) }
+    ensures fate { (client : ℕ) → IsRulesOf asset.now client rules.now
+        → HasCommandFate asset.now (says_by asset.now client rules.now moment) (adu_value adu.now) (fate_of_judgement result) }
     ensures decider { HasOwnDecider asset.now.rules (fate_of_judgement result) }
 {
     match read_request(adu) {
@@ -120,7 +122,8 @@ fn refused_station(adu: &Adu<'_>) -> Judgement
 fn judge_request(asset: &Asset, rules: &Rules, moment: u64, request: &Request<'_>) -> Judgement
     requires read { IsRead (request_value request.now) }
     requires few { length rules.now.rings.items ≤ most_rated }
-    ensures fate { (client : ℕ) → IsRulesOf asset.now client rules.now → fate_of_judgement result ≡ fate_of_acts asset.now (says_by asset.now client rules.now moment) (acts (request_value request.now)) }
+    ensures fate { (client : ℕ) → IsRulesOf asset.now client rules.now
+        → fate_of_judgement result ≡ fate_of_acts asset.now (says_by asset.now client rules.now moment) (acts (request_value request.now)) }
     ensures decider { HasOwnDecider asset.now.rules (fate_of_judgement result) }
 {
     let any_value = takes_any_value(asset, &rules.index, request);
@@ -134,7 +137,8 @@ fn judge_request(asset: &Asset, rules: &Rules, moment: u64, request: &Request<'_
 
 /// A refusal of a whole command: its act is the function code with this point.
 pub(crate) fn refused(decider: Decider, reason: Reason, code: u16, point: u32) -> Judgement
-    ensures { result ≡ Judgement.Refused (record { decider = decider; reason = reason; act = record { code = code; group = 0; point = point; value = None } }) }
+    ensures { result ≡ Judgement.Refused (record
+        { decider = decider; reason = reason; act = record { code = code; group = 0; point = point; value = None } }) }
 {
     Judgement::Refused(Refusal {
         decider,
@@ -159,7 +163,8 @@ pub(crate) fn judge_acts<F: Fn(u32) -> Act>(
 ) -> Judgement
     requires acts { (i : ℕ) → i < count → F.pre act_at i }
     requires few { length rules.now.rings.items ≤ most_rated }
-    ensures fate { (client : ℕ) (acts : List Act) → IsRulesOf asset.now client rules.now → length acts ≡ count → GivesActs (F.post act_at) acts
+    ensures fate { (client : ℕ) (acts : List Act) → IsRulesOf asset.now client rules.now → length acts ≡ count
+        → GivesActs (F.post act_at) acts
         → fate_of_judgement result ≡ fate_of_acts asset.now (says_by asset.now client rules.now moment) acts }
     ensures decider { HasOwnDecider asset.now.rules (fate_of_judgement result) }
 {
@@ -178,7 +183,8 @@ fn judge_unrated<F: Fn(u32) -> Act>(
     act_at: F,
 ) -> Judgement
     requires acts { (i : ℕ) → i < count → F.pre act_at i }
-    ensures fate { (client : ℕ) (acts : List Act) → IsIndexOf asset.now client index.now → length acts ≡ count → GivesActs (F.post act_at) acts
+    ensures fate { (client : ℕ) (acts : List Act) → IsIndexOf asset.now client index.now → length acts ≡ count
+        → GivesActs (F.post act_at) acts
         → fate_of_judgement result ≡ by_refusal (replicate most_rated Bool.false) (first_refusal (verdict_of asset.now client) acts) }
     ensures decider { HasOwnDecider asset.now.rules (fate_of_judgement result) }
 {
@@ -208,7 +214,8 @@ fn judge_rated<F: Fn(u32) -> Act>(
 ) -> Judgement
     requires acts { (i : ℕ) → i < count → F.pre act_at i }
     requires few { length rules.now.rings.items ≤ most_rated }
-    ensures fate { (client : ℕ) (acts : List Act) → IsRulesOf asset.now client rules.now → length acts ≡ count → GivesActs (F.post act_at) acts
+    ensures fate { (client : ℕ) (acts : List Act) → IsRulesOf asset.now client rules.now → length acts ≡ count
+        → GivesActs (F.post act_at) acts
         → fate_of_judgement result ≡ fate_of_acts asset.now (says_by asset.now client rules.now moment) acts }
     ensures decider { HasOwnDecider asset.now.rules (fate_of_judgement result) }
 {

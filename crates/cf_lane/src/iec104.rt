@@ -50,14 +50,17 @@ fn take_apdu<D: Desk>(
     requires client_room { HasRoom (length (spelling (apdu_value apdu.now))) to_client.old }
     requires controller_room { HasRoom (length (spelling (apdu_value apdu.now))) to_controller.old }
     ensures idle { OnOk result (numbers.new.owed ≡ None) }
-    ensures takes { IfOk result (λ f. TakesApdu asset.now (says_by asset.now client.now.address rules.now moment) client.now moment side (apdu_value apdu.now) f
+    ensures takes { IfOk result (λ f. TakesApdu asset.now (says_by asset.now client.now.address rules.now moment) client.now moment side
+        (apdu_value apdu.now) f
         (numbered numbers.old to_client.old to_controller.old (DeskValue.lines (D.value desk.old)))
         (numbered numbers.new to_client.new to_controller.new (DeskValue.lines (D.value desk.new)))) }
-    ensures misses { OnErr result (MissesApdu asset.now (says_by asset.now client.now.address rules.now moment) client.now moment side (apdu_value apdu.now)
+    ensures misses { OnErr result (MissesApdu asset.now (says_by asset.now client.now.address rules.now moment) client.now moment side
+        (apdu_value apdu.now)
         (numbered numbers.old to_client.old to_controller.old (DeskValue.lines (D.value desk.old)))
         (DeskValue.lines (D.value desk.new)) (DeskValue.line_part (D.value desk.new))) }
     ensures client_grows { IfOk result (λ f. Grows (unless_cut f (length (spelling (apdu_value apdu.now)))) 0 0 to_client.old to_client.new) }
-    ensures controller_grows { IfOk result (λ f. Grows (unless_cut f (length (spelling (apdu_value apdu.now)))) 0 0 to_controller.old to_controller.new) }
+    ensures controller_grows { IfOk result (λ f. Grows (unless_cut f (length (spelling (apdu_value apdu.now)))) 0 0 to_controller.old
+        to_controller.new) }
     ensures whole { OnOk result (DeskValue.whole (D.value desk.new) ≡ true) }
     ensures log { WritesLog (D.value desk.old) (D.value desk.new) }
     ensures cause { HasCause (DeskValue.faults (D.value desk.old)) (DeskValue.faults (D.value desk.new)) (IsErr result) }
@@ -119,7 +122,8 @@ pub(crate) fn take_apdu_at_front<D: Desk>(
     requires open { IsOpen side to_client.old to_controller.old }
     requires client_room { HasRoom (2 * length bytes.now.bytes) to_client.old }
     requires controller_room { HasRoom (2 * length bytes.now.bytes) to_controller.old }
-    ensures fronts { IfOk result (λ a. FrontsOf asset.now client.now rules.now moment side bytes.now.bytes (Wire.Iec104 numbers.old) (Wire.Iec104 numbers.new)
+    ensures fronts { IfOk result (λ a. FrontsOf asset.now client.now rules.now moment side bytes.now.bytes (Wire.Iec104 numbers.old)
+        (Wire.Iec104 numbers.new)
         (outlets to_client.old to_controller.old (DeskValue.lines (D.value desk.old)))
         (outlets to_client.new to_controller.new (DeskValue.lines (D.value desk.new))) a) }
     ensures misses { OnErr result (MissesOf asset.now client.now rules.now moment side bytes.now.bytes (Wire.Iec104 numbers.old)

@@ -1,13 +1,17 @@
 //! The filter of one session's two streams, without TCP.
-ghost use Rattle.std.specs.Prelude.{◌≡◌, ℕ, ◌+◌, ◌*◌, ◌^◌, ◌<◌, ◌≤◌, ◌++◌, [], ◌∷◌, Bool, false, true, None, Option, IfOk, OnOk, OnErr, IsErr, List, length, drop};
+ghost use Rattle.std.specs.Prelude.{◌≡◌, ℕ, ◌+◌, ◌*◌, ◌^◌, ◌<◌, ◌≤◌, ◌++◌, [], ◌∷◌, Bool, false, true, None, Option, IfOk, OnOk, OnErr};
+ghost use Rattle.std.specs.Prelude.{IsErr, List, length, drop};
 ghost use Rattle.cf_outq.specs.SendQueue.{Queue, IsQueueOf, after_push};
 ghost use Rattle.cf_outside.specs.Faults.{HasCause};
 ghost use Rattle.cf_outside.specs.Desk.{DeskValue};
 ghost use Rattle.cf_policy.specs.Within.{IsAssetWithin, most_rated};
 ghost use Rattle.cf_stream.specs.Stream.{no_letters};
 ghost use Rattle.cf_view.specs.Octets.{IsOctets};
-ghost use Rattle.cf_lane.specs.Follows.{AddsTo, Began, BeganApart, FailsApart, Follows, FailsWithin, IsEndBehindCut, Rests, rest_of, with_rest, no_rests};
-ghost use Rattle.cf_lane.specs.Handled.{CountsFront, IsLaneOf, LaneValue, Steps, Misses, Grows, CountsBy, HasRoom, IsOpen, MayEnd, EndsOther, WritesLog, cut_in, debt, letters_in, most_counted, state, step_at, step_by};
+ghost use Rattle.cf_lane.specs.Follows.{AddsTo, Began, BeganApart, FailsApart, Follows, FailsWithin, IsEndBehindCut, Rests, rest_of};
+ghost use Rattle.cf_lane.specs.Follows.{with_rest, no_rests};
+ghost use Rattle.cf_lane.specs.Handled.{CountsFront, IsLaneOf, LaneValue, Steps, Misses, Grows, CountsBy, HasRoom, IsOpen, MayEnd};
+ghost use Rattle.cf_lane.specs.Handled.{EndsOther, WritesLog, cut_in, debt, letters_in, most_counted, state, step_at, step_by, debt_limit};
+ghost use Rattle.cf_lane.specs.Handled.{rest_limit};
 ghost use Rattle.cf_lane.specs.History.{Element, letters_at, end_at};
 ghost use Rattle.cf_lane.specs.Judged.{Judged, fate_cut, is_admitted, is_refused, one_if};
 ghost use Rattle.cf_lane.specs.Rings.{RulesGoOn};
@@ -117,18 +121,21 @@ impl Lane {
         requires controller_room { HasRoom (debt self.old + 2 * length bytes.bytes) to_controller.old }
         requires counts { self.old.admitted + self.old.refused + length bytes.bytes < 2 ^ 64 }
         ensures used { IfOk result (λ fed. fed.used ≤ length bytes.entry.bytes) }
-        ensures history { IfOk result (λ fed. (h : List Element) (rests : Rests) (first : Option (List (List ℕ))) (piece : List ℕ) (ended : Bool)
+        ensures history { IfOk result (λ fed. (h : List Element) (rests : Rests) (first : Option (List (List ℕ))) (piece : List ℕ)
+            (ended : Bool)
             → IsEndBehindCut ended fed.cut
             → bytes.entry.bytes ≡ rest_of side rests ++ piece
             → Follows asset.now h rests None first (state self.old to_client.old to_controller.old (DeskValue.lines (D.value desk.old)))
             → Follows asset.now (h ++ letters_at moment side piece ended ∷ []) (with_rest side rests (drop fed.used bytes.entry.bytes))
             fed.cut first (state self.new to_client.new to_controller.new (DeskValue.lines (D.value desk.new)))) }
-        ensures apart { IfOk result (λ fed. (h : List Element) (rests : Rests) (first own : Option (List (List ℕ))) (piece : List ℕ) (ended : Bool)
+        ensures apart { IfOk result (λ fed. (h : List Element) (rests : Rests) (first own : Option (List (List ℕ))) (piece : List ℕ)
+            (ended : Bool)
             → IsEndBehindCut ended fed.cut
             → bytes.entry.bytes ≡ rest_of side rests ++ piece
             → Follows asset.now h rests None first (state self.old to_client.old to_controller.old own)
             → AddsTo asset.now (h ++ letters_at moment side piece ended ∷ []) (with_rest side rests (drop fed.used bytes.entry.bytes))
-            fed.cut first own (DeskValue.lines (D.value desk.old)) (state self.new to_client.new to_controller.new (DeskValue.lines (D.value desk.new)))) }
+            fed.cut first own (DeskValue.lines (D.value desk.old))
+            (state self.new to_client.new to_controller.new (DeskValue.lines (D.value desk.new)))) }
         ensures fails { OnErr result (FailsWithin asset.now moment side bytes.entry.bytes
             (state self.old to_client.old to_controller.old (DeskValue.lines (D.value desk.old)))
             (DeskValue.lines (D.value desk.new)) (DeskValue.line_part (D.value desk.new))) }
@@ -137,10 +144,11 @@ impl Lane {
             (DeskValue.lines (D.value desk.new)) (DeskValue.line_part (D.value desk.new))) }
         ensures of_asset { OnOk result (IsLaneOf asset.now self.new) }
         ensures client { OnOk result (LaneValue.client self.new ≡ LaneValue.client self.old) }
-        ensures left { IfOk result (λ fed. fed.cut ≡ None → length (drop fed.used bytes.entry.bytes) < 300) }
+        ensures left { IfOk result (λ fed. fed.cut ≡ None → length (drop fed.used bytes.entry.bytes) < rest_limit) }
         ensures client_grows { IfOk result (λ fed. Grows (2 * fed.used) (debt self.old) (debt self.new) to_client.old to_client.new) }
-        ensures controller_grows { IfOk result (λ fed. Grows (2 * fed.used) (debt self.old) (debt self.new) to_controller.old to_controller.new) }
-        ensures debt { OnOk result (debt self.new ≤ 5300) }
+        ensures controller_grows { IfOk result (λ fed. Grows (2 * fed.used) (debt self.old) (debt self.new) to_controller.old
+            to_controller.new) }
+        ensures debt { OnOk result (debt self.new ≤ debt_limit) }
         ensures counts { IfOk result (λ fed. CountsBy fed.used self.old self.new) }
         ensures whole { OnOk result (DeskValue.whole (D.value desk.new) ≡ true) }
         ensures log { WritesLog (D.value desk.old) (D.value desk.new) }
@@ -186,19 +194,23 @@ impl Lane {
         requires whole { DeskValue.whole (D.value desk.old) ≡ true }
         requires open { IsOpen side to_client.old to_controller.old }
         requires limit { MayEnd side to_client.old to_controller.old }
-        ensures history { OnOk result ((h : List Element) (rests : Rests) (first : Option (List (List ℕ))) → rest ≡ length (rest_of side rests)
+        ensures history { OnOk result ((h : List Element) (rests : Rests) (first : Option (List (List ℕ)))
+            → rest ≡ length (rest_of side rests)
             → Follows asset.now h rests None first (state self.old to_client.old to_controller.old (DeskValue.lines (D.value desk.old)))
             → Follows asset.now (h ++ end_at moment side ∷ []) rests None first
             (state self.new to_client.new to_controller.new (DeskValue.lines (D.value desk.new)))) }
-        ensures apart { OnOk result ((h : List Element) (rests : Rests) (first own : Option (List (List ℕ))) → rest ≡ length (rest_of side rests)
+        ensures apart { OnOk result ((h : List Element) (rests : Rests) (first own : Option (List (List ℕ)))
+            → rest ≡ length (rest_of side rests)
             → Follows asset.now h rests None first (state self.old to_client.old to_controller.old own)
             → AddsTo asset.now (h ++ end_at moment side ∷ []) rests None first own
             (DeskValue.lines (D.value desk.old)) (state self.new to_client.new to_controller.new (DeskValue.lines (D.value desk.new)))) }
-        ensures fails { OnErr result ((h : List Element) (rests : Rests) (first : Option (List (List ℕ))) → rest ≡ length (rest_of side rests)
+        ensures fails { OnErr result ((h : List Element) (rests : Rests) (first : Option (List (List ℕ)))
+            → rest ≡ length (rest_of side rests)
             → Follows asset.now h rests None first (state self.old to_client.old to_controller.old (DeskValue.lines (D.value desk.old)))
             → Began asset.now self.old.client (h ++ end_at moment side ∷ []) first
             (DeskValue.lines (D.value desk.new)) (DeskValue.line_part (D.value desk.new))) }
-        ensures fails_apart { OnErr result ((h : List Element) (rests : Rests) (first own : Option (List (List ℕ))) → rest ≡ length (rest_of side rests)
+        ensures fails_apart { OnErr result ((h : List Element) (rests : Rests) (first own : Option (List (List ℕ)))
+            → rest ≡ length (rest_of side rests)
             → Follows asset.now h rests None first (state self.old to_client.old to_controller.old own)
             → BeganApart asset.now self.old.client (h ++ end_at moment side ∷ []) first own (DeskValue.lines (D.value desk.old))
             (DeskValue.lines (D.value desk.new)) (DeskValue.line_part (D.value desk.new))) }
@@ -255,7 +267,8 @@ impl Lane {
             (DeskValue.lines (D.value desk.new)) (DeskValue.line_part (D.value desk.new))) }
         ensures of_asset { OnOk result (IsLaneOf asset.now self.new) }
         ensures client_grows { IfOk result (λ s. Grows (2 * letters_in s) (debt self.old) (debt self.new) to_client.old to_client.new) }
-        ensures controller_grows { IfOk result (λ s. Grows (2 * letters_in s) (debt self.old) (debt self.new) to_controller.old to_controller.new) }
+        ensures controller_grows { IfOk result (λ s. Grows (2 * letters_in s) (debt self.old) (debt self.new) to_controller.old
+            to_controller.new) }
         ensures counts { IfOk result (λ s. CountsBy (letters_in s) self.old self.new) }
         ensures inside { IfOk result (λ s. letters_in s ≤ length bytes.now.bytes) }
         ensures whole { OnOk result (DeskValue.whole (D.value desk.new) ≡ true) }
@@ -299,7 +312,8 @@ impl Lane {
             (DeskValue.lines (D.value desk.new)) (DeskValue.line_part (D.value desk.new))) }
         ensures of_asset { OnOk result (IsLaneOf asset.now self.new) }
         ensures client_grows { IfOk result (λ s. Grows (2 * letters_in s) (debt self.old) (debt self.new) to_client.old to_client.new) }
-        ensures controller_grows { IfOk result (λ s. Grows (2 * letters_in s) (debt self.old) (debt self.new) to_controller.old to_controller.new) }
+        ensures controller_grows { IfOk result (λ s. Grows (2 * letters_in s) (debt self.old) (debt self.new) to_controller.old
+            to_controller.new) }
         ensures counts { IfOk result (λ s. CountsBy (letters_in s) self.old self.new) }
         ensures inside { IfOk result (λ s. letters_in s ≤ length bytes.now.bytes) }
         ensures whole { OnOk result (DeskValue.whole (D.value desk.new) ≡ true) }

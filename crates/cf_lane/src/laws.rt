@@ -1,5 +1,6 @@
 //! Laws of the items of histories: each is the contract of a function that does nothing.
-ghost use Rattle.cf_lane.specs.Laws.{EndJoins, GrowsLittle, HasOneJudgement, JudgedJoin, JudgementsGoOn, LanePassesAllowed, NothingTaken, PiecesJoin, QuietBehindEnd, RatesHold, StreamsGoOn, UnitsArePrefixFree};
+ghost use Rattle.cf_lane.specs.Laws.{EndJoins, GrowsLittle, HasOneJudgement, JudgedJoin, JudgementsGoOn, LanePassesAllowed, NothingTaken};
+ghost use Rattle.cf_lane.specs.Laws.{PiecesJoin, QuietBehindEnd, RatesHold, StreamsGoOn, UnitsArePrefixFree};
 
 use cf_modbus::each_pdu_has_an_answer;
 

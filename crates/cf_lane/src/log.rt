@@ -49,8 +49,11 @@ pub(crate) fn log_refusal<D: Desk>(
     requires within { IsAssetWithin asset.now }
     requires whole { DeskValue.whole (D.value desk.old) ≡ true }
     requires decider { IsOneOf asset.now.rules refusal.now.decider }
-    ensures lines { OnOk result (HasAdded (line_about asset.now client.now moment (refusal_line asset.now refusal.now replied octets.entry.bytes) ∷ []) (D.value desk.old) (D.value desk.new)) }
-    ensures fails { OnErr result (MayHaveAdded (line_about asset.now client.now moment (refusal_line asset.now refusal.now replied octets.entry.bytes) ∷ []) (D.value desk.old) (D.value desk.new)) }
+    ensures lines { OnOk result (HasAdded (line_about asset.now client.now moment
+        (refusal_line asset.now refusal.now replied octets.entry.bytes) ∷ []) (D.value desk.old) (D.value desk.new)) }
+    ensures fails { OnErr result (MayHaveAdded
+        (line_about asset.now client.now moment (refusal_line asset.now refusal.now replied octets.entry.bytes) ∷ []) (D.value desk.old)
+        (D.value desk.new)) }
     ensures whole { OnOk result (DeskValue.whole (D.value desk.new) ≡ true) }
     ensures log { WritesLog (D.value desk.old) (D.value desk.new) }
     ensures cause { HasCause (DeskValue.faults (D.value desk.old)) (DeskValue.faults (D.value desk.new)) (IsErr result) }
@@ -81,8 +84,10 @@ pub(crate) fn log_stray<D: Desk>(
 ) -> Result<(), WriteFault>
     requires within { IsAssetWithin asset.now }
     requires whole { DeskValue.whole (D.value desk.old) ≡ true }
-    ensures lines { OnOk result (HasAdded (line_about asset.now client.now moment (Stray side why) ∷ []) (D.value desk.old) (D.value desk.new)) }
-    ensures fails { OnErr result (MayHaveAdded (line_about asset.now client.now moment (Stray side why) ∷ []) (D.value desk.old) (D.value desk.new)) }
+    ensures lines { OnOk result (HasAdded (line_about asset.now client.now moment (Stray side why) ∷ []) (D.value desk.old)
+        (D.value desk.new)) }
+    ensures fails { OnErr result (MayHaveAdded (line_about asset.now client.now moment (Stray side why) ∷ []) (D.value desk.old)
+        (D.value desk.new)) }
     ensures whole { OnOk result (DeskValue.whole (D.value desk.new) ≡ true) }
     ensures log { WritesLog (D.value desk.old) (D.value desk.new) }
     ensures cause { HasCause (DeskValue.faults (D.value desk.old)) (DeskValue.faults (D.value desk.new)) (IsErr result) }
@@ -108,8 +113,10 @@ pub(crate) fn log_end<D: Desk>(
 ) -> Result<(), WriteFault>
     requires within { IsAssetWithin asset.now }
     requires whole { DeskValue.whole (D.value desk.old) ≡ true }
-    ensures lines { OnOk result (HasAdded (end_lines asset.now client.now moment side unfinished rest) (D.value desk.old) (D.value desk.new)) }
-    ensures fails { OnErr result (MayHaveAdded (end_lines asset.now client.now moment side unfinished rest) (D.value desk.old) (D.value desk.new)) }
+    ensures lines { OnOk result (HasAdded (end_lines asset.now client.now moment side unfinished rest) (D.value desk.old)
+        (D.value desk.new)) }
+    ensures fails { OnErr result (MayHaveAdded (end_lines asset.now client.now moment side unfinished rest) (D.value desk.old)
+        (D.value desk.new)) }
     ensures whole { OnOk result (DeskValue.whole (D.value desk.new) ≡ true) }
     ensures log { WritesLog (D.value desk.old) (D.value desk.new) }
     ensures cause { HasCause (DeskValue.faults (D.value desk.old)) (DeskValue.faults (D.value desk.new)) (IsErr result) }

@@ -5,7 +5,8 @@ ghost use Rattle.cf_outq.specs.SendQueue.{after_push};
 ghost use Rattle.cf_outside.specs.Faults.{HasCause};
 ghost use Rattle.cf_outside.specs.Desk.{DeskValue};
 ghost use Rattle.cf_policy.specs.Within.{IsAssetWithin};
-ghost use Rattle.cf_lane.specs.Handled.{IsLaneOf, Steps, Misses, TakesCommand, MissesCommand, Grows, CountsBy, HasRoom, IsOpen, WritesLog, debt, letters_in, state};
+ghost use Rattle.cf_lane.specs.Handled.{IsLaneOf, Steps, Misses, TakesCommand, MissesCommand, Grows, CountsBy, HasRoom, IsOpen, WritesLog};
+ghost use Rattle.cf_lane.specs.Handled.{debt, letters_in, state};
 ghost use Rattle.cf_lane.specs.Log.{is_some_bytes};
 ghost use Rattle.cf_lane.specs.Modbus.{adu_reply};
 
@@ -40,13 +41,16 @@ impl Lane {
         requires client_room { HasRoom (debt self.old + 2 * length bytes.now.bytes) to_client.old }
         requires controller_room { HasRoom (debt self.old + 2 * length bytes.now.bytes) to_controller.old }
         requires counts { self.old.admitted + self.old.refused + length bytes.now.bytes < 2 ^ 64 }
-        ensures steps { IfOk result (λ s. Steps asset.now moment side bytes.now.bytes (state self.old to_client.old to_controller.old (DeskValue.lines (D.value desk.old)))
+        ensures steps { IfOk result (λ s. Steps asset.now moment side bytes.now.bytes
+            (state self.old to_client.old to_controller.old (DeskValue.lines (D.value desk.old)))
             (state self.new to_client.new to_controller.new (DeskValue.lines (D.value desk.new))) s) }
-        ensures misses { OnErr result (Misses asset.now moment side bytes.now.bytes (state self.old to_client.old to_controller.old (DeskValue.lines (D.value desk.old)))
+        ensures misses { OnErr result (Misses asset.now moment side bytes.now.bytes
+            (state self.old to_client.old to_controller.old (DeskValue.lines (D.value desk.old)))
             (DeskValue.lines (D.value desk.new)) (DeskValue.line_part (D.value desk.new))) }
         ensures of_asset { OnOk result (IsLaneOf asset.now self.new) }
         ensures client_grows { IfOk result (λ s. Grows (2 * letters_in s) (debt self.old) (debt self.new) to_client.old to_client.new) }
-        ensures controller_grows { IfOk result (λ s. Grows (2 * letters_in s) (debt self.old) (debt self.new) to_controller.old to_controller.new) }
+        ensures controller_grows { IfOk result (λ s. Grows (2 * letters_in s) (debt self.old) (debt self.new) to_controller.old
+            to_controller.new) }
         ensures counts { IfOk result (λ s. CountsBy (letters_in s) self.old self.new) }
         ensures inside { IfOk result (λ s. letters_in s ≤ length bytes.now.bytes) }
         ensures whole { OnOk result (DeskValue.whole (D.value desk.new) ≡ true) }
@@ -100,9 +104,11 @@ impl Lane {
         requires client_room { HasRoom (length (spelling (adu_value adu.now)) + 8) to_client.old }
         requires controller_room { HasRoom (length (spelling (adu_value adu.now))) to_controller.old }
         requires counts { self.old.admitted + self.old.refused + 1 < 2 ^ 64 }
-        ensures takes { OnOk result (TakesCommand asset.now moment (adu_value adu.now) (state self.old to_client.old to_controller.old (DeskValue.lines (D.value desk.old)))
+        ensures takes { OnOk result (TakesCommand asset.now moment (adu_value adu.now)
+            (state self.old to_client.old to_controller.old (DeskValue.lines (D.value desk.old)))
             (state self.new to_client.new to_controller.new (DeskValue.lines (D.value desk.new)))) }
-        ensures misses { OnErr result (MissesCommand asset.now moment (adu_value adu.now) (state self.old to_client.old to_controller.old (DeskValue.lines (D.value desk.old)))
+        ensures misses { OnErr result (MissesCommand asset.now moment (adu_value adu.now)
+            (state self.old to_client.old to_controller.old (DeskValue.lines (D.value desk.old)))
             (DeskValue.lines (D.value desk.new)) (DeskValue.line_part (D.value desk.new))) }
         ensures of_asset { OnOk result (IsLaneOf asset.now self.new) }
         ensures client_grows { OnOk result (Grows 9 0 0 to_client.old to_client.new) }

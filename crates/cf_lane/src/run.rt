@@ -29,8 +29,10 @@ pub(crate) fn judge_runs(
 ) -> Judgement
     requires read { IsRead (request_value request.now) }
     requires few { length rules.now.rings.items ≤ most_rated }
-    requires any_value { (client : ℕ) → IsIndexOf asset.now client rules.now.index → any_value ≡ true → TakesAnyValue asset.now client request.now.code }
-    ensures fate { (client : ℕ) → IsRulesOf asset.now client rules.now → fate_of_judgement result ≡ fate_of_acts asset.now (says_by asset.now client rules.now moment) (acts (request_value request.now)) }
+    requires any_value { (client : ℕ) → IsIndexOf asset.now client rules.now.index → any_value ≡ true
+        → TakesAnyValue asset.now client request.now.code }
+    ensures fate { (client : ℕ) → IsRulesOf asset.now client rules.now
+        → fate_of_judgement result ≡ fate_of_acts asset.now (says_by asset.now client rules.now moment) (acts (request_value request.now)) }
     ensures decider { HasOwnDecider asset.now.rules (fate_of_judgement result) }
 {
     if rules.rings.is_empty() {
@@ -48,8 +50,11 @@ fn judge_unrated_runs(
     any_value: bool,
 ) -> Judgement
     requires read { IsRead (request_value request.now) }
-    requires any_value { (client : ℕ) → IsIndexOf asset.now client index.now → any_value ≡ true → TakesAnyValue asset.now client request.now.code }
-    ensures fate { (client : ℕ) → IsIndexOf asset.now client index.now → fate_of_judgement result ≡ by_refusal (replicate most_rated Bool.false) (first_refusal (verdict_of asset.now client) (acts (request_value request.now))) }
+    requires any_value { (client : ℕ) → IsIndexOf asset.now client index.now → any_value ≡ true
+        → TakesAnyValue asset.now client request.now.code }
+    ensures fate { (client : ℕ) → IsIndexOf asset.now client index.now
+        → fate_of_judgement result ≡ by_refusal (replicate most_rated Bool.false)
+        (first_refusal (verdict_of asset.now client) (acts (request_value request.now))) }
     ensures decider { HasOwnDecider asset.now.rules (fate_of_judgement result) }
 {
     let count = act_count(request);
@@ -81,8 +86,10 @@ fn judge_rated_runs(
 ) -> Judgement
     requires read { IsRead (request_value request.now) }
     requires few { length rules.now.rings.items ≤ most_rated }
-    requires any_value { (client : ℕ) → IsIndexOf asset.now client rules.now.index → any_value ≡ true → TakesAnyValue asset.now client request.now.code }
-    ensures fate { (client : ℕ) → IsRulesOf asset.now client rules.now → fate_of_judgement result ≡ fate_of_acts asset.now (says_by asset.now client rules.now moment) (acts (request_value request.now)) }
+    requires any_value { (client : ℕ) → IsIndexOf asset.now client rules.now.index → any_value ≡ true
+        → TakesAnyValue asset.now client request.now.code }
+    ensures fate { (client : ℕ) → IsRulesOf asset.now client rules.now
+        → fate_of_judgement result ≡ fate_of_acts asset.now (says_by asset.now client rules.now moment) (acts (request_value request.now)) }
     ensures decider { HasOwnDecider asset.now.rules (fate_of_judgement result) }
 {
     let count = act_count(request);
@@ -130,8 +137,10 @@ fn judge_run(
     requires read { IsRead (request_value request.now) }
     requires inside { i < length (acts (request_value request.now)) }
     requires act { slice_get (acts (request_value request.now)) i ≡ Some act.now }
-    requires any_value { (client : ℕ) → IsIndexOf asset.now client index.now → any_value ≡ true → TakesAnyValue asset.now client request.now.code }
-    ensures run { (client : ℕ) → IsIndexOf asset.now client index.now → HaveVerdict (verdict_of asset.now client) (acts (request_value request.now)) i result.1 result.0 }
+    requires any_value { (client : ℕ) → IsIndexOf asset.now client index.now → any_value ≡ true
+        → TakesAnyValue asset.now client request.now.code }
+    ensures run { (client : ℕ) → IsIndexOf asset.now client index.now
+        → HaveVerdict (verdict_of asset.now client) (acts (request_value request.now)) i result.1 result.0 }
     ensures inside { IsInside asset.now.rules result.0 }
     ensures more { i < result.1 }
     ensures within { result.1 ≤ length (acts (request_value request.now)) }

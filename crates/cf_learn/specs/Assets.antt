@@ -34,7 +34,8 @@ pub record IsLearnedAsset (asset : Asset) (place : ℕ) (flows : List FlowValue)
   pub rules : AreLearnedFrom seen learned.rules
   pub grouped : IsGrouped learned.rules
   pub within : IsAssetWithin learned
-  pub exact : (client : ℕ) (act : Act) → IsOfCommand asset.protocol act → IsAllowed (verdict_of learned client act) ↔ IsSeen asset place flows client act
+  pub exact : (client : ℕ) (act : Act) → IsOfCommand asset.protocol act
+      → IsAllowed (verdict_of learned client act) ↔ IsSeen asset place flows client act
 
 -- asset by asset, of which the first stands at this place
 abbrev pub AreLearned : List FlowValue → ℕ → List Asset → List Asset → Type 0

@@ -30,7 +30,8 @@ abbrev pub new_messages : Asset → (earlier : List (List ℕ)) → UnitValue �
 new_messages asset earlier u = message_in u ++ map Fragment (flat_map (made_whole earlier) (segment_of asset u))
 
 -- a unit, whose acts are added
-pub record TakesUnit (asset : Asset) (client : ℕ) (earlier : List (List ℕ)) (bytes : List ℕ) (old new : List Seen) (assembly : AssemblyValue) (used : ℕ) : Type 0 where
+pub record TakesUnit (asset : Asset) (client : ℕ) (earlier : List (List ℕ)) (bytes : List ℕ) (old new : List Seen)
+    (assembly : AssemblyValue) (used : ℕ) : Type 0 where
   pub unit : UnitValue
   pub begins : Begins (SpellsUnit asset.protocol) bytes unit used
   pub some : 0 < used
@@ -43,6 +44,7 @@ pub record TakesNone (asset : Asset) (bytes : List ℕ) (old new : List Seen) : 
   pub are : AreUnits asset.protocol bytes [] tail
   pub same : new ≡ old
 
-abbrev pub TakesFront : Asset → (client : ℕ) → (earlier : List (List ℕ)) → (bytes : List ℕ) → (old new : List Seen) → AssemblyValue → (used : Option ℕ) → Type 0
+abbrev pub TakesFront : Asset → (client : ℕ) → (earlier : List (List ℕ)) → (bytes : List ℕ) → (old new : List Seen) → AssemblyValue
+    → (used : Option ℕ) → Type 0
 TakesFront asset client earlier bytes old new assembly (Some used) = TakesUnit asset client earlier bytes old new assembly used
 TakesFront asset client earlier bytes old new assembly None = TakesNone asset bytes old new

@@ -1,5 +1,6 @@
 -- The rules that are learned from what was seen: AreLearnedFrom. Read from the end.
-use Rattle.std.specs.Prelude.{◌≡◌, ◌<◌, ℕ, ◌+◌, ◌==◌, nat_lt, ℤ, pos, Bool, ◌&&◌, ◌||◌, if◌then◌else◌, List, [], ◌∷◌, ◌++◌, length, codes, decimal, Option, Some, None, IsPermutation, IsSorted}
+use Rattle.std.specs.Prelude.{◌≡◌, ◌<◌, ℕ, ◌+◌, ◌==◌, nat_lt, ℤ, pos, Bool, ◌&&◌, ◌||◌, if◌then◌else◌, List, [], ◌∷◌, ◌++◌, length, codes}
+use Rattle.std.specs.Prelude.{decimal, Option, Some, None, IsPermutation, IsSorted}
 use Rattle.std.specs.Ordering.{nat_cmp, int_cmp, ordering_then}
 use Rattle.std.specs.declared.cmp.Ordering.{Ordering}
 use Rattle.std.specs.declared.cmp.Ordering.TheVariants.{Less, Equal, Greater}
@@ -21,7 +22,8 @@ value_cmp (Some m) (Some n) = int_cmp m n
 
 -- by client, code, group and value
 abbrev pub kind_cmp : Kind → Kind → Ordering
-kind_cmp a b = ordering_then (nat_cmp a.client b.client) (ordering_then (nat_cmp a.code b.code) (ordering_then (nat_cmp a.group b.group) (value_cmp a.value b.value)))
+kind_cmp a b = ordering_then (nat_cmp a.client b.client)
+    (ordering_then (nat_cmp a.code b.code) (ordering_then (nat_cmp a.group b.group) (value_cmp a.value b.value)))
 
 -- and then by point
 abbrev pub seen_cmp : Seen → Seen → Ordering

@@ -43,7 +43,8 @@ pub record IsSpokenFor (seen : List Seen) (client : ℕ) (act : Act) : Type 0 wh
 
 -- what was seen with the code and the group of the act has a value exactly where the act has one
 abbrev pub SettlesValue : List Seen → Act → Type 0
-SettlesValue seen act = (s : Seen) → Contains seen s → s.kind.code ≡ act.code → s.kind.group ≡ act.group → is_some s.kind.value ≡ is_some act.value
+SettlesValue seen act = (s : Seen) → Contains seen s → s.kind.code ≡ act.code → s.kind.group ≡ act.group
+    → is_some s.kind.value ≡ is_some act.value
 
 -- the rules allow an act exactly where something that was seen speaks for it; so, where its code and group settle whether it has a value,
 -- exactly where it was seen itself

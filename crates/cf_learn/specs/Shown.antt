@@ -57,7 +57,8 @@ messages asset units = flat_map message_in units ++ map Fragment (fragments_of [
 
 -- a message that is a command with the asset's station and a right form has the act. A confirmation of DNP3 is no command
 abbrev pub HasAct : Asset → Message → Act → Type 0
-HasAct asset (Request a) act = (a.unit ≡ asset.station) × (r : RequestValue) × requests.Reads (Ok r) a.pdu × Contains (request_acts.acts r) act
+HasAct asset (Request a) act = (a.unit ≡ asset.station) × (r : RequestValue) × requests.Reads (Ok r) a.pdu
+    × Contains (request_acts.acts r) act
 HasAct asset (Fragment octets) act = (f : FragmentValue) × (read_octets octets ≡ Ok f) × (f.code ≢ 0) × Contains (fragment_acts.acts f) act
 HasAct asset (Asdu octets) act = (a : AsduValue) × asdus.Reads (Ok a) octets × (a.station ≡ asset.station) × Contains (asdu_acts.acts a) act
 

@@ -3,7 +3,8 @@ ghost use Rattle.std.specs.Prelude.{◌≡◌, ◌<◌, ◌≤◌, ◌+◌, ◌+
 ghost use Rattle.cf_learn.specs.Seen.{AllowsSeen, IsSeenWithin};
 ghost use Rattle.cf_learn.specs.Greatest.{IsGrouped};
 ghost use Rattle.cf_policy.specs.Within.{AreRulesWithin};
-ghost use Rattle.cf_learn.specs.Rules.{AreLearnedFrom, MakesTooMany, Part, learned_rules, rules_of_runs, goes_in, rule_of, rule_name, value_spans, span_of, whole_span};
+ghost use Rattle.cf_learn.specs.Rules.{AreLearnedFrom, MakesTooMany, Part, learned_rules, rules_of_runs, goes_in, rule_of, rule_name};
+ghost use Rattle.cf_learn.specs.Rules.{value_spans, span_of, whole_span};
 ghost use Rattle.cf_learn.specs.declared.limit.TheConstants.{MOST_LEARNED, MOST_RUNS};
 
 use crate::limit::{MOST_LEARNED, MOST_RUNS};
@@ -91,7 +92,8 @@ fn push_rule(
     kind: &Kind,
     points: Vec<Span>,
 ) -> Result<(), AllocError>
-    ensures { OnOk result (rules.new.items ≡ rules.old.items ++ rule_of (length rules.old.items + 1) (record { kind = kind.now; points = points.items }) ∷ []) }
+    ensures { OnOk result (rules.new.items ≡ rules.old.items ++ rule_of (length rules.old.items + 1)
+        (record { kind = kind.now; points = points.items }) ∷ []) }
 {
     let rule = rule_of(alloc, rules.len() as u64 + 1, kind, points)?;
     rules.push(rule)?;

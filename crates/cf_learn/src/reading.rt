@@ -15,7 +15,8 @@ ghost use Rattle.cf_watch.specs.FlowValue.{flow_value};
 ghost use Rattle.cf_learn.specs.Assets.{AreSeen};
 ghost use Rattle.cf_learn.specs.Reading.{Adds, TakesFront, new_messages};
 ghost use Rattle.cf_learn.specs.Seen.{seen_of};
-ghost use Rattle.cf_learn.specs.Shown.{Asdu, Fragment, HasAct, HaveAct, IsShown, Request, apdu_unit, frame_unit, is_segment, message_in, segment_of};
+ghost use Rattle.cf_learn.specs.Shown.{Asdu, Fragment, HasAct, HaveAct, IsShown, Request, apdu_unit, frame_unit, is_segment, message_in};
+ghost use Rattle.cf_learn.specs.Shown.{segment_of};
 
 use crate::seen::Seen;
 use cf_apci::{Apdu, next_apdu};
@@ -172,7 +173,8 @@ fn push_frame(
 ) -> Result<(), AllocError>
     requires frame { IsFrame (frame_value frame.now) }
     ensures adds { (earlier : List (List ℕ)) → IsAssemblyOf assembly.old earlier →
-        OnOk result (Adds Protocol.Dnp3 client (HaveAct asset.now (new_messages asset.now earlier (frame_unit (frame_value frame.now)))) seen.old.items seen.new.items) }
+        OnOk result (Adds Protocol.Dnp3 client (HaveAct asset.now (new_messages asset.now earlier (frame_unit (frame_value frame.now))))
+        seen.old.items seen.new.items) }
     ensures assembly { (earlier : List (List ℕ)) → IsAssemblyOf assembly.old earlier →
         OnOk result (IsAssemblyOf assembly.new (segment_of asset.now (frame_unit (frame_value frame.now)) ++ earlier)) }
 {
@@ -199,8 +201,10 @@ fn is_segment(asset: &Asset, frame: &Frame<'_>) -> bool
 /// Puts the user octets of a frame to the fragment.
 fn take_segment(assembly: &mut Assembly, frame: &Frame<'_>) -> SegmentAnswer
     requires { IsFrame (frame_value frame.now) }
-    ensures answer { (earlier : List (List ℕ)) → IsAssemblyOf assembly.old earlier → result ≡ answer_to earlier (user_of frame.now.blocks.bytes) }
-    ensures stands { (earlier : List (List ℕ)) → IsAssemblyOf assembly.old earlier → IsAssemblyOf assembly.new (user_of frame.now.blocks.bytes ∷ earlier) }
+    ensures answer { (earlier : List (List ℕ)) → IsAssemblyOf assembly.old earlier
+        → result ≡ answer_to earlier (user_of frame.now.blocks.bytes) }
+    ensures stands { (earlier : List (List ℕ)) → IsAssemblyOf assembly.old earlier
+        → IsAssemblyOf assembly.new (user_of frame.now.blocks.bytes ∷ earlier) }
     ensures whole { result ≡ SegmentAnswer.Whole → assembly.new.whole ≡ true }
 {
     let mut user = [0u8; 250];
@@ -261,7 +265,8 @@ fn push_apdu(
     client: u32,
     apdu: &Apdu<'_>,
 ) -> Result<(), AllocError>
-    ensures { OnOk result (Adds Protocol.Iec104 client (HaveAct asset.now (message_in (apdu_unit (apdu_value apdu.now)))) seen.old.items seen.new.items) }
+    ensures { OnOk result (Adds Protocol.Iec104 client (HaveAct asset.now (message_in (apdu_unit (apdu_value apdu.now)))) seen.old.items
+        seen.new.items) }
 {
     match apdu {
         Apdu::Info { asdu, .. } => push_asdu(seen, asset, client, asdu),

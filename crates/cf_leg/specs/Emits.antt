@@ -1,8 +1,10 @@
 -- What a TCP end sends, `IsRight` of one event: its segments, given the events before it.
-use Rattle.std.specs.Prelude.{MatchBool, ◌≡◌, ℕ, ◌+◌, ◌-◌, ◌%◌, ◌^◌, ◌<◌, ◌≤◌, ◌==◌, min, max, nat_lt, not, Bool, true, false, ◌&&◌, ◌||◌, if◌then◌else◌, List, [], ◌∷◌, length, Option, Some, None}
+use Rattle.std.specs.Prelude.{MatchBool, ◌≡◌, ℕ, ◌+◌, ◌-◌, ◌%◌, ◌^◌, ◌<◌, ◌≤◌, ◌==◌, min, max, nat_lt, not, Bool, true, false, ◌&&◌, ◌||◌}
+use Rattle.std.specs.Prelude.{if◌then◌else◌, List, [], ◌∷◌, length, Option, Some, None}
 use Rattle.cf_packet.specs.Packet.{PacketValue}
 use Rattle.cf_stream.specs.FirstCopy.{first_copy, IsTaken}
 use Rattle.cf_stream.specs.Position.{sequence_number}
+use Rattle.cf_stream.specs.Sizes.{window_size}
 use Rattle.cf_stream.specs.Stream.{Stream, no_letters, letter_count, part}
 use Rattle.cf_leg.specs.Event.{Came, Greeting, Ending, Unspoken, Spoke, Cut, LegEvent, is_settled, stream_after}
 use Rattle.cf_leg.specs.Heard.{opened, owed, acked, shown, offers}
@@ -14,10 +16,6 @@ use Rattle.cf_leg.specs.declared.ends.Advertised.{Advertised}
 use Rattle.cf_leg.specs.declared.ends.Way.{Way}
 use Rattle.cf_leg.specs.declared.ends.Role.{Role}
 use Rattle.cf_leg.specs.declared.ends.Role.TheVariants as role
-
--- how many letters an end lets in at most: the greatest window
-abbrev pub window_size : ℕ
-window_size = 16384
 
 -- the greatest text of a segment: the peer's maximum segment size, not below 64 and not above 1,460, and 536 where it
 -- told none. RFC 9293, section 3.7.1; the bounds are this project's own
@@ -43,11 +41,29 @@ way_of ends es = record { source = ends.own; dest = ends.peer; own = own_number 
 
 -- the SYN of an end, with a sequence number
 abbrev pub syn : Ends → ℕ → PacketValue
-syn ends number = record { source = ends.own; dest = ends.peer; seq = number; ack = 0; flags = 2; window = window_size; mss = Some 1460; text = [] }
+syn ends number = record {
+  source = ends.own;
+  dest = ends.peer;
+  seq = number;
+  ack = 0;
+  flags = 2;
+  window = window_size;
+  mss = Some 1460;
+  text = [];
+}
 
 -- the SYN ACK of an end for a peer's SYN with the first number, with the second as its own
 abbrev pub syn_ack_for : Ends → ℕ → ℕ → PacketValue
-syn_ack_for ends other number = record { source = ends.own; dest = ends.peer; seq = number; ack = sequence_number other 0; flags = 18; window = window_size; mss = Some 1460; text = [] }
+syn_ack_for ends other number = record {
+  source = ends.own;
+  dest = ends.peer;
+  seq = number;
+  ack = sequence_number other 0;
+  flags = 18;
+  window = window_size;
+  mss = Some 1460;
+  text = [];
+}
 
 -- the packet is the greeting of an end with this role: its SYN, or a SYN ACK with any number of its own
 abbrev pub IsGreeting : Ends → Role → PacketValue → Type 0
@@ -94,12 +110,14 @@ abbrev pub Says : Way → Advertised → Advertised → Bool → Stream → ℕ 
 Says way before t owes whole mss edge from outs = SaysIf way t (owes || differs before t) whole mss edge from outs
 
 -- what an open end says, after the letters that it has taken
-pub record SpeaksOpen (ends : Ends) (es : List LegEvent) (e : LegEvent) (whole : Stream) (roomy : Bool) (outs : List PacketValue) : Type 0 where
-  -- the letters taken, those of the event included
-  pub taken : Stream
-  pub is_taken : IsTaken (first_copy (offers ends.role (e ∷ es))) taken
-  pub says : Says (way_of ends (e ∷ es)) (told_at ends.role es e) (to_tell (told_at ends.role es e) (letter_count taken) roomy) (owed ends.role es e)
-      whole (send_mss (peer_mss ends.role (e ∷ es))) (shown ends.role (e ∷ es)) (letters_sent_at ends.role es e) outs
+pub record SpeaksOpen (ends : Ends) (es : List LegEvent) (e : LegEvent) (whole : Stream) (roomy : Bool) (outs : List PacketValue) : Type 0
+  where
+    -- the letters taken, those of the event included
+    pub taken : Stream
+    pub is_taken : IsTaken (first_copy (offers ends.role (e ∷ es))) taken
+    pub says : Says (way_of ends (e ∷ es)) (told_at ends.role es e) (to_tell (told_at ends.role es e) (letter_count taken) roomy)
+        (owed ends.role es e)
+        whole (send_mss (peer_mss ends.role (e ∷ es))) (shown ends.role (e ∷ es)) (letters_sent_at ends.role es e) outs
 
 -- an open end says so, and one that is not open sends nothing
 abbrev pub Speaks : Ends → List LegEvent → LegEvent → Stream → Bool → List PacketValue → Type 0
@@ -120,7 +138,8 @@ repeat_open ends es =
     let from = acked ends.role es in
     let sent = letters_sent ends.role es in
     if nat_lt from sent
-    then segment (way_of ends es) (told ends.role es) (sequence_number (own_number ends.role es) from) (piece (stream_after es) (send_mss (peer_mss ends.role es)) sent from)
+    then segment (way_of ends es) (told ends.role es) (sequence_number (own_number ends.role es) from)
+    (piece (stream_after es) (send_mss (peer_mss ends.role es)) sent from)
     else segment (way_of ends es) (told ends.role es) ((own_number ends.role es + from) % 2 ^ 32) no_letters
 
 -- the segments that an end repeats: one, or none where it has sent no greeting
@@ -135,7 +154,16 @@ fired_at ends es e = if fires ends.role es e && nat_lt (tries ends.role es) 6 th
 
 -- an RST with this sequence number, acknowledgment number and control bits
 abbrev pub rst : Ends → ℕ → ℕ → ℕ → PacketValue
-rst ends number ack flags = record { source = ends.own; dest = ends.peer; seq = number; ack = ack; flags = flags; window = 0; mss = None; text = [] }
+rst ends number ack flags = record {
+  source = ends.own;
+  dest = ends.peer;
+  seq = number;
+  ack = ack;
+  flags = flags;
+  window = 0;
+  mss = None;
+  text = [];
+}
 
 -- before a SYN ACK went out it answers the peer's SYN, and before one came it takes back the own SYN
 abbrev pub cut_packet : Ends → List LegEvent → ℕ → ℕ → Role → PacketValue

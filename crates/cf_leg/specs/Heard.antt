@@ -1,7 +1,8 @@
 -- What a packet is to a TCP end: `answer_to`. RFC 9293, section 3.10.7, and RFC 5961, sections 3 to 5, whose challenge ACKs also answer
 -- segments that RFC 9293 would drop; where the two leave a choice, the rule is this project's own. A table of the
 -- answers stands above `answer_to` in `src/heard.rt`.
-use Rattle.std.specs.Prelude.{ℕ, ◌==◌, max, nat_lt, not, Bool, true, false, ◌&&◌, ◌||◌, if◌then◌else◌, List, [], ◌∷◌, ℤ, pos, ◌+ℤ◌, int_lt, int_le}
+use Rattle.std.specs.Prelude.{ℕ, ◌==◌, max, nat_lt, not, Bool, true, false, ◌&&◌, ◌||◌, if◌then◌else◌, List, [], ◌∷◌, ℤ, pos, ◌+ℤ◌, int_lt}
+use Rattle.std.specs.Prelude.{int_le}
 use Rattle.cf_packet.specs.Packet.{PacketValue}
 use Rattle.cf_stream.specs.FirstCopy.{Offer}
 use Rattle.cf_stream.specs.Position.{sequence_number, position, place_or_zero}

@@ -16,6 +16,7 @@ use Rattle.cf_leg.specs.declared.ends.Role.{Role}
 use Rattle.cf_leg.specs.declared.ends.Role.TheVariants as role
 use Rattle.cf_leg.specs.declared.ends.Advertised.{Advertised}
 use Rattle.cf_leg.specs.declared.ends.Way.{Way}
+use Rattle.cf_stream.specs.Sizes.{window_size}
 
 -- what a contract sees of a `Leg`
 pub record LegValue : Type 0 where
@@ -40,7 +41,7 @@ pub record LegValue : Type 0 where
 -- what holds of every leg, whatever happened
 pub record IsLeg (leg : LegValue) : Type 0 where
   pub base : leg.base ≤ base_of leg.window
-  pub edge : leg.window.edge ≤ leg.base + 16384
+  pub edge : leg.window.edge ≤ leg.base + window_size
   pub shown : leg.shown < 2 ^ 33
   pub some_mss : 0 < leg.mss
   pub mss : leg.mss ≤ 1460
@@ -89,7 +90,7 @@ owed_now r (e ∷ es) = if is_spoken e.ending then false else owed r es e
 -- what a peer was told by the greeting
 abbrev pub first_told : Role → Advertised
 first_told (role.Active own) = record { base = 0; edge = 0 }
-first_told (role.Passive other mss) = record { base = 0; edge = 16384 }
+first_told (role.Passive other mss) = record { base = 0; edge = window_size }
 
 -- the leg and its queue stand for the events, of which the newest stands first, and every event is right
 pub record IsLegOf (leg : LegValue) (queue : Marks) (events : List LegEvent) : Type 0 where

@@ -1,5 +1,6 @@
 //! One end of a TCP connection.
-ghost use Rattle.std.specs.Prelude.{◌≡◌, ◌+◌, ◌-◌, ◌*◌, ◌%◌, ◌^◌, ◌<◌, ◌≤◌, ◌==◌, not, ◌&&◌, ◌||◌, if◌then◌else◌, true, false, List, [], ◌∷◌, length, None, Some, Ok, Err, IfOk, ◌≤ℤ◌, ◌+ℤ◌};
+ghost use Rattle.std.specs.Prelude.{◌≡◌, ◌+◌, ◌-◌, ◌*◌, ◌%◌, ◌^◌, ◌<◌, ◌≤◌, ◌==◌, not, ◌&&◌, ◌||◌, if◌then◌else◌, true, false, List, []};
+ghost use Rattle.std.specs.Prelude.{◌∷◌, length, None, Some, Ok, Err, IfOk, ◌≤ℤ◌, ◌+ℤ◌};
 ghost use Rattle.cf_rebuild.specs.ReceiveWindow.{Consumes, IsWindow, base_of};
 ghost use Rattle.cf_leg.specs.Calls.{origin_as, Greeted, IsMade, no_marks, is_greeted_phase};
 ghost use Rattle.cf_leg.specs.Emits.{send_mss, to_tell};
@@ -66,7 +67,20 @@ impl Model for Leg {
 
     ghost view = { λ a. record { ends = a.ends; phase = a.phase; own = a.own; other = a.other; mss = a.mss; window = a.window; base = a.base; shown = a.shown; owes = a.owes; running = a.running; deadline = a.deadline; fired = a.fired } };
 
-    ghost invariant = { λ a. IsLeg (record { ends = a.ends; phase = a.phase; own = a.own; other = a.other; mss = a.mss; window = a.window; base = a.base; shown = a.shown; owes = a.owes; running = a.running; deadline = a.deadline; fired = a.fired }) };
+    ghost invariant = { λ a. IsLeg (record {
+      ends = a.ends;
+      phase = a.phase;
+      own = a.own;
+      other = a.other;
+      mss = a.mss;
+      window = a.window;
+      base = a.base;
+      shown = a.shown;
+      owes = a.owes;
+      running = a.running;
+      deadline = a.deadline;
+      fired = a.fired;
+    }) };
 }
 
 impl Leg {

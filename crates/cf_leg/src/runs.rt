@@ -18,24 +18,34 @@ ghost use Rattle.cf_leg.specs.declared.ends.Ends.{Ends};
 /// sent has gone out, and what went out first at a place is the stream's letter there.
 pub fn segments_carry_one_stream()
     ensures one { (ends : Ends) (es : List LegEvent) (whole : Stream) → IsRightRun ends es whole → IsOneStream whole ends.role es }
-    ensures first { (whole : Stream) (r : Role) (es : List LegEvent) (place : ℕ) (l : Letter) → IsOneStream whole r es → first_carried r es place ≡ Some l → letter_at whole place ≡ Some l }
-    ensures all { (ends : Ends) (es : List LegEvent) (whole : Stream) (place : ℕ) → IsRightRun ends es whole → place < letters_sent ends.role es → (l : Letter) × (first_carried ends.role es place ≡ Some l) }
+    ensures first { (whole : Stream) (r : Role) (es : List LegEvent) (place : ℕ) (l : Letter) → IsOneStream whole r es
+        → first_carried r es place ≡ Some l → letter_at whole place ≡ Some l }
+    ensures all { (ends : Ends) (es : List LegEvent) (whole : Stream) (place : ℕ) → IsRightRun ends es whole
+        → place < letters_sent ends.role es → (l : Letter) × (first_carried ends.role es place ≡ Some l) }
 {}
 
 /// A segment of a firing has at each of its places the letter that went out there first.
 pub fn repeats_carry_what_was_carried()
-    ensures { (ends : Ends) (e : LegEvent) (es : List LegEvent) (whole : Stream) (place : ℕ) (l : Letter) → IsRightRun ends (e ∷ es) whole → first_in (own_number ends.role es) (letters_sent ends.role es) e.fired place ≡ Some l → first_carried ends.role es place ≡ Some l }
+    ensures { (ends : Ends) (e : LegEvent) (es : List LegEvent) (whole : Stream) (place : ℕ) (l : Letter) → IsRightRun ends (e ∷ es) whole
+        → first_in (own_number ends.role es) (letters_sent ends.role es) e.fired place ≡ Some l → first_carried ends.role es place
+        ≡ Some l }
 {}
 
 /// What was sent never passes the greatest edge shown.
 pub fn nothing_passes_the_edge()
-    ensures { (ends : Ends) (es : List LegEvent) (whole : Stream) → IsRightRun ends es whole → letters_sent ends.role es ≤ shown ends.role es }
+    ensures { (ends : Ends) (es : List LegEvent) (whole : Stream) → IsRightRun ends es whole
+        → letters_sent ends.role es ≤ shown ends.role es }
 {}
 
 /// A speech of an open end has one segment without letters where it has no letter and one is owed, or the base or the edge
 /// to be told differs from that told; and none elsewhere.
 pub fn one_empty_segment_where_owed()
-    ensures { (ends : Ends) (es : List LegEvent) (e : LegEvent) (whole : Stream) (roomy : Bool) (outs : List PacketValue) (taken : Stream) → IsRight ends es (spoke e whole roomy outs) → opened ends.role (spoke e whole roomy outs ∷ es) ≡ true → IsTaken (first_copy (offers ends.role (spoke e whole roomy outs ∷ es))) taken → empties outs ≡ (if (letters_of_all outs == 0) && (owed ends.role es e || differs (told_at ends.role es e) (to_tell (told_at ends.role es e) (letter_count taken) roomy)) then 1 else 0) }
+    ensures { (ends : Ends) (es : List LegEvent) (e : LegEvent) (whole : Stream) (roomy : Bool) (outs : List PacketValue) (taken : Stream)
+        → IsRight ends es (spoke e whole roomy outs) → opened ends.role (spoke e whole roomy outs ∷ es) ≡ true
+        → IsTaken (first_copy (offers ends.role (spoke e whole roomy outs ∷ es))) taken
+        → empties outs ≡ (if (letters_of_all outs == 0)
+        && (owed ends.role es e || differs (told_at ends.role es e) (to_tell (told_at ends.role es e) (letter_count taken) roomy)) then 1
+        else 0) }
 {}
 
 /// What must be sent is a function of the events so far: two lists of right events in which the same is asked are one.
@@ -45,6 +55,8 @@ pub fn events_fix_what_is_sent()
 
 /// Neither the base nor the edge told ever moves back.
 pub fn edges_never_move_back()
-    ensures base { (ends : Ends) (e : LegEvent) (es : List LegEvent) → AllRight ends (e ∷ es) → (told ends.role es).base ≤ (told ends.role (e ∷ es)).base }
-    ensures edge { (ends : Ends) (e : LegEvent) (es : List LegEvent) → AllRight ends (e ∷ es) → (told ends.role es).edge ≤ (told ends.role (e ∷ es)).edge }
+    ensures base { (ends : Ends) (e : LegEvent) (es : List LegEvent) → AllRight ends (e ∷ es)
+        → (told ends.role es).base ≤ (told ends.role (e ∷ es)).base }
+    ensures edge { (ends : Ends) (e : LegEvent) (es : List LegEvent) → AllRight ends (e ∷ es)
+        → (told ends.role es).edge ≤ (told ends.role (e ∷ es)).edge }
 {}

@@ -1,5 +1,6 @@
 //! Segments that go out.
-ghost use Rattle.std.specs.Prelude.{◌≡◌, ◌+◌, ◌-◌, ◌*◌, ◌%◌, ◌^◌, ◌<◌, ◌≤◌, ◌==◌, ◌↔◌, min, max, not, nat_lt, ◌&&◌, ◌||◌, if◌then◌else◌, true, false, [], ◌∷◌, length, None, Some, Ok, Err, IfOk, OnErr, OnOk, pos, ◌≤ℤ◌};
+ghost use Rattle.std.specs.Prelude.{◌≡◌, ◌+◌, ◌-◌, ◌*◌, ◌%◌, ◌^◌, ◌<◌, ◌≤◌, ◌==◌, ◌↔◌, min, max, not, nat_lt, ◌&&◌, ◌||◌, if◌then◌else◌};
+ghost use Rattle.std.specs.Prelude.{true, false, [], ◌∷◌, length, None, Some, Ok, Err, IfOk, OnErr, OnOk, pos, ◌≤ℤ◌};
 ghost use Rattle.cf_outside.specs.Desk.{DeskValue};
 ghost use Rattle.cf_outside.specs.Frames.{OnlyEmits};
 ghost use Rattle.std.specs.Result.{is_err};
@@ -13,6 +14,7 @@ ghost use Rattle.cf_leg.specs.Emits.{piece};
 ghost use Rattle.cf_leg.specs.Emitted.{GetsSegments, spelled};
 ghost use Rattle.cf_leg.specs.Segment.{flags_with, segment};
 ghost use Rattle.cf_leg.specs.Calls.{SaysTo, SendsNew, SendsPiece};
+ghost use Rattle.cf_view.specs.Moment.{moment_limit};
 
 use crate::ends::{Advertised, Way};
 use arrayvec::ArrayVec;
@@ -25,7 +27,7 @@ use cf_view::WriteFault;
 #[tactic(auto, unfolding(crate::specs::Emitted::spelled))]
 pub(crate) fn send<D: Desk>(desk: &mut D, now: u64, packet: &Packet<'_>) -> Result<(), WriteFault>
     requires whole { DeskValue.whole (D.value desk.old) ≡ true }
-    requires moment { now < 2 ^ 32 * 1000000 }
+    requires moment { now < moment_limit }
     requires writable { IsWritable (packet_value packet.now) }
     ensures gets { GetsSegments (is_err result) now (packet_value packet.now ∷ []) (D.value desk.old) (D.value desk.new) }
     ensures frame { OnlyEmits (D.value desk.old) (D.value desk.new) (is_err result) }
@@ -75,7 +77,7 @@ pub(crate) fn send_empty<D: Desk>(
 ) -> Result<(), WriteFault>
     requires told { (told.base ≤ told.edge) × (told.edge - told.base < 65536) × (told.base ≤ 2 ^ 31) }
     requires whole { DeskValue.whole (D.value desk.old) ≡ true }
-    requires moment { now < 2 ^ 32 * 1000000 }
+    requires moment { now < moment_limit }
     ensures gets { GetsSegments (is_err result) now (segment way told number no_letters ∷ []) (D.value desk.old) (D.value desk.new) }
     ensures frame { OnlyEmits (D.value desk.old) (D.value desk.new) (is_err result) }
 {
@@ -112,7 +114,7 @@ pub(crate) fn send_piece<D: Desk>(
     requires small { piece.len ≤ 1460 }
     requires place { place_or_zero piece.at ≤ 2 ^ 31 }
     requires whole { DeskValue.whole (D.value desk.old) ≡ true }
-    requires moment { now < 2 ^ 32 * 1000000 }
+    requires moment { now < moment_limit }
     ensures sends { SendsPiece way told queue.now piece now (D.value desk.old) (D.value desk.new) (is_err result) }
     ensures frame { OnlyEmits (D.value desk.old) (D.value desk.new) (is_err result) }
 {
@@ -135,7 +137,7 @@ pub(crate) fn send_new<D: Desk>(
     requires told { (told.base ≤ told.edge) × (told.edge - told.base < 65536) × (told.base ≤ 2 ^ 31) }
     requires mss { (0 < mss) × (mss ≤ 1460) }
     requires whole { DeskValue.whole (D.value desk.old) ≡ true }
-    requires moment { now < 2 ^ 32 * 1000000 }
+    requires moment { now < moment_limit }
     ensures some { IfOk result (λ some. some ≡ nat_lt queue.old.sent (min queue.old.shown (queue_length queue.old))) }
     ensures pieces { OnOk result (SendsNew way told mss queue.old now (D.value desk.old) (D.value desk.new) false) }
     ensures new { OnOk result (queue.new ≡ record queue.old { sent = max queue.old.sent (min queue.old.shown (queue_length queue.old)) }) }
@@ -164,8 +166,9 @@ fn acknowledge<D: Desk>(
 ) -> Result<(), WriteFault>
     requires told { (told.base ≤ told.edge) × (told.edge - told.base < 65536) × (told.base ≤ 2 ^ 31) }
     requires whole { DeskValue.whole (D.value desk.old) ≡ true }
-    requires moment { now < 2 ^ 32 * 1000000 }
-    ensures gets { GetsSegments (is_err result) now (if is_due then segment way told number no_letters ∷ [] else []) (D.value desk.old) (D.value desk.new) }
+    requires moment { now < moment_limit }
+    ensures gets { GetsSegments (is_err result) now (if is_due then segment way told number no_letters ∷ [] else []) (D.value desk.old)
+        (D.value desk.new) }
     ensures frame { OnlyEmits (D.value desk.old) (D.value desk.new) (is_err result) }
 {
     if is_due {
@@ -211,7 +214,7 @@ pub(crate) fn say<D: Desk>(
     requires told { (told.base ≤ told.edge) × (told.edge - told.base < 65536) × (told.base ≤ 2 ^ 31) }
     requires mss { (0 < mss) × (mss ≤ 1460) }
     requires whole { DeskValue.whole (D.value desk.old) ≡ true }
-    requires moment { now < 2 ^ 32 * 1000000 }
+    requires moment { now < moment_limit }
     ensures says { OnOk result (SaysTo way told mss is_due queue.old now (D.value desk.old) (D.value desk.new) false) }
     ensures new { OnOk result (queue.new ≡ record queue.old { sent = max queue.old.sent (min queue.old.shown (queue_length queue.old)) }) }
     ensures stands { (whole : Stream) → IsQueueOf queue.old whole → IsQueueOf queue.new whole }

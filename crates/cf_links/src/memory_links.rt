@@ -1,5 +1,6 @@
 //! Links in memory, whose clients and answers are scripted.
-ghost use Rattle.std.specs.Prelude.{◌≡◌, ◌==◌, ◌≤◌, ◌++◌, ◌∷◌, ℕ, [], false, None, IfOk, IsSome, OnErr, OnOk, Some, true, vec_capacity, vec_len};
+ghost use Rattle.std.specs.Prelude.{◌≡◌, ◌==◌, ◌≤◌, ◌++◌, ◌∷◌, ℕ, [], false, None, IfOk, IsSome, OnErr, OnOk, Some, true, vec_capacity};
+ghost use Rattle.std.specs.Prelude.{vec_len};
 ghost use Rattle.cf_outside.specs.Faults.{counted};
 ghost use Rattle.cf_links.specs.MemoryLinks.{HasRoom, entries_told, has_room, lacks_after, open_count, serves_in, stands_at};
 
@@ -211,7 +212,8 @@ impl MemoryLinks {
         ensures still { OnErr result (self.new.stands.items ≡ self.old.stands.items) }
         ensures roomy { OnErr result (has_room self.new ≡ true) }
         ensures items { self.new.told.items ≡ self.old.told.items }
-        ensures rest { self.new ≡ record self.old { told = self.new.told; stands = self.new.stands; lacks = lacks_after result self.old.lacks } }
+        ensures rest { self.new ≡ record self.old
+            { told = self.new.told; stands = self.new.stands; lacks = lacks_after result self.old.lacks } }
     {
         match self.told.reserve(self.stands.len() + 2) {
             Ok(()) => {}

@@ -4,7 +4,8 @@ use Rattle.std.specs.Prelude.{◌≡◌, ℕ, ◌+◌, ◌-◌, ◌^◌, ◌<◌
 use Rattle.cf_stream.specs.Position.{place_or_zero}
 use Rattle.cf_stream.specs.Stream.{Stream, Letter, no_letters, with_bytes, with_end, letters}
 use Rattle.cf_outq.specs.declared.piece.Piece.{Piece}
-use Rattle.cf_outq.specs.SendQueue.{Queue, IsAnswer, IsUnacked, piece_letters, carried, empty, after_push, after_end, after_shown, after_acked, after_sent}
+use Rattle.cf_outq.specs.SendQueue.{Queue, IsAnswer, IsUnacked, piece_letters, carried, empty, after_push, after_end, after_shown}
+use Rattle.cf_outq.specs.SendQueue.{after_acked, after_sent, queue_size}
 
 pub data QueueCall : Type 0 where
   Push : List ℕ → QueueCall
@@ -29,7 +30,7 @@ after (Copy piece bytes ∷ earlier) = after earlier
 -- the call may be made on the first queue with this answer, and leaves the second
 abbrev pub QueueStep : QueueCall → Queue → Queue → Type 0
 QueueStep (Push bytes) old new =
-    (old.ended ≡ false) × (length bytes + length old.kept ≤ 131072) × (old.pushed + length bytes ≤ 2 ^ 31)
+    (old.ended ≡ false) × (length bytes + length old.kept ≤ queue_size) × (old.pushed + length bytes ≤ 2 ^ 31)
     × (new ≡ after_push old bytes)
 QueueStep Close old new = (old.ended ≡ false) × (old.pushed < 2 ^ 31) × (new ≡ after_end old)
 QueueStep (Shown edge) old new = new ≡ after_shown old edge

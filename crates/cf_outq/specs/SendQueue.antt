@@ -3,7 +3,8 @@
 --
 -- Its counts are of letters from the first one on. RFC 9293, section 3.3.1, has them as sequence numbers: acked is
 -- SND.UNA, sent is SND.NXT, and shown is the greatest SND.UNA + SND.WND that the peer has told.
-use Rattle.std.specs.Prelude.{◌≡◌, ℕ, ◌+◌, ◌-◌, ◌^◌, ◌<◌, ◌≤◌, ◌↔◌, min, max, IsTrue, IfSome, IsNone, Bool, true, false, if◌then◌else◌, List, [], ◌++◌, length, drop, Option, Some, None, ℤ, pos, ◌≤ℤ◌, ◌+ℤ◌}
+use Rattle.std.specs.Prelude.{◌≡◌, ℕ, ◌+◌, ◌-◌, ◌^◌, ◌<◌, ◌≤◌, ◌↔◌, min, max, IsTrue, IfSome, IsNone, Bool, true, false, if◌then◌else◌}
+use Rattle.std.specs.Prelude.{List, [], ◌++◌, length, drop, Option, Some, None, ℤ, pos, ◌≤ℤ◌, ◌+ℤ◌}
 use Rattle.cf_stream.specs.Position.{place_or_zero}
 use Rattle.cf_stream.specs.Stream.{Stream, letter_count, part}
 use Rattle.cf_outq.specs.declared.piece.Piece.{Piece}
@@ -25,10 +26,14 @@ pub record Queue : Type 0 where
 abbrev pub queue_length : Queue → ℕ
 queue_length q = q.pushed + (if q.ended then 1 else 0)
 
--- what holds of every queue, whatever was pushed: its marks stand in this order, and its room is 131,072 bytes
+-- how many bytes a queue has room for. This project's own choice
+abbrev pub queue_size : ℕ
+queue_size = 131072
+
+-- what holds of every queue, whatever was pushed: its marks stand in this order, and it keeps no more than it has room for
 pub record IsQueue (q : Queue) : Type 0 where
   pub kept : length q.kept ≡ q.pushed - q.acked
-  pub room : length q.kept ≤ 131072
+  pub room : length q.kept ≤ queue_size
   pub acked : q.acked ≤ q.sent
   pub sent : q.sent ≤ queue_length q
   pub limit : queue_length q ≤ 2 ^ 31

@@ -9,8 +9,10 @@ ghost use Rattle.cf_outq.specs.QueueCalls.{QueueCall, NextPiece, after, IsQueueR
 /// sent. Pieces that are sent again, and copies, carry its letters too.
 pub fn every_queue_run()
     ensures stands { (calls : List QueueCall) → IsQueueRun calls → IsQueueOf (after calls) (pushed_by calls) }
-    ensures once { (calls : List QueueCall) → IsQueueRun calls → sent_by (pushed_by calls) calls ≡ take (after calls).sent (letters (pushed_by calls)) }
-    ensures stops { (calls : List QueueCall) (mss : ℕ) → IsQueueRun (NextPiece mss None ∷ calls) → (after calls).sent ≡ min (after calls).shown (letter_count (pushed_by calls)) }
+    ensures once { (calls : List QueueCall) → IsQueueRun calls → sent_by (pushed_by calls) calls
+        ≡ take (after calls).sent (letters (pushed_by calls)) }
+    ensures stops { (calls : List QueueCall) (mss : ℕ) → IsQueueRun (NextPiece mss None ∷ calls)
+        → (after calls).sent ≡ min (after calls).shown (letter_count (pushed_by calls)) }
     ensures repeats { (calls : List QueueCall) → IsQueueRun calls → Repeats (pushed_by calls) calls }
 {}
 

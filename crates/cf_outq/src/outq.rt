@@ -2,7 +2,8 @@
 ghost use Rattle.std.specs.Prelude.{◌≡◌, ◌+◌, ◌-◌, ◌^◌, ◌<◌, ◌≤◌, ◌↔◌, IfOk, IfSome, IsNone, false, length, min, take, drop, pos, ◌≤ℤ◌};
 ghost use Rattle.cf_stream.specs.Position.{place_or_zero};
 ghost use Rattle.cf_stream.specs.Stream.{Stream, letter_count, no_letters, with_bytes, with_end, Carries};
-ghost use Rattle.cf_outq.specs.SendQueue.{IsQueue, IsQueueOf, IsAnswer, IsUnacked, queue_length, piece_letters, carried, empty, after_push, after_end, after_shown, after_acked, after_sent};
+ghost use Rattle.cf_outq.specs.SendQueue.{IsQueue, IsQueueOf, IsAnswer, IsUnacked, queue_length, piece_letters, carried, empty, after_push};
+ghost use Rattle.cf_outq.specs.SendQueue.{after_end, after_shown, after_acked, after_sent, queue_size};
 
 use crate::piece::Piece;
 use cf_view::{NoMemory, View};
@@ -35,13 +36,14 @@ pub struct Outq {
 
 impl Model for Outq {
     ghost use Rattle.std.specs.Prelude.{◌≡◌};
-    ghost use Rattle.cf_outq.specs.SendQueue.{Queue, IsQueue};
+    ghost use Rattle.cf_outq.specs.SendQueue.{IsQueue, Queue, queue_size};
 
     ghost Value = { Queue };
 
     ghost view = { λ a. record { kept = a.ring.items; pushed = a.pushed; ended = a.ended; acked = a.acked; sent = a.sent; shown = a.shown } };
 
-    ghost invariant = { λ a. (a.ring.capacity ≡ 131072) × IsQueue (record { kept = a.ring.items; pushed = a.pushed; ended = a.ended; acked = a.acked; sent = a.sent; shown = a.shown }) };
+    ghost invariant = { λ a. (a.ring.capacity ≡ queue_size)
+        × IsQueue (record { kept = a.ring.items; pushed = a.pushed; ended = a.ended; acked = a.acked; sent = a.sent; shown = a.shown }) };
 }
 
 impl Outq {
@@ -65,7 +67,7 @@ impl Outq {
 
     /// The number of bytes that `push` can take now.
     pub fn room(&self) -> usize
-        ensures { result + length self.now.kept ≡ 131072 }
+        ensures { result + length self.now.kept ≡ queue_size }
     {
         CAPACITY - self.ring.len()
     }
@@ -106,7 +108,7 @@ impl Outq {
     /// Adds bytes at the end of the list.
     pub fn push(&mut self, bytes: &[u8])
         requires open { self.old.ended ≡ false }
-        requires room { length bytes.now + length self.old.kept ≤ 131072 }
+        requires room { length bytes.now + length self.old.kept ≤ queue_size }
         requires limit { self.old.pushed + length bytes.now ≤ 2 ^ 31 }
         ensures new { self.new ≡ after_push self.old bytes.now }
         ensures stands { (whole : Stream) → IsQueueOf self.old whole → IsQueueOf self.new (with_bytes whole bytes.now) }
@@ -200,7 +202,8 @@ impl Outq {
         requires from { (self.now.acked ≤ from) × (from ≤ queue_length self.now) }
         ensures answer { IsAnswer self.now mss from limit result }
         ensures letters { IfSome result (λ p. 0 < piece_letters p) }
-        ensures within { IfSome result (λ p. (from + p.len ≤ self.now.pushed) × (from + piece_letters p ≤ min limit (queue_length self.now))) }
+        ensures within { IfSome result (λ p. (from + p.len ≤ self.now.pushed)
+            × (from + piece_letters p ≤ min limit (queue_length self.now))) }
     {
         let len = limit.min(self.pushed).saturating_sub(from).min(mss as u64);
         let end = self.ended && from + len == self.pushed && self.pushed < limit;

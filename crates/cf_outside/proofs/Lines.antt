@@ -142,12 +142,6 @@ ends_with_line-create untold = refl
 ends_with_line-create absent = refl
 ends_with_line-create (holds all) = refl
 
--- it has no line
-pub file_lines-create : (file : Content) (lines : List (List ℕ)) → file_lines (content_after_create file) ≡ Some lines → lines ≡ []
-file_lines-create untold lines h = cc
-file_lines-create absent lines h = cc
-file_lines-create (holds all) lines h = cc
-
 -- a file that ends with a line is its lines
 pub file_lines-whole : (file : Content) (lines : List (List ℕ)) → file_lines file ≡ Some lines → ends_with_line file ≡ true →
     file ≡ holds (concat lines)

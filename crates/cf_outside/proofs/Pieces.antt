@@ -1,10 +1,10 @@
 -- A buffer that is filled piece by piece with the octets at a place of a file.
-use Rattle.std.proofs.Common.{◌≡◌, ◌+◌, ◌-◌, ◌≤◌, ◌<◌, ℕ, List, [], ◌++◌, length, take, drop, refl, sym, ap, ◌∙◌, arith}
-use Rattle.std.proofs.lemmas.List.{take-append-le, drop-drop, length-take-le, length-append, length-take, length-drop, take_all}
+use Rattle.std.proofs.Common.{◌≡◌, ◌+◌, ◌-◌, ◌≤◌, ℕ, List, [], ◌++◌, length, take, drop, refl, sym, ap, ◌∙◌, arith}
+use Rattle.std.proofs.lemmas.List.{take-append-le, drop-drop, length-take-le, length-append, length-take, length-drop}
 use Rattle.std.proofs.Math.Seq.{take-add, drop_at}
 use Rattle.std.proofs.lemmas.Slice.{take-put_mid_below}
 use borrow.Rule.Slice.PartMut.{put_mid}
-use Rattle.cf_outside.specs.Files.{Content, untold, absent, holds, HasAt, IsAtEnd}
+use Rattle.cf_outside.specs.Files.{Content, untold, absent, holds, HasAt}
 use Rattle.cf_outside.specs.Part.{HasRead, IsFilled}
 
 -- the octets in front of the piece, and those of it that were read
@@ -43,22 +43,6 @@ pub filled_piece : (file : Content) (place a k n : ℕ) (xs ys : List ℕ) → a
     HasRead file place (take a xs) → HasAt file (place + a) (take n ys) → HasRead file place (take (a + n) (put_mid a k xs ys))
 filled_piece file place a k n xs ys p q h g =
     rw (filled_more a k n xs ys p q) (more_at file place a (take a xs) (take n ys) (length-take-le a xs p) h g)
-
--- so many octets that stand there are all that are asked for
-pub filled_whole : (file : Content) (place size : ℕ) (xs : List ℕ) → length xs ≡ size → 0 < size → HasRead file place xs → IsFilled file place size xs
-filled_whole untold place size xs l s h = tt
-filled_whole absent place size xs l s h = absurd (omega (arith, l, s, h))
-filled_whole (holds all) place size xs l s h = sym h ∙ ap (λ n. take n (drop place all)) l
-
--- fewer are all that the file has
-pub filled_end : (file : Content) (place size : ℕ) (xs : List ℕ) → length xs ≤ size → HasRead file place xs → IsAtEnd file (place + length xs) →
-    IsFilled file place size xs
-filled_end untold place size xs l h e = tt
-filled_end absent place size xs l h e = absurd e
-filled_end (holds all) place size xs l h e =
-    let long : length (drop place all) ≡ length all - place = length-drop place all in
-    let short : length (drop place all) ≤ length xs = omega (arith, long, e) in
-    sym h ∙ take_all (length xs) (drop place all) short ∙ sym (take_all size (drop place all) (omega (arith, short, l)))
 
 -- octets that were filled in were read
 pub read_filled : (file : Content) (place size : ℕ) (xs : List ℕ) → length xs ≡ size → IsFilled file place size xs → HasRead file place xs

@@ -1,6 +1,7 @@
 -- What an object outside tells of a file, and what the calls on files do to it. The main definitions are `Content`, and
 -- `ReadsAt`, `Creates`, `Appends` and `GoesOn`, one for each call; below them stand a file read whole and one written in pieces.
-use Rattle.std.specs.Prelude.{◌≡◌, ◌≢◌, ◌<◌, ◌≤◌, ◌==◌, ◌-◌, ◌⊎◌, ℕ, List, [], ◌∷◌, ◌++◌, length, take, drop, slice_get, unwrap_or, if◌then◌else◌}
+use Rattle.std.specs.Prelude.{◌≡◌, ◌≢◌, ◌<◌, ◌≤◌, ◌==◌, ◌-◌, ◌⊎◌, ℕ, List, [], ◌∷◌, ◌++◌, length, take, drop, slice_get, unwrap_or}
+use Rattle.std.specs.Prelude.{if◌then◌else◌}
 use Rattle.cf_outside.specs.declared.files.ReadAnswer.{ReadAnswer}
 use Rattle.cf_outside.specs.declared.files.ReadAnswer.TheVariants as read
 use Rattle.cf_outside.specs.declared.files.WriteAnswer.{WriteAnswer}

@@ -58,7 +58,10 @@ MemoryEmits moment packet old new write.Done =
     × (new ≡ record old { packets = old.packets ++ record { moment = moment; bytes = packet } ∷ []; counts = after_call old.counts })
 MemoryEmits moment packet old new write.Failed =
     ((left : ℕ) × (next_fail old.counts ≡ Some left)
-    × (new ≡ record old { packets = with_left left (record { moment = moment; bytes = packet }) old.packets; counts = after_fault old.counts }))
+    × (new ≡ record old {
+      packets = with_left left (record { moment = moment; bytes = packet }) old.packets;
+      counts = after_fault old.counts;
+    }))
     ⊎ ((next_fail old.counts ≢ Some 0) × (new ≡ record old { counts = after_lack old.counts }))
 
 -- a line is added; want of memory adds none, and does not come where the script adds none

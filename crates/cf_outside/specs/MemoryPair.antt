@@ -104,7 +104,13 @@ with_move pair = record pair { moves = counted pair.moves }
 -- a pair that counts a failure for want of memory, in a call that is counted
 abbrev pub with_lack : MemoryPairValue → MemoryPairValue
 with_lack pair = record pair {
-  counts = record { fails = pair.counts.fails; calls = pair.counts.calls; faults = counted pair.counts.faults; lacks = counted pair.counts.lacks };
+  counts = record {
+    fails = pair.counts.fails;
+    calls = pair.counts.calls;
+    faults = counted pair.counts.faults;
+    lacks = counted
+        pair.counts.lacks;
+  };
 }
 
 -- a pair that counts one idle answer more

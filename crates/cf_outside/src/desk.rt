@@ -3,6 +3,7 @@ ghost use Rattle.std.specs.Prelude.{◌≡◌, ◌<◌, ◌≤◌, ◌*◌, ◌^
 ghost use Rattle.cf_outside.specs.Desk.{DeskValue, Emits, PutsLine, line_desk};
 ghost use Rattle.cf_outside.specs.Files.{Appends};
 ghost use Rattle.cf_outside.specs.Lines.{is_line};
+ghost use Rattle.cf_view.specs.Moment.{moment_limit};
 
 use crate::files::{Files, WriteAnswer};
 
@@ -17,7 +18,7 @@ pub trait Desk {
     /// been emitted all the same.
     fn emit(&mut self, moment: u64, packet: &[u8]) -> WriteAnswer
         requires whole { DeskValue.whole (value self.old) ≡ true }
-        requires moment { moment < 2 ^ 32 * 1000000 }
+        requires moment { moment < moment_limit }
         requires packet { length packet.now ≤ 1500 }
         ensures { Emits moment packet.now (value self.old) (value self.new) result };
 
@@ -60,7 +61,8 @@ impl<'a, F: Files> Desk for LineDesk<'a, F> {
         requires whole { DeskValue.whole (⟦<Self as Desk>⟧.value self.old) ≡ true }
         requires line { is_line text.now ≡ true }
         ensures desk { PutsLine text.now (⟦<Self as Desk>⟧.value self.old) (⟦<Self as Desk>⟧.value self.new) result }
-        ensures log { Appends text.now (F.content self.old.files.now self.old.log.now) (F.content self.new.files.now self.new.log.now) result }
+        ensures log { Appends text.now (F.content self.old.files.now self.old.log.now) (F.content self.new.files.now self.new.log.now)
+            result }
         ensures failed { IsTrue self.new.failed ↔ (result ≡ WriteAnswer.Failed) }
     {
         match self.files.append(self.log, text.as_bytes()) {

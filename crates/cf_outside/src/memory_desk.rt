@@ -4,6 +4,7 @@ ghost use Rattle.cf_outside.specs.Faults.{counted};
 ghost use Rattle.cf_outside.specs.Desk.{DeskValue, Emits, PutsLine};
 ghost use Rattle.cf_outside.specs.Lines.{is_line};
 ghost use Rattle.cf_outside.specs.MemoryDesk.{MemoryEmits, MemoryPutsLine, desk_in_memory, empty_desk, memory_desk_value, sent_value};
+ghost use Rattle.cf_view.specs.Moment.{moment_limit};
 
 use crate::desk::Desk;
 use crate::files::WriteAnswer;
@@ -79,7 +80,7 @@ impl Desk for MemoryDesk {
 
     fn emit(&mut self, moment: u64, packet: &[u8]) -> WriteAnswer
         requires whole { DeskValue.whole (desk_in_memory self.old) ≡ true }
-        requires moment { moment < 2 ^ 32 * 1000000 }
+        requires moment { moment < moment_limit }
         requires packet { length packet.now ≤ 1500 }
         ensures emit { MemoryEmits moment packet.now (memory_desk_value self.old) (memory_desk_value self.new) result }
         ensures desk { Emits moment packet.now (desk_in_memory self.old) (desk_in_memory self.new) result }

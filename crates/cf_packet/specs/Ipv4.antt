@@ -1,5 +1,6 @@
 -- The header of an IPv4 packet, and the first test that it fails: header_refusal. RFC 791, section 3.1.
-use Rattle.std.specs.Prelude.{ℕ, ◌*◌, ◌/◌, ◌%◌, ◌==◌, nat_lt, not, Bool, ◌&&◌, ◌||◌, if◌then◌else◌, List, length, take, drop, slice_index, slice_range, Option, Some, None}
+use Rattle.std.specs.Prelude.{ℕ, ◌*◌, ◌/◌, ◌%◌, ◌==◌, nat_lt, not, Bool, ◌&&◌, ◌||◌, if◌then◌else◌, List, length, take, drop, slice_index}
+use Rattle.std.specs.Prelude.{slice_range, Option, Some, None}
 use Rattle.cf_view.specs.Octets.{u16_be_at, u32_be_at}
 use Rattle.cf_view.specs.declared.LinkKind.{LinkKind}
 use Rattle.cf_view.specs.declared.LinkKind.TheVariants as link

@@ -4,7 +4,8 @@ use Rattle.std.specs.Prelude.{ℕ, List, Option, Some, None, Result, Ok, Err, no
 use Rattle.cf_view.specs.declared.Endpoint.{Endpoint}
 use Rattle.cf_view.specs.declared.LinkKind.{LinkKind}
 use Rattle.cf_packet.specs.Ipv4.{payload, header_refusal, source_address, destination_address, data_octets}
-use Rattle.cf_packet.specs.Tcp.{source_port, destination_port, sequence_number, acknowledgment_number, control_bits, window_field, options, text_octets, mss_of, is_bad, is_right_segment}
+use Rattle.cf_packet.specs.Tcp.{source_port, destination_port, sequence_number, acknowledgment_number, control_bits, window_field, options}
+use Rattle.cf_packet.specs.Tcp.{text_octets, mss_of, is_bad, is_right_segment}
 use Rattle.cf_packet.specs.declared.packet.Packet.{Packet}
 use Rattle.cf_packet.specs.declared.packet.PacketRefusal.{PacketRefusal}
 use Rattle.cf_packet.specs.declared.packet.PacketRefusal.TheVariants as refusal

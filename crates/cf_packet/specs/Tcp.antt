@@ -1,5 +1,6 @@
 -- The header of a TCP segment: its fields, is_right_segment and mss_of. RFC 9293, sections 3.1 and 3.2.
-use Rattle.std.specs.Prelude.{ℕ, zero, suc, ◌*◌, ◌/◌, ◌%◌, ◌==◌, nat_lt, Bool, ◌&&◌, ◌||◌, if◌then◌else◌, List, ◌∷◌, ◌++◌, length, drop, slice_index, slice_range, Option, Some, None}
+use Rattle.std.specs.Prelude.{ℕ, zero, suc, ◌*◌, ◌/◌, ◌%◌, ◌==◌, nat_lt, Bool, ◌&&◌, ◌||◌, if◌then◌else◌, List, ◌∷◌, ◌++◌, length, drop}
+use Rattle.std.specs.Prelude.{slice_index, slice_range, Option, Some, None}
 use Rattle.cf_view.specs.Octets.{u16_be_at, u32_be_at, u16_be_octets, u32_be_octets}
 use Rattle.cf_packet.specs.Checksum.{is_right}
 

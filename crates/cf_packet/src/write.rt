@@ -4,7 +4,8 @@ ghost use Rattle.arrayvec.specs.ArrayVec.{array_vec_len};
 ghost use Rattle.cf_view.specs.declared.LinkKind.TheVariants as link;
 ghost use Rattle.cf_packet.specs.Checksum.{total, words};
 ghost use Rattle.cf_packet.specs.Packet.{packet_value, read_record};
-ghost use Rattle.cf_packet.specs.Written.{HasRanges, IsWritable, header_checksum, header_with, option_octets, option_words, packet_octets, segment_checksum, segment_header, segment_length, segment_with};
+ghost use Rattle.cf_packet.specs.Written.{HasRanges, IsWritable, header_checksum, header_with, option_octets, option_words, packet_octets};
+ghost use Rattle.cf_packet.specs.Written.{segment_checksum, segment_header, segment_length, segment_with};
 
 use crate::checksum::{folded, gathered};
 use crate::packet::Packet;

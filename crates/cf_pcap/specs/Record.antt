@@ -46,10 +46,6 @@ abbrev pub IsInside : RecordAnswerValue → ℕ → Type 0
 IsInside (Whole stamp body used) count = (16 ≤ used) × (used ≤ count)
 IsInside other count = Unit {0}
 
--- the moments of records that are written, in microseconds, are below 2^32 seconds
-abbrev pub moment_limit : ℕ
-moment_limit = 2 ^ 32 * 1000000
-
 -- the head of a record that is written, at a moment in microseconds: both its lengths are that of its octets
 abbrev pub head_octets : ℕ → ℕ → List ℕ
 head_octets moment length =

@@ -2,7 +2,8 @@
 ghost use Rattle.std.specs.Prelude.{◌≡◌, ℕ, ◌+◌, ◌<◌, ◌≤◌, ◌++◌, List, Ok, length};
 ghost use Rattle.cf_view.specs.Octets.{u32_le_octets};
 ghost use Rattle.cf_pcap.specs.Header.{header_of, output_header, output_octets};
-ghost use Rattle.cf_pcap.specs.Record.{Whole, head_octets, moment_limit, record_of};
+ghost use Rattle.cf_pcap.specs.Record.{Whole, head_octets, record_of};
+ghost use Rattle.cf_view.specs.Moment.{moment_limit};
 ghost use Rattle.cf_pcap.specs.declared.record.TheConstants.{CAPTURED_LIMIT};
 
 /// The header of every file that is written.
@@ -33,7 +34,8 @@ pub fn write_record_head(moment: u64, len: u32, out: &mut [u8; 16])
     requires short { len ≤ CAPTURED_LIMIT }
     ensures octets { out.new ≡ head_octets moment len }
     // With the octets after it, it is read again, whatever follows.
-    ensures again { (body rest : List ℕ) → length body ≡ len → record_of output_header (out.new ++ body ++ rest) ≡ Whole moment body (16 + len) }
+    ensures again { (body rest : List ℕ) → length body ≡ len → record_of output_header (out.new ++ body ++ rest)
+        ≡ Whole moment body (16 + len) }
 {
     write_head(moment, len, out);
 }

@@ -1,6 +1,7 @@
 -- What stands at the front of octets of a section: block_at, by the first of ten tests that applies. The blocks are those of
 -- draft-ietf-opsawg-pcapng, sections 3.1 and 4.1 to 4.3; the order of the tests and all limits are this project's own.
-use Rattle.std.specs.Prelude.{ℕ, ◌+◌, ◌-◌, ◌*◌, ◌%◌, ◌==◌, ◌&&◌, ◌||◌, not, nat_lt, Bool, false, if◌then◌else◌, List, [], ◌∷◌, ◌++◌, length, slice_get, slice_range, Option, Some, None}
+use Rattle.std.specs.Prelude.{ℕ, ◌+◌, ◌-◌, ◌*◌, ◌%◌, ◌==◌, ◌&&◌, ◌||◌, not, nat_lt, Bool, false, if◌then◌else◌, List, [], ◌∷◌, ◌++◌, length}
+use Rattle.std.specs.Prelude.{slice_get, slice_range, Option, Some, None}
 use Rattle.cf_view.specs.Octets.{u32_be_at}
 use Rattle.cf_view.specs.declared.LinkKind.{LinkKind}
 use Rattle.cf_view.specs.declared.LinkKind.TheVariants as link
@@ -9,7 +10,9 @@ use Rattle.cf_pcap.specs.declared.record.TheConstants.{CAPTURED_LIMIT}
 use Rattle.cf_pcapng.specs.declared.block.BlockKind.{BlockKind}
 use Rattle.cf_pcapng.specs.declared.block.BlockKind.TheVariants as kind
 use Rattle.cf_pcapng.specs.declared.block.Interface.{Interface}
-use Rattle.cf_pcapng.specs.declared.block.TheConstants.{BLOCK_LIMIT, BYTE_ORDER, ENHANCED_PACKET, INTERFACE_DESCRIPTION, INTERFACE_LIMIT, REFUSED_BLOCK, REFUSED_INTERFACE, REFUSED_LENGTH, REFUSED_RESOLUTION, REFUSED_SECTION, SECTION_HEADER}
+use Rattle.cf_pcapng.specs.declared.block.TheConstants.{BLOCK_LIMIT, BYTE_ORDER, ENHANCED_PACKET, INTERFACE_DESCRIPTION, INTERFACE_LIMIT}
+use Rattle.cf_pcapng.specs.declared.block.TheConstants.{REFUSED_BLOCK, REFUSED_INTERFACE, REFUSED_LENGTH, REFUSED_RESOLUTION}
+use Rattle.cf_pcapng.specs.declared.block.TheConstants.{REFUSED_SECTION, SECTION_HEADER}
 use Rattle.cf_pcapng.specs.Options.{options_of, padded, resolution_of}
 use Rattle.cf_pcapng.specs.Section.{Section}
 use Rattle.cf_pcapng.specs.Time.{stamp_of}

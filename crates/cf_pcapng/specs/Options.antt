@@ -1,6 +1,7 @@
 -- The options of a block: options_of, and what they say of the unit of time: resolution_of. draft-ietf-opsawg-pcapng,
 -- section 3.5; that an option which passes the end ends the list is this project's own.
-use Rattle.std.specs.Prelude.{◌≡◌, ℕ, zero, suc, ◌+◌, ◌*◌, ◌/◌, ◌==◌, ◌&&◌, nat_lt, Bool, if◌then◌else◌, List, [], ◌∷◌, length, drop, slice_index, slice_range, Option, Some, None}
+use Rattle.std.specs.Prelude.{◌≡◌, ℕ, zero, suc, ◌+◌, ◌*◌, ◌/◌, ◌==◌, ◌&&◌, nat_lt, Bool, if◌then◌else◌, List, [], ◌∷◌, length, drop}
+use Rattle.std.specs.Prelude.{slice_index, slice_range, Option, Some, None}
 use Rattle.cf_pcap.specs.Header.{u16_at}
 use Rattle.cf_pcapng.specs.declared.options.BlockOption.{BlockOption}
 
@@ -38,7 +39,8 @@ AreOptions big_endian octets (option ∷ options) =
 -- they are found from the front; octets have no more options than octets
 abbrev pub options_within : (count : ℕ) → Bool → List ℕ → List BlockOptionValue
 options_within zero big_endian octets = []
-options_within (suc count) big_endian octets = with_first (first_option big_endian octets) (λ size. options_within count big_endian (drop size octets))
+options_within (suc count) big_endian octets = with_first (first_option big_endian octets)
+    (λ size. options_within count big_endian (drop size octets))
 
 -- the options in these octets, up to the end of the list
 abbrev pub options_of : Bool → List ℕ → List BlockOptionValue

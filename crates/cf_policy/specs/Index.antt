@@ -1,5 +1,6 @@
 -- Steps of the proof: the rules of an asset by the codes that they name for one client: `IsIndexOf`.
-use Rattle.std.specs.Prelude.{◌≡◌, ◌≢◌, ℕ, ◌+◌, ◌<◌, ◌≤◌, ◌⊎◌, ◌↔◌, pos, Bool, true, false, not, ltb, ◌&&◌, if◌then◌else◌, List, get_or, length, Option, None, Some, take, slice_get, option_and_then, AllPairs, Contains}
+use Rattle.std.specs.Prelude.{◌≡◌, ◌≢◌, ℕ, ◌+◌, ◌<◌, ◌≤◌, ◌⊎◌, ◌↔◌, pos, Bool, true, false, not, ltb, ◌&&◌, if◌then◌else◌, List, get_or}
+use Rattle.std.specs.Prelude.{length, Option, None, Some, take, slice_get, option_and_then, AllPairs, Contains}
 use Rattle.std.specs.List.{Any, list_any, position}
 use Rattle.std.specs.List.Sorted.{IsPartitionPoint}
 use Rattle.std.specs.Option.{option_map_or}
@@ -56,7 +57,8 @@ has_group_to_value r act = has_group_and_point r act && takes_value r.values act
 -- so many pairs stand at the front, and in pairs that ascend they are those of lower codes
 abbrev pub IsStartOf : ℕ → List CodePair → ℕ → Type 0
 IsStartOf code pairs start =
-    (start ≤ length pairs) × (AllPairs IsPairBefore pairs → IsPartitionPoint (λ p. ltb p.code code ≡ true) (λ p. ltb p.code code ≡ false) pairs start)
+    (start ≤ length pairs) × (AllPairs IsPairBefore pairs → IsPartitionPoint (λ p. ltb p.code code ≡ true) (λ p. ltb p.code code ≡ false)
+    pairs start)
 
 -- of each code that has a place here, where its pairs begin
 abbrev pub HasStarts : List ℕ → List CodePair → Type 0
@@ -76,7 +78,8 @@ pub record IsFrontOf (code : ℕ) (pairs : List CodePair) (count : ℕ) : Type 0
 -- the first rule of these pairs that has the act but for its client and code
 abbrev pub first_of_pairs : List CodePair → List Rule → Act → Option (ℕ × Rule)
 first_of_pairs pairs rules act =
-    option_and_then (λ k. option_and_then (λ p. numbered rules p.rule) (slice_get pairs k)) (position (λ p. rule_at rules p.rule (λ r. has_group_to_value r act)) pairs)
+    option_and_then (λ k. option_and_then (λ p. numbered rules p.rule) (slice_get pairs k))
+    (position (λ p. rule_at rules p.rule (λ r. has_group_to_value r act)) pairs)
 
 -- the pairs up to a place, that one included, or all of them
 abbrev pub tried : Option ℕ → List CodePair → List CodePair

@@ -26,7 +26,8 @@ TakesAnyValue asset client code =
 
 -- a rule of the client and the code states values
 abbrev pub some_states_values : Asset → (client code : ℕ) → Bool
-some_states_values asset client code = list_any (λ r. (takes r.clients (pos client) && takes r.codes (pos code)) && not (is_empty r.values)) asset.rules
+some_states_values asset client code = list_any (λ r. (takes r.clients (pos client) && takes r.codes (pos code)) && not (is_empty r.values))
+    asset.rules
 
 -- the test says the same of each point from the first to the last
 abbrev pub IsSteady : (ℕ → Bool) → (first last : ℕ) → Type 0

@@ -1,5 +1,6 @@
 -- What the rules of an asset say about an act of a client: verdict_of. The first rule that has the act decides.
-use Rattle.std.specs.Prelude.{ℕ, ◌<◌, ℤ, pos, int_le, Bool, true, false, not, ◌&&◌, if◌then◌else◌, List, [], ◌∷◌, length, Option, Some, None, position, slice_get, option_map, option_and_then}
+use Rattle.std.specs.Prelude.{ℕ, ◌<◌, ℤ, pos, int_le, Bool, true, false, not, ◌&&◌, if◌then◌else◌, List, [], ◌∷◌, length, Option, Some}
+use Rattle.std.specs.Prelude.{None, position, slice_get, option_map, option_and_then}
 use Rattle.std.specs.List.{list_any}
 use Rattle.cf_view.specs.declared.base.Act.{Act}
 use Rattle.cf_view.specs.declared.base.Reason.{Reason}

@@ -1,5 +1,6 @@
 -- What a policy keeps that was read from a text: IsWithin.
-use Rattle.std.specs.Prelude.{◌≡◌, ◌≢◌, ℕ, ◌^◌, ◌<◌, ◌≤◌, ℤ, pos, ◌≤ℤ◌, true, false, List, length, All, AllPairs, Option, Some, None, is_some, count_by}
+use Rattle.std.specs.Prelude.{◌≡◌, ◌≢◌, ℕ, ◌^◌, ◌<◌, ◌≤◌, ℤ, pos, ◌≤ℤ◌, true, false, List, length, All, AllPairs, Option, Some, None}
+use Rattle.std.specs.Prelude.{is_some, count_by}
 use Rattle.cf_policy.specs.declared.policy.Action.{Action}
 use Rattle.cf_policy.specs.declared.policy.Action.TheVariants.{Allow, Refuse}
 use Rattle.cf_policy.specs.declared.policy.Rate.{Rate}
@@ -9,7 +10,10 @@ use Rattle.cf_policy.specs.declared.policy.Asset.{Asset}
 use Rattle.cf_policy.specs.declared.policy.Policy.{Policy}
 use Rattle.cf_policy.specs.declared.policy.Protocol.{Protocol}
 use Rattle.cf_policy.specs.declared.policy.Protocol.TheVariants.{Modbus, Dnp3, Iec104}
-use Rattle.cf_policy.specs.declared.limits.TheConstants.{HIGHEST_ADDRESS, HIGHEST_CODE, HIGHEST_COMMON_ADDRESS, HIGHEST_GROUP, HIGHEST_LINK_ADDRESS, HIGHEST_MOST, HIGHEST_POINT, HIGHEST_UNIT, HIGHEST_VALUE, LONGEST_NAME, LONGEST_RATE, LOWEST_VALUE, MOST_ASSETS, MOST_RATED, MOST_RULES, MOST_SPANS}
+use Rattle.cf_policy.specs.declared.limits.TheConstants.{HIGHEST_ADDRESS, HIGHEST_CODE, HIGHEST_COMMON_ADDRESS, HIGHEST_GROUP}
+use Rattle.cf_policy.specs.declared.limits.TheConstants.{HIGHEST_LINK_ADDRESS, HIGHEST_MOST, HIGHEST_POINT, HIGHEST_UNIT, HIGHEST_VALUE}
+use Rattle.cf_policy.specs.declared.limits.TheConstants.{LONGEST_NAME, LONGEST_RATE, LOWEST_VALUE, MOST_ASSETS, MOST_RATED, MOST_RULES}
+use Rattle.cf_policy.specs.declared.limits.TheConstants.{MOST_SPANS}
 use Rattle.cf_policy.specs.Names.{is_name, is_reserved}
 
 -- the limits, as the code has them, for the definitions of other crates

@@ -1,8 +1,10 @@
 //! The rules of an asset by code: for each code the rules that have it and one client, found without looking at the
 //! others.
-ghost use Rattle.std.specs.Prelude.{◌≡◌, ℕ, ◌<◌, ◌≤◌, ◌&&◌, pos, Bool, List, Some, false, true, take, length, All, AllPairs, option_and_then, option_map, position, slice_get, IfOk, IfSome, OnOk};
+ghost use Rattle.std.specs.Prelude.{◌≡◌, ℕ, ◌<◌, ◌≤◌, ◌&&◌, pos, Bool, List, Some, false, true, take, length, All, AllPairs};
+ghost use Rattle.std.specs.Prelude.{option_and_then, option_map, position, slice_get, IfOk, IfSome, OnOk};
 ghost use Rattle.std.specs.List.{list_any};
-ghost use Rattle.cf_policy.specs.Index.{IsIndexOf, IsFrontOf, IsStartOf, HasStarts, AddsCodes, HasPairsBelow, IsPairBefore, IsPartOfCode, rule_at, has_group, has_group_and_point, has_group_to_value, reason_of_pairs, verdict_by};
+ghost use Rattle.cf_policy.specs.Index.{IsIndexOf, IsFrontOf, IsStartOf, HasStarts, AddsCodes, HasPairsBelow, IsPairBefore, IsPartOfCode};
+ghost use Rattle.cf_policy.specs.Index.{rule_at, has_group, has_group_and_point, has_group_to_value, reason_of_pairs, verdict_by};
 ghost use Rattle.cf_policy.specs.Verdict.{verdict_of, decided, is_allow, numbered, IsInside};
 ghost use Rattle.cf_policy.specs.Within.{IsAssetWithin, IsRuleWithin};
 
@@ -78,7 +80,8 @@ impl CodeIndex {
     /// The pairs from the first of a code on, where they ascend by code.
     #[inline(always)]
     fn pairs_from(&self, code: u16) -> &[CodePair]
-        ensures { AllPairs IsPairBefore self.now → (count : ℕ) → IsFrontOf code result.now count → IsPartOfCode code self.now (take count result.now) }
+        ensures { AllPairs IsPairBefore self.now → (count : ℕ) → IsFrontOf code result.now count
+            → IsPartOfCode code self.now (take count result.now) }
     {
         let (_, rest) = self.pairs.as_slice().split_at(self.start(code));
         rest
@@ -199,7 +202,8 @@ fn rule_of<'a>(
     rules: &'a [Rule],
     place: Option<usize>,
 ) -> Option<(usize, &'a Rule)>
-    ensures rule { option_map (λ p. (p.0, p.1.now)) result ≡ option_and_then (λ k. option_and_then (λ p. numbered rules.now p.rule) (slice_get pairs.now k)) place }
+    ensures rule { option_map (λ p. (p.0, p.1.now)) result
+        ≡ option_and_then (λ k. option_and_then (λ p. numbered rules.now p.rule) (slice_get pairs.now k)) place }
     ensures inside { IfSome result (λ p. p.0 < length rules.now) }
 {
     let number = pairs.get(place?)?.rule;

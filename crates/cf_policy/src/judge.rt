@@ -1,7 +1,8 @@
 //! The verdict of an asset's rules about an act of a client.
 ghost use Rattle.std.specs.Prelude.{◌≡◌, ◌<◌, ◌&&◌, IfSome, length, option_map};
 ghost use Rattle.std.specs.List.{list_any};
-ghost use Rattle.cf_policy.specs.Verdict.{verdict_of, first_rule, first_number, has_function, has_point, has_act, takes, takes_value, covers, default_reason, rule_reason, is_allow, IsInside};
+ghost use Rattle.cf_policy.specs.Verdict.{verdict_of, first_rule, first_number, has_function, has_point, has_act, takes, takes_value};
+ghost use Rattle.cf_policy.specs.Verdict.{covers, default_reason, rule_reason, is_allow, IsInside};
 
 use crate::lists::Items;
 use crate::policy::{Action, Asset, Decider, Rule, Span, Verdict};

@@ -1,5 +1,6 @@
 -- What the sets of points of a version 2 document mean: sets; and a rule's points beside them: rule_points.
-use Rattle.std.specs.Prelude.{ℕ, pos, Bool, nat_eq, nat_lt, if◌then◌else◌, List, [], ◌∷◌, ◌++◌, length, drop, Option, Some, None, Ok, option_map, codes, bytes_eq, find}
+use Rattle.std.specs.Prelude.{ℕ, pos, Bool, nat_eq, nat_lt, if◌then◌else◌, List, [], ◌∷◌, ◌++◌, length, drop, Option, Some, None, Ok}
+use Rattle.std.specs.Prelude.{option_map, codes, bytes_eq, find}
 use Rattle.std.specs.List.{list_any, starts_with}
 use Rattle.toml.specs.Data.{Data, Items, no_items, item, Members}
 use Rattle.cf_policy.specs.declared.policy.Span.{Span}

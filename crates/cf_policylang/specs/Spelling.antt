@@ -1,5 +1,6 @@
 -- Steps of the proof: the tables of TOML that rules, sets and assets are as they are written: `rule_table`, `set_table` and `asset_table`.
-use Rattle.std.specs.Prelude.{ℕ, ◌+◌, pos, nat_abs, Bool, ◌&&◌, true, false, if◌then◌else◌, List, [], ◌∷◌, ◌++◌, Option, Some, None, codes, decimal, map}
+use Rattle.std.specs.Prelude.{ℕ, ◌+◌, pos, nat_abs, Bool, ◌&&◌, true, false, if◌then◌else◌, List, [], ◌∷◌, ◌++◌, Option, Some, None, codes}
+use Rattle.std.specs.Prelude.{decimal, map}
 use Rattle.std.specs.Fmt.{signed_decimal}
 use Rattle.std.specs.List.{enumerate_from, position}
 use Rattle.std.specs.Ordering.{match_ordering, nat_cmp, int_eq}

@@ -4,7 +4,8 @@ ghost use Rattle.std.specs.List.{list_any};
 ghost use Rattle.toml.specs.View.{table_view, array_view};
 ghost use Rattle.cf_policy.specs.Within.{lowest_station, highest_station, highest_master, most_assets};
 ghost use Rattle.cf_policylang.specs.Tested.{Answers, AnswersPlainly};
-ghost use Rattle.cf_policylang.specs.Assets.{is_asset_taken, asset_name, asset_address, number_at, is_same_endpoint, is_endpoint_taken, endpoint, protocol_of, protocol, no_master, master, asset, assets_from};
+ghost use Rattle.cf_policylang.specs.Assets.{is_asset_taken, asset_name, asset_address, number_at, is_same_endpoint, is_endpoint_taken};
+ghost use Rattle.cf_policylang.specs.Assets.{endpoint, protocol_of, protocol, no_master, master, asset, assets_from};
 
 use crate::fields::{as_number, as_table, as_text, has_other, name, number_in, required, stated};
 use crate::numbers::address;

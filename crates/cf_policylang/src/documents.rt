@@ -4,7 +4,8 @@ ghost use Rattle.toml.specs.View.{table_view, array_view};
 ghost use Rattle.cf_policy.specs.Within.{IsWithin, most_assets};
 ghost use Rattle.cf_policylang.specs.Tested.{Answers, AnswersPlainly, or_refused, at_document};
 ghost use Rattle.cf_policylang.specs.Fields.{has_other};
-ghost use Rattle.cf_policylang.specs.Documents.{document_keys, edition_of, version, asset_items, document, toml_of, text_meaning, policy_meaning};
+ghost use Rattle.cf_policylang.specs.Documents.{document_keys, edition_of, version, asset_items, document, toml_of, text_meaning};
+ghost use Rattle.cf_policylang.specs.Documents.{policy_meaning};
 
 use crate::assets::assets_from;
 use crate::fields::{Kind, as_array_of, as_number, count, has_other, required};

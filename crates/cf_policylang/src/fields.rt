@@ -6,7 +6,8 @@ ghost use Rattle.toml.specs.View.{view, table_view, array_view};
 ghost use Rattle.cf_policy.specs.Names.{is_name, is_name_byte};
 ghost use Rattle.cf_policy.specs.Within.{longest_name};
 ghost use Rattle.cf_policylang.specs.Tested.{AnswersPlainly};
-ghost use Rattle.cf_policylang.specs.Fields.{is_among, has_other, stated, required, as_text, as_number, as_table, is_kind, all_kind, as_array_of, count, name, number_in};
+ghost use Rattle.cf_policylang.specs.Fields.{is_among, has_other, stated, required, as_text, as_number, as_table, is_kind, all_kind};
+ghost use Rattle.cf_policylang.specs.Fields.{as_array_of, count, name, number_in};
 
 use crate::refusal::{Cause, Key, Place, PolicyRefusal, refusal};
 use cf_policy::{LONGEST_NAME, Name};

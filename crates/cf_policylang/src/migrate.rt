@@ -51,7 +51,8 @@ pub fn migrated_text(alloc: Global, policy: &Policy) -> Result<String, NoMemory>
 /// The text of the document that has these sets and assets. It means a policy whose document that is.
 fn printed(alloc: Global, sets: Array, assets: Array) -> Result<String, AllocError>
     ensures text { IfOk result (λ t. IsDocumentText false (second_document (array_view sets) (array_view assets)) (string_bytes t)) }
-    ensures meaning { IfOk result (λ t. (p : Policy) → IsWithin p → second_document (array_view sets) (array_view assets) ≡ migrated p → text_meaning (string_bytes t) ≡ Ok p) }
+    ensures meaning { IfOk result (λ t. (p : Policy) → IsWithin p → second_document (array_view sets) (array_view assets) ≡ migrated p
+        → text_meaning (string_bytes t) ≡ Ok p) }
 {
     document_text(alloc, &second_document(alloc, sets, assets)?)
 }

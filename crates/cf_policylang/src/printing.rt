@@ -13,7 +13,8 @@ use toml::Table;
 /// date that no calendar has, where a table has such a value; no table of a policy has a date.
 pub fn document_text(alloc: Global, table: &Table) -> Result<String, AllocError>
     ensures text { IfOk result (λ t. IsDocumentText false (table_view table.now) (string_bytes t)) }
-    ensures meaning { IfOk result (λ t. members_depth (table_view table.now) ≤ recursion_limit → text_meaning (string_bytes t) ≡ document (table_view table.now)) }
+    ensures meaning { IfOk result (λ t. members_depth (table_view table.now) ≤ recursion_limit
+        → text_meaning (string_bytes t) ≡ document (table_view table.now)) }
 {
     match toml::table_to_string(alloc, table) {
         Ok(text) => Ok(text),

@@ -5,7 +5,8 @@ ghost use Rattle.toml.specs.View.{view, table_view, array_view};
 ghost use Rattle.cf_policy.specs.Within.{most_rules};
 ghost use Rattle.cf_policy.specs.Names.{is_reserved};
 ghost use Rattle.cf_policylang.specs.Tested.{Answers, AnswersPlainly, at_rule};
-ghost use Rattle.cf_policylang.specs.Rules.{is_rule_taken, rule_name, action_of, action, client_spans, code_spans, group_spans, value_spans, rule, rules_from, rule_items, rules};
+ghost use Rattle.cf_policylang.specs.Rules.{is_rule_taken, rule_name, action_of, action, client_spans, code_spans, group_spans};
+ghost use Rattle.cf_policylang.specs.Rules.{value_spans, rule, rules_from, rule_items, rules};
 
 use crate::fields::{
     Kind, as_array_of, as_table, as_text, count, has_other, name, required, stated,

@@ -4,7 +4,8 @@ ghost use Rattle.std.specs.List.{list_any};
 ghost use Rattle.toml.specs.View.{view, table_view, array_view};
 ghost use Rattle.cf_policylang.specs.declared.sets.TheConstants.{MOST_SETS};
 ghost use Rattle.cf_policylang.specs.Tested.{Answers, AnswersPlainly, and_then};
-ghost use Rattle.cf_policylang.specs.Sets.{entry_spans, is_set_taken, named_in, own_span, point_entry, points_from, rule_points, set, set_items, set_name, set_points, set_spans, sets, sets_from, stated_points};
+ghost use Rattle.cf_policylang.specs.Sets.{entry_spans, is_set_taken, named_in, own_span, point_entry, points_from, rule_points, set};
+ghost use Rattle.cf_policylang.specs.Sets.{set_items, set_name, set_points, set_spans, sets, sets_from, stated_points};
 
 use crate::fields::{
     Kind, as_array_of, as_table, as_text, count, has_other, is_name, name, required, stated,
@@ -181,7 +182,8 @@ fn push_points(
     place: Place,
     value: &Value,
 ) -> Result<(), PolicyFault>
-    ensures { Answers (λ _. spans.new.items) (and_then (point_entry named.now place (view value.now)) (λ own. Ok (spans.old.items ++ own))) result }
+    ensures { Answers (λ _. spans.new.items) (and_then (point_entry named.now place (view value.now)) (λ own. Ok (spans.old.items ++ own)))
+        result }
 {
     let text = as_text(Key::Points, place, value)?;
     match named_in(named.edition, text) {

@@ -6,7 +6,9 @@ ghost use Rattle.toml.specs.Data.{no_members, string};
 ghost use Rattle.cf_view.specs.Text.{dotted};
 ghost use Rattle.cf_policy.specs.Within.{AreSpansWithin, IsAssetWithin, IsRuleWithin, IsSpanWithin, highest_address};
 ghost use Rattle.cf_policylang.specs.declared.sets.TheConstants.{MOST_SETS};
-ghost use Rattle.cf_policylang.specs.Spelling.{action_text, address_text, are_same, asset_table, number_text, numbers, point_items, protocol_text, rule_table, rule_tables, set_place, set_table, set_text, texts, with_key, with_list, with_master, with_rate};
+ghost use Rattle.cf_policylang.specs.Spelling.{action_text, address_text, are_same, asset_table, number_text, numbers, point_items};
+ghost use Rattle.cf_policylang.specs.Spelling.{protocol_text, rule_table, rule_tables, set_place, set_table, set_text, texts, with_key};
+ghost use Rattle.cf_policylang.specs.Spelling.{with_list, with_master, with_rate};
 
 use crate::refusal::Key;
 use arrayvec::ArrayString;

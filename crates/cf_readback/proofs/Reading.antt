@@ -6,7 +6,8 @@ use Rattle.std.proofs.lemmas.List.{length-append}
 use Rattle.std.proofs.Math.Seq.{take-append_seam}
 use Rattle.cf_leg.specs.Emitted.{spelled}
 use Rattle.cf_pcap.specs.Header.{output_header, output_octets}
-use Rattle.cf_pcap.specs.Record.{captured_at, head_octets, moment_limit, stamp_at}
+use Rattle.cf_pcap.specs.Record.{captured_at, head_octets, stamp_at}
+use Rattle.cf_view.specs.Moment.{moment_limit}
 use Rattle.cf_pcap.specs.declared.header.Header.{Header}
 use Rattle.cf_pcapng.specs.Block.{is_section}
 use Rattle.cf_policy.specs.declared.Asset.{Asset}
@@ -30,7 +31,7 @@ whole_at : (h : Header) (place : ℕ) (xs : List ℕ) → 16 ≤ length xs → c
     classic_at h place xs ≡ Fits (record { stamp = stamp_at h xs; link = h.link; body = slice_range xs 16 (16 + captured_at h xs) }) (16 + captured_at h xs)
 whole_at h place xs a b c d = grind (arith, nat_tests)
 
-head_at : (place moment len : ℕ) (body rest : List ℕ) → moment < 2 ^ 32 * 1000000 → len ≤ 262144 → length body ≡ len → place + length (head_octets moment len ++ body ++ rest) ≤ 2 ^ 40 →
+head_at : (place moment len : ℕ) (body rest : List ℕ) → moment < moment_limit → len ≤ 262144 → length body ≡ len → place + length (head_octets moment len ++ body ++ rest) ≤ 2 ^ 40 →
     classic_at output_header place (head_octets moment len ++ body ++ rest) ≡ Fits (record { stamp = moment; link = output_header.link; body = body }) (16 + len)
 head_at place moment len body rest a b l small =
     let xs = head_octets moment len ++ body ++ rest in

@@ -5,7 +5,7 @@ use Rattle.cf_leg.specs.Emitted.{spelled}
 use Rattle.cf_packet.specs.Packet.{read_record}
 use Rattle.cf_packet.specs.Written.{IsWritable}
 use Rattle.cf_pcap.specs.Header.{output_header}
-use Rattle.cf_pcap.specs.Record.{moment_limit}
+use Rattle.cf_view.specs.Moment.{moment_limit}
 use Rattle.cf_policy.specs.declared.Asset.{Asset}
 use Rattle.cf_run.specs.Capture.{AreRecords, FileEnd, LastPlace, Record}
 use Rattle.cf_run.specs.Form.{form_of}
@@ -52,10 +52,12 @@ pub record ReadsAs (octets : List ℕ) (all : List Sent) : Type 0 where
 -- that the fields are in their ranges follows from the octets
 abbrev pub CapturesAreRead : Type 0
 CapturesAreRead =
-    (all : List Sent) → AllByRecursion MayBeWritten all → IsOctets (capture_of all) → length (capture_of all) ≤ 2 ^ 40 → ReadsAs (capture_of all) all
+    (all : List Sent) → AllByRecursion MayBeWritten all → IsOctets (capture_of all) → length (capture_of all) ≤ 2 ^ 40
+    → ReadsAs (capture_of all) all
 
 -- the output capture of a run over records in time is read as what its events sent
 abbrev pub RunsAreReadBack : Type 0
 RunsAreReadBack =
-    (assets : List Asset) (limit : ℕ) (given : List Input) (out log : List ℕ) (summary : Summary) (run : IsRun assets limit given out log summary) →
+    (assets : List Asset) (limit : ℕ) (given : List Input) (out log : List ℕ) (summary : Summary)
+    (run : IsRun assets limit given out log summary) →
     AllByRecursion (λ i. i.moment < moment_limit) given → IsOctets out → length out ≤ 2 ^ 40 → ReadsAs out (sent run.events)

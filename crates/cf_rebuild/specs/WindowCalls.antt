@@ -3,6 +3,7 @@
 use Rattle.std.specs.Prelude.{◌≡◌, ℕ, ◌+◌, ◌^◌, ◌≤◌, List, [], ◌∷◌, length, ℤ, pos, ◌≤ℤ◌}
 use Rattle.cf_stream.specs.FirstCopy.{Offer}
 use Rattle.cf_stream.specs.Position.{place_or_zero}
+use Rattle.cf_stream.specs.Sizes.{window_size}
 use Rattle.cf_stream.specs.Stream.{Stream}
 use Rattle.cf_rebuild.specs.ReceiveWindow.{Window, IsNew, TakesIn, Consumes, base_of}
 
@@ -16,7 +17,7 @@ abbrev pub WindowStep : WindowCall → Window → Window → Type 0
 WindowStep (Offered at text) old new = TakesIn old (record { at = at; text = text; edge = old.edge }) new
 WindowStep (Consumed n) old new = (n ≤ length old.pending) × Consumes old n new
 WindowStep (Opened edge) old new =
-    (pos old.edge ≤ℤ edge) × (edge ≤ℤ pos (base_of old + 16384)) × (edge ≤ℤ pos (old.consumed + 32768)) × (edge ≤ℤ pos (2 ^ 31))
+    (pos old.edge ≤ℤ edge) × (edge ≤ℤ pos (base_of old + window_size)) × (edge ≤ℤ pos (old.consumed + 32768)) × (edge ≤ℤ pos (2 ^ 31))
     × (new ≡ record old { edge = place_or_zero edge })
 
 -- from a new window on, the calls leave this one

@@ -12,7 +12,10 @@ pub fn every_window_run()
     ensures stands { (calls : List WindowCall) (w : Window) → IsWindowRun calls w → IsWindowOf w (offers_by calls) }
     ensures edge { (calls : List WindowCall) (w : Window) → IsWindowRun calls w → w.edge ≡ edge_by calls }
     ensures consumed { (calls : List WindowCall) (w : Window) → IsWindowRun calls w → w.consumed ≡ consumed_by calls }
-    ensures base { (calls : List WindowCall) (w : Window) (s : Stream) → IsWindowRun calls w → IsTaken (first_copy (offers_by calls)) s → base_of w ≡ letter_count s }
-    ensures pending { (calls : List WindowCall) (w : Window) (s : Stream) → IsWindowRun calls w → IsTaken (first_copy (offers_by calls)) s → w.pending ≡ drop (consumed_by calls) s.bytes }
-    ensures ended { (calls : List WindowCall) (w : Window) (s : Stream) → IsWindowRun calls w → IsTaken (first_copy (offers_by calls)) s → w.ended ≡ s.ended }
+    ensures base { (calls : List WindowCall) (w : Window) (s : Stream) → IsWindowRun calls w → IsTaken (first_copy (offers_by calls)) s
+        → base_of w ≡ letter_count s }
+    ensures pending { (calls : List WindowCall) (w : Window) (s : Stream) → IsWindowRun calls w → IsTaken (first_copy (offers_by calls)) s
+        → w.pending ≡ drop (consumed_by calls) s.bytes }
+    ensures ended { (calls : List WindowCall) (w : Window) (s : Stream) → IsWindowRun calls w → IsTaken (first_copy (offers_by calls)) s
+        → w.ended ≡ s.ended }
 {}

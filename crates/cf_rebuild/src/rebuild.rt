@@ -2,6 +2,7 @@
 ghost use Rattle.std.specs.Prelude.{◌≡◌, ◌+◌, ◌-◌, ◌%◌, ◌^◌, ◌≤◌, IfOk, List, [], ◌∷◌, length, min, drop, pos, negsuc, ◌≤ℤ◌};
 ghost use Rattle.cf_stream.specs.FirstCopy.{Offer, first_copy, IsTaken};
 ghost use Rattle.cf_stream.specs.Position.{place_or_zero};
+ghost use Rattle.cf_stream.specs.Sizes.{window_size};
 ghost use Rattle.cf_stream.specs.Stream.{Stream, letter_count, Extends};
 ghost use Rattle.cf_rebuild.specs.ReceiveWindow.{IsNew, IsWindow, TakesIn, Consumes, IsWindowOf, base_of, unread};
 
@@ -42,7 +43,14 @@ impl Model for Rebuild {
 
     ghost view = { λ a. record { consumed = a.consumed; pending = take a.ready (turned (a.consumed % 32768) a.bytes.items); ended = a.ended; ahead = places (place_at a.kept.items a.ends.items a.bytes.items (a.consumed % 32768)) a.ready (length a.bytes.items - a.ready); edge = a.edge } };
 
-    ghost invariant = { λ a. (length a.kept.items ≡ 512) × (length a.ends.items ≡ 512) × (length a.bytes.items ≡ 32768) × (a.ready ≤ 32768) × IsWindow (record { consumed = a.consumed; pending = take a.ready (turned (a.consumed % 32768) a.bytes.items); ended = a.ended; ahead = places (place_at a.kept.items a.ends.items a.bytes.items (a.consumed % 32768)) a.ready (length a.bytes.items - a.ready); edge = a.edge }) };
+    ghost invariant = { λ a. (length a.kept.items ≡ 512) × (length a.ends.items ≡ 512) × (length a.bytes.items ≡ 32768) × (a.ready ≤ 32768)
+        × IsWindow (record {
+          consumed = a.consumed;
+          pending = take a.ready (turned (a.consumed % 32768) a.bytes.items);
+          ended = a.ended;
+          ahead = places (place_at a.kept.items a.ends.items a.bytes.items (a.consumed % 32768)) a.ready (length a.bytes.items - a.ready);
+          edge = a.edge;
+        }) };
 }
 
 impl Rebuild {
@@ -66,7 +74,8 @@ impl Rebuild {
     /// The number of letters taken: the place of the next one.
     pub fn base(&self) -> i64
         ensures value { result ≡ pos (base_of self.now) }
-        ensures taken { (offers : List Offer) (s : Stream) → IsWindowOf self.now offers → IsTaken (first_copy offers) s → result ≡ pos (letter_count s) }
+        ensures taken { (offers : List Offer) (s : Stream) → IsWindowOf self.now offers → IsTaken (first_copy offers) s
+            → result ≡ pos (letter_count s) }
         ensures bounds { IsWindow self.now }
     {
         (self.consumed + self.ready as u64 + u64::from(self.ended)) as i64
@@ -99,7 +108,8 @@ impl Rebuild {
     pub fn pending(&self) -> View<'_>
         ensures value { result.bytes ≡ self.now.pending }
         ensures split { result.split ≡ min (length self.now.pending) (32768 - self.now.consumed % 32768) }
-        ensures taken { (offers : List Offer) (s : Stream) → IsWindowOf self.now offers → IsTaken (first_copy offers) s → result.bytes ≡ drop self.now.consumed s.bytes }
+        ensures taken { (offers : List Offer) (s : Stream) → IsWindowOf self.now offers → IsTaken (first_copy offers) s
+            → result.bytes ≡ drop self.now.consumed s.bytes }
     {
         lend(&self.bytes, self.start(), self.ready)
     }
@@ -108,7 +118,7 @@ impl Rebuild {
     /// the first byte that is not consumed, and at most 2^31.
     pub fn open_to(&mut self, edge: i64)
         requires grows { pos self.old.edge ≤ℤ edge }
-        requires near { edge ≤ℤ pos (base_of self.old + 16384) }
+        requires near { edge ≤ℤ pos (base_of self.old + window_size) }
         requires room { edge ≤ℤ pos (self.old.consumed + 32768) }
         requires limit { edge ≤ℤ pos (2 ^ 31) }
         ensures new { self.new ≡ record self.old { edge = place_or_zero edge } }
@@ -124,8 +134,10 @@ impl Rebuild {
         requires lowest { negsuc (2 ^ 32 - 1) ≤ℤ at }
         requires highest { at ≤ℤ pos (2 ^ 32) }
         requires text { length text.now ≤ 65535 }
-        ensures takes { TakesIn self.old (record { at = at; text = record { bytes = text.now; ended = end }; edge = self.old.edge }) self.new }
-        ensures stands { (offers : List Offer) → IsWindowOf self.old offers → IsWindowOf self.new (record { at = at; text = record { bytes = text.now; ended = end }; edge = self.old.edge } ∷ offers) }
+        ensures takes { TakesIn self.old (record { at = at; text = record { bytes = text.now; ended = end }; edge = self.old.edge })
+            self.new }
+        ensures stands { (offers : List Offer) → IsWindowOf self.old offers
+            → IsWindowOf self.new (record { at = at; text = record { bytes = text.now; ended = end }; edge = self.old.edge } ∷ offers) }
         ensures grows { Extends (unread self.old) (unread self.new) }
     {
         let room = (self.edge - self.consumed) as usize;

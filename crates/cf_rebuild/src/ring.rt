@@ -1,5 +1,6 @@
 //! The letters of a ring by their places: place k stands k after the place of slot `start`.
-ghost use Rattle.std.specs.Prelude.{◌≡◌, ℕ, ◌+◌, ◌-◌, ◌*◌, ◌/◌, ◌%◌, ◌^◌, ◌<◌, ◌≤◌, ◌≢◌, ◌⊎◌, true, false, IfOk, List, [], length, vec_len, min, take, slice_index, Some, None, pos, negsuc, ◌≤ℤ◌, ◌+ℤ◌};
+ghost use Rattle.std.specs.Prelude.{◌≡◌, ℕ, ◌+◌, ◌-◌, ◌*◌, ◌/◌, ◌%◌, ◌^◌, ◌<◌, ◌≤◌, ◌≢◌, ◌⊎◌, true, false, IfOk, List, [], length, vec_len};
+ghost use Rattle.std.specs.Prelude.{min, take, slice_index, Some, None, pos, negsuc, ◌≤ℤ◌, ◌+ℤ◌};
 ghost use Rattle.std.specs.Option.{option_or};
 ghost use Rattle.cf_stream.specs.FirstCopy.{offered};
 ghost use Rattle.cf_stream.specs.Stream.{Byte, End};
@@ -25,7 +26,8 @@ fn keep_text(
 )
     requires inside { (start < 32768) × (room ≤ 32768) }
     requires sizes { (length bytes.old ≡ 32768) × (length kept.old ≡ 512) × (length ends.now ≡ 512) }
-    ensures places { (k : ℕ) → place_at kept.new ends.now bytes.new start k ≡ option_or (place_at kept.old ends.now bytes.old start k) (offered (record { at = pos begin; text = record { bytes = text.now; ended = false }; edge = room }) k) }
+    ensures places { (k : ℕ) → place_at kept.new ends.now bytes.new start k ≡ option_or (place_at kept.old ends.now bytes.old start k)
+        (offered (record { at = pos begin; text = record { bytes = text.now; ended = false }; edge = room }) k) }
     ensures before { (k : ℕ) → k < begin → k < 32768 → slice_index bytes.new (slot start k) ≡ slice_index bytes.old (slot start k) }
 {
     if room <= begin {
@@ -42,7 +44,8 @@ fn keep_text(
 fn keep_end(ends: &mut [u64], start: usize, place: usize, room: usize)
     requires inside { (start < 32768) × (room ≤ 32768) }
     requires size { length ends.old ≡ 512 }
-    ensures { (kept bytes : List ℕ) (k : ℕ) → place_at kept ends.new bytes start k ≡ option_or (place_at kept ends.old bytes start k) (offered (record { at = pos place; text = record { bytes = []; ended = true }; edge = room }) k) }
+    ensures { (kept bytes : List ℕ) (k : ℕ) → place_at kept ends.new bytes start k ≡ option_or (place_at kept ends.old bytes start k)
+        (offered (record { at = pos place; text = record { bytes = []; ended = true }; edge = room }) k) }
 {
     if place < room {
         keep_end_at(ends, (start + place) % PLACES);
@@ -98,7 +101,9 @@ fn keep(
     requires sizes { (length bytes.old ≡ 32768) × (length kept.old ≡ 512) × (length ends.old ≡ 512) }
     requires at { (negsuc (2 ^ 40) ≤ℤ at) × (at ≤ℤ pos (2 ^ 40)) }
     requires small { (ready < 2 ^ 40) × (length text.now < 2 ^ 40) }
-    ensures places { (k : ℕ) → ready ≤ k → place_at kept.new ends.new bytes.new start k ≡ option_or (place_at kept.old ends.old bytes.old start k) (offered (record { at = at; text = record { bytes = text.now; ended = end }; edge = room }) k) }
+    ensures places { (k : ℕ) → ready ≤ k → place_at kept.new ends.new bytes.new start k
+        ≡ option_or (place_at kept.old ends.old bytes.old start k)
+        (offered (record { at = at; text = record { bytes = text.now; ended = end }; edge = room }) k) }
     ensures before { (k : ℕ) → k < ready → k < 32768 → slice_index bytes.new (slot start k) ≡ slice_index bytes.old (slot start k) }
 {
     let (begin, skip) = start_of(at, ready);
@@ -129,10 +134,13 @@ pub(crate) fn take_in(
     requires sizes { (length bytes.old ≡ 32768) × (length kept.old ≡ 512) × (length ends.old ≡ 512) }
     requires at { (negsuc (2 ^ 40) ≤ℤ at) × (at ≤ℤ pos (2 ^ 40)) }
     requires small { length text.now < 2 ^ 40 }
-    ensures places { (k : ℕ) → ready ≤ k → place_at kept.new ends.new bytes.new start k ≡ option_or (place_at kept.old ends.old bytes.old start k) (offered (record { at = at; text = record { bytes = text.now; ended = end }; edge = room }) k) }
+    ensures places { (k : ℕ) → ready ≤ k → place_at kept.new ends.new bytes.new start k
+        ≡ option_or (place_at kept.old ends.old bytes.old start k)
+        (offered (record { at = at; text = record { bytes = text.now; ended = end }; edge = room }) k) }
     ensures front { take ready (turned start bytes.new) ≡ take ready (turned start bytes.old) }
     ensures range { (ready ≤ result.0) × (result.0 ≤ room) }
-    ensures taken { (k : ℕ) → ready ≤ k → k < result.0 → place_at kept.new ends.new bytes.new start k ≡ Some (Byte (slice_index (turned start bytes.new) k)) }
+    ensures taken { (k : ℕ) → ready ≤ k → k < result.0 → place_at kept.new ends.new bytes.new start k
+        ≡ Some (Byte (slice_index (turned start bytes.new) k)) }
     ensures ended { result.1 ≡ true → (result.0 < room) × (place_at kept.new ends.new bytes.new start result.0 ≡ Some End) }
     ensures unfinished { result.1 ≡ false → result.0 < room → place_at kept.new ends.new bytes.new start result.0 ≡ None }
 {
@@ -199,7 +207,8 @@ fn release_marks(words: &mut [u64], start: usize, count: usize)
 pub(crate) fn release(kept: &mut [u64], ends: &mut [u64], start: usize, count: usize)
     requires inside { (start < 32768) × (count ≤ 32768) }
     requires sizes { (length kept.old ≡ 512) × (length ends.old ≡ 512) }
-    ensures { (bytes : List ℕ) (k : ℕ) → place_at kept.new ends.new bytes (slot start count) k ≡ place_at kept.old ends.old bytes start (count + k) }
+    ensures { (bytes : List ℕ) (k : ℕ) → place_at kept.new ends.new bytes (slot start count) k ≡ place_at kept.old ends.old bytes start
+        (count + k) }
 {
     release_marks(kept, start, count);
     release_marks(ends, start, count);

@@ -31,21 +31,25 @@ abbrev pub unless : (none : Bool) → List ℕ → List ℕ
 unless none octets = if none then [] else octets
 
 -- DNP3: the response to the fragment that the frame completes; some function codes ask for none
-pub record IsFragmentReply (asset : Asset) (ended : Bool) (earlier : List Judged) (frame : FrameValue) (refusal : Refusal) (replied : List ℕ) : Type 0 where
+pub record IsFragmentReply (asset : Asset) (ended : Bool) (earlier : List Judged) (frame : FrameValue) (refusal : Refusal)
+    (replied : List ℕ) : Type 0 where
   pub fragment : List ℕ
   pub is_whole : whole_now asset side.Client earlier frame ≡ fragment ∷ []
-  pub is_reply : replied ≡ unless (ended || not (wants_reply (slice_index fragment 1))) (fragment_frames asset side.Client earlier (reply fragment refusal.reason))
+  pub is_reply : replied ≡ unless (ended || not (wants_reply (slice_index fragment 1)))
+      (fragment_frames asset side.Client earlier (reply fragment refusal.reason))
 
 -- what replies to a refused item of the client, where its stream has ended or not: one case a protocol. No other item is refused
 abbrev pub IsReply : Asset → (ended : Bool) → (earlier : List Judged) → Item → Refusal → (replied : List ℕ) → Type 0
-IsReply asset ended earlier (Took side.Client (Adu adu)) refusal replied = replied ≡ unless ended (spelling (exception_of adu refusal.reason))
+IsReply asset ended earlier (Took side.Client (Adu adu)) refusal replied = replied
+    ≡ unless ended (spelling (exception_of adu refusal.reason))
 IsReply asset ended earlier (Took side.Client (Frame frame)) refusal replied = IsFragmentReply asset ended earlier frame refusal replied
 IsReply asset ended earlier (Took side.Client (Apdu (Info send receive asdu))) refusal replied =
     replied ≡ unless (ended || nat_lt (length asdu) 9) (apdu_spelling (stamped (mirror_stamp (events_of earlier)) (mirrored asdu)))
 IsReply asset ended earlier _ refusal replied = ⊥
 
 -- of a refused command between earlier and later items: what decided, its line, and its reply
-pub record IsTold (asset : Asset) (client : Endpoint) (earlier : List Judged) (j : Judged) (later : List Judged) (refusal : Refusal) : Type 0 where
+pub record IsTold (asset : Asset) (client : Endpoint) (earlier : List Judged) (j : Judged) (later : List Judged) (refusal : Refusal) : Type
+    0 where
   -- a rule that decided is one of the asset's
   pub decider : IsOneOf asset.rules refusal.decider
   pub replied : List ℕ
@@ -58,10 +62,12 @@ pub record IsTold (asset : Asset) (client : Endpoint) (earlier : List Judged) (j
   pub in_log :
       lines asset client [] (earlier ++ j ∷ later)
       ≡ lines asset client [] earlier
-      ++ (line_about asset client j.moment (refusal_line asset refusal (is_some_bytes replied) octets) ∷ lines asset client (earlier ++ j ∷ []) later)
+      ++ (line_about asset client j.moment (refusal_line asset refusal (is_some_bytes replied) octets)
+      ∷ lines asset client (earlier ++ j ∷ []) later)
 
 -- so it is of each refused command of every history
 abbrev pub RefusedAreTold : Type 0
 RefusedAreTold =
     (asset : Asset) (client : Endpoint) (history : List Element) (earlier later : List Judged) (j : Judged) (refusal : Refusal) →
-    AreJudged asset client.address history (earlier ++ j ∷ later) → j.fate ≡ fate.Refused refusal → IsTold asset client earlier j later refusal
+    AreJudged asset client.address history (earlier ++ j ∷ later) → j.fate ≡ fate.Refused refusal
+    → IsTold asset client earlier j later refusal

@@ -1,6 +1,6 @@
 -- Steps of the proof: what a contract sees of a relay between two stages: `RelayingValue`.
 use Rattle.cf_lane.specs.Follows.{Rests}
-use Rattle.cf_lane.specs.Handled.{IsLaneOf, LaneValue, State, debt, state}
+use Rattle.cf_lane.specs.Handled.{IsLaneOf, LaneValue, State, debt, debt_limit, rest_limit, state}
 use Rattle.cf_lane.specs.Output.{other}
 use Rattle.cf_lane.specs.declared.limit.TheConstants.{LETTER_LIMIT}
 use Rattle.cf_outq.specs.SendQueue.{Queue, empty, queue_length}
@@ -89,12 +89,12 @@ pub record IsShort (now : RelayingValue) : Type 0 where
 -- what lets a relay be asked for one stage more, whatever its list
 pub record IsSound (asset : Asset) (most : ℕ) (now : RelayingValue) : Type 0 where
   pub of_asset : IsLaneOf asset now.lane
-  pub debt : debt now.lane ≤ 5300
+  pub debt : debt now.lane ≤ debt_limit
   pub short : IsShort now
   pub to_client : length now.to_client.kept + now.to_client.acked ≤ queue_length now.to_client
   pub to_controller : length now.to_controller.kept + now.to_controller.acked ≤ queue_length now.to_controller
-  pub client_rest : length now.client_rest < 300
-  pub controller_rest : length now.controller_rest < 300
+  pub client_rest : length now.client_rest < rest_limit
+  pub controller_rest : length now.controller_rest < rest_limit
   -- a command for each byte taken at most
   pub counts : now.lane.admitted + now.lane.refused +
       (length now.client_rest + length now.controller_rest) ≤ now.client_letters + now.controller_letters

@@ -12,6 +12,7 @@ use Rattle.cf_lane.specs.Output.{other, outputs, stream_to}
 use Rattle.cf_lane.specs.declared.limit.TheConstants.{LETTER_LIMIT}
 use Rattle.cf_outside.specs.Pair.{Ended, Entry, Finished, Got, Idle, Met, Moment, Took, met_at}
 use Rattle.cf_policy.specs.declared.Asset.{Asset}
+use Rattle.cf_stream.specs.Sizes.{window_size}
 use Rattle.cf_stream.specs.Stream.{Stream, letter_count}
 use Rattle.cf_view.specs.declared.Endpoint.{Endpoint}
 use Rattle.cf_view.specs.declared.Side.{Side}
@@ -45,8 +46,8 @@ queue_of asset to es js = record { bytes = drop (length (given to es)) (outputs 
 -- a side may be asked for bytes: it has not ended, and both queues have at most 16,384 letters
 pub record MayTake (asset : Asset) (s : Side) (es : List Entry) (js : List Judged) : Type 0 where
   pub open_still : ended_of s (history_of es) ≡ false
-  pub client : letter_count (queue_of asset side.Client es js) ≤ 16384
-  pub controller : letter_count (queue_of asset side.Controller es js) ≤ 16384
+  pub client : letter_count (queue_of asset side.Client es js) ≤ window_size
+  pub controller : letter_count (queue_of asset side.Controller es js) ≤ window_size
 
 -- an answer to that: one to 4,096 bytes, End, or Idle
 abbrev pub IsTakeAnswer : Side → Entry → Type 0

@@ -33,4 +33,5 @@ pub record HasStopped (asset : Asset) (listen most : ℕ) (client : Endpoint) (m
   pub count : ℕ
   pub breaks : BeginsStages asset most (turns count) (begun_list asset listen client moment []) answers
   pub some : 0 < most
-  pub stands : StandsStopped asset most (begun_lines asset client moment base) (begun_list asset listen client moment answers) why now own part
+  pub stands : StandsStopped asset most (begun_lines asset client moment base) (begun_list asset listen client moment answers) why now own
+      part

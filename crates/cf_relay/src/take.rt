@@ -7,7 +7,7 @@ ghost use Rattle.cf_outside.specs.Desk.{DeskValue};
 ghost use Rattle.cf_outside.specs.Faults.{HasCause};
 ghost use Rattle.cf_outside.specs.Pair.{FaultsBy};
 ghost use Rattle.cf_policy.specs.Within.{IsAssetWithin};
-ghost use Rattle.cf_lane.specs.Handled.{IsLaneOf, WritesLog, debt, state};
+ghost use Rattle.cf_lane.specs.Handled.{IsLaneOf, WritesLog, debt, debt_limit, rest_limit, state};
 ghost use Rattle.cf_relay.specs.Scene.{RoseBy};
 ghost use Rattle.cf_relay.specs.Taken.{MayTakeNow, StaysWhole, TakesBy, take_state};
 
@@ -51,10 +51,10 @@ pub(crate) fn take_from<L: Links, D: Desk>(
     requires of_asset { IsLaneOf asset.now lane.old }
     requires within { IsAssetWithin asset.now }
     requires whole { DeskValue.whole (D.value desk.old) ≡ true }
-    requires debt { debt lane.old ≤ 5300 }
+    requires debt { debt lane.old ≤ debt_limit }
     requires client_limit { queue_length to_client.old < 2 ^ 30 }
     requires controller_limit { queue_length to_controller.old < 2 ^ 30 }
-    requires little { length heard.old.rest.items < 300 }
+    requires little { length heard.old.rest.items < rest_limit }
     requires counts { lane.old.admitted + lane.old.refused < 2 ^ 40 }
     requires letters { heard.old.letters < 2 ^ 30 }
     requires few { idle.old < most }

@@ -183,13 +183,15 @@ fn relay_turns<P: Pair, D: Desk>(
     requires still { AreClosed (relaying_value relaying) → ⊥ }
     requires whole { DeskValue.whole (D.value desk.old) ≡ true }
     ensures ends { (base : Option (List (List ℕ))) (listen m : ℕ)
-        → StandsFor asset.now (with_lines base (line_about asset.now client m Begun ∷ [])) (met_at listen asset.now.endpoint client ∷ Moment m ∷ [])
+        → StandsFor asset.now (with_lines base (line_about asset.now client m Begun ∷ []))
+        (met_at listen asset.now.endpoint client ∷ Moment m ∷ [])
         (relaying_value relaying) (DeskValue.lines (D.value desk.old))
         → (answers : List Entry) × (P.told pair.new ≡ with_answers (P.told pair.old) answers)
         × RelayEnds asset.now listen most (desk_log base (D.value desk.new)) ⊥
         (met_at listen asset.now.endpoint client ∷ Moment m ∷ answers) result }
     ensures idle { (base : Option (List (List ℕ))) (listen m : ℕ)
-        → StandsFor asset.now (with_lines base (line_about asset.now client m Begun ∷ [])) (met_at listen asset.now.endpoint client ∷ Moment m ∷ [])
+        → StandsFor asset.now (with_lines base (line_about asset.now client m Begun ∷ []))
+        (met_at listen asset.now.endpoint client ∷ Moment m ∷ [])
         (relaying_value relaying) (DeskValue.lines (D.value desk.old))
         → (start : ℕ) → RoseBy relaying.idle start (P.idles pair.old) → IdlesRose most start (P.idles pair.new) result }
     ensures link { FaultsBy (P.faults pair.old) (P.faults pair.new) (result ≡ Err RelayFault.Link) }

@@ -108,7 +108,12 @@ fn asset_at(assets: &[Asset], place: u32) -> Option<&Asset>
 }
 
 /// What a client sent, with what it sent in one more connection.
-fn heard_of(alloc: Global, asset: &Asset, flow: &Flow, before: SenderCounts) -> Result<SenderCounts, NoMemory>
+fn heard_of(
+    alloc: Global,
+    asset: &Asset,
+    flow: &Flow,
+    before: SenderCounts,
+) -> Result<SenderCounts, NoMemory>
     requires within { IsAssetWithin asset.now }
 {
     let mut heard = before;

@@ -1,5 +1,5 @@
 -- What each call does to values that are those of the events.
-use Rattle.std.proofs.Common.{◌≡◌, ℕ, ◌+◌, ◌-◌, ◌%◌, ◌<◌, ◌≤◌, Bool, true, false, List, [], ◌∷◌, ◌++◌, length, drop, nat_lt, if◌then◌else◌, Option, Some, None, IsSome, inl, inr, refl, sym, ◌∙◌, ap, arith, length-append, count_by}
+use Rattle.std.proofs.Common.{◌≡◌, ℕ, ◌+◌, ◌-◌, ◌%◌, ◌<◌, ◌≤◌, true, false, List, [], ◌∷◌, ◌++◌, length, drop, nat_lt, if◌then◌else◌, Option, Some, None, IsSome, inl, inr, refl, sym, ◌∙◌, ap, arith, length-append, count_by}
 use Rattle.std.proofs.lemmas.Bool.Decides.{nat_tests}
 use Rattle.std.proofs.lemmas.Bool.{false≢true, cases_lt, le-ltb, lt-ltb}
 use Rattle.cf_renumber.specs.declared.answer.Stamp.{Stamp}
@@ -9,7 +9,7 @@ use Rattle.cf_renumber.specs.declared.mark.FrameFate.TheVariants as fates
 use Rattle.cf_renumber.specs.declared.mark.Origin.{Origin}
 use Rattle.cf_renumber.specs.declared.mark.Origin.TheVariants as origins
 use Rattle.cf_renumber.specs.Counts.{NumberEvent, Admitted, Refused, ClientAck, Carried, ControllerAck, client_frames, frames_to_client, from_client, to_controller, from_controller, to_client, is_admitted, is_controllers, controllers_among, covered_by, count_from, acked_by_client, acked_by_controller, last_told, client_translated, owed_ack, outstanding_refusal}
-use Rattle.cf_renumber.specs.Numbers.{NumbersValue, IsNumbersValue, waiting, HasCountsOf, IsNumbersOf, IsNumbersAwaiting, uncovered, after_client_ack, after_controller_ack, after_admitted, after_dropped, after_mirror, after_refused, after_carried, stamp_for_controller, stamp_for_client, ack_owed, next_stamp_for_controller, next_stamp_for_client}
+use Rattle.cf_renumber.specs.Numbers.{NumbersValue, IsNumbersValue, waiting, HasCountsOf, IsNumbersOf, IsNumbersAwaiting, uncovered, after_client_ack, after_controller_ack, after_admitted, after_dropped, after_mirror, after_carried, stamp_for_controller, stamp_for_client, ack_owed, next_stamp_for_controller, next_stamp_for_client}
 use Rattle.cf_renumber.proofs.Lists.{count_by-append, count_by-split, among-add, among-append, uncovered-add, uncovered-append, uncovered_again, uncovered_admitted, count-uncovered, length-uncovered, covered_by-le}
 
 pub not_full : (n : ℕ) → (n ≡ 4096 → ⊥) → outstanding_refusal n ≡ None
@@ -56,12 +56,6 @@ module _ (v : NumbersValue) (events : List NumberEvent) (j : ℕ) (h : HasCounts
       ≡ controllers_among j (frames_to_client events) + controllers_among n v.origins
   told_client_ack n = among-add j n (frames_to_client events)
       ∙ ap (λ (xs : List Origin). controllers_among j (frames_to_client events) + controllers_among n xs) (sym h.origins)
-
-  pub sent_for_controller : controllers_among j (frames_to_client events) ≡ from_controller events - count_by is_controllers v.origins
-  sent_for_controller = omega (arith, controllers_left)
-
-  pub sent_for_client : covered_by (acked_by_controller events) (client_frames events) ≡ from_client events - length v.fates
-  sent_for_client = omega (arith, fates_left, covered_by-le (acked_by_controller events) (client_frames events))
 
   pub stamp_controller : count_by is_controllers v.origins ≤ 4096 → stamp_for_controller v ≡ next_stamp_for_controller events j
   stamp_controller l =
@@ -243,11 +237,6 @@ module _ (v : NumbersValue) (events : List NumberEvent) where
         told = told_refused nr w ∙ sym (among-append j (frames_to_client events) (origins.Mirror ∷ []) h.within);
         idle = refl;
       }
-
-  pub stands_refused_so : (nr : ℕ) (mirrored : Bool) → IsNumbersAwaiting v events nr →
-      IsNumbersOf (after_refused v mirrored) (Refused nr mirrored ∷ events)
-  stands_refused_so nr true w = stands_mirrored nr w
-  stands_refused_so nr false w = stands_refused nr w
 
   pub ack_is : (nr : ℕ) → count_by is_controllers v.origins ≤ 4096 → IsNumbersAwaiting v events nr → ack_owed v v.owed ≡ owed_ack events nr
   ack_is nr l w =

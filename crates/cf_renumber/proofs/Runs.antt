@@ -54,12 +54,6 @@ module _ (v : NumbersValue) where
   did_may_send side b a earlier m h = may_send_at side b a (turn_after earlier) (events_of earlier) m h
 
 module _ (old new : NumbersValue) where
-  judged_at : {S : Type 0} (s : S) (stamp : List NumberEvent → ℕ → S) (event : ℕ → NumberEvent) (call : NumbersCall)
-      → ((events : List NumberEvent) (nr : ℕ) → IsNumbersAwaiting old events nr → s ≡ stamp events nr)
-      → ((events : List NumberEvent) (nr : ℕ) → IsNumbersAwaiting old events nr → IsNumbersOf new (event nr ∷ events))
-      → (nr : ℕ) (events : List NumberEvent) → IsNumbersAwaiting old events nr → (s ≡ stamp events nr) × IsNumbersOf new (event nr ∷ events)
-  judged_at s stamp event call a b nr events w = (a events nr w, b events nr w)
-
   admit_at : (s : Stamp) → ((events : List NumberEvent) (nr : ℕ) → IsNumbersAwaiting old events nr → s ≡ admitted_stamp events nr) →
       ((events : List NumberEvent) (nr : ℕ) → IsNumbersAwaiting old events nr → IsNumbersOf new (Admitted nr ∷ events))
       → (p : Turn) (events : List NumberEvent) → MayCall p (Admit s) → IsNumbersAt p old events →

@@ -1,11 +1,14 @@
 -- Steps of the proof: what is kept of the frames of a session to number the next ones: `IsNumbersOf`.
-use Rattle.std.specs.Prelude.{◌≡◌, ℕ, ◌+◌, ◌-◌, ◌%◌, ◌<◌, ◌≤◌, if◌then◌else◌, Bool, true, false, List, [], ◌∷◌, ◌++◌, length, drop, Option, Some, None, count_by, nat_lt}
+use Rattle.std.specs.Prelude.{◌≡◌, ℕ, ◌+◌, ◌-◌, ◌%◌, ◌<◌, ◌≤◌, if◌then◌else◌, Bool, true, false, List, [], ◌∷◌, ◌++◌, length, drop, Option}
+use Rattle.std.specs.Prelude.{Some, None, count_by, nat_lt}
 use Rattle.cf_renumber.specs.declared.answer.Stamp.{Stamp}
 use Rattle.cf_renumber.specs.declared.mark.FrameFate.{FrameFate}
 use Rattle.cf_renumber.specs.declared.mark.FrameFate.TheVariants as fates
 use Rattle.cf_renumber.specs.declared.mark.Origin.{Origin}
 use Rattle.cf_renumber.specs.declared.mark.Origin.TheVariants as origins
-use Rattle.cf_renumber.specs.Counts.{NumberEvent, client_frames, frames_to_client, from_client, to_controller, from_controller, to_client, is_controllers, acked_by_client, acked_by_controller, controllers_among, covered_by, count_from, last_told, is_running, has_started}
+use Rattle.cf_renumber.specs.Counts.{NumberEvent, client_frames, frames_to_client, from_client, to_controller, from_controller, to_client}
+use Rattle.cf_renumber.specs.Counts.{is_controllers, acked_by_client, acked_by_controller, controllers_among, covered_by, count_from}
+use Rattle.cf_renumber.specs.Counts.{last_told, is_running, has_started}
 
 -- what a contract sees of a `Numbers`
 pub record NumbersValue : Type 0 where
@@ -75,7 +78,17 @@ pub record IsNumbersAwaiting (numbers : NumbersValue) (events : List NumberEvent
 
 -- a new one
 abbrev pub empty : NumbersValue
-empty = record { started = false; running = false; fates = []; origins = []; received = 0; admitted = 0; carried = 0; sent = 0; owed = None }
+empty = record {
+  started = false;
+  running = false;
+  fates = [];
+  origins = [];
+  received = 0;
+  admitted = 0;
+  carried = 0;
+  sent = 0;
+  owed = None;
+}
 
 -- what each event leaves of the values
 abbrev pub after_start : NumbersValue → NumbersValue
@@ -128,7 +141,11 @@ ack_owed numbers (Some moved) = if nat_lt 0 moved then Some (stamp_for_controlle
 
 -- the numbers of the next frame to each side, where the client has acknowledged j frames
 abbrev pub next_stamp_for_controller : List NumberEvent → ℕ → Stamp
-next_stamp_for_controller events j = record { send = to_controller events % 32768; receive = controllers_among j (frames_to_client events) % 32768 }
+next_stamp_for_controller events j = record {
+  send = to_controller events % 32768;
+  receive = controllers_among j (frames_to_client events) %
+      32768;
+}
 
 abbrev pub next_stamp_for_client : List NumberEvent → Stamp
 next_stamp_for_client events =

@@ -5,7 +5,9 @@ use Rattle.cf_view.specs.declared.Side.{Side}
 use Rattle.cf_renumber.specs.declared.answer.Stamp.{Stamp}
 use Rattle.cf_renumber.specs.declared.answer.RefusedStamp.{RefusedStamp}
 use Rattle.cf_renumber.specs.declared.answer.NumberRefusal.{NumberRefusal}
-use Rattle.cf_renumber.specs.Counts.{NumberEvent, Started, Stopped, Admitted, Refused, ClientAck, Carried, ControllerAck, may_send, client_refusal, client_ack_refusal, controller_refusal, controller_ack_refusal, admitted_stamp, refused_stamp, carried_stamp, client_translated, controller_translated}
+use Rattle.cf_renumber.specs.Counts.{NumberEvent, Started, Stopped, Admitted, Refused, ClientAck, Carried, ControllerAck, may_send}
+use Rattle.cf_renumber.specs.Counts.{client_refusal, client_ack_refusal, controller_refusal, controller_ack_refusal, admitted_stamp}
+use Rattle.cf_renumber.specs.Counts.{refused_stamp, carried_stamp, client_translated, controller_translated}
 use Rattle.cf_renumber.specs.Numbers.{NumbersValue, IsNumbersOf, IsNumbersAwaiting}
 
 -- a call with its arguments and its answer; of a client's frame the refusal alone

@@ -1,9 +1,16 @@
 //! The numbers of one session.
-ghost use Rattle.std.specs.Prelude.{◌≡◌, ℕ, ◌+◌, ◌%◌, ◌<◌, ◌≤◌, ◌↔◌, length, false, List, [], ◌∷◌, IfOk, IfSome, OnErr, MatchResult, IsSome, IsTrue, Some, None, count_by};
-ghost use Rattle.cf_renumber.specs.Counts.{NumberEvent, Started, Stopped, Admitted, Refused, ClientAck, Carried, ControllerAck, client_refusal, client_ack_refusal, controller_refusal, controller_ack_refusal, receive_refusal, admitted_stamp, refused_stamp, carried_stamp, client_translated, controller_translated, acked_by_controller, controllers_among, count_from, is_admitted, is_controllers, to_client};
-ghost use Rattle.cf_renumber.specs.Numbers.{HasCountsOf, IsNumbersOf, IsNumbersAwaiting, IsNumbersValue, empty, after_admitted, after_refused, after_mirror, after_carried, after_controller_ack, after_dropped, ack_owed, after_start, after_stop, after_client_ack, IsSmall};
+ghost use Rattle.std.specs.Prelude.{◌≡◌, ℕ, ◌+◌, ◌%◌, ◌<◌, ◌≤◌, ◌↔◌, length, false, List, [], ◌∷◌, IfOk, IfSome, OnErr, MatchResult};
+ghost use Rattle.std.specs.Prelude.{IsSome, IsTrue, Some, None, count_by};
+ghost use Rattle.cf_renumber.specs.Counts.{NumberEvent, Started, Stopped, Admitted, Refused, ClientAck, Carried, ControllerAck};
+ghost use Rattle.cf_renumber.specs.Counts.{client_refusal, client_ack_refusal, controller_refusal, controller_ack_refusal, receive_refusal};
+ghost use Rattle.cf_renumber.specs.Counts.{admitted_stamp, refused_stamp, carried_stamp, client_translated, controller_translated};
+ghost use Rattle.cf_renumber.specs.Counts.{acked_by_controller, controllers_among, count_from, is_admitted, is_controllers, to_client};
+ghost use Rattle.cf_renumber.specs.Numbers.{HasCountsOf, IsNumbersOf, IsNumbersAwaiting, IsNumbersValue, empty, after_admitted};
+ghost use Rattle.cf_renumber.specs.Numbers.{after_refused, after_mirror, after_carried, after_controller_ack, after_dropped, ack_owed};
+ghost use Rattle.cf_renumber.specs.Numbers.{after_start, after_stop, after_client_ack, IsSmall};
 ghost use Rattle.cf_renumber.specs.Counts as counts;
-ghost use Rattle.cf_renumber.specs.NumbersCalls.{NumbersStep, Start, Stop, MaySend, Admit, Refuse, FromClient, AckOfClient, FromController, AckOfController, error_of};
+ghost use Rattle.cf_renumber.specs.NumbersCalls.{NumbersStep, Start, Stop, MaySend, Admit, Refuse, FromClient, AckOfClient, FromController};
+ghost use Rattle.cf_renumber.specs.NumbersCalls.{AckOfController, error_of};
 ghost use Rattle.cf_renumber.specs.Numbers as kept;
 
 use crate::answer::{NumberRefusal, RefusedStamp, Stamp};
@@ -55,7 +62,20 @@ impl Model for Numbers {
 
     ghost view = { λ a. record { started = a.started; running = a.running; fates = a.fates.items; origins = a.origins.items; received = a.received; admitted = a.admitted; carried = a.carried; sent = a.sent; owed = a.owed } };
 
-    ghost invariant = { λ a. (a.fates.capacity ≡ 4096) × (a.origins.capacity ≡ 4096) × (a.admits ≡ count_by is_admitted a.fates.items) × (a.controllers ≡ count_by is_controllers a.origins.items) × IsNumbersValue (record { started = a.started; running = a.running; fates = a.fates.items; origins = a.origins.items; received = a.received; admitted = a.admitted; carried = a.carried; sent = a.sent; owed = a.owed }) };
+    ghost invariant = { λ a. (a.fates.capacity ≡ 4096) × (a.origins.capacity ≡ 4096) × (a.admits ≡ count_by is_admitted a.fates.items)
+        × (a.controllers ≡ count_by is_controllers a.origins.items)
+        × IsNumbersValue (record {
+          started = a.started;
+          running = a.running;
+          fates = a.fates.items;
+          origins = a.origins.items;
+          received =
+              a.received;
+          admitted = a.admitted;
+          carried = a.carried;
+          sent = a.sent;
+          owed = a.owed;
+        }) };
 }
 
 impl Numbers {
@@ -158,7 +178,8 @@ impl Numbers {
     pub fn admitted(&mut self) -> Stamp
         requires owed { IsSome self.old.owed }
         ensures stamp { (events : List NumberEvent) (nr : ℕ) → IsNumbersAwaiting self.old events nr → result ≡ admitted_stamp events nr }
-        ensures stands { (events : List NumberEvent) (nr : ℕ) → IsNumbersAwaiting self.old events nr → IsNumbersOf self.new (Admitted nr ∷ events) }
+        ensures stands { (events : List NumberEvent) (nr : ℕ) → IsNumbersAwaiting self.old events nr
+            → IsNumbersOf self.new (Admitted nr ∷ events) }
         ensures did { NumbersStep (Admit result) self.old self.new }
         ensures small { IsSmall result }
         ensures idle { self.new.owed ≡ None }
@@ -172,8 +193,10 @@ impl Numbers {
     /// leaves towards the controller, where one is owed.
     pub fn refused(&mut self, reply: bool) -> RefusedStamp
         requires owed { IsSome self.old.owed }
-        ensures stamp { (events : List NumberEvent) (nr : ℕ) → IsNumbersAwaiting self.old events nr → result ≡ refused_stamp events nr reply }
-        ensures stands { (events : List NumberEvent) (nr : ℕ) → IsNumbersAwaiting self.old events nr → IsNumbersOf self.new (Refused nr reply ∷ events) }
+        ensures stamp { (events : List NumberEvent) (nr : ℕ) → IsNumbersAwaiting self.old events nr
+            → result ≡ refused_stamp events nr reply }
+        ensures stands { (events : List NumberEvent) (nr : ℕ) → IsNumbersAwaiting self.old events nr
+            → IsNumbersOf self.new (Refused nr reply ∷ events) }
         ensures did { NumbersStep (Refuse reply result) self.old self.new }
         ensures small { IfSome result.reply IsSmall }
         ensures small_ack { IfSome result.ack (λ n. n < 32768) }
@@ -199,7 +222,8 @@ impl Numbers {
         ensures answer { (events : List NumberEvent) → IsNumbersOf self.old events →
             MatchResult result (λ n. (client_ack_refusal events nr ≡ None)
             × (n ≡ client_translated events nr % 32768)) (λ e. client_ack_refusal events nr ≡ Some e) }
-        ensures stands { IfOk result (λ _. (events : List NumberEvent) → IsNumbersOf self.old events → IsNumbersOf self.new (ClientAck nr ∷ events)) }
+        ensures stands { IfOk result (λ _. (events : List NumberEvent) → IsNumbersOf self.old events
+            → IsNumbersOf self.new (ClientAck nr ∷ events)) }
         ensures owed { self.new.owed ≡ None }
         ensures did { NumbersStep (AckOfClient nr result) self.old self.new }
         ensures small { IfOk result (λ n. n < 32768) }
@@ -212,7 +236,8 @@ impl Numbers {
         ensures answer { (events : List NumberEvent) → IsNumbersOf self.old events →
             MatchResult result (λ n. (client_ack_refusal events nr ≡ None)
             × (n ≡ client_translated events nr % 32768)) (λ e. client_ack_refusal events nr ≡ Some e) }
-        ensures stands { IfOk result (λ _. (events : List NumberEvent) → IsNumbersOf self.old events → IsNumbersOf self.new (ClientAck nr ∷ events)) }
+        ensures stands { IfOk result (λ _. (events : List NumberEvent) → IsNumbersOf self.old events
+            → IsNumbersOf self.new (ClientAck nr ∷ events)) }
         ensures small { IfOk result (λ n. n < 32768) }
         ensures owed { self.new.owed ≡ None }
     {
@@ -227,7 +252,8 @@ impl Numbers {
         ensures answer { (events : List NumberEvent) → IsNumbersOf self.old events →
             MatchResult result (λ s. (controller_refusal events ns nr ≡ None)
             × (s ≡ carried_stamp events nr)) (λ e. controller_refusal events ns nr ≡ Some e) }
-        ensures stands { IfOk result (λ _. (events : List NumberEvent) → IsNumbersOf self.old events → IsNumbersOf self.new (Carried nr ∷ events)) }
+        ensures stands { IfOk result (λ _. (events : List NumberEvent) → IsNumbersOf self.old events
+            → IsNumbersOf self.new (Carried nr ∷ events)) }
         ensures owed { self.new.owed ≡ None }
         ensures did { NumbersStep (FromController ns nr result) self.old self.new }
         ensures small { IfOk result IsSmall }
@@ -240,7 +266,8 @@ impl Numbers {
         ensures answer { (events : List NumberEvent) → IsNumbersOf self.old events →
             MatchResult result (λ s. (controller_refusal events ns nr ≡ None)
             × (s ≡ carried_stamp events nr)) (λ e. controller_refusal events ns nr ≡ Some e) }
-        ensures stands { IfOk result (λ _. (events : List NumberEvent) → IsNumbersOf self.old events → IsNumbersOf self.new (Carried nr ∷ events)) }
+        ensures stands { IfOk result (λ _. (events : List NumberEvent) → IsNumbersOf self.old events
+            → IsNumbersOf self.new (Carried nr ∷ events)) }
         ensures small { IfOk result IsSmall }
         ensures owed { self.new.owed ≡ None }
     {
@@ -261,7 +288,8 @@ impl Numbers {
         ensures answer { (events : List NumberEvent) → IsNumbersOf self.old events →
             MatchResult result (λ n. (controller_ack_refusal events nr ≡ None)
             × (n ≡ controller_translated events nr % 32768)) (λ e. controller_ack_refusal events nr ≡ Some e) }
-        ensures stands { IfOk result (λ _. (events : List NumberEvent) → IsNumbersOf self.old events → IsNumbersOf self.new (ControllerAck nr ∷ events)) }
+        ensures stands { IfOk result (λ _. (events : List NumberEvent) → IsNumbersOf self.old events
+            → IsNumbersOf self.new (ControllerAck nr ∷ events)) }
         ensures owed { self.new.owed ≡ None }
         ensures did { NumbersStep (AckOfController nr result) self.old self.new }
         ensures small { IfOk result (λ n. n < 32768) }
@@ -274,7 +302,8 @@ impl Numbers {
         ensures answer { (events : List NumberEvent) → IsNumbersOf self.old events →
             MatchResult result (λ n. (controller_ack_refusal events nr ≡ None)
             × (n ≡ controller_translated events nr % 32768)) (λ e. controller_ack_refusal events nr ≡ Some e) }
-        ensures stands { IfOk result (λ _. (events : List NumberEvent) → IsNumbersOf self.old events → IsNumbersOf self.new (ControllerAck nr ∷ events)) }
+        ensures stands { IfOk result (λ _. (events : List NumberEvent) → IsNumbersOf self.old events
+            → IsNumbersOf self.new (ControllerAck nr ∷ events)) }
         ensures small { IfOk result (λ n. n < 32768) }
         ensures owed { self.new.owed ≡ None }
     {
@@ -300,7 +329,8 @@ impl Numbers {
         ensures within { IfOk result (λ m. m ≤ count_by is_admitted self.now.fates) }
         ensures answer { (events : List NumberEvent) (j : ℕ) → HasCountsOf self.now events j →
             MatchResult result (λ m. (controller_ack_refusal events nr ≡ None)
-            × (count_from (acked_by_controller events) nr ≡ acked_by_controller events + m)) (λ e. controller_ack_refusal events nr ≡ Some e) }
+            × (count_from (acked_by_controller events) nr ≡ acked_by_controller events + m))
+            (λ e. controller_ack_refusal events nr ≡ Some e) }
     {
         check_receive(self.admitted, self.admits, nr)
     }

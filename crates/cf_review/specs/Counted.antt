@@ -47,7 +47,8 @@ count_of remarks k = count_by (λ r. is_kind k r.what) remarks
 abbrev pub counts_by : (flows admitted : ℕ) → List RemarkValue → Counts
 counts_by flows admitted remarks = record {
   flows = flows;
-  commands = min (admitted + count_of remarks kind.Rule + count_of remarks kind.Default + count_of remarks kind.Station + count_of remarks kind.Form) (2 ^ 64 - 1);
+  commands = min (admitted + count_of remarks kind.Rule + count_of remarks kind.Default + count_of remarks kind.Station
+      + count_of remarks kind.Form) (2 ^ 64 - 1);
   admitted = admitted;
   by_rule = count_of remarks kind.Rule;
   by_default = count_of remarks kind.Default;

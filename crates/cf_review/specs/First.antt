@@ -45,7 +45,8 @@ pub record IsRising (f : FlowValue) : Type 0 where
 -- so it is of the flows of each capture, and of the parts of them that are read
 abbrev pub BytesComeInOrder : Type 0
 BytesComeInOrder =
-    (scope : Scope) (assets : List Asset) (newest : List Record) (flows read : List FlowValue) → AreFlowsOf (seen_by scope assets newest) flows →
+    (scope : Scope) (assets : List Asset) (newest : List Record) (flows read : List FlowValue)
+    → AreFlowsOf (seen_by scope assets newest) flows →
     AreReadParts assets flows read → AllByRecursion IsRising flows × AllByRecursion IsRising read
 
 -- a flow begins with its SYN
@@ -55,6 +56,7 @@ BeginsWithSyn f = f.midstream ≡ None
 -- of flows that begin with a SYN and are read so, the judge's objection is the first remark of a review
 abbrev pub JudgeTellsTheFirst : Type 0
 JudgeTellsTheFirst =
-    (assets : List Asset) (readings : List Reading) (told : List RemarkValue) → AreReadBy assets readings → AllByRecursion (λ r. IsRising r.flow) readings →
+    (assets : List Asset) (readings : List Reading) (told : List RemarkValue) → AreReadBy assets readings
+    → AllByRecursion (λ r. IsRising r.flow) readings →
     AllByRecursion (λ r. BeginsWithSyn r.flow) readings → AreInOrder (remarks_on assets readings) told →
     objection_to None readings ≡ option_and_then objection_by (first_of told)

@@ -29,6 +29,7 @@ AreTold asset carried from bytes (j ∷ js) ending =
 -- so it is of each flow of a capture, from where it is read on
 abbrev pub RecordsComeFirst : Type 0
 RecordsComeFirst =
-    (asset : Asset) (w : Watched) (f read : FlowValue) (js : List Judged) (ending : Ending) → IsFlowOf w f → IsReadPart asset.protocol f read →
+    (asset : Asset) (w : Watched) (f read : FlowValue) (js : List Judged) (ending : Ending) → IsFlowOf w f
+    → IsReadPart asset.protocol f read →
     AreRead asset read.client.address [] read.bytes read.born js ending →
     (from : ℕ) × (read.bytes ≡ drop from f.bytes) × AreTold asset w.carried from read.bytes js ending

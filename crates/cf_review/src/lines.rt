@@ -72,8 +72,10 @@ fn put<F: Files>(
     files: &mut F,
 ) -> Result<(), WriteFault>
     requires line { length line.now ≤ 256 }
-    ensures done { OnOk result (MovesOn (piece.old.items ++ line.now) piece.new.items (F.content files.old log.now) (F.content files.new log.now)) }
-    ensures partly { OnErr result ((k : ℕ) × (F.content files.new log.now ≡ with_appended (F.content files.old log.now) (take k piece.old.items))) }
+    ensures done { OnOk result (MovesOn (piece.old.items ++ line.now) piece.new.items (F.content files.old log.now)
+        (F.content files.new log.now)) }
+    ensures partly { OnErr result ((k : ℕ) × (F.content files.new log.now ≡ with_appended (F.content files.old log.now)
+        (take k piece.old.items))) }
     ensures others { KeepsOthers log.now (F.content files.old) (F.content files.new) }
     ensures cause { HasCause (F.write_faults files.old) (F.write_faults files.new) (IsErr result) }
     ensures reads { F.read_faults files.new ≡ F.read_faults files.old }

@@ -33,7 +33,8 @@ pub struct Reviewed {
     pub remarks: Vec<Remark>,
 }
 
-/// Judges flows, each of which is to an asset of the policy, and keeps all that the policy objects to. A flow that begins amid its stream is
+/// Judges flows, each of which is to an asset of the policy, and keeps all that the policy objects to. A flow that begins amid its stream
+/// is
 /// told, and read from its first unit on. Rates and the numbers of IEC 60870-5-104 are not judged. The flows are those of a whole capture.
 pub fn review(alloc: Global, policy: &Policy, flows: &[Flow]) -> Result<Reviewed, NoMemory>
     requires within { AreAssetsWithin policy.now.assets }
@@ -66,7 +67,8 @@ fn review_flow(
 ) -> Result<u64, NoMemory>
     requires within { IsAssetWithin asset.now }
     requires born { length flow.now.born ≡ length flow.now.bytes.items }
-    ensures { IfOk result (λ admitted. AddsReview asset.now (flow_value flow.now) (map remark_value remarks.old.items) (map remark_value remarks.new.items) admitted) }
+    ensures { IfOk result (λ admitted. AddsReview asset.now (flow_value flow.now) (map remark_value remarks.old.items)
+        (map remark_value remarks.new.items) admitted) }
 {
     add_midstream(flow, remarks)?;
     add_conflict(flow, remarks)?;
@@ -85,7 +87,8 @@ fn review_units(
     requires within { IsAssetWithin asset.now }
     requires born { length flow.now.born ≡ length flow.now.bytes.items }
     requires inside { start ≤ length flow.now.bytes.items }
-    ensures { IfOk result (λ admitted. AddsUnits asset.now (from_place start (flow_value flow.now)) (map remark_value remarks.old.items) (map remark_value remarks.new.items) admitted) }
+    ensures { IfOk result (λ admitted. AddsUnits asset.now (from_place start (flow_value flow.now)) (map remark_value remarks.old.items)
+        (map remark_value remarks.new.items) admitted) }
 {
     let bytes = bytes_from(flow, start);
     let mut admitted: u64 = 0;
@@ -144,7 +147,8 @@ fn allowed_by(ruling: &Ruling) -> u64
 
 /// Adds a remark on a flow.
 fn add(flow: &Flow, number: u64, what: Matter, remarks: &mut Vec<Remark>) -> Result<(), NoMemory>
-    ensures { OnOk result (map remark_value remarks.new.items ≡ map remark_value remarks.old.items ++ remark_on (flow_value flow.now) number (matter_value what) ∷ []) }
+    ensures { OnOk result (map remark_value remarks.new.items ≡ map remark_value remarks.old.items ++ remark_on (flow_value flow.now) number
+        (matter_value what) ∷ []) }
 {
     let remark = Remark {
         at_record: number,
@@ -160,7 +164,8 @@ fn add(flow: &Flow, number: u64, what: Matter, remarks: &mut Vec<Remark>) -> Res
 
 /// Adds that a flow begins amid its stream, if it does.
 fn add_midstream(flow: &Flow, remarks: &mut Vec<Remark>) -> Result<(), NoMemory>
-    ensures { OnOk result (map remark_value remarks.new.items ≡ map remark_value remarks.old.items ++ midstream_remarks (flow_value flow.now) flow.now.midstream) }
+    ensures { OnOk result (map remark_value remarks.new.items ≡ map remark_value remarks.old.items
+        ++ midstream_remarks (flow_value flow.now) flow.now.midstream) }
 {
     match flow.midstream {
         None => Ok(()),
@@ -173,7 +178,8 @@ fn add_midstream(flow: &Flow, remarks: &mut Vec<Remark>) -> Result<(), NoMemory>
 
 /// Adds that a flow has a conflict, if it has one.
 fn add_conflict(flow: &Flow, remarks: &mut Vec<Remark>) -> Result<(), NoMemory>
-    ensures { OnOk result (map remark_value remarks.new.items ≡ map remark_value remarks.old.items ++ conflict_remarks (flow_value flow.now) flow.now.conflict) }
+    ensures { OnOk result (map remark_value remarks.new.items ≡ map remark_value remarks.old.items ++ conflict_remarks (flow_value flow.now)
+        flow.now.conflict) }
 {
     match flow.conflict {
         None => Ok(()),
@@ -201,9 +207,11 @@ fn add_unit(
 ) -> Result<(), NoMemory>
     requires whole { (refusal : Refusal) → ruling ≡ Ruling.Refused refusal → HasWhole asset.now reader.now }
     ensures { OnOk result ((client : ℕ) (earlier : List JudgedItem) (u : UnitValue) (f : Fate)
-        → IsReaderOf asset.now client (earlier ++ completed_in number u f ∷ []) reader.now → SpellsUnit asset.now.protocol u unit.entry.bytes
+        → IsReaderOf asset.now client (earlier ++ completed_in number u f ∷ []) reader.now
+        → SpellsUnit asset.now.protocol u unit.entry.bytes
         → HasPlainFate asset.now client earlier u f → ruling ≡ ruling_of f
-        → map remark_value remarks.new.items ≡ map remark_value remarks.old.items ++ unit_remarks asset.now (flow_value flow.now) earlier (completed_in number u f)) }
+        → map remark_value remarks.new.items ≡ map remark_value remarks.old.items ++ unit_remarks asset.now (flow_value flow.now) earlier
+        (completed_in number u f)) }
 {
     match ruling {
         Ruling::Nothing | Ruling::Allowed => Ok(()),

@@ -14,6 +14,7 @@ use Rattle.cf_run.specs.Records.{BeginAtTwo, GoOnByTwo, HaveOneList, HaveOneTime
 use Rattle.cf_run.specs.Moments.{AreTimed, AreTimedPieces, first_moment, moment_from, moments_from, timed}
 use Rattle.cf_run.specs.declared.form.Form.{Form}
 use Rattle.cf_run.specs.declared.form.Form.TheVariants as form
+use Rattle.cf_view.specs.Moment.{moment_limit}
 
 same_last : (e f : LastPlace) → e.place ≡ f.place → e.found ≡ f.found → e ≡ f
 same_last e f a b = rw (a, b) refl
@@ -167,7 +168,7 @@ timed_by true r used count t = t
 timed_by false r used count t = tt
 
 timed_takes : (least : ℕ) (found : AtPlace) (count : ℕ) → Takes found count → Takes (timed least found) count
-timed_takes least (Fits r used) count t = timed_by (nat_lt (moment_from least r) (2 ^ 32 * 1000000)) r used count t
+timed_takes least (Fits r used) count t = timed_by (nat_lt (moment_from least r) moment_limit) r used count t
 timed_takes least (Passes used) count t = t
 timed_takes least FileEnd count t = tt
 timed_takes least Cut count t = tt
@@ -223,7 +224,7 @@ pub go_on_by_two : GoOnByTwo
 go_on_by_two rs k m r at here = rw add-one (next_from first_moment rs k m r at (rw add-one at here))
 
 -- a record that fits has its moment
-timed_below : (least : ℕ) (found : AtPlace) (r : Record) (used : ℕ) → timed least found ≡ Fits r used → moment_from least r < 2 ^ 32 * 1000000
+timed_below : (least : ℕ) (found : AtPlace) (r : Record) (used : ℕ) → timed least found ≡ Fits r used → moment_from least r < moment_limit
 timed_below least (Fits s n) r used e = grind (arith, nat_tests)
 timed_below least (Passes n) r used e = cc
 timed_below least FileEnd r used e = cc
@@ -234,7 +235,7 @@ timed_below least Clock r used e = cc
 timed_below least Large r used e = cc
 
 below_from : (f : Form) (least place : ℕ) (xs : List ℕ) (ps : List (Option Record)) (last : LastPlace) → AreTimedPieces f least place xs ps last →
-    (k m : ℕ) → slice_get (moments_from least (records_among ps)) k ≡ Some m → m < 2 ^ 32 * 1000000
+    (k m : ℕ) → slice_get (moments_from least (records_among ps)) k ≡ Some m → m < moment_limit
 below_from f least place xs [] last are k m at = cc
 below_from f least place xs (None ∷ ps) last (used, e, are) k m at = below_from (form_behind f xs) least (place + used) (drop used xs) ps last are k m at
 below_from f least place xs (Some r ∷ ps) last (used, e, are) zero m at =

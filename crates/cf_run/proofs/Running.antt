@@ -37,6 +37,7 @@ use Rattle.cf_run.proofs.Behind.{StandsBehind}
 use Rattle.cf_run.proofs.HalfFiles.{capture_amid, log_amid, no_line_part, no_packet_part}
 use Rattle.cf_run.proofs.OutputFiles.{both, file_packets-whole}
 use Rattle.cf_run.proofs.Timers.{both_both, both_nothing}
+use Rattle.cf_view.specs.Moment.{moment_limit}
 
 -- with these records in front, the records from a place on are those of the file, as far as it is told; there its form is this one
 abbrev pub Leads : Content → (start form : Form) → (least place : ℕ) → List Record → Type 0
@@ -51,10 +52,10 @@ leads_first untold start h = tt
 leads_first absent start h = absurd h
 leads_first (holds all) start h = λ more last are. are
 
-pub in_time : (least used : ℕ) (r : Record) → moment_from least r < 2 ^ 32 * 1000000 → timed least (Fits r used) ≡ Fits r used
+pub in_time : (least used : ℕ) (r : Record) → moment_from least r < moment_limit → timed least (Fits r used) ≡ Fits r used
 in_time least used r early = grind (arith, nat_tests)
 
-pub too_late : (least used : ℕ) (r : Record) → 2 ^ 32 * 1000000 ≤ moment_from least r → timed least (Fits r used) ≡ Clock
+pub too_late : (least used : ℕ) (r : Record) → moment_limit ≤ moment_from least r → timed least (Fits r used) ≡ Clock
 too_late least used r late = grind (arith, nat_tests)
 
 -- after blocks that are passed over stand the records that stand before them
@@ -67,7 +68,7 @@ passed_back all (suc count) old form least from place rs last (used, at, rest) a
     (None ∷ pieces, (used, ap (timed least) at, rw drop-drop behind), is)
 
 leads_on : (file : Content) (start : Form) (old new : ReaderValue) (least stamp : ℕ) (records : List Record) → Leads file start old.form least old.place records →
-    FindsRecord file old new (answer.Whole stamp) → max stamp least < 2 ^ 32 * 1000000 →
+    FindsRecord file old new (answer.Whole stamp) → max stamp least < moment_limit →
     Leads file start new.form (max stamp least + 2) new.place (records ++ record { stamp = stamp; link = new.link; body = new.body } ∷ [])
 leads_on untold start old new least stamp records leads found early = tt
 leads_on absent start old new least stamp records leads found early = absurd leads
@@ -168,7 +169,7 @@ module _ {assets : List Asset} {limit : ℕ} {names : RunNamesValue} {before now
     (a : SoFar assets limit names before now start least reader engine) where
   -- one record more: it is read, it is in time, and its event is handled
   pub one_so_far : (stamp : ℕ) {next : ReaderValue} {moment : ℕ} {files after : List ℕ → Content} {new : EngineValue} → FindsRecord (now names.capture) reader next (answer.Whole stamp) →
-      files ≡ now → moment ≡ max stamp least → moment < 2 ^ 32 * 1000000 →
+      files ≡ now → moment ≡ max stamp least → moment < moment_limit →
       ((events : List RunEvent) → IsEngineOf assets engine events → (event : RunEvent) × StepsOn assets moment (read_record next.link next.body) events new
       (files_told names.out names.log files) (files_told names.out names.log after) event) →
       new.limit ≡ engine.limit → after names.capture ≡ files names.capture → SoFar assets limit names before after start (moment + 2) next new
@@ -204,7 +205,7 @@ module _ {assets : List Asset} {limit : ℕ} {names : RunNamesValue} {before now
   -- ---- the next record is read, and its event stopped
 
   module _ (stamp : ℕ) (next : ReaderValue) (moment : ℕ) (files after : List ℕ → Content) (read : FindsRecord (now names.capture) reader next (answer.Whole stamp))
-      (still : files ≡ now) (is : moment ≡ max stamp least) (early : moment < 2 ^ 32 * 1000000) where
+      (still : files ≡ now) (is : moment ≡ max stamp least) (early : moment < moment_limit) where
     abbrev input : Input
     input = record { moment = moment; packet = read_record next.link next.body }
 

@@ -1,7 +1,8 @@
 -- Which records a capture file has, and how they end: AreRecords, and AreTimed where each record has its moment. The records are
 -- those of draft-ietf-opsawg-pcap, or the enhanced packets of draft-ietf-opsawg-pcapng; the order of the tests, moments and all
 -- limits are this project's own.
-use Rattle.std.specs.Prelude.{◌≡◌, ℕ, ◌+◌, ◌*◌, ◌^◌, max, min, nat_lt, ◌==◌, Bool, if◌then◌else◌, List, [], ◌∷◌, length, drop, slice_range, Option, Some, None}
+use Rattle.std.specs.Prelude.{◌≡◌, ℕ, ◌+◌, ◌*◌, ◌^◌, max, min, nat_lt, ◌==◌, Bool, if◌then◌else◌, List, [], ◌∷◌, length, drop, slice_range}
+use Rattle.std.specs.Prelude.{Option, Some, None}
 use Rattle.cf_view.specs.declared.LinkKind.{LinkKind}
 use Rattle.cf_pcap.specs.Record.{captured_at, stamp_at}
 use Rattle.cf_pcap.specs.declared.header.Header.{Header}
@@ -116,9 +117,11 @@ IsLast found = Unit {0}
 abbrev pub ArePieces : (at : Form → ℕ → List ℕ → AtPlace) → Form → ℕ → List ℕ → List (Option Record) → LastPlace → Type 0
 ArePieces at file_form place octets [] last = (last.place ≡ place) × (at file_form place octets ≡ last.found) × IsLast last.found
 ArePieces at file_form place octets (Some r ∷ more) last =
-    (used : ℕ) × (at file_form place octets ≡ Fits r used) × ArePieces at (form_behind file_form octets) (place + used) (drop used octets) more last
+    (used : ℕ) × (at file_form place octets ≡ Fits r used) × ArePieces at (form_behind file_form octets) (place + used) (drop used octets)
+    more last
 ArePieces at file_form place octets (None ∷ more) last =
-    (used : ℕ) × (at file_form place octets ≡ Passes used) × ArePieces at (form_behind file_form octets) (place + used) (drop used octets) more last
+    (used : ℕ) × (at file_form place octets ≡ Passes used) × ArePieces at (form_behind file_form octets) (place + used) (drop used octets)
+    more last
 
 -- the records among them
 abbrev pub records_among : List (Option Record) → List Record

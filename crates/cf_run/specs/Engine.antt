@@ -33,7 +33,8 @@ AreDueFrom moment table = All (λ entry. moment ≤ entry.due) table
 -- ---- what it stands for
 
 -- a session in memory is one of the table: its asset is that of its place, and its last event was at the last moment or before
-pub record IsOneBy (assets : List Asset) (last : ℕ) (entry : Entry) (flow : Flow) (earlier : List SessionEvent) (event : SessionEvent) : Type 0 where
+pub record IsOneBy (assets : List Asset) (last : ℕ) (entry : Entry) (flow : Flow) (earlier : List SessionEvent) (event : SessionEvent) :
+    Type 0 where
   pub stands : IsSessionOf flow earlier event entry.session
   pub asset : slice_get assets entry.asset ≡ Some flow.asset
   pub last_moment : moment event.client ≤ last
@@ -65,7 +66,8 @@ TickAs flow events tick s old new false false = (is_expired flow events tick ≡
 abbrev pub TickAt : List Asset → (tick : ℕ) → (before after : Entry) → (old new : Told) → (stays cuts : Bool) → Type 0
 TickAt assets tick before after old new stays cuts =
     (after.asset ≡ before.asset)
-    × ((flow : Flow) (earlier : List SessionEvent) (event : SessionEvent) → IsSessionOf flow earlier event before.session → slice_get assets before.asset ≡ Some flow.asset →
+    × ((flow : Flow) (earlier : List SessionEvent) (event : SessionEvent) → IsSessionOf flow earlier event before.session
+    → slice_get assets before.asset ≡ Some flow.asset →
     TickAs flow (event ∷ earlier) tick after.session old new stays cuts)
 
 -- the first halves of all sessions of the table
@@ -77,7 +79,8 @@ pub record TickAll (assets : List Asset) (tick : ℕ) (table : List Session) (en
   pub cuts_is : cuts ≡ count_by (λ t. is_cut t.cut) ticks
 
 -- the same of the first sessions alone: those in memory before this place are what became of them
-pub record TickSome (assets : List Asset) (tick : ℕ) (table : List Session) (entries : List Entry) (place : ℕ) (old new : Told) (cuts : ℕ) : Type 0 where
+pub record TickSome (assets : List Asset) (tick : ℕ) (table : List Session) (entries : List Entry) (place : ℕ) (old new : Told) (cuts : ℕ) :
+    Type 0 where
   pub done : List Session
   pub rest : List Session
   pub split : table ≡ done ++ rest

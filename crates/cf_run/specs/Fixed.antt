@@ -8,7 +8,8 @@ use Rattle.cf_run.specs.declared.summary.Summary.{Summary}
 -- two lists of right events over the same records are the same
 abbrev pub RecordsFixEvents : Type 0
 RecordsFixEvents =
-    (assets : List Asset) (limit : ℕ) (events others : List RunEvent) → AreRunEvents assets limit events → AreRunEvents assets limit others → inputs_of events ≡ inputs_of others →
+    (assets : List Asset) (limit : ℕ) (events others : List RunEvent) → AreRunEvents assets limit events → AreRunEvents assets limit others
+    → inputs_of events ≡ inputs_of others →
     events ≡ others
 
 -- so two runs of one policy over the same records have the same output file, the same log and the same counts

@@ -13,7 +13,9 @@ use Rattle.cf_session.specs.Told.{Told, told, with_both}
 use Rattle.cf_run.specs.Engine.{AreAll}
 use Rattle.cf_run.specs.Receiving.{AreTicked}
 use Rattle.cf_run.specs.Table.{Begins, Session, match_of}
-use Rattle.cf_run.specs.Trace.{AreTicks, RunEvent, GoesOnAt, Input, IsRunEvent, Received, Receives, ReceivesRecord, kept, logged_at, logged_in_first, logged_in_second, logged_received, logged_ticks, sent_in_first, sent_in_second, sent_received, tick_of, ticked}
+use Rattle.cf_run.specs.Trace.{AreTicks, RunEvent, GoesOnAt, Input, IsRunEvent, Received, Receives, ReceivesRecord, kept, logged_at}
+use Rattle.cf_run.specs.Trace.{logged_in_first, logged_in_second, logged_received, logged_ticks, sent_in_first, sent_in_second}
+use Rattle.cf_run.specs.Trace.{sent_received, tick_of, ticked}
 use Rattle.cf_run.specs.declared.engine.StepFault.{StepFault}
 use Rattle.cf_run.specs.declared.engine.StepFault.TheVariants as stepped
 use Rattle.cf_run.specs.declared.entry.Entry.{Entry}
@@ -27,7 +29,13 @@ pub record Half : Type 0 where
 
 -- the first half, in which each session that has not expired has its tick
 abbrev pub first_half : (tick : ℕ) → List Session → List SessionEvent → Half
-first_half tick before ticks = record { sent_before = []; logged_before = []; sent = flat_map sent_first ticks; logged = logged_ticks (kept tick before) ticks }
+first_half tick before ticks = record {
+  sent_before = [];
+  logged_before = [];
+  sent = flat_map sent_first ticks;
+  logged = logged_ticks
+      (kept tick before) ticks;
+}
 
 -- the second half
 abbrev pub second_half : List Session → RunEvent → Half
@@ -40,7 +48,8 @@ second_half before event = record {
 
 -- each session that has not expired has a first half that is right after its earlier events
 abbrev pub IsFirstHalf : List Session → Input → Half → Type 0
-IsFirstHalf before input half = (ticks : List SessionEvent) × AreTicks (tick_of input) (kept (tick_of input) before) ticks × (half ≡ first_half (tick_of input) before ticks)
+IsFirstHalf before input half = (ticks : List SessionEvent) × AreTicks (tick_of input) (kept (tick_of input) before) ticks
+    × (half ≡ first_half (tick_of input) before ticks)
 
 -- a record is a packet that begins a session at this table: neither one of a live session nor one that finds the table full
 abbrev pub BeginsSession : List Asset → List Session → Result PacketValue PacketRefusal → Type 0
@@ -56,7 +65,8 @@ pub record IsHalfBeforeBeginning (assets : List Asset) (before : List Session) (
 
 -- there is an event with the record that is right after this table
 abbrev pub IsSecondHalf : List Asset → (limit : ℕ) → List Session → Input → Half → Type 0
-IsSecondHalf assets limit before input half = (event : RunEvent) × (event.input ≡ input) × IsRunEvent assets limit before event × (half ≡ second_half before event)
+IsSecondHalf assets limit before input half = (event : RunEvent) × (event.input ≡ input) × IsRunEvent assets limit before event
+    × (half ≡ second_half before event)
 
 -- a half that the event of a record may have at this table
 abbrev pub IsHalfOf : List Asset → (limit : ℕ) → List Session → Input → Half → Type 0
@@ -82,7 +92,8 @@ StepBreaks assets limit before input old new = (half : Half) × IsHalfOf assets 
 -- an event stopped between its halves, as its packet was to begin a session: the desk got all of the first, and nothing of the
 -- second
 abbrev pub StepStops : List Asset → List Session → Input → (old new : Told) → Type 0
-StepStops assets before input old new = (half : Half) × IsHalfBeforeBeginning assets before input half × (new ≡ with_both old half.sent half.logged)
+StepStops assets before input old new = (half : Half) × IsHalfBeforeBeginning assets before input half
+    × (new ≡ with_both old half.sent half.logged)
 
 -- no memory was left, or the desk failed
 abbrev pub is_write : StepFault → Bool
@@ -103,14 +114,16 @@ pub record TicksBreak (tick : ℕ) (table : List Session) (old new : DeskValue) 
   pub amid : BreaksAmid (flat_map sent_first ticks) (logged_ticks (kept tick table) ticks) old new
 
 -- the second half was, with a packet
-pub record ReceivingBreaks (assets : List Asset) (limit now : ℕ) (packet : PacketValue) (table : List Session) (old new : DeskValue) : Type 0 where
+pub record ReceivingBreaks (assets : List Asset) (limit now : ℕ) (packet : PacketValue) (table : List Session) (old new : DeskValue) : Type
+    0 where
   pub received : Received
   pub receives : Receives limit (now - 1) table packet (match_of assets table packet) received
   pub amid : BreaksAmid (sent_received received) (logged_received table received) old new
 
 abbrev pub ReceiveBreaks : List Asset → (limit now : ℕ) → PacketValue → List Entry → (old new : DeskValue) → Type 0
 ReceiveBreaks assets limit now packet entries old new =
-    (table : List Session) → AreTicked (now - 1) table → AreAll assets now entries table → ReceivingBreaks assets limit now packet table old new
+    (table : List Session) → AreTicked (now - 1) table → AreAll assets now entries table
+    → ReceivingBreaks assets limit now packet table old new
 
 -- a session's event was, as it went on
 pub record GoingBreaks (limit place : ℕ) (from : Side) (packet : PacketValue) (table : List Session) (old new : DeskValue) : Type 0 where
@@ -123,14 +136,17 @@ GoBreaks assets limit now place from packet entries old new =
     (table : List Session) → AreTicked (now - 1) table → AreAll assets now entries table → GoingBreaks limit place from packet table old new
 
 -- the second half was, with a record that is a packet or none
-pub record ReceivingRecordBreaks (assets : List Asset) (limit now : ℕ) (packet : Result PacketValue PacketRefusal) (table : List Session) (old new : DeskValue) : Type 0 where
+pub record ReceivingRecordBreaks (assets : List Asset) (limit now : ℕ) (packet : Result PacketValue PacketRefusal) (table : List Session)
+    (old new : DeskValue) : Type 0 where
   pub received : Received
   pub receives : ReceivesRecord assets limit (now - 1) table packet received
   pub amid : BreaksAmid (sent_received received) (logged_received table received) old new
 
-abbrev pub ReceiveRecordBreaks : List Asset → (limit now : ℕ) → Result PacketValue PacketRefusal → List Entry → (old new : DeskValue) → Type 0
+abbrev pub ReceiveRecordBreaks : List Asset → (limit now : ℕ) → Result PacketValue PacketRefusal → List Entry → (old new : DeskValue)
+    → Type 0
 ReceiveRecordBreaks assets limit now packet entries old new =
-    (table : List Session) → AreTicked (now - 1) table → AreAll assets now entries table → ReceivingRecordBreaks assets limit now packet table old new
+    (table : List Session) → AreTicked (now - 1) table → AreAll assets now entries table
+    → ReceivingRecordBreaks assets limit now packet table old new
 
 -- a half with this record stopped: there its packet begins a session
 abbrev pub StopsBeginning : List Asset → (now : ℕ) → Result PacketValue PacketRefusal → List Entry → Type 0

@@ -59,4 +59,5 @@ HasHeadline [] = Unit {0}
 HasHeadline (event ∷ earlier) = Each IsFaithful (sessions_of (event ∷ earlier)) × HasHeadline earlier
 
 abbrev pub RunsHaveHeadline : Type 0
-RunsHaveHeadline = (assets : List Asset) (limit : ℕ) (events : List RunEvent) → limit ≤ 2 ^ 30 → AreRunEvents assets limit events → HasHeadline events
+RunsHaveHeadline = (assets : List Asset) (limit : ℕ) (events : List RunEvent) → limit ≤ 2 ^ 30 → AreRunEvents assets limit events
+    → HasHeadline events

@@ -3,7 +3,8 @@
 --
 -- A session is named by its client and its asset's endpoint: a table has at most one of them. Lists of events have the newest one
 -- first.
-use Rattle.std.specs.Prelude.{◌≡◌, ℕ, Bool, false, ◌&&◌, if◌then◌else◌, List, [], ◌∷◌, ◌++◌, filter, length, map, slice_get, Option, Some, None, Result, Ok, Err}
+use Rattle.std.specs.Prelude.{◌≡◌, ℕ, Bool, false, ◌&&◌, if◌then◌else◌, List, [], ◌∷◌, ◌++◌, filter, length, map, slice_get, Option, Some}
+use Rattle.std.specs.Prelude.{None, Result, Ok, Err}
 use Rattle.std.specs.List.{flat_map}
 use Rattle.cf_packet.specs.Packet.{PacketValue}
 use Rattle.cf_packet.specs.declared.packet.PacketRefusal.{PacketRefusal}
@@ -14,7 +15,8 @@ use Rattle.cf_view.specs.declared.Endpoint.{Endpoint}
 use Rattle.cf_run.specs.Run.{IsRun}
 use Rattle.cf_run.specs.Summary.{found}
 use Rattle.cf_run.specs.Table.{Begins, Full, Goes, Match, Outside, Session, is_between, match_of, same_endpoint}
-use Rattle.cf_run.specs.Trace.{Begun, RunEvent, Input, Received, Went, kept, logged_in_second, logged_received, logged_ticks, sent_in_second, sent_received, table_after, tick_of}
+use Rattle.cf_run.specs.Trace.{Begun, RunEvent, Input, Received, Went, kept, logged_in_second, logged_received, logged_ticks}
+use Rattle.cf_run.specs.Trace.{sent_in_second, sent_received, table_after, tick_of}
 use Rattle.cf_run.specs.declared.summary.Summary.{Summary}
 
 -- ---- what one event is to the session of a client and an asset
@@ -72,7 +74,8 @@ sent_by client asset before event =
 -- its lines of the log
 abbrev pub logged_by : (client asset : Endpoint) → (before : List Session) → RunEvent → List (List ℕ)
 logged_by client asset before event =
-    logged_ticks (filter (is_between client asset) (kept (tick_of event.input) before)) (ticks_of client asset (kept (tick_of event.input) before) event.ticks)
+    logged_ticks (filter (is_between client asset) (kept (tick_of event.input) before))
+    (ticks_of client asset (kept (tick_of event.input) before) event.ticks)
     ++ (if goes_to_theirs client asset (found before event) event.received then logged_received (found before event) event.received else [])
 
 -- ---- a session of a run, over the events that are considered
@@ -125,11 +128,13 @@ AreMatched assets client asset here there [] [] = Unit {0}
 AreMatched assets client asset here there [] (other ∷ others) = ⊥
 AreMatched assets client asset here there (event ∷ events) [] = ⊥
 AreMatched assets client asset here there (event ∷ events) (other ∷ others) =
-    (matched_to assets client asset (table_after (events ++ here)) event ≡ matched_to assets client asset (table_after (others ++ there)) other)
+    (matched_to assets client asset (table_after (events ++ here)) event ≡ matched_to assets client asset (table_after (others ++ there))
+    other)
     × AreMatched assets client asset here there events others
 
 -- in each event after their beginning both sessions are matched the same packet, or none
-abbrev pub AreMatchedAlike : {events others : List RunEvent} → List Asset → (flow : Flow) → HasSession flow events → HasSession flow others → Type 0
+abbrev pub AreMatchedAlike : {events others : List RunEvent} → List Asset → (flow : Flow) → HasSession flow events → HasSession flow others
+    → Type 0
 AreMatchedAlike assets flow one other =
     AreMatched assets (client_of flow) flow.asset.endpoint (one.first ∷ one.earlier) (other.first ∷ other.earlier) one.later other.later
 
@@ -138,16 +143,18 @@ abbrev pub moments_of : List Input → List ℕ
 moments_of inputs = map (λ i. i.moment) inputs
 
 -- two sessions have the same output records at the same moments, and the same lines in the same order
-pub record DoTheSame {events others : List RunEvent} (flow : Flow) (one : HasSession flow events) (other : HasSession flow others) : Type 0 where
-  pub sent : session_sent flow one ≡ session_sent flow other
-  pub logged : session_logged flow one ≡ session_logged flow other
+pub record DoTheSame {events others : List RunEvent} (flow : Flow) (one : HasSession flow events) (other : HasSession flow others) : Type 0
+  where
+    pub sent : session_sent flow one ≡ session_sent flow other
+    pub logged : session_logged flow one ≡ session_logged flow other
 
 -- two runs of one policy with equal moments: a session of the one and a session of the other, of the same client and asset, which
 -- began in the same event by the same packet, do the same over the events in which they are matched alike. The rest of the two
 -- captures may differ in every way
 abbrev pub RunsIsolateSessions : Type 0
 RunsIsolateSessions =
-    (assets : List Asset) (limit : ℕ) (given other_given : List Input) (out other_out log other_log : List ℕ) (summary other_summary : Summary)
+    (assets : List Asset) (limit : ℕ) (given other_given : List Input) (out other_out log other_log : List ℕ)
+    (summary other_summary : Summary)
     (run : IsRun assets limit given out log summary) (other_run : IsRun assets limit other_given other_out other_log other_summary) →
     moments_of given ≡ moments_of other_given →
     (flow : Flow) (one : HasSession flow run.events) (other : HasSession flow other_run.events) →

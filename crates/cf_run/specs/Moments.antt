@@ -1,7 +1,8 @@
 -- The moments of a file's records: moments; and its records where each is tested with its moment: AreTimed.
 use Rattle.std.specs.Prelude.{◌≡◌, ℕ, ◌+◌, ◌*◌, ◌^◌, max, nat_lt, if◌then◌else◌, List, [], ◌∷◌, drop, Option, Some, None}
-use Rattle.cf_pcap.specs.Record.{moment_limit}
-use Rattle.cf_run.specs.Capture.{AtPlace, Clock, Cut, FileEnd, Fits, IsLast, Large, LastPlace, Passes, Record, Refused, TooLong, at_place, form_behind, records_among}
+use Rattle.cf_view.specs.Moment.{moment_limit}
+use Rattle.cf_run.specs.Capture.{AtPlace, Clock, Cut, FileEnd, Fits, IsLast, Large, LastPlace, Passes, Record, Refused, TooLong, at_place}
+use Rattle.cf_run.specs.Capture.{form_behind, records_among}
 use Rattle.cf_run.specs.declared.form.Form.{Form}
 
 -- the moment of a record, in microseconds: its stamp, and never earlier than a least one

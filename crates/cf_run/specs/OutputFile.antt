@@ -1,5 +1,6 @@
 -- The packets of a capture file as it is written: file_packets. draft-ietf-opsawg-pcap; the settings are this project's own.
-use Rattle.std.specs.Prelude.{◌≡◌, ◌<◌, ℕ, ◌&&◌, Bool, true, Option, None, Some, List, [], ◌++◌, if◌then◌else◌, length, take, drop, bytes_eq}
+use Rattle.std.specs.Prelude.{◌≡◌, ◌<◌, ℕ, ◌&&◌, Bool, true, Option, None, Some, List, [], ◌++◌, if◌then◌else◌, length, take, drop}
+use Rattle.std.specs.Prelude.{bytes_eq}
 use Rattle.cf_pcap.specs.Header.{output_header, output_octets}
 use Rattle.cf_pcap.specs.Record.{RecordAnswerValue, Whole, Need, TooLong, record_of, head_octets}
 use Rattle.cf_outside.specs.Desk.{SentValue}

@@ -5,7 +5,8 @@ use Rattle.cf_pcap.specs.Record.{captured_at}
 use Rattle.cf_pcap.specs.declared.header.Header.{Header}
 use Rattle.cf_pcapng.specs.Block.{Is, Other, size_at}
 use Rattle.cf_pcapng.specs.Section.{Section}
-use Rattle.cf_run.specs.Capture.{AtPlace, Cut, FileEnd, Fits, Large, Passes, Record, Refused, TooLong, at_place, classic_at, form_behind, is_past, section_at}
+use Rattle.cf_run.specs.Capture.{AtPlace, Cut, FileEnd, Fits, Large, Passes, Record, Refused, TooLong, at_place, classic_at, form_behind}
+use Rattle.cf_run.specs.Capture.{is_past, section_at}
 use Rattle.cf_run.specs.Reader.{PassesTo}
 use Rattle.cf_run.specs.declared.form.Form.{Form}
 use Rattle.cf_run.specs.declared.record_reader.NextRecord.{NextRecord}
@@ -26,7 +27,8 @@ EndsAs (next.Whole stamp) found = ⊥
 -- a piece says what stands at a place of octets, and the form is then what it is after it; a failed read leaves it as it was
 abbrev pub PieceAs : (old : Form) → ℕ → List ℕ → (new : Form) → (buffer : List ℕ) → Piece → Type 0
 PieceAs old place octets new buffer (piece.Record stamp link from to used) =
-    (at_place old place octets ≡ Fits (record { stamp = stamp; link = link; body = slice_range buffer from to }) used) × (new ≡ form_behind old octets)
+    (at_place old place octets ≡ Fits (record { stamp = stamp; link = link; body = slice_range buffer from to }) used)
+    × (new ≡ form_behind old octets)
 PieceAs old place octets new buffer (piece.Passed used) = (at_place old place octets ≡ Passes used) × (new ≡ form_behind old octets)
 PieceAs old place octets new buffer (piece.Ends answer) = EndsAs answer (at_place old place octets) × (new ≡ old)
 
@@ -41,7 +43,8 @@ FindsPiece (holds all) old place new buffer found = PieceAs old place (drop plac
 abbrev pub IsBehind : List ℕ → (old : Form) → (from : ℕ) → (new : Form) → (to : ℕ) → (buffer : List ℕ) → Piece → Type 0
 IsBehind all old from new to buffer (piece.Record stamp link at end used) =
     (count : ℕ) × (file_form : Form) × PassesTo all count old from file_form to
-    × (at_place file_form to (drop to all) ≡ Fits (record { stamp = stamp; link = link; body = slice_range buffer at end }) used) × (new ≡ form_behind file_form (drop to all))
+    × (at_place file_form to (drop to all) ≡ Fits (record { stamp = stamp; link = link; body = slice_range buffer at end }) used)
+    × (new ≡ form_behind file_form (drop to all))
 IsBehind all old from new to buffer (piece.Passed used) = ⊥
 IsBehind all old from new to buffer (piece.Ends next.Failed) = (count : ℕ) × PassesTo all count old from new to
 IsBehind all old from new to buffer (piece.Ends answer) =

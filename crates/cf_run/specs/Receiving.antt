@@ -1,5 +1,6 @@
 -- Steps of the proof: what the second half of an event does to the sessions in memory: `ReceivesOne`.
-use Rattle.std.specs.Prelude.{◌≡◌, ℕ, ◌+◌, ◌-◌, ◌≤◌, ◌&&◌, Bool, true, List, [], ◌∷◌, Option, Some, None, Result, Ok, Err, filter, slice_get}
+use Rattle.std.specs.Prelude.{◌≡◌, ℕ, ◌+◌, ◌-◌, ◌≤◌, ◌&&◌, Bool, true, List, [], ◌∷◌, Option, Some, None, Result, Ok, Err, filter}
+use Rattle.std.specs.Prelude.{slice_get}
 use Rattle.std.specs.Option.{is_some}
 use Rattle.cf_lane.specs.Judged.{one_if}
 use Rattle.cf_packet.specs.Packet.{PacketValue}
@@ -13,7 +14,8 @@ use Rattle.cf_view.specs.declared.Side.{Side}
 use Rattle.cf_run.specs.Engine.{AreAll}
 use Rattle.cf_run.specs.Summary.{decided_in}
 use Rattle.cf_run.specs.Table.{Session, asset_at, match_of, may_begin, place_of}
-use Rattle.cf_run.specs.Trace.{Begun, Dropped, GoesOnAt, NoRoom, NoSession, Received, Receives, Went, after_received, is_cut, logged_at, logged_received, sent_received, stays, with_event_at}
+use Rattle.cf_run.specs.Trace.{Begun, Dropped, GoesOnAt, NoRoom, NoSession, Received, Receives, Went, after_received, is_cut, logged_at}
+use Rattle.cf_run.specs.Trace.{logged_received, sent_received, stays, with_event_at}
 use Rattle.cf_run.specs.declared.entry.Entry.{Entry}
 use Rattle.cf_run.specs.declared.second_half.Outcome.{Outcome}
 use Rattle.cf_run.specs.declared.second_half.Outcome.TheVariants as outcome
@@ -55,32 +57,37 @@ IsSized outcome.Begun before after = (after ≤ before + 1) × (after ≤ 256)
 IsSized (outcome.Went admitted refused cuts) before after = after + cuts ≤ before
 
 -- a session began
-pub record Beginning (assets : List Asset) (now : ℕ) (flow : Flow) (table : List Session) (entries : List Entry) (old new : Told) (event : SessionEvent) : Type 0 where
+pub record Beginning (assets : List Asset) (now : ℕ) (flow : Flow) (table : List Session) (entries : List Entry) (old new : Told)
+    (event : SessionEvent) : Type 0 where
   pub is : IsBeginning flow (now - 1) event
   pub told : new ≡ with_both old (sent_second event) (logged_second flow [] event)
   pub all : AreAll assets now entries (after_received (Begun flow event) table)
 
-abbrev pub BeginsOne : List Asset → (now asset : ℕ) → (closed : Option ℕ) → PacketValue → (before after : List Entry) → (old new : Told) → Type 0
+abbrev pub BeginsOne : List Asset → (now asset : ℕ) → (closed : Option ℕ) → PacketValue → (before after : List Entry) → (old new : Told)
+    → Type 0
 BeginsOne assets now asset closed packet before after old new =
     (table : List Session) (flow : Flow) → AreAll assets now before table → slice_get assets asset ≡ Some flow.asset → flow.syn ≡ packet →
     closed ≡ place_of (client_of flow) flow.asset.endpoint table →
     (event : SessionEvent) × Beginning assets now flow table after old new event
 
 -- a session's event went on
-pub record Going (assets : List Asset) (limit now place : ℕ) (from : Side) (packet : PacketValue) (table : List Session) (entries : List Entry) (old new : Told)
+pub record Going (assets : List Asset) (limit now place : ℕ) (from : Side) (packet : PacketValue) (table : List Session)
+    (entries : List Entry) (old new : Told)
     (result : Outcome) (event : SessionEvent) : Type 0 where
   pub goes_on : GoesOnAt limit from packet event (slice_get table place)
   pub told : new ≡ with_both old (sent_second event) (logged_at (slice_get table place) event)
   pub all : AreAll assets now entries (filter stays (with_event_at place event table))
   pub counts : IsOutcome table result (Went place event)
 
-abbrev pub GoesOne : List Asset → (limit now place : ℕ) → Side → PacketValue → (before after : List Entry) → (old new : Told) → Outcome → Type 0
+abbrev pub GoesOne : List Asset → (limit now place : ℕ) → Side → PacketValue → (before after : List Entry) → (old new : Told) → Outcome
+    → Type 0
 GoesOne assets limit now place from packet before after old new result =
     (table : List Session) → AreTicked (now - 1) table → AreAll assets now before table →
     (event : SessionEvent) × Going assets limit now place from packet table after old new result event
 
 -- the second half of an event
-pub record Receiving (assets : List Asset) (limit now : ℕ) (packet : PacketValue) (table : List Session) (entries : List Entry) (old new : Told)
+pub record Receiving (assets : List Asset) (limit now : ℕ) (packet : PacketValue) (table : List Session) (entries : List Entry)
+    (old new : Told)
     (result : Outcome) (received : Received) : Type 0 where
   pub receives : Receives limit (now - 1) table packet (match_of assets table packet) received
   pub told : new ≡ with_both old (sent_received received) (logged_received table received)

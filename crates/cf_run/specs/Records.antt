@@ -3,13 +3,16 @@ use Rattle.std.specs.Prelude.{◌≡◌, ℕ, ◌+◌, ◌*◌, ◌^◌, ◌<◌
 use Rattle.cf_run.specs.Capture.{AreRecords, LastPlace, Record}
 use Rattle.cf_run.specs.Moments.{AreTimed, first_moment, moments}
 use Rattle.cf_run.specs.declared.form.Form.{Form}
+use Rattle.cf_view.specs.Moment.{moment_limit}
 
 -- octets at any place of a file have records and a last place
 abbrev pub HaveRecords : Type 0
-HaveRecords = (file_form : Form) (place : ℕ) (octets : List ℕ) → (rs : List Record) × (last : LastPlace) × AreRecords file_form place octets rs last
+HaveRecords = (file_form : Form) (place : ℕ) (octets : List ℕ) → (rs : List Record) × (last : LastPlace)
+    × AreRecords file_form place octets rs last
 
 abbrev pub HaveTimedRecords : Type 0
-HaveTimedRecords = (file_form : Form) (least place : ℕ) (octets : List ℕ) → (rs : List Record) × (last : LastPlace) × AreTimed file_form least place octets rs last
+HaveTimedRecords = (file_form : Form) (least place : ℕ) (octets : List ℕ) → (rs : List Record) × (last : LastPlace)
+    × AreTimed file_form least place octets rs last
 
 -- and no others
 abbrev pub HaveOneList : Type 0
@@ -38,10 +41,10 @@ abbrev pub StayBelowTheLimit : Type 0
 StayBelowTheLimit =
     (file_form : Form) (place : ℕ) (octets : List ℕ) (rs : List Record) (last : LastPlace) →
     AreTimed file_form first_moment place octets rs last →
-    (k m : ℕ) → slice_get (moments rs) k ≡ Some m → m < 2 ^ 32 * 1000000
+    (k m : ℕ) → slice_get (moments rs) k ≡ Some m → m < moment_limit
 
 -- no record stands after one whose stamp is the last microsecond below 2^32 seconds
 abbrev pub NoneAfterTheLastMoment : Type 0
 NoneAfterTheLastMoment =
     (file_form : Form) (place : ℕ) (octets : List ℕ) (r s : Record) (rs : List Record) (last : LastPlace) →
-    AreTimed file_form first_moment place octets (r ∷ s ∷ rs) last → r.stamp + 1 < 2 ^ 32 * 1000000
+    AreTimed file_form first_moment place octets (r ∷ s ∷ rs) last → r.stamp + 1 < moment_limit

@@ -68,8 +68,10 @@ BeginsWithRecords file form records = (more : List Record) × (last : LastPlace)
 
 -- a creation failed, or the append of the header: OUT is created first, then LOG, and then OUT gets its header
 pub data IsCreatedInPart (names : RunNamesValue) (before after : List ℕ → Content) : Type 0 where
-  out_failed : Creates (before names.out) (after names.out) write.Failed → after names.log ≡ before names.log → IsCreatedInPart names before after
-  log_failed : after names.out ≡ content_after_create (before names.out) → Creates (before names.log) (after names.log) write.Failed → IsCreatedInPart names before after
+  out_failed : Creates (before names.out) (after names.out) write.Failed → after names.log ≡ before names.log
+      → IsCreatedInPart names before after
+  log_failed : after names.out ≡ content_after_create (before names.out) → Creates (before names.log) (after names.log) write.Failed
+      → IsCreatedInPart names before after
   header_failed : Appends output_octets (content_after_create (before names.out)) (after names.out) write.Failed →
       after names.log ≡ content_after_create (before names.log) → IsCreatedInPart names before after
 
@@ -125,9 +127,11 @@ module _ (assets : List Asset) (limit : ℕ) (names : RunNamesValue) (before aft
     pub half : Half
     pub is_half : IsHalfOf assets limit (table_after events) input half
     pub octets_out : ℕ
-    pub in_out : HoldsOctets (before names.out) (after names.out) (capture_of (sent events ++ half.sent_before) ++ take octets_out (octets_of record_octets half.sent))
+    pub in_out : HoldsOctets (before names.out) (after names.out)
+        (capture_of (sent events ++ half.sent_before) ++ take octets_out (octets_of record_octets half.sent))
     pub octets_log : ℕ
-    pub in_log : HoldsOctets (before names.log) (after names.log) (concat (logged events ++ half.logged_before) ++ take octets_log (concat half.logged))
+    pub in_log : HoldsOctets (before names.log) (after names.log)
+        (concat (logged events ++ half.logged_before) ++ take octets_log (concat half.logged))
 
   -- memory ran out after the first half of that event, where its packet begins a session
   pub record StopsBetween : Type 0 where

@@ -27,4 +27,5 @@ pub record IsSelected (event : RunEvent) (earlier : List RunEvent) : Type 0 wher
 
 abbrev pub SelectsByMoment : Type 0
 SelectsByMoment =
-    (assets : List Asset) (limit : ℕ) (event : RunEvent) (earlier : List RunEvent) → AreRunEvents assets limit (event ∷ earlier) → Rises (event ∷ earlier) → IsSelected event earlier
+    (assets : List Asset) (limit : ℕ) (event : RunEvent) (earlier : List RunEvent) → AreRunEvents assets limit (event ∷ earlier)
+    → Rises (event ∷ earlier) → IsSelected event earlier

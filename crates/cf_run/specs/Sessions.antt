@@ -6,7 +6,8 @@ use Rattle.cf_session.specs.Laws.{AreUncut, IsFront, IsReassembly, given, parts_
 use Rattle.cf_session.specs.Session.{Flow, SessionEvent, client_ends, client_of, clients, controller_ends, controllers, is_expired, work_of}
 use Rattle.cf_stream.specs.Stream.{Letter}
 use Rattle.cf_run.specs.Table.{Session, place_of}
-use Rattle.cf_run.specs.Trace.{AreRunEvents, Begun, RunEvent, Received, Went, kept, stays, table_after, tick_of, ticked, with_event_at, with_events}
+use Rattle.cf_run.specs.Trace.{AreRunEvents, Begun, RunEvent, Received, Went, kept, stays, table_after, tick_of, ticked, with_event_at}
+use Rattle.cf_run.specs.Trace.{with_events}
 
 -- ---- those in the table, and those that left it
 
@@ -57,7 +58,8 @@ Each P [] = Unit {0}
 Each P (session ∷ table) = P session × Each P table
 
 abbrev pub SessionsAreRight : Type 0
-SessionsAreRight = (assets : List Asset) (limit : ℕ) (events : List RunEvent) → AreRunEvents assets limit events → Each (HasRightEvents limit) (sessions_of events)
+SessionsAreRight = (assets : List Asset) (limit : ℕ) (events : List RunEvent) → AreRunEvents assets limit events
+    → Each (HasRightEvents limit) (sessions_of events)
 
 -- ---- whatever copies of letters a controller takes in a session, it gets a beginning of the session's stream to it; and so does
 -- the client
@@ -65,11 +67,14 @@ SessionsAreRight = (assets : List Asset) (limit : ℕ) (events : List RunEvent) 
 abbrev pub SendsOneStream : Session → Type 0
 SendsOneStream session =
     (taken : List Letter) →
-    (IsReassembly (parts_of (controller_ends session.flow).role (controllers session.events)) taken → IsFront (work_of session.events).to_controller taken)
-    × (IsReassembly (parts_of (client_ends session.flow).role (clients session.events)) taken → IsFront (work_of session.events).to_client taken)
+    (IsReassembly (parts_of (controller_ends session.flow).role (controllers session.events)) taken
+    → IsFront (work_of session.events).to_controller taken)
+    × (IsReassembly (parts_of (client_ends session.flow).role (clients session.events)) taken
+    → IsFront (work_of session.events).to_client taken)
 
 abbrev pub SessionsHaveOneStream : Type 0
-SessionsHaveOneStream = (assets : List Asset) (limit : ℕ) (events : List RunEvent) → limit ≤ 2 ^ 30 → AreRunEvents assets limit events → Each SendsOneStream (sessions_of events)
+SessionsHaveOneStream = (assets : List Asset) (limit : ℕ) (events : List RunEvent) → limit ≤ 2 ^ 30 → AreRunEvents assets limit events
+    → Each SendsOneStream (sessions_of events)
 
 -- ---- isolation: a session of one run and one of another that have one flow and are given the same packets at the same moments
 -- are the same in all that they send and log, whatever else the two captures hold
@@ -81,5 +86,7 @@ pub record AreAlike (one other : Session) : Type 0 where
 
 abbrev pub SessionsAreIsolated : Type 0
 SessionsAreIsolated =
-    (assets : List Asset) (limit : ℕ) (events others : List RunEvent) → AreRunEvents assets limit events → AreRunEvents assets limit others →
-    (i j : ℕ) (one other : Session) → slice_get (sessions_of events) i ≡ Some one → slice_get (sessions_of others) j ≡ Some other → AreAlike one other → one ≡ other
+    (assets : List Asset) (limit : ℕ) (events others : List RunEvent) → AreRunEvents assets limit events → AreRunEvents assets limit others
+    →
+    (i j : ℕ) (one other : Session) → slice_get (sessions_of events) i ≡ Some one → slice_get (sessions_of others) j ≡ Some other
+    → AreAlike one other → one ≡ other

@@ -9,21 +9,24 @@ use Rattle.cf_run.specs.Receiving.{AreTicked, IsOutcome}
 use Rattle.cf_run.specs.Selected.{Rises, last_moment}
 use Rattle.cf_run.specs.Summary.{found, summary_of}
 use Rattle.cf_run.specs.Table.{Session}
-use Rattle.cf_run.specs.Trace.{AreRunEvents, RunEvent, IsRunEvent, Received, ReceivesRecord, after_received, is_cut, logged_in_first, logged_in_second, logged_received, sent_in_first, sent_in_second, sent_received, table_after}
+use Rattle.cf_run.specs.Trace.{AreRunEvents, RunEvent, IsRunEvent, Received, ReceivesRecord, after_received, is_cut, logged_in_first}
+use Rattle.cf_run.specs.Trace.{logged_in_second, logged_received, sent_in_first, sent_in_second, sent_received, table_after}
 use Rattle.cf_run.specs.declared.entry.Entry.{Entry}
 use Rattle.cf_run.specs.declared.second_half.Outcome.{Outcome}
 use Rattle.cf_run.specs.declared.summary.Happened.{Happened}
 use Rattle.cf_run.specs.declared.summary.Summary.{Summary}
 
 -- the second half of an event with a record that is a packet or none
-pub record ReceivingRecord (assets : List Asset) (limit now : ℕ) (packet : Result PacketValue PacketRefusal) (table : List Session) (entries : List Entry)
+pub record ReceivingRecord (assets : List Asset) (limit now : ℕ) (packet : Result PacketValue PacketRefusal) (table : List Session)
+    (entries : List Entry)
     (old new : Told) (result : Outcome) (received : Received) : Type 0 where
   pub receives : ReceivesRecord assets limit (now - 1) table packet received
   pub told : new ≡ with_both old (sent_received received) (logged_received table received)
   pub all : AreAll assets now entries (after_received received table)
   pub counts : IsOutcome table result received
 
-abbrev pub ReceivesRecordOne : List Asset → (limit now : ℕ) → Result PacketValue PacketRefusal → (before after : List Entry) → (old new : Told) → Outcome → Type 0
+abbrev pub ReceivesRecordOne : List Asset → (limit now : ℕ) → Result PacketValue PacketRefusal → (before after : List Entry)
+    → (old new : Told) → Outcome → Type 0
 ReceivesRecordOne assets limit now packet before after old new result =
     (table : List Session) → AreTicked (now - 1) table → AreAll assets now before table →
     (received : Received) × ReceivingRecord assets limit now packet table after old new result received
@@ -34,11 +37,13 @@ pub record IsCounted (before : List Session) (happened : Happened) (event : RunE
   pub received : IsOutcome (found before event) happened.outcome event.received
 
 -- an event with a record, after this table
-pub record Steps (assets : List Asset) (limit now : ℕ) (packet : Result PacketValue PacketRefusal) (before : List Session) (entries : List Entry) (old new : Told)
+pub record Steps (assets : List Asset) (limit now : ℕ) (packet : Result PacketValue PacketRefusal) (before : List Session)
+    (entries : List Entry) (old new : Told)
     (happened : Happened) (event : RunEvent) : Type 0 where
   pub input : event.input ≡ record { moment = now; packet = packet }
   pub is_event : IsRunEvent assets limit before event
-  pub told : new ≡ with_both old (sent_in_first event ++ sent_in_second event) (logged_in_first before event ++ logged_in_second before event)
+  pub told : new ≡ with_both old (sent_in_first event ++ sent_in_second event)
+      (logged_in_first before event ++ logged_in_second before event)
   pub all : AreAll assets now entries (after_received event.received (found before event))
   pub counts : IsCounted before happened event
 
@@ -68,8 +73,10 @@ pub record IsEngineOf (assets : List Asset) (engine : EngineValue) (events : Lis
   pub counts : engine.summary ≡ summary_of events
 
 -- it went on by one event
-pub record StepsOn (assets : List Asset) (now : ℕ) (packet : Result PacketValue PacketRefusal) (events : List RunEvent) (engine : EngineValue) (old new : Told) (event : RunEvent) :
+pub record StepsOn (assets : List Asset) (now : ℕ) (packet : Result PacketValue PacketRefusal) (events : List RunEvent)
+    (engine : EngineValue) (old new : Told) (event : RunEvent) :
     Type 0 where
   pub input : event.input ≡ record { moment = now; packet = packet }
   pub stands : IsEngineOf assets engine (event ∷ events)
-  pub told : new ≡ with_both old (sent_in_first event ++ sent_in_second event) (logged_in_first (table_after events) event ++ logged_in_second (table_after events) event)
+  pub told : new ≡ with_both old (sent_in_first event ++ sent_in_second event)
+      (logged_in_first (table_after events) event ++ logged_in_second (table_after events) event)

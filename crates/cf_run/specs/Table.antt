@@ -1,5 +1,6 @@
 -- The table of sessions, and to which of them a packet goes: match_of. The sessions stand in the order of their beginning.
-use Rattle.std.specs.Prelude.{ℕ, ◌==◌, nat_lt, not, Bool, true, ◌&&◌, ◌||◌, if◌then◌else◌, List, length, find, position, slice_get, Option, Some, None}
+use Rattle.std.specs.Prelude.{ℕ, ◌==◌, nat_lt, not, Bool, true, ◌&&◌, ◌||◌, if◌then◌else◌, List, length, find, position, slice_get, Option}
+use Rattle.std.specs.Prelude.{Some, None}
 use Rattle.std.specs.List.{list_any, remove}
 use Rattle.cf_leg.specs.Segment.{has_ack, has_fin, has_rst, has_syn}
 use Rattle.cf_packet.specs.Packet.{PacketValue}

@@ -2,7 +2,8 @@
 -- which fires the timers that are due and then handles the packet.
 --
 -- Lists of events have the newest one first, so that what was before an event is the list after it.
-use Rattle.std.specs.Prelude.{◌≡◌, ℕ, zero, suc, ◌-◌, not, Bool, true, false, List, [], ◌∷◌, ◌++◌, filter, slice_get, Option, Some, None, Result, Ok, Err}
+use Rattle.std.specs.Prelude.{◌≡◌, ℕ, zero, suc, ◌-◌, not, Bool, true, false, List, [], ◌∷◌, ◌++◌, filter, slice_get, Option, Some, None}
+use Rattle.std.specs.Prelude.{Result, Ok, Err}
 use Rattle.std.specs.List.{flat_map}
 use Rattle.cf_audit.specs.declared.CutReason.{CutReason}
 use Rattle.cf_packet.specs.Packet.{PacketValue}
@@ -86,7 +87,8 @@ with_event_at (suc place) event (session ∷ table) = session ∷ with_event_at 
 
 -- the table after the packet: a new session stands last, and the closed one of its flow is gone; a session that was cut is gone
 abbrev pub after_received : Received → List Session → List Session
-after_received (Begun flow event) table = without (client_of flow) flow.asset.endpoint table ++ record { flow = flow; events = event ∷ [] } ∷ []
+after_received (Begun flow event) table = without (client_of flow) flow.asset.endpoint table ++ record { flow = flow; events = event ∷ [] }
+    ∷ []
 after_received (Went place event) table = filter stays (with_event_at place event table)
 after_received _ table = table
 
@@ -129,7 +131,8 @@ ReceivesRecord assets limit tick table (Ok packet) received = Receives limit tic
 -- an event is right after the table before it: each session has its first half, and the packet is received
 pub record IsRunEvent (assets : List Asset) (limit : ℕ) (before : List Session) (event : RunEvent) : Type 0 where
   pub ticks : AreTicks (tick_of event.input) (kept (tick_of event.input) before) event.ticks
-  pub received : ReceivesRecord assets limit (tick_of event.input) (ticked event.ticks (tick_of event.input) before) event.input.packet event.received
+  pub received : ReceivesRecord assets limit (tick_of event.input) (ticked event.ticks (tick_of event.input) before) event.input.packet
+      event.received
 
 -- events, each right after the earlier ones
 abbrev pub AreRunEvents : List Asset → (limit : ℕ) → List RunEvent → Type 0

@@ -14,6 +14,7 @@ ghost use Rattle.cf_run.specs.Receiving.{IsSized, MayBegin};
 ghost use Rattle.cf_run.specs.Step.{EngineValue, IsEngineOf, IsSoundEngine, ReceivesRecordOne, Steps, StepsOn};
 ghost use Rattle.cf_run.specs.Table.{Session as Known};
 ghost use Rattle.cf_run.specs.Trace.{RunEvent, table_after};
+ghost use Rattle.cf_view.specs.Moment.{moment_limit};
 
 use crate::entry::Table;
 use crate::first_half::tick_all;
@@ -96,13 +97,14 @@ impl Engine {
         requires within { AreAssetsWithin policy.now.assets }
         requires sound { IsSoundEngine policy.now.assets self.old }
         requires later { self.old.last + 2 ≤ moment }
-        requires moment { moment < 2 ^ 32 * 1000000 }
+        requires moment { moment < moment_limit }
         requires whole { DeskValue.whole (D.value desk.old) ≡ true }
         ensures steps { OnOk result ((events : List RunEvent) → IsEngineOf policy.now.assets self.old events →
             (event : RunEvent) × StepsOn policy.now.assets moment (read_record link.now bytes.now) events self.new
             (told (D.value desk.old)) (told (D.value desk.new)) event) }
         ensures broken { IsErrOf result StepFault.Write → (events : List RunEvent) → IsEngineOf policy.now.assets self.old events
-            → StepBreaks policy.now.assets self.old.limit (table_after events) (record { moment = moment; packet = read_record link.now bytes.now })
+            → StepBreaks policy.now.assets self.old.limit (table_after events)
+            (record { moment = moment; packet = read_record link.now bytes.now })
             (D.value desk.old) (D.value desk.new) }
         ensures stops { IsErrOf result StepFault.NoMemory → (events : List RunEvent) → IsEngineOf policy.now.assets self.old events
             → StepStops policy.now.assets (table_after events) (record { moment = moment; packet = read_record link.now bytes.now })
@@ -115,7 +117,8 @@ impl Engine {
         ensures memory { IsErrOf result StepFault.NoMemory → MayBegin policy.now.assets (read_record link.now bytes.now) }
         ensures keeps { KeepsDesk (D.value desk.old) (D.value desk.new) }
         ensures whole { OnOk result (DeskValue.whole (D.value desk.new) ≡ true) }
-        ensures cause { HasCause (DeskValue.faults (D.value desk.old)) (DeskValue.faults (D.value desk.new)) (IsErrOf result StepFault.Write) }
+        ensures cause { HasCause (DeskValue.faults (D.value desk.old)) (DeskValue.faults (D.value desk.new))
+            (IsErrOf result StepFault.Write) }
     {
         let happened = match step_table(
             &mut self.table,
@@ -159,15 +162,20 @@ fn step_table<D: Desk>(
     requires due { AreDueFrom table.old.due table.old.sessions.items }
     requires size { length table.old.sessions.items ≤ 256 }
     requires limit { (1 ≤ limit) × (limit ≤ 2 ^ 30) }
-    requires moment { (2 ≤ now) × (now < 2 ^ 32 * 1000000) }
+    requires moment { (2 ≤ now) × (now < moment_limit) }
     requires whole { DeskValue.whole (D.value desk.old) ≡ true }
-    ensures steps { IfOk result (λ happened. (before : List Known) (last : ℕ) → last + 1 ≤ now → AreAll assets.now last table.old.sessions.items before →
+    ensures steps { IfOk result (λ happened. (before : List Known) (last : ℕ) → last + 1 ≤ now
+        → AreAll assets.now last table.old.sessions.items before →
         (event : RunEvent) × Steps assets.now limit now (read_record link.now bytes.now) before table.new.sessions.items
         (told (D.value desk.old)) (told (D.value desk.new)) happened event) }
-    ensures broken { IsErrOf result StepFault.Write → (before : List Known) (last : ℕ) → last + 1 ≤ now → AreAll assets.now last table.old.sessions.items before
-        → StepBreaks assets.now limit before (record { moment = now; packet = read_record link.now bytes.now }) (D.value desk.old) (D.value desk.new) }
-    ensures stops { IsErrOf result StepFault.NoMemory → (before : List Known) (last : ℕ) → last + 1 ≤ now → AreAll assets.now last table.old.sessions.items before
-        → StepStops assets.now before (record { moment = now; packet = read_record link.now bytes.now }) (told (D.value desk.old)) (told (D.value desk.new)) }
+    ensures broken { IsErrOf result StepFault.Write → (before : List Known) (last : ℕ) → last + 1 ≤ now
+        → AreAll assets.now last table.old.sessions.items before
+        → StepBreaks assets.now limit before (record { moment = now; packet = read_record link.now bytes.now }) (D.value desk.old)
+        (D.value desk.new) }
+    ensures stops { IsErrOf result StepFault.NoMemory → (before : List Known) (last : ℕ) → last + 1 ≤ now
+        → AreAll assets.now last table.old.sessions.items before
+        → StepStops assets.now before (record { moment = now; packet = read_record link.now bytes.now }) (told (D.value desk.old))
+        (told (D.value desk.new)) }
     ensures sound { OnOk result (AreSound assets.now limit table.new.sessions.items) }
     ensures due { OnOk result (AreDueFrom table.new.due table.new.sessions.items) }
     ensures size { OnOk result (length table.new.sessions.items ≤ 256) }
@@ -200,14 +208,17 @@ fn receive_record<D: Desk>(
     requires due { AreDueFrom table.old.due table.old.sessions.items }
     requires size { length table.old.sessions.items ≤ 256 }
     requires limit { (1 ≤ limit) × (limit ≤ 2 ^ 30) }
-    requires moment { (1 ≤ now) × (now < 2 ^ 32 * 1000000) }
+    requires moment { (1 ≤ now) × (now < moment_limit) }
     requires whole { DeskValue.whole (D.value desk.old) ≡ true }
-    ensures received { IfOk result (λ outcome. ReceivesRecordOne assets.now limit now (read_record link.now bytes.now) table.old.sessions.items table.new.sessions.items
+    ensures received { IfOk result (λ outcome. ReceivesRecordOne assets.now limit now (read_record link.now bytes.now)
+        table.old.sessions.items table.new.sessions.items
         (told (D.value desk.old)) (told (D.value desk.new)) outcome) }
     ensures broken { IsErrOf result StepFault.Write
-        → ReceiveRecordBreaks assets.now limit now (read_record link.now bytes.now) table.old.sessions.items (D.value desk.old) (D.value desk.new) }
+        → ReceiveRecordBreaks assets.now limit now (read_record link.now bytes.now) table.old.sessions.items (D.value desk.old)
+        (D.value desk.new) }
     ensures nothing { IsErrOf result StepFault.NoMemory → desk.new ≡ desk.old }
-    ensures beginning { IsErrOf result StepFault.NoMemory → StopsBeginning assets.now now (read_record link.now bytes.now) table.old.sessions.items }
+    ensures beginning { IsErrOf result StepFault.NoMemory
+        → StopsBeginning assets.now now (read_record link.now bytes.now) table.old.sessions.items }
     ensures sound { OnOk result (AreSound assets.now limit table.new.sessions.items) }
     ensures due { OnOk result (AreDueFrom table.new.due table.new.sessions.items) }
     ensures size { IfOk result (λ outcome. IsSized outcome (length table.old.sessions.items) (length table.new.sessions.items)) }

@@ -2,7 +2,8 @@
 ghost use Rattle.std.specs.Prelude.{◌≡◌, ◌<◌, ◌≤◌, ◌+◌, ◌++◌, List, length, ℕ};
 ghost use Rattle.cf_outside.specs.Files.{Appends};
 ghost use Rattle.cf_pcap.specs.Header.{output_header};
-ghost use Rattle.cf_pcap.specs.Record.{Whole, moment_limit, record_of};
+ghost use Rattle.cf_pcap.specs.Record.{Whole, record_of};
+ghost use Rattle.cf_view.specs.Moment.{moment_limit};
 ghost use Rattle.cf_run.specs.OutputFile.{IsRecord, record_octets};
 ghost use Rattle.cf_run.specs.FileDesk.{file_desk};
 

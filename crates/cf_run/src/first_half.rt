@@ -12,6 +12,7 @@ ghost use Rattle.cf_run.specs.Entries.{cuts_by, stays_by};
 ghost use Rattle.cf_run.specs.Half.{TicksBreak};
 ghost use Rattle.cf_run.specs.Table.{Session as Known};
 ghost use Rattle.cf_run.specs.declared.entry.Entry.{Entry as KnownEntry};
+ghost use Rattle.cf_view.specs.Moment.{moment_limit};
 
 use crate::entry::{Entry, Table, asset_of, cuts, stays};
 use cf_outside::Desk;
@@ -30,7 +31,7 @@ fn tick_at<D: Desk>(
 ) -> Result<Life, WriteFault>
     requires inside { place < length table.old.items }
     requires sound { AreSound assets.now limit table.old.items }
-    requires moment { now < 2 ^ 32 * 1000000 }
+    requires moment { now < moment_limit }
     requires whole { DeskValue.whole (D.value desk.old) ≡ true }
     ensures before { take place table.new.items ≡ take place table.old.items }
     ensures after { drop (place + 1) table.new.items ≡ drop (place + 1) table.old.items }
@@ -63,7 +64,7 @@ pub fn tick_all<D: Desk>(
     requires sound { AreSound assets.now limit table.old.sessions.items }
     requires due { AreDueFrom table.old.due table.old.sessions.items }
     requires size { length table.old.sessions.items ≤ 256 }
-    requires moment { now < 2 ^ 32 * 1000000 }
+    requires moment { now < moment_limit }
     requires whole { DeskValue.whole (D.value desk.old) ≡ true }
     ensures ticks { IfOk result (λ cuts. (known : List Known) → AreAll assets.now now table.old.sessions.items known →
         TickAll assets.now now known table.new.sessions.items (told (D.value desk.old)) (told (D.value desk.new)) cuts) }

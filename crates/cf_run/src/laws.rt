@@ -2,7 +2,8 @@
 ghost use Rattle.cf_run.specs.Fixed.{RecordsFixEvents, RecordsFixRuns};
 ghost use Rattle.cf_run.specs.Headline.{RunsHaveHeadline};
 ghost use Rattle.cf_run.specs.Isolation.{RunsIsolateSessions};
-ghost use Rattle.cf_run.specs.Records.{BeginAtTwo, GoOnByTwo, HaveOneList, HaveOneTimedList, HaveRecords, HaveTimedRecords, NoneAfterTheLastMoment, StayBelowTheLimit};
+ghost use Rattle.cf_run.specs.Records.{BeginAtTwo, GoOnByTwo, HaveOneList, HaveOneTimedList, HaveRecords, HaveTimedRecords};
+ghost use Rattle.cf_run.specs.Records.{NoneAfterTheLastMoment, StayBelowTheLimit};
 ghost use Rattle.cf_run.specs.Selected.{SelectsByMoment};
 ghost use Rattle.cf_run.specs.Sessions.{SessionsAreIsolated, SessionsAreRight, SessionsHaveOneStream};
 

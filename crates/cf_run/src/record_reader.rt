@@ -84,7 +84,8 @@ impl Model for RecordReader {
 
     ghost view = { λ r. record { form = r.form; place = r.place; link = r.link; body = slice_range r.buffer.items r.from r.to } };
 
-    ghost invariant = { λ r. (length r.buffer.items ≡ room_of r.form) × (r.place ≤ 2 ^ 40) × (r.from ≤ r.to) × (r.to ≤ length r.buffer.items) };
+    ghost invariant = { λ r. (length r.buffer.items ≡ room_of r.form) × (r.place ≤ 2 ^ 40) × (r.from ≤ r.to)
+        × (r.to ≤ length r.buffer.items) };
 }
 
 impl RecordReader {

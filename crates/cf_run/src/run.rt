@@ -10,9 +10,11 @@ ghost use Rattle.cf_run.specs.FileDesk.{are_whole, files_desk, files_told};
 ghost use Rattle.cf_run.specs.Half.{StepBreaks, StepStops};
 ghost use Rattle.cf_run.specs.Form.{first_place};
 ghost use Rattle.cf_run.specs.Reader.{HasForm};
-ghost use Rattle.cf_run.specs.RunCapture.{AreApart, IsCreatedInPart, KeepsOtherFiles, RunsAs, RunsRecords, open_fault, run_names_value, step_fault};
+ghost use Rattle.cf_run.specs.RunCapture.{AreApart, IsCreatedInPart, KeepsOtherFiles, RunsAs, RunsRecords, open_fault, run_names_value};
+ghost use Rattle.cf_run.specs.RunCapture.{step_fault};
 ghost use Rattle.cf_run.specs.Step.{IsEngineOf, IsSoundEngine, StepsOn};
 ghost use Rattle.cf_run.specs.Trace.{RunEvent, table_after};
+ghost use Rattle.cf_view.specs.Moment.{moment_limit};
 
 use crate::blocks::BlockRefusal;
 use crate::engine::{Engine, StepFault};
@@ -212,7 +214,7 @@ fn run_record<F: Files>(
     requires apart { names.now.out.now ≢ names.now.log.now }
     requires sound { IsSoundEngine policy.now.assets engine.old }
     requires later { engine.old.last + 2 ≤ moment }
-    requires moment { moment < 2 ^ 32 * 1000000 }
+    requires moment { moment < moment_limit }
     requires whole { are_whole names.now.out.now names.now.log.now (F.content files.old) ≡ true }
     ensures steps { OnOk result ((events : List RunEvent) → IsEngineOf policy.now.assets engine.old events →
         (event : RunEvent) × StepsOn policy.now.assets moment (read_record reader.now.link reader.now.body) events engine.new
@@ -221,10 +223,13 @@ fn run_record<F: Files>(
     ensures broken { IsErrOf result StepFault.Write → (events : List RunEvent) → IsEngineOf policy.now.assets engine.old events
         → StepBreaks policy.now.assets engine.old.limit (table_after events)
         (record { moment = moment; packet = read_record reader.now.link reader.now.body })
-        (files_desk names.now.out.now names.now.log.now (F.content files.old)) (files_desk names.now.out.now names.now.log.now (F.content files.new)) }
+        (files_desk names.now.out.now names.now.log.now (F.content files.old))
+        (files_desk names.now.out.now names.now.log.now (F.content files.new)) }
     ensures stops { IsErrOf result StepFault.NoMemory → (events : List RunEvent) → IsEngineOf policy.now.assets engine.old events
-        → StepStops policy.now.assets (table_after events) (record { moment = moment; packet = read_record reader.now.link reader.now.body })
-        (files_told names.now.out.now names.now.log.now (F.content files.old)) (files_told names.now.out.now names.now.log.now (F.content files.new)) }
+        → StepStops policy.now.assets (table_after events)
+        (record { moment = moment; packet = read_record reader.now.link reader.now.body })
+        (files_told names.now.out.now names.now.log.now (F.content files.old))
+        (files_told names.now.out.now names.now.log.now (F.content files.new)) }
     ensures stops_whole { IsErrOf result StepFault.NoMemory → are_whole names.now.out.now names.now.log.now (F.content files.new) ≡ true }
     ensures sound { OnOk result (IsSoundEngine policy.now.assets engine.new) }
     ensures last { OnOk result (engine.new.last ≡ moment) }

@@ -1,5 +1,6 @@
 //! The second half of an event: the packet.
-ghost use Rattle.std.specs.Prelude.{◌≡◌, ◌+◌, ◌-◌, ◌*◌, ◌^◌, ◌<◌, ◌≤◌, true, IfOk, IfSome, IsErrOf, Ok, OnErr, OnOk, Some, length, pos, slice_get, vec_capacity, vec_len};
+ghost use Rattle.std.specs.Prelude.{◌≡◌, ◌+◌, ◌-◌, ◌*◌, ◌^◌, ◌<◌, ◌≤◌, true, IfOk, IfSome, IsErrOf, Ok, OnErr, OnOk, Some, length, pos};
+ghost use Rattle.std.specs.Prelude.{slice_get, vec_capacity, vec_len};
 ghost use Rattle.cf_outside.specs.Desk.{DeskValue};
 ghost use Rattle.cf_outside.specs.Frames.{EmitsAndLogs};
 ghost use Rattle.cf_packet.specs.Packet.{packet_value};
@@ -11,6 +12,7 @@ ghost use Rattle.cf_run.specs.Engine.{AreDueFrom, AreSound};
 ghost use Rattle.cf_run.specs.Entries.{others, without_at};
 ghost use Rattle.cf_run.specs.Half.{has_failed, GoBreaks, ReceiveBreaks, StopsBeginning};
 ghost use Rattle.cf_run.specs.Receiving.{BeginsOne, GoesOne, IsSized, ReceivesOne, may_begin_one};
+ghost use Rattle.cf_view.specs.Moment.{moment_limit};
 
 use crate::engine::StepFault;
 use crate::entry::{Entry, Table, asset_of, cuts, stays};
@@ -59,18 +61,21 @@ pub fn receive<D: Desk>(
     requires due { AreDueFrom table.old.due table.old.sessions.items }
     requires size { length table.old.sessions.items ≤ 256 }
     requires limit { (1 ≤ limit) × (limit ≤ 2 ^ 30) }
-    requires moment { (1 ≤ now) × (now < 2 ^ 32 * 1000000) }
+    requires moment { (1 ≤ now) × (now < moment_limit) }
     requires text { length packet.now.text.now ≤ 65535 }
     requires whole { DeskValue.whole (D.value desk.old) ≡ true }
-    ensures received { IfOk result (λ outcome. ReceivesOne assets.now limit now (packet_value packet.now) table.old.sessions.items table.new.sessions.items
+    ensures received { IfOk result (λ outcome. ReceivesOne assets.now limit now (packet_value packet.now) table.old.sessions.items
+        table.new.sessions.items
         (told (D.value desk.old)) (told (D.value desk.new)) outcome) }
-    ensures broken { IsErrOf result StepFault.Write → ReceiveBreaks assets.now limit now (packet_value packet.now) table.old.sessions.items (D.value desk.old) (D.value desk.new) }
+    ensures broken { IsErrOf result StepFault.Write → ReceiveBreaks assets.now limit now (packet_value packet.now) table.old.sessions.items
+        (D.value desk.old) (D.value desk.new) }
     ensures nothing { IsErrOf result StepFault.NoMemory → desk.new ≡ desk.old }
     ensures sound { OnOk result (AreSound assets.now limit table.new.sessions.items) }
     ensures due { OnOk result (AreDueFrom table.new.due table.new.sessions.items) }
     ensures size { IfOk result (λ outcome. IsSized outcome (length table.old.sessions.items) (length table.new.sessions.items)) }
     ensures memory { IsErrOf result StepFault.NoMemory → may_begin_one assets.now (packet_value packet.now) ≡ true }
-    ensures beginning { IsErrOf result StepFault.NoMemory → StopsBeginning assets.now now (Ok (packet_value packet.now)) table.old.sessions.items }
+    ensures beginning { IsErrOf result StepFault.NoMemory
+        → StopsBeginning assets.now now (Ok (packet_value packet.now)) table.old.sessions.items }
     ensures frame { EmitsAndLogs (D.value desk.old) (D.value desk.new) (has_failed result) }
 {
     match match_packet(&table.sessions, assets, packet) {
@@ -112,16 +117,18 @@ fn begin<D: Desk>(
     requires closed { IfSome closed (λ place. place < length table.old.sessions.items) }
     requires room { others (length table.old.sessions.items) closed < 256 }
     requires limit { (1 ≤ limit) × (limit ≤ 2 ^ 30) }
-    requires moment { (1 ≤ now) × (now < 2 ^ 32 * 1000000) }
+    requires moment { (1 ≤ now) × (now < moment_limit) }
     requires whole { DeskValue.whole (D.value desk.old) ≡ true }
-    ensures begins { OnOk result (BeginsOne assets.now now asset closed (packet_value packet.now) table.old.sessions.items table.new.sessions.items
+    ensures begins { OnOk result (BeginsOne assets.now now asset closed (packet_value packet.now) table.old.sessions.items
+        table.new.sessions.items
         (told (D.value desk.old)) (told (D.value desk.new))) }
     ensures broken { IsErrOf result StepFault.Write → (flow : Flow) → slice_get assets.now asset ≡ Some flow.asset
         → flow.syn ≡ packet_value packet.now → BreaksBeginning flow (now - 1) (D.value desk.old) (D.value desk.new) }
     ensures nothing { IsErrOf result StepFault.NoMemory → desk.new ≡ desk.old }
     ensures sound { OnOk result (AreSound assets.now limit table.new.sessions.items) }
     ensures due { OnOk result (AreDueFrom table.new.due table.new.sessions.items) }
-    ensures size { OnOk result ((length table.new.sessions.items ≤ length table.old.sessions.items + 1) × (length table.new.sessions.items ≤ 256)) }
+    ensures size { OnOk result ((length table.new.sessions.items ≤ length table.old.sessions.items + 1)
+        × (length table.new.sessions.items ≤ 256)) }
     ensures frame { EmitsAndLogs (D.value desk.old) (D.value desk.new) (has_failed result) }
 {
     make_way(&mut table.sessions, closed);
@@ -192,12 +199,14 @@ fn go_on<D: Desk>(
     requires sound { AreSound assets.now limit table.old.sessions.items }
     requires due { AreDueFrom table.old.due table.old.sessions.items }
     requires inside { place < length table.old.sessions.items }
-    requires moment { (1 ≤ now) × (now < 2 ^ 32 * 1000000) }
+    requires moment { (1 ≤ now) × (now < moment_limit) }
     requires text { length packet.now.text.now ≤ 65535 }
     requires whole { DeskValue.whole (D.value desk.old) ≡ true }
-    ensures goes { IfOk result (λ outcome. GoesOne assets.now limit now place side (packet_value packet.now) table.old.sessions.items table.new.sessions.items
+    ensures goes { IfOk result (λ outcome. GoesOne assets.now limit now place side (packet_value packet.now) table.old.sessions.items
+        table.new.sessions.items
         (told (D.value desk.old)) (told (D.value desk.new)) outcome) }
-    ensures broken { IsErrOf result StepFault.Write → GoBreaks assets.now limit now place side (packet_value packet.now) table.old.sessions.items (D.value desk.old) (D.value desk.new) }
+    ensures broken { IsErrOf result StepFault.Write → GoBreaks assets.now limit now place side (packet_value packet.now)
+        table.old.sessions.items (D.value desk.old) (D.value desk.new) }
     ensures sound { OnOk result (AreSound assets.now limit table.new.sessions.items) }
     ensures due { OnOk result (AreDueFrom table.new.due table.new.sessions.items) }
     ensures size { IfOk result (λ outcome. IsSized outcome (length table.old.sessions.items) (length table.new.sessions.items)) }

@@ -10,7 +10,7 @@ use Rattle.cf_isolation.specs.Isolated.{HasWrittenRecords, IsInTime}
 use Rattle.cf_judge.specs.Objections.{IsJudgementOf}
 use Rattle.cf_judge.specs.declared.judging.Judged.{Judged as Judgement}
 use Rattle.cf_outside.specs.Files.{holds}
-use Rattle.cf_pcap.specs.Record.{moment_limit}
+use Rattle.cf_view.specs.Moment.{moment_limit}
 use Rattle.cf_policy.specs.declared.Asset.{Asset}
 use Rattle.cf_run.specs.Capture.{Record}
 use Rattle.cf_run.specs.Run.{IsRun}

@@ -36,14 +36,15 @@ own_begun own part = record {
 }
 
 -- it was the last line of a session, which has all of its end but that
-pub record LastLineFails (at : Listening) (most : ℕ) (client : Endpoint) (es : List Entry) (own : List (List ℕ)) (part : List ℕ) : Type 0 where
-  pub end : SessionEnd
-  pub before : List (List ℕ)
-  pub line : List ℕ
-  pub ends : EndsSo at most client es (before ++ line ∷ []) end
-  pub whole : List (List ℕ)
-  pub own_is : own ≡ before ++ whole
-  pub begins : BeginsLine line whole part
+pub record LastLineFails (at : Listening) (most : ℕ) (client : Endpoint) (es : List Entry) (own : List (List ℕ)) (part : List ℕ) : Type 0
+  where
+    pub end : SessionEnd
+    pub before : List (List ℕ)
+    pub line : List ℕ
+    pub ends : EndsSo at most client es (before ++ line ∷ []) end
+    pub whole : List (List ℕ)
+    pub own_is : own ≡ before ++ whole
+    pub begins : BeginsLine line whole part
 
 -- or it was the open line, or one amid a turn: the session is a relay whose write failed
 abbrev pub FailsSo : Listening → (most : ℕ) → (client : Endpoint) → List Entry → (own : List (List ℕ)) → (part : List ℕ) → Type 0

@@ -215,9 +215,14 @@ module _ {f : Flow} {es : List SessionEvent} {t : SessionEvent} {s0 : SessionVal
     pub close_line : closing_lines asset s2 now ≡ last_line f es live_event None
     close_line =
         rw (
-          done_closed, closed_two, ← is, source_two, ← is_now, lane_two,
+          done_closed,
+          closed_two,
+          ← is,
+          source_two,
+          ← is_now,
+          lane_two,
           admitted_is f.asset (client_of f) s1.lane _ _ h.work s1.to_client s1.to_controller h.parts.lane h.parts.to_client h.parts.to_controller,
-          refused_is f.asset (client_of f) s1.lane _ _ h.work s1.to_client s1.to_controller h.parts.lane h.parts.to_client h.parts.to_controller
+          refused_is f.asset (client_of f) s1.lane _ _ h.work s1.to_client s1.to_controller h.parts.lane h.parts.to_client h.parts.to_controller,
         ) refl
 
     -- ---- what is told

@@ -70,7 +70,8 @@ pub record BreaksTick (flow : Flow) (earlier : List SessionEvent) (tick : ℕ) (
   pub amid : BreaksAmid (sent_first event) (logged_first flow event) old new
 
 -- the second half, with a packet of a side
-pub record BreaksPacket (flow : Flow) (limit : ℕ) (earlier : List SessionEvent) (half : SessionEvent) (from : Side) (packet : PacketValue) (old new : DeskValue) : Type 0 where
+pub record BreaksPacket (flow : Flow) (limit : ℕ) (earlier : List SessionEvent) (half : SessionEvent) (from : Side) (packet : PacketValue)
+    (old new : DeskValue) : Type 0 where
   pub event : SessionEvent
   pub is_packet : IsPacket flow limit earlier half from packet event
   pub amid : BreaksAmid (sent_second event) (logged_second flow earlier event) old new

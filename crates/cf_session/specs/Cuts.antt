@@ -47,14 +47,16 @@ resets r earlier event (Packet packet) = is_reset (answer_to (end_state r earlie
 abbrev pub reset_cut : Flow → (earlier : List SessionEvent) → SessionEvent → Option CutReason
 reset_cut flow earlier event =
     if resets (client_ends flow).role (clients earlier) event.client event.client.came then Some reason.ResetByClient
-    else if resets (controller_ends flow).role (controllers earlier) event.controller event.controller.came then Some reason.ResetByController
+    else if resets (controller_ends flow).role (controllers earlier) event.controller event.controller.came then Some
+    reason.ResetByController
     else None
 
 -- a session that is not closed is cut at the first of these: the packet resets its leg, an item cuts, a stream is full
 abbrev pub packet_cut : Flow → (limit : ℕ) → (earlier : List SessionEvent) → SessionEvent → Option CutReason
 packet_cut flow limit earlier event =
     if was_closed flow earlier then None
-    else option_or (reset_cut flow earlier event) (option_or event.work.cut (limit_cut limit (history (event ∷ earlier)) event.work.to_client event.work.to_controller))
+    else option_or (reset_cut flow earlier event)
+    (option_or event.work.cut (limit_cut limit (history (event ∷ earlier)) event.work.to_client event.work.to_controller))
 
 -- ---- the same in what a session in memory has
 

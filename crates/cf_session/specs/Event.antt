@@ -13,7 +13,8 @@ use Rattle.cf_stream.specs.Stream.{Stream, no_letters}
 use Rattle.cf_view.specs.declared.Side.{Side}
 use Rattle.cf_view.specs.declared.Side.TheVariants as side
 use Rattle.cf_session.specs.Cuts.{clock_cut, gives_up, packet_cut}
-use Rattle.cf_session.specs.Session.{Flow, SessionEvent, client_ends, client_of, clients, controller_ends, controllers, has_room, history, work_of}
+use Rattle.cf_session.specs.Session.{Flow, SessionEvent, client_ends, client_of, clients, controller_ends, controllers, has_room, history}
+use Rattle.cf_session.specs.Session.{work_of}
 use Rattle.cf_session.specs.Work.{Works, fed_at, no_work}
 
 -- the event of each leg is right after that leg's earlier ones. None is after an event that a cut broke off
@@ -96,12 +97,14 @@ abbrev pub GoesOnFromHalf : (half event : LegEvent) → Type 0
 GoesOnFromHalf half event = (event.tick ≡ half.tick) × (event.ticked ≡ half.ticked)
 
 -- the second half: it goes on with the first, its packet comes at the end of its side, and what is taken is fed to the lane
-pub record IsPacket (flow : Flow) (limit : ℕ) (earlier : List SessionEvent) (half : SessionEvent) (from : Side) (packet : PacketValue) (event : SessionEvent) : Type 0 where
+pub record IsPacket (flow : Flow) (limit : ℕ) (earlier : List SessionEvent) (half : SessionEvent) (from : Side) (packet : PacketValue)
+    (event : SessionEvent) : Type 0 where
   pub right : AreRight flow earlier event
   pub controller_on : GoesOnFromHalf half.controller event.controller
   pub client_on : GoesOnFromHalf half.client event.client
   pub controller_came : event.controller.came ≡ came_controller from packet
-  pub client_came : event.client.came ≡ came_client flow from packet (opening (controller_ends flow).role (controllers earlier) event.controller && is_none event.cut)
+  pub client_came : event.client.came ≡ came_client flow from packet
+      (opening (controller_ends flow).role (controllers earlier) event.controller && is_none event.cut)
   pub fed : AreFed (moment event.client) from event.fed
   -- nothing is taken after an End
   pub unended : ended_of from (history earlier) ≡ true → event.fed ≡ []
@@ -118,7 +121,8 @@ abbrev pub IsEvent : Flow → (limit : ℕ) → (earlier : List SessionEvent) �
 IsEvent flow limit [] event = IsBeginning flow event.client.tick event
 IsEvent flow limit (before ∷ earlier) event =
     IsTick flow (before ∷ earlier) event.client.tick event
-    ⊎ ((half : SessionEvent) × (from : Side) × (packet : PacketValue) × IsTick flow (before ∷ earlier) half.client.tick half × (half.cut ≡ None)
+    ⊎ ((half : SessionEvent) × (from : Side) × (packet : PacketValue) × IsTick flow (before ∷ earlier) half.client.tick half
+    × (half.cut ≡ None)
     × IsPacket flow limit (before ∷ earlier) half from packet event)
 
 -- the events of a session, each right after the earlier ones

@@ -11,7 +11,8 @@ use Rattle.cf_packet.specs.Packet.{PacketValue}
 use Rattle.cf_stream.specs.Position.{position}
 use Rattle.cf_stream.specs.Stream.{End, Extends, Letter, Stream, letter_count, letter_from, letters}
 use Rattle.cf_session.specs.Event.{AreEvents, IsTick}
-use Rattle.cf_session.specs.Session.{Flow, SessionEvent, client_ends, client_of, clients, controller_ends, controllers, history, is_expired, work_of}
+use Rattle.cf_session.specs.Session.{Flow, SessionEvent, client_ends, client_of, clients, controller_ends, controllers, history, is_expired}
+use Rattle.cf_session.specs.Session.{work_of}
 use Rattle.cf_session.specs.Work.{Works}
 
 -- ---- isolation: a session's packets and their moments fix all that it sends and logs
@@ -30,18 +31,25 @@ pub record Given : Type 0 where
 
 -- what an event is given, by its two ends
 abbrev pub given : SessionEvent → Given
-given event = record { tick = event.client.tick; from_client = packet_in event.client.came; from_controller = packet_in event.controller.came }
+given event = record {
+  tick = event.client.tick;
+  from_client = packet_in event.client.came;
+  from_controller = packet_in
+      event.controller.came;
+}
 
 -- two lists of right events of one flow that are given the same are the same, whatever else the box did
 abbrev pub EventsAreFixed : Type 0
 EventsAreFixed =
-    (flow : Flow) (limit : ℕ) (xs ys : List SessionEvent) → AreEvents flow limit xs → AreEvents flow limit ys → map given xs ≡ map given ys → xs ≡ ys
+    (flow : Flow) (limit : ℕ) (xs ys : List SessionEvent) → AreEvents flow limit xs → AreEvents flow limit ys → map given xs ≡ map given ys
+    → xs ≡ ys
 
 -- ---- what a lane made of a session is of all that was taken of both sides, by first copies
 
 abbrev pub WorkIsOfTheTaken : Type 0
 WorkIsOfTheTaken =
-    (flow : Flow) (limit : ℕ) (events : List SessionEvent) → AreEvents flow limit events → Works flow.asset (client_of flow) (history events) (work_of events)
+    (flow : Flow) (limit : ℕ) (events : List SessionEvent) → AreEvents flow limit events
+    → Works flow.asset (client_of flow) (history events) (work_of events)
 
 -- ---- one stream: whatever copies of letters a receiver takes, it gets a beginning of the stream to it
 
@@ -59,7 +67,8 @@ parts_in own sent (p ∷ ps) = record { at = position p.seq own sent; text = let
 abbrev pub parts_of : Role → List LegEvent → List Part
 parts_of r [] = []
 parts_of r (e ∷ es) =
-    parts_of r es ++ (parts_in (own_number r es) (letters_sent r es) e.fired ++ parts_in (own_number r (e ∷ es)) (letters_sent_at r es e) (sent_in e))
+    parts_of r es ++ (parts_in (own_number r es) (letters_sent r es) e.fired ++ parts_in (own_number r (e ∷ es)) (letters_sent_at r es e)
+    (sent_in e))
 
 -- one of the parts has this letter at this place
 pub record HasLetter (parts : List Part) (place : ℕ) (letter : Letter) : Type 0 where
@@ -109,7 +118,8 @@ SegmentsCarryOneStream =
 -- so what either side puts together is a front of the stream to it
 abbrev pub HasOneStream : Type 0
 HasOneStream =
-    (flow : Flow) (limit : ℕ) (events : List SessionEvent) (taken : List Letter) → limit ≤ 2 ^ 30 → AreEvents flow limit events → AreUncutBefore events →
+    (flow : Flow) (limit : ℕ) (events : List SessionEvent) (taken : List Letter) → limit ≤ 2 ^ 30 → AreEvents flow limit events
+    → AreUncutBefore events →
     (IsReassembly (parts_of (controller_ends flow).role (controllers events)) taken → IsFront (work_of events).to_controller taken)
     × (IsReassembly (parts_of (client_ends flow).role (clients events)) taken → IsFront (work_of events).to_client taken)
 
@@ -117,7 +127,8 @@ HasOneStream =
 
 abbrev pub EachSessionHasATick : Type 0
 EachSessionHasATick =
-    (flow : Flow) (limit : ℕ) (earlier : List SessionEvent) (event : SessionEvent) (tick : ℕ) → AreEvents flow limit (event ∷ earlier) → event.cut ≡ None →
+    (flow : Flow) (limit : ℕ) (earlier : List SessionEvent) (event : SessionEvent) (tick : ℕ) → AreEvents flow limit (event ∷ earlier)
+    → event.cut ≡ None →
     is_expired flow (event ∷ earlier) tick ≡ false → (next : SessionEvent) × IsTick flow (event ∷ earlier) tick next
 
 -- ---- how far: between two events each open end of such a session has sent all of its stream that its peer lets in
@@ -128,6 +139,7 @@ IsSentUpTo r es stream = opened r es ≡ true → letters_sent r es ≡ min (sho
 
 abbrev pub SendsWhatIsLetIn : Type 0
 SendsWhatIsLetIn =
-    (flow : Flow) (limit : ℕ) (earlier : List SessionEvent) (event : SessionEvent) → limit ≤ 2 ^ 30 → AreEvents flow limit (event ∷ earlier) → event.cut ≡ None →
+    (flow : Flow) (limit : ℕ) (earlier : List SessionEvent) (event : SessionEvent) → limit ≤ 2 ^ 30 → AreEvents flow limit (event ∷ earlier)
+    → event.cut ≡ None →
     IsSentUpTo (controller_ends flow).role (controllers (event ∷ earlier)) event.work.to_controller
     × IsSentUpTo (client_ends flow).role (clients (event ∷ earlier)) event.work.to_client

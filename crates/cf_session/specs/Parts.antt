@@ -12,6 +12,7 @@ use Rattle.cf_leg.specs.declared.Role.TheVariants as role
 use Rattle.cf_outq.specs.SendQueue.{IsQueueOf, Queue}
 use Rattle.cf_policy.specs.declared.Asset.{Asset}
 use Rattle.cf_rebuild.specs.ReceiveWindow.{Window}
+use Rattle.cf_stream.specs.Sizes.{window_size}
 use Rattle.cf_view.specs.declared.Endpoint.{Endpoint}
 use Rattle.cf_view.specs.declared.Side.{Side}
 use Rattle.cf_view.specs.declared.Side.TheVariants as side
@@ -41,7 +42,8 @@ pub record IsLegBetween (ends : Ends) (leg : LegValue) (queue : Queue) (events :
   pub stands : IsLegOf leg (marks queue) events
 
 -- the lane stands for a history, of which these bytes of each side are left, and this is the work of it
-pub record IsLaneAfter (asset : Asset) (client : Endpoint) (lane : LaneValue) (rests : Rests) (history : List Element) (work : Work) : Type 0 where
+pub record IsLaneAfter (asset : Asset) (client : Endpoint) (lane : LaneValue) (rests : Rests) (history : List Element) (work : Work) : Type
+    0 where
   pub judged : List Judged
   pub is_client : lane.client ≡ client
   pub are_judged : AreJudged asset client.address history judged
@@ -80,4 +82,4 @@ IsPassive (role.Passive other mss) = Unit {0}
 -- the places from the first byte that is not consumed up to the edge; before an end is open, up to the edge that it will show
 -- first, 16,384
 abbrev pub open_places : Window → ℕ
-open_places w = max w.edge 16384 - w.consumed
+open_places w = max w.edge window_size - w.consumed

@@ -6,13 +6,13 @@ use Rattle.std.specs.Prelude.{ℕ, ◌+◌, ◌-◌, ◌==◌, nat_le, Bool, fal
 use Rattle.std.specs.Option.{option_or, is_some}
 use Rattle.cf_audit.specs.declared.CutReason.{CutReason}
 use Rattle.cf_lane.specs.History.{Element, ended_of}
-use Rattle.cf_leg.specs.Emits.{window_size}
 use Rattle.cf_leg.specs.Event.{LegEvent, moment}
 use Rattle.cf_leg.specs.Heard.{acked}
 use Rattle.cf_leg.specs.declared.Ends.{Ends}
 use Rattle.cf_leg.specs.declared.Role.TheVariants as role
 use Rattle.cf_packet.specs.Packet.{PacketValue}
 use Rattle.cf_policy.specs.declared.Asset.{Asset}
+use Rattle.cf_stream.specs.Sizes.{window_size}
 use Rattle.cf_stream.specs.Stream.{Stream, letter_count}
 use Rattle.cf_view.specs.declared.Endpoint.{Endpoint}
 use Rattle.cf_view.specs.declared.Side.TheVariants as side

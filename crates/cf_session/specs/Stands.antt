@@ -1,7 +1,7 @@
 -- Steps of the proof: what a session in memory stands for, `IsSessionOf` and `IsSound`, and what its calls do: `Begins`, `TicksBy` and
 -- `HearsBy`, one for each call.
 use Rattle.std.specs.Prelude.{◌≡◌, ◌≢◌, ℕ, ◌+◌, ◌-◌, ◌*◌, ◌^◌, min, ◌<◌, ◌≤◌, Bool, true, false, List, [], ◌∷◌, length, Option, None, Some}
-use Rattle.cf_lane.specs.Handled.{IsLaneOf, debt}
+use Rattle.cf_lane.specs.Handled.{IsLaneOf, debt, debt_limit, rest_limit}
 use Rattle.cf_leg.specs.Calls.{due_of as leg_due}
 use Rattle.cf_leg.specs.Event.{is_settled, stream_after}
 use Rattle.cf_leg.specs.Heard.{opened}
@@ -15,7 +15,8 @@ use Rattle.cf_view.specs.declared.Side.{Side}
 use Rattle.cf_session.specs.Event.{AreEvents, IsBeginning, IsPacket, IsTick}
 use Rattle.cf_session.specs.Parts.{AreParts, IsPassive, SessionValue, open_places}
 use Rattle.cf_session.specs.Sent.{logged_first, logged_second, sent_first, sent_second}
-use Rattle.cf_session.specs.Session.{Flow, SessionEvent, client_of, clients, closed_at, controller_ends, controllers, is_expired, was_closed}
+use Rattle.cf_session.specs.Session.{Flow, SessionEvent, client_of, clients, closed_at, controller_ends, controllers, is_expired}
+use Rattle.cf_session.specs.Session.{was_closed}
 use Rattle.cf_session.specs.Told.{Told, with_both}
 use Rattle.cf_session.specs.declared.life.Life.{Life}
 use Rattle.cf_session.specs.declared.life.Life.TheVariants as life
@@ -56,8 +57,8 @@ pub record IsSound (asset : Asset) (s : SessionValue) : Type 0 where
   pub controller_letters : queue_length s.to_controller < s.limit
   pub client_taken : base_of s.client.window < s.limit
   pub controller_taken : base_of s.controller.window < s.limit
-  pub client_rest : length s.client.window.pending < 300
-  pub controller_rest : length s.controller.window.pending < 300
+  pub client_rest : length s.client.window.pending < rest_limit
+  pub controller_rest : length s.controller.window.pending < rest_limit
   -- a queue has no End before the other side's was taken
   pub client_open : s.client.window.ended ≡ false → s.to_controller.ended ≡ false
   pub controller_open : s.controller.window.ended ≡ false → s.to_client.ended ≡ false
@@ -65,7 +66,7 @@ pub record IsSound (asset : Asset) (s : SessionValue) : Type 0 where
   pub client_done : s.closed ≢ None → s.client.window.ended ≡ true
   pub controller_done : s.closed ≢ None → s.controller.window.ended ≡ true
   pub commands : s.lane.admitted + s.lane.refused ≤ s.client.window.consumed + s.controller.window.consumed
-  pub owed : debt s.lane ≤ 5300
+  pub owed : debt s.lane ≤ debt_limit
   pub client_room : HasRoomFor s.to_client s
   pub controller_room : HasRoomFor s.to_controller s
 
@@ -104,9 +105,12 @@ pub record Ticks (flow : Flow) (earlier : List SessionEvent) (tick : ℕ) (old n
 -- what the first half answers: the session has expired, and nothing happened; or it was cut, or goes on
 abbrev pub TicksBy : Flow → (earlier : List SessionEvent) → (tick : ℕ) → SessionValue → (old new : Told) → Life → Type 0
 TicksBy flow earlier tick s old new life.Expired = (is_expired flow earlier tick ≡ true) × (new ≡ old)
-TicksBy flow earlier tick s old new (life.Cut because) = (event : SessionEvent) × Ticks flow earlier tick old new event × (event.cut ≡ Some because)
-TicksBy flow earlier tick s old new life.Live = (event : SessionEvent) × Ticks flow earlier tick old new event × Lives flow earlier event false s
-TicksBy flow earlier tick s old new life.Closed = (event : SessionEvent) × Ticks flow earlier tick old new event × Lives flow earlier event true s
+TicksBy flow earlier tick s old new (life.Cut because) = (event : SessionEvent) × Ticks flow earlier tick old new event
+    × (event.cut ≡ Some because)
+TicksBy flow earlier tick s old new life.Live = (event : SessionEvent) × Ticks flow earlier tick old new event
+    × Lives flow earlier event false s
+TicksBy flow earlier tick s old new life.Closed = (event : SessionEvent) × Ticks flow earlier tick old new event
+    × Lives flow earlier event true s
 
 -- the moment at which a session expires
 abbrev pub expiry_of : (closed : Option ℕ) → ℕ
@@ -120,11 +124,13 @@ due_of s = min (expiry_of s.closed) (min (leg_due s.controller) (leg_due s.clien
 -- before it is due the first half of an event sends and logs nothing, and the session as it is stands for the longer list of events
 abbrev pub AreQuietBeforeDue : Type 0
 AreQuietBeforeDue =
-    (flow : Flow) (earlier : List SessionEvent) (event : SessionEvent) (s : SessionValue) (now : ℕ) (desk : Told) → IsSessionOf flow earlier event s → now < due_of s →
+    (flow : Flow) (earlier : List SessionEvent) (event : SessionEvent) (s : SessionValue) (now : ℕ) (desk : Told)
+    → IsSessionOf flow earlier event s → now < due_of s →
     TicksBy flow (event ∷ earlier) now s desk desk (life_by s.closed)
 
 -- the second half, with a packet of a side
-pub record Hears (flow : Flow) (limit : ℕ) (earlier : List SessionEvent) (half : SessionEvent) (from : Side) (packet : PacketValue) (old new : Told) (event : SessionEvent) : Type 0 where
+pub record Hears (flow : Flow) (limit : ℕ) (earlier : List SessionEvent) (half : SessionEvent) (from : Side) (packet : PacketValue)
+    (old new : Told) (event : SessionEvent) : Type 0 where
   pub is_packet : IsPacket flow limit earlier half from packet event
   pub told : new ≡ with_both old (sent_second event) (logged_second flow earlier event)
 
@@ -134,7 +140,8 @@ pub record CountsAs (event : SessionEvent) (s : SessionValue) : Type 0 where
   pub refused : s.lane.refused ≡ event.work.refused
 
 -- what the second half answers: the session was cut, or goes on
-abbrev pub HearsBy : Flow → (limit : ℕ) → (earlier : List SessionEvent) → (half : SessionEvent) → Side → PacketValue → SessionValue → (old new : Told) → Life → Type 0
+abbrev pub HearsBy : Flow → (limit : ℕ) → (earlier : List SessionEvent) → (half : SessionEvent) → Side → PacketValue → SessionValue
+    → (old new : Told) → Life → Type 0
 HearsBy flow limit earlier half from packet s old new life.Expired = ⊥
 HearsBy flow limit earlier half from packet s old new (life.Cut because) =
     (event : SessionEvent) × Hears flow limit earlier half from packet old new event × (event.cut ≡ Some because) × CountsAs event s

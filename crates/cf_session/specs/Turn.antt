@@ -1,5 +1,6 @@
 -- Steps of the proof: what the steps of a call do, over the parts of a session: `Hearing`, `GreetsClient`, `SaysBoth` and `CutsBoth`.
-use Rattle.std.specs.Prelude.{◌≡◌, ◌≢◌, ℕ, ◌+◌, ◌*◌, ◌^◌, ◌<◌, ◌≤◌, Bool, true, false, List, [], ◌∷◌, ◌++◌, length, ◌-◌, ◌&&◌, ◌==◌, not, if◌then◌else◌, Option, None, Some}
+use Rattle.std.specs.Prelude.{◌≡◌, ◌≢◌, ℕ, ◌+◌, ◌*◌, ◌^◌, ◌<◌, ◌≤◌, Bool, true, false, List, [], ◌∷◌, ◌++◌, length, ◌-◌, ◌&&◌, ◌==◌, not}
+use Rattle.std.specs.Prelude.{if◌then◌else◌, Option, None, Some}
 use Rattle.std.specs.Option.{is_some}
 use Rattle.cf_audit.specs.Line.{Close, Cut as CutLine}
 use Rattle.cf_audit.specs.declared.CutReason.{CutReason}
@@ -19,9 +20,10 @@ use Rattle.cf_outside.specs.Desk.{DeskValue}
 use Rattle.cf_packet.specs.Packet.{PacketValue}
 use Rattle.cf_rebuild.specs.ReceiveWindow.{Window, base_of}
 use Rattle.cf_stream.specs.FirstCopy.{IsTaken, first_copy}
+use Rattle.cf_stream.specs.Sizes.{window_size}
 use Rattle.cf_stream.specs.Stream.{Stream, letter_count, no_letters}
 use Rattle.cf_lane.specs.Follows.{Rests, no_rests, with_rest}
-use Rattle.cf_lane.specs.Handled.{LaneValue, debt}
+use Rattle.cf_lane.specs.Handled.{LaneValue, debt, debt_limit, rest_limit}
 use Rattle.cf_lane.specs.Log.{line_about}
 use Rattle.cf_lane.specs.History.{Element, ended_of, taken}
 use Rattle.cf_policy.specs.declared.Asset.{Asset}
@@ -45,7 +47,8 @@ pub record RightCuts (flow : Flow) (controllers clients : List LegEvent) (contro
   pub client_right : IsRight (client_ends flow) clients (record client { ending = LegCut to_client })
 
 -- both sides have their RST, and the log its line; or the desk failed amid that
-pub record CutsBoth (flow : Flow) (controllers clients : List LegEvent) (controller client : LegEvent) (now : ℕ) (because : CutReason) (old new : DeskValue) (failed : Bool) : Type 0 where
+pub record CutsBoth (flow : Flow) (controllers clients : List LegEvent) (controller client : LegEvent) (now : ℕ) (because : CutReason)
+    (old new : DeskValue) (failed : Bool) : Type 0 where
   pub rsts : RightCuts flow controllers clients controller client
   pub gets : Gets failed (at now (rsts.to_controller ∷ rsts.to_client ∷ [])) (line flow now (CutLine because) ∷ []) old new
 
@@ -71,14 +74,16 @@ pub record IsMade (flow : Flow) (s : SessionValue) : Type 0 where
 -- ---- letters are handed to the lane
 
 -- lane and queues stand for a history whose work has not cut the session
-pub record AreUncut (asset : Asset) (client : Endpoint) (rests : Rests) (earlier : List Element) (work : Work) (lane : LaneValue) (to_client to_controller : Queue) : Type 0 where
+pub record AreUncut (asset : Asset) (client : Endpoint) (rests : Rests) (earlier : List Element) (work : Work) (lane : LaneValue)
+    (to_client to_controller : Queue) : Type 0 where
   pub lane_stands : IsLaneAfter asset client lane rests earlier work
   pub uncut : work.cut ≡ None
   pub client_stands : IsQueueOf to_client work.to_client
   pub controller_stands : IsQueueOf to_controller work.to_controller
 
 -- lane, queues and log stand for a history with more letters of a side: the lane's work went on by these lines
-pub record FollowsMore (asset : Asset) (client : Endpoint) (now : ℕ) (s : Side) (rests : Rests) (earlier : List Element) (before : Work) (letters : Stream)
+pub record FollowsMore (asset : Asset) (client : Endpoint) (now : ℕ) (s : Side) (rests : Rests) (earlier : List Element) (before : Work)
+    (letters : Stream)
     (lane : LaneValue) (to_client to_controller : Queue) (cut : Option CutReason) (old new : Told) : Type 0 where
   pub work : Work
   pub lane_stands : IsLaneAfter asset client lane rests (earlier ++ fed_at now s letters) work
@@ -99,7 +104,7 @@ pub record HandsOver (s : Side) (old new : Window) (lane lane' : LaneValue) (c c
   pub client_pushed : OnlyPushed c c'
   pub controller_pushed : OnlyPushed k k'
   pub commands : lane'.admitted + lane'.refused + old.consumed ≤ lane.admitted + lane.refused + new.consumed
-  pub owed : debt lane' ≤ 5300
+  pub owed : debt lane' ≤ debt_limit
   -- End went to the other side alone, and only where the window has it
   pub own_ended : (own_queue s c' k').ended ≡ (own_queue s c k).ended
   pub other_ended : old.ended ≡ false → (other_queue s c' k').ended ≡ (other_queue s c k).ended
@@ -108,7 +113,7 @@ pub record HandsOver (s : Side) (old new : Window) (lane lane' : LaneValue) (c c
 
 -- there is room for what a packet of a side may bring, whatever came before
 pub record MayHear (s : Side) (leg : LegValue) (lane : LaneValue) (c k : Queue) : Type 0 where
-  pub base : base_of leg.window ≤ 2 ^ 30 + 16384
+  pub base : base_of leg.window ≤ 2 ^ 30 + window_size
   pub is_open : leg.window.ended ≡ false → (other_queue s c k).ended ≡ false
   pub client_room : length c.kept + debt lane + 2 * open_places leg.window ≤ 90112
   pub controller_room : length k.kept + debt lane + 2 * open_places leg.window ≤ 90112
@@ -119,14 +124,14 @@ pub record MayHear (s : Side) (leg : LegValue) (lane : LaneValue) (c k : Queue) 
 -- what a packet does to the room, whatever came before
 pub record KeepsRoom (s : Side) (old new : Window) (lane lane' : LaneValue) (c c' k k' : Queue) (cut : Option CutReason) : Type 0 where
   pub edge : new.edge ≡ old.edge
-  pub base : base_of new ≤ base_of old + 16384
-  pub rest : cut ≡ None → length old.pending < 300 → length new.pending < 300
+  pub base : base_of new ≤ base_of old + window_size
+  pub rest : cut ≡ None → length old.pending < rest_limit → length new.pending < rest_limit
   pub ended : old.ended ≡ true → new.ended ≡ true
   pub done : old.ended ≡ true → cut ≡ None
   pub client_room : length c'.kept + debt lane' + 2 * open_places new ≤ length c.kept + debt lane + 2 * open_places old
   pub controller_room : length k'.kept + debt lane' + 2 * open_places new ≤ length k.kept + debt lane + 2 * open_places old
   pub commands : lane'.admitted + lane'.refused + old.consumed ≤ lane.admitted + lane.refused + new.consumed
-  pub owed : debt lane ≤ 5300 → debt lane' ≤ 5300
+  pub owed : debt lane ≤ debt_limit → debt lane' ≤ debt_limit
   pub own_ended : (own_queue s c' k').ended ≡ (own_queue s c k).ended
   pub other_ended : new.ended ≡ false → (other_queue s c' k').ended ≡ (other_queue s c k).ended
   pub other_pushed : OnlyPushed (other_queue s c k) (other_queue s c' k')
@@ -134,20 +139,25 @@ pub record KeepsRoom (s : Side) (old new : Window) (lane lane' : LaneValue) (c c
   pub still : old.ended ≡ true → (base_of new ≡ base_of old) × (queue_length c' ≡ queue_length c) × (queue_length k' ≡ queue_length k)
 
 -- a packet of a side was heard after the earlier events of its leg, in an event, and its letters were handed over
-pub record Hearing (s : Side) (ends : Ends) (asset : Asset) (client : Endpoint) (now : ℕ) (e : LegEvent) (es : List LegEvent) (packet : PacketValue) (rests : Rests) (earlier : List Element) (before : Work)
-    (leg : LegValue) (lane : LaneValue) (to_client to_controller : Queue) (given : LegAnswer) (cut : Option CutReason) (old new : Told) : Type 0 where
+pub record Hearing (s : Side) (ends : Ends) (asset : Asset) (client : Endpoint) (now : ℕ) (e : LegEvent) (es : List LegEvent)
+    (packet : PacketValue) (rests : Rests) (earlier : List Element) (before : Work)
+    (leg : LegValue) (lane : LaneValue) (to_client to_controller : Queue) (given : LegAnswer) (cut : Option CutReason) (old new : Told) :
+    Type 0 where
   pub letters : Stream
   pub answer_is : given ≡ answer_to (end_state ends.role es e) packet
   pub leg_stands : IsLegBetween ends leg (own_queue s to_client to_controller) (record e { came = Packet packet; ending = Unspoken } ∷ es)
-  pub taken_is : IsTaken (first_copy (offers ends.role (record e { came = Packet packet; ending = Unspoken } ∷ es))) (with_letters (taken s earlier) letters)
+  pub taken_is : IsTaken (first_copy (offers ends.role (record e { came = Packet packet; ending = Unspoken } ∷ es)))
+      (with_letters (taken s earlier) letters)
   pub unended : ended_of s earlier ≡ true → letter_count letters ≡ 0
-  pub follows : FollowsMore asset client now s (with_rest s rests leg.window.pending) earlier before letters lane to_client to_controller cut old new
+  pub follows : FollowsMore asset client now s (with_rest s rests leg.window.pending) earlier before letters lane to_client to_controller
+      cut old new
 
 -- ---- the same for a session
 
 -- the event of a session that goes on from its first half with a packet of a side: its letters were taken, and the lane
 -- made this work of all
-abbrev pub heard_event : (half : SessionEvent) → (from : Side) → Stream → Work → Option CutReason → (came_controller came_client : Came) → (ending_controller ending_client : Ending) → SessionEvent
+abbrev pub heard_event : (half : SessionEvent) → (from : Side) → Stream → Work → Option CutReason → (came_controller came_client : Came)
+    → (ending_controller ending_client : Ending) → SessionEvent
 heard_event half from letters work cut came_controller came_client ending_controller ending_client = record {
   controller = record half.controller { came = came_controller; ending = ending_controller };
   client = record half.client { came = came_client; ending = ending_client };
@@ -163,7 +173,8 @@ came_first side.Controller packet = Nothing
 
 -- the event once the packet was heard
 abbrev pub heard_half : (half : SessionEvent) → (from : Side) → PacketValue → Stream → Work → SessionEvent
-heard_half half from packet letters work = heard_event half from letters work None (came_controller from packet) (came_first from packet) Unspoken Unspoken
+heard_half half from packet letters work = heard_event half from letters work None (came_controller from packet) (came_first from packet)
+    Unspoken Unspoken
 
 -- the leg of a side
 abbrev pub ends_of : Flow → Side → Ends
@@ -189,7 +200,8 @@ pub record IsHalf (half : SessionEvent) : Type 0 where
   pub uncut : half.work.cut ≡ None
 
 -- a session heard a packet of a side
-pub record HeardBy (flow : Flow) (earlier : List SessionEvent) (half : SessionEvent) (from : Side) (packet : PacketValue) (s : SessionValue) (given : LegAnswer) (cut : Option CutReason) (old new : Told) : Type 0 where
+pub record HeardBy (flow : Flow) (earlier : List SessionEvent) (half : SessionEvent) (from : Side) (packet : PacketValue) (s : SessionValue)
+    (given : LegAnswer) (cut : Option CutReason) (old new : Told) : Type 0 where
   pub letters : Stream
   pub work : Work
   pub parts : AreParts flow earlier (heard_half half from packet letters work) s
@@ -211,10 +223,10 @@ pub record IsShort (s : SessionValue) : Type 0 where
 pub record IsSteady (s : SessionValue) (cut : Option CutReason) : Type 0 where
   pub passive : IsPassive s.client.ends.role
   pub limit : s.limit ≤ 2 ^ 30
-  pub client_base : base_of s.client.window ≤ 2 ^ 30 + 16384
-  pub controller_base : base_of s.controller.window ≤ 2 ^ 30 + 16384
-  pub client_rest : cut ≡ None → length s.client.window.pending < 300
-  pub controller_rest : cut ≡ None → length s.controller.window.pending < 300
+  pub client_base : base_of s.client.window ≤ 2 ^ 30 + window_size
+  pub controller_base : base_of s.controller.window ≤ 2 ^ 30 + window_size
+  pub client_rest : cut ≡ None → length s.client.window.pending < rest_limit
+  pub controller_rest : cut ≡ None → length s.controller.window.pending < rest_limit
   pub client_open : s.client.window.ended ≡ false → s.to_controller.ended ≡ false
   pub controller_open : s.controller.window.ended ≡ false → s.to_client.ended ≡ false
   pub client_done : s.closed ≢ None → s.client.window.ended ≡ true
@@ -222,7 +234,7 @@ pub record IsSteady (s : SessionValue) (cut : Option CutReason) : Type 0 where
   pub uncut : s.closed ≢ None → cut ≡ None
   pub short : s.closed ≢ None → IsShort s
   pub commands : s.lane.admitted + s.lane.refused ≤ s.client.window.consumed + s.controller.window.consumed
-  pub owed : debt s.lane ≤ 5300
+  pub owed : debt s.lane ≤ debt_limit
   pub client_room : HasRoomFor s.to_client s
   pub controller_room : HasRoomFor s.to_controller s
 
@@ -247,24 +259,31 @@ MayGreet None event earlier = Unit {0}
 MayGreet (Some number) event earlier = (event.came ≡ Nothing) × (is_greeted earlier ≡ false)
 
 -- the client's leg stands for the events with the greeting, which went out
-pub record GreetsClient (flow : Flow) (now : ℕ) (number : Option ℕ) (event : LegEvent) (earlier : List LegEvent) (s : SessionValue) (old new : Told) : Type 0 where
-  pub stands : IsLegBetween (client_ends flow) s.client s.to_client (record event { came = came_greeted flow number event.came; ending = Unspoken } ∷ earlier)
+pub record GreetsClient (flow : Flow) (now : ℕ) (number : Option ℕ) (event : LegEvent) (earlier : List LegEvent) (s : SessionValue)
+    (old new : Told) : Type 0 where
+  pub stands : IsLegBetween (client_ends flow) s.client s.to_client
+      (record event { came = came_greeted flow number event.came; ending = Unspoken } ∷ earlier)
   pub told : new ≡ with_both old (at now (greetings flow number)) []
 
 -- both legs and the queues to their peers stand for these events and streams, and an event's speeches are still to come
-pub record MaySpeak (flow : Flow) (controller client : LegEvent) (controllers clients : List LegEvent) (to_client to_controller : Stream) (s : SessionValue) : Type 0 where
-  pub controller_stands : IsLegBetween (controller_ends flow) s.controller s.to_controller (record controller { ending = Unspoken } ∷ controllers)
+pub record MaySpeak (flow : Flow) (controller client : LegEvent) (controllers clients : List LegEvent) (to_client to_controller : Stream)
+    (s : SessionValue) : Type 0 where
+  pub controller_stands : IsLegBetween (controller_ends flow) s.controller s.to_controller
+      (record controller { ending = Unspoken } ∷ controllers)
   pub client_stands : IsLegBetween (client_ends flow) s.client s.to_client (record client { ending = Unspoken } ∷ clients)
   pub to_client_stands : IsQueueOf s.to_client to_client
   pub to_controller_stands : IsQueueOf s.to_controller to_controller
 
 -- both legs spoke, the controller's first, and the client was greeted in between
-pub record SaysBoth (flow : Flow) (now : ℕ) (number : Option ℕ) (controller : LegEvent) (controllers : List LegEvent) (client : LegEvent) (clients : List LegEvent)
+pub record SaysBoth (flow : Flow) (now : ℕ) (number : Option ℕ) (controller : LegEvent) (controllers : List LegEvent) (client : LegEvent)
+    (clients : List LegEvent)
     (to_client to_controller : Stream) (roomy : Bool) (s : SessionValue) (old new : Told) : Type 0 where
   pub outs_c : List PacketValue
   pub outs_d : List PacketValue
-  pub controller_stands : IsLegBetween (controller_ends flow) s.controller s.to_controller (record controller { ending = Spoke to_controller roomy outs_c } ∷ controllers)
-  pub client_stands : IsLegBetween (client_ends flow) s.client s.to_client (record client { came = came_greeted flow number client.came; ending = Spoke to_client roomy outs_d } ∷ clients)
+  pub controller_stands : IsLegBetween (controller_ends flow) s.controller s.to_controller
+      (record controller { ending = Spoke to_controller roomy outs_c } ∷ controllers)
+  pub client_stands : IsLegBetween (client_ends flow) s.client s.to_client
+      (record client { came = came_greeted flow number client.came; ending = Spoke to_client roomy outs_d } ∷ clients)
   pub told : new ≡ with_both old (at now (outs_c ++ (greetings flow number ++ outs_d))) []
 
 -- nothing else of the session changed: of the windows the edges, of the queues what was sent
@@ -273,7 +292,13 @@ pub record OnlySpeaks (old new : SessionValue) : Type 0 where
   pub controller_window : new.controller.window ≡ record old.controller.window { edge = new.controller.window.edge }
   pub to_client : new.to_client ≡ record old.to_client { sent = new.to_client.sent }
   pub to_controller : new.to_controller ≡ record old.to_controller { sent = new.to_controller.sent }
-  pub rest : new ≡ record old { client = new.client; controller = new.controller; to_client = new.to_client; to_controller = new.to_controller }
+  pub rest : new ≡ record old {
+    client = new.client;
+    controller = new.controller;
+    to_client = new.to_client;
+    to_controller =
+        new.to_controller;
+  }
 
 -- the number to greet the client with: that of the SYN ACK that opened the controller's leg
 abbrev pub number_by : (from : Side) → LegAnswer → (number : ℕ) → Option ℕ
@@ -297,7 +322,8 @@ closing_lines asset s now =
 -- ---- the same where the desk failed amid it: what is right to send and to log, of which the desk got a beginning
 
 -- letters that are handed to the lane: the lines by which its work goes on
-pub record FollowsAmid (asset : Asset) (client : Endpoint) (now : ℕ) (s : Side) (earlier : List Element) (before : Work) (letters : Stream) (old new : DeskValue) : Type 0 where
+pub record FollowsAmid (asset : Asset) (client : Endpoint) (now : ℕ) (s : Side) (earlier : List Element) (before : Work) (letters : Stream)
+    (old new : DeskValue) : Type 0 where
   pub work : Work
   pub works : Works asset client (earlier ++ fed_at now s letters) work
   pub lines : List (List ℕ)
@@ -305,15 +331,18 @@ pub record FollowsAmid (asset : Asset) (client : Endpoint) (now : ℕ) (s : Side
   pub amid : BreaksAmid [] lines old new
 
 -- a packet of a side that is heard: its letters are taken, and handed over
-pub record HearingAmid (s : Side) (ends : Ends) (asset : Asset) (client : Endpoint) (now : ℕ) (e : LegEvent) (es : List LegEvent) (packet : PacketValue) (earlier : List Element) (before : Work)
+pub record HearingAmid (s : Side) (ends : Ends) (asset : Asset) (client : Endpoint) (now : ℕ) (e : LegEvent) (es : List LegEvent)
+    (packet : PacketValue) (earlier : List Element) (before : Work)
     (old new : DeskValue) : Type 0 where
   pub letters : Stream
-  pub taken_is : IsTaken (first_copy (offers ends.role (record e { came = Packet packet; ending = Unspoken } ∷ es))) (with_letters (taken s earlier) letters)
+  pub taken_is : IsTaken (first_copy (offers ends.role (record e { came = Packet packet; ending = Unspoken } ∷ es)))
+      (with_letters (taken s earlier) letters)
   pub unended : ended_of s earlier ≡ true → letter_count letters ≡ 0
   pub follows : FollowsAmid asset client now s earlier before letters old new
 
 -- the same for a session
-pub record HeardAmid (flow : Flow) (earlier : List SessionEvent) (half : SessionEvent) (from : Side) (packet : PacketValue) (old new : DeskValue) : Type 0 where
+pub record HeardAmid (flow : Flow) (earlier : List SessionEvent) (half : SessionEvent) (from : Side) (packet : PacketValue)
+    (old new : DeskValue) : Type 0 where
   pub letters : Stream
   pub work : Work
   pub are_taken : AreTaken flow (heard_half half from packet letters work ∷ earlier)
@@ -324,10 +353,12 @@ pub record HeardAmid (flow : Flow) (earlier : List SessionEvent) (half : Session
   pub amid : BreaksAmid [] lines old new
 
 -- the speeches of both legs, and the greeting of the client in between
-pub record SaysAmid (flow : Flow) (now : ℕ) (number : Option ℕ) (controller : LegEvent) (controllers : List LegEvent) (client : LegEvent) (clients : List LegEvent)
+pub record SaysAmid (flow : Flow) (now : ℕ) (number : Option ℕ) (controller : LegEvent) (controllers : List LegEvent) (client : LegEvent)
+    (clients : List LegEvent)
     (to_client to_controller : Stream) (roomy : Bool) (old new : DeskValue) : Type 0 where
   pub outs_c : List PacketValue
   pub outs_d : List PacketValue
   pub controller_right : IsRight (controller_ends flow) controllers (record controller { ending = Spoke to_controller roomy outs_c })
-  pub client_right : IsRight (client_ends flow) clients (record client { came = came_greeted flow number client.came; ending = Spoke to_client roomy outs_d })
+  pub client_right : IsRight (client_ends flow) clients
+      (record client { came = came_greeted flow number client.came; ending = Spoke to_client roomy outs_d })
   pub amid : BreaksAmid (at now (outs_c ++ (greetings flow number ++ outs_d))) [] old new

@@ -9,6 +9,7 @@ ghost use Rattle.cf_session.specs.Parts.{SessionValue};
 ghost use Rattle.cf_session.specs.Session.{Flow, SessionEvent, is_past};
 ghost use Rattle.cf_session.specs.Stands.{IsLife, IsSessionOf, IsSound, TicksBy, due_of, expiry_of, life_by};
 ghost use Rattle.cf_session.specs.Told.{told};
+ghost use Rattle.cf_view.specs.Moment.{moment_limit};
 
 use crate::life::Life;
 use crate::session::Session;
@@ -31,7 +32,7 @@ impl Session {
         desk: &mut D,
     ) -> Result<Life, WriteFault>
         requires sound { IsSound asset.now self.old }
-        requires moment { now < 2 ^ 32 * 1000000 }
+        requires moment { now < moment_limit }
         requires whole { DeskValue.whole (D.value desk.old) ≡ true }
         ensures ticks { IfOk result (λ life. (flow : Flow) (earlier : List SessionEvent) (last : SessionEvent) → flow.asset ≡ asset.now
             → IsSessionOf flow earlier last self.old
@@ -40,7 +41,8 @@ impl Session {
             → IsSessionOf flow earlier last self.old
             → BreaksTick flow (last ∷ earlier) now (D.value desk.old) (D.value desk.new)) }
         ensures sound { IfOk result (λ life. IsLife life → IsSound asset.now self.new) }
-        ensures same { (SessionValue.limit self.new ≡ SessionValue.limit self.old) × (SessionValue.source self.new ≡ SessionValue.source self.old) }
+        ensures same { (SessionValue.limit self.new ≡ SessionValue.limit self.old)
+            × (SessionValue.source self.new ≡ SessionValue.source self.old) }
         ensures frame { EmitsAndLogs (D.value desk.old) (D.value desk.new) (is_err result) }
     {
         if is_over(self.closed, now) {

@@ -9,6 +9,8 @@ ghost use Rattle.cf_rebuild.specs.ReceiveWindow.{base_of};
 ghost use Rattle.cf_session.specs.Parts.{IsLegBetween, SessionValue};
 ghost use Rattle.cf_session.specs.Session.{Flow, client_ends, client_of, controller_ends};
 ghost use Rattle.cf_session.specs.Turn.{CutsBoth};
+ghost use Rattle.cf_stream.specs.Sizes.{window_size};
+ghost use Rattle.cf_view.specs.Moment.{moment_limit};
 
 use crate::life::Life;
 use crate::session::Session;
@@ -28,19 +30,27 @@ impl Session {
         desk: &mut D,
     ) -> Result<Life, WriteFault>
         requires within { IsAssetWithin asset.now }
-        requires client_base { base_of (self.old.client).window ≤ 2 ^ 30 + 16384 }
-        requires controller_base { base_of (self.old.controller).window ≤ 2 ^ 30 + 16384 }
-        requires moment { now < 2 ^ 32 * 1000000 }
+        requires client_base { base_of (self.old.client).window ≤ 2 ^ 30 + window_size }
+        requires controller_base { base_of (self.old.controller).window ≤ 2 ^ 30 + window_size }
+        requires moment { now < moment_limit }
         requires whole { DeskValue.whole (D.value desk.old) ≡ true }
-        ensures cuts { IfOk result (λ life. (life ≡ Life.Cut reason) × ((flow : Flow) (cs ds : List LegEvent) (c d : LegEvent) → flow.asset ≡ asset.now → SessionValue.source self.old ≡ client_of flow
-            → IsLegBetween (controller_ends flow) (SessionValue.controller self.old) (SessionValue.to_controller self.old) (record c { ending = Unspoken } ∷ cs)
-            → IsLegBetween (client_ends flow) (SessionValue.client self.old) (SessionValue.to_client self.old) (record d { ending = Unspoken } ∷ ds)
+        ensures cuts { IfOk result (λ life. (life ≡ Life.Cut reason)
+            × ((flow : Flow) (cs ds : List LegEvent) (c d : LegEvent) → flow.asset ≡ asset.now
+            → SessionValue.source self.old ≡ client_of flow
+            → IsLegBetween (controller_ends flow) (SessionValue.controller self.old) (SessionValue.to_controller self.old)
+            (record c { ending = Unspoken } ∷ cs)
+            → IsLegBetween (client_ends flow) (SessionValue.client self.old) (SessionValue.to_client self.old)
+            (record d { ending = Unspoken } ∷ ds)
             → CutsBoth flow cs ds c d now reason (D.value desk.old) (D.value desk.new) false)) }
-        ensures broken { OnErr result ((flow : Flow) (cs ds : List LegEvent) (c d : LegEvent) → flow.asset ≡ asset.now → SessionValue.source self.old ≡ client_of flow
-            → IsLegBetween (controller_ends flow) (SessionValue.controller self.old) (SessionValue.to_controller self.old) (record c { ending = Unspoken } ∷ cs)
-            → IsLegBetween (client_ends flow) (SessionValue.client self.old) (SessionValue.to_client self.old) (record d { ending = Unspoken } ∷ ds)
+        ensures broken { OnErr result ((flow : Flow) (cs ds : List LegEvent) (c d : LegEvent) → flow.asset ≡ asset.now
+            → SessionValue.source self.old ≡ client_of flow
+            → IsLegBetween (controller_ends flow) (SessionValue.controller self.old) (SessionValue.to_controller self.old)
+            (record c { ending = Unspoken } ∷ cs)
+            → IsLegBetween (client_ends flow) (SessionValue.client self.old) (SessionValue.to_client self.old)
+            (record d { ending = Unspoken } ∷ ds)
             → CutsBoth flow cs ds c d now reason (D.value desk.old) (D.value desk.new) true) }
-        ensures same { (SessionValue.limit self.new ≡ SessionValue.limit self.old) × (SessionValue.source self.new ≡ SessionValue.source self.old) × (SessionValue.lane self.new ≡ SessionValue.lane self.old) }
+        ensures same { (SessionValue.limit self.new ≡ SessionValue.limit self.old)
+            × (SessionValue.source self.new ≡ SessionValue.source self.old) × (SessionValue.lane self.new ≡ SessionValue.lane self.old) }
         ensures frame { EmitsAndLogs (D.value desk.old) (D.value desk.new) (is_err result) }
     {
         self.controller.cut(now, &self.to_controller, desk)?;

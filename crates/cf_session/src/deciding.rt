@@ -76,7 +76,8 @@ fn is_acknowledged(queue: &Outq) -> bool
 impl Session {
     /// Why a stream is full, if one is. This project's own order: the client's two streams, then the controller's.
     pub(crate) fn full(&self) -> Option<CutReason>
-        ensures { result ≡ limit_by (SessionValue.limit self.now) (base_of (self.now.client).window) (base_of (self.now.controller).window) (queue_length self.now.to_client) (queue_length self.now.to_controller) }
+        ensures { result ≡ limit_by (SessionValue.limit self.now) (base_of (self.now.client).window) (base_of (self.now.controller).window)
+            (queue_length self.now.to_client) (queue_length self.now.to_controller) }
     {
         length_cut(
             self.limit,
@@ -107,7 +108,8 @@ impl Session {
         requires within { IsAssetWithin asset.now }
         requires whole { DeskValue.whole (D.value desk.old) ≡ true }
         ensures same { self.new ≡ record self.old { closed = SessionValue.closed self.new } }
-        ensures closed { OnOk result (SessionValue.closed self.new ≡ option_or (SessionValue.closed self.old) (if is_done_now self.old then Some now else None)) }
+        ensures closed { OnOk result (SessionValue.closed self.new ≡ option_or (SessionValue.closed self.old)
+            (if is_done_now self.old then Some now else None)) }
         ensures told { OnOk result (told (D.value desk.new) ≡ with_both (told (D.value desk.old)) [] (closing_lines asset.now self.old now)) }
         ensures broken { OnErr result (BreaksAmid [] (closing_lines asset.now self.old now) (D.value desk.old) (D.value desk.new)) }
         ensures frame { EmitsAndLogs (D.value desk.old) (D.value desk.new) (is_err result) }

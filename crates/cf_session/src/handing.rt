@@ -2,7 +2,7 @@
 ghost use Rattle.std.specs.Prelude.{◌≡◌, ℕ, ◌+◌, ◌*◌, ◌^◌, ◌<◌, ◌≤◌, Bool, true, false, List, ◌++◌, length, drop, IfOk, OnErr, OnOk, None};
 ghost use Rattle.std.specs.Result.{is_err};
 ghost use Rattle.cf_lane.specs.Follows.{IsEndBehindCut, Rests, rest_of, with_rest};
-ghost use Rattle.cf_lane.specs.Handled.{CountsBy, EndsOther, Grows, HasRoom, IsLaneOf, IsOpen, MayEnd, debt};
+ghost use Rattle.cf_lane.specs.Handled.{CountsBy, EndsOther, Grows, HasRoom, IsLaneOf, IsOpen, MayEnd, debt, debt_limit, rest_limit};
 ghost use Rattle.cf_lane.specs.History.{Element};
 ghost use Rattle.cf_leg.specs.Event.{LegEvent};
 ghost use Rattle.cf_leg.specs.LegValue.{IsLegOf, Marks};
@@ -42,20 +42,24 @@ fn feed_lane<D: Desk>(
     requires controller_room { HasRoom (debt lane.old + 2 * length bytes.bytes) to_controller.old }
     requires counts { lane.old.admitted + lane.old.refused + length bytes.bytes < 2 ^ 64 }
     ensures used { IfOk result (λ fed. fed.used ≤ length bytes.entry.bytes) }
-    ensures left { IfOk result (λ fed. fed.cut ≡ None → length (drop fed.used bytes.entry.bytes) < 300) }
+    ensures left { IfOk result (λ fed. fed.cut ≡ None → length (drop fed.used bytes.entry.bytes) < rest_limit) }
     ensures follows { IfOk result (λ fed. (client : EndpointOf) (rests : Rests) (earlier : List Element) (before : Work)
         (piece : List ℕ) (ended : Bool) → IsEndBehindCut ended fed.cut
-        → AreUncut asset.now client rests earlier before lane.old to_client.old to_controller.old → bytes.entry.bytes ≡ rest_of side rests ++ piece
+        → AreUncut asset.now client rests earlier before lane.old to_client.old to_controller.old → bytes.entry.bytes ≡ rest_of side rests
+        ++ piece
         → FollowsMore asset.now client now side (with_rest side rests (drop fed.used bytes.entry.bytes)) earlier before
         (record { bytes = piece; ended = ended }) lane.new to_client.new to_controller.new fed.cut
         (told (D.value desk.old)) (told (D.value desk.new))) }
-    ensures broken { OnErr result ((client : EndpointOf) (rests : Rests) (earlier : List Element) (before : Work) (piece : List ℕ) (ended : Bool)
-        → AreUncut asset.now client rests earlier before lane.old to_client.old to_controller.old → bytes.entry.bytes ≡ rest_of side rests ++ piece
-        → FollowsAmid asset.now client now side earlier before (record { bytes = piece; ended = ended }) (D.value desk.old) (D.value desk.new)) }
+    ensures broken { OnErr result ((client : EndpointOf) (rests : Rests) (earlier : List Element) (before : Work) (piece : List ℕ)
+        (ended : Bool)
+        → AreUncut asset.now client rests earlier before lane.old to_client.old to_controller.old → bytes.entry.bytes ≡ rest_of side rests
+        ++ piece
+        → FollowsAmid asset.now client now side earlier before (record { bytes = piece; ended = ended }) (D.value desk.old)
+        (D.value desk.new)) }
     ensures serves { OnOk result (IsLaneOf asset.now lane.new) }
     ensures client_grows { IfOk result (λ fed. Grows (2 * fed.used) (debt lane.old) (debt lane.new) to_client.old to_client.new) }
     ensures controller_grows { IfOk result (λ fed. Grows (2 * fed.used) (debt lane.old) (debt lane.new) to_controller.old to_controller.new) }
-    ensures debt { OnOk result (debt lane.new ≤ 5300) }
+    ensures debt { OnOk result (debt lane.new ≤ debt_limit) }
     ensures counts { IfOk result (λ fed. CountsBy fed.used lane.old lane.new) }
     ensures frame { OnlyLogs (D.value desk.old) (D.value desk.new) (is_err result) }
 {
@@ -84,15 +88,18 @@ fn end_lane<D: Desk>(
     requires whole { DeskValue.whole (D.value desk.old) ≡ true }
     requires open { IsOpen side to_client.old to_controller.old }
     requires limit { MayEnd side to_client.old to_controller.old }
-    ensures follows { OnOk result ((client : EndpointOf) (rests : Rests) (earlier : List Element) (before : Work) (piece : List ℕ) (middle : Work)
+    ensures follows { OnOk result ((client : EndpointOf) (rests : Rests) (earlier : List Element) (before : Work) (piece : List ℕ)
+        (middle : Work)
         → AreUncut asset.now client rests (earlier ++ fed_at now side (record { bytes = piece; ended = false })) middle
         lane.old to_client.old to_controller.old → rest ≡ length (rest_of side rests)
         → FollowsMore asset.now client now side rests earlier middle (record { bytes = piece; ended = true })
         lane.new to_client.new to_controller.new None (told (D.value desk.old)) (told (D.value desk.new))) }
-    ensures broken { OnErr result ((client : EndpointOf) (rests : Rests) (earlier : List Element) (before : Work) (piece : List ℕ) (middle : Work)
+    ensures broken { OnErr result ((client : EndpointOf) (rests : Rests) (earlier : List Element) (before : Work) (piece : List ℕ)
+        (middle : Work)
         → AreUncut asset.now client rests (earlier ++ fed_at now side (record { bytes = piece; ended = false })) middle
         lane.old to_client.old to_controller.old → rest ≡ length (rest_of side rests)
-        → FollowsAmid asset.now client now side earlier middle (record { bytes = piece; ended = true }) (D.value desk.old) (D.value desk.new)) }
+        → FollowsAmid asset.now client now side earlier middle (record { bytes = piece; ended = true }) (D.value desk.old)
+        (D.value desk.new)) }
     ensures queues { OnOk result (EndsOther side to_client.old to_controller.old to_client.new to_controller.new) }
     ensures lane { lane.new ≡ lane.old }
     ensures frame { OnlyLogs (D.value desk.old) (D.value desk.new) (is_err result) }
@@ -153,10 +160,11 @@ pub(crate) fn hand_over<D: Desk>(
         → FollowsAmid asset.now client now side earlier before (record { bytes = piece; ended = leg.old.window.ended })
         (D.value desk.old) (D.value desk.new)) }
     ensures serves { OnOk result (IsLaneOf asset.now lane.new) }
-    ensures rest { IfOk result (λ cut. cut ≡ None → length leg.new.window.pending < 300) }
+    ensures rest { IfOk result (λ cut. cut ≡ None → length leg.new.window.pending < rest_limit) }
     ensures leg { OnOk result (leg.new ≡ record leg.old { window = leg.new.window }) }
     ensures stands { OnOk result ((m : Marks) (es : List LegEvent) → IsLegOf leg.old m es → IsLegOf leg.new m es) }
-    ensures numbers { OnOk result (HandsOver side leg.old.window leg.new.window lane.old lane.new to_client.old to_client.new to_controller.old to_controller.new) }
+    ensures numbers { OnOk result (HandsOver side leg.old.window leg.new.window lane.old lane.new to_client.old to_client.new
+        to_controller.old to_controller.new) }
     ensures frame { EmitsAndLogs (D.value desk.old) (D.value desk.new) (is_err result) }
 {
     let Fed { used, cut } = feed_lane(

@@ -15,12 +15,14 @@ ghost use Rattle.cf_packet.specs.Packet.{packet_value};
 ghost use Rattle.cf_policy.specs.Within.{IsAssetWithin};
 ghost use Rattle.cf_rebuild.specs.ReceiveWindow.{base_of};
 ghost use Rattle.cf_stream.specs.FirstCopy.{IsTaken, first_copy};
+ghost use Rattle.cf_stream.specs.Sizes.{window_size};
 ghost use Rattle.cf_stream.specs.Stream.{Stream};
 ghost use Rattle.cf_view.specs.declared.Endpoint.{Endpoint as EndpointOf};
 ghost use Rattle.cf_session.specs.Parts.{IsLegBetween, other_queue, own_queue};
 ghost use Rattle.cf_session.specs.Told.{told};
 ghost use Rattle.cf_session.specs.Turn.{AreUncut, Hearing, HearingAmid, KeepsRoom, MayHear};
 ghost use Rattle.cf_session.specs.Work.{Work};
+ghost use Rattle.cf_view.specs.Moment.{moment_limit};
 
 use crate::handing::{hand_over, has_ended};
 use cf_audit::CutReason;
@@ -50,11 +52,12 @@ fn take_in(
     to_client: &mut Outq,
     to_controller: &mut Outq,
 ) -> LegAnswer
-    requires base { base_of leg.old.window ≤ 2 ^ 30 + 16384 }
+    requires base { base_of leg.old.window ≤ 2 ^ 30 + window_size }
     requires text { length packet.now.text.now ≤ 65535 }
-    requires moment { now < 2 ^ 32 * 1000000 }
+    requires moment { now < moment_limit }
     ensures ends { leg.new.ends ≡ leg.old.ends }
-    ensures heard { LegHeard now (packet_value packet.now) leg.old leg.new (own_queue side to_client.old to_controller.old) (own_queue side to_client.new to_controller.new) result }
+    ensures heard { LegHeard now (packet_value packet.now) leg.old leg.new (own_queue side to_client.old to_controller.old)
+        (own_queue side to_client.new to_controller.new) result }
     ensures newly { Newly now (packet_value packet.now) leg.old leg.new (own_queue side to_client.old to_controller.old) }
     ensures window { Continues leg.old.window leg.new.window }
     ensures client { KeepsList to_client.old to_client.new }
@@ -84,23 +87,31 @@ pub(crate) fn hear<D: Desk>(
     requires serves { IsLaneOf asset.now lane.old }
     requires within { IsAssetWithin asset.now }
     requires text { length packet.now.text.now ≤ 65535 }
-    requires moment { now < 2 ^ 32 * 1000000 }
+    requires moment { now < moment_limit }
     requires whole { DeskValue.whole (D.value desk.old) ≡ true }
     requires room { MayHear side leg.old lane.old to_client.old to_controller.old }
-    ensures hears { IfOk result (λ heard. (ends : Ends) (client : EndpointOf) (e : LegEvent) (es : List LegEvent) (rests : Rests) (earlier : List Element) (before : Work)
-        → now ≡ moment e → IsLegBetween ends leg.old (own_queue side to_client.old to_controller.old) (record e { came = Nothing; ending = Unspoken } ∷ es)
-        → AreUncut asset.now client rests earlier before lane.old to_client.old to_controller.old → rest_of side rests ≡ leg.old.window.pending
+    ensures hears { IfOk result (λ heard. (ends : Ends) (client : EndpointOf) (e : LegEvent) (es : List LegEvent) (rests : Rests)
+        (earlier : List Element) (before : Work)
+        → now ≡ moment e → IsLegBetween ends leg.old (own_queue side to_client.old to_controller.old)
+        (record e { came = Nothing; ending = Unspoken } ∷ es)
+        → AreUncut asset.now client rests earlier before lane.old to_client.old to_controller.old
+        → rest_of side rests ≡ leg.old.window.pending
         → IsTaken (first_copy (offers ends.role es)) (taken side earlier)
-        → Hearing side ends asset.now client now e es (packet_value packet.now) rests earlier before leg.new lane.new to_client.new to_controller.new heard.answer heard.cut
+        → Hearing side ends asset.now client now e es (packet_value packet.now) rests earlier before leg.new lane.new to_client.new
+        to_controller.new heard.answer heard.cut
         (told (D.value desk.old)) (told (D.value desk.new))) }
-    ensures broken { OnErr result ((ends : Ends) (client : EndpointOf) (e : LegEvent) (es : List LegEvent) (rests : Rests) (earlier : List Element) (before : Work)
-        → now ≡ moment e → IsLegBetween ends leg.old (own_queue side to_client.old to_controller.old) (record e { came = Nothing; ending = Unspoken } ∷ es)
-        → AreUncut asset.now client rests earlier before lane.old to_client.old to_controller.old → rest_of side rests ≡ leg.old.window.pending
+    ensures broken { OnErr result ((ends : Ends) (client : EndpointOf) (e : LegEvent) (es : List LegEvent) (rests : Rests)
+        (earlier : List Element) (before : Work)
+        → now ≡ moment e → IsLegBetween ends leg.old (own_queue side to_client.old to_controller.old)
+        (record e { came = Nothing; ending = Unspoken } ∷ es)
+        → AreUncut asset.now client rests earlier before lane.old to_client.old to_controller.old
+        → rest_of side rests ≡ leg.old.window.pending
         → IsTaken (first_copy (offers ends.role es)) (taken side earlier)
         → HearingAmid side ends asset.now client now e es (packet_value packet.now) earlier before (D.value desk.old) (D.value desk.new)) }
     ensures ends { OnOk result (leg.new.ends ≡ leg.old.ends) }
     ensures serves { OnOk result (IsLaneOf asset.now lane.new) }
-    ensures room { IfOk result (λ heard. KeepsRoom side leg.old.window leg.new.window lane.old lane.new to_client.old to_client.new to_controller.old to_controller.new heard.cut) }
+    ensures room { IfOk result (λ heard. KeepsRoom side leg.old.window leg.new.window lane.old lane.new to_client.old to_client.new
+        to_controller.old to_controller.new heard.cut) }
     ensures frame { EmitsAndLogs (D.value desk.old) (D.value desk.new) (is_err result) }
 {
     let had_ended = has_ended(leg);

@@ -1,5 +1,6 @@
 //! Laws over every list of right events of a session: each is the contract of a function that does nothing.
-ghost use Rattle.cf_session.specs.Laws.{EachSessionHasATick, EventsAreFixed, FewerPartsAreEnough, HasOneStream, SegmentsCarryOneStream, SendsWhatIsLetIn, WorkIsOfTheTaken};
+ghost use Rattle.cf_session.specs.Laws.{EachSessionHasATick, EventsAreFixed, FewerPartsAreEnough, HasOneStream, SegmentsCarryOneStream};
+ghost use Rattle.cf_session.specs.Laws.{SendsWhatIsLetIn, WorkIsOfTheTaken};
 ghost use Rattle.cf_session.specs.Stands.{AreQuietBeforeDue};
 
 use cf_lane::{has_one_judgement, streams_go_on};

@@ -13,6 +13,7 @@ ghost use Rattle.cf_session.specs.Session.{Flow, SessionEvent};
 ghost use Rattle.cf_session.specs.Stands.{HearsBy, IsLife, IsSessionOf, IsSound};
 ghost use Rattle.cf_session.specs.Told.{told};
 ghost use Rattle.cf_session.specs.Turn.{HeardAmid, HeardBy, IsHalf, IsSteady};
+ghost use Rattle.cf_view.specs.Moment.{moment_limit};
 
 use crate::clock::life_of;
 use crate::deciding::{greeting_number, is_reset, why};
@@ -38,17 +39,20 @@ impl Session {
     ) -> Result<Life, WriteFault>
         requires sound { IsSound asset.now self.old }
         requires text { length packet.now.text.now ≤ 65535 }
-        requires moment { now < 2 ^ 32 * 1000000 }
+        requires moment { now < moment_limit }
         requires whole { DeskValue.whole (D.value desk.old) ≡ true }
         ensures hears { IfOk result (λ life. (flow : Flow) (earlier : List SessionEvent) (half : SessionEvent) → flow.asset ≡ asset.now
             → IsSessionOf flow earlier half self.old → IsTick flow earlier half.client.tick half → moment half.client ≡ now
-            → HearsBy flow (SessionValue.limit self.old) earlier half side (packet_value packet.now) self.new (told (D.value desk.old)) (told (D.value desk.new)) life) }
+            → HearsBy flow (SessionValue.limit self.old) earlier half side (packet_value packet.now) self.new (told (D.value desk.old))
+            (told (D.value desk.new)) life) }
         ensures broken { OnErr result ((flow : Flow) (earlier : List SessionEvent) (half : SessionEvent) → flow.asset ≡ asset.now
             → IsSessionOf flow earlier half self.old → IsTick flow earlier half.client.tick half → moment half.client ≡ now
-            → BreaksPacket flow (SessionValue.limit self.old) earlier half side (packet_value packet.now) (D.value desk.old) (D.value desk.new)) }
+            → BreaksPacket flow (SessionValue.limit self.old) earlier half side (packet_value packet.now) (D.value desk.old)
+            (D.value desk.new)) }
         ensures sound { IfOk result (λ life. IsLife life → IsSound asset.now self.new) }
         ensures few { OnOk result (CountsBy 32768 (SessionValue.lane self.old) (SessionValue.lane self.new)) }
-        ensures same { (SessionValue.limit self.new ≡ SessionValue.limit self.old) × (SessionValue.source self.new ≡ SessionValue.source self.old) }
+        ensures same { (SessionValue.limit self.new ≡ SessionValue.limit self.old)
+            × (SessionValue.source self.new ≡ SessionValue.source self.old) }
         ensures frame { EmitsAndLogs (D.value desk.old) (D.value desk.new) (is_err result) }
     {
         let heard = self.hear(asset, now, side, packet, desk)?;
@@ -79,18 +83,21 @@ impl Session {
     ) -> Result<Heard, WriteFault>
         requires sound { IsSound asset.now self.old }
         requires text { length packet.now.text.now ≤ 65535 }
-        requires moment { now < 2 ^ 32 * 1000000 }
+        requires moment { now < moment_limit }
         requires whole { DeskValue.whole (D.value desk.old) ≡ true }
         ensures hears { IfOk result (λ heard. (flow : Flow) (earlier : List SessionEvent) (half : SessionEvent) → flow.asset ≡ asset.now
             → IsHalf half → moment half.client ≡ now → AreParts flow earlier half self.old
-            → HeardBy flow earlier half side (packet_value packet.now) self.new heard.answer heard.cut (told (D.value desk.old)) (told (D.value desk.new))) }
+            → HeardBy flow earlier half side (packet_value packet.now) self.new heard.answer heard.cut (told (D.value desk.old))
+            (told (D.value desk.new))) }
         ensures broken { OnErr result ((flow : Flow) (earlier : List SessionEvent) (half : SessionEvent) → flow.asset ≡ asset.now
             → IsHalf half → moment half.client ≡ now → AreParts flow earlier half self.old
             → HeardAmid flow earlier half side (packet_value packet.now) (D.value desk.old) (D.value desk.new)) }
         ensures steady { IfOk result (λ heard. IsSteady self.new heard.cut) }
         ensures serves { OnOk result (IsLaneOf asset.now (SessionValue.lane self.new)) }
         ensures few { OnOk result (CountsBy 32768 (SessionValue.lane self.old) (SessionValue.lane self.new)) }
-        ensures same { (SessionValue.limit self.new ≡ SessionValue.limit self.old) × (SessionValue.source self.new ≡ SessionValue.source self.old) × (SessionValue.closed self.new ≡ SessionValue.closed self.old) }
+        ensures same { (SessionValue.limit self.new ≡ SessionValue.limit self.old)
+            × (SessionValue.source self.new ≡ SessionValue.source self.old)
+            × (SessionValue.closed self.new ≡ SessionValue.closed self.old) }
         ensures frame { EmitsAndLogs (D.value desk.old) (D.value desk.new) (is_err result) }
     {
         match side {

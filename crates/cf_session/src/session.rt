@@ -15,6 +15,7 @@ ghost use Rattle.cf_session.specs.Session.{Flow, SessionEvent};
 ghost use Rattle.cf_session.specs.Stands.{Begins, IsSessionOf, IsSound};
 ghost use Rattle.cf_session.specs.Told.{told};
 ghost use Rattle.cf_session.specs.Turn.{IsMade};
+ghost use Rattle.cf_view.specs.Moment.{moment_limit};
 
 use cf_audit::What;
 use cf_driver::log_line;
@@ -79,10 +80,11 @@ impl Session {
         desk: &mut D,
     ) -> Result<Session, BeginFault>
         requires within { IsAssetWithin asset.now }
-        requires moment { (1 ≤ now) × (now < 2 ^ 32 * 1000000) }
+        requires moment { (1 ≤ now) × (now < moment_limit) }
         requires limit { (pos 1 ≤ℤ limit) × (limit ≤ℤ pos (2 ^ 30)) }
         requires whole { DeskValue.whole (D.value desk.old) ≡ true }
-        ensures begins { IfOk result (λ s. Begins (record { asset = asset.now; syn = packet_value syn.now }) (now - 1) s (told (D.value desk.old)) (told (D.value desk.new))) }
+        ensures begins { IfOk result (λ s. Begins (record { asset = asset.now; syn = packet_value syn.now }) (now - 1) s
+            (told (D.value desk.old)) (told (D.value desk.new))) }
         ensures limit { IfOk result (λ s. limit ≡ pos s.limit) }
         ensures client { IfOk result (λ s. s.source ≡ syn.now.source) }
         ensures sound { IfOk result (λ s. IsSound asset.now s) }
@@ -136,7 +138,7 @@ impl Session {
         requires made { (self.old.controller).phase ≡ Phase.Made }
         requires role { (self.old.controller).ends.role ≡ Role.Active number }
         requires base { base_of (self.old.controller).window ≡ 0 }
-        requires moment { (1 ≤ now) × (now < 2 ^ 32 * 1000000) }
+        requires moment { (1 ≤ now) × (now < moment_limit) }
         requires whole { DeskValue.whole (D.value desk.old) ≡ true }
         ensures begins { OnOk result ((flow : Flow) → flow.asset ≡ asset.now → flow.syn.seq ≡ number → IsMade flow self.old
             → Begins flow (now - 1) self.new (told (D.value desk.old)) (told (D.value desk.new))) }
@@ -158,7 +160,8 @@ impl Session {
     /// How many commands were admitted.
     pub fn admitted(&self) -> u64
         ensures value { result ≡ self.now.lane.admitted }
-        ensures counts { (flow : Flow) (earlier : List SessionEvent) (event : SessionEvent) → IsSessionOf flow earlier event self.now → result ≡ event.work.admitted }
+        ensures counts { (flow : Flow) (earlier : List SessionEvent) (event : SessionEvent) → IsSessionOf flow earlier event self.now
+            → result ≡ event.work.admitted }
     {
         self.lane.admitted()
     }
@@ -166,7 +169,8 @@ impl Session {
     /// How many commands were refused.
     pub fn refused(&self) -> u64
         ensures value { result ≡ self.now.lane.refused }
-        ensures counts { (flow : Flow) (earlier : List SessionEvent) (event : SessionEvent) → IsSessionOf flow earlier event self.now → result ≡ event.work.refused }
+        ensures counts { (flow : Flow) (earlier : List SessionEvent) (event : SessionEvent) → IsSessionOf flow earlier event self.now
+            → result ≡ event.work.refused }
     {
         self.lane.refused()
     }

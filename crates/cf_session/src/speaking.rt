@@ -12,6 +12,7 @@ ghost use Rattle.cf_session.specs.Sent.{at};
 ghost use Rattle.cf_session.specs.Session.{Flow, client_ends};
 ghost use Rattle.cf_session.specs.Told.{told};
 ghost use Rattle.cf_session.specs.Turn.{GreetsClient, IsSteady, MayGreet, MaySpeak, OnlySpeaks, SaysAmid, SaysBoth, greetings, is_roomy};
+ghost use Rattle.cf_view.specs.Moment.{moment_limit};
 
 use crate::handing::has_ended;
 use crate::session::Session;
@@ -29,16 +30,19 @@ impl Session {
         desk: &mut D,
     ) -> Result<(), WriteFault>
         requires steady { IsSteady self.old None }
-        requires moment { now < 2 ^ 32 * 1000000 }
+        requires moment { now < moment_limit }
         requires whole { DeskValue.whole (D.value desk.old) ≡ true }
         ensures greets { OnOk result ((flow : Flow) (d : LegEvent) (ds : List LegEvent) → now ≡ moment d → MayGreet number d ds
-            → IsLegBetween (client_ends flow) (SessionValue.client self.old) (SessionValue.to_client self.old) (record d { ending = Unspoken } ∷ ds)
+            → IsLegBetween (client_ends flow) (SessionValue.client self.old) (SessionValue.to_client self.old)
+            (record d { ending = Unspoken } ∷ ds)
             → GreetsClient flow now number d ds self.new (told (D.value desk.old)) (told (D.value desk.new))) }
         ensures broken { OnErr result ((flow : Flow) (d : LegEvent) (ds : List LegEvent) → now ≡ moment d → MayGreet number d ds
-            → IsLegBetween (client_ends flow) (SessionValue.client self.old) (SessionValue.to_client self.old) (record d { ending = Unspoken } ∷ ds)
+            → IsLegBetween (client_ends flow) (SessionValue.client self.old) (SessionValue.to_client self.old)
+            (record d { ending = Unspoken } ∷ ds)
             → BreaksAmid (at now (greetings flow number)) [] (D.value desk.old) (D.value desk.new)) }
         ensures steady { OnOk result (IsSteady self.new None) }
-        ensures window { OnOk result ((SessionValue.client self.new).window ≡ record (SessionValue.client self.old).window { edge = (SessionValue.client self.new).window.edge }) }
+        ensures window { OnOk result ((SessionValue.client self.new).window ≡ record (SessionValue.client self.old).window
+            { edge = (SessionValue.client self.new).window.edge }) }
         ensures same { self.new ≡ record self.old { client = SessionValue.client self.new } }
         ensures frame { EmitsAndLogs (D.value desk.old) (D.value desk.new) (is_err result) }
     {
@@ -62,7 +66,7 @@ impl Session {
         desk: &mut D,
     ) -> Result<(), WriteFault>
         requires steady { IsSteady self.old None }
-        requires moment { now < 2 ^ 32 * 1000000 }
+        requires moment { now < moment_limit }
         requires whole { DeskValue.whole (D.value desk.old) ≡ true }
         ensures says { OnOk result ((flow : Flow) (c d : LegEvent) (cs ds : List LegEvent) (w v : Stream)
             → now ≡ moment c → now ≡ moment d → MayGreet number d ds → MaySpeak flow c d cs ds w v self.old
@@ -70,11 +74,14 @@ impl Session {
         ensures broken { OnErr result ((flow : Flow) (c d : LegEvent) (cs ds : List LegEvent) (w v : Stream)
             → now ≡ moment c → now ≡ moment d → MayGreet number d ds → MaySpeak flow c d cs ds w v self.old
             → SaysAmid flow now number c cs d ds w v (is_roomy self.old) (D.value desk.old) (D.value desk.new)) }
-        ensures client_stands { OnOk result ((w : Stream) → IsQueueOf (SessionValue.to_client self.old) w → IsQueueOf (SessionValue.to_client self.new) w) }
-        ensures controller_stands { OnOk result ((w : Stream) → IsQueueOf (SessionValue.to_controller self.old) w → IsQueueOf (SessionValue.to_controller self.new) w) }
+        ensures client_stands { OnOk result ((w : Stream) → IsQueueOf (SessionValue.to_client self.old) w
+            → IsQueueOf (SessionValue.to_client self.new) w) }
+        ensures controller_stands { OnOk result ((w : Stream) → IsQueueOf (SessionValue.to_controller self.old) w
+            → IsQueueOf (SessionValue.to_controller self.new) w) }
         ensures steady { OnOk result (IsSteady self.new None) }
         ensures only { OnOk result (OnlySpeaks self.old self.new) }
-        ensures same { (SessionValue.limit self.new ≡ SessionValue.limit self.old) × (SessionValue.source self.new ≡ SessionValue.source self.old) }
+        ensures same { (SessionValue.limit self.new ≡ SessionValue.limit self.old)
+            × (SessionValue.source self.new ≡ SessionValue.source self.old) }
         ensures frame { EmitsAndLogs (D.value desk.old) (D.value desk.new) (is_err result) }
     {
         // The fact: both windows keep their bounds.

@@ -2,7 +2,7 @@
 use Rattle.std.specs.Prelude.{◌≡◌, ◌⊎◌, ◌++◌, ◌∷◌, ℕ, ◌+◌, ◌^◌, ◌<◌, ◌≤◌, true, false, List, [], length, Option, None}
 use Rattle.cf_audit.specs.declared.line.CutReason.{CutReason}
 use Rattle.cf_lane.specs.Follows.{Follows, Rests}
-use Rattle.cf_lane.specs.Handled.{IsLaneOf, State, debt, state}
+use Rattle.cf_lane.specs.Handled.{IsLaneOf, State, debt, debt_limit, rest_limit, state}
 use Rattle.cf_lane.specs.History.{Element, ended_of, taken}
 use Rattle.cf_outq.specs.SendQueue.{Queue, queue_length}
 use Rattle.cf_outside.specs.Files.{Content, with_appended}
@@ -34,17 +34,18 @@ pub record IsDrained (q : Queue) : Type 0 where
 -- a sifting can take an element, whatever came before
 pub record IsReady (asset : Asset) (sifting : Sifting) : Type 0 where
   pub of_asset : IsLaneOf asset sifting.lane
-  pub debt : debt sifting.lane ≤ 5300
+  pub debt : debt sifting.lane ≤ debt_limit
   pub client : IsDrained sifting.to_client
   pub controller : IsDrained sifting.to_controller
-  pub rest : length sifting.heard.rest.items < 300
+  pub rest : length sifting.heard.rest.items < rest_limit
   pub counts : sifting.lane.admitted + sifting.lane.refused + length sifting.heard.rest.items ≤ sifting.heard.letters
   pub few : sifting.heard.letters < 2 ^ 30
 
 module _ (asset : Asset) (client : Endpoint) (names : SiftNamesValue) (first now : List ℕ → Content) where
   -- a sifting and the outputs stand for a history, of which nothing is left in the queues; an item cuts it so
   pub record IsSiftingOf (history : List Element) (cut : Option CutReason) (sifting : Sifting) : Type 0 where
-    pub follows : Follows asset history (client_rests sifting.heard.rest.items) cut (file_lines (first names.log)) (state_of sifting (now names.log))
+    pub follows : Follows asset history (client_rests sifting.heard.rest.items) cut (file_lines (first names.log))
+        (state_of sifting (now names.log))
     pub of_client : sifting.lane.client ≡ client
     pub of_out : HasOut asset client names first now follows.judged
     pub of_replies : HasReplies asset client names first now follows.judged
@@ -61,7 +62,8 @@ module _ (asset : Asset) (client : Endpoint) (names : SiftNamesValue) (first now
     pub is_cut : cut_behind asset history sifting_of.follows.judged ≡ cut
 
 -- an element was taken: so it is of each history that the sifting stood for
-abbrev pub TakesElement : Asset → SiftNamesValue → Element → (old new : Sifting) → (before after : List ℕ → Content) → Option CutReason → Type 0
+abbrev pub TakesElement : Asset → SiftNamesValue → Element → (old new : Sifting) → (before after : List ℕ → Content) → Option CutReason
+    → Type 0
 TakesElement asset names element old new before after cut =
     (client : Endpoint) (first : List ℕ → Content) (h : List Element) → IsSiftingOf asset client names first before h None old →
     IsSiftingAfter asset client names first after (h ++ element ∷ []) cut new
@@ -76,4 +78,5 @@ FailsElement asset names element old before after =
 abbrev pub MovesFail : SiftNamesValue → Sifting → (old new : List ℕ → Content) → Type 0
 MovesFail names sifting old new =
     (MovesPart sifting.to_controller (old names.out) (new names.out) × (new names.replies ≡ old names.replies))
-    ⊎ ((new names.out ≡ with_appended (old names.out) sifting.to_controller.kept) × MovesPart sifting.to_client (old names.replies) (new names.replies))
+    ⊎ ((new names.out ≡ with_appended (old names.out) sifting.to_controller.kept)
+    × MovesPart sifting.to_client (old names.replies) (new names.replies))

@@ -65,6 +65,7 @@ module _ (asset : Asset) (client : Endpoint) (names : SiftNamesValue) (first old
     pub uncut : IsUncut asset client.address history
 
 -- what a call that takes a stream says holds of each client and of whatever the outputs had first
-abbrev pub OfEachSifting : Asset → SiftNamesValue → Sifting → (before : List ℕ → Content) → (Endpoint → (List ℕ → Content) → Type 0) → Type 0
+abbrev pub OfEachSifting : Asset → SiftNamesValue → Sifting → (before : List ℕ → Content) → (Endpoint → (List ℕ → Content) → Type 0)
+    → Type 0
 OfEachSifting asset names sifting before Holds =
     (client : Endpoint) (first : List ℕ → Content) → IsSiftingOf asset client names first before [] None sifting → Holds client first

@@ -1,3 +1,4 @@
 pub mod FirstCopy
 pub mod Position
+pub mod Sizes
 pub mod Stream

@@ -1,7 +1,8 @@
 -- A direction of a TCP connection as letters, Stream: its bytes in order, and End after them once its sender has closed
 -- it. RFC 9293, section 3.4, gives a sequence number to each octet and to FIN alike. The word letter for both, and
 -- places that count from 0, are this project's own.
-use Rattle.std.specs.Prelude.{◌≡◌, ℕ, suc, ◌+◌, ◌-◌, ◌≤◌, ◌==◌, nat_lt, Bool, true, false, ◌&&◌, if◌then◌else◌, List, [], ◌∷◌, ◌++◌, length, map, take, drop, slice_index, Option, Some, None, ℤ, pos, negsuc}
+use Rattle.std.specs.Prelude.{◌≡◌, ℕ, suc, ◌+◌, ◌-◌, ◌≤◌, ◌==◌, nat_lt, Bool, true, false, ◌&&◌, if◌then◌else◌, List, [], ◌∷◌, ◌++◌, length}
+use Rattle.std.specs.Prelude.{map, take, drop, slice_index, Option, Some, None, ℤ, pos, negsuc}
 
 -- bytes in their order, and whether End stands after them
 pub record Stream : Type 0 where

@@ -1,7 +1,9 @@
 //! Laws of the definitions. A law is a function with nothing to do: what it ensures holds of every stream, every list of
 //! offers and every number.
-ghost use Rattle.std.specs.Prelude.{◌≡◌, ℕ, ◌+◌, ◌^◌, ◌<◌, ◌≤◌, ◌++◌, if◌then◌else◌, Bool, false, List, length, take, drop, slice_get, Option, ℤ, pos, negsuc, ◌+ℤ◌, ◌≤ℤ◌, ◌<ℤ◌};
-ghost use Rattle.cf_stream.specs.Stream.{Stream, Letter, letter_at, letter_count, letters, part, IsPart, Carries, Extends, with_bytes, with_end};
+ghost use Rattle.std.specs.Prelude.{◌≡◌, ℕ, ◌+◌, ◌^◌, ◌<◌, ◌≤◌, ◌++◌, if◌then◌else◌, Bool, false, List, length, take, drop, slice_get};
+ghost use Rattle.std.specs.Prelude.{Option, ℤ, pos, negsuc, ◌+ℤ◌, ◌≤ℤ◌, ◌<ℤ◌};
+ghost use Rattle.cf_stream.specs.Stream.{Stream, Letter, letter_at, letter_count, letters, part, IsPart, Carries, Extends, with_bytes};
+ghost use Rattle.cf_stream.specs.Stream.{with_end};
 ghost use Rattle.cf_stream.specs.FirstCopy.{Offer, first_copy, IsTaken};
 ghost use Rattle.cf_stream.specs.Position.{sequence_number, position};
 
@@ -27,7 +29,8 @@ pub fn streams_go_on()
 /// A part of a stream carries the letters that the stream has there.
 pub fn parts_carry()
     ensures places { (s : Stream) (a n : ℕ) (ended : Bool) → IsPart s a n ended → Carries s (pos a) (part s a n ended) }
-    ensures letters { (s : Stream) (a n : ℕ) (ended : Bool) → IsPart s a n ended → letters (part s a n ended) ≡ take (n + (if ended then 1 else 0)) (drop a (letters s)) }
+    ensures letters { (s : Stream) (a n : ℕ) (ended : Bool) → IsPart s a n ended
+        → letters (part s a n ended) ≡ take (n + (if ended then 1 else 0)) (drop a (letters s)) }
 {}
 
 /// Further offers change no first copy.
@@ -52,7 +55,8 @@ pub fn taken_letters_are_copies()
 
 /// Further offers only extend what was taken.
 pub fn taken_only_grows()
-    ensures { (newer earlier : List Offer) (s t : Stream) → IsTaken (first_copy earlier) s → IsTaken (first_copy (newer ++ earlier)) t → Extends s t }
+    ensures { (newer earlier : List Offer) (s t : Stream) → IsTaken (first_copy earlier) s → IsTaken (first_copy (newer ++ earlier)) t
+        → Extends s t }
 {}
 
 /// The sequence number of a place less than 2^31 past the base is read as that place.
@@ -67,7 +71,8 @@ pub fn positions_behind()
 
 /// A sequence number is read as a place that has it, from 2^31 before the base to 2^31 - 1 past it.
 pub fn positions_near()
-    ensures number { (number origin base p : ℕ) → number < 2 ^ 32 → position number origin base ≡ pos p → sequence_number origin p ≡ number }
+    ensures number { (number origin base p : ℕ) → number < 2 ^ 32 → position number origin base ≡ pos p
+        → sequence_number origin p ≡ number }
     ensures before { (number origin base : ℕ) → number < 2 ^ 32 → pos base ≤ℤ (position number origin base +ℤ pos (2 ^ 31)) }
     ensures past { (number origin base : ℕ) → number < 2 ^ 32 → position number origin base <ℤ pos (base + 2 ^ 31) }
 {}

@@ -1,4 +1,5 @@
 pub mod Framing
+pub mod Moment
 pub mod Octets
 pub mod Places
 pub mod Text

@@ -21,4 +21,5 @@ pub record IsUnitsThenBreak {U : Type 0} (Spells : U → List ℕ → Type 0) (u
 -- the stream is units, and then a proper prefix of one or an octet that no unit has in its place
 abbrev pub HasUnits : {U : Type 0} → (U → List ℕ → Type 0) → List ℕ → Type 0
 HasUnits {U} Spells stream =
-    (units : List U) × (((rest : List ℕ) × IsUnitsThenRest Spells units stream rest) ⊎ ((place : ℕ) × IsUnitsThenBreak Spells units stream place))
+    (units : List U) × (((rest : List ℕ) × IsUnitsThenRest Spells units stream rest)
+    ⊎ ((place : ℕ) × IsUnitsThenBreak Spells units stream place))

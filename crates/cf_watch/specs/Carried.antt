@@ -1,6 +1,7 @@
 -- What the packets of one flow carried, and what a watcher knows of it: the bytes, `HasBytes`, the record with which each came,
 -- `AreBorn`, and the first conflict, `HasConflict`. The newest packet stands first. Positions are those of RFC 9293, section 3.4.
-use Rattle.std.specs.Prelude.{◌≡◌, ◌≢◌, ◌==◌, ◌<◌, ◌≤◌, ◌+ℤ◌, ℕ, ℤ, pos, max, List, [], ◌∷◌, ◌++◌, length, map, slice_get, if◌then◌else◌, Option, Some, None}
+use Rattle.std.specs.Prelude.{◌≡◌, ◌≢◌, ◌==◌, ◌<◌, ◌≤◌, ◌+ℤ◌, ℕ, ℤ, pos, max, List, [], ◌∷◌, ◌++◌, length, map, slice_get, if◌then◌else◌}
+use Rattle.std.specs.Prelude.{Option, Some, None}
 use Rattle.cf_stream.specs.FirstCopy.{IsTaken, Offer, first_copy}
 use Rattle.cf_stream.specs.Position.{place_or_zero}
 use Rattle.cf_stream.specs.Stream.{Letter, Stream, letter_count, letter_from}
@@ -89,4 +90,5 @@ IsConflictAfter copy c None now = IsConflictOf copy c now
 -- the conflict of the first packet that has one
 abbrev pub HasConflict : List Carried → Option Conflict → Type 0
 HasConflict [] conflict = conflict ≡ None
-HasConflict (c ∷ earlier) conflict = (before : Option Conflict) × HasConflict earlier before × IsConflictAfter (copy_of earlier) c before conflict
+HasConflict (c ∷ earlier) conflict = (before : Option Conflict) × HasConflict earlier before
+    × IsConflictAfter (copy_of earlier) c before conflict

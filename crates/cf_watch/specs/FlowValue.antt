@@ -16,7 +16,15 @@ pub record FlowValue : Type 0 where
   pub conflict : Option Conflict
 
 abbrev pub flow_value : Flow → FlowValue
-flow_value f = record { client = f.client; asset = f.asset; midstream = f.midstream; bytes = f.bytes.items; born = f.born; conflict = f.conflict }
+flow_value f = record {
+  client = f.client;
+  asset = f.asset;
+  midstream = f.midstream;
+  bytes = f.bytes.items;
+  born = f.born;
+  conflict =
+      f.conflict;
+}
 
 -- its asset is a place of the policy, and each byte came with a record
 pub record IsForAsset (assets : List Asset) (f : FlowValue) : Type 0 where

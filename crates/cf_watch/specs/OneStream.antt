@@ -10,4 +10,5 @@ pub record SeesOneStream (whole : Stream) (carried : List Carried) : Type 0 wher
   pub bytes : (bytes : List ℕ) → HasBytes carried bytes → (more : List ℕ) × (whole.bytes ≡ bytes ++ more)
 
 abbrev pub CarryOneStream : Type 0
-CarryOneStream = (whole : Stream) (carried : List Carried) → AllByRecursion (λ c. Carries whole c.at c.text) carried → SeesOneStream whole carried
+CarryOneStream = (whole : Stream) (carried : List Carried) → AllByRecursion (λ c. Carries whole c.at c.text) carried
+    → SeesOneStream whole carried

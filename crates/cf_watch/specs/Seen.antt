@@ -1,7 +1,8 @@
 -- The flows of a capture as its scope says: seen_by. For a review a flow of a client endpoint and an asset that has none begins with its
 -- first segment with text there, also amid its stream, and goes on up to the next SYN. With the scope of connections the flows are those of
 -- `watched`.
-use Rattle.std.specs.Prelude.{◌==◌, ◌&&◌, ◌+◌, ◌-◌, ◌%◌, ◌^◌, ◌||◌, ℕ, Bool, true, false, not, if◌then◌else◌, List, [], ◌∷◌, ◌++◌, length, Option, Some, None, Result, Ok, Err}
+use Rattle.std.specs.Prelude.{◌==◌, ◌&&◌, ◌+◌, ◌-◌, ◌%◌, ◌^◌, ◌||◌, ℕ, Bool, true, false, not, if◌then◌else◌, List, [], ◌∷◌, ◌++◌, length}
+use Rattle.std.specs.Prelude.{Option, Some, None, Result, Ok, Err}
 use Rattle.cf_leg.specs.Segment.{has_rst, has_syn}
 use Rattle.cf_packet.specs.Packet.{PacketValue, read_record}
 use Rattle.cf_packet.specs.declared.packet.PacketRefusal.{PacketRefusal}
@@ -43,7 +44,8 @@ opening_amid number packet = record { origin = (packet.seq + (2 ^ 32 - 1)) % 2 ^
 -- the flows after a packet from a client to an asset, the last flow of whom stands at this place
 abbrev pub goes_from : Scope → (number asset : ℕ) → PacketValue → (last : Option ℕ) → List Watched → List Watched
 goes_from scope number asset packet None flows =
-    if begins_amid scope packet then flows ++ begun_with (opening_amid number packet) number asset packet ∷ [] else goes_at number asset packet None flows
+    if begins_amid scope packet then flows ++ begun_with (opening_amid number packet) number asset packet
+    ∷ [] else goes_at number asset packet None flows
 goes_from scope number asset packet (Some place) flows = goes_at number asset packet (Some place) flows
 
 -- those after a packet, which may be to no asset

@@ -33,7 +33,8 @@ key_of client asset = record { address = client.address; port = client.port; ass
 pub record AreHeard (records : ℕ) (flows : List Flow) (trails : List Trail) (last : BTreeMap FlowKey ℕ) (ws : List Watched) : Type 0 where
   pub flow_count : length flows ≡ length ws
   pub trail_count : length trails ≡ length ws
-  pub each : (i : ℕ) (f : Flow) (t : Trail) (w : Watched) → slice_get flows i ≡ Some f → slice_get trails i ≡ Some t → slice_get ws i ≡ Some w → IsHeard f t w
+  pub each : (i : ℕ) (f : Flow) (t : Trail) (w : Watched) → slice_get flows i ≡ Some f → slice_get trails i ≡ Some t
+      → slice_get ws i ≡ Some w → IsHeard f t w
   pub low : (i : ℕ) (t : Trail) → slice_get trails i ≡ Some t → t.top ≤ records * 2 ^ 32
   pub found : (client : Endpoint) (asset : ℕ) → get key_cmp last (key_of client asset) ≡ last_place client asset ws
 

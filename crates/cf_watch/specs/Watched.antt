@@ -1,6 +1,7 @@
 -- The watched flows of a capture: watched. A flow is a client endpoint and an asset; each SYN that begins it anew begins another.
 -- Packets of a flow before its first SYN are not used, nor are packets to no asset.
-use Rattle.std.specs.Prelude.{◌==◌, ◌+◌, ◌+ℤ◌, ℕ, ℤ, suc, pos, zero, Bool, true, false, not, ◌&&◌, ◌||◌, if◌then◌else◌, List, [], ◌∷◌, ◌++◌, length, set, slice_get, Option, Some, None, Result, Ok, Err}
+use Rattle.std.specs.Prelude.{◌==◌, ◌+◌, ◌+ℤ◌, ℕ, ℤ, suc, pos, zero, Bool, true, false, not, ◌&&◌, ◌||◌, if◌then◌else◌, List, [], ◌∷◌, ◌++◌}
+use Rattle.std.specs.Prelude.{length, set, slice_get, Option, Some, None, Result, Ok, Err}
 use Rattle.cf_packet.specs.Packet.{PacketValue, read_record}
 use Rattle.cf_packet.specs.declared.packet.PacketRefusal.{PacketRefusal}
 use Rattle.cf_policy.specs.declared.Asset.{Asset}
@@ -41,7 +42,14 @@ with_packet number packet f =
 -- a flow that a SYN begins
 abbrev pub begun_by : (number asset : ℕ) → PacketValue → Watched
 begun_by number asset packet =
-    with_packet number packet (record { client = packet.source; asset = asset; origin = packet.seq; answered = false; midstream = None; carried = [] })
+    with_packet number packet (record {
+      client = packet.source;
+      asset = asset;
+      origin = packet.seq;
+      answered = false;
+      midstream = None;
+      carried = [];
+    })
 
 -- ---- which flow a packet is of
 

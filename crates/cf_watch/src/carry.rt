@@ -1,5 +1,6 @@
 //! What the letters of a packet do to a flow.
-ghost use Rattle.std.specs.Prelude.{◌≡◌, ◌==◌, ◌≢◌, ◌+◌, ◌^◌, ◌++◌, ◌∷◌, [], IfSome, ◌<◌, ◌≤◌, ◌+ℤ◌, ◌≤ℤ◌, ◌<ℤ◌, ◌⊎◌, ℕ, pos, None, Some, OnOk, true, false, if◌then◌else◌, length, option_map, ◌↔◌, IsTrue};
+ghost use Rattle.std.specs.Prelude.{◌≡◌, ◌==◌, ◌≢◌, ◌+◌, ◌^◌, ◌++◌, ◌∷◌, [], IfSome, ◌<◌, ◌≤◌, ◌+ℤ◌, ◌≤ℤ◌, ◌<ℤ◌, ◌⊎◌, ℕ, pos, None, Some};
+ghost use Rattle.std.specs.Prelude.{OnOk, true, false, if◌then◌else◌, length, option_map, ◌↔◌, IsTrue};
 ghost use Rattle.cf_stream.specs.Stream.{Byte};
 ghost use Rattle.cf_watch.specs.Kept.{Grows, HasNoByte, Takes, TakesOut, known, letter_value, stream_of};
 
@@ -44,7 +45,8 @@ fn keep(
 ) -> Result<(), NoMemory>
     requires number { number < 2 ^ 32 }
     requires blank { known flow.old.bytes.items ahead.old place ≡ None }
-    ensures knows { OnOk result ((p : ℕ) → known flow.new.bytes.items ahead.new p ≡ (if p == place then Some (letter_value letter) else known flow.old.bytes.items ahead.old p)) }
+    ensures knows { OnOk result ((p : ℕ) → known flow.new.bytes.items ahead.new p
+        ≡ (if p == place then Some (letter_value letter) else known flow.old.bytes.items ahead.old p)) }
     ensures grows { OnOk result (Grows number flow.old flow.new) }
     ensures conflict { flow.new.conflict ≡ flow.old.conflict }
 {
@@ -107,7 +109,8 @@ fn carry_text(
     requires number { number < 2 ^ 32 }
     requires past { at ≤ℤ pos (2 ^ 62) }
     requires short { length text.now ≤ 65535 }
-    ensures takes { OnOk result (Takes (record { number = number; at = at; text = record { bytes = text.now; ended = false } }) flow.old ahead.old flow.new ahead.new) }
+    ensures takes { OnOk result (Takes (record { number = number; at = at; text = record { bytes = text.now; ended = false } }) flow.old
+        ahead.old flow.new ahead.new) }
 {
     for (i, byte) in text.iter().enumerate() {
         carry_letter(flow, ahead, number, at + i as i64, Letter::Byte(*byte))?;
@@ -127,7 +130,8 @@ pub(crate) fn carry(
     requires number { number < 2 ^ 32 }
     requires past { at ≤ℤ pos (2 ^ 62) }
     requires short { length text.now ≤ 65535 }
-    ensures takes { OnOk result (Takes (record { number = number; at = at; text = record { bytes = text.now; ended = ended } }) flow.old ahead.old flow.new ahead.new) }
+    ensures takes { OnOk result (Takes (record { number = number; at = at; text = record { bytes = text.now; ended = ended } }) flow.old
+        ahead.old flow.new ahead.new) }
 {
     carry_text(flow, ahead, number, at, text)?;
     if ended {

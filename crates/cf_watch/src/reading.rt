@@ -1,5 +1,6 @@
 //! The flows of a capture file.
-ghost use Rattle.std.specs.Prelude.{◌≡◌, ◌+◌, ◌-◌, ◌*◌, ◌^◌, ◌<◌, ◌≤◌, ◌++◌, ◌∷◌, [], ℕ, OnOk, Ok, Err, Some, None, true, false, List, All, IsErrOf, length, map, IfOk, IfErr};
+ghost use Rattle.std.specs.Prelude.{◌≡◌, ◌+◌, ◌-◌, ◌*◌, ◌^◌, ◌<◌, ◌≤◌, ◌++◌, ◌∷◌, [], ℕ, OnOk, Ok, Err, Some, None, true, false, List, All};
+ghost use Rattle.std.specs.Prelude.{IsErrOf, length, map, IfOk, IfErr};
 ghost use Rattle.cf_outside.specs.Faults.{HasCause};
 ghost use Rattle.cf_outside.specs.Files.{IsAtEnd, IsLongerThan};
 ghost use Rattle.cf_run.specs.Form.{first_place};
@@ -54,7 +55,8 @@ pub fn watch_recording<F: Files>(
     files: &mut F,
 ) -> Result<Recording, WatchFault>
     requires assets { length policy.now.assets < 2 ^ 32 }
-    ensures watched { IfOk result (λ r. IsRecordingOf policy.now.assets (F.content files.old capture.now) (map flow_value r.flows.items) r.stamps.items) }
+    ensures watched { IfOk result (λ r. IsRecordingOf policy.now.assets (F.content files.old capture.now) (map flow_value r.flows.items)
+        r.stamps.items) }
     ensures for_assets { IfOk result (λ r. All (IsForAsset policy.now.assets) (map flow_value r.flows.items)) }
     ensures fault { IfErr result (λ fault. WatchesAs policy.now.assets (F.content files.old capture.now) (Err fault)) }
     ensures same { F.content files.new ≡ F.content files.old }
@@ -73,7 +75,8 @@ fn watch_for<F: Files>(
     files: &mut F,
 ) -> Result<Recording, WatchFault>
     requires assets { length policy.now.assets < 2 ^ 32 }
-    ensures watched { IfOk result (λ r. (all : List ℕ) × IsRecordingFor scope policy.now.assets (F.content files.old capture.now) (map flow_value r.flows.items) all × (scope ≡ Scope.Recording → r.stamps.items ≡ all)) }
+    ensures watched { IfOk result (λ r. (all : List ℕ) × IsRecordingFor scope policy.now.assets (F.content files.old capture.now)
+        (map flow_value r.flows.items) all × (scope ≡ Scope.Recording → r.stamps.items ≡ all)) }
     ensures for_assets { IfOk result (λ r. All (IsForAsset policy.now.assets) (map flow_value r.flows.items)) }
     ensures fault { IfErr result (λ fault. WatchesAs policy.now.assets (F.content files.old capture.now) (Err fault)) }
     ensures same { F.content files.new ≡ F.content files.old }
@@ -136,7 +139,9 @@ fn watch_records<F: Files>(
     requires short { IsAtEnd (F.content files.old name.now) CAPTURE_LIMIT }
     requires form { HasForm (F.content files.old name.now) (Ok reader.old.form) }
     requires place { reader.old.place ≡ first_place reader.old.form }
-    ensures watched { IfOk result (λ r. (all : List ℕ) × IsRecordingFor scope assets.now (F.content files.old name.now) (map flow_value r.flows.items) all × (scope ≡ Scope.Recording → r.stamps.items ≡ all)) }
+    ensures watched { IfOk result (λ r. (all : List ℕ)
+        × IsRecordingFor scope assets.now (F.content files.old name.now) (map flow_value r.flows.items) all
+        × (scope ≡ Scope.Recording → r.stamps.items ≡ all)) }
     ensures for_assets { IfOk result (λ r. All (IsForAsset assets.now) (map flow_value r.flows.items)) }
     ensures fault { IfErr result (λ fault. WatchesAs assets.now (F.content files.old name.now) (Err fault)) }
     ensures same { F.content files.new ≡ F.content files.old }

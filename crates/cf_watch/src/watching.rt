@@ -1,5 +1,6 @@
 //! The flows of records, taken one after the other.
-ghost use Rattle.std.specs.Prelude.{◌≡◌, ◌==◌, ◌+◌, ◌-◌, ◌*◌, cond, ◌^◌, ◌<◌, ◌≤◌, ◌++◌, ◌∷◌, ◌||◌, ℕ, List, [], IfOk, OnOk, OnSome, IfSome, Some, None, length, slice_get, true, false};
+ghost use Rattle.std.specs.Prelude.{◌≡◌, ◌==◌, ◌+◌, ◌-◌, ◌*◌, cond, ◌^◌, ◌<◌, ◌≤◌, ◌++◌, ◌∷◌, ◌||◌, ℕ, List, [], IfOk, OnOk, OnSome};
+ghost use Rattle.std.specs.Prelude.{IfSome, Some, None, length, slice_get, true, false};
 ghost use Rattle.cf_packet.specs.Packet.{packet_value, read_record};
 ghost use Rattle.cf_policy.specs.declared.Asset.{Asset};
 ghost use Rattle.cf_stream.specs.Stream.{letter_count};
@@ -74,7 +75,8 @@ fn hear(
     requires number { number < 2 ^ 32 }
     requires low { trail.old.top ≤ 2 ^ 60 }
     requires short { length packet.now.text.now ≤ 65535 }
-    ensures heard { OnOk result ((w : Watched) → IsHeard flow.old trail.old w → IsHeard flow.new trail.new (with_packet number (packet_value packet.now) w)) }
+    ensures heard { OnOk result ((w : Watched) → IsHeard flow.old trail.old w
+        → IsHeard flow.new trail.new (with_packet number (packet_value packet.now) w)) }
     ensures low { OnOk result (trail.new.top ≤ trail.old.top + 2 ^ 32) }
 {
     let at = text_place(packet, trail.origin, trail.top);
@@ -125,7 +127,8 @@ fn asset_at(assets: &[Asset], endpoint: &Endpoint) -> Option<usize>
 
 /// Whether a packet begins its flow anew.
 fn begins_anew(trail: &Trail, packet: &Packet<'_>) -> bool
-    ensures { (w : Watched) → trail.now.origin ≡ w.origin → trail.now.answered ≡ w.answered → result ≡ begins_anew (packet_value packet.now) w }
+    ensures { (w : Watched) → trail.now.origin ≡ w.origin → trail.now.answered ≡ w.answered
+        → result ≡ begins_anew (packet_value packet.now) w }
 {
     is_opening(packet) && !(packet.seq == trail.origin && !trail.answered)
 }
@@ -165,7 +168,8 @@ impl Watch {
         requires assets { length assets.now < 2 ^ 32 }
         requires number { (1 ≤ number) × (number ≤ 2 ^ 27) }
         requires heard { HasHeard (number - 1) self.old }
-        ensures heard { OnOk result ((ws : List Watched) → IsWatchOf (number - 1) self.old ws → IsWatchOf number self.new (with_frame scope assets.now number (read_record link.now (frame_by scope link.now body.now)) ws)) }
+        ensures heard { OnOk result ((ws : List Watched) → IsWatchOf (number - 1) self.old ws
+            → IsWatchOf number self.new (with_frame scope assets.now number (read_record link.now (frame_by scope link.now body.now)) ws)) }
     {
         let frame = frame_by(scope, link, body);
         let Ok(packet) = read_packet(link, frame) else {
@@ -192,7 +196,8 @@ impl Watch {
         requires number { (1 ≤ number) × (number ≤ 2 ^ 27) }
         requires short { length packet.now.text.now ≤ 65535 }
         requires heard { HasHeard (number - 1) self.old }
-        ensures heard { OnOk result ((ws : List Watched) → IsWatchOf (number - 1) self.old ws → IsWatchOf number self.new (goes_to_asset scope number (packet_value packet.now) (Some asset) ws)) }
+        ensures heard { OnOk result ((ws : List Watched) → IsWatchOf (number - 1) self.old ws
+            → IsWatchOf number self.new (goes_to_asset scope number (packet_value packet.now) (Some asset) ws)) }
     {
         let key = FlowKey {
             address: packet.source.address,
@@ -222,7 +227,8 @@ impl Watch {
     ) -> Result<(), NoMemory>
         requires number { (1 ≤ number) × (number ≤ 2 ^ 27) }
         requires short { length packet.now.text.now ≤ 65535 }
-        ensures heard { OnOk result ((ws : List Watched) → IsWatchOf (number - 1) self.old ws → IsWatchOf number self.new (goes_from scope number asset (packet_value packet.now) None ws)) }
+        ensures heard { OnOk result ((ws : List Watched) → IsWatchOf (number - 1) self.old ws
+            → IsWatchOf number self.new (goes_from scope number asset (packet_value packet.now) None ws)) }
     {
         if begins_amid(scope, packet) {
             let opening = Opening {
@@ -259,7 +265,8 @@ impl Watch {
         requires flow { place < length self.old.flows.items }
         requires trail { place < length self.old.trails.items }
         requires low { (t : Trail) → slice_get self.old.trails.items place ≡ Some t → t.top ≤ (number - 1) * 2 ^ 32 }
-        ensures heard { OnOk result ((ws : List Watched) → IsWatchOf (number - 1) self.old ws → IsWatchOf number self.new (goes_at number asset (packet_value packet.now) (Some place) ws)) }
+        ensures heard { OnOk result ((ws : List Watched) → IsWatchOf (number - 1) self.old ws
+            → IsWatchOf number self.new (goes_at number asset (packet_value packet.now) (Some place) ws)) }
     {
         if begins_anew(&self.trails[place], packet) {
             let opening = Opening {
@@ -290,7 +297,8 @@ impl Watch {
     ) -> Result<(), NoMemory>
         requires number { (1 ≤ number) × (number ≤ 2 ^ 27) }
         requires short { length packet.now.text.now ≤ 65535 }
-        ensures heard { OnOk result ((ws : List Watched) → IsWatchOf (number - 1) self.old ws → IsWatchOf number self.new (ws ++ begun_with opening number asset (packet_value packet.now) ∷ [])) }
+        ensures heard { OnOk result ((ws : List Watched) → IsWatchOf (number - 1) self.old ws
+            → IsWatchOf number self.new (ws ++ begun_with opening number asset (packet_value packet.now) ∷ [])) }
     {
         let mut flow = Flow {
             client: packet.source,

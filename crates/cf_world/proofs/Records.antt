@@ -8,7 +8,8 @@ use Rattle.std.proofs.Math.Seq.{take-append_seam, drop-append_seam}
 use Rattle.std.proofs.lemmas.Bool.{cases_Bool}
 use Rattle.std.proofs.lemmas.Bool.Decides.{nat_tests}
 use Rattle.cf_pcap.specs.Header.{header_of, output_header, output_octets}
-use Rattle.cf_pcap.specs.Record.{Need, RecordAnswerValue, TooLong as NotAllowed, Whole, captured_at, moment_limit, record_of}
+use Rattle.cf_pcap.specs.Record.{Need, RecordAnswerValue, TooLong as NotAllowed, Whole, captured_at, record_of}
+use Rattle.cf_view.specs.Moment.{moment_limit}
 use Rattle.cf_pcap.specs.declared.Header.{Header}
 use Rattle.cf_run.specs.Capture.{AtPlace, Cut, FileEnd, Fits, Record, TooLong, classic_at, is_past, records_among}
 use Rattle.cf_run.specs.Moments.{AreTimed, AreTimedPieces, first_moment, moment_from, timed}

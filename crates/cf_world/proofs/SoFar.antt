@@ -7,7 +7,7 @@ use Rattle.cf_outside.specs.Files.{Content, IsPartly, KeepsOthers, content_after
 use Rattle.cf_outside.proofs.Content.{with_appended-twice, with_appended-nothing}
 use Rattle.cf_pcap.specs.Header.{output_octets}
 use Rattle.cf_run.specs.Capture.{Record}
-use Rattle.cf_pcap.specs.Record.{moment_limit}
+use Rattle.cf_view.specs.Moment.{moment_limit}
 use Rattle.cf_run.specs.Moments.{first_moment}
 use Rattle.cf_world.specs.Capture.{BeginsEach, IsSyn}
 use Rattle.cf_world.specs.Making.{AppendsAll, AppendsPart, AppendsRecords, AreMade, IsReadAgain, IsSent, least_after, made_record, record_octets, records_octets}

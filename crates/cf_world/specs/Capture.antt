@@ -38,7 +38,8 @@ AreSpaced least (r ∷ rs) = (least ≤ r.stamp) × AreSpaced (r.stamp + 2000) r
 pub record IsCaptureOf (records : List Record) (octets : List ℕ) : Type 0 where
   pub header : take 24 octets ≡ output_octets
   pub read : header_of octets ≡ Ok output_header
-  pub timed : AreTimed (form.Classic output_header) first_moment 24 (drop 24 octets) records (record { place = length octets; found = FileEnd })
+  pub timed : AreTimed (form.Classic output_header) first_moment 24 (drop 24 octets) records
+      (record { place = length octets; found = FileEnd })
   pub packets : AllByRecursion HasPacket records
   pub apart : AreSpaced first_moment records
 

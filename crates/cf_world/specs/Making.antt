@@ -3,7 +3,8 @@ use Rattle.std.specs.Prelude.{◌≡◌, ◌≤◌, ◌<◌, ◌⊎◌, ℕ, ◌
 use Rattle.std.specs.List.{flat_map}
 use Rattle.cf_outside.specs.Files.{Content, with_appended}
 use Rattle.cf_pcap.specs.Header.{output_header}
-use Rattle.cf_pcap.specs.Record.{Whole, head_octets, moment_limit, record_of}
+use Rattle.cf_pcap.specs.Record.{Whole, head_octets, record_of}
+use Rattle.cf_view.specs.Moment.{moment_limit}
 use Rattle.cf_run.specs.Capture.{Record}
 use Rattle.cf_run.specs.Moments.{first_moment}
 use Rattle.cf_world.specs.Capture.{BeginsEach, HasPacket, IsSyn}

@@ -3,7 +3,8 @@ ghost use Rattle.std.specs.Prelude.{◌≡◌, IfOk, OnOk, Ok, pos, codes, strin
 ghost use Rattle.cf_policy.specs.Within.{IsWithin};
 ghost use Rattle.cf_policylang.specs.Spelling.{with_member};
 ghost use Rattle.cf_world.specs.Document.{IsDocument, made_policy};
-ghost use Rattle.cf_world.specs.Tables.{asset_items, asset_table, document_table, grouped_rule_table, only, rule_table, w0_table, w1_table, w2_table};
+ghost use Rattle.cf_world.specs.Tables.{asset_items, asset_table, document_table, grouped_rule_table, only, rule_table, w0_table, w1_table};
+ghost use Rattle.cf_world.specs.Tables.{w2_table};
 ghost use Rattle.toml.specs.Data.{array, no_members};
 ghost use Rattle.toml.specs.View.{array_view, table_view, view};
 

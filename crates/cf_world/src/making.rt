@@ -4,6 +4,7 @@ ghost use Rattle.cf_outside.specs.Faults.{HasCause};
 ghost use Rattle.cf_outside.specs.Files.{KeepsOthers};
 ghost use Rattle.cf_policy.specs.Within.{AreAssetsWithin};
 ghost use Rattle.cf_run.specs.Step.{IsSoundEngine};
+ghost use Rattle.cf_view.specs.Moment.{moment_limit};
 ghost use Rattle.cf_world.specs.Making.{AppendsRecord, AppendsRecords, IsReadAgain, made_record};
 
 use crate::hosts::Hosts;
@@ -77,7 +78,7 @@ fn send<F: Files>(
     requires within { AreAssetsWithin policy.now.assets }
     requires sound { IsSoundEngine policy.now.assets engine.old }
     requires later { engine.old.last + 2 ≤ moment }
-    requires moment { moment < 2 ^ 32 * 1000000 }
+    requires moment { moment < moment_limit }
     requires short { length packet.now ≤ 1500 }
     ensures file { AppendsRecord (made_record moment packet.now)
         (F.content files.old capture.now) (F.content files.new capture.now) result }

@@ -2,7 +2,7 @@
 ghost use Rattle.std.specs.Prelude.{◌≡◌, ◌<◌, ◌≤◌, length};
 ghost use Rattle.cf_outside.specs.Faults.{HasCause};
 ghost use Rattle.cf_outside.specs.Files.{Appends, KeepsOthers};
-ghost use Rattle.cf_pcap.specs.Record.{moment_limit};
+ghost use Rattle.cf_view.specs.Moment.{moment_limit};
 ghost use Rattle.cf_world.specs.Making.{IsReadAgain, made_record, record_octets};
 
 use cf_outside::{Files, WriteAnswer};

@@ -9,7 +9,8 @@ ghost use Rattle.cf_lane.specs.Rates.{Says};
 ghost use Rattle.cf_lane.specs.Rings.{IsRulesOf, says_by};
 ghost use Rattle.cf_policy.specs.Within.{IsAssetWithin};
 ghost use Rattle.cf_lane.specs.Dnp3.{drop_why, fragment_reply};
-ghost use Rattle.cf_lane.specs.Fragments.{AddsSegment, MissesSegment, Sends, TakesSegment, completed_by, frames_exist, parts, recut_most, sent_most};
+ghost use Rattle.cf_lane.specs.Fragments.{AddsSegment, MissesSegment, Sends, TakesSegment, completed_by, frames_exist, parts, recut_most};
+ghost use Rattle.cf_lane.specs.Fragments.{sent_most};
 ghost use Rattle.cf_lane.specs.Handled.{Grows, HasRoom, IsOpen, WritesLog};
 ghost use Rattle.cf_lane.specs.Kept.{of_side};
 
@@ -68,14 +69,17 @@ impl Fragments {
         requires open { IsOpen side to_client.old to_controller.old }
         requires client_room { HasRoom (sent_most answer.now (of_side side self.old)) to_client.old }
         requires controller_room { HasRoom (sent_most answer.now (of_side side self.old)) to_controller.old }
-        ensures takes { IfOk result (λ f. TakesSegment asset.now (says_by asset.now client.now.address rules.now moment) client.now moment side answer.now (completed_by answer.now (of_side side self.old)) f
+        ensures takes { IfOk result (λ f. TakesSegment asset.now (says_by asset.now client.now.address rules.now moment) client.now moment
+            side answer.now (completed_by answer.now (of_side side self.old)) f
             (parts self.old to_client.old to_controller.old (DeskValue.lines (D.value desk.old)))
             (parts self.new to_client.new to_controller.new (DeskValue.lines (D.value desk.new)))) }
-        ensures misses { OnErr result (MissesSegment asset.now (says_by asset.now client.now.address rules.now moment) client.now moment side answer.now (completed_by answer.now (of_side side self.old))
+        ensures misses { OnErr result (MissesSegment asset.now (says_by asset.now client.now.address rules.now moment) client.now moment
+            side answer.now (completed_by answer.now (of_side side self.old))
             (parts self.old to_client.old to_controller.old (DeskValue.lines (D.value desk.old)))
             (DeskValue.lines (D.value desk.new)) (DeskValue.line_part (D.value desk.new))) }
         ensures client_grows { OnOk result (Grows (sent_most answer.now (of_side side self.old)) 0 0 to_client.old to_client.new) }
-        ensures controller_grows { OnOk result (Grows (sent_most answer.now (of_side side self.old)) 0 0 to_controller.old to_controller.new) }
+        ensures controller_grows { OnOk result (Grows (sent_most answer.now (of_side side self.old)) 0 0 to_controller.old
+            to_controller.new) }
         ensures whole { OnOk result (DeskValue.whole (D.value desk.new) ≡ true) }
         ensures log { WritesLog (D.value desk.old) (D.value desk.new) }
         ensures cause { HasCause (DeskValue.faults (D.value desk.old)) (DeskValue.faults (D.value desk.new)) (IsErr result) }
@@ -128,14 +132,17 @@ impl Fragments {
         requires open { to_controller.old.ended ≡ false }
         requires client_room { HasRoom (recut_most (length self.old.client.octets + 2)) to_client.old }
         requires controller_room { HasRoom (recut_most (length self.old.client.octets + 2)) to_controller.old }
-        ensures takes { IfOk result (λ f. TakesSegment asset.now (says_by asset.now client.now.address rules.now moment) client.now moment Side.Client SegmentAnswer.Whole (self.old.client.octets ∷ []) f
+        ensures takes { IfOk result (λ f. TakesSegment asset.now (says_by asset.now client.now.address rules.now moment) client.now moment
+            Side.Client SegmentAnswer.Whole (self.old.client.octets ∷ []) f
             (parts self.old to_client.old to_controller.old (DeskValue.lines (D.value desk.old)))
             (parts self.new to_client.new to_controller.new (DeskValue.lines (D.value desk.new)))) }
-        ensures misses { OnErr result (MissesSegment asset.now (says_by asset.now client.now.address rules.now moment) client.now moment Side.Client SegmentAnswer.Whole (self.old.client.octets ∷ [])
+        ensures misses { OnErr result (MissesSegment asset.now (says_by asset.now client.now.address rules.now moment) client.now moment
+            Side.Client SegmentAnswer.Whole (self.old.client.octets ∷ [])
             (parts self.old to_client.old to_controller.old (DeskValue.lines (D.value desk.old)))
             (DeskValue.lines (D.value desk.new)) (DeskValue.line_part (D.value desk.new))) }
         ensures client_grows { OnOk result (Grows (recut_most (length self.old.client.octets + 2)) 0 0 to_client.old to_client.new) }
-        ensures controller_grows { OnOk result (Grows (recut_most (length self.old.client.octets + 2)) 0 0 to_controller.old to_controller.new) }
+        ensures controller_grows { OnOk result (Grows (recut_most (length self.old.client.octets + 2)) 0 0 to_controller.old
+            to_controller.new) }
         ensures whole { OnOk result (DeskValue.whole (D.value desk.new) ≡ true) }
         ensures log { WritesLog (D.value desk.old) (D.value desk.new) }
         ensures cause { HasCause (DeskValue.faults (D.value desk.old)) (DeskValue.faults (D.value desk.new)) (IsErr result) }
@@ -190,10 +197,12 @@ impl Fragments {
         requires to_controller { self.old.to_controller < 64 }
         requires open { to_client.old.ended ≡ false }
         requires client_room { HasRoom (recut_most (length self.old.controller.octets + 2)) to_client.old }
-        ensures takes { IfOk result (λ f. (says : Says) (to_controller : Queue) → TakesSegment asset.now says client.now moment Side.Controller SegmentAnswer.Whole (self.old.controller.octets ∷ []) f
+        ensures takes { IfOk result (λ f. (says : Says) (to_controller : Queue)
+            → TakesSegment asset.now says client.now moment Side.Controller SegmentAnswer.Whole (self.old.controller.octets ∷ []) f
             (parts self.old to_client.old to_controller (DeskValue.lines (D.value desk.old)))
             (parts self.new to_client.new to_controller (DeskValue.lines (D.value desk.new)))) }
-        ensures misses { OnErr result ((says : Says) (to_controller : Queue) → MissesSegment asset.now says client.now moment Side.Controller SegmentAnswer.Whole (self.old.controller.octets ∷ [])
+        ensures misses { OnErr result ((says : Says) (to_controller : Queue)
+            → MissesSegment asset.now says client.now moment Side.Controller SegmentAnswer.Whole (self.old.controller.octets ∷ [])
             (parts self.old to_client.old to_controller (DeskValue.lines (D.value desk.old)))
             (DeskValue.lines (D.value desk.new)) (DeskValue.line_part (D.value desk.new))) }
         ensures client_grows { OnOk result (Grows (recut_most (length self.old.controller.octets + 2)) 0 0 to_client.old to_client.new) }
@@ -236,8 +245,10 @@ fn reply(
     requires reason { refusal.now.reason ≢ Reason.Station }
     requires sequence { sequence.old < 64 }
     requires room { HasRoom (recut_most (length octets.now.bytes + 2)) to_client.old }
-    ensures sends { Sends asset.now Side.Client (fragment_reply to_client.old.ended (Fate.Refused refusal.now) (octets.now.bytes ∷ [])) sequence.old to_client.old sequence.new to_client.new }
-    ensures replied { result ≡ frames_exist asset.now Side.Client sequence.old (fragment_reply to_client.old.ended (Fate.Refused refusal.now) (octets.now.bytes ∷ [])) }
+    ensures sends { Sends asset.now Side.Client (fragment_reply to_client.old.ended (Fate.Refused refusal.now) (octets.now.bytes ∷ []))
+        sequence.old to_client.old sequence.new to_client.new }
+    ensures replied { result ≡ frames_exist asset.now Side.Client sequence.old
+        (fragment_reply to_client.old.ended (Fate.Refused refusal.now) (octets.now.bytes ∷ [])) }
     ensures grows { Grows (recut_most (length octets.now.bytes + 2)) 0 0 to_client.old to_client.new }
 {
     if to_client.is_ended() || !wants_reply(octets.at(1)) {

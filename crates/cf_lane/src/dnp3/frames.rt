@@ -50,15 +50,19 @@ impl Fragments {
         requires open { IsOpen side to_client.old to_controller.old }
         requires client_room { HasRoom (owed_by self.old + 2 * length octets.now.bytes) to_client.old }
         requires controller_room { HasRoom (owed_by self.old + 2 * length octets.now.bytes) to_controller.old }
-        ensures takes { IfOk result (λ f. TakesFrame asset.now (says_by asset.now client.now.address rules.now moment) client.now moment side (frame_value frame.now) f
+        ensures takes { IfOk result (λ f. TakesFrame asset.now (says_by asset.now client.now.address rules.now moment) client.now moment
+            side (frame_value frame.now) f
             (parts self.old to_client.old to_controller.old (DeskValue.lines (D.value desk.old)))
             (parts self.new to_client.new to_controller.new (DeskValue.lines (D.value desk.new)))) }
-        ensures misses { OnErr result (MissesFrame asset.now (says_by asset.now client.now.address rules.now moment) client.now moment side (frame_value frame.now)
+        ensures misses { OnErr result (MissesFrame asset.now (says_by asset.now client.now.address rules.now moment) client.now moment side
+            (frame_value frame.now)
             (parts self.old to_client.old to_controller.old (DeskValue.lines (D.value desk.old)))
             (DeskValue.lines (D.value desk.new)) (DeskValue.line_part (D.value desk.new))) }
         ensures are { OnOk result (AreFragments self.new) }
-        ensures client_grows { OnOk result (Grows (2 * length octets.now.bytes) (owed_by self.old) (owed_by self.new) to_client.old to_client.new) }
-        ensures controller_grows { OnOk result (Grows (2 * length octets.now.bytes) (owed_by self.old) (owed_by self.new) to_controller.old to_controller.new) }
+        ensures client_grows { OnOk result (Grows (2 * length octets.now.bytes) (owed_by self.old) (owed_by self.new) to_client.old
+            to_client.new) }
+        ensures controller_grows { OnOk result (Grows (2 * length octets.now.bytes) (owed_by self.old) (owed_by self.new) to_controller.old
+            to_controller.new) }
         ensures whole { OnOk result (DeskValue.whole (D.value desk.new) ≡ true) }
         ensures log { WritesLog (D.value desk.old) (D.value desk.new) }
         ensures cause { HasCause (DeskValue.faults (D.value desk.old)) (DeskValue.faults (D.value desk.new)) (IsErr result) }

@@ -31,7 +31,8 @@ pub(crate) fn judge_fragment(
     requires at_least { 2 ≤ length octets.now.bytes }
     requires at_most { length octets.now.bytes ≤ 2048 }
     requires few { length rules.now.rings.items ≤ most_rated }
-    ensures fate { (client : ℕ) → IsRulesOf asset.now client rules.now → fate_or_carried result ≡ fate_of_fragment asset.now (says_by asset.now client rules.now moment) Side.Client octets.now.bytes }
+    ensures fate { (client : ℕ) → IsRulesOf asset.now client rules.now
+        → fate_or_carried result ≡ fate_of_fragment asset.now (says_by asset.now client rules.now moment) Side.Client octets.now.bytes }
     ensures decider { HasOwnDecider asset.now.rules (fate_or_carried result) }
     ensures fragment { (client : ℕ) → IsRulesOf asset.now client rules.now → IsOfFragment (fate_or_carried result) }
 {
@@ -68,7 +69,9 @@ fn judge_request(
 ) -> Option<Judgement>
     requires at_most { length fragment.now.objects.bytes ≤ 2046 }
     requires few { length rules.now.rings.items ≤ most_rated }
-    ensures fate { (client : ℕ) → IsRulesOf asset.now client rules.now → fate_or_carried result ≡ (if nat_eq fragment.now.code 0 then Fate.Carried else fate_of_acts asset.now (says_by asset.now client rules.now moment) (acts (fragment_value fragment.now))) }
+    ensures fate { (client : ℕ) → IsRulesOf asset.now client rules.now
+        → fate_or_carried result ≡ (if nat_eq fragment.now.code 0 then Fate.Carried else fate_of_acts asset.now
+        (says_by asset.now client rules.now moment) (acts (fragment_value fragment.now))) }
     ensures decider { HasOwnDecider asset.now.rules (fate_or_carried result) }
     ensures fragment { (client : ℕ) → IsRulesOf asset.now client rules.now → IsOfFragment (fate_or_carried result) }
 {

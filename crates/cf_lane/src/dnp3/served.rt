@@ -1,7 +1,8 @@
 //! Which frames of DNP3 are served.
 ghost use Rattle.std.specs.Prelude.{◌≡◌};
 ghost use Rattle.cf_dnplink.specs.LinkFrame.{IsFrame, frame_value};
-ghost use Rattle.cf_lane.specs.Dnp3.{has_addresses, has_right_direction, has_direction, is_primary, is_data, is_status, link_code, stray_of};
+ghost use Rattle.cf_lane.specs.Dnp3.{has_addresses, has_right_direction, has_direction, is_primary, is_data, is_status, link_code};
+ghost use Rattle.cf_lane.specs.Dnp3.{stray_of};
 
 use cf_audit::Why;
 use cf_dnplink::{Frame, user_len};

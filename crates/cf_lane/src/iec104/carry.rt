@@ -42,7 +42,8 @@ pub(crate) fn number_cut(side: Side, refusal: NumberRefusal) -> CutReason
 fn note_control(numbers: &mut Numbers, octet: u8)
     requires idle { numbers.old.owed ≡ None }
     ensures idle { numbers.new.owed ≡ None }
-    ensures stands { (events : List NumberEvent) → IsNumbersOf numbers.old events → IsNumbersOf numbers.new (control_event octet ++ events) }
+    ensures stands { (events : List NumberEvent) → IsNumbersOf numbers.old events
+        → IsNumbersOf numbers.new (control_event octet ++ events) }
 {
     if octet == START {
         numbers.start();
@@ -67,7 +68,8 @@ pub(crate) fn carry_control(
     requires controller_room { HasRoom 6 to_controller.old }
     ensures idle { numbers.new.owed ≡ None }
     ensures fate { result ≡ Fate.Carried }
-    ensures takes { (asset : Asset) (says : Says) (client : Endpoint) (moment : ℕ) (lines : Option (List (List ℕ))) → TakesApdu asset says client moment side (Control octet) result
+    ensures takes { (asset : Asset) (says : Says) (client : Endpoint) (moment : ℕ) (lines : Option (List (List ℕ)))
+        → TakesApdu asset says client moment side (Control octet) result
         (numbered numbers.old to_client.old to_controller.old lines) (numbered numbers.new to_client.new to_controller.new lines) }
     ensures client_grows { Grows 6 0 0 to_client.old to_client.new }
     ensures controller_grows { Grows 6 0 0 to_controller.old to_controller.new }
@@ -98,7 +100,8 @@ pub(crate) fn carry_ack(
     requires client_room { HasRoom 6 to_client.old }
     requires controller_room { HasRoom 6 to_controller.old }
     ensures idle { numbers.new.owed ≡ None }
-    ensures takes { (asset : Asset) (says : Says) (client : Endpoint) (moment : ℕ) (lines : Option (List (List ℕ))) → TakesApdu asset says client moment side (Ack receive) result
+    ensures takes { (asset : Asset) (says : Says) (client : Endpoint) (moment : ℕ) (lines : Option (List (List ℕ)))
+        → TakesApdu asset says client moment side (Ack receive) result
         (numbered numbers.old to_client.old to_controller.old lines) (numbered numbers.new to_client.new to_controller.new lines) }
     ensures client_grows { Grows (unless_cut result 6) 0 0 to_client.old to_client.new }
     ensures controller_grows { Grows (unless_cut result 6) 0 0 to_controller.old to_controller.new }
@@ -134,7 +137,8 @@ pub(crate) fn carry_info(
     requires open { to_client.old.ended ≡ false }
     requires room { HasRoom (length asdu.now.bytes + 6) to_client.old }
     ensures idle { numbers.new.owed ≡ None }
-    ensures takes { (asset : Asset) (says : Says) (client : Endpoint) (moment : ℕ) (to_controller : Queue) (lines : Option (List (List ℕ))) →
+    ensures takes { (asset : Asset) (says : Says) (client : Endpoint) (moment : ℕ) (to_controller : Queue) (lines : Option (List (List ℕ)))
+        →
         TakesApdu asset says client moment Side.Controller (Info send receive asdu.now.bytes) result
         (numbered numbers.old to_client.old to_controller lines) (numbered numbers.new to_client.new to_controller lines) }
     ensures grows { Grows (unless_cut result (length asdu.now.bytes + 6)) 0 0 to_client.old to_client.new }

@@ -1,5 +1,6 @@
 //! A client's I frame: a command.
-ghost use Rattle.std.specs.Prelude.{◌≡◌, ◌≤◌, ◌+◌, None, OnErr, OnOk, IfOk, IsErr, MatchOption, length, true, false, nat_lt, ◌<◌, if◌then◌else◌};
+ghost use Rattle.std.specs.Prelude.{◌≡◌, ◌≤◌, ◌+◌, None, OnErr, OnOk, IfOk, IsErr, MatchOption, length, true, false, nat_lt, ◌<◌};
+ghost use Rattle.std.specs.Prelude.{if◌then◌else◌};
 ghost use Rattle.cf_apci.specs.Apdu.{Info, spelling};
 ghost use Rattle.cf_lane.specs.Handled.{Grows, HasRoom, WritesLog};
 ghost use Rattle.cf_lane.specs.Iec104.{ack_octets};
@@ -79,10 +80,12 @@ pub(crate) fn take_command<D: Desk>(
     requires client_room { HasRoom (length asdu.now.bytes + 6) to_client.old }
     requires controller_room { HasRoom (length asdu.now.bytes + 6) to_controller.old }
     ensures idle { OnOk result (numbers.new.owed ≡ None) }
-    ensures takes { IfOk result (λ f. TakesApdu asset.now (says_by asset.now client.now.address rules.now moment) client.now moment Side.Client (Info send receive asdu.now.bytes) f
+    ensures takes { IfOk result (λ f. TakesApdu asset.now (says_by asset.now client.now.address rules.now moment) client.now moment
+        Side.Client (Info send receive asdu.now.bytes) f
         (numbered numbers.old to_client.old to_controller.old (DeskValue.lines (D.value desk.old)))
         (numbered numbers.new to_client.new to_controller.new (DeskValue.lines (D.value desk.new)))) }
-    ensures misses { OnErr result (MissesApdu asset.now (says_by asset.now client.now.address rules.now moment) client.now moment Side.Client (Info send receive asdu.now.bytes)
+    ensures misses { OnErr result (MissesApdu asset.now (says_by asset.now client.now.address rules.now moment) client.now moment
+        Side.Client (Info send receive asdu.now.bytes)
         (numbered numbers.old to_client.old to_controller.old (DeskValue.lines (D.value desk.old)))
         (DeskValue.lines (D.value desk.new)) (DeskValue.line_part (D.value desk.new))) }
     ensures client_grows { IfOk result (λ f. Grows (unless_cut f (length asdu.now.bytes + 6)) 0 0 to_client.old to_client.new) }

@@ -21,7 +21,8 @@ pub(crate) const SHORTEST: usize = 9;
 pub(crate) fn judge_asdu(asset: &Asset, rules: &Rules, moment: u64, octets: &View<'_>) -> Judgement
     requires at_most { length octets.now.bytes ≤ 249 }
     requires few { length rules.now.rings.items ≤ most_rated }
-    ensures fate { (client : ℕ) → IsRulesOf asset.now client rules.now → fate_of_judgement result ≡ fate_of_asdu asset.now (says_by asset.now client rules.now moment) octets.now.bytes }
+    ensures fate { (client : ℕ) → IsRulesOf asset.now client rules.now
+        → fate_of_judgement result ≡ fate_of_asdu asset.now (says_by asset.now client rules.now moment) octets.now.bytes }
     ensures decider { HasOwnDecider asset.now.rules (fate_of_judgement result) }
 {
     if octets.len() < SHORTEST {

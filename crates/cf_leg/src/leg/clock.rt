@@ -1,5 +1,6 @@
 //! The retransmission timer of an end.
-ghost use Rattle.std.specs.Prelude.{◌≡◌, ◌+◌, ◌-◌, ◌*◌, ◌%◌, ◌^◌, ◌<◌, ◌≤◌, ◌==◌, min, not, nat_lt, ◌&&◌, ◌||◌, if◌then◌else◌, true, [], ◌∷◌, None, Some, Ok, IfOk, OnErr, OnOk, ◌≤ℤ◌, ◌+ℤ◌, false};
+ghost use Rattle.std.specs.Prelude.{◌≡◌, ◌+◌, ◌-◌, ◌*◌, ◌%◌, ◌^◌, ◌<◌, ◌≤◌, ◌==◌, min, not, nat_lt, ◌&&◌, ◌||◌, if◌then◌else◌, true, []};
+ghost use Rattle.std.specs.Prelude.{◌∷◌, None, Some, Ok, IfOk, OnErr, OnOk, ◌≤ℤ◌, ◌+ℤ◌, false};
 ghost use Rattle.cf_rebuild.specs.ReceiveWindow.{base_of};
 ghost use Rattle.cf_leg.specs.Calls.{ClockBreaks, Clocked, SendsAgain, SendsOldest, answer_again, answer_oldest, due_of, is_due};
 ghost use Rattle.cf_leg.specs.Timer.{backoff};
@@ -7,6 +8,8 @@ ghost use Rattle.cf_leg.specs.LegValue.{is_open};
 ghost use Rattle.cf_outside.specs.Desk.{DeskValue};
 ghost use Rattle.cf_outside.specs.Frames.{OnlyEmits};
 ghost use Rattle.std.specs.Result.{is_err};
+ghost use Rattle.cf_stream.specs.Sizes.{window_size};
+ghost use Rattle.cf_view.specs.Moment.{moment_limit};
 
 use super::{Leg, SECOND};
 use crate::ends::ClockAnswer;
@@ -26,10 +29,11 @@ impl Leg {
         queue: &Outq,
         desk: &mut D,
     ) -> Result<ClockAnswer, WriteFault>
-        requires base { base_of self.now.window ≤ 2 ^ 30 + 16384 }
+        requires base { base_of self.now.window ≤ 2 ^ 30 + window_size }
         requires whole { DeskValue.whole (D.value desk.old) ≡ true }
-        requires moment { now < 2 ^ 32 * 1000000 }
-        ensures sends { IfOk result (λ answer. SendsOldest self.now queue.now now (D.value desk.old) (D.value desk.new) false × (answer ≡ answer_oldest queue.now)) }
+        requires moment { now < moment_limit }
+        ensures sends { IfOk result (λ answer. SendsOldest self.now queue.now now (D.value desk.old) (D.value desk.new) false
+            × (answer ≡ answer_oldest queue.now)) }
         ensures broken { OnErr result (SendsOldest self.now queue.now now (D.value desk.old) (D.value desk.new) true) }
         ensures frame { OnlyEmits (D.value desk.old) (D.value desk.new) (is_err result) }
     {
@@ -55,10 +59,11 @@ impl Leg {
         queue: &Outq,
         desk: &mut D,
     ) -> Result<ClockAnswer, WriteFault>
-        requires base { base_of self.now.window ≤ 2 ^ 30 + 16384 }
+        requires base { base_of self.now.window ≤ 2 ^ 30 + window_size }
         requires whole { DeskValue.whole (D.value desk.old) ≡ true }
-        requires moment { now < 2 ^ 32 * 1000000 }
-        ensures sends { IfOk result (λ answer. SendsAgain self.now queue.now now (D.value desk.old) (D.value desk.new) false × (answer ≡ answer_again self.now queue.now)) }
+        requires moment { now < moment_limit }
+        ensures sends { IfOk result (λ answer. SendsAgain self.now queue.now now (D.value desk.old) (D.value desk.new) false
+            × (answer ≡ answer_again self.now queue.now)) }
         ensures broken { OnErr result (SendsAgain self.now queue.now now (D.value desk.old) (D.value desk.new) true) }
         ensures frame { OnlyEmits (D.value desk.old) (D.value desk.new) (is_err result) }
     {
@@ -97,7 +102,7 @@ impl Leg {
     /// The timer is set anew.
     fn fire(&mut self, now: u64)
         requires few { nat_lt self.old.fired 6 ≡ true }
-        requires moment { now < 2 ^ 32 * 1000000 }
+        requires moment { now < moment_limit }
         ensures new { self.new ≡ record self.old { fired = self.old.fired + 1; deadline = now + backoff (self.old.fired + 1) } }
     {
         self.fired += 1;
@@ -113,12 +118,13 @@ impl Leg {
         queue: &mut Outq,
         desk: &mut D,
     ) -> Result<ClockAnswer, WriteFault>
-        requires base { base_of self.old.window ≤ 2 ^ 30 + 16384 }
+        requires base { base_of self.old.window ≤ 2 ^ 30 + window_size }
         requires whole { DeskValue.whole (D.value desk.old) ≡ true }
-        requires moment { now < 2 ^ 32 * 1000000 }
+        requires moment { now < moment_limit }
         ensures ends { self.new.ends ≡ self.old.ends }
         ensures kept { self.new.window ≡ self.old.window }
-        ensures clocked { IfOk result (λ answer. Clocked now self.old self.new queue.old answer (DeskValue.packets (D.value desk.old)) (DeskValue.packets (D.value desk.new))) }
+        ensures clocked { IfOk result (λ answer. Clocked now self.old self.new queue.old answer (DeskValue.packets (D.value desk.old))
+            (DeskValue.packets (D.value desk.new))) }
         ensures queue { queue.new ≡ queue.old }
         ensures broken { OnErr result (ClockBreaks now self.old queue.old (D.value desk.old) (D.value desk.new)) }
         ensures frame { OnlyEmits (D.value desk.old) (D.value desk.new) (is_err result) }

@@ -1,5 +1,6 @@
 //! How an end takes in a packet of its peer.
-ghost use Rattle.std.specs.Prelude.{◌≡◌, ◌+◌, ◌-◌, ◌*◌, ◌%◌, ◌^◌, ◌<◌, ◌≤◌, ◌==◌, max, not, ◌&&◌, ◌||◌, if◌then◌else◌, true, List, [], ◌∷◌, length, pos, negsuc, ◌≤ℤ◌, ◌+ℤ◌};
+ghost use Rattle.std.specs.Prelude.{◌≡◌, ◌+◌, ◌-◌, ◌*◌, ◌%◌, ◌^◌, ◌<◌, ◌≤◌, ◌==◌, max, not, ◌&&◌, ◌||◌, if◌then◌else◌, true, List, [], ◌∷◌};
+ghost use Rattle.std.specs.Prelude.{length, pos, negsuc, ◌≤ℤ◌, ◌+ℤ◌};
 ghost use Rattle.cf_outq.specs.SendQueue.{IsQueue};
 ghost use Rattle.cf_outq.specs.SendQueue.{IsQueueOf};
 ghost use Rattle.cf_packet.specs.Packet.{packet_value};
@@ -7,11 +8,13 @@ ghost use Rattle.cf_rebuild.specs.ReceiveWindow.{IsWindow, base_of};
 ghost use Rattle.cf_rebuild.specs.ReceiveWindow.{IsWindowOf};
 ghost use Rattle.cf_stream.specs.FirstCopy.{Offer};
 ghost use Rattle.cf_leg.specs.Segment.{letters_in};
+ghost use Rattle.cf_stream.specs.Sizes.{window_size};
 ghost use Rattle.cf_stream.specs.Stream.{Stream};
 ghost use Rattle.cf_leg.specs.Calls.{KeepsList, Continues, Newly, Counts, Heard, end_state_of, queue_counted, rises_by};
 ghost use Rattle.cf_leg.specs.Heard.{ack_place, text_place};
 ghost use Rattle.cf_stream.specs.Position.{place_or_zero};
 ghost use Rattle.cf_leg.specs.LegValue.{IsLeg, is_open};
+ghost use Rattle.cf_view.specs.Moment.{moment_limit};
 
 use super::{Leg, SECOND};
 use crate::ends::{EndState, LegAnswer};
@@ -53,7 +56,7 @@ impl Leg {
         requires told { at.now.told.base ≤ 2 ^ 31 }
         requires sent { at.now.sent ≤ 2 ^ 31 }
         requires acked { counts ≡ true → ack_place at.now (packet_value packet.now) ≤ℤ pos queue.old.sent }
-        requires moment { now < 2 ^ 32 * 1000000 }
+        requires moment { now < moment_limit }
         ensures counts { Counts counts at.now now (packet_value packet.now) self.old self.new queue.old queue.new }
         ensures window { Continues self.old.window self.new.window }
         ensures stands { (whole : Stream) → IsQueueOf queue.old whole → IsQueueOf queue.new whole }
@@ -71,9 +74,9 @@ impl Leg {
 
     /// Takes in a packet of the peer.
     pub fn on_segment(&mut self, now: u64, packet: &Packet<'_>, queue: &mut Outq) -> LegAnswer
-        requires base { base_of self.old.window ≤ 2 ^ 30 + 16384 }
+        requires base { base_of self.old.window ≤ 2 ^ 30 + window_size }
         requires text { length packet.now.text.now ≤ 65535 }
-        requires moment { now < 2 ^ 32 * 1000000 }
+        requires moment { now < moment_limit }
         ensures ends { self.new.ends ≡ self.old.ends }
         ensures heard { Heard now (packet_value packet.now) self.old self.new queue.old queue.new result }
         ensures newly { Newly now (packet_value packet.now) self.old self.new queue.old }
@@ -148,7 +151,12 @@ fn acknowledge(at: &EndState, packet: &Packet<'_>, queue: &mut Outq)
 fn offer(at: &EndState, packet: &Packet<'_>, window: &mut Rebuild)
     requires told { at.now.told.base ≤ 2 ^ 31 }
     requires text { length packet.now.text.now ≤ 65535 }
-    ensures stands { (os : List Offer) → IsWindowOf window.old os → IsWindowOf window.new (record { at = text_place at.now (packet_value packet.now); text = letters_in (packet_value packet.now); edge = window.old.edge } ∷ os) }
+    ensures stands { (os : List Offer) → IsWindowOf window.old os
+        → IsWindowOf window.new (record {
+          at = text_place at.now (packet_value packet.now);
+          text = letters_in (packet_value packet.now);
+          edge = window.old.edge;
+        } ∷ os) }
     ensures grows { base_of window.old ≤ base_of window.new }
     ensures edge { window.new.edge ≡ window.old.edge }
     ensures window { Continues window.old window.new }
@@ -158,7 +166,7 @@ fn offer(at: &EndState, packet: &Packet<'_>, window: &mut Rebuild)
 
 /// The deadline a second on, or the old one.
 fn deadline_after(rises: bool, now: u64, deadline: u64) -> u64
-    requires { now < 2 ^ 32 * 1000000 }
+    requires { now < moment_limit }
     ensures { result ≡ (if rises then now + 1000000 else deadline) }
 {
     if rises { now + SECOND } else { deadline }

@@ -1,5 +1,6 @@
 //! The RST of an end that gives up.
-ghost use Rattle.std.specs.Prelude.{◌≡◌, ◌+◌, ◌-◌, ◌*◌, ◌%◌, ◌^◌, ◌<◌, ◌≤◌, ◌==◌, ◌&&◌, ◌||◌, if◌then◌else◌, true, [], ◌∷◌, None, Ok, OnErr, OnOk, ◌≤ℤ◌, ◌+ℤ◌};
+ghost use Rattle.std.specs.Prelude.{◌≡◌, ◌+◌, ◌-◌, ◌*◌, ◌%◌, ◌^◌, ◌<◌, ◌≤◌, ◌==◌, ◌&&◌, ◌||◌, if◌then◌else◌, true, [], ◌∷◌, None, Ok};
+ghost use Rattle.std.specs.Prelude.{OnErr, OnOk, ◌≤ℤ◌, ◌+ℤ◌};
 ghost use Rattle.cf_packet.specs.Packet.{packet_value};
 ghost use Rattle.cf_rebuild.specs.ReceiveWindow.{base_of};
 ghost use Rattle.cf_leg.specs.Calls.{CutOff, rst_of};
@@ -10,6 +11,8 @@ ghost use Rattle.cf_leg.specs.LegValue.{is_open};
 ghost use Rattle.cf_outside.specs.Desk.{DeskValue};
 ghost use Rattle.cf_outside.specs.Frames.{OnlyEmits};
 ghost use Rattle.std.specs.Result.{is_err};
+ghost use Rattle.cf_stream.specs.Sizes.{window_size};
+ghost use Rattle.cf_view.specs.Moment.{moment_limit};
 
 use super::Leg;
 use crate::ends::{Ends, Role};
@@ -21,9 +24,9 @@ use cf_view::WriteFault;
 
 impl Leg {
     fn send_rst<D: Desk>(&self, now: u64, queue: &Outq, desk: &mut D) -> Result<(), WriteFault>
-        requires base { base_of self.now.window ≤ 2 ^ 30 + 16384 }
+        requires base { base_of self.now.window ≤ 2 ^ 30 + window_size }
         requires whole { DeskValue.whole (D.value desk.old) ≡ true }
-        requires moment { now < 2 ^ 32 * 1000000 }
+        requires moment { now < moment_limit }
         ensures gets { GetsSegments (is_err result) now (rst_of self.now queue.now ∷ []) (D.value desk.old) (D.value desk.new) }
         ensures frame { OnlyEmits (D.value desk.old) (D.value desk.new) (is_err result) }
     {
@@ -57,9 +60,9 @@ impl Leg {
 
     /// Sends the RST of a cut. The leg is dropped then.
     pub fn cut<D: Desk>(&self, now: u64, queue: &Outq, desk: &mut D) -> Result<(), WriteFault>
-        requires base { base_of self.now.window ≤ 2 ^ 30 + 16384 }
+        requires base { base_of self.now.window ≤ 2 ^ 30 + window_size }
         requires whole { DeskValue.whole (D.value desk.old) ≡ true }
-        requires moment { now < 2 ^ 32 * 1000000 }
+        requires moment { now < moment_limit }
         ensures cut { CutOff now self.now queue.now (D.value desk.old) (D.value desk.new) (is_err result) }
         ensures frame { OnlyEmits (D.value desk.old) (D.value desk.new) (is_err result) }
     {

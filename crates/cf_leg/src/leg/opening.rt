@@ -1,5 +1,6 @@
 //! How an end opens: its SYN or SYN ACK, and the packet that opens it.
-ghost use Rattle.std.specs.Prelude.{◌≡◌, ◌+◌, ◌-◌, ◌*◌, ◌%◌, ◌^◌, ◌<◌, ◌≤◌, ◌==◌, min, max, not, ◌&&◌, ◌||◌, if◌then◌else◌, true, [], ◌∷◌, None, Some, Ok, OnErr, OnOk, ◌≤ℤ◌, ◌+ℤ◌};
+ghost use Rattle.std.specs.Prelude.{◌≡◌, ◌+◌, ◌-◌, ◌*◌, ◌%◌, ◌^◌, ◌<◌, ◌≤◌, ◌==◌, min, max, not, ◌&&◌, ◌||◌, if◌then◌else◌, true, [], ◌∷◌};
+ghost use Rattle.std.specs.Prelude.{None, Some, Ok, OnErr, OnOk, ◌≤ℤ◌, ◌+ℤ◌};
 ghost use Rattle.cf_outq.specs.SendQueue.{IsQueueOf};
 ghost use Rattle.cf_packet.specs.Packet.{packet_value};
 ghost use Rattle.cf_rebuild.specs.ReceiveWindow.{IsWindow};
@@ -11,6 +12,7 @@ ghost use Rattle.cf_leg.specs.LegValue.{IsLeg};
 ghost use Rattle.cf_outside.specs.Desk.{DeskValue};
 ghost use Rattle.cf_outside.specs.Frames.{OnlyEmits};
 ghost use Rattle.std.specs.Result.{is_err};
+ghost use Rattle.cf_view.specs.Moment.{moment_limit};
 
 use super::{Leg, SECOND};
 use crate::ends::{Phase, Role};
@@ -24,7 +26,7 @@ impl Leg {
     /// The SYN or the SYN ACK is about to go out.
     fn begin(&mut self, now: u64, number: u32)
         requires made { self.old.phase ≡ Phase.Made }
-        requires moment { now < 2 ^ 32 * 1000000 }
+        requires moment { now < moment_limit }
         ensures leg { IsLeg self.old }
         ensures window { IsWindow self.old.window }
         ensures new { self.new ≡ greeted_as self.old number now }
@@ -45,7 +47,7 @@ impl Leg {
         requires made { self.old.phase ≡ Phase.Made }
         requires number { IsOwn self.old.ends.role own_seq }
         requires whole { DeskValue.whole (D.value desk.old) ≡ true }
-        requires moment { now < 2 ^ 32 * 1000000 }
+        requires moment { now < moment_limit }
         ensures ends { self.new.ends ≡ self.old.ends }
         ensures number { self.new.own ≡ own_seq }
         ensures window { self.new.window ≡ window_by self.old.ends.role self.old.window }
@@ -59,7 +61,7 @@ impl Leg {
     /// Sends the SYN or the SYN ACK.
     pub(super) fn send_greeting<D: Desk>(&self, now: u64, desk: &mut D) -> Result<(), WriteFault>
         requires whole { DeskValue.whole (D.value desk.old) ≡ true }
-        requires moment { now < 2 ^ 32 * 1000000 }
+        requires moment { now < moment_limit }
         ensures gets { GetsSegments (is_err result) now (greeting_of self.now ∷ []) (D.value desk.old) (D.value desk.new) }
         ensures frame { OnlyEmits (D.value desk.old) (D.value desk.new) (is_err result) }
     {

@@ -1,7 +1,9 @@
 //! What an end says at the end of an event.
-ghost use Rattle.std.specs.Prelude.{◌≡◌, ◌+◌, ◌-◌, ◌*◌, ◌%◌, ◌^◌, ◌<◌, ◌≤◌, ◌==◌, not, ◌&&◌, ◌||◌, if◌then◌else◌, true, false, [], ◌∷◌, Ok, OnErr, OnOk, ◌≤ℤ◌, ◌+ℤ◌};
+ghost use Rattle.std.specs.Prelude.{◌≡◌, ◌+◌, ◌-◌, ◌*◌, ◌%◌, ◌^◌, ◌<◌, ◌≤◌, ◌==◌, not, ◌&&◌, ◌||◌, if◌then◌else◌, true, false, [], ◌∷◌, Ok};
+ghost use Rattle.std.specs.Prelude.{OnErr, OnOk, ◌≤ℤ◌, ◌+ℤ◌};
 ghost use Rattle.cf_outq.specs.SendQueue.{IsQueueOf};
 ghost use Rattle.cf_rebuild.specs.ReceiveWindow.{IsWindow, base_of};
+ghost use Rattle.cf_stream.specs.Sizes.{window_size};
 ghost use Rattle.cf_stream.specs.Stream.{Stream};
 ghost use Rattle.cf_leg.specs.Calls.{AddressBreaks, SpeakingBreaks, Widens, IsTold, Addressed, Spoken, is_due, rearmed};
 ghost use Rattle.cf_leg.specs.Emits.{differs, to_tell};
@@ -9,6 +11,7 @@ ghost use Rattle.cf_leg.specs.LegValue.{IsLeg, arms, is_open};
 ghost use Rattle.cf_outside.specs.Desk.{DeskValue};
 ghost use Rattle.cf_outside.specs.Frames.{OnlyEmits};
 ghost use Rattle.std.specs.Result.{is_err};
+ghost use Rattle.cf_view.specs.Moment.{moment_limit};
 
 use super::{Leg, SECOND};
 use crate::ends::Advertised;
@@ -23,7 +26,7 @@ impl Leg {
         requires is_open { is_open self.old.phase ≡ true }
         requires grows { self.old.window.edge ≤ told.edge }
         requires base { told.base ≡ base_of self.old.window }
-        requires near { told.edge ≤ told.base + 16384 }
+        requires near { told.edge ≤ told.base + window_size }
         requires room { told.edge ≤ self.old.window.consumed + 32768 }
         requires limit { told.edge ≤ 2 ^ 31 }
         ensures new { self.new ≡ record self.old { base = told.base; window = record self.old.window { edge = told.edge }; owes = false } }
@@ -41,13 +44,14 @@ impl Leg {
         queue: &mut Outq,
         desk: &mut D,
     ) -> Result<(), WriteFault>
-        requires base { base_of self.old.window ≤ 2 ^ 30 + 16384 }
-        requires room { roomy ≡ true → base_of self.old.window ≤ self.old.window.consumed + 16384 }
+        requires base { base_of self.old.window ≤ 2 ^ 30 + window_size }
+        requires room { roomy ≡ true → base_of self.old.window ≤ self.old.window.consumed + window_size }
         requires whole { DeskValue.whole (D.value desk.old) ≡ true }
-        requires moment { now < 2 ^ 32 * 1000000 }
+        requires moment { now < moment_limit }
         ensures bounds { IsLeg self.old }
         ensures window { IsWindow self.old.window }
-        ensures addressed { OnOk result (Addressed roomy now self.old self.new queue.old queue.new (DeskValue.packets (D.value desk.old)) (DeskValue.packets (D.value desk.new))) }
+        ensures addressed { OnOk result (Addressed roomy now self.old self.new queue.old queue.new (DeskValue.packets (D.value desk.old))
+            (DeskValue.packets (D.value desk.new))) }
         ensures stands { (whole : Stream) → IsQueueOf queue.old whole → IsQueueOf queue.new whole }
         ensures broken { OnErr result (AddressBreaks roomy now self.old queue.old (D.value desk.old) (D.value desk.new)) }
         ensures frame { OnlyEmits (D.value desk.old) (D.value desk.new) (is_err result) }
@@ -66,7 +70,7 @@ impl Leg {
 
     /// Starts the timer where something is unanswered and it did not run.
     fn rearm(&mut self, now: u64, queue: &Outq)
-        requires moment { now < 2 ^ 32 * 1000000 }
+        requires moment { now < moment_limit }
         ensures new { self.new ≡ rearmed self.old queue.now now }
     {
         let arms = self.arms(queue);
@@ -87,15 +91,16 @@ impl Leg {
         queue: &mut Outq,
         desk: &mut D,
     ) -> Result<(), WriteFault>
-        requires base { base_of self.old.window ≤ 2 ^ 30 + 16384 }
-        requires room { roomy ≡ true → base_of self.old.window ≤ self.old.window.consumed + 16384 }
+        requires base { base_of self.old.window ≤ 2 ^ 30 + window_size }
+        requires room { roomy ≡ true → base_of self.old.window ≤ self.old.window.consumed + window_size }
         requires whole { DeskValue.whole (D.value desk.old) ≡ true }
-        requires moment { now < 2 ^ 32 * 1000000 }
+        requires moment { now < moment_limit }
         ensures ends { OnOk result (self.new.ends ≡ self.old.ends) }
         ensures window { OnOk result (Widens roomy self.old.window self.new.window) }
         ensures queue { OnOk result (queue.new ≡ record queue.old { sent = queue.new.sent }) }
         ensures told { OnOk result (is_open self.old.phase ≡ true → IsTold roomy self.old.window self.new) }
-        ensures spoken { OnOk result (Spoken roomy now self.old self.new queue.old queue.new (DeskValue.packets (D.value desk.old)) (DeskValue.packets (D.value desk.new))) }
+        ensures spoken { OnOk result (Spoken roomy now self.old self.new queue.old queue.new (DeskValue.packets (D.value desk.old))
+            (DeskValue.packets (D.value desk.new))) }
         ensures stands { (whole : Stream) → IsQueueOf queue.old whole → IsQueueOf queue.new whole }
         ensures broken { OnErr result (SpeakingBreaks roomy now self.old queue.old (D.value desk.old) (D.value desk.new)) }
         ensures frame { OnlyEmits (D.value desk.old) (D.value desk.new) (is_err result) }

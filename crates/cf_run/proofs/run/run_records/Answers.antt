@@ -10,6 +10,7 @@ use Rattle.cf_run.specs.Trace.{Input, table_after}
 use Rattle.cf_run.proofs.Behind.{first_near, stands_cut, stands_end, stands_large, stands_late, stands_long, stands_refused}
 use Rattle.cf_run.proofs.Running.{breaks_off, nothing_so_far, one_so_far, runs_partly, runs_to, stopped, stops_between, told_on, too_late, whole_first}
 use Rattle.cf_run.proofs.run.run_records.Goals as goal
+use Rattle.cf_view.specs.Moment.{moment_limit}
 
 pub records-init : goal.records-init
 records-init g c = record {
@@ -106,7 +107,7 @@ returns-in_err-run_record-in-Whole-clause-runs g c =
     let next : ReaderValue = c.next.new.self in
     let moment = c.max-moment.result in
     let given : Input = record { moment = moment; packet = read_record next.link next.body } in
-    let early : moment < 2 ^ 32 * 1000000 = omega (arith, c.if-moment-ge-MOMENT_LIMIT.false) in
+    let early : moment < moment_limit = omega (arith, c.if-moment-ge-MOMENT_LIMIT.false) in
     let whole : are_whole names.out names.log files ≡ true = subst (λ (f : List ℕ → Content). are_whole names.out names.log f ≡ true) (sym read.same) before.whole in
     told_on assets limit names first after fault c.from_residual.result c.from_residual.ensures.1
     (stopped assets limit names first after fault
