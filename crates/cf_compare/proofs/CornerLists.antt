@@ -29,8 +29,6 @@ use Rattle.cf_compare.specs.Cells.{lowest, axis_spans, stated_spans, turns, is_o
 use Rattle.cf_compare.specs.Corners.{AreCorners, AreAllCorners}
 use Rattle.cf_compare.specs.declared.corners.Corners.{Corners}
 
-module _ {X : Type 0} (p : ℤ → Bool) (f : X → List ℤ) where
-
 flat_map-flat_map : {A B C : Type 0} (g : B → List C) (f : A → List B) (xs : List A) → flat_map g (flat_map f xs) ≡ flat_map (λ x. flat_map g (f x)) xs
 flat_map-flat_map g f [] = refl
 flat_map-flat_map g f (x ∷ xs) = flat_map-append g (f x) (flat_map f xs) ∙ ap (λ l. flat_map g (f x) ++ l) (flat_map-flat_map g f xs)
