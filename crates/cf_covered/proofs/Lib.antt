@@ -1,4 +1,5 @@
 mod Commands
+mod Inclusion
 mod LowCodes
 mod RegionActs
 mod SpanLists

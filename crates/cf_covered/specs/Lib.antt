@@ -1,3 +1,4 @@
 pub mod Common
 pub mod Covered
+pub mod Including
 pub mod Regions

@@ -1,10 +1,12 @@
-//! Whether the rules before a rule decide all that it has: every act that a command can have and that is the rule's. Beside it the
-//! points that such acts have, an end of a rule's codes, and numbers of rules that are likely slips.
+//! Whether the rules before a rule decide all that it has: every act that a command can have and that is the rule's; and whether one
+//! of them does by its lists alone. Beside it the points that such acts have, an end of a rule's codes, and numbers of rules that are
+//! likely slips.
 #![tactic(auto)]
 
 mod answer;
 mod codes;
 mod common;
+mod including;
 mod points;
 mod regions;
 mod search;
@@ -14,5 +16,6 @@ mod spans;
 pub use answer::{Cover, cover_of};
 pub use codes::code_end;
 pub use common::have_common;
+pub use including::covering;
 pub use points::highest_point;
 pub use slips::{Slip, likely_slip};

@@ -1,5 +1,4 @@
 mod Codes
-mod Inclusion
 mod Reach
 mod ReadsHad
 mod SomeRead

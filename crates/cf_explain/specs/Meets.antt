@@ -1,6 +1,6 @@
 -- Beside the proof: whether the lists of a rule have a number of a kind of acts each: `meets`. Warnings go by it.
-use Rattle.std.specs.Prelude.{int_le, Bool, not, ◌&&◌, ◌||◌, List, Option, Some, None}
-use Rattle.std.specs.List.{list_any, list_all}
+use Rattle.std.specs.Prelude.{int_le, Bool, ◌&&◌, ◌||◌, List, Option, Some, None}
+use Rattle.std.specs.List.{list_any}
 use Rattle.cf_policy.specs.declared.policy.Span.{Span}
 use Rattle.cf_policy.specs.declared.policy.Rule.{Rule}
 use Rattle.cf_policy.specs.Verdict.{is_empty}
@@ -30,21 +30,3 @@ reaches_values spans (Some s) = reaches spans s
 -- each list of the rule but those of clients and codes has a number of the kind
 abbrev pub meets : Rule → Kind → Bool
 meets r k = reaches_groups r.groups k.groups && (reaches r.points k.points && reaches_values r.values k.values)
-
--- all numbers of the second span are in the first
-abbrev pub is_inside : Span → Span → Bool
-is_inside outer inner = int_le outer.low inner.low && int_le inner.high outer.high
-
--- they are in one of the spans
-abbrev pub is_inside_some : List Span → Span → Bool
-is_inside_some outers inner = list_any (λ o. is_inside o inner) outers
-
--- a list that is not stated has every number; else the other one is stated, and each of its spans is inside one of this list
-abbrev pub includes : List Span → List Span → Bool
-includes outers inners = is_empty outers || (not (is_empty inners) && list_all (is_inside_some outers) inners)
-
--- each list of the first rule includes that of the second
-abbrev pub includes_rule : Rule → Rule → Bool
-includes_rule a b =
-    includes a.clients b.clients && (includes a.codes b.codes
-    && (includes a.groups b.groups && (includes a.points b.points && includes a.values b.values)))

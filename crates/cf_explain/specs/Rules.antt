@@ -1,16 +1,17 @@
 -- Beside the proof: rules that decide nothing, or less than they seem to: what a finding says of a rule is `Holds`. Warnings go by it.
-use Rattle.std.specs.Prelude.{◌≡◌, ◌≢◌, ℕ, ◌<◌, false, List, [], ◌∷◌, Option, Some, None, pos, take, position, true}
+use Rattle.std.specs.Prelude.{◌≡◌, ℕ, ◌<◌, false, List, [], ◌∷◌, Option, Some, None, pos, true}
 use Rattle.std.specs.List.{list_any}
 use Rattle.cf_view.specs.declared.base.Act.{Act}
 use Rattle.cf_policy.specs.declared.policy.Protocol.{Protocol}
 use Rattle.cf_policy.specs.declared.policy.Rule.{Rule}
 use Rattle.cf_policy.specs.declared.policy.Asset.{Asset}
-use Rattle.cf_policy.specs.Verdict.{takes, has_act, first_number}
+use Rattle.cf_policy.specs.Verdict.{takes, has_act}
 use Rattle.cf_explain.specs.declared.found.What.{What}
 use Rattle.cf_explain.specs.declared.found.What.TheVariants as what
 use Rattle.cf_acts.specs.Acts.{kinds}
 use Rattle.cf_acts.specs.Commands.{IsOfCommand}
-use Rattle.cf_explain.specs.Meets.{meets, includes_rule}
+use Rattle.cf_covered.specs.Including.{NeverDecides, first_including}
+use Rattle.cf_explain.specs.Meets.{meets}
 use Rattle.cf_explain.specs.Reads.{HasReads, NamesReads}
 
 -- no act with this code that a command of the protocol has is the rule's
@@ -25,10 +26,6 @@ NeverMeets protocol rule = (client : ℕ) (act : Act) → IsOfCommand protocol a
 -- the rule has no act without a value
 abbrev pub WantsValue : Rule → Type 0
 WantsValue rule = (client : ℕ) (act : Act) → act.value ≡ None → has_act rule client act ≡ false
-
--- no act is decided by the rule of this number
-abbrev pub NeverDecides : List Rule → ℕ → Type 0
-NeverDecides rules number = (client : ℕ) (act : Act) → first_number rules client act ≢ Some number
 
 -- what is found of the rule holds
 abbrev pub Holds : Asset → ℕ → Rule → What → Type 0
@@ -46,10 +43,6 @@ listed (Some found) = found ∷ []
 abbrev pub IsMet : Protocol → Rule → Type 0
 IsMet protocol rule =
     (code : ℕ) → code < 256 → takes rule.codes (pos code) ≡ true → list_any (meets rule) (kinds protocol code) ≡ true
-
--- the first rule before that of a number which includes this rule
-abbrev pub first_including : List Rule → ℕ → Rule → Option ℕ
-first_including rules number rule = position (λ r. includes_rule r rule) (take number rules)
 
 -- there is nothing to find: each code is met, the rule has the reads of function 23 that it names, and no earlier rule includes the rule
 abbrev pub IsSound : Asset → ℕ → Rule → Type 0

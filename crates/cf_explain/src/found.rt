@@ -9,11 +9,11 @@ ghost use Rattle.cf_acts.specs.Acts.{kinds};
 ghost use Rattle.cf_explain.specs.Meets.{meets};
 ghost use Rattle.cf_policy.specs.Within.{IsRuleWithin};
 ghost use Rattle.cf_explain.specs.Reads.{HasReads, HasSomeRead, NamesReads};
-ghost use Rattle.cf_explain.specs.Rules.{Holds, IsMet, IsSound, NeverHas, NeverMeets, WantsValue, first_including, listed};
+ghost use Rattle.cf_covered.specs.Including.{first_including};
+ghost use Rattle.cf_explain.specs.Rules.{Holds, IsMet, IsSound, NeverHas, NeverMeets, WantsValue, listed};
 
-use crate::covered::covering;
 use crate::unmet::{Unmet, why_unmet};
-use cf_covered::code_end;
+use cf_covered::{code_end, covering};
 use cf_policy::{Asset, Protocol, Rule, takes};
 use std::alloc::{AllocError, Global};
 

@@ -7,7 +7,6 @@ mod allowed;
 mod block;
 mod capture;
 mod code_names;
-mod covered;
 mod difference;
 mod entries;
 mod found;
@@ -28,7 +27,6 @@ mod words;
 mod wrong;
 
 pub use capture::capture_message;
-pub use covered::covering;
 pub use difference::{PolicyFile, inclusion_message};
 pub use found::{What, findings, sound_rules_have_reads};
 pub use outputs::{asset_message, outputs_message};

@@ -1,7 +1,7 @@
 use Rattle.std.proofs.Common.{◌∙◌, ap, refl, sym}
 use Rattle.std.specs.Prelude.{Bool, false, true, ◌&&◌, ◌≡◌}
-use Rattle.cf_explain.specs.Meets.{includes}
-use Rattle.cf_explain.proofs.covered.includes_rule.Goals as goal
+use Rattle.cf_covered.specs.Including.{includes}
+use Rattle.cf_covered.proofs.including.includes_rule.Goals as goal
 
 fourth_false : (a b c d : Bool) → false ≡ (a && (b && (c && (false && d))))
 fourth_false false b c d = refl

@@ -1,9 +1,8 @@
-//! Rules that an earlier rule covers.
+//! Rules that one earlier rule covers by its lists.
 ghost use Rattle.std.specs.Prelude.{◌≡◌, ◌<◌, IfSome, Some, length, position, slice_get};
 ghost use Rattle.cf_policy.specs.declared.policy.Rule.{Rule};
 ghost use Rattle.std.specs.List.{list_all, list_any};
-ghost use Rattle.cf_explain.specs.Meets.{includes, includes_rule, is_inside, is_inside_some};
-ghost use Rattle.cf_explain.specs.Rules.{NeverDecides, first_including};
+ghost use Rattle.cf_covered.specs.Including.{NeverDecides, first_including, includes, includes_rule, is_inside, is_inside_some};
 
 use cf_policy::{Items, Rule, Span};
 

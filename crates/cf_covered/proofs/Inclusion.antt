@@ -12,8 +12,7 @@ use Rattle.cf_policy.specs.Verdict.{covers, takes, takes_value, has_act}
 use Rattle.std.proofs.lemmas.List.{get_or-take}
 use Rattle.std.proofs.lemmas.Option.{slice_get-get_or, get_or_from_slice_get}
 use Rattle.cf_policy.proofs.FirstPlace.{first_at, within_of}
-use Rattle.cf_explain.specs.Meets.{is_inside, is_inside_some, includes, includes_rule}
-use Rattle.cf_explain.specs.Rules.{NeverDecides}
+use Rattle.cf_covered.specs.Including.{NeverDecides, includes, includes_rule, is_inside, is_inside_some}
 
 in_outer : (o i : Span) (n : ℤ) → is_inside o i ≡ true → covers i n ≡ true → covers o n ≡ true
 in_outer o i n a b =
