@@ -7,6 +7,7 @@ use Rattle.cf_view.proofs.OctetLists.{IsOctets-take, IsOctets-append}
 use Rattle.cf_view.specs.Octets.{IsOctets}
 use Rattle.cf_view.specs.Framing.{Begins, IsPartial, IsFront, BreaksAt, HasFront, IsPrefixFree}
 use Rattle.cf_view.specs.Places.{EachFollows, IsUnit, SpellsBy}
+use Rattle.std.proofs.lemmas.Grind.{common_steps}
 
 -- the size is told by any front that is as long, and by any front that is as long as it tells
 pub record IsTold (size : List ℕ → ℕ) : Type 0 where
@@ -27,23 +28,14 @@ module _ (follows : List ℕ → ℕ → Bool) (size : List ℕ → ℕ) (told :
   -- of two units that begin the same octets, the one that is not longer is the other
   no_longer : (a b x y : List ℕ) → IsUnit follows size a → IsUnit follows size b → a ++ x ≡ b ++ y → length a ≤ length b → a ≡ b
   no_longer a b x y s t e h =
-      let front : a ≡ take (length a) b = sym (take-append_seam a x) ∙ ap (take (length a)) e ∙ take-append-le (length a) b y h in
-      let whole : b ≡ a ++ drop (length a) b = sym (take-append-drop (length a) b) ∙ ap (λ (xs : List ℕ). xs ++ drop (length a) b) (sym front) in
-      let same : size b ≡ size a = ap size whole ∙ told.by_front a (drop (length a) b) (omega (arith, s.whole)) in
-      let all : take (length a) b ≡ b = take_all (length a) b (omega (arith, s.whole, t.whole, same)) in
-      front ∙ all
+      grind (arith, common_steps, take-append_seam a x, take-append-le (length a) b y h, take-append-drop (length a) b, take_all)
 
   one_unit : (a b x y : List ℕ) → IsUnit follows size a → IsUnit follows size b → a ++ x ≡ b ++ y → a ≡ b
-  one_unit a b x y s t e =
-      elim (cases_lt (length a) (length b)) [
-        | inl h ↦ no_longer a b x y s t e (omega arith)
-        | inr h ↦ sym (no_longer b a y x t s (sym e) h)
-      ]
+  one_unit a b x y s t e = grind (arith, common_steps, cases_lt, no_longer)
 
   -- the first octets of a longer list are as right as they are
   right_front : (xs : List ℕ) (n p : ℕ) → EachFollows follows xs n → p < n → follows (take p (take n xs)) (get_or (take n xs) p 0) ≡ true
-  right_front xs n p r h =
-      rw (take-take p n xs (omega arith), get_or-take n xs p 0 h) (r p h)
+  right_front xs n p r h = grind (arith, common_steps, take-take, get_or-take)
 
   unit_front : (xs : List ℕ) → IsOctets xs → size xs ≤ length xs → EachFollows follows xs (size xs) → IsUnit follows size (take (size xs) xs)
   unit_front xs o h r =
@@ -109,9 +101,7 @@ module _ (follows : List ℕ → ℕ → Bool) (size : List ℕ → ℕ) (told :
     begins xs o h r = record { inside = h; spells = record { unit = unit_front xs o h r; fields = refl } }
 
     pub prefix_free : IsPrefixFree (SpellsBy follows size of)
-    prefix_free u v a b x y s t e =
-        let same = one_unit a b x y s.unit t.unit e in
-        (s.fields ∙ ap of same ∙ sym t.fields, same)
+    prefix_free u v a b x y s t e = grind (arith, common_steps, one_unit)
 
 -- the first of n octets that may not follow those before it, or none
 first_wrong : (follows : List ℕ → ℕ → Bool) (xs : List ℕ) (n : ℕ) → EachFollows follows xs n ⊎ ((p : ℕ) × (p < n) × EachFollows follows xs p × (follows (take p xs) (get_or xs p 0) ≡ false))

@@ -1,19 +1,18 @@
 -- Laws of the units of a whole stream, for every grammar.
-use Rattle.std.proofs.Common.{◌≡◌, ℕ, zero, suc, ◌≤◌, inl, inr, List, [], ◌∷◌, ◌++◌, length, drop, refl, sym, ap, ◌∙◌, subst, arith}
+use Rattle.std.proofs.Common.{◌≡◌, ℕ, zero, suc, ◌<◌, inl, inr, List, [], ◌∷◌, ◌++◌, length, drop, refl, sym, ◌∙◌, subst, arith}
 use Rattle.cf_view.specs.Framing.{Begins, IsPartial, BreaksAt, HasFront, IsPrefixFree}
 use Rattle.cf_view.specs.Units.{BeginsWithUnits, IsUnitsThenRest, IsUnitsThenBreak, HasUnits}
 use Rattle.cf_view.specs.Octets.{IsOctets}
 use Rattle.cf_view.proofs.OctetLists.{IsOctets-drop}
 use Rattle.std.proofs.lemmas.List.{length-drop}
 use Rattle.cf_view.proofs.Framing.{one_unit, unit_not_partial, unit_not_broken, partial_not_broken, one_break}
+use Rattle.std.proofs.lemmas.Grind.{common_steps}
 
 module _ {U : Type 0} (Spells : U → List ℕ → Type 0) where
   -- units and then a unit of the rest are the units one further
   pub begins_with_more : (us : List U) (u : U) (stream rest : List ℕ) (n : ℕ) → BeginsWithUnits Spells us stream rest → Begins Spells rest u n →
       BeginsWithUnits Spells (us ++ u ∷ []) stream (drop n rest)
-  begins_with_more [] u stream rest n starts begins =
-      let P : List ℕ → Type 0 = λ xs. Begins Spells xs u n in
-      (n, subst P (sym starts) begins, ap (λ xs. drop n xs) starts)
+  begins_with_more [] u stream rest n starts begins = grind (arith, common_steps)
   begins_with_more (v ∷ vs) u stream rest n starts begins =
       (starts.0, starts.1, begins_with_more vs u (drop starts.0 stream) rest n starts.2 begins)
 
@@ -22,12 +21,8 @@ module _ {U : Type 0} (Spells : U → List ℕ → Type 0) (free : IsPrefixFree 
   same_units : (us vs : List U) (stream r t : List ℕ) → BeginsWithUnits Spells us stream r → BeginsWithUnits Spells vs stream t →
       ((u : U) (n : ℕ) → Begins Spells r u n → ⊥) → ((u : U) (n : ℕ) → Begins Spells t u n → ⊥) → (us ≡ vs) × (r ≡ t)
   same_units [] [] stream r t a b no_more none = (refl, sym a ∙ b)
-  same_units [] (v ∷ vs) stream r t a b no_more none =
-      let P : List ℕ → Type 0 = λ xs. Begins Spells xs v b.0 in
-      absurd (no_more v b.0 (subst P a b.1))
-  same_units (u ∷ us) [] stream r t a b no_more none =
-      let P : List ℕ → Type 0 = λ xs. Begins Spells xs u a.0 in
-      absurd (none u a.0 (subst P b a.1))
+  same_units [] (v ∷ vs) stream r t a b no_more none = grind (arith, common_steps)
+  same_units (u ∷ us) [] stream r t a b no_more none = grind (arith, common_steps)
   same_units (u ∷ us) (v ∷ vs) stream r t a b no_more none =
       let here = one_unit Spells free stream u v a.0 b.0 a.1 b.1 in
       let P : ℕ → Type 0 = λ n. BeginsWithUnits Spells vs (drop n stream) t in
@@ -68,13 +63,8 @@ module _ {U : Type 0} (Spells : U → List ℕ → Type 0) where
       ]
 
   -- where each list of octets has a front, each has units
-  units_within : ((xs : List ℕ) → IsOctets xs → HasFront Spells xs) → (fuel : ℕ) (stream : List ℕ) → length stream ≤ fuel → IsOctets stream → HasUnits Spells stream
-  units_within front zero stream l o =
-      elim (front stream o) [
-        | inl v ↦ (let b = v.2 in let some = v.3 in absurd (omega (arith, b.inside, some, l)))
-        | inr (inl p) ↦ ([], inl (stream, record { starts = refl; partial = p }))
-        | inr (inr b) ↦ ([], inr (b.0, record { rest = stream; starts = refl; breaks = b.1 }))
-      ]
+  units_within : ((xs : List ℕ) → IsOctets xs → HasFront Spells xs) → (fuel : ℕ) (stream : List ℕ) → length stream < fuel → IsOctets stream → HasUnits Spells stream
+  units_within front zero stream l o = absurd (omega (arith, l))
   units_within front (suc fuel) stream l o =
       elim (front stream o) [
         | inl v ↦ (let b = v.2 in let some = v.3 in
@@ -84,4 +74,4 @@ module _ {U : Type 0} (Spells : U → List ℕ → Type 0) where
       ]
 
   pub units_exist : ((xs : List ℕ) → IsOctets xs → HasFront Spells xs) → (stream : List ℕ) → IsOctets stream → HasUnits Spells stream
-  units_exist front stream o = units_within front (length stream) stream (omega arith) o
+  units_exist front stream o = units_within front (suc (length stream)) stream (omega arith) o
