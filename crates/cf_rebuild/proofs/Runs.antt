@@ -9,6 +9,7 @@ use Rattle.cf_stream.specs.Stream.{Stream, letter_count}
 use Rattle.cf_rebuild.specs.ReceiveWindow.{Window, IsWindow, IsWindowOf, base_of}
 use Rattle.cf_rebuild.specs.WindowCalls.{WindowCall, Offered, Consumed, Opened, IsWindowRun, edge_by, consumed_by, offers_by}
 use Rattle.cf_rebuild.proofs.Windows.{new_is_window, new_stands, window_after, stands_after, window_consumed, stands_consumed, window_opened, stands_opened}
+use Rattle.std.proofs.lemmas.Grind.{common_steps}
 
 run_is_window : (calls : List WindowCall) (w : Window) → IsWindowRun calls w → IsWindow w
 run_is_window [] w r = new_is_window w r
@@ -35,10 +36,7 @@ consumed_run (Opened edge ∷ earlier) w r = rw r.2.4 (consumed_run earlier r.0 
 
 pub stands_run : (calls : List WindowCall) (w : Window) → IsWindowRun calls w → IsWindowOf w (offers_by calls)
 stands_run [] w r = new_stands w r
-stands_run (Offered at text ∷ earlier) w r =
-    let s = stands_after r.0 w _ (run_is_window earlier r.0 r.1) r.2 refl (offers_by earlier) (stands_run earlier r.0 r.1) in
-    let e = edge_run earlier r.0 r.1 in
-    rw e at s
+stands_run (Offered at text ∷ earlier) w r = grind (arith, common_steps, stands_run earlier r.0 r.1, stands_after, run_is_window, edge_run)
 stands_run (Consumed n ∷ earlier) w r = stands_consumed r.0 w n r.2.0 r.2.1 (offers_by earlier) (stands_run earlier r.0 r.1)
 stands_run (Opened edge ∷ earlier) w r = rw r.2.4 (stands_opened r.0 (place_or_zero edge) (offers_by earlier) (stands_run earlier r.0 r.1))
 
@@ -50,10 +48,7 @@ module _ (calls : List WindowCall) (w : Window) (s : Stream) (r : IsWindowRun ca
   same = same_taken (first_copy (offers_by calls)) h.taken s h.is_taken t
 
   pub base_run : base_of w ≡ letter_count s
-  base_run =
-      ap (λ (n : ℕ). n + (if w.ended then 1 else 0)) h.count
-      ∙ ap (λ (b : Bool). length h.taken.bytes + (if b then 1 else 0)) h.ended
-      ∙ ap letter_count same
+  base_run = grind (arith, common_steps, same)
 
   pub pending_run : w.pending ≡ drop (consumed_by calls) s.bytes
   pending_run = h.pending ∙ ap (λ (n : ℕ). drop n h.taken.bytes) (consumed_run calls w r) ∙ ap (λ (x : Stream). drop (consumed_by calls) x.bytes) same

@@ -9,33 +9,17 @@ use Rattle.cf_stream.specs.FirstCopy.{Offer, offered}
 use Rattle.cf_stream.specs.Stream.{Stream, Letter, Byte, End, letter_at, letter_from, Extends}
 use Rattle.cf_rebuild.specs.ReceiveWindow.{Window, IsWindow, TakesIn, Consumes, IsWindowOf, filled, bytes_taken, unread}
 use Rattle.cf_rebuild.proofs.Windows.{filled_past, window_after, stands_after, unread_grows, window_consumed, stands_consumed}
+use Rattle.std.proofs.lemmas.Grind.{common_steps}
 
 -- the letters of a text, counted from a place on
 letter_from_shift : (y z : ℤ) (s : Stream) (n k : ℕ) → y +ℤ pos n ≡ z → letter_from y s k ≡ letter_from z s (n + k)
-letter_from_shift (pos a) (pos b) s n k e =
-    let sum : a + n ≡ b = omega (arith, ints, e) in
-    let place : k - a ≡ (n + k) - b = omega arith in
-    elim (cases_lt k a) [
-      | inl v ↦ (let below : n + k < b = omega arith in rw (lt-ltb k a v, lt-ltb (n + k) b below))
-      | inr v ↦ (let past : b ≤ n + k = omega arith in rw (le-ltb k a v, le-ltb (n + k) b past) (ap (letter_at s) place))
-    ]
-letter_from_shift (negsuc a) (pos b) s n k e =
-    let sum : n ≡ b + suc a = omega (arith, ints, e) in
-    let past : b ≤ n + k = omega arith in
-    let place : k + suc a ≡ (n + k) - b = omega arith in
-    rw (le-ltb (n + k) b past) (ap (letter_at s) place)
-letter_from_shift (negsuc a) (negsuc b) s n k e =
-    let place : k + suc a ≡ (n + k) + suc b = omega (arith, ints, e) in
-    ap (letter_at s) place
+letter_from_shift (pos a) (pos b) s n k e = grind (arith, ints, common_steps, cases_lt, lt-ltb, le-ltb)
+letter_from_shift (negsuc a) (pos b) s n k e = grind (arith, ints, common_steps, le-ltb)
+letter_from_shift (negsuc a) (negsuc b) s n k e = grind (arith, ints, common_steps)
 letter_from_shift (pos a) (negsuc b) s n k e = absurd (omega (arith, ints, e))
 
 offered_shift : (y z : ℤ) (s : Stream) (n edge k : ℕ) → y +ℤ pos n ≡ z → n ≤ edge → offered (record { at = y; text = s; edge = edge - n }) k ≡ offered (record { at = z; text = s; edge = edge }) (n + k)
-offered_shift y z s n edge k e l =
-    let rest = letter_from_shift y z s n k e in
-    elim (cases_lt k (edge - n)) [
-      | inl v ↦ (let below : n + k < edge = omega arith in rw (lt-ltb k (edge - n) v, lt-ltb (n + k) edge below) rest)
-      | inr v ↦ (let past : edge ≤ n + k = omega arith in rw (le-ltb k (edge - n) v, le-ltb (n + k) edge past))
-    ]
+offered_shift y z s n edge k e l = grind (arith, common_steps, letter_from_shift, cases_lt, lt-ltb, le-ltb)
 
 -- the window of these bytes, of which the first `ready` were taken, and of what is kept after them
 abbrev pub seen : List ℕ → List (Option Letter) → ℕ → ℕ → ℕ → Bool → Window
@@ -100,18 +84,10 @@ module _ (at at' : ℕ → Option Letter) (bs bs' : List ℕ) (ahead ahead' : Li
   to_gap = omega (arith, length-more, range.0)
 
   byte_more : (k : ℕ) → k < length more → filled was o k ≡ Some (Byte (get_or more k 0))
-  byte_more k l =
-      let within : k < gap - ready = omega (arith, length-more) in
-      filled-cell k
-      ∙ taken (ready + k) (omega arith) (omega arith)
-      ∙ ap (λ (x : ℕ). Some (Byte x)) (sym (get_or-take (gap - ready) (drop ready bs') k 0 within ∙ get_or-drop ready bs' k 0))
+  byte_more k l = grind (arith, common_steps, length-more, filled-cell, get_or-take, get_or-drop)
 
   nothing_at_gap : ended' ≡ false → filled was o (length more) ≡ None
-  nothing_at_gap e =
-      elim (cases_lt gap (edge - consumed)) [
-        | inl v ↦ filled_at (length more) gap to_gap ∙ at_gap e v
-        | inr v ↦ filled_past was o old refl (length more) (omega (arith, taken_before, to_gap))
-      ]
+  nothing_at_gap e = grind (arith, common_steps, cases_lt, filled_at, to_gap, filled_past, taken_before)
 
   takes_in : TakesIn was o is
   takes_in = record {
