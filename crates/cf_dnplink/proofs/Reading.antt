@@ -9,10 +9,11 @@ use Rattle.cf_view.specs.Octets.{u16_le_octets, u16_le_at}
 use Rattle.cf_dnplink.specs.Crc.{crc_of}
 use Rattle.cf_view.specs.Places.{EachFollows, IsUnit}
 use Rattle.cf_dnplink.specs.LinkFrame.{FrameValue, with_crc, blocks_by, blocks_of, spelling}
-use Rattle.cf_dnplink.specs.FramePlaces.{frame_size, size_of, block_start, block_end, crc_octet, checks, follows, SpellsByPlaces}
+use Rattle.cf_dnplink.specs.FramePlaces.{frame_size, size_of, block_start, block_end, crc_octet, follows, SpellsByPlaces}
 use Rattle.cf_dnplink.specs.UserOctets.{user_by, user_of}
 use Rattle.cf_dnplink.proofs.FramePlaces.{follows_front, size_long, size_least}
 use Rattle.cf_dnplink.proofs.Writing.{start_is, end_is, length-with_crc, length-blocks_by}
+use Rattle.std.proofs.lemmas.Grind.{common_steps}
 
 same_number : (a b : ℕ) → (a == b) ≡ true → a ≡ b
 same_number a b h = grind (arith, nat_tests)
@@ -20,13 +21,7 @@ same_number a b h = grind (arith, nat_tests)
 -- what a place past the data of a block holds
 module _ (len : ℕ) (xs : List ℕ) (told : get_or xs 2 0 ≡ len) (right : EachFollows follows xs (length xs)) where
   crc_there : (p s e : ℕ) → 2 < p → p < length xs → block_start p ≡ s → block_end len p ≡ e → e ≤ p → get_or xs p 0 ≡ crc_octet (crc_of (slice_range xs s e)) (p - e)
-  crc_there p s e l h start end past =
-      let checked : checks len xs p (get_or xs p 0) ≡ true = ap (λ (n : ℕ). checks n xs p (get_or xs p 0)) (sym told) ∙ sym (follows_front xs p (get_or xs p 0) l (omega arith)) ∙ right p h in
-      let after : block_end len p ≤ p = omega (arith, end) in
-      let test = rw (le-ltb p (block_end len p) after) at checked in
-      same_number _ _ test
-      ∙ ap (λ (m : ℕ). crc_octet (crc_of (slice_range xs m (block_end len p))) (p - block_end len p)) start
-      ∙ ap (λ (m : ℕ). crc_octet (crc_of (slice_range xs s m)) (p - m)) end
+  crc_there p s e l h start end past = grind (arith, nat_tests, common_steps, follows_front, le-ltb, same_number)
 
   -- the octets from block k on begin with its data and their CRC
   block : (k m : ℕ) → m ≡ min 16 (len - 5 - 16 * k) → 0 < m → 10 + 18 * k + (m + 2) ≤ length xs → drop (10 + 18 * k) xs ≡ with_crc (take m (drop (10 + 18 * k) xs)) ++ drop (10 + 18 * k + (m + 2)) xs
@@ -104,28 +99,13 @@ at_least_5 : (o : ℕ) → nat_le 5 o ≡ true → 5 ≤ o
 at_least_5 o h = grind (arith, nat_tests)
 
 ten : (xs : List ℕ) → 10 ≤ length xs → xs ≡ get_or xs 0 0 ∷ get_or xs 1 0 ∷ get_or xs 2 0 ∷ get_or xs 3 0 ∷ get_or xs 4 0 ∷ get_or xs 5 0 ∷ get_or xs 6 0 ∷ get_or xs 7 0 ∷ get_or xs 8 0 ∷ get_or xs 9 0 ∷ drop 10 xs
-ten (a ∷ b ∷ c ∷ d ∷ e ∷ f ∷ g ∷ h ∷ i ∷ j ∷ xs) l = refl
-ten [] l = absurd (omega arith)
-ten (a ∷ []) l = absurd (omega arith)
-ten (a ∷ b ∷ []) l = absurd (omega arith)
-ten (a ∷ b ∷ c ∷ []) l = absurd (omega arith)
-ten (a ∷ b ∷ c ∷ d ∷ []) l = absurd (omega arith)
-ten (a ∷ b ∷ c ∷ d ∷ e ∷ []) l = absurd (omega arith)
-ten (a ∷ b ∷ c ∷ d ∷ e ∷ f ∷ []) l = absurd (omega arith)
-ten (a ∷ b ∷ c ∷ d ∷ e ∷ f ∷ g ∷ []) l = absurd (omega arith)
-ten (a ∷ b ∷ c ∷ d ∷ e ∷ f ∷ g ∷ h ∷ []) l = absurd (omega arith)
-ten (a ∷ b ∷ c ∷ d ∷ e ∷ f ∷ g ∷ h ∷ i ∷ []) l = absurd (omega arith)
+ten xs h1 = grind (arith, nat_tests, common_steps)
 
 two_there : (xs : List ℕ) (o : ℕ) → 2 ≤ length xs → follows (take 1 xs) o ≡ true → (o == 0x64) ≡ true
-two_there (a ∷ b ∷ xs) o l h = h
-two_there [] o l h = absurd (omega arith)
-two_there (a ∷ []) o l h = absurd (omega arith)
+two_there xs o h1 h2 = grind (arith, nat_tests, common_steps)
 
 third_there : (xs : List ℕ) (o : ℕ) → 3 ≤ length xs → follows (take 2 xs) o ≡ true → 5 ≤ o
-third_there (a ∷ b ∷ c ∷ xs) o l h = at_least_5 o h
-third_there [] o l h = absurd (omega arith)
-third_there (a ∷ []) o l h = absurd (omega arith)
-third_there (a ∷ b ∷ []) o l h = absurd (omega arith)
+third_there xs o h1 h2 = grind (arith, nat_tests, common_steps, at_least_5)
 
 module _ (xs : List ℕ) (u : IsUnit follows size_of xs) where
   at_least : 10 ≤ length xs
@@ -147,11 +127,7 @@ module _ (xs : List ℕ) (u : IsUnit follows size_of xs) where
   size_is = u.whole ∙ size_long xs (omega (arith, at_least))
 
   user_count : length (user_of (drop 10 xs)) ≡ get_or xs 2 0 - 5
-  user_count =
-      let lu = get_or xs 2 0 - 5 in
-      let long : length (drop 10 xs) ≡ lu + 2 * ((lu + 15) / 16) = omega (arith, length-drop 10 xs, size_is) in
-      let n : (length (drop 10 xs) + 17) / 18 ≡ (lu + 15) / 16 = omega (arith, long) in
-      ap (λ (i : ℕ). length (user_by i (drop 10 xs))) n ∙ length-user_by ((lu + 15) / 16) lu (drop 10 xs) refl long
+  user_count = grind (arith, common_steps, length-drop, size_is, length-user_by)
 
   blocks_are : blocks_of (user_of (drop 10 xs)) ≡ drop 10 xs
   blocks_are =
@@ -180,9 +156,7 @@ module _ (xs : List ℕ) (u : IsUnit follows size_of xs) where
 
   eight_is : take 8 xs ≡ eight
   unfolding eight
-  eight_is =
-      ap (take 8) (ten xs at_least
-      ∙ same_ten _ _ _ _ _ _ _ (get_or xs 8 0) (get_or xs 9 0) _ _ _ _ _ _ _ (get_or xs 8 0) (get_or xs 9 0) (get_or xs 3 0) (drop 10 xs) (drop 10 xs) first_is second_is len_is (low_is 4) (high_is 4) (low_is 6) (high_is 6) refl refl refl)
+  eight_is = grind (arith, common_steps, ten, at_least, same_ten, first_is, second_is, len_is, low_is, high_is)
 
   crc_low : get_or xs 8 0 ≡ crc_of eight % 256
   crc_low = crc_there (get_or xs 2 0) xs refl u.right 8 0 8 (omega arith) (omega (arith, at_least)) refl refl (omega arith) ∙ ap (λ (ys : List ℕ). crc_of ys % 256) eight_is
@@ -193,8 +167,7 @@ module _ (xs : List ℕ) (u : IsUnit follows size_of xs) where
   pub is_written : xs ≡ spelling (get_or xs 3 0) (u16_le_at xs 4) (u16_le_at xs 6) (user_of (drop 10 xs))
   unfolding eight
   is_written =
-      ten xs at_least
-      ∙ same_ten _ _ _ _ _ _ _ _ _ _ _ _ _ _ _ _ (crc_of eight % 256) (crc_of eight / 256) (get_or xs 3 0) (drop 10 xs) (blocks_of (user_of (drop 10 xs))) first_is second_is len_is (low_is 4) (high_is 4) (low_is 6) (high_is 6) crc_low crc_high (sym blocks_are)
+      grind (arith, common_steps, ten, at_least, same_ten, eight, first_is, second_is, len_is, low_is, high_is, crc_low, crc_high, blocks_are)
 
 pub frame_written : (f : FrameValue) (xs : List ℕ) → SpellsByPlaces f xs → xs ≡ spelling f.control f.dest f.source (user_of f.blocks)
 frame_written f xs h = (let e = h.fields in rw e (is_written xs h.unit))
@@ -221,9 +194,7 @@ user_of_blocks (suc n) user e =
     let front : min 16 (length (with_crc d ++ rest) - 2) ≡ length d = omega (arith, all, more, block, left, length-take 16 user, e) in
     let cells : take (length d) (with_crc d ++ rest) ≡ d = ap (take (length d)) (append_assoc d (u16_le_octets (crc_of d)) rest) ∙ take-append_seam d (u16_le_octets (crc_of d) ++ rest) in
     let behind : user_by n (drop 18 (with_crc d ++ rest)) ≡ drop 16 user = elim (cases_lt (length user) 16) [
-      | inl v ↦
-          (let none : n ≡ 0 = omega (arith, e, v) in
-          ap (λ (k : ℕ). user_by k (drop 18 (with_crc d ++ rest))) none ∙ sym (drop_all 16 user (omega (arith, v))))
+      | inl v ↦ grind (arith, common_steps, drop_all)
       | inr v ↦
           (let full : 18 ≡ length (with_crc d) = omega (arith, block, length-take 16 user, v) in
           ap (λ (k : ℕ). user_by n (drop k (with_crc d ++ rest))) full
@@ -236,8 +207,4 @@ user_of_blocks (suc n) user e =
     ∙ take-append-drop 16 user
 
 pub user_again : (user : List ℕ) → user_of (blocks_of user) ≡ user
-user_again user =
-    let n = (length user + 15) / 16 in
-    let more = length-blocks_by n user refl in
-    let e : (length (blocks_of user) + 17) / 18 ≡ n = omega (arith, more) in
-    ap (λ (k : ℕ). user_by k (blocks_of user)) e ∙ user_of_blocks n user refl
+user_again user = grind (arith, common_steps, length-blocks_by, user_of_blocks)

@@ -11,6 +11,7 @@ use Rattle.cf_dnplink.specs.Crc.{crc_of}
 use Rattle.cf_dnplink.specs.LinkFrame.{with_crc, blocks_by, blocks_of, header_of, spelling, frame_with}
 use Rattle.cf_dnplink.specs.FramePlaces.{block_start, block_end, crc_octet, checks, follows, SpellsByPlaces}
 use Rattle.cf_dnplink.proofs.FramePlaces.{follows_front, same_octet, size_long}
+use Rattle.std.proofs.lemmas.Grind.{common_steps}
 
 pub length-with_crc : (xs : List ℕ) → length (with_crc xs) ≡ length xs + 2
 length-with_crc xs = length-append xs (u16_le_octets (crc_of xs))
@@ -30,9 +31,7 @@ end_is len k p l h = (let q : (p - 10) / 18 ≡ k = omega arith in rw (le-ltb p 
 
 -- the octets of a CRC
 crc_at : (crc : ℕ) (rest : List ℕ) (i : ℕ) → i < 2 → get_or (u16_le_octets crc ++ rest) i 0 ≡ crc_octet crc i
-crc_at crc rest zero h = refl
-crc_at crc rest (suc zero) h = refl
-crc_at crc rest (suc (suc i)) h = absurd (omega arith)
+crc_at crc rest i h1 = grind (arith, nat_tests, common_steps)
 
 pub same_test : (a b : ℕ) → a ≡ b → (a == b) ≡ true
 same_test a b e = rw e (same_octet b)
@@ -46,22 +45,10 @@ module _ (len k : ℕ) (pre d rest : List ℕ) (long : length pre ≡ 10 + 18 * 
   length-xs = omega (arith, length-append pre (with_crc d ++ rest), length-append (with_crc d) rest, length-with_crc d)
 
   range : slice_range xs (10 + 18 * k) (10 + 18 * k + length d) ≡ d
-  range =
-      let e : 10 + 18 * k + length d - (10 + 18 * k) ≡ length d = omega arith in
-      ap (λ (n : ℕ). take n (drop (10 + 18 * k) xs)) e
-      ∙ ap (λ (s : ℕ). take (length d) (drop s xs)) (sym long)
-      ∙ ap (take (length d)) (drop-append_seam pre (with_crc d ++ rest) ∙ append_assoc d (u16_le_octets (crc_of d)) rest)
-      ∙ take-append_seam d (u16_le_octets (crc_of d) ++ rest)
+  range = grind (arith, common_steps, drop-append_seam, append_assoc, take-append_seam)
 
   crc_is : (p : ℕ) → length pre + length d ≤ p → p < length pre + (length d + 2) → get_or xs p 0 ≡ crc_octet (crc_of d) (p - (10 + 18 * k + length d))
-  crc_is p l h =
-      let q = p - length pre in
-      let place : q - length d ≡ p - (10 + 18 * k + length d) = omega (arith, long) in
-      get_or-append_right pre (with_crc d ++ rest) (length pre) p 0 refl (omega arith)
-      ∙ ap (λ (ys : List ℕ). get_or ys q 0) (append_assoc d (u16_le_octets (crc_of d)) rest)
-      ∙ get_or-append_right d (u16_le_octets (crc_of d) ++ rest) (length d) q 0 refl (omega arith)
-      ∙ crc_at (crc_of d) rest (q - length d) (omega arith)
-      ∙ ap (crc_octet (crc_of d)) place
+  crc_is p l h = grind (arith, common_steps, get_or-append_right, append_assoc, crc_at)
 
   right_block : (p : ℕ) → length pre ≤ p → p < length pre + (length d + 2) → follows (take p xs) (get_or xs p 0) ≡ true
   right_block p l h =
@@ -74,12 +61,7 @@ module _ (len k : ℕ) (pre d rest : List ℕ) (long : length pre ≡ 10 + 18 * 
       ∙ ap (λ (n : ℕ). checks n xs p (get_or xs p 0)) two
       ∙ elim (cases_lt p (block_end len p)) [
         | inl v ↦ rw (lt-ltb p (block_end len p) v) refl
-        | inr v ↦
-            (let is = crc_is p (omega (arith, long, end)) h
-            ∙ ap (λ (ys : List ℕ). crc_octet (crc_of ys) (p - e)) (sym range)
-            ∙ ap (λ (m : ℕ). crc_octet (crc_of (slice_range xs m e)) (p - e)) (sym start)
-            ∙ ap (λ (m : ℕ). crc_octet (crc_of (slice_range xs (block_start p) m)) (p - m)) (sym end) in
-            rw (le-ltb p (block_end len p) v) (same_test _ _ is))
+        | inr v ↦ grind (arith, nat_tests, common_steps, crc_is, range, le-ltb, same_test)
       ]
 
 right_blocks : (len n k : ℕ) (pre user : List ℕ) → length pre ≡ 10 + 18 * k → len ≡ 5 + 16 * k + length user → n ≡ (length user + 15) / 16 → get_or pre 2 0 ≡ len → (p : ℕ) → length pre ≤ p → p < length (pre ++ blocks_by n user) → follows (take p (pre ++ blocks_by n user)) (get_or (pre ++ blocks_by n user) p 0) ≡ true
@@ -177,11 +159,4 @@ blocks_more (suc k) user =
 
 -- the octets of a block, cut at the end
 pub block_cut : (k : ℕ) (user : List ℕ) → slice_range user (16 * k) (min (16 * k + 16) (length user)) ≡ take 16 (drop (16 * k) user)
-block_cut k user =
-    elim (cases_lt (length user) (16 * k + 16)) [
-      | inl v ↦
-          (let short : length (drop (16 * k) user) ≤ min (16 * k + 16) (length user) - 16 * k = omega (arith, length-drop (16 * k) user) in
-          let small : length (drop (16 * k) user) ≤ 16 = omega (arith, length-drop (16 * k) user) in
-          take_all (min (16 * k + 16) (length user) - 16 * k) (drop (16 * k) user) short ∙ sym (take_all 16 (drop (16 * k) user) small))
-      | inr v ↦ (let e : min (16 * k + 16) (length user) - 16 * k ≡ 16 = omega arith in ap (λ (n : ℕ). take n (drop (16 * k) user)) e)
-    ]
+block_cut k user = grind (arith, nat_tests, common_steps, cases_lt, length-drop, take_all)
