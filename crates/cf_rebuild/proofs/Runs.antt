@@ -1,5 +1,5 @@
 -- Runs of a window.
-use Rattle.std.proofs.Common.{◌≡◌, ℕ, ◌+◌, Bool, if◌then◌else◌, List, [], ◌∷◌, length, drop, refl, ◌∙◌, ap, arith}
+use Rattle.std.proofs.Common.{◌≡◌, ℕ, ◌+◌, List, [], ◌∷◌, drop, refl, ◌∙◌, ap, arith}
 use Rattle.std.proofs.lemmas.Int.{ints}
 use Rattle.cf_stream.proofs.Taken.{same_taken}
 use Rattle.cf_stream.proofs.PlaceOrZero.{place_or_zero_from}

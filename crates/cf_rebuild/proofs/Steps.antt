@@ -1,12 +1,12 @@
 -- A window by the letters at its places, which count from the first byte that is not consumed.
-use Rattle.std.proofs.Common.{◌≡◌, ℕ, suc, ◌+◌, ◌-◌, ◌<◌, ◌≤◌, ℤ, pos, negsuc, ◌+ℤ◌, Bool, true, false, List, ◌∷◌, ◌++◌, length, take, drop, get_or, Option, Some, None, inl, inr, refl, sym, ◌∙◌, ap, arith}
+use Rattle.std.proofs.Common.{◌≡◌, ℕ, ◌+◌, ◌-◌, ◌<◌, ◌≤◌, ℤ, pos, negsuc, ◌+ℤ◌, Bool, true, false, List, ◌∷◌, ◌++◌, length, take, drop, get_or, Option, Some, None, refl, sym, ◌∙◌, ap, arith}
 use Rattle.std.specs.Option.{option_or}
 use Rattle.std.proofs.Math.Seq.{take-add}
 use Rattle.std.proofs.lemmas.Bool.{cases_lt, le-ltb, lt-ltb}
 use Rattle.std.proofs.lemmas.Int.{ints}
 use Rattle.std.proofs.lemmas.List.{length-take-le, length-drop, get_or-take, get_or-drop, drop-take}
 use Rattle.cf_stream.specs.FirstCopy.{Offer, offered}
-use Rattle.cf_stream.specs.Stream.{Stream, Letter, Byte, End, letter_at, letter_from, Extends}
+use Rattle.cf_stream.specs.Stream.{Stream, Letter, Byte, End, letter_from, Extends}
 use Rattle.cf_rebuild.specs.ReceiveWindow.{Window, IsWindow, TakesIn, Consumes, IsWindowOf, filled, bytes_taken, unread}
 use Rattle.cf_rebuild.proofs.Windows.{filled_past, window_after, stands_after, unread_grows, window_consumed, stands_consumed}
 use Rattle.std.proofs.lemmas.Grind.{common_steps}

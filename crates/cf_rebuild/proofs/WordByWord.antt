@@ -1,5 +1,5 @@
 -- Marks that are set or taken word by word.
-use Rattle.std.proofs.Common.{◌≡◌, ℕ, ◌<◌, ◌≤◌, ◌⊎◌, List, inl, inr, ◌∙◌, arith}
+use Rattle.std.proofs.Common.{◌≡◌, ℕ, ◌<◌, ◌≤◌, ◌⊎◌, List, arith}
 use Rattle.std.proofs.lemmas.Bool.{cases_lt}
 use Rattle.cf_rebuild.specs.Ring.{marked}
 use Rattle.std.proofs.lemmas.Grind.{common_steps}

@@ -1,4 +1,4 @@
-use Rattle.std.proofs.Common.{false, arith}
+use Rattle.std.proofs.Common.{arith}
 use Rattle.std.proofs.lemmas.Int.{to_z-of_z}
 use Rattle.std.proofs.lemmas.List.{take_rest}
 use Rattle.cf_rebuild.proofs.Offers.{option_or-assoc, offered_left, offered_left_end}
