@@ -1,7 +1,7 @@
 -- Rules that are found by their pairs: the first that has an act, and whether one allows it, as among all rules.
 use Rattle.std.proofs.Common.{◌≡◌, ℕ, ◌<◌, ◌≤◌, ◌↔◌, pos, Bool, true, false, not, if◌then◌else◌, ◌&&◌, List, Option, length, get_or, Some, None, refl, sym, ap, subst, ◌∙◌, arith}
 use Rattle.std.specs.Prelude.{AllPairs, slice_get, option_and_then}
-use Rattle.std.specs.List.{Any, list_any, position, position_or_len}
+use Rattle.std.specs.List.{Any, list_any, position}
 use Rattle.std.specs.Cmp.{both_ways, first_so, second_so}
 use Rattle.std.proofs.lemmas.Grind.{common_steps}
 use Rattle.std.proofs.lemmas.Bool.{cases_lt, cases_Bool}
@@ -23,11 +23,7 @@ other_default : {X : Type 0} (xs : List X) (k : ℕ) (d e : X) → k < length xs
 other_default xs k d e inside = get_or_from_slice_get xs k (get_or xs k e) d (slice_get-get_or xs k e inside)
 
 none_passes : {X : Type 0} (p : X → Bool) (xs : List X) → position p xs ≡ None → (k : ℕ) (d : X) → k < length xs → p (get_or xs k d) ≡ false
-none_passes p xs e k d inside =
-    ⊎_elim
-    (λ early. fails_before_first p xs k d early)
-    (λ late. absurd (let lt : position_or_len p xs < length xs = omega (arith, late, inside) in grind (arith, nat_tests, common_steps)))
-    (cases_lt k (position_or_len p xs))
+none_passes p xs e k d inside = grind (arith, nat_tests, common_steps, fails_before_first, cases_lt)
 
 -- the pairs stand for exactly the rules that the test names, in their order
 pub record AreNamed (rules : List Rule) (named : Rule → Bool) (part : List CodePair) : Type 0 where
@@ -111,9 +107,7 @@ is_named client code r = takes r.clients (pos client) && takes r.codes (pos code
 
 module _ (client : ℕ) (act : Act) (r : Rule) where
   named : has_function r client act ≡ true → is_named client act.code r ≡ true
-  named h =
-      let rest = second_so (takes r.clients (pos client)) (takes r.codes (pos act.code) && takes r.groups (pos act.group)) h in
-      λ i. first_so (takes r.clients (pos client)) (takes r.codes (pos act.code) && takes r.groups (pos act.group)) h i && first_so (takes r.codes (pos act.code)) (takes r.groups (pos act.group)) rest i
+  named h = grind (arith, common_steps, second_so, first_so)
 
   group_is : is_named client act.code r ≡ true → has_group r act ≡ has_function r client act
   group_is h = sym (λ i. first_so (takes r.clients (pos client)) (takes r.codes (pos act.code)) h i && (second_so (takes r.clients (pos client)) (takes r.codes (pos act.code)) h i && takes r.groups (pos act.group)))

@@ -9,13 +9,10 @@ use Rattle.std.proofs.lemmas.List.{get_or-take, get_or-drop, length-drop, length
 use mathlib.Core.Logic.{⊎_elim}
 use Rattle.cf_policy.specs.declared.index.CodePair.{CodePair}
 use Rattle.cf_policy.specs.Index.{IsFrontOf, IsPairBefore, IsPartOfCode}
+use Rattle.std.proofs.lemmas.Grind.{common_steps}
 
 pub codes_rise : (pairs : List CodePair) → AllPairs IsPairBefore pairs → IsNonDecreasingBy (λ p. p.code) pairs
-codes_rise pairs up i j d le inside =
-    ⊎_elim
-    (λ lt. ⊎_elim (λ less. omega (arith, less)) (λ e. omega (arith, e.0)) (up i j d lt inside))
-    (λ ge. let e : i ≡ j = omega (arith, le, ge) in let level : (get_or pairs i d).code ≡ (get_or pairs j d).code = ap (λ k. (get_or pairs k d).code) e in omega (arith, level))
-    (cases_lt i j)
+codes_rise pairs up i j d le inside = grind (arith, common_steps, cases_lt i j)
 
 module _ (pairs : List CodePair) (code first count : ℕ) (up : AllPairs IsPairBefore pairs) (fits : first + count ≤ length pairs)
     (low : (k : ℕ) (d : CodePair) → k < first → (get_or pairs k d).code < code)
@@ -38,12 +35,7 @@ module _ (pairs : List CodePair) (code first count : ℕ) (up : AllPairs IsPairB
       rw (at i d (omega (arith, lt, above)), at j d above) (⊎_elim (λ less. absurd (omega (arith, less, p, q))) (λ e. e.1) (up (first + i) (first + j) d (omega (arith, lt)) (omega (arith, above, fits))))
 
   found : (n : ℕ) → Any (λ p. p.rule ≡ n) part → Contains pairs (record { code = code; rule = n })
-  found n a =
-      let lt : a.0 < count = omega (arith, a.2, size) in
-      let e : get_or pairs (first + a.0) a.1 ≡ a.1 = sym (at a.0 a.1 lt) ∙ a.3 in
-      let named : a.1.code ≡ code = ap (λ p. p.code) (sym e) ∙ here (first + a.0) a.1 (omega arith) (omega (arith, lt)) in
-      let same : a.1 ≡ record { code = code; rule = n } = λ i. record { code = named i; rule = a.4 i } in
-      subst (Contains pairs) same (first + a.0, omega (arith, lt, fits), e)
+  found n a = grind (arith, common_steps, size)
 
   placed : (n : ℕ) → Contains pairs (record { code = code; rule = n }) → Any (λ p. p.rule ≡ n) part
   placed n c =

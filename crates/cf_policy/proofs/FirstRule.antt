@@ -1,5 +1,5 @@
 -- What the first rule that has an act means for the verdict.
-use Rattle.std.proofs.Common.{◌≡◌, ℕ, ◌⊎◌, Bool, List, Some, None, subst, sym, ◌∙◌, refl, inl, inr}
+use Rattle.std.proofs.Common.{◌≡◌, ℕ, ◌⊎◌, Bool, List, Some, None, subst, sym, ◌∙◌, refl}
 use mathlib.Core.Logic.{⊎_elim}
 use Rattle.cf_view.specs.declared.base.Act.{Act}
 use Rattle.cf_policy.specs.declared.policy.Rule.{Rule}
@@ -8,9 +8,11 @@ use Rattle.cf_policy.specs.declared.policy.Action.{Action}
 use Rattle.cf_policy.specs.declared.policy.Action.TheVariants.{Allow, Refuse}
 use Rattle.cf_policy.specs.declared.policy.Decider.TheVariants as decider
 use Rattle.cf_policy.specs.declared.policy.Verdict.TheVariants as verdict
-use Rattle.cf_policy.specs.Verdict.{has_act, first_number, first_rule, by_rule, default_reason, verdict_of}
+use Rattle.cf_policy.specs.Verdict.{has_act, first_rule, by_rule, default_reason, verdict_of}
 use Rattle.cf_policy.specs.Laws.{IsAllowed, IsAllowedByRule, AllowsByFirstRule, IsDecidedByRule, with_rule, KeepsDecidedActs}
 use Rattle.cf_policy.proofs.FirstPlace.{IsFirstAt, first_at, position_is, first_at_append}
+use Rattle.std.proofs.lemmas.Grind.{common_steps}
+use Rattle.std.proofs.Common.{arith}
 
 -- the rule of this number has the act, and no earlier rule has it
 abbrev IsFirst : List Rule → ℕ → Act → ℕ → Rule → Type 0
@@ -25,12 +27,7 @@ verdict_is asset client act n r f = rw (first_rule_is asset.rules client act n r
 -- a rule that is first decides, or none has the act
 cases : (all : List Rule) (client : ℕ) (act : Act)
     → ((n : ℕ) × (r : Rule) × IsFirst all client act n r) ⊎ (first_rule all client act ≡ None)
-cases all client act =
-    elim (first_number all client act) as (λ o. (first_number all client act ≡ o) → ((n : ℕ) × (r : Rule) × IsFirst all client act n r) ⊎ (first_rule all client act ≡ None)) [
-      | None ↦ λ e. inr (rw e refl)
-      | Some n ↦ λ e. let r = first_at (λ q. has_act q client act) all n e in inl (n, r.0, r.1)
-    ]
-    refl
+cases all client act = grind (arith, common_steps, first_at)
 
 default_is : (asset : Asset) (client : ℕ) (act : Act) → first_rule asset.rules client act ≡ None
     → verdict_of asset client act ≡ verdict.Refuse decider.Default (default_reason asset.rules client act)

@@ -1,7 +1,6 @@
 -- The pairs of a code that stand at the front of a list, and the first of them that passes a test.
 use Rattle.std.proofs.Common.{◌≡◌, ◌≢◌, ℕ, ◌<◌, ◌≤◌, eqb, Bool, true, false, not, List, Option, length, take, Some, None, refl, sym, ap, subst, ◌∙◌, arith}
-use Rattle.std.specs.Prelude.{slice_get, option_and_then}
-use Rattle.std.specs.Option.{option_map_or}
+use Rattle.std.specs.Prelude.{slice_get}
 use Rattle.std.specs.List.{position, position_or_len}
 use Rattle.std.proofs.lemmas.Bool.{cases_lt, eq-eqb, false≢true}
 use Rattle.std.proofs.lemmas.Bool.Decides.{nat_tests}
@@ -19,20 +18,17 @@ use Rattle.cf_view.specs.declared.base.Reason.{Reason}
 use Rattle.cf_policy.specs.Verdict.{decided, numbered}
 use Rattle.cf_policy.specs.Index.{IsFrontOf, rule_at, has_group_to_value, reason_of_pairs, verdict_by}
 use Rattle.cf_policy.proofs.FirstPlace.{IsFirstAt, first_at, position_is}
+use Rattle.std.proofs.lemmas.Grind.{common_steps}
 
 -- what stands below a count stands in as many elements from the front
 taken : {X : Type 0} (count : ℕ) (xs : List X) (k : ℕ) (x : X) → k < count → slice_get xs k ≡ Some x → slice_get (take count xs) k ≡ Some x
 taken count xs k x lt at =
-    let within = slice_get_within xs k x at in
-    slice_get-get_or (take count xs) k x (omega (arith, length-take count xs, within, lt))
-    ∙ ap Some (get_or-take count xs k x lt ∙ get_or_from_slice_get xs k x x at)
+    grind (arith, common_steps, slice_get_within xs k x at, length-take count xs, get_or-take count xs k x lt, get_or_from_slice_get xs k x x at, slice_get-get_or)
 
 -- and the other way round
 from_taken : {X : Type 0} (count : ℕ) (xs : List X) (k : ℕ) (x : X) → slice_get (take count xs) k ≡ Some x → (k < count) × (slice_get xs k ≡ Some x)
 from_taken count xs k x at =
-    let within = slice_get_within (take count xs) k x at in
-    let lt : k < count = omega (arith, length-take count xs, within) in
-    (lt, slice_get-get_or xs k x (omega (arith, length-take count xs, within)) ∙ ap Some (sym (get_or-take count xs k x lt) ∙ get_or_from_slice_get (take count xs) k x x at))
+    grind (arith, common_steps, slice_get_within (take count xs) k x at, length-take count xs, get_or_from_slice_get (take count xs) k x x at, slice_get-get_or, get_or-take)
 
 module _ (code : ℕ) (rest : List CodePair) (test : CodePair → Bool) (i : ℕ)
     (before : (k : ℕ) (p : CodePair) → k < i → slice_get rest k ≡ Some p → (p.code ≡ code) × (test p ≡ false)) where
@@ -75,10 +71,7 @@ module _ (code : ℕ) (rest : List CodePair) (test : CodePair → Bool) (i : ℕ
 
   none_by : (o : Option ℕ) → position test (take i rest) ≡ o → o ≡ None
   none_by None e = refl
-  none_by (Some n) e =
-      let first = first_at test (take i rest) n e in
-      let there = from_taken i rest n first.0 first.1.here in
-      absurd (false≢true (sym (before n first.0 there.0 there.1).1 ∙ first.1.passes))
+  none_by (Some n) e = grind (arith, common_steps, first_at, from_taken, false≢true)
 
   -- and none before it passes
   pub none_before : position test (take i rest) ≡ None
@@ -86,11 +79,7 @@ module _ (code : ℕ) (rest : List CodePair) (test : CodePair → Bool) (i : ℕ
 
 -- a place whose rule passes a test is one of the rules
 pub is_rule : (rules : List Rule) (n : ℕ) (t : Rule → Bool) → rule_at rules n t ≡ true → n < length rules
-is_rule rules n t passes =
-    ⊎_elim
-    (λ found. slice_get_within rules n found.0 found.2)
-    (λ beyond. absurd (false≢true (sym (ap (λ o. option_map_or t o false) (slice_get_past rules n beyond.0)) ∙ passes)))
-    (slice_get_cases rules n).1
+is_rule rules n t passes = grind (arith, common_steps, slice_get_within, false≢true, slice_get_past, slice_get_cases)
 
 module _ (rest : List CodePair) (rules : List Rule) (act : Act) (i : ℕ) (inside : i ≤ length rest)
     (before : (k : ℕ) (p : CodePair) → k < i → slice_get rest k ≡ Some p → (p.code ≡ act.code) × (rule_at rules p.rule (λ r. has_group_to_value r act) ≡ false)) where
@@ -101,23 +90,13 @@ module _ (rest : List CodePair) (rules : List Rule) (act : Act) (i : ℕ) (insid
   pub verdict_found : (count : ℕ) (p : CodePair) (v : Verdict) → IsFrontOf act.code rest count → slice_get rest i ≡ Some p → p.code ≡ act.code → test p ≡ true
       → ((why : Reason) → v ≡ decided (numbered rules p.rule) why) → v ≡ verdict_by (take count rest) rules act
   verdict_found count p v front at same passes says =
-      let part = take count rest in
-      let first = found_at act.code rest test i before count p front at same passes in
-      let place = position_is test part i p first in
-      says (reason_of_pairs part rules act)
-      ∙ ap (λ o. decided o (reason_of_pairs part rules act))
-      (sym (ap (λ o. option_and_then (λ k. option_and_then (λ q. numbered rules q.rule) (slice_get part k)) o) place
-      ∙ ap (λ o. option_and_then (λ (q : CodePair). numbered rules q.rule) o) first.here))
+      grind (arith, common_steps, found_at act.code rest test i before count p front at same passes, position_is)
 
   -- where none has it, the default does
   pub verdict_ended : (count : ℕ) (why : Reason) → IsFrontOf act.code rest count → ((p : CodePair) → slice_get rest i ≡ Some p → p.code ≢ act.code)
       → why ≡ reason_of_pairs (take i rest) rules act → verdict.Refuse decider.Default why ≡ verdict_by (take count rest) rules act
   verdict_ended count why front other is =
-      let part = take i rest in
-      ap (λ y. verdict.Refuse decider.Default y) is
-      ∙ ap (λ o. decided o (reason_of_pairs part rules act))
-      (sym (ap (λ o. option_and_then (λ k. option_and_then (λ q. numbered rules q.rule) (slice_get part k)) o) (none_before act.code rest test i before)))
-      ∙ ap (λ n. verdict_by (take n rest) rules act) (sym (ended_at act.code rest test i before count front inside other))
+      grind (arith, common_steps, none_before act.code rest test i before, ended_at act.code rest test i before count front inside other)
 
 is_code : (code : ℕ) (p : CodePair) → not (eqb p.code code) ≡ false → p.code ≡ code
 is_code code p e = grind (arith, nat_tests)

@@ -1,5 +1,5 @@
 -- How the list of pairs of an index comes about: one rule after another, then sorted, each once.
-use Rattle.std.proofs.Common.{◌≡◌, ℕ, ◌+◌, ◌<◌, ◌≤◌, ◌⊎◌, ◌↔◌, pos, Bool, true, false, ℤ, int_le, ◌||◌, ◌&&◌, ◌==◌, List, [], ◌∷◌, ◌++◌, length, take, get_or, Some, slice_get, refl, sym, ap, subst, ◌∙◌, inl, inr, arith}
+use Rattle.std.proofs.Common.{◌≡◌, ℕ, ◌+◌, ◌<◌, ◌≤◌, ◌⊎◌, ◌↔◌, pos, Bool, true, false, ℤ, ◌||◌, ◌&&◌, ◌==◌, List, [], ◌∷◌, ◌++◌, length, take, get_or, Some, slice_get, refl, sym, ap, subst, ◌∙◌, inl, inr, arith}
 use Rattle.std.proofs.lemmas.Int.{ints}
 use Rattle.std.proofs.Math.Bool.{or-true}
 use Rattle.std.proofs.lemmas.Bool.{or_cases, cases_lt}
@@ -24,6 +24,7 @@ use Rattle.cf_policy.specs.declared.policy.Asset.{Asset}
 use Rattle.cf_policy.specs.declared.index.CodePair.{CodePair}
 use Rattle.cf_policy.specs.Verdict.{covers, takes}
 use Rattle.cf_policy.specs.Index.{IsPairBefore, IsIndexOf, AddsCodes, HasPairsBelow}
+use Rattle.std.proofs.lemmas.Grind.{common_steps}
 
 -- the pairs of this place and of the codes of some spans come to the pairs before
 abbrev pub AddsSome : ℕ → List Span → List CodePair → List CodePair → Type 0
@@ -34,10 +35,7 @@ one_number : (s : Span) (n : ℕ) → s.low ≡ s.high → s.low ≡ pos n → c
 one_number s n e at = grind (arith, ints)
 
 number_of : (s : Span) (n : ℕ) → s.low ≡ s.high → covers s (pos n) ≡ true → s.low ≡ pos n
-number_of s n e h =
-    let low = first_so (int_le s.low (pos n)) (int_le (pos n) s.high) h in
-    let high = second_so (int_le s.low (pos n)) (int_le (pos n) s.high) h in
-    omega (arith, ints, low, high)
+number_of s n e h = grind (arith, ints, common_steps, first_so, second_so)
 
 pos_same : (m n : ℕ) → pos m ≡ pos n → m ≡ n
 pos_same m n e = cc
@@ -73,10 +71,6 @@ module _ (place : ℕ) (spans : List Span) (i : ℕ) (d : Span) (before after : 
             (or_cases (list_any test (take i spans)) (test s) (sym more ∙ q.1)))
             h,
       )
-
--- at first, no span is taken
-pub added_none : (place : ℕ) (before : List CodePair) → AddsSome place [] before before
-added_none place before pair = (λ h. inl h, λ h. ⊎_elim (λ b. b) (λ q. absurd (cc (q.1))) h)
 
 -- all spans of a rule that states codes
 pub added_all : (place : ℕ) (rule : Rule) (before after : List CodePair) → 1 ≤ length rule.codes
@@ -146,21 +140,10 @@ not_less : (o : Ordering) → o ≡ Greater → o ≡ Less → ⊥
 not_less o e f = absurd (cc (e, f))
 
 less_is : (m n : ℕ) → nat_cmp m n ≡ Less → m < n
-less_is m n e =
-    ⊎_elim (λ lt. lt) (λ beyond. ⊎_elim
-    (λ above. absurd (not_less (nat_cmp m n) (greater m n above) e))
-    (λ level. absurd (let f : Equal ≡ Less = sym (equal m n (omega (arith, beyond, level))) ∙ e in cc))
-    (cases_lt n m))
-    (cases_lt m n)
+less_is m n e = grind (arith, common_steps, not_less, greater, equal, cases_lt)
 
 before_less : (p q : CodePair) → pair_cmp p q ≡ Less → IsPairBefore p q
-before_less p q e =
-    ⊎_elim (λ lt. inl lt) (λ beyond. ⊎_elim
-    (λ above. absurd (not_less (pair_cmp p q) (ap (λ o. ordering_then o (nat_cmp p.rule q.rule)) (greater p.code q.code above)) e))
-    (λ level. let same : p.code ≡ q.code = omega (arith, beyond, level) in
-    inr (same, less_is p.rule q.rule (sym (ap (λ o. ordering_then o (nat_cmp p.rule q.rule)) (equal p.code q.code same)) ∙ e)))
-    (cases_lt q.code p.code))
-    (cases_lt p.code q.code)
+before_less p q e = grind (arith, common_steps, not_less, greater, less_is, equal, cases_lt)
 
 same_pair_ties : (p q : CodePair) → is_same_pair p q ≡ eq_by_cmp pair_cmp p q
 same_pair_ties p q = both_tied (p.code == q.code) (p.rule == q.rule) (nat_cmp p.code q.code) (nat_cmp p.rule q.rule) (unsigned_ties p.code q.code) (unsigned_ties p.rule q.rule)

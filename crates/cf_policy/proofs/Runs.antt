@@ -14,11 +14,12 @@ use Rattle.cf_policy.specs.declared.policy.Rule.{Rule}
 use Rattle.cf_policy.specs.declared.policy.Span.{Span}
 use Rattle.cf_policy.specs.declared.policy.Asset.{Asset}
 use Rattle.cf_policy.specs.declared.index.CodePair.{CodePair}
-use Rattle.cf_policy.specs.Index.{tried, rule_at, has_group, has_group_and_point, has_group_to_value, reason_of_pairs, verdict_by, IsIndexOf, IsPartOfCode}
+use Rattle.cf_policy.specs.Index.{tried, rule_at, has_group, has_group_and_point, has_group_to_value, verdict_by, IsIndexOf, IsPartOfCode}
 use Rattle.cf_policy.specs.Run.{at_point, with_value, HasOneVerdict, IsSteady, TakesAnyValue, some_states_values}
 use Rattle.cf_policy.specs.Verdict.{takes, takes_value, is_empty, covers, is_allow, decided, numbered}
 use Rattle.cf_policy.proofs.ByCode.{are_named, is_named, some_same, verdict_is}
 use Rattle.cf_policy.proofs.FirstPlace.{first_at, position_is, within_of}
+use Rattle.std.proofs.lemmas.Grind.{common_steps}
 
 module _ {X : Type 0} (p q : X → Bool) where
   pub list_any_same : (xs : List X) → All (λ x. p x ≡ q x) xs → list_any p xs ≡ list_any q xs
@@ -44,12 +45,7 @@ module _ {X : Type 0} (p q : X → Bool) (xs : List X) (h : All (λ x. p x ≡ q
   back k d lt = sym (h k d lt)
 
   pub position_same : position p xs ≡ position q xs
-  position_same = by (position p xs) (position q xs) refl refl
-    where
-      by : (a b : Option ℕ) → position p xs ≡ a → position q xs ≡ b → a ≡ b
-      by None None e f = refl
-      by (Some n) b e f = sym (moved p q xs h n e) ∙ f
-      by None (Some n) e f = sym e ∙ moved q p xs back n f
+  position_same = grind (arith, common_steps, moved, back)
 
 -- what is asked of a rule, if there is one
 abbrev asked : (Rule → Bool) → Option Rule → Bool
@@ -158,10 +154,7 @@ module _ (act : Act) (value : Option ℤ) where
 
   value_same : (rules : List Rule) (pairs : List CodePair) → All (λ p. option_map_or (λ r. is_empty r.values) (slice_get rules p.rule) true ≡ true) pairs
       → verdict_by pairs rules valued ≡ verdict_by pairs rules act
-  value_same rules pairs h =
-      let first = position_same (λ p. rule_at rules p.rule (λ r. has_group_to_value r valued)) (λ p. rule_at rules p.rule (λ r. has_group_to_value r act)) pairs
-      (λ k d lt. free_at (slice_get rules (get_or pairs k d).rule) (h k d lt)) in
-      λ i. decided (option_and_then (λ k. option_and_then (λ p. numbered rules p.rule) (slice_get pairs k)) (first i)) (reason_of_pairs pairs rules act)
+  value_same rules pairs h = grind (arith, common_steps, position_same, free_at)
 
 pub any_value_taken : (asset : Asset) (client code : ℕ) (pairs part : List CodePair) → IsIndexOf asset client pairs → IsPartOfCode code pairs part
     → list_all (λ p. option_map_or (λ r. is_empty r.values) (slice_get asset.rules p.rule) true) part ≡ true → TakesAnyValue asset client code

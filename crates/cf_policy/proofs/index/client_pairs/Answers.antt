@@ -1,4 +1,4 @@
-use Rattle.std.proofs.Common.{rules, ◌≡◌, ◌+◌, ◌∙◌, sym, subst, ap, Some, pos, slice_get, List, [], length, arith}
+use Rattle.std.proofs.Common.{rules, ◌≡◌, ◌+◌, ◌∙◌, sym, subst, ap, Some, pos, slice_get, List, length, arith}
 use Rattle.std.proofs.lemmas.Option.{slice_get-get_or}
 use Rattle.cf_policy.specs.declared.index.CodePair.{CodePair}
 use Rattle.cf_policy.specs.Verdict.{takes}
@@ -6,11 +6,10 @@ use Rattle.cf_policy.specs.Index.{HasPairsBelow}
 use Rattle.cf_policy.proofs.Pairs.{below_none, below_more, below_skipped}
 use Rattle.cf_policy.proofs.index.client_pairs.Goals as goal
 use Rattle.cf_policy.proofs.index.client_pairs.Goals.{then-takes+in_ok-push_codes, else-takes}
+use Rattle.std.proofs.lemmas.Grind.{common_steps}
 
 pub loop-place-init : goal.loop-place-init
-loop-place-init c =
-    let empty : c.new-pairs.result.items ≡ [] = c.new-pairs.ensures.items in
-    subst (λ (l : List CodePair). HasPairsBelow 0 c.args.rules.now c.args.client l) (sym empty) (below_none c.args.rules.now c.args.client)
+loop-place-init c = grind (arith, common_steps, below_none)
 
 pub loop-place-preserved : goal.loop-place-preserved
 loop-place-preserved c =
