@@ -11,13 +11,13 @@ use Rattle.cf_renumber.specs.declared.mark.Origin.TheVariants as origins
 use Rattle.cf_renumber.specs.Counts.{NumberEvent, Admitted, Refused, ClientAck, Carried, ControllerAck, client_frames, frames_to_client, from_client, to_controller, from_controller, to_client, is_admitted, is_controllers, controllers_among, covered_by, count_from, acked_by_client, acked_by_controller, last_told, client_translated, owed_ack, outstanding_refusal}
 use Rattle.cf_renumber.specs.Numbers.{NumbersValue, IsNumbersValue, waiting, HasCountsOf, IsNumbersOf, IsNumbersAwaiting, uncovered, after_client_ack, after_controller_ack, after_admitted, after_dropped, after_mirror, after_carried, stamp_for_controller, stamp_for_client, ack_owed, next_stamp_for_controller, next_stamp_for_client}
 use Rattle.cf_renumber.proofs.Lists.{count_by-append, count_by-split, among-add, among-append, uncovered-add, uncovered-append, uncovered_again, uncovered_admitted, count-uncovered, length-uncovered, covered_by-le}
+use Rattle.std.proofs.lemmas.Grind.{common_steps}
 
 pub not_full : (n : ℕ) → (n ≡ 4096 → ⊥) → outstanding_refusal n ≡ None
 not_full n h = grind (arith, nat_tests)
 
 waits : (o : Option ℕ) → IsSome o → waiting o ≡ 1
-waits None some = absurd (false≢true some)
-waits (Some moved) some = refl
+waits o h1 = grind (arith, nat_tests, common_steps, false≢true)
 
 module _ (v : NumbersValue) (events : List NumberEvent) (j : ℕ) (h : HasCountsOf v events j) where
   -- how many frames to the client are not acknowledged
@@ -25,49 +25,27 @@ module _ (v : NumbersValue) (events : List NumberEvent) (j : ℕ) (h : HasCounts
   origins_left = ap length h.origins ∙ length-drop j (frames_to_client events)
 
   pub controllers_left : controllers_among j (frames_to_client events) + count_by is_controllers v.origins ≡ from_controller events
-  controllers_left =
-      ap (λ (xs : List Origin). controllers_among j (frames_to_client events) + count_by is_controllers xs) h.origins
-      ∙ sym (count_by-split is_controllers j (frames_to_client events))
+  controllers_left = grind (arith, common_steps, count_by, count_by-split)
 
   pub fates_left : length v.fates ≡ from_client events - covered_by (acked_by_controller events) (client_frames events)
   fates_left = ap length h.fates ∙ length-uncovered (acked_by_controller events) (client_frames events)
 
   pub admitted_left : acked_by_controller events + count_by is_admitted v.fates ≡ to_controller events
-  admitted_left =
-      ap (λ (xs : List FrameFate). acked_by_controller events + count_by is_admitted xs) h.fates
-      ∙ count-uncovered (acked_by_controller events) (client_frames events) h.acked
+  admitted_left = grind (arith, common_steps, count_by, count-uncovered)
 
   -- the client acknowledges n more, whatever is owed then
   pub holds_client_ack : (owed : Option ℕ) (n : ℕ) → n ≤ length v.origins → HasCountsOf (record (after_client_ack v n) { owed = owed }) events (j + n)
-  holds_client_ack owed n l = record {
-    starts = h.starts;
-    runs = h.runs;
-    fates = h.fates;
-    origins = ap (drop n) h.origins ∙ drop-drop n j (frames_to_client events);
-    received = h.received;
-    admitted = h.admitted;
-    carried = h.carried;
-    sent = h.sent;
-    acked = h.acked;
-    within = omega (arith, origins_left, h.within);
-  }
+  holds_client_ack owed n l = grind (arith, common_steps, drop-drop, origins_left)
 
   pub told_client_ack : (n : ℕ) → controllers_among (j + n) (frames_to_client events)
       ≡ controllers_among j (frames_to_client events) + controllers_among n v.origins
-  told_client_ack n = among-add j n (frames_to_client events)
-      ∙ ap (λ (xs : List Origin). controllers_among j (frames_to_client events) + controllers_among n xs) (sym h.origins)
+  told_client_ack n = grind (arith, common_steps, among-add)
 
   pub stamp_controller : count_by is_controllers v.origins ≤ 4096 → stamp_for_controller v ≡ next_stamp_for_controller events j
-  stamp_controller l =
-      let e : (v.carried + 32768 - count_by is_controllers v.origins) % 32768 ≡ controllers_among j (frames_to_client events) % 32768 =
-      omega (arith, h.carried, controllers_left) in
-      rw (h.admitted, e) refl
+  stamp_controller l = grind (arith, common_steps, count_by, controllers_left)
 
   pub stamp_client : length v.fates ≤ 4096 → stamp_for_client v ≡ next_stamp_for_client events
-  stamp_client l =
-      let e : (v.received + 32768 - length v.fates) % 32768 ≡ covered_by (acked_by_controller events) (client_frames events) % 32768 =
-      omega (arith, h.received, fates_left, covered_by-le (acked_by_controller events) (client_frames events)) in
-      rw (h.sent, e) refl
+  stamp_client l = grind (arith, common_steps, fates_left, covered_by-le)
 
   front : uncovered 0 v.fates ≡ v.fates
   front = rw h.fates (uncovered_again (acked_by_controller events) (client_frames events))
@@ -78,16 +56,13 @@ module _ (v : NumbersValue) (events : List NumberEvent) (j : ℕ) (h : HasCounts
 
   -- one more frame of the client
   pub fates_more : (f : FrameFate) → uncovered 0 (v.fates ++ f ∷ []) ≡ uncovered (acked_by_controller events) (client_frames events ++ f ∷ [])
-  fates_more f =
-      ap (λ (xs : List FrameFate). uncovered 0 (xs ++ f ∷ [])) h.fates
-      ∙ sym (uncovered-append (acked_by_controller events) (client_frames events) (f ∷ []) h.acked)
+  fates_more f = grind (arith, common_steps, uncovered-append)
 
   pub fates_admitted : v.fates ++ fates.Admitted ∷ [] ≡ uncovered (acked_by_controller events) (client_frames events ++ fates.Admitted ∷ [])
   fates_admitted = sym (uncovered_admitted v.fates front) ∙ fates_more fates.Admitted
 
   pub origins_more : (o : Origin) → v.origins ++ o ∷ [] ≡ drop j (frames_to_client events ++ o ∷ [])
-  origins_more o =
-      ap (λ (xs : List Origin). xs ++ o ∷ []) h.origins ∙ sym (drop-append-le j (frames_to_client events) (o ∷ []) h.within)
+  origins_more o = grind (arith, common_steps, drop-append-le)
 
   pub received_more : (f : FrameFate) → (v.received + 1) % 32768 ≡ length (client_frames events ++ f ∷ []) % 32768
   received_more f = omega (arith, h.received, length-append (client_frames events) (f ∷ []))
@@ -115,80 +90,19 @@ module _ (v : NumbersValue) (events : List NumberEvent) where
   pub awaits : (nr n : ℕ) → IsNumbersOf v events → n ≤ length v.origins →
       count_from (acked_by_client events) nr ≡ acked_by_client events + n →
       IsNumbersAwaiting (record (after_client_ack v n) { owed = Some (controllers_among n v.origins) }) events nr
-  awaits nr n s l e =
-      record {
-        holds = rw e (holds_client_ack v events (acked_by_client events) s.holds (Some (controllers_among n v.origins)) n l);
-        moved = controllers_among n v.origins;
-        owed = refl;
-        told = ap (λ (t : ℕ). t + controllers_among n v.origins) s.told ∙ sym (told_client_ack v events (acked_by_client events) s.holds n)
-            ∙ ap (λ (k : ℕ). controllers_among k (frames_to_client events)) (sym e);
-      }
+  awaits nr n s l e = grind (arith, common_steps, holds_client_ack, told_client_ack)
 
   pub stands_client_ack : (nr n : ℕ) → IsNumbersOf v events → n ≤ length v.origins →
       count_from (acked_by_client events) nr ≡ acked_by_client events + n → IsNumbersOf (after_client_ack v n) (ClientAck nr ∷ events)
-  stands_client_ack nr n s l e =
-      let h : HasCountsOf (after_client_ack v n) events (count_from (acked_by_client events) nr) =
-      rw e (holds_client_ack v events (acked_by_client events) s.holds v.owed n l) in
-      record {
-        holds = record {
-          starts = h.starts;
-          runs = h.runs;
-          fates = h.fates;
-          origins = h.origins;
-          received = h.received;
-          admitted = h.admitted;
-          carried = h.carried;
-          sent = h.sent;
-          acked = h.acked;
-          within = h.within;
-        };
-        told = refl;
-        idle = s.idle;
-      }
+  stands_client_ack nr n s l e = grind (arith, common_steps, holds_client_ack)
 
   pub stands_controller_ack : (nr m : ℕ) → IsNumbersOf v events → m ≤ count_by is_admitted v.fates →
       count_from (acked_by_controller events) nr ≡ acked_by_controller events + m →
       IsNumbersOf (after_controller_ack v m) (ControllerAck nr ∷ events)
-  stands_controller_ack nr m s l e =
-      let h = s.holds in
-      record {
-        holds = record {
-          starts = h.starts;
-          runs = h.runs;
-          origins = h.origins;
-          received = h.received;
-          admitted = h.admitted;
-          carried = h.carried;
-          sent = h.sent;
-          within = h.within;
-          fates = rw e (fates_controller_ack v events (acked_by_client events) h m);
-          acked = rw e (omega (arith, admitted_left v events (acked_by_client events) h));
-        };
-        told = s.told;
-        idle = s.idle;
-      }
+  stands_controller_ack nr m s l e = grind (arith, common_steps, fates_controller_ack, admitted_left)
 
   pub stands_admitted : (nr : ℕ) → IsNumbersAwaiting v events nr → IsNumbersOf (after_admitted v) (Admitted nr ∷ events)
-  stands_admitted nr w =
-      let h = w.holds in
-      let j = count_from (acked_by_client events) nr in
-      record {
-        holds = record {
-          starts = h.starts;
-          runs = h.runs;
-          origins = h.origins;
-          carried = h.carried;
-          sent = h.sent;
-          within = h.within;
-          fates = fates_admitted v events j h;
-          received = received_more v events j h fates.Admitted;
-          admitted = admitted_more v events j h;
-          acked = (let e : count_by is_admitted (client_frames events ++ fates.Admitted ∷ []) ≡ to_controller events + 1 =
-              count_by-append is_admitted (client_frames events) (fates.Admitted ∷ []) in omega (arith, h.acked));
-        };
-        told = refl;
-        idle = refl;
-      }
+  stands_admitted nr w = grind (arith, common_steps, fates_admitted, received_more, admitted_more, count_by, count_by-append)
 
   -- the last N(R) told, once a frame is refused
   told_refused : (nr : ℕ) → IsNumbersAwaiting v events nr →
@@ -197,123 +111,28 @@ module _ (v : NumbersValue) (events : List NumberEvent) where
   told_refused nr w = (let e = w.told in grind (arith, nat_tests))
 
   pub stands_refused : (nr : ℕ) → IsNumbersAwaiting v events nr → IsNumbersOf (after_dropped v) (Refused nr false ∷ events)
-  stands_refused nr w =
-      let h = w.holds in
-      let j = count_from (acked_by_client events) nr in
-      record {
-        holds = record {
-          starts = h.starts;
-          runs = h.runs;
-          origins = h.origins;
-          carried = h.carried;
-          sent = h.sent;
-          within = h.within;
-          fates = fates_more v events j h fates.Refused;
-          received = received_more v events j h fates.Refused;
-          admitted = rw (refused_more v events j h) h.admitted;
-          acked = rw (refused_more v events j h) h.acked;
-        };
-        told = told_refused nr w;
-        idle = refl;
-      }
+  stands_refused nr w = grind (arith, common_steps, fates_more, received_more, refused_more, told_refused)
 
   pub stands_mirrored : (nr : ℕ) → IsNumbersAwaiting v events nr → IsNumbersOf (after_mirror (after_dropped v)) (Refused nr true ∷ events)
   stands_mirrored nr w =
-      let h = w.holds in
-      let j = count_from (acked_by_client events) nr in
-      record {
-        holds = record {
-          starts = h.starts;
-          runs = h.runs;
-          origins = origins_more v events j h origins.Mirror;
-          carried = rw (mirror_more v events j h) h.carried;
-          sent = sent_more v events j h origins.Mirror;
-          within = omega (arith, h.within, length-append (frames_to_client events) (origins.Mirror ∷ []));
-          fates = fates_more v events j h fates.Refused;
-          received = received_more v events j h fates.Refused;
-          admitted = rw (refused_more v events j h) h.admitted;
-          acked = rw (refused_more v events j h) h.acked;
-        };
-        told = told_refused nr w ∙ sym (among-append j (frames_to_client events) (origins.Mirror ∷ []) h.within);
-        idle = refl;
-      }
+      grind (arith, common_steps, origins_more, mirror_more, sent_more, length-append, fates_more, received_more, refused_more, told_refused, among-append)
 
   pub ack_is : (nr : ℕ) → count_by is_controllers v.origins ≤ 4096 → IsNumbersAwaiting v events nr → ack_owed v v.owed ≡ owed_ack events nr
-  ack_is nr l w =
-      let j = count_from (acked_by_client events) nr in
-      let e = stamp_controller v events j w.holds l in
-      let t = w.told in
-      let r : (stamp_for_controller v).receive ≡ client_translated events nr % 32768 = ap (λ (s : Stamp). s.receive) e in
-      rw (w.owed, r)
-      (elim (cases_lt 0 w.moved) [
-        | inl z ↦ (let below : last_told events < client_translated events nr =
-            omega arith in rw (lt-ltb 0 w.moved z, lt-ltb (last_told events) (client_translated events nr) below) refl)
-        | inr z ↦ (let past : client_translated events nr ≤ last_told events =
-            omega arith in rw (le-ltb 0 w.moved z, le-ltb (last_told events) (client_translated events nr) past) refl)
-      ])
+  ack_is nr l w = grind (arith, nat_tests, common_steps, stamp_controller, cases_lt, lt-ltb, le-ltb)
 
   pub stands_carried : (nr : ℕ) → IsNumbersOf v (ControllerAck nr ∷ events) → IsNumbersOf (after_carried v) (Carried nr ∷ events)
-  stands_carried nr s =
-      let h = s.holds in
-      let j = acked_by_client events in
-      record {
-        holds = record {
-          starts = h.starts;
-          runs = h.runs;
-          fates = h.fates;
-          received = h.received;
-          admitted = h.admitted;
-          acked = h.acked;
-          origins = origins_more v (ControllerAck nr ∷ events) j h origins.Controller;
-          carried = carried_more v (ControllerAck nr ∷ events) j h;
-          sent = sent_more v (ControllerAck nr ∷ events) j h origins.Controller;
-          within = omega (arith, h.within, length-append (frames_to_client events) (origins.Controller ∷ []));
-        };
-        told = s.told ∙ sym (among-append j (frames_to_client events) (origins.Controller ∷ []) h.within);
-        idle = s.idle;
-      }
+  stands_carried nr s = grind (arith, common_steps, origins_more, carried_more, sent_more, length-append, among-append)
 
 -- what holds whatever happened
 module _ (v : NumbersValue) (i : IsNumbersValue v) where
   pub numbering_controller_ack : (m : ℕ) → IsNumbersValue (after_controller_ack v m)
-  numbering_controller_ack m = record {
-    origins = i.origins;
-    received = i.received;
-    admitted = i.admitted;
-    carried = i.carried;
-    sent = i.sent;
-    fates = omega (arith, i.fates, length-uncovered m v.fates);
-    front = uncovered_again m v.fates;
-  }
+  numbering_controller_ack m = grind (arith, common_steps, length-uncovered, front, uncovered_again)
 
   pub numbering_admitted : IsSome v.owed → IsNumbersValue (after_admitted v)
-  numbering_admitted some =
-      let one = waits v.owed some in
-      record {
-        carried = i.carried;
-        sent = i.sent;
-        fates = omega (arith, i.fates, one, length-append v.fates (fates.Admitted ∷ []));
-        origins = omega (arith, i.origins, one);
-        front = uncovered_admitted v.fates i.front;
-        received = omega arith;
-        admitted = omega arith;
-      }
+  numbering_admitted some = grind (arith, common_steps, waits, length-append, front, uncovered_admitted)
 
   pub numbering_dropped : IsSome v.owed → IsNumbersValue (after_dropped v)
-  numbering_dropped some =
-      let one = waits v.owed some in
-      record {
-        carried = i.carried;
-        sent = i.sent;
-        admitted = i.admitted;
-        fates = omega (arith, i.fates, one, length-append v.fates (fates.Refused ∷ []), length-uncovered 0 (v.fates ++ fates.Refused ∷ []));
-        origins = omega (arith, i.origins, one);
-        front = uncovered_again 0 (v.fates ++ fates.Refused ∷ []);
-        received = omega arith;
-      }
+  numbering_dropped some = grind (arith, common_steps, waits, length-append, length-uncovered, front, uncovered_again)
 
 pub admits_dropped : (frames : List FrameFate) → count_by is_admitted (uncovered 0 (frames ++ fates.Refused ∷ [])) ≡ count_by is_admitted frames
-admits_dropped frames =
-    let e : count_by is_admitted (frames ++ fates.Refused ∷ []) ≡ count_by is_admitted frames + 0 =
-    count_by-append is_admitted frames (fates.Refused ∷ []) in
-    omega (arith, count-uncovered 0 (frames ++ fates.Refused ∷ []) (omega arith))
+admits_dropped frames = grind (arith, common_steps, count_by, count_by-append, count-uncovered)

@@ -5,23 +5,16 @@ use Rattle.cf_renumber.specs.declared.mark.FrameFate.{FrameFate}
 use Rattle.cf_renumber.specs.declared.mark.FrameFate.TheVariants as fates
 use Rattle.cf_renumber.specs.Counts.{IsCountOf, count_from, is_counted, is_admitted, covered_by}
 use Rattle.cf_renumber.proofs.Lists.{one_more}
+use Rattle.std.proofs.lemmas.Grind.{common_steps}
 
 pub count_is : (low high number count : ℕ) → high < low + 32768 → IsCountOf low high number count → count ≡ count_from low number
 count_is low high number count h k = omega (arith, k.at_least, k.at_most, k.agrees)
 
 pub counted : (low high number count : ℕ) → high < low + 32768 → IsCountOf low high number count → is_counted low high number ≡ true
-counted low high number count h k =
-    let e = count_is low high number count h k in
-    let a = k.at_most in
-    let b : number < 32768 = omega (arith, k.agrees) in
-    let f : count_from low number ≤ high = omega (arith, e) in
-    grind (arith, nat_tests)
+counted low high number count h k = grind (arith, nat_tests, common_steps, count_is)
 
 pub is_count : (low high number : ℕ) → is_counted low high number ≡ true → IsCountOf low high number (count_from low number)
-is_count low high number e =
-    let b : number < 32768 = grind (arith, nat_tests) in
-    let f : count_from low number ≤ high = grind (arith, nat_tests) in
-    record { at_least = omega arith; at_most = f; agrees = omega arith }
+is_count low high number e = grind (arith, nat_tests, common_steps)
 
 pub covered-few : (m : ℕ) (frames : List FrameFate) → count_by is_admitted (take (covered_by m frames) frames) ≤ m
 covered-few m [] = omega arith

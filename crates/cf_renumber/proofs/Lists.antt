@@ -12,6 +12,7 @@ use Rattle.cf_renumber.specs.declared.mark.Origin.{Origin}
 use Rattle.cf_renumber.specs.declared.mark.Origin.TheVariants as origins
 use Rattle.cf_renumber.specs.Counts.{is_admitted, is_controllers, controllers_among, covered_by}
 use Rattle.cf_renumber.specs.Numbers.{uncovered}
+use Rattle.std.proofs.lemmas.Grind.{common_steps}
 
 pub count_by-append : {X : Type 0} (p : X → Bool) (xs ys : List X) → count_by p (xs ++ ys) ≡ count_by p xs + count_by p ys
 count_by-append p xs ys = sum_by-append (λ x. cond (p x) 1 0) xs ys
@@ -22,8 +23,7 @@ count_by-split p n xs = sym (ap (count_by p) (take-append-drop n xs)) ∙ count_
 
 -- the first j + n are the first j, and the first n of the rest
 pub among-add : (j n : ℕ) (frames : List Origin) → controllers_among (j + n) frames ≡ controllers_among j frames + controllers_among n (drop j frames)
-among-add j n frames =
-    ap (count_by is_controllers) (take-add j n frames) ∙ count_by-append is_controllers (take j frames) (take n (drop j frames))
+among-add j n frames = grind (arith, common_steps, count_by, take-add, count_by-append)
 
 -- a front does not change as the list grows
 pub among-append : (j : ℕ) (frames more : List Origin) → j ≤ length frames → controllers_among j (frames ++ more) ≡ controllers_among j frames
@@ -40,8 +40,7 @@ pub uncovered-add : (m a : ℕ) (frames : List FrameFate) → uncovered (m + a) 
 uncovered-add m a [] = refl
 uncovered-add m a (fates.Refused ∷ frames) = uncovered-add m a frames
 uncovered-add zero a (fates.Admitted ∷ frames) = (let e : zero + a ≡ a = omega arith in ap (λ (n : ℕ). uncovered n (fates.Admitted ∷ frames)) e)
-uncovered-add (suc m) a (fates.Admitted ∷ frames) =
-    ap (λ (n : ℕ). uncovered n (fates.Admitted ∷ frames)) (suc-add m a) ∙ uncovered-add m a frames
+uncovered-add (suc m) a (fates.Admitted ∷ frames) = grind (arith, common_steps, uncovered-add m a frames, suc-add)
 
 pub one_more : (frames : List FrameFate) → count_by is_admitted (fates.Admitted ∷ frames) ≡ 1 + count_by is_admitted frames
 one_more frames = count_by-append is_admitted (fates.Admitted ∷ []) frames
@@ -96,5 +95,4 @@ uncovered_keeps (fates.Admitted ∷ frames) more h l = refl
 
 pub uncovered_admitted : (frames : List FrameFate) → uncovered 0 frames ≡ frames →
     uncovered 0 (frames ++ fates.Admitted ∷ []) ≡ frames ++ fates.Admitted ∷ []
-uncovered_admitted [] h = refl
-uncovered_admitted (f ∷ frames) h = uncovered_keeps (f ∷ frames) _ h (omega arith)
+uncovered_admitted frames h1 = grind (arith, common_steps, uncovered_keeps)

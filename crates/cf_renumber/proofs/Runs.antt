@@ -8,46 +8,35 @@ use Rattle.cf_renumber.specs.declared.answer.NumberRefusal.{NumberRefusal}
 use Rattle.cf_renumber.specs.Counts.{NumberEvent, Admitted, Refused, ClientAck, Carried, ControllerAck, client_refusal, client_ack_refusal, controller_refusal, controller_ack_refusal, admitted_stamp, refused_stamp, carried_stamp, client_translated, controller_translated, may_send}
 use Rattle.cf_renumber.specs.NumbersCalls.{NumbersCall, MaySend, FromClient, Admit, Refuse, AckOfClient, FromController, AckOfController, Turn, Idle, Waiting, Over, MayCall, IsNumbersRun, IsInOrder, IsNumbersAt, Answered, AllAnswered, NumbersStep, turn_after, events_of, judged, answer, after_result, error_of}
 use Rattle.cf_renumber.specs.Numbers.{NumbersValue, IsNumbersOf, IsNumbersAwaiting}
+use Rattle.std.proofs.lemmas.Grind.{common_steps}
+use Rattle.std.proofs.Common.{arith}
 
 pub runs : (calls : List NumbersCall) (v : NumbersValue) → IsNumbersRun calls v → IsInOrder calls →
     IsNumbersAt (turn_after calls) v (events_of calls) × AllAnswered calls
 runs [] v r o = (r, tt)
-runs (call ∷ earlier) v r o =
-    let before = runs earlier r.0 r.1 o.1 in
-    let did = r.2 earlier o.0 before.0 in
-    (did.1, (did.0, before.1))
+runs (call ∷ earlier) v r o = grind (arith, common_steps, runs earlier r.0 r.1 o.1)
 
 -- a call that may be made only between frames
 module _ (v : NumbersValue) where
   idle_client_ack : (nr : ℕ) (r : Result ℕ NumberRefusal) (p : Turn) (events : List NumberEvent) → MayCall p (AckOfClient nr r) →
       IsNumbersAt p v events → IsNumbersOf v events
-  idle_client_ack nr r Idle events m h = h
-  idle_client_ack nr r (Waiting n) events m h = absurd m
-  idle_client_ack nr r Over events m h = absurd m
+  idle_client_ack nr r p events h1 h2 = grind (arith, common_steps)
 
   idle_controller_ack : (nr : ℕ) (r : Result ℕ NumberRefusal) (p : Turn) (events : List NumberEvent) → MayCall p (AckOfController nr r) →
       IsNumbersAt p v events → IsNumbersOf v events
-  idle_controller_ack nr r Idle events m h = h
-  idle_controller_ack nr r (Waiting n) events m h = absurd m
-  idle_controller_ack nr r Over events m h = absurd m
+  idle_controller_ack nr r p events h1 h2 = grind (arith, common_steps)
 
   idle_from_controller : (ns nr : ℕ) (r : Result Stamp NumberRefusal) (p : Turn) (events : List NumberEvent) → MayCall p (FromController ns nr r) →
       IsNumbersAt p v events → IsNumbersOf v events
-  idle_from_controller ns nr r Idle events m h = h
-  idle_from_controller ns nr r (Waiting n) events m h = absurd m
-  idle_from_controller ns nr r Over events m h = absurd m
+  idle_from_controller ns nr r p events h1 h2 = grind (arith, common_steps)
 
   idle_from_client : (ns nr : ℕ) (r : Option NumberRefusal) (p : Turn) (events : List NumberEvent) → MayCall p (FromClient ns nr r) →
       IsNumbersAt p v events → IsNumbersOf v events
-  idle_from_client ns nr r Idle events m h = h
-  idle_from_client ns nr r (Waiting n) events m h = absurd m
-  idle_from_client ns nr r Over events m h = absurd m
+  idle_from_client ns nr r p events h1 h2 = grind (arith, common_steps)
 
   may_send_at : (side : Side) (b : Bool) → ((events : List NumberEvent) → IsNumbersOf v events → b ≡ may_send side events) →
       (p : Turn) (events : List NumberEvent) → MayCall p (MaySend side b) → IsNumbersAt p v events → (b ≡ may_send side events) × IsNumbersOf v events
-  may_send_at side b a Idle events m h = (a events h, h)
-  may_send_at side b a (Waiting n) events m h = absurd m
-  may_send_at side b a Over events m h = absurd m
+  may_send_at side b h1 p events h2 h3 = grind (arith, common_steps)
 
   pub did_may_send : (side : Side) (b : Bool) → ((events : List NumberEvent) → IsNumbersOf v events → b ≡ may_send side events) →
       NumbersStep (MaySend side b) v v
@@ -58,9 +47,7 @@ module _ (old new : NumbersValue) where
       ((events : List NumberEvent) (nr : ℕ) → IsNumbersAwaiting old events nr → IsNumbersOf new (Admitted nr ∷ events))
       → (p : Turn) (events : List NumberEvent) → MayCall p (Admit s) → IsNumbersAt p old events →
       Answered p events (Admit s) × IsNumbersOf new (judged p (λ nr. Admitted nr) events)
-  admit_at s a b Idle events m h = absurd m
-  admit_at s a b (Waiting nr) events m h = (a events nr h, b events nr h)
-  admit_at s a b Over events m h = absurd m
+  admit_at s h1 h2 p events h3 h4 = grind (arith, common_steps)
 
   pub did_admit : (s : Stamp) → ((events : List NumberEvent) (nr : ℕ) → IsNumbersAwaiting old events nr → s ≡ admitted_stamp events nr) →
       ((events : List NumberEvent) (nr : ℕ) → IsNumbersAwaiting old events nr → IsNumbersOf new (Admitted nr ∷ events)) → NumbersStep (Admit s) old new
@@ -71,9 +58,7 @@ module _ (old new : NumbersValue) where
       ((events : List NumberEvent) (nr : ℕ) → IsNumbersAwaiting old events nr → IsNumbersOf new (Refused nr reply ∷ events))
       → (p : Turn) (events : List NumberEvent) → MayCall p (Refuse reply s) → IsNumbersAt p old events →
       Answered p events (Refuse reply s) × IsNumbersOf new (judged p (λ nr. Refused nr reply) events)
-  refuse_at reply s a b Idle events m h = absurd m
-  refuse_at reply s a b (Waiting nr) events m h = (a events nr h, b events nr h)
-  refuse_at reply s a b Over events m h = absurd m
+  refuse_at reply s h1 h2 p events h3 h4 = grind (arith, common_steps)
 
   pub did_refuse : (reply : Bool) (s : RefusedStamp) →
       ((events : List NumberEvent) (nr : ℕ) → IsNumbersAwaiting old events nr → s ≡ refused_stamp events nr reply) →
@@ -89,8 +74,7 @@ module _ (old new : NumbersValue) where
         → IfOk r (λ _. (events : List NumberEvent) → IsNumbersOf old events → IsNumbersOf new (event ∷ events))
         → (events : List NumberEvent) → IsNumbersOf old events →
         (r ≡ answer (refusal events) (value events)) × IsNumbersAt (after_result r) new (event ∷ events)
-    result_at (Ok x) a b events h = (let k = a events h in (rw (k.0, k.1) refl, b events h))
-    result_at (Err e) a b events h = (let k = a events h in (rw k refl, tt))
+    result_at r h1 h2 events h3 = grind (arith, common_steps)
 
   pub did_client_ack : (nr : ℕ) (r : Result ℕ NumberRefusal)
       → ((events : List NumberEvent) → IsNumbersOf old events →
@@ -98,9 +82,7 @@ module _ (old new : NumbersValue) where
       × (n ≡ client_translated events nr % 32768)) (λ e. client_ack_refusal events nr ≡ Some e))
       → IfOk r (λ _. (events : List NumberEvent) → IsNumbersOf old events → IsNumbersOf new (ClientAck nr ∷ events)) →
       NumbersStep (AckOfClient nr r) old new
-  did_client_ack nr r a b earlier m h =
-      let events = events_of earlier in
-      result_at (λ events. client_ack_refusal events nr) (λ events. client_translated events nr % 32768) (ClientAck nr) r a b events (idle_client_ack old nr r (turn_after earlier) events m h)
+  did_client_ack nr r a b earlier m h = grind (arith, common_steps, result_at, idle_client_ack)
 
   pub did_controller_ack : (nr : ℕ) (r : Result ℕ NumberRefusal)
       → ((events : List NumberEvent) → IsNumbersOf old events →
@@ -108,9 +90,7 @@ module _ (old new : NumbersValue) where
       × (n ≡ controller_translated events nr % 32768)) (λ e. controller_ack_refusal events nr ≡ Some e))
       → IfOk r (λ _. (events : List NumberEvent) → IsNumbersOf old events → IsNumbersOf new (ControllerAck nr ∷ events)) →
       NumbersStep (AckOfController nr r) old new
-  did_controller_ack nr r a b earlier m h =
-      let events = events_of earlier in
-      result_at (λ events. controller_ack_refusal events nr) (λ events. controller_translated events nr % 32768) (ControllerAck nr) r a b events (idle_controller_ack old nr r (turn_after earlier) events m h)
+  did_controller_ack nr r a b earlier m h = grind (arith, common_steps, result_at, idle_controller_ack)
 
   pub did_from_controller : (ns nr : ℕ) (r : Result Stamp NumberRefusal)
       → ((events : List NumberEvent) → IsNumbersOf old events →
@@ -118,18 +98,12 @@ module _ (old new : NumbersValue) where
       × (s ≡ carried_stamp events nr)) (λ e. controller_refusal events ns nr ≡ Some e))
       → IfOk r (λ _. (events : List NumberEvent) → IsNumbersOf old events → IsNumbersOf new (Carried nr ∷ events)) →
       NumbersStep (FromController ns nr r) old new
-  did_from_controller ns nr r a b earlier m h =
-      let events = events_of earlier in
-      result_at (λ events. controller_refusal events ns nr) (λ events. carried_stamp events nr) (Carried nr) r a b events (idle_from_controller old ns nr r (turn_after earlier) events m h)
+  did_from_controller ns nr r a b earlier m h = grind (arith, common_steps, result_at, idle_from_controller)
 
   pub did_from_client : {A : Type 0} (ns nr : ℕ) (r : Result A NumberRefusal)
       → ((events : List NumberEvent) → IsNumbersOf old events →
       MatchResult r (λ _. client_refusal events ns nr ≡ None) (λ e. client_refusal events ns nr ≡ Some e))
       → IfOk r (λ _. (events : List NumberEvent) → IsNumbersOf old events → IsNumbersAwaiting new events nr) →
       NumbersStep (FromClient ns nr (error_of r)) old new
-  did_from_client ns nr (Ok x) a b earlier m h =
-      let s = idle_from_client old ns nr None (turn_after earlier) (events_of earlier) m h in
-      (sym (a (events_of earlier) s), b (events_of earlier) s)
-  did_from_client ns nr (Err e) a b earlier m h =
-      let s = idle_from_client old ns nr (Some e) (turn_after earlier) (events_of earlier) m h in
-      (sym (a (events_of earlier) s), tt)
+  did_from_client ns nr (Ok x) a b earlier m h = grind (arith, common_steps, idle_from_client)
+  did_from_client ns nr (Err e) a b earlier m h = grind (arith, common_steps, idle_from_client)

@@ -15,27 +15,20 @@ use Rattle.cf_renumber.specs.Numbers.{uncovered}
 use Rattle.cf_renumber.specs.NumbersCalls.{NumbersCall, Start, Stop, MaySend, FromClient, Admit, Refuse, AckOfClient, FromController, AckOfController, Turn, Idle, Waiting, Over, MayCall, IsInOrder, AllAnswered, turn_after, events_of, judged, answer}
 use Rattle.cf_renumber.proofs.Greatest.{counted, count_is, is_count}
 use Rattle.cf_renumber.proofs.Lists.{count_by-append, uncovered-add, uncovered-append, count-uncovered, length-uncovered}
+use Rattle.std.proofs.lemmas.Grind.{common_steps}
 
 -- refusals that do not stand
 neither : (a b : Option NumberRefusal) → option_or a b ≡ None → (a ≡ None) × (b ≡ None)
-neither None b e = (refl, e)
-neither (Some x) b e = absurd (false≢true (sym (ap is_some e)))
+neither a b h1 = grind (arith, common_steps, false≢true)
 
 not_full : (n : ℕ) → outstanding_refusal n ≡ None → n ≡ 4096 → ⊥
-not_full n e h =
-    let full : outstanding_refusal 4096 ≡ None = subst (λ (k : ℕ). outstanding_refusal k ≡ None) h e in
-    false≢true (sym (ap is_some full))
+not_full n e h = grind (arith, common_steps, false≢true)
 
 received : (low high nr : ℕ) → receive_refusal low high nr ≡ None → count_from low nr ≤ high
-received low high nr e =
-    elim (cases_Bool (is_counted low high nr)) [
-      | inl is ↦ (is_count low high nr is).at_most
-      | inr isn ↦ absurd (false≢true (sym (ap is_some (rw isn at e))))
-    ]
+received low high nr e = grind (arith, common_steps, is_count, false≢true)
 
 answered_ok : {A : Type 0} (o : Option NumberRefusal) (x y : A) → Ok y ≡ answer o x → o ≡ None
-answered_ok None x y e = refl
-answered_ok (Some r) x y e = absurd (false≢true (sym (ap is_ok e)))
+answered_ok o x y h1 = grind (arith, common_steps, false≢true)
 
 -- one more frame of the client, and more that the controller acknowledges
 unacked_more : (m : ℕ) (frames : List FrameFate) (f : FrameFate) → m ≤ count_by is_admitted frames →
@@ -79,8 +72,7 @@ Near Over es = Unit {0}
 
 -- a difference that is at most 4,096 and not that is less
 less : (n : ℕ) → n ≤ 4096 → outstanding_refusal n ≡ None → n < 4096
-less n h e =
-    elim (cases_lt n 4096) [ inl l ↦ l | inr l ↦ absurd (not_full n e (omega (arith, h, l))) ]
+less n h e = grind (arith, common_steps, cases_lt, not_full)
 
 module _ (es : List NumberEvent) (n : IsNear es (acked_by_client es)) where
   nearer : (ns nr : ℕ) → client_refusal es ns nr ≡ None → IsNearer es (count_from (acked_by_client es) nr)
@@ -150,28 +142,16 @@ module _ (es : List NumberEvent) (nr : ℕ) (n : IsNearer es (count_from (acked_
       ]
 
 over : (call : NumbersCall) → MayCall Over call → ⊥
-over Start m = absurd m
-over Stop m = absurd m
-over (MaySend side b) m = absurd m
-over (FromClient ns nr r) m = absurd m
-over (Admit s) m = absurd m
-over (Refuse reply s) m = absurd m
-over (AckOfClient nr r) m = absurd m
-over (FromController ns nr r) m = absurd m
-over (AckOfController nr r) m = absurd m
+over call h1 = grind (arith, common_steps)
 
 -- a call that may be made only between frames
 only_idle : (call : NumbersCall) (p : Turn) (es : List NumberEvent) → ((nr : ℕ) → MayCall (Waiting nr) call → ⊥) → MayCall p call → Near p es →
     IsNear es (acked_by_client es)
-only_idle call Idle es none m n = n
-only_idle call (Waiting nr) es none m n = absurd (none nr m)
-only_idle call Over es none m n = absurd (over call m)
+only_idle call p es h1 h2 h3 = grind (arith, common_steps, over)
 
 near_admit : (s : Stamp) (p : Turn) (es : List NumberEvent) → MayCall p (Admit s) → Near p es →
     IsNear (judged p (λ nr. Admitted nr) es) (acked_by_client (judged p (λ nr. Admitted nr) es))
-near_admit s Idle es m n = absurd m
-near_admit s (Waiting nr) es m n = near_admitted es nr n.1
-near_admit s Over es m n = absurd m
+near_admit s p es h1 h2 = grind (arith, common_steps, near_admitted)
 
 near_refuse : (reply : Bool) (s : RefusedStamp) (p : Turn) (es : List NumberEvent) → MayCall p (Refuse reply s) → Near p es →
     IsNear (judged p (λ nr. Refused nr reply) es) (acked_by_client (judged p (λ nr. Refused nr reply) es))
@@ -187,37 +167,24 @@ same es more n a b c d =
 
 near : (calls : List NumbersCall) → IsInOrder calls → AllAnswered calls → Near (turn_after calls) (events_of calls)
 near [] o a = record { within = omega arith; few = omega arith; back = omega arith; unacked = omega arith }
-near (Start ∷ earlier) o a =
-    let n = only_idle Start (turn_after earlier) (events_of earlier) (λ nr m. m) o.0 (near earlier o.1 a.1) in
-    same (events_of earlier) (Started ∷ events_of earlier) n refl refl refl refl
-near (Stop ∷ earlier) o a =
-    let n = only_idle Stop (turn_after earlier) (events_of earlier) (λ nr m. m) o.0 (near earlier o.1 a.1) in
-    same (events_of earlier) (Stopped ∷ events_of earlier) n refl refl refl refl
+near (Start ∷ earlier) o a = grind (arith, common_steps, near earlier o.1 a.1, only_idle, same)
+near (Stop ∷ earlier) o a = grind (arith, common_steps, near earlier o.1 a.1, only_idle, same)
 near (MaySend side b ∷ earlier) o a = only_idle (MaySend side b) (turn_after earlier) (events_of earlier) (λ nr m. m) o.0 (near earlier o.1 a.1)
-near (FromClient ns nr None ∷ earlier) o a =
-    let n = only_idle (FromClient ns nr None) (turn_after earlier) (events_of earlier) (λ nr m. m) o.0 (near earlier o.1 a.1) in
-    (n, nearer (events_of earlier) n ns nr (sym a.0))
+near (FromClient ns nr None ∷ earlier) o a = grind (arith, common_steps, near earlier o.1 a.1, only_idle, nearer)
 near (FromClient ns nr (Some e) ∷ earlier) o a = tt
 near (Admit s ∷ earlier) o a = near_admit s (turn_after earlier) (events_of earlier) o.0 (near earlier o.1 a.1)
 near (Refuse reply s ∷ earlier) o a = near_refuse reply s (turn_after earlier) (events_of earlier) o.0 (near earlier o.1 a.1)
-near (AckOfClient nr (Ok x) ∷ earlier) o a =
-    let n = only_idle (AckOfClient nr (Ok x)) (turn_after earlier) (events_of earlier) (λ nr m. m) o.0 (near earlier o.1 a.1) in
-    near_client_ack (events_of earlier) n nr (answered_ok _ _ _ a.0)
+near (AckOfClient nr (Ok x) ∷ earlier) o a = grind (arith, common_steps, near earlier o.1 a.1, only_idle, near_client_ack, answered_ok)
 near (AckOfClient nr (Err e) ∷ earlier) o a = tt
-near (FromController ns nr (Ok x) ∷ earlier) o a =
-    let n = only_idle (FromController ns nr (Ok x)) (turn_after earlier) (events_of earlier) (λ nr m. m) o.0 (near earlier o.1 a.1) in
-    near_carried (events_of earlier) n ns nr (answered_ok _ _ _ a.0)
+near (FromController ns nr (Ok x) ∷ earlier) o a = grind (arith, common_steps, near earlier o.1 a.1, only_idle, near_carried, answered_ok)
 near (FromController ns nr (Err e) ∷ earlier) o a = tt
 near (AckOfController nr (Ok x) ∷ earlier) o a =
-    let n = only_idle (AckOfController nr (Ok x)) (turn_after earlier) (events_of earlier) (λ nr m. m) o.0 (near earlier o.1 a.1) in
-    near_controller_ack (events_of earlier) n nr (answered_ok _ _ _ a.0)
+    grind (arith, common_steps, near earlier o.1 a.1, only_idle, near_controller_ack, answered_ok)
 near (AckOfController nr (Err e) ∷ earlier) o a = tt
 
 -- the ranges of a number where no call was refused
 ranges_at : (p : Turn) (es : List NumberEvent) → (p ≡ Over → ⊥) → Near p es → IsNear es (acked_by_client es)
-ranges_at Idle es going n = n
-ranges_at (Waiting nr) es going n = n.0
-ranges_at Over es going n = absurd (going refl)
+ranges_at p es h1 h2 = grind (arith, common_steps)
 
 module _ (calls : List NumbersCall) (o : IsInOrder calls) (a : AllAnswered calls) (going : turn_after calls ≡ Over → ⊥) (number count : ℕ) where
   here : IsNear (events_of calls) (acked_by_client (events_of calls))

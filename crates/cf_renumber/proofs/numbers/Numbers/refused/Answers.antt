@@ -6,11 +6,11 @@ use Rattle.cf_renumber.specs.Numbers.{IsNumbersOf}
 use Rattle.cf_renumber.proofs.Runs.{did_refuse}
 use Rattle.cf_renumber.proofs.Counting.{stands_refused, stands_mirrored, stamp_client, ack_is}
 use Rattle.cf_renumber.proofs.numbers.Numbers.refused.Goals as goal
+use Rattle.std.proofs.lemmas.Grind.{common_steps}
+use Rattle.std.proofs.Common.{arith}
 
 pub returns-then-not-reply-clause-stamp : goal.returns-then-not-reply-clause-stamp
-returns-then-not-reply-clause-stamp c = λ events nr w. (
-    let made : Option ℕ → RefusedStamp = λ a. record { reply = None; ack = a } in
-    rw c.if-not-reply.true (ap made (c.owed_ack-ack.ensures.value ∙ ack_is c.args.self.now events nr c.owed_ack-ack.ensures.few w)))
+returns-then-not-reply-clause-stamp c = grind (arith, common_steps, ack_is)
 
 pub returns-then-not-reply-clause-stands : goal.returns-then-not-reply-clause-stands
 returns-then-not-reply-clause-stands c =
