@@ -1,8 +1,7 @@
 -- What each call does to values that are those of the events.
-use Rattle.std.proofs.Common.{◌≡◌, ℕ, ◌+◌, ◌-◌, ◌%◌, ◌<◌, ◌≤◌, true, false, List, [], ◌∷◌, ◌++◌, length, drop, nat_lt, if◌then◌else◌, Option, Some, None, IsSome, inl, inr, refl, sym, ◌∙◌, ap, arith, length-append, count_by}
+use Rattle.std.proofs.Common.{◌≡◌, ℕ, ◌+◌, ◌-◌, ◌%◌, ◌≤◌, true, false, List, [], ◌∷◌, ◌++◌, length, drop, nat_lt, if◌then◌else◌, Option, Some, None, IsSome, sym, ◌∙◌, ap, arith, length-append, count_by}
 use Rattle.std.proofs.lemmas.Bool.Decides.{nat_tests}
 use Rattle.std.proofs.lemmas.Bool.{false≢true, cases_lt, le-ltb, lt-ltb}
-use Rattle.cf_renumber.specs.declared.answer.Stamp.{Stamp}
 use Rattle.std.proofs.lemmas.List.{drop-drop, length-drop, drop-append-le}
 use Rattle.cf_renumber.specs.declared.mark.FrameFate.{FrameFate}
 use Rattle.cf_renumber.specs.declared.mark.FrameFate.TheVariants as fates
@@ -25,13 +24,13 @@ module _ (v : NumbersValue) (events : List NumberEvent) (j : ℕ) (h : HasCounts
   origins_left = ap length h.origins ∙ length-drop j (frames_to_client events)
 
   pub controllers_left : controllers_among j (frames_to_client events) + count_by is_controllers v.origins ≡ from_controller events
-  controllers_left = grind (arith, common_steps, count_by, count_by-split)
+  controllers_left = grind (arith, common_steps, count_by-split)
 
   pub fates_left : length v.fates ≡ from_client events - covered_by (acked_by_controller events) (client_frames events)
   fates_left = ap length h.fates ∙ length-uncovered (acked_by_controller events) (client_frames events)
 
   pub admitted_left : acked_by_controller events + count_by is_admitted v.fates ≡ to_controller events
-  admitted_left = grind (arith, common_steps, count_by, count-uncovered)
+  admitted_left = grind (arith, common_steps, count-uncovered)
 
   -- the client acknowledges n more, whatever is owed then
   pub holds_client_ack : (owed : Option ℕ) (n : ℕ) → n ≤ length v.origins → HasCountsOf (record (after_client_ack v n) { owed = owed }) events (j + n)
@@ -42,7 +41,7 @@ module _ (v : NumbersValue) (events : List NumberEvent) (j : ℕ) (h : HasCounts
   told_client_ack n = grind (arith, common_steps, among-add)
 
   pub stamp_controller : count_by is_controllers v.origins ≤ 4096 → stamp_for_controller v ≡ next_stamp_for_controller events j
-  stamp_controller l = grind (arith, common_steps, count_by, controllers_left)
+  stamp_controller l = grind (arith, common_steps, controllers_left)
 
   pub stamp_client : length v.fates ≤ 4096 → stamp_for_client v ≡ next_stamp_for_client events
   stamp_client l = grind (arith, common_steps, fates_left, covered_by-le)
@@ -102,7 +101,7 @@ module _ (v : NumbersValue) (events : List NumberEvent) where
   stands_controller_ack nr m s l e = grind (arith, common_steps, fates_controller_ack, admitted_left)
 
   pub stands_admitted : (nr : ℕ) → IsNumbersAwaiting v events nr → IsNumbersOf (after_admitted v) (Admitted nr ∷ events)
-  stands_admitted nr w = grind (arith, common_steps, fates_admitted, received_more, admitted_more, count_by, count_by-append)
+  stands_admitted nr w = grind (arith, common_steps, fates_admitted, received_more, admitted_more, count_by-append)
 
   -- the last N(R) told, once a frame is refused
   told_refused : (nr : ℕ) → IsNumbersAwaiting v events nr →
@@ -135,4 +134,4 @@ module _ (v : NumbersValue) (i : IsNumbersValue v) where
   numbering_dropped some = grind (arith, common_steps, waits, length-append, length-uncovered, front, uncovered_again)
 
 pub admits_dropped : (frames : List FrameFate) → count_by is_admitted (uncovered 0 (frames ++ fates.Refused ∷ [])) ≡ count_by is_admitted frames
-admits_dropped frames = grind (arith, common_steps, count_by, count_by-append, count-uncovered)
+admits_dropped frames = grind (arith, common_steps, count_by-append, count-uncovered)

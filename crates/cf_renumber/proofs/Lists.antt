@@ -23,7 +23,7 @@ count_by-split p n xs = sym (ap (count_by p) (take-append-drop n xs)) ∙ count_
 
 -- the first j + n are the first j, and the first n of the rest
 pub among-add : (j n : ℕ) (frames : List Origin) → controllers_among (j + n) frames ≡ controllers_among j frames + controllers_among n (drop j frames)
-among-add j n frames = grind (arith, common_steps, count_by, take-add, count_by-append)
+among-add j n frames = grind (arith, common_steps, take-add, count_by-append)
 
 -- a front does not change as the list grows
 pub among-append : (j : ℕ) (frames more : List Origin) → j ≤ length frames → controllers_among j (frames ++ more) ≡ controllers_among j frames

@@ -1,12 +1,12 @@
 -- Lists of calls.
-use Rattle.std.proofs.Common.{◌≡◌, ℕ, ◌%◌, Bool, List, [], ◌∷◌, Option, Some, None, Result, Ok, Err, refl, sym}
+use Rattle.std.proofs.Common.{◌≡◌, ℕ, ◌%◌, Bool, List, [], ◌∷◌, Option, Some, None, Result, Ok, Err}
 use Rattle.std.specs.Prelude.{MatchResult, IfOk}
 use Rattle.cf_view.specs.declared.Side.{Side}
 use Rattle.cf_renumber.specs.declared.answer.Stamp.{Stamp}
 use Rattle.cf_renumber.specs.declared.answer.RefusedStamp.{RefusedStamp}
 use Rattle.cf_renumber.specs.declared.answer.NumberRefusal.{NumberRefusal}
 use Rattle.cf_renumber.specs.Counts.{NumberEvent, Admitted, Refused, ClientAck, Carried, ControllerAck, client_refusal, client_ack_refusal, controller_refusal, controller_ack_refusal, admitted_stamp, refused_stamp, carried_stamp, client_translated, controller_translated, may_send}
-use Rattle.cf_renumber.specs.NumbersCalls.{NumbersCall, MaySend, FromClient, Admit, Refuse, AckOfClient, FromController, AckOfController, Turn, Idle, Waiting, Over, MayCall, IsNumbersRun, IsInOrder, IsNumbersAt, Answered, AllAnswered, NumbersStep, turn_after, events_of, judged, answer, after_result, error_of}
+use Rattle.cf_renumber.specs.NumbersCalls.{NumbersCall, MaySend, FromClient, Admit, Refuse, AckOfClient, FromController, AckOfController, Turn, MayCall, IsNumbersRun, IsInOrder, IsNumbersAt, Answered, AllAnswered, NumbersStep, turn_after, events_of, judged, answer, after_result, error_of}
 use Rattle.cf_renumber.specs.Numbers.{NumbersValue, IsNumbersOf, IsNumbersAwaiting}
 use Rattle.std.proofs.lemmas.Grind.{common_steps}
 use Rattle.std.proofs.Common.{arith}

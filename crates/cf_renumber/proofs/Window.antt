@@ -1,8 +1,7 @@
 -- In calls in order few frames are not acknowledged, so that a number stands for at most one count.
-use Rattle.std.proofs.Common.{◌≡◌, ℕ, ◌+◌, ◌-◌, ◌<◌, ◌≤◌, Bool, true, false, List, [], ◌∷◌, ◌++◌, length, Option, Some, None, Ok, Err, inl, inr, refl, sym, ◌∙◌, ap, subst, arith, length-append, count_by}
-use Rattle.std.specs.Prelude.{is_some, is_ok}
+use Rattle.std.proofs.Common.{◌≡◌, ℕ, ◌+◌, ◌-◌, ◌<◌, ◌≤◌, Bool, true, false, List, [], ◌∷◌, ◌++◌, length, Option, Some, None, Ok, Err, sym, ◌∙◌, ap, arith, length-append, count_by}
 use Rattle.std.specs.Option.{option_or}
-use Rattle.std.proofs.lemmas.Bool.{false≢true, cases_lt, cases_Bool}
+use Rattle.std.proofs.lemmas.Bool.{false≢true, cases_lt}
 use Rattle.std.proofs.lemmas.List.Sums.{count_by-le-length}
 use Rattle.cf_renumber.specs.declared.answer.Stamp.{Stamp}
 use Rattle.cf_renumber.specs.declared.answer.RefusedStamp.{RefusedStamp}
@@ -10,7 +9,7 @@ use Rattle.cf_renumber.specs.declared.answer.NumberRefusal.{NumberRefusal}
 use Rattle.cf_renumber.specs.declared.mark.FrameFate.{FrameFate}
 use Rattle.cf_renumber.specs.declared.mark.FrameFate.TheVariants as fates
 use Rattle.cf_renumber.specs.declared.mark.Origin.TheVariants as origins
-use Rattle.cf_renumber.specs.Counts.{NumberEvent, Started, Stopped, Admitted, Refused, ClientAck, Carried, ControllerAck, IsCountOf, client_frames, frames_to_client, from_client, to_controller, to_client, is_admitted, count_from, is_counted, covered_by, acked_by_client, acked_by_controller, send_refusal, receive_refusal, outstanding_refusal, unacked_by_controller, client_refusal, client_ack_refusal, controller_refusal, controller_ack_refusal, from_controller}
+use Rattle.cf_renumber.specs.Counts.{NumberEvent, Admitted, Refused, ClientAck, Carried, ControllerAck, IsCountOf, client_frames, frames_to_client, from_client, to_controller, to_client, is_admitted, count_from, is_counted, covered_by, acked_by_client, acked_by_controller, send_refusal, receive_refusal, outstanding_refusal, unacked_by_controller, client_refusal, client_ack_refusal, controller_refusal, controller_ack_refusal, from_controller}
 use Rattle.cf_renumber.specs.Numbers.{uncovered}
 use Rattle.cf_renumber.specs.NumbersCalls.{NumbersCall, Start, Stop, MaySend, FromClient, Admit, Refuse, AckOfClient, FromController, AckOfController, Turn, Idle, Waiting, Over, MayCall, IsInOrder, AllAnswered, turn_after, events_of, judged, answer}
 use Rattle.cf_renumber.proofs.Greatest.{counted, count_is, is_count}

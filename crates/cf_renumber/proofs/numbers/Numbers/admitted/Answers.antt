@@ -1,5 +1,3 @@
-use Rattle.std.proofs.Common.{◌∙◌}
-use Rattle.cf_renumber.specs.Counts.{count_from, acked_by_client}
 use Rattle.cf_renumber.proofs.Counting.{stands_admitted, stamp_controller}
 use Rattle.cf_renumber.proofs.Runs.{did_admit}
 use Rattle.cf_renumber.proofs.numbers.Numbers.admitted.Goals as goal

@@ -1,4 +1,3 @@
-use Rattle.cf_renumber.specs.Counts.{acked_by_client}
 use Rattle.cf_renumber.proofs.Counting.{awaits}
 use Rattle.cf_renumber.proofs.numbers.Numbers.take_from_client.Goals as goal
 use Rattle.std.proofs.lemmas.Grind.{common_steps}

@@ -1,7 +1,3 @@
-use Rattle.std.proofs.Common.{◌∷◌, ◌∙◌, ap}
-use Rattle.cf_renumber.specs.declared.answer.Stamp.{Stamp}
-use Rattle.cf_renumber.specs.Counts.{ClientAck, acked_by_client}
-use Rattle.cf_renumber.specs.Numbers.{IsNumbersOf}
 use Rattle.cf_renumber.proofs.Counting.{stands_client_ack, stamp_controller}
 use Rattle.cf_renumber.proofs.numbers.Numbers.translate_client.Goals as goal
 use Rattle.std.proofs.lemmas.Grind.{common_steps}
