@@ -14,26 +14,17 @@ use Rattle.cf_dnpobj.specs.Fragment.{FragmentValue, SpellsRequest, takes_headers
 use Rattle.cf_dnpobj.proofs.Headers.{le_true, sized_by, sized_is, count_front, with_first_ok, after_first, header_again}
 use Rattle.cf_dnpobj.proofs.InOrder.{if_true, if_false}
 use Rattle.cf_dnpobj.proofs.Replies.{fields, past_refusal, with_some}
+use Rattle.std.proofs.lemmas.Grind.{common_steps}
 
 le_from : (a b : ℕ) → nat_le a b ≡ true → a ≤ b
 le_from a b h = grind (arith, nat_tests)
 
 size_facts : (c : Bool) (s n m : ℕ) → (if c && nat_le s n then Ok s else Err refusal.Parameter) ≡ Ok m → (s ≡ m) × (s ≤ n)
-size_facts false s n m e = cc
-size_facts true s n m e =
-    elim (cases_Bool (nat_le s n)) [
-      | inl t ↦ (let f : Ok s ≡ Ok m = rw t at e in let is : s ≡ m = cc in (is, le_from s n t))
-      | inr v ↦ (let f : Err refusal.Parameter ≡ Ok m = rw v at e in cc)
-    ]
+size_facts c s n m h1 = grind (arith, nat_tests, common_steps, nat_le, le_from)
 
 -- what a size tells of the octets that are there
 whole_facts : (a c : Bool) (r s n m : ℕ) → (if a && (nat_le r n && (c && nat_le s n)) then Ok s else Err refusal.Parameter) ≡ Ok m → (s ≡ m) × (s ≤ n)
-whole_facts false c r s n m e = cc
-whole_facts true c r s n m e =
-    elim (cases_Bool (nat_le r n)) [
-      | inl t ↦ (let f : (if c && nat_le s n then Ok s else Err refusal.Parameter) ≡ Ok m = rw t at e in size_facts c s n m f)
-      | inr v ↦ (let f : Err refusal.Parameter ≡ Ok m = rw v at e in cc)
-    ]
+whole_facts a c r s n m h1 = grind (arith, nat_tests, common_steps, nat_le, size_facts)
 
 sized_facts : (l : Layout) (q n len size : ℕ) → sized_by l q n len ≡ Ok size → (3 + range_size q ≤ size) × (size ≤ len)
 unfolding sized_by
@@ -47,11 +38,7 @@ layout_facts (Some l) xs size e = sized_facts l (slice_index xs 2) (count_of xs)
 
 -- a size is told where there are three octets at least
 head_there : (code : ℕ) (xs : List ℕ) (size : ℕ) → header_size code xs ≡ Ok size → (3 ≤ length xs) × (sized (layout_of code (slice_index xs 0) (slice_index xs 1)) xs ≡ Ok size)
-head_there code xs size e =
-    elim (cases_lt (length xs) 3) [
-      | inl v ↦ (let f : Err refusal.Parameter ≡ Ok size = rw (lt-ltb (length xs) 3 v) at e in cc)
-      | inr v ↦ (v, rw (le-ltb (length xs) 3 v) at e)
-    ]
+head_there code xs size e = grind (arith, nat_tests, common_steps, cases_lt, lt-ltb, le-ltb)
 
 header_facts : (code : ℕ) (xs : List ℕ) (size : ℕ) → header_size code xs ≡ Ok size → (3 + range_size (slice_index xs 2) ≤ size) × (size ≤ length xs)
 header_facts code xs size e = layout_facts (layout_of code (slice_index xs 0) (slice_index xs 1)) xs size (head_there code xs size e).1
@@ -84,26 +71,7 @@ are_headers (suc n) code (o ∷ xs) hs e = after_header n code o xs (header_size
 -- a header stays one, whatever follows
 more_there : (a c : Bool) (r s n k m : ℕ) → n ≤ k → (if a && (nat_le r n && (c && nat_le s n)) then Ok s else Err refusal.Parameter) ≡ Ok m →
     (if a && (nat_le r k && (c && nat_le s k)) then Ok s else Err refusal.Parameter) ≡ Ok m
-more_there false c r s n k m h e = e
-more_there true false r s n k m h e =
-    elim (cases_Bool (nat_le r n)) [
-      | inl t ↦ (let f : Err refusal.Parameter ≡ Ok m = rw t at e in cc)
-      | inr v ↦ (let f : Err refusal.Parameter ≡ Ok m = rw v at e in cc)
-    ]
-more_there true true r s n k m h e =
-    elim (cases_Bool (nat_le r n)) [
-      | inl t ↦
-          elim (cases_Bool (nat_le s n)) [
-            | inl u ↦
-                (let f : Ok s ≡ Ok m = rw (t, u) at e in
-                let is : s ≡ m = cc in
-                let a = le_true r k (omega (arith, le_from r n t, h)) in
-                let b = le_true s k (omega (arith, le_from s n u, h)) in
-                rw (a, b) (ap Ok is))
-            | inr v ↦ (let f : Err refusal.Parameter ≡ Ok m = rw (t, v) at e in cc)
-          ]
-      | inr v ↦ (let f : Err refusal.Parameter ≡ Ok m = rw v at e in cc)
-    ]
+more_there a c r s n k m h1 h2 = grind (arith, nat_tests, common_steps, nat_le, le_true, le_from)
 
 sized_more : (l : Layout) (q n len more size : ℕ) → len ≤ more → sized_by l q n len ≡ Ok size → sized_by l q n more ≡ Ok size
 unfolding sized_by
@@ -165,9 +133,7 @@ at_least : (a b : ℕ) → nat_lt a b ≡ false → b ≤ a
 at_least a b e = grind (arith, nat_tests)
 
 two : (xs : List ℕ) → 2 ≤ length xs → xs ≡ slice_index xs 0 ∷ slice_index xs 1 ∷ drop 2 xs
-two [] h = absurd (omega (arith, h))
-two (a ∷ []) h = absurd (omega (arith, h))
-two (a ∷ b ∷ xs) h = refl
+two xs h1 = grind (arith, nat_tests, common_steps)
 
 spelled : (xs : List ℕ) (f : FragmentValue) → Ok f ≡ read_octets xs → SpellsRequest f xs
 spelled xs f e =
@@ -192,17 +158,7 @@ spelled xs f e =
     })
 
 read_back : (xs : List ℕ) (f : FragmentValue) → SpellsRequest f xs → read_octets xs ≡ Ok f
-read_back xs f s =
-    let ys = f.control ∷ f.code ∷ f.objects in
-    let behind = with_headers ys (counted (headers_in f.code f.objects)) in
-    let third : Result FragmentValue FragmentRefusal = if not (is_function f.code) then Err refusal.Function else behind in
-    let second : Result FragmentValue FragmentRefusal = if nat_lt f.control 0xc0 then Err refusal.NotSingle else third in
-    ap read_octets s.spelled
-    ∙ if_false (nat_lt (length ys) 2) (Err refusal.Short) second (le-ltb (length ys) 2 (omega arith))
-    ∙ if_false (nat_lt f.control 0xc0) (Err refusal.NotSingle) third (le-ltb f.control 0xc0 s.single)
-    ∙ if_false (not (is_function f.code)) (Err refusal.Function) behind (ap not s.function)
-    ∙ ap (λ (r : Result (List (List ℕ)) FragmentRefusal). with_headers ys (counted r)) (ap (headers_in f.code) s.objects ∙ headers_back f.code s.headers s.are)
-    ∙ if_true (takes_headers f.code (length s.headers)) (Ok f) (Err refusal.Parameter) s.taken
+read_back xs f s = grind (arith, nat_tests, common_steps, not, nat_lt, if_false, le-ltb, headers_back, if_true)
 
 pub read_is_spelled : (octets : List ℕ) (f : FragmentValue) → read_octets octets ≡ Ok f ↔ SpellsRequest f octets
 read_is_spelled octets f = (λ e. spelled octets f (sym e), λ s. read_back octets f s)

@@ -8,6 +8,7 @@ use Rattle.cf_dnpobj.specs.declared.fragment.FragmentRefusal.TheVariants as refu
 use Rattle.cf_dnpobj.specs.declared.object.Layout.{Layout}
 use Rattle.cf_dnpobj.specs.Objects.{layout_of, takes, is_span, is_all, width, range_size, objects_size}
 use Rattle.cf_dnpobj.specs.Headers.{number_at, count_of, size_of, is_whole, sized, header_size, BeginsWithHeader, with_first, after_size, headers_by, headers_in}
+use Rattle.std.proofs.lemmas.Grind.{common_steps}
 
 abbrev IsLong : Result ℕ FragmentRefusal → Type 0
 IsLong (Ok n) = 3 ≤ n
@@ -18,20 +19,13 @@ sized_long None xs = tt
 sized_long (Some l) xs = elim (is_whole l xs) as (λ b. IsLong (if b then Ok (size_of l xs) else Err refusal.Parameter)) [ true ↦ omega arith | false ↦ tt ]
 
 long : (code : ℕ) (xs : List ℕ) → IsLong (header_size code xs)
-long code xs =
-    elim (nat_lt (length xs) 3) as (λ b. IsLong (if b then Err refusal.Parameter else sized (layout_of code (slice_index xs 0) (slice_index xs 1)) xs)) [
-      | true ↦ tt
-      | false ↦ sized_long (layout_of code (slice_index xs 0) (slice_index xs 1)) xs
-    ]
+long code xs = grind (arith, nat_tests, common_steps, nat_lt, slice_index, sized_long)
 
 -- a longer limit changes nothing
 same_after : (n m code : ℕ) (r : Result ℕ FragmentRefusal) (o : ℕ) (xs : List ℕ) → IsLong r → length xs ≤ n → length xs ≤ m →
     ((ys : List ℕ) → length ys ≤ n → length ys ≤ m → headers_by n code ys ≡ headers_by m code ys) →
     after_size r (o ∷ xs) (λ rest. headers_by n code rest) ≡ after_size r (o ∷ xs) (λ rest. headers_by m code rest)
-same_after n m code (Err e) o xs l h k same = refl
-same_after n m code (Ok size) o xs l h k same =
-    let d = length-drop size (o ∷ xs) in
-    ap (with_first (take size (o ∷ xs))) (same (drop size (o ∷ xs)) (omega (arith, d, l, h)) (omega (arith, d, l, k)))
+same_after n m code r o xs h1 h2 h3 h4 = grind (arith, nat_tests, common_steps, length-drop)
 
 same_headers : (n m code : ℕ) (xs : List ℕ) → length xs ≤ n → length xs ≤ m → headers_by n code xs ≡ headers_by m code xs
 same_headers n m code [] h k = refl
@@ -43,16 +37,10 @@ same_headers (suc n) (suc m) code (o ∷ xs) h k =
 -- one header, and then the rest
 pub after_first : (code : ℕ) (xs : List ℕ) (size : ℕ) → 0 < length xs → 3 ≤ size → header_size code xs ≡ Ok size →
     headers_in code xs ≡ with_first (take size xs) (headers_in code (drop size xs))
-after_first code [] size some l e = absurd (omega (arith, some))
-after_first code (o ∷ xs) size some l e =
-    let d = length-drop size (o ∷ xs) in
-    ap (λ r. after_size r (o ∷ xs) (λ rest. headers_by (length xs) code rest)) e
-    ∙ ap (with_first (take size (o ∷ xs))) (same_headers (length xs) (length (drop size (o ∷ xs))) code (drop size (o ∷ xs)) (omega (arith, d, l)) (omega arith))
+after_first code xs size h1 h2 h3 = grind (arith, nat_tests, common_steps, length-drop, same_headers)
 
 pub headers_step : (code : ℕ) (xs h : List ℕ) → BeginsWithHeader code xs h → headers_in code xs ≡ with_first h (headers_in code (drop (length h) xs))
-headers_step code xs h b =
-    after_first code xs (length h) (omega (arith, b.inside, b.least)) b.least b.size
-    ∙ ap (λ (front : List ℕ). with_first front (headers_in code (drop (length h) xs))) (sym b.front)
+headers_step code xs h b = grind (arith, common_steps, after_first)
 
 pub with_first_ok : (h : List ℕ) (r : Result (List (List ℕ)) FragmentRefusal) (hs : List (List ℕ)) → with_first h r ≡ Ok hs → (later : List (List ℕ)) × (r ≡ Ok later) × (hs ≡ h ∷ later)
 with_first_ok h (Ok later) hs e = (let same : hs ≡ h ∷ later = cc in (later, refl, same))
@@ -67,10 +55,7 @@ headers_later code xs h hs b e = with_first_ok h (headers_in code (drop (length 
 number_front : (w i size : ℕ) (xs : List ℕ) → w ≤ 2 → i + w ≤ size → number_at w (take size xs) i ≡ number_at w xs i
 number_front zero i size xs l h = refl
 number_front (suc zero) i size xs l h = get_or-take size xs i 0 (omega (arith, h))
-number_front (suc (suc zero)) i size xs l h =
-    let a = get_or-take size xs i 0 (omega (arith, h)) in
-    let b = get_or-take size xs (i + 1) 0 (omega (arith, h)) in
-    rw (a, b) refl
+number_front (suc (suc zero)) i size xs l h = grind (arith, common_steps, get_or-take)
 number_front (suc (suc (suc w))) i size xs l h = absurd (omega (arith, l))
 
 width_small : (q : ℕ) → width q ≤ 2
@@ -79,23 +64,10 @@ width_small q = grind (arith, nat_tests)
 same_count : (q : ℕ) (xs : List ℕ) (size : ℕ) → 3 + range_size q ≤ size →
     (if is_span q then number_at (width q) (take size xs) (3 + width q) + 1 - number_at (width q) (take size xs) 3 else number_at (width q) (take size xs) 3)
     ≡ (if is_span q then number_at (width q) xs (3 + width q) + 1 - number_at (width q) xs 3 else number_at (width q) xs 3)
-same_count q xs size h =
-    elim (cases_Bool (is_span q)) [
-      | inl t ↦
-          (let r : 3 + 2 * width q ≤ size = rw t at h in
-          let a = number_front (width q) (3 + width q) size xs (width_small q) (omega (arith, r)) in
-          let b = number_front (width q) 3 size xs (width_small q) (omega (arith, r)) in
-          rw (t, a, b) refl)
-      | inr n ↦
-          (let r : 3 + width q ≤ size = rw n at h in
-          let b = number_front (width q) 3 size xs (width_small q) r in
-          rw (n, b) refl)
-    ]
+same_count q xs size h = grind (arith, common_steps, number_front, width_small)
 
 pub count_front : (xs : List ℕ) (size : ℕ) → 3 ≤ size → 3 + range_size (slice_index xs 2) ≤ size → count_of (take size xs) ≡ count_of xs
-count_front xs size h r =
-    let q : slice_index (take size xs) 2 ≡ slice_index xs 2 = get_or-take size xs 2 0 (omega (arith, h)) in
-    rw q (same_count (slice_index xs 2) xs size r)
+count_front xs size h r = grind (arith, common_steps, slice_index, get_or-take, same_count)
 
 -- the size by qualifier, count and octets that are there
 unfoldable pub sized_by : Layout → ℕ → ℕ → ℕ → Result ℕ FragmentRefusal
@@ -108,20 +80,7 @@ le_true a b h = grind (arith, nat_tests)
 
 fewer : (a c : Bool) (r s n m : ℕ) → m ≤ n → r ≤ m → (if a && (nat_le r n && (c && nat_le s n)) then Ok s else Err refusal.Parameter) ≡ Ok m →
     (if a && (nat_le r m && (c && nat_le s m)) then Ok s else Err refusal.Parameter) ≡ Ok m
-fewer false c r s n m h k e = e
-fewer true false r s n m h k e =
-    (let t = le_true r n (omega (arith, h, k)) in let none : Err refusal.Parameter ≡ Ok m = rw t at e in cc)
-fewer true true r s n m h k e =
-    (let t = le_true r n (omega (arith, h, k)) in
-    elim (cases_Bool (nat_le s n)) [
-      | inl v ↦
-          (let same : Ok s ≡ Ok m = rw (t, v) at e in
-          let is : s ≡ m = cc in
-          let a = le_true r m k in
-          let b = le_true s m (omega (arith, is)) in
-          rw (a, b) (ap Ok is))
-      | inr v ↦ (let none : Err refusal.Parameter ≡ Ok m = rw (t, v) at e in cc)
-    ])
+fewer a c r s n m h1 h2 h3 = grind (arith, nat_tests, common_steps, le_true, nat_le)
 
 sized_fewer : (l : Layout) (q n len size : ℕ) → size ≤ len → 3 + range_size q ≤ size → sized_by l q n len ≡ Ok size → sized_by l q n size ≡ Ok size
 unfolding sized_by
@@ -144,21 +103,7 @@ sized_front (Some l) xs size a b c e =
 -- the octets of the first header are that header
 pub header_again : (code : ℕ) (xs : List ℕ) (size : ℕ) → 3 ≤ size → size ≤ length xs → 3 + range_size (slice_index xs 2) ≤ size → header_size code xs ≡ Ok size → header_size code (take size xs) ≡ Ok size
 header_again code xs size a b c e =
-    let long = length-take-le size xs b in
-    let g : slice_index (take size xs) 0 ≡ slice_index xs 0 = get_or-take size xs 0 0 (omega (arith, a)) in
-    let v : slice_index (take size xs) 1 ≡ slice_index xs 1 = get_or-take size xs 1 0 (omega (arith, a)) in
-    let whole : sized (layout_of code (slice_index xs 0) (slice_index xs 1)) xs ≡ Ok size = rw (le-ltb (length xs) 3 (omega (arith, a, b))) at e in
-    rw (le-ltb (length (take size xs)) 3 (omega (arith, long, a)), g, v) (sized_front (layout_of code (slice_index xs 0) (slice_index xs 1)) xs size a b c whole)
+    grind (arith, nat_tests, common_steps, long, length-take-le, slice_index, get_or-take, le-ltb, sized_front)
 
 pub begins_with_header : (code : ℕ) (xs : List ℕ) (size : ℕ) → header_size code xs ≡ Ok size → 3 ≤ size → size ≤ length xs → 3 + range_size (slice_index xs 2) ≤ size → BeginsWithHeader code xs (take size xs)
-begins_with_header code xs size e a b c =
-    let long = length-take-le size xs b in
-    let q : slice_index (take size xs) 2 ≡ slice_index xs 2 = get_or-take size xs 2 0 (omega (arith, a)) in
-    record {
-      header_is = header_again code xs size a b c e ∙ ap Ok (sym long);
-      size = e ∙ ap Ok (sym long);
-      front = ap (λ (n : ℕ). take n xs) (sym long);
-      inside = omega (arith, long, b);
-      least = omega (arith, long, a);
-      range = rw q (omega (arith, long, c));
-    }
+begins_with_header code xs size e a b c = grind (arith, common_steps, long, length-take-le, slice_index, get_or-take, header_again)

@@ -12,6 +12,7 @@ use Rattle.cf_dnpobj.specs.Acts.{header_acts, header_count, object_act, plain_ac
 use Rattle.cf_dnpobj.specs.Reply.{refused}
 use Rattle.cf_dnpobj.proofs.Headers.{headers_later}
 use Rattle.cf_dnpobj.proofs.Sums.{header_counted, some_headers}
+use Rattle.std.proofs.lemmas.Grind.{common_steps}
 
 get_left : {X : Type 0} (xs ys : List X) (i : ℕ) → i < length xs → slice_get (xs ++ ys) i ≡ slice_get xs i
 get_left [] ys i h = absurd (omega (arith, h))
@@ -91,16 +92,7 @@ module _ (code : ℕ) (xs h : List ℕ) (place : ℕ) (b : BeginsWithHeader code
       )
 
   pub replied : (start items new : List ℕ) → LeavesReply code xs start place items → new ≡ items ++ refused code h → LeavesReply code xs start (place + length h) new
-  replied start items new leaves is headers e =
-      let l = leaves headers e in
-      let n = next_headers l.0 l.1 in
-      let later : List ℕ = flat_map (refused code) n.0 in (
-        n.0,
-        n.1,
-        ap (λ (ys : List ℕ). ys ++ later) is ∙ append_assoc items (refused code h) later
-            ∙ ap (λ (ys : List ℕ). items ++ ys) (sym (ap (flat_map (refused code)) n.2 ∙ flat_map-cons (refused code) h n.0))
-            ∙ l.2,
-      )
+  replied start items new leaves is headers e = grind (arith, common_steps, next_headers, append_assoc, flat_map-cons)
 
 act_of_headers : (code : ℕ) (hs : Result (List (List ℕ)) FragmentRefusal) (i : ℕ) (r : Option Act) → (hs ≡ Ok [] → ⊥) → i < length (acts_in code hs) →
     ((headers : List (List ℕ)) → hs ≡ Ok headers → r ≡ slice_get (flat_map (header_acts code) headers) i) →

@@ -9,6 +9,8 @@ use Rattle.cf_dnpobj.specs.Headers.{headers_in}
 use Rattle.cf_dnpobj.specs.Fragment.{FragmentValue, takes_headers, counted, with_headers, read_octets}
 use Rattle.cf_dnpobj.specs.Reply.{refused, refused_objects, answers_objects, indication_of, body, reply}
 use Rattle.cf_dnpobj.proofs.InOrder.{if_true}
+use Rattle.std.proofs.lemmas.Grind.{common_steps}
+use Rattle.std.proofs.Common.{arith}
 
 pub past_refusal : (b : Bool) (x : FragmentRefusal) (r : Result FragmentValue FragmentRefusal) (f : FragmentValue) → Ok f ≡ (if b then Err x else r) → Ok f ≡ r
 past_refusal true x r f e = cc
@@ -40,8 +42,4 @@ read_has xs f e =
 
 pub reply_with_objects : (xs : List ℕ) (f : FragmentValue) (reason : Reason) (hs : List (List ℕ)) → Ok f ≡ read_octets xs → answers_objects f.code ≡ true → headers_in f.code f.objects ≡ Ok hs →
     reply xs reason ≡ (0xc0 + slice_index xs 0 % 16) ∷ 0x81 ∷ 0x00 ∷ 0x00 ∷ flat_map (refused f.code) hs
-reply_with_objects xs f reason hs e a h =
-    let head : List ℕ → List ℕ = λ (ys : List ℕ). (0xc0 + slice_index xs 0 % 16) ∷ 0x81 ∷ 0x00 ∷ ys in
-    ap (λ (r : Result FragmentValue FragmentRefusal). head (body r reason)) (sym e)
-    ∙ ap head (if_true (answers_objects f.code) (0x00 ∷ refused_objects f.code (headers_in f.code f.objects)) (indication_of reason ∷ []) a)
-    ∙ ap (λ (r : Result (List (List ℕ)) FragmentRefusal). head (0x00 ∷ refused_objects f.code r)) h
+reply_with_objects xs f reason hs e a h = grind (arith, common_steps, slice_index, if_true)

@@ -13,6 +13,7 @@ use Rattle.cf_dnpobj.specs.Headers.{BeginsWithHeader, header_size, count_of, wit
 use Rattle.cf_dnpobj.specs.Fragment.{counted}
 use Rattle.cf_dnpobj.specs.Acts.{summed, header_count, header_acts, object_act, acts_in}
 use Rattle.cf_dnpobj.proofs.Headers.{headers_step}
+use Rattle.std.proofs.lemmas.Grind.{common_steps}
 
 -- the number after some others
 abbrev pub plus : ℕ → Result ℕ FragmentRefusal → Result ℕ FragmentRefusal
@@ -61,21 +62,11 @@ with_first_some h (Err x) e = cc
 
 -- a header has so many acts
 pub header_counted : (code : ℕ) (h : List ℕ) → length (header_acts code h) ≡ header_count code h
-header_counted code h =
-    elim (cases_Bool (is_command code)) [
-      | inl c ↦ rw c (length-map-range_with_len (object_act code h) 0 (count_of h))
-      | inr c ↦ rw c refl
-    ]
+header_counted code h = grind (arith, common_steps, length-map-range_with_len)
 
 all_counted : (code : ℕ) (hs : List (List ℕ)) → length (flat_map (header_acts code) hs) ≡ sum_by (header_count code) hs
 all_counted code [] = refl
-all_counted code (h ∷ hs) =
-    let later : List Act = flat_map (header_acts code) hs in
-    ap (λ (xs : List Act). length xs) (flat_map-cons (header_acts code) h hs)
-    ∙ length-append (header_acts code h) later
-    ∙ ap (λ (n : ℕ). n + length later) (header_counted code h)
-    ∙ ap (λ (n : ℕ). header_count code h + n) (all_counted code hs)
-    ∙ sym (sum_by-cons (header_count code) h hs)
+all_counted code (h ∷ hs) = grind (arith, common_steps, all_counted code hs, flat_map-cons, length-append, header_counted, sum_by-cons)
 
 not_nothing : (r : Result ℕ FragmentRefusal) (xs : List ℕ) (more : List ℕ → Result (List (List ℕ)) FragmentRefusal) → after_size r xs more ≡ Ok [] → ⊥
 not_nothing (Err x) xs more e = cc

@@ -5,16 +5,10 @@ use Rattle.cf_dnpobj.specs.Fragment.{fragment_value}
 use Rattle.cf_dnpobj.specs.Reply.{refused}
 use Rattle.cf_dnpobj.proofs.Replies.{read_has, reply_with_objects}
 use Rattle.cf_dnpobj.proofs.reply.reply_for.Goals as goal
+use Rattle.std.proofs.lemmas.Grind.{common_steps}
 
 pub push_refused-requires-clause-room : goal.push_refused-requires-clause-room
-push_refused-requires-clause-room c =
-    let xs = c.args.octets.bytes in
-    let f = fragment_value c.in-Ok.fragment in
-    let has = read_has xs f c.in-Ok.ensures.answer in
-    let size = ap (λ (ys : List ℕ). length ys) has.2 in
-    let four : c.push-in-Ok.new.self.items ≡ (0xc0 + c.at.result % 16) ∷ 0x81 ∷ 0x00 ∷ 0x00 ∷ [] =
-    rw (c.push-in-Ok.ensures.items, c.push-3.ensures.items, c.push-2.ensures.items, c.push.ensures.items, c.clear.ensures) refl in
-    omega (arith, size, length-drop 2 xs, c.requires.at_most, ap (λ (ys : List ℕ). length ys) four)
+push_refused-requires-clause-room c = grind (arith, common_steps, read_has, length-drop)
 
 pub returns-in-Ok : goal.returns-in-Ok
 returns-in-Ok c =
