@@ -6,6 +6,7 @@ use Rattle.std.proofs.lemmas.Bool.Decides.{nat_tests}
 use Rattle.std.proofs.lemmas.List.{get_or_append_left, get_or-take, length-take-le}
 use Rattle.cf_view.proofs.Places.{IsTold, GoesOn}
 use Rattle.cf_apci.specs.Places.{size_of, is_format, is_second, is_third, is_fourth, is_right, follows}
+use Rattle.std.proofs.lemmas.Grind.{common_steps}
 
 size_short : (xs : List ℕ) → length xs < 2 → size_of xs ≡ 6
 size_short xs h = rw (lt-ltb (length xs) 2 h) refl
@@ -18,16 +19,10 @@ size_least xs =
     elim (cases_lt (length xs) 2) [ inl v ↦ omega (arith, size_short xs v) | inr v ↦ omega (arith, size_long xs v) ]
 
 size_kept : (xs ys : List ℕ) → 2 ≤ length xs → size_of (xs ++ ys) ≡ size_of xs
-size_kept xs ys h =
-    size_long (xs ++ ys) (omega (arith, length-append xs ys))
-    ∙ ap (λ (n : ℕ). max 6 (n + 2)) (get_or_append_left xs ys 0 1 (omega arith))
-    ∙ sym (size_long xs h)
+size_kept xs ys h = grind (arith, common_steps, size_long, length-append, max, get_or_append_left)
 
 pub told : IsTold size_of
-told = record {
-  by_front = λ xs ys h. size_kept xs ys (omega (arith, size_least xs));
-  by_whole = λ xs ys h. size_kept xs ys (omega (arith, size_least (xs ++ ys)));
-}
+told = grind (arith, common_steps, size_kept, size_least)
 
 -- an octet that may follow
 pub next : List ℕ → ℕ
@@ -81,31 +76,11 @@ next_right xs = six (λ p. length xs ≡ p → is_right xs p (next xs) ≡ true)
     (λ p l h. past xs p (next xs) l)
 
 next_octet : (xs : List ℕ) → next xs < 256
-next_octet xs =
-    elim (cases_lt (length xs) 1) [
-      | inl h ↦ omega (arith, next_0 xs (omega (arith, h)))
-      | inr h ↦ elim (cases_lt (length xs) 2) [
-        | inl k ↦ omega (arith, next_1 xs (omega (arith, h, k)))
-        | inr k ↦ omega (arith, next_more xs (omega (arith, k)))
-      ]
-    ]
+next_octet xs = grind (arith, nat_tests, common_steps, cases_lt, next_0, next_1, next_more)
 
 next_keeps : (xs : List ℕ) → size_of (xs ++ next xs ∷ []) ≡ size_of xs
 next_keeps xs =
-    let more = xs ++ next xs ∷ [] in
-    let long = length-append xs (next xs ∷ []) in
-    elim (cases_lt (length xs) 1) [
-      | inl h ↦ size_short more (omega (arith, long, h)) ∙ sym (size_short xs (omega (arith, h)))
-      | inr h ↦ elim (cases_lt (length xs) 2) [
-        | inl k ↦
-            (let one : length xs ≡ 1 = omega (arith, h, k) in
-            size_long more (omega (arith, long, one))
-            ∙ ap (λ (i : ℕ). max 6 (get_or more i 0 + 2)) (sym one)
-            ∙ ap (λ (n : ℕ). max 6 (n + 2)) (get_or-append_seam xs (next xs) [] 0 ∙ next_1 xs one)
-            ∙ sym (size_short xs (omega (arith, one))))
-        | inr k ↦ size_kept xs (next xs ∷ []) k
-      ]
-    ]
+    grind (arith, nat_tests, common_steps, next, length-append, cases_lt, size_short, size_long, max, get_or-append_seam, next_1, size_kept)
 
 pub goes_on : GoesOn follows size_of next
 goes_on = record { follows_on = λ xs o h. next_right xs (length xs) refl; octet = λ xs o h. next_octet xs; keeps = λ xs h. next_keeps xs }
