@@ -1,8 +1,8 @@
 -- What is read is spelled, and the reverse.
-use Rattle.std.proofs.Common.{◌≡◌, ◌↔◌, ℕ, zero, suc, ◌+◌, ◌≤◌, ◌&&◌, ◌||◌, nat_lt, nat_le, not, if◌then◌else◌, Bool, true, false, List, [], ◌∷◌, ◌++◌, length, take, drop, slice_index, Option, Some, None, Result, Ok, Err, inl, inr, refl, sym, ◌∙◌, ap, subst, arith, length-append, take-append-drop}
+use Rattle.std.proofs.Common.{◌≡◌, ◌↔◌, ℕ, zero, suc, ◌+◌, ◌≤◌, ◌&&◌, ◌||◌, nat_lt, nat_le, not, if◌then◌else◌, Bool, true, false, List, [], ◌∷◌, ◌++◌, length, take, drop, slice_index, Option, Some, None, Result, Ok, Err, refl, sym, ◌∙◌, ap, subst, arith, length-append, take-append-drop}
 use Rattle.std.specs.List.{AllByRecursion, concat}
 use Rattle.std.proofs.Math.Seq.{take-append_seam, drop-append_seam}
-use Rattle.std.proofs.lemmas.Bool.{cases_Bool, le-ltb, lt-ltb, cases_lt}
+use Rattle.std.proofs.lemmas.Bool.{le-ltb, lt-ltb, cases_lt}
 use Rattle.std.proofs.lemmas.Bool.Decides.{nat_tests}
 use Rattle.std.proofs.lemmas.List.{get_or_append_left, length-take-le}
 use Rattle.cf_dnpobj.specs.declared.fragment.FragmentRefusal.{FragmentRefusal}
@@ -20,11 +20,11 @@ le_from : (a b : ℕ) → nat_le a b ≡ true → a ≤ b
 le_from a b h = grind (arith, nat_tests)
 
 size_facts : (c : Bool) (s n m : ℕ) → (if c && nat_le s n then Ok s else Err refusal.Parameter) ≡ Ok m → (s ≡ m) × (s ≤ n)
-size_facts c s n m h1 = grind (arith, nat_tests, common_steps, nat_le, le_from)
+size_facts c s n m h1 = grind (arith, nat_tests, common_steps, le_from)
 
 -- what a size tells of the octets that are there
 whole_facts : (a c : Bool) (r s n m : ℕ) → (if a && (nat_le r n && (c && nat_le s n)) then Ok s else Err refusal.Parameter) ≡ Ok m → (s ≡ m) × (s ≤ n)
-whole_facts a c r s n m h1 = grind (arith, nat_tests, common_steps, nat_le, size_facts)
+whole_facts a c r s n m h1 = grind (arith, nat_tests, common_steps, size_facts)
 
 sized_facts : (l : Layout) (q n len size : ℕ) → sized_by l q n len ≡ Ok size → (3 + range_size q ≤ size) × (size ≤ len)
 unfolding sized_by
@@ -71,7 +71,7 @@ are_headers (suc n) code (o ∷ xs) hs e = after_header n code o xs (header_size
 -- a header stays one, whatever follows
 more_there : (a c : Bool) (r s n k m : ℕ) → n ≤ k → (if a && (nat_le r n && (c && nat_le s n)) then Ok s else Err refusal.Parameter) ≡ Ok m →
     (if a && (nat_le r k && (c && nat_le s k)) then Ok s else Err refusal.Parameter) ≡ Ok m
-more_there a c r s n k m h1 h2 = grind (arith, nat_tests, common_steps, nat_le, le_true, le_from)
+more_there a c r s n k m h1 h2 = grind (arith, nat_tests, common_steps, le_true, le_from)
 
 sized_more : (l : Layout) (q n len more size : ℕ) → len ≤ more → sized_by l q n len ≡ Ok size → sized_by l q n more ≡ Ok size
 unfolding sized_by
@@ -158,7 +158,7 @@ spelled xs f e =
     })
 
 read_back : (xs : List ℕ) (f : FragmentValue) → SpellsRequest f xs → read_octets xs ≡ Ok f
-read_back xs f s = grind (arith, nat_tests, common_steps, not, nat_lt, if_false, le-ltb, headers_back, if_true)
+read_back xs f s = grind (arith, nat_tests, common_steps, if_false, le-ltb, headers_back, if_true)
 
 pub read_is_spelled : (octets : List ℕ) (f : FragmentValue) → read_octets octets ≡ Ok f ↔ SpellsRequest f octets
 read_is_spelled octets f = (λ e. spelled octets f (sym e), λ s. read_back octets f s)

@@ -1,12 +1,12 @@
 -- The headers of a fragment, one after the other.
-use Rattle.std.proofs.Common.{◌≡◌, ℕ, zero, suc, ◌+◌, ◌-◌, ◌*◌, ◌<◌, ◌≤◌, ◌&&◌, ◌||◌, nat_lt, nat_le, if◌then◌else◌, Bool, true, false, List, [], ◌∷◌, length, take, drop, slice_index, Option, Some, None, Result, Ok, Err, inl, inr, refl, sym, ◌∙◌, ap, arith}
+use Rattle.std.proofs.Common.{◌≡◌, ℕ, zero, suc, ◌+◌, ◌-◌, ◌<◌, ◌≤◌, ◌&&◌, ◌||◌, nat_lt, nat_le, if◌then◌else◌, Bool, true, false, List, [], ◌∷◌, length, take, drop, slice_index, Option, Some, None, Result, Ok, Err, refl, sym, ◌∙◌, ap, arith}
 use Rattle.std.proofs.lemmas.List.{length-drop, length-take-le, get_or-take}
-use Rattle.std.proofs.lemmas.Bool.{cases_Bool, le-ltb}
+use Rattle.std.proofs.lemmas.Bool.{le-ltb}
 use Rattle.std.proofs.lemmas.Bool.Decides.{nat_tests}
 use Rattle.cf_dnpobj.specs.declared.fragment.FragmentRefusal.{FragmentRefusal}
 use Rattle.cf_dnpobj.specs.declared.fragment.FragmentRefusal.TheVariants as refusal
 use Rattle.cf_dnpobj.specs.declared.object.Layout.{Layout}
-use Rattle.cf_dnpobj.specs.Objects.{layout_of, takes, is_span, is_all, width, range_size, objects_size}
+use Rattle.cf_dnpobj.specs.Objects.{takes, is_span, is_all, width, range_size, objects_size}
 use Rattle.cf_dnpobj.specs.Headers.{number_at, count_of, size_of, is_whole, sized, header_size, BeginsWithHeader, with_first, after_size, headers_by, headers_in}
 use Rattle.std.proofs.lemmas.Grind.{common_steps}
 
@@ -19,7 +19,7 @@ sized_long None xs = tt
 sized_long (Some l) xs = elim (is_whole l xs) as (λ b. IsLong (if b then Ok (size_of l xs) else Err refusal.Parameter)) [ true ↦ omega arith | false ↦ tt ]
 
 long : (code : ℕ) (xs : List ℕ) → IsLong (header_size code xs)
-long code xs = grind (arith, nat_tests, common_steps, nat_lt, slice_index, sized_long)
+long code xs = grind (arith, nat_tests, common_steps, sized_long)
 
 -- a longer limit changes nothing
 same_after : (n m code : ℕ) (r : Result ℕ FragmentRefusal) (o : ℕ) (xs : List ℕ) → IsLong r → length xs ≤ n → length xs ≤ m →
@@ -67,7 +67,7 @@ same_count : (q : ℕ) (xs : List ℕ) (size : ℕ) → 3 + range_size q ≤ siz
 same_count q xs size h = grind (arith, common_steps, number_front, width_small)
 
 pub count_front : (xs : List ℕ) (size : ℕ) → 3 ≤ size → 3 + range_size (slice_index xs 2) ≤ size → count_of (take size xs) ≡ count_of xs
-count_front xs size h r = grind (arith, common_steps, slice_index, get_or-take, same_count)
+count_front xs size h r = grind (arith, common_steps, get_or-take, same_count)
 
 -- the size by qualifier, count and octets that are there
 unfoldable pub sized_by : Layout → ℕ → ℕ → ℕ → Result ℕ FragmentRefusal
@@ -80,7 +80,7 @@ le_true a b h = grind (arith, nat_tests)
 
 fewer : (a c : Bool) (r s n m : ℕ) → m ≤ n → r ≤ m → (if a && (nat_le r n && (c && nat_le s n)) then Ok s else Err refusal.Parameter) ≡ Ok m →
     (if a && (nat_le r m && (c && nat_le s m)) then Ok s else Err refusal.Parameter) ≡ Ok m
-fewer a c r s n m h1 h2 h3 = grind (arith, nat_tests, common_steps, le_true, nat_le)
+fewer a c r s n m h1 h2 h3 = grind (arith, nat_tests, common_steps, le_true)
 
 sized_fewer : (l : Layout) (q n len size : ℕ) → size ≤ len → 3 + range_size q ≤ size → sized_by l q n len ≡ Ok size → sized_by l q n size ≡ Ok size
 unfolding sized_by
@@ -103,7 +103,7 @@ sized_front (Some l) xs size a b c e =
 -- the octets of the first header are that header
 pub header_again : (code : ℕ) (xs : List ℕ) (size : ℕ) → 3 ≤ size → size ≤ length xs → 3 + range_size (slice_index xs 2) ≤ size → header_size code xs ≡ Ok size → header_size code (take size xs) ≡ Ok size
 header_again code xs size a b c e =
-    grind (arith, nat_tests, common_steps, long, length-take-le, slice_index, get_or-take, le-ltb, sized_front)
+    grind (arith, nat_tests, common_steps, long, length-take-le, get_or-take, le-ltb, sized_front)
 
 pub begins_with_header : (code : ℕ) (xs : List ℕ) (size : ℕ) → header_size code xs ≡ Ok size → 3 ≤ size → size ≤ length xs → 3 + range_size (slice_index xs 2) ≤ size → BeginsWithHeader code xs (take size xs)
-begins_with_header code xs size e a b c = grind (arith, common_steps, long, length-take-le, slice_index, get_or-take, header_again)
+begins_with_header code xs size e a b c = grind (arith, common_steps, long, length-take-le, get_or-take, header_again)

@@ -1,5 +1,5 @@
 -- What is read, and the reply to it.
-use Rattle.std.proofs.Common.{◌≡◌, ℕ, ◌+◌, ◌%◌, nat_lt, not, List, [], ◌∷◌, length, drop, slice_index, if◌then◌else◌, Bool, true, false, Result, Ok, Err, refl, sym, ◌∙◌, ap}
+use Rattle.std.proofs.Common.{◌≡◌, ℕ, ◌+◌, ◌%◌, nat_lt, not, List, ◌∷◌, length, drop, slice_index, if◌then◌else◌, Bool, true, false, Result, Ok, Err, refl, ◌∙◌, ap}
 use Rattle.std.specs.List.{flat_map}
 use Rattle.cf_view.specs.declared.Reason.{Reason}
 use Rattle.cf_dnpobj.specs.declared.fragment.FragmentRefusal.{FragmentRefusal}
@@ -7,7 +7,7 @@ use Rattle.cf_dnpobj.specs.declared.fragment.FragmentRefusal.TheVariants as refu
 use Rattle.cf_dnpobj.specs.Objects.{is_function}
 use Rattle.cf_dnpobj.specs.Headers.{headers_in}
 use Rattle.cf_dnpobj.specs.Fragment.{FragmentValue, takes_headers, counted, with_headers, read_octets}
-use Rattle.cf_dnpobj.specs.Reply.{refused, refused_objects, answers_objects, indication_of, body, reply}
+use Rattle.cf_dnpobj.specs.Reply.{refused, answers_objects, reply}
 use Rattle.cf_dnpobj.proofs.InOrder.{if_true}
 use Rattle.std.proofs.lemmas.Grind.{common_steps}
 use Rattle.std.proofs.Common.{arith}
@@ -42,4 +42,4 @@ read_has xs f e =
 
 pub reply_with_objects : (xs : List ℕ) (f : FragmentValue) (reason : Reason) (hs : List (List ℕ)) → Ok f ≡ read_octets xs → answers_objects f.code ≡ true → headers_in f.code f.objects ≡ Ok hs →
     reply xs reason ≡ (0xc0 + slice_index xs 0 % 16) ∷ 0x81 ∷ 0x00 ∷ 0x00 ∷ flat_map (refused f.code) hs
-reply_with_objects xs f reason hs e a h = grind (arith, common_steps, slice_index, if_true)
+reply_with_objects xs f reason hs e a h = grind (arith, common_steps, if_true)

@@ -1,17 +1,15 @@
 -- Numbers of headers and of acts, header by header.
-use Rattle.std.proofs.Common.{◌≡◌, ℕ, zero, suc, ◌+◌, ◌-◌, ◌<◌, ◌≤◌, List, [], ◌∷◌, length, take, drop, true, false, Result, Ok, Err, inl, inr, refl, sym, ◌∙◌, ap, subst, arith, length-append}
+use Rattle.std.proofs.Common.{◌≡◌, ℕ, zero, suc, ◌+◌, ◌-◌, ◌<◌, ◌≤◌, List, [], ◌∷◌, length, take, drop, true, false, Result, Ok, Err, refl, sym, ◌∙◌, ap, subst, arith, length-append}
 use Rattle.std.specs.List.{sum_by, flat_map}
 use Rattle.std.proofs.lemmas.List.{length-drop, take_all, drop-drop}
 use Rattle.std.proofs.lemmas.List.Concat.{flat_map-cons}
 use Rattle.std.proofs.lemmas.List.FromFn.{length-map-range_with_len}
 use Rattle.std.proofs.lemmas.List.Sums.{sum_by-cons}
-use Rattle.std.proofs.lemmas.Bool.{cases_Bool, false≢true}
-use Rattle.cf_view.specs.declared.Act.{Act}
+use Rattle.std.proofs.lemmas.Bool.{false≢true}
 use Rattle.cf_dnpobj.specs.declared.fragment.FragmentRefusal.{FragmentRefusal}
-use Rattle.cf_dnpobj.specs.Objects.{is_command}
-use Rattle.cf_dnpobj.specs.Headers.{BeginsWithHeader, header_size, count_of, with_first, after_size, headers_by, headers_in}
+use Rattle.cf_dnpobj.specs.Headers.{BeginsWithHeader, header_size, with_first, after_size, headers_by, headers_in}
 use Rattle.cf_dnpobj.specs.Fragment.{counted}
-use Rattle.cf_dnpobj.specs.Acts.{summed, header_count, header_acts, object_act, acts_in}
+use Rattle.cf_dnpobj.specs.Acts.{summed, header_count, header_acts, acts_in}
 use Rattle.cf_dnpobj.proofs.Headers.{headers_step}
 use Rattle.std.proofs.lemmas.Grind.{common_steps}
 

@@ -1,4 +1,3 @@
-use Rattle.std.proofs.Common.{◌∙◌, sym, ap, Some}
 use Rattle.cf_dnpobj.proofs.InOrder.{command_act}
 use Rattle.cf_dnpobj.proofs.acts.header_act.Goals as goal
 use Rattle.std.proofs.lemmas.Grind.{common_steps}

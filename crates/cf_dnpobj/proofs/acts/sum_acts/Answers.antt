@@ -1,7 +1,5 @@
-use Rattle.std.proofs.Common.{◌+◌, ◌∙◌, ℕ, drop, sym, ap, arith}
+use Rattle.std.proofs.Common.{arith}
 use Rattle.std.proofs.lemmas.List.{length-drop}
-use Rattle.cf_dnpobj.specs.Acts.{summed}
-use Rattle.cf_dnpobj.specs.Headers.{headers_in}
 use Rattle.cf_dnpobj.proofs.Sums.{plus, header_at, sum_more}
 use Rattle.cf_dnpobj.proofs.acts.sum_acts.Goals as goal
 use Rattle.std.proofs.lemmas.Grind.{common_steps}

@@ -1,5 +1,4 @@
-use Rattle.std.proofs.Common.{◌≡◌, ◌-◌, ◌∙◌, ℕ, List, take, sym, ap, subst, arith}
-use Rattle.cf_dnpobj.specs.Headers.{BeginsWithHeader}
+use Rattle.std.proofs.Common.{arith}
 use Rattle.cf_dnpobj.proofs.Headers.{begins_with_header}
 use Rattle.cf_dnpobj.proofs.header.first_header.Goals as goal
 use Rattle.std.proofs.lemmas.Grind.{common_steps}
