@@ -17,7 +17,7 @@ use Rattle.cf_lane.specs.Acts.{act_of_code, by_refusal, fate_of_acts, used_by}
 use Rattle.cf_lane.specs.Dnp3.{answer_now, fate_of_frame, fate_of_fragment, fate_of_read, fate_of_segment, fate_of_whole, fragment_frames, fragment_in, frame_output, is_data, is_none, segments_of, stray_of, whole_now}
 use Rattle.cf_lane.specs.Fate.{HasItemFate, HaveFates}
 use Rattle.cf_lane.specs.Iec104.{ack_octets, ack_output, apdu_output, asdu_in, asdu_refused, fate_by_form, fate_of_apdu, fate_of_asdu, or_cut, stamped}
-use Rattle.cf_lane.specs.Item.{Broke, Ended, Item, Took}
+use Rattle.cf_lane.specs.Item.{Item, Took}
 use Rattle.cf_lane.specs.Judged.{Judged, goes_on, in_turn, is_admitted}
 use Rattle.cf_lane.specs.Laws.{LanePassesAllowed}
 use Rattle.cf_lane.specs.Modbus.{HasCommandFate}
@@ -33,7 +33,7 @@ use Rattle.cf_policy.specs.declared.Decider.{Decider}
 use Rattle.cf_renumber.specs.Counts.{admitted_stamp, owed_ack}
 use Rattle.cf_view.specs.declared.Reason.{Reason}
 use Rattle.std.proofs.Common.{Bool, Err, List, None, Ok, Option, Some, [], ap, arith, false, inl, inr, length, refl, subst, sym, true, ℕ, ◌++◌, ◌∙◌, ◌∷◌, ◌≡◌, ◌⊎◌}
-use Rattle.std.proofs.lemmas.Bool.{eq-eqb, eqb-true, ltb-false, ltb-true}
+use Rattle.std.proofs.lemmas.Bool.{cond_both, eq-eqb, eqb-true, ltb-false, ltb-true}
 use Rattle.std.proofs.lemmas.List.{append-nil}
 use Rattle.std.specs.List.{flat_map}
 use Rattle.std.specs.Prelude.{if◌then◌else◌, nat_eq, nat_lt, slice_index, ◌≤◌}
@@ -53,10 +53,6 @@ use Rattle.cf_view.specs.declared.Side.TheVariants as side
 leave : (octets xs more : List ℕ) (Rest : List ℕ → Type 0) → xs ≡ octets → Rest more → Leaves octets Rest (xs ++ more)
 leave octets xs more Rest e r = (more, ap (λ ys. ys ++ more) e, r)
 
-by_if : (b : Bool) (f g : Fate) (P : Fate → Type 0) → (b ≡ true → P f) → (b ≡ false → P g) → P (if b then f else g)
-by_if true f g P x y = x refl
-by_if false f g P x y = y refl
-
 nothing_put : (F : List ℕ → List ℕ) (b : Bool) → (if b then flat_map F (if b then [] else []) else []) ≡ []
 nothing_put F true = refl
 nothing_put F false = refl
@@ -66,10 +62,7 @@ module _ (asset : Asset) (says : Says) where
       Goes (IsAllowedCommand asset says a) (spelling a) [] Rest ((if goes_on f then spelling a else []) ++ more)
   one_command a fate.Carried more Rest has r = absurd (never_carried asset says a has)
   one_command a (fate.Admitted used) more Rest has r = inl ((admits_what_is_allowed asset says a (fate.Admitted used) has).0 refl, (more, refl, r))
-  one_command a (fate.Refused x) more Rest has r = inr (λ allowed. cc ((admits_what_is_allowed asset says a (fate.Refused x) has).1 allowed), (more, refl, r))
-  one_command a (fate.Stray x) more Rest has r = inr (λ allowed. cc ((admits_what_is_allowed asset says a (fate.Stray x) has).1 allowed), (more, refl, r))
-  one_command a fate.Lengthens more Rest has r = inr (λ allowed. cc ((admits_what_is_allowed asset says a fate.Lengthens has).1 allowed), (more, refl, r))
-  one_command a (fate.Cuts x) more Rest has r = inr (λ allowed. cc ((admits_what_is_allowed asset says a (fate.Cuts x) has).1 allowed), (more, refl, r))
+  one_command a f more Rest has r = inr (λ allowed. cc ((admits_what_is_allowed asset says a f has).1 allowed), (more, refl, r))
 
   -- IEC 60870-5-104
   module _ (earlier : List Judged) (receive : ℕ) (asdu : List ℕ) (more : List ℕ) (Rest : List ℕ → Type 0) (r : Rest more) where
@@ -101,11 +94,11 @@ module _ (asset : Asset) (says : Says) where
 
     one_asdu : Asdu (fate_of_asdu asset says asdu)
     one_asdu =
-        by_if (nat_lt (length asdu) 9) (asdu_refused decider.Form (refusal_reason refusal.Short) asdu 0)
+        cond_both (nat_lt (length asdu) 9) (asdu_refused decider.Form (refusal_reason refusal.Short) asdu 0)
         (if nat_eq (station_of asdu) asset.station then fate_by_form asset says asdu (first_refusal (asdu_in asdu)) else asdu_refused decider.Station reason.Station asdu (station_of asdu))
         Asdu
         (λ e. refused_asdu (why_refused decider.Form (refusal_reason refusal.Short) 0) (λ a. (let long = a.whole in let short = ltb-true (length asdu) 9 e in absurd (omega (arith, long, short)))))
-        (λ long. by_if (nat_eq (station_of asdu) asset.station) (fate_by_form asset says asdu (first_refusal (asdu_in asdu))) (asdu_refused decider.Station reason.Station asdu (station_of asdu))
+        (λ long. cond_both (nat_eq (station_of asdu) asset.station) (fate_by_form asset says asdu (first_refusal (asdu_in asdu))) (asdu_refused decider.Station reason.Station asdu (station_of asdu))
         Asdu
         (λ e. by_form (first_refusal (asdu_in asdu)) refl (ltb-false (length asdu) 9 long) (eqb-true (station_of asdu) asset.station e))
         (λ e. refused_asdu (why_refused decider.Station reason.Station (station_of asdu)) (λ a. (let is = eq-eqb (station_of asdu) asset.station a.station in cc (e, is)))))
@@ -180,10 +173,9 @@ module _ (asset : Asset) (says : Says) where
 
     by_segment : (answer : SegmentAnswer) (last : Option (List ℕ)) →
         WholeGoes (completed answer last) asset says earlier Rest (out (fate_of_segment asset says side.Client answer (completed answer last)) (completed answer last) ++ more)
-    by_segment answers.More last = (more, refl, r)
-    by_segment (answers.Dropped because) last = (more, refl, r)
     by_segment answers.Whole None = by_whole [] (inl refl)
     by_segment answers.Whole (Some octets) = by_whole (octets ∷ []) (inr (octets, refl))
+    by_segment answer last = (more, refl, r)
 
     module _ (x : FrameValue) where
       abbrev whole : List (List ℕ)
@@ -201,10 +193,9 @@ module _ (asset : Asset) (says : Says) where
       frame_put d f = if d then flat_map frames (if d then (if goes_on f then whole else []) else []) else (if goes_on f then frame_spelling x else [])
 
       by_frame : (d : Bool) (o : Option Why) → FrameGoes (is_none o) d asset says earlier x Rest (frame_put d (frame_fate d o) ++ more)
-      by_frame true (Some because) = (more, refl, r)
-      by_frame false (Some because) = (more, refl, r)
-      by_frame false None = (more, refl, r)
       by_frame true None = by_segment (answer_now asset side.Client earlier x) (last_fragment (user_of x.blocks ∷ segments_of asset side.Client earlier))
+      by_frame false None = (more, refl, r)
+      by_frame d o = (more, refl, r)
 
       one_frame : (j : Judged) → j.item ≡ Took side.Client (Frame x) → j.fate ≡ fate_of_frame asset says side.Client earlier x (stray_of asset side.Client x) →
           FrameGoes (is_none (stray_of asset side.Client x)) (is_data x) asset says earlier x Rest (frame_output asset side.Controller earlier j side.Client x ++ more)
@@ -220,14 +211,11 @@ module _ (asset : Asset) (says : Says) where
   one_item earlier j (Took side.Client (Adu a)) more Rest is has r = one_command a j.fate more Rest has r
   one_item earlier j (Took side.Client (Frame x)) more Rest is has r = one_frame earlier more Rest r x j is has
   one_item earlier j (Took side.Client (Apdu a)) more Rest is has r = one_apdu earlier more Rest r a j.fate has
-  one_item earlier j (Took side.Controller (Adu a)) more Rest is has r = (more, refl, r)
-  one_item earlier j (Took side.Controller (Apdu a)) more Rest is has r = (more, refl, r)
   one_item earlier j (Took side.Controller (Frame x)) more Rest is has r =
       let none : item_output asset side.Controller earlier j (Took side.Controller (Frame x)) ≡ [] =
       ap (λ i. if is_data x then flat_map (fragment_frames asset side.Controller earlier) (fragment_in asset side.Controller earlier j i) else []) is ∙ nothing_put (fragment_frames asset side.Controller earlier) (is_data x) in
       leave [] (item_output asset side.Controller earlier j (Took side.Controller (Frame x))) more Rest none r
-  one_item earlier j (Ended s n) more Rest is has r = (more, refl, r)
-  one_item earlier j (Broke s b) more Rest is has r = (more, refl, r)
+  one_item earlier j i more Rest is has r = (more, refl, r)
 
 module _ (asset : Asset) (client : ℕ) where
   pass : (earlier js : List Judged) → HaveFates asset client earlier js → Passes asset client earlier js (in_turn (output asset side.Controller) earlier js)

@@ -21,7 +21,7 @@ use Rattle.cf_policy.specs.declared.Decider.{Decider}
 use Rattle.cf_policy.specs.declared.Verdict.{Verdict}
 use Rattle.cf_view.specs.declared.Act.{Act}
 use Rattle.cf_view.specs.declared.Reason.{Reason}
-use Rattle.std.proofs.Common.{Bool, Err, List, None, Ok, Option, Some, [], add-one, ap, arith, drop, false, get_or, length, refl, replicate, slice_get, subst, suc, sym, take, true, zero, ℕ, ◌+◌, ◌||◌, ◌↔◌, ◌∙◌, ◌∷◌, ◌≡◌, ◌≤◌}
+use Rattle.std.proofs.Common.{Bool, Err, List, None, Ok, Option, Some, [], add-one, ap, arith, drop, false, get_or, length, refl, replicate, slice_get, subst, suc, sym, take, true, ℕ, ◌+◌, ◌||◌, ◌↔◌, ◌∙◌, ◌∷◌, ◌≡◌, ◌≤◌}
 use Rattle.std.proofs.lemmas.List.{drop_all, ext_get_or, take_all}
 use Rattle.std.specs.List.{AllByRecursion, list_any}
 use Rattle.cf_lane.specs.declared.fate.Fate.TheVariants as fate
@@ -29,9 +29,8 @@ use Rattle.cf_policy.specs.declared.Verdict.TheVariants as verdict
 
 -- what is left of a list from a place on begins with what stands there
 drop_at : (list : List Act) (i : ℕ) (act : Act) → slice_get list i ≡ Some act → drop i list ≡ act ∷ drop (i + 1) list
-drop_at [] i act here = cc
-drop_at (a ∷ list) zero act here = cc
 drop_at (a ∷ list) (suc i) act here = rw (add-one) (drop_at list i act here ∙ rw (add-one) refl)
+drop_at list i act here = cc
 
 module _ (says : Says) (list : List Act) (i : ℕ) (act : Act) (here : slice_get list i ≡ Some act)
     (before : first_refusal says (drop i list) ≡ first_refusal says list) where
@@ -56,9 +55,8 @@ admitted_at_end says list i used past before = ap (by_refusal used) (ap (first_r
 -- ---- the rated rules that were used
 
 none_marked : (n place : ℕ) → get_or (replicate n false) place false ≡ false
-none_marked zero place = refl
-none_marked (suc n) zero = refl
 none_marked (suc n) (suc place) = none_marked n place
+none_marked n place = refl
 
 -- at first none is
 pub none_used : (all : List (ℕ × Rate)) (says : Says) (list : List Act) (used : List Bool) → used ≡ replicate 16 false → (place : ℕ) →

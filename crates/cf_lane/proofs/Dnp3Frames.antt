@@ -11,7 +11,7 @@ use Rattle.cf_audit.specs.declared.line.Why.{Why}
 use Rattle.cf_lane.proofs.Earlier.{segments_into-more, segments_of-more}
 use Rattle.cf_lane.proofs.Dnp3Segments.{stray_fragment}
 use Rattle.cf_lane.proofs.Handling.{push-nothing, with_lines-nothing}
-use Rattle.cf_lane.proofs.Sides.{at_both, other_side, same_side, side_known}
+use Rattle.cf_lane.proofs.Sides.{at_both, if_none, other_side, same_side, side_known}
 use Rattle.cf_dnpobj.specs.Acts.{acts}
 use Rattle.cf_dnpobj.specs.Fragment.{FragmentValue, read_octets}
 use Rattle.cf_dnpobj.specs.declared.fragment.FragmentRefusal.{FragmentRefusal}
@@ -33,7 +33,8 @@ use Rattle.cf_outq.specs.SendQueue.{after_push}
 use Rattle.cf_policy.specs.declared.Asset.{Asset}
 use Rattle.cf_view.specs.declared.Endpoint.{Endpoint}
 use Rattle.cf_view.specs.declared.Side.{Side}
-use Rattle.std.proofs.Common.{Bool, Err, List, None, Ok, Option, Some, [], ap, arith, drop, false, length, nat_eq, nat_lt, refl, reverse, slice_index, subst, suc, sym, take, true, zero, ℕ, ◌%◌, ◌&&◌, ◌*◌, ◌++◌, ◌+◌, ◌∙◌, ◌∷◌, ◌≡◌}
+use Rattle.std.proofs.Common.{Bool, Err, List, None, Ok, Option, Some, [], ap, arith, drop, false, length, nat_eq, nat_lt, refl, reverse, slice_index, subst, suc, sym, take, true, zero, ℕ, ◌%◌, ◌*◌, ◌++◌, ◌+◌, ◌∙◌, ◌∷◌, ◌≡◌}
+use Rattle.std.proofs.lemmas.Bool.{and_right, cond-false, cond-true, cond_both}
 use Rattle.std.specs.List.{flat_map}
 use Rattle.std.specs.Prelude.{Result, if◌then◌else◌}
 use Rattle.cf_audit.specs.Line.{Stray}
@@ -61,32 +62,16 @@ module _ (asset : Asset) (earlier : List Judged) (j : Judged) where
       to_controller = knows.to_controller ∙ same_into side.Controller;
     }
 
-if_true : {A : Type 0} (b : Bool) (x y : A) → b ≡ true → (if b then x else y) ≡ x
-if_true true x y e = refl
-if_true false x y e = cc
-
-if_false : {A : Type 0} (b : Bool) (x y : A) → b ≡ false → (if b then x else y) ≡ y
-if_false true x y e = cc
-if_false false x y e = refl
-
 -- the fate of a data frame that is served
 fate_of_data : (asset : Asset) (says : Says) (s : Side) (earlier : List Judged) (x : FrameValue) → stray_of asset s x ≡ None → is_data x ≡ true →
     fate_of_frame asset says s earlier x (stray_of asset s x) ≡ fate_of_segment asset says s (answer_now asset s earlier x) (whole_now asset s earlier x)
 fate_of_data asset says s earlier x served data_ =
     ap (fate_of_frame asset says s earlier x) served
-    ∙ if_true (is_data x) (fate_of_segment asset says s (answer_now asset s earlier x) (whole_now asset s earlier x)) fate.Carried data_
+    ∙ cond-true (is_data x) (fate_of_segment asset says s (answer_now asset s earlier x) (whole_now asset s earlier x)) fate.Carried data_
 
 pub none_by : {A : Type 0} (o : Option A) → ((x : A) → o ≡ Some x → ⊥) → o ≡ None
 none_by None never = refl
 none_by (Some x) never = absurd (never x refl)
-
-if_nothing : {A : Type 0} (b : Bool) (xs : List A) → xs ≡ [] → (if b then xs else []) ≡ []
-if_nothing true xs e = e
-if_nothing false xs e = refl
-
-if_never : {A : Type 0} (b : Bool) (xs : List A) → (if b && false then xs else []) ≡ []
-if_never true xs = refl
-if_never false xs = refl
 
 stray_nothing : (b : Bool) (c : Bool) (xs ys : List ℕ) → xs ≡ [] → (if b then xs else (if c then [] else (if false then ys else []))) ≡ []
 stray_nothing true c xs ys e = e
@@ -101,13 +86,13 @@ module _ (asset : Asset) (says : Says) (client : Endpoint) (moment : ℕ) (s : S
 
   module _ (earlier : List Judged) where
     nothing_in : (to : Side) → fragment_in asset to earlier stray_item (Took s (Frame x)) ≡ []
-    nothing_in to = if_nothing (is_data x) _ (stray_fragment to s (has_ended side.Controller earlier) because (whole_now asset s earlier x))
+    nothing_in to = if_none (is_data x) _ (stray_fragment to s (has_ended side.Controller earlier) because (whole_now asset s earlier x))
 
     nothing_out : (to : Side) → frame_output asset to earlier stray_item s x ≡ []
     nothing_out to = stray_nothing (is_data x) (is_side to s) _ (frame_spelling x) (ap (flat_map (fragment_frames asset to earlier)) (nothing_in to))
 
     no_segment : (t : Side) → segment_in asset t (Took s (Frame x)) ≡ []
-    no_segment t = rw stray (if_never (is_side t s) (user_of x.blocks ∷ []))
+    no_segment t = rw (stray, and_right (is_side t s) false refl) refl
 
   -- a frame that is not served goes nowhere
   pub takes_stray : TakesFrame asset says client moment s x (fate.Stray because) old new
@@ -160,12 +145,10 @@ no_cut_refusal : (used : List Bool) (o : Option Refusal) → fate_cut (by_refusa
 no_cut_refusal used None = refl
 no_cut_refusal used (Some r) = refl
 
-cut_if : (b : Bool) (f g : Fate) → fate_cut f ≡ None → fate_cut g ≡ None → fate_cut (if b then f else g) ≡ None
-cut_if true f g a b = a
-cut_if false f g a b = b
-
 no_cut_read : (asset : Asset) (says : Says) (code : ℕ) (r : Result FragmentValue FragmentRefusal) → fate_cut (fate_of_read asset says code r) ≡ None
-no_cut_read asset says code (Ok f) = cut_if (nat_eq f.code 0) fate.Carried (fate_of_acts asset says (acts f)) refl (no_cut_refusal (used_by (rated asset.rules) says (acts f)) (first_refusal says (acts f)))
+no_cut_read asset says code (Ok f) =
+    cond_both (nat_eq f.code 0) fate.Carried (fate_of_acts asset says (acts f)) (λ g. fate_cut g ≡ None) (λ _. refl)
+    (λ _. no_cut_refusal (used_by (rated asset.rules) says (acts f)) (first_refusal says (acts f)))
 no_cut_read asset says code (Err e) = refl
 
 no_cut_fragment : (asset : Asset) (says : Says) (s : Side) (octets : List ℕ) → fate_cut (fate_of_fragment asset says s octets) ≡ None
@@ -173,16 +156,14 @@ no_cut_fragment asset says side.Client octets = no_cut_read asset says (slice_in
 no_cut_fragment asset says side.Controller octets = refl
 
 no_cut : (asset : Asset) (says : Says) (s : Side) (answer : SegmentAnswer) (whole : List (List ℕ)) → fate_cut (fate_of_segment asset says s answer whole) ≡ None
-no_cut asset says s answers.More whole = refl
-no_cut asset says s (answers.Dropped because) whole = refl
-no_cut asset says s answers.Whole [] = refl
-no_cut asset says s answers.Whole (octets ∷ none) = cut_if (nat_lt (length octets) 2) (fate.Stray why.Short) (fate_of_fragment asset says s octets) refl (no_cut_fragment asset says s octets)
+no_cut asset says s answers.Whole (octets ∷ none) =
+    cond_both (nat_lt (length octets) 2) (fate.Stray why.Short) (fate_of_fragment asset says s octets) (λ f. fate_cut f ≡ None) (λ _. refl) (λ _. no_cut_fragment asset says s octets)
+no_cut asset says s answer whole = refl
 
 -- the fragment that is whole
 completed_is : (answer : SegmentAnswer) (v : AssemblyValue) (o : Option (List ℕ)) → (answer ≡ answers.Whole → o ≡ Some v.octets) → completed_by answer v ≡ completed answer o
-completed_is answers.More v o e = refl
-completed_is (answers.Dropped because) v o e = refl
 completed_is answers.Whole v o e = ap (completed answers.Whole) (sym (e refl))
+completed_is answer v o e = refl
 
 own_segment : (asset : Asset) (s : Side) (x : FrameValue) → stray_of asset s x ≡ None → is_data x ≡ true → segment_in asset s (Took s (Frame x)) ≡ user_of x.blocks ∷ []
 own_segment asset s x served data_ = rw (same_side s, served, data_) refl
@@ -221,7 +202,7 @@ module _ (asset : Asset) (says : Says) (client : Endpoint) (moment : ℕ) (s : S
     put_is : (to : Side) → frame_fragment to old.to_client.ended s f whole ≡ fragment_in asset to earlier j (Took s (Frame x))
     put_is to =
         ap (λ b. frame_fragment to b s f whole) ended ∙ ap (frame_fragment to (has_ended side.Controller earlier) s f) whole_is
-        ∙ sym (if_true (is_data x) (frame_fragment to (has_ended side.Controller earlier) s f (whole_now asset s earlier x)) [] data_)
+        ∙ sym (cond-true (is_data x) (frame_fragment to (has_ended side.Controller earlier) s f (whole_now asset s earlier x)) [] data_)
 
     output_is : (to : Side) (sequence : ℕ) → sequence ≡ segments_into asset to earlier % 64 →
         flat_map (frames_at asset to sequence) (frame_fragment to old.to_client.ended s f whole) ≡ frame_output asset to earlier j s x
@@ -229,7 +210,7 @@ module _ (asset : Asset) (says : Says) (client : Endpoint) (moment : ℕ) (s : S
         ap (λ n. flat_map (frames_at asset to n) (frame_fragment to old.to_client.ended s f whole)) e
         ∙ all_frames_mod asset to (segments_into asset to earlier) (frame_fragment to old.to_client.ended s f whole)
         ∙ ap (flat_map (fragment_frames asset to earlier)) (put_is to)
-        ∙ sym (if_true (is_data x) (flat_map (fragment_frames asset to earlier) (fragment_in asset to earlier j (Took s (Frame x))))
+        ∙ sym (cond-true (is_data x) (flat_map (fragment_frames asset to earlier) (fragment_in asset to earlier j (Took s (Frame x))))
         (if is_side to s then [] else (if goes_on f then frame_spelling x else [])) data_)
 
     next_is : (to : Side) (sequence next : ℕ) → sequence ≡ segments_into asset to earlier % 64 → next ≡ (sequence + counted (frame_fragment to old.to_client.ended s f whole)) % 64 →
@@ -331,13 +312,13 @@ module _ (asset : Asset) (says : Says) (client : Endpoint) (moment : ℕ) (s : S
 
   status_out : (to : Side) (earlier : List Judged) → frame_output asset to earlier status_item s x ≡ (if is_side to s then [] else frame_spelling x)
   status_out to earlier =
-      if_false (is_data x) (flat_map (fragment_frames asset to earlier) (fragment_in asset to earlier status_item (Took s (Frame x)))) (if is_side to s then [] else frame_spelling x) other_
+      cond-false (is_data x) (flat_map (fragment_frames asset to earlier) (fragment_in asset to earlier status_item (Took s (Frame x)))) (if is_side to s then [] else frame_spelling x) other_
 
   status_in : (to : Side) (earlier : List Judged) → fragment_in asset to earlier status_item (Took s (Frame x)) ≡ []
-  status_in to earlier = if_false (is_data x) (frame_fragment to (has_ended side.Controller earlier) s fate.Carried (whole_now asset s earlier x)) [] other_
+  status_in to earlier = cond-false (is_data x) (frame_fragment to (has_ended side.Controller earlier) s fate.Carried (whole_now asset s earlier x)) [] other_
 
   status_segment : (t : Side) → segment_in asset t (Took s (Frame x)) ≡ []
-  status_segment t = rw (served, other_) (if_never (is_side t s) (user_of x.blocks ∷ []))
+  status_segment t = rw (served, other_, and_right (is_side t s) false refl) refl
 
   client_closed : (s : Side) → IsOpen s old.to_client old.to_controller → old.to_client.ended ≡ true → (if is_side side.Client s then [] else frame_spelling x) ≡ []
   client_closed side.Client o e = refl

@@ -56,17 +56,13 @@ sends_one asset to octets sequence q fragments goes e next new n is = record {
 -- a stray segment or fragment, and a segment that lengthens, put out nothing
 pub stray_fragment : (to s : Side) (b : Bool) (because : Why) (octets : List (List ℕ)) → frame_fragment to b s (fate.Stray because) octets ≡ []
 stray_fragment side.Client side.Client true because octets = refl
-stray_fragment side.Client side.Client false because octets = refl
-stray_fragment side.Client side.Controller b because octets = refl
 stray_fragment side.Controller side.Client b because octets = refl
-stray_fragment side.Controller side.Controller b because octets = refl
+stray_fragment to s b because octets = refl
 
 pub more_fragment : (to s : Side) (b : Bool) (octets : List (List ℕ)) → frame_fragment to b s fate.Lengthens octets ≡ []
 more_fragment side.Client side.Client true octets = refl
-more_fragment side.Client side.Client false octets = refl
-more_fragment side.Client side.Controller b octets = refl
 more_fragment side.Controller side.Client b octets = refl
-more_fragment side.Controller side.Controller b octets = refl
+more_fragment to s b octets = refl
 
 module _ (asset : Asset) (says : Says) (client : Endpoint) (moment : ℕ) (s : Side) (answer : SegmentAnswer) (whole : List (List ℕ)) (f : Fate) (old : Parts)
     (is : f ≡ fate_of_segment asset says s answer whole) (none : (to : Side) → frame_fragment to old.to_client.ended s f whole ≡ [])

@@ -5,7 +5,7 @@ use Rattle.cf_lane.proofs.Saying.{says_same}
 use Rattle.cf_lane.specs.Rates.{Says}
 use Rattle.cf_lane.specs.Rings.{IsRulesOf, RulesGoOn, says_by}
 use Rattle.cf_dnplink.proofs.Reading.{user_again}
-use Rattle.cf_dnplink.specs.LinkFrame.{FrameValue, SpellsFrame, frame_break}
+use Rattle.cf_dnplink.specs.LinkFrame.{FrameValue, SpellsFrame}
 use Rattle.cf_dnplink.specs.UserOctets.{user_of}
 use Rattle.cf_lane.proofs.Handling.{count-more, ended-more}
 use Rattle.cf_lane.proofs.Recutting.{length-spelling}

@@ -99,16 +99,14 @@ else_some : (b : Bool) (o : Option (List ℕ)) (x : List ℕ) → (if b then Non
 else_some true o x e = cc
 else_some false o x e = e
 
-some_is : (x y : List ℕ) → Some x ≡ Some y → x ≡ y
-some_is x y e = cc
-
 pub left_most : (run : List (List ℕ)) (xs : List ℕ) → left_of run ≡ Some xs → length xs ≤ 2048
 left_most [] xs e = cc
 left_most (s ∷ run) xs e =
     let made = else_some (is_final s) (made_of (s ∷ run)) xs e in
     let linked = if_some (is_linked (s ∷ run)) (fitting (octets_of (s ∷ run))) xs made in
     let fits = if_some (nat_le (length (octets_of (s ∷ run))) 2048) (Some (octets_of (s ∷ run))) xs linked.1 in
-    omega (arith, leb-true (length (octets_of (s ∷ run))) 2048 fits.0, ap length (some_is (octets_of (s ∷ run)) xs fits.1))
+    let same : octets_of (s ∷ run) ≡ xs = cc fits.1 in
+    omega (arith, leb-true (length (octets_of (s ∷ run))) 2048 fits.0, ap length same)
 
 owed_by : (b : Bool) (octets : List ℕ) (o : Option (List ℕ)) → (if b then Some octets else None) ≡ o → ((xs : List ℕ) → o ≡ Some xs → length xs ≤ 2048) →
     (if b then 5 * length octets / 4 else 0) ≤ 2560
@@ -119,11 +117,9 @@ owed_most : (a : AssemblyValue) (segments : List (List ℕ)) → IsAssemblyOf a 
 owed_most a segments is = owed_by a.begun a.octets (unfinished segments) is.opened (left_most (since_first segments))
 
 wire_most : (p : Protocol) (w : Wire) → IsWireOf p w → wire_debt w ≤ 5120
-wire_most p wire.Modbus is = omega arith
-wire_most p (wire.Iec104 numbers) is = omega arith
-wire_most protocol.Modbus (wire.Dnp3 f) is = absurd is
-wire_most protocol.Iec104 (wire.Dnp3 f) is = absurd is
 wire_most protocol.Dnp3 (wire.Dnp3 f) is = omega (arith, owed_most f.client is.client.0 is.client.1, owed_most f.controller is.controller.0 is.controller.1)
+wire_most p (wire.Dnp3 f) is = absurd is
+wire_most p w is = omega arith
 
 -- what unfinished fragments may still put out
 pub debt_most : (asset : Asset) (lane : LaneValue) → IsLaneOf asset lane → debt lane ≤ 5300
@@ -131,8 +127,7 @@ debt_most asset lane is = omega (arith, wire_most asset.protocol lane.wire is.wi
 
 wire_no_debt : (w : Wire) → IsWireOf protocol.Modbus w → wire_debt w ≡ 0
 wire_no_debt wire.Modbus is = refl
-wire_no_debt (wire.Dnp3 f) is = absurd is
-wire_no_debt (wire.Iec104 numbers) is = absurd is
+wire_no_debt w is = absurd is
 
 -- a lane of Modbus has no debt
 pub no_debt : (asset : Asset) (lane : LaneValue) → asset.protocol ≡ protocol.Modbus → IsLaneOf asset lane → debt lane ≡ 0
@@ -146,10 +141,9 @@ true_or_none false None e = refl
 
 unfinished_by : (p : Protocol) (asset : Asset) (f : Fragments) (s : Side) (b : Bool) → ((segments : List (List ℕ)) → IsAssemblyOf (of_side s f) segments → IsTrue b ↔ IsSome (unfinished segments)) →
     (earlier : List Judged) → IsWireOf p (wire.Dnp3 f) → KnowsFragments asset f earlier → b ≡ has_unfinished asset p s earlier
-unfinished_by protocol.Modbus asset f s b told earlier is knows = absurd is
-unfinished_by protocol.Iec104 asset f s b told earlier is knows = absurd is
 unfinished_by protocol.Dnp3 asset f s b told earlier is knows =
     true_or_none b (unfinished (segments_of asset s earlier)) (told (segments_of asset s earlier) (side_known asset f s earlier knows))
+unfinished_by p asset f s b told earlier is knows = absurd is
 
 -- what the assembly of a side tells is what the earlier items leave unfinished
 pub unfinished_told : (w : Wire) (f : Fragments) (s : Side) (a : AssemblyValue) (b : Bool) → w ≡ wire.Dnp3 f → a ≡ of_side s f →

@@ -2,15 +2,14 @@
 use Rattle.cf_lane.proofs.Saying.{still_known}
 use Rattle.cf_lane.specs.Rings.{KnowsRules}
 use Rattle.cf_lane.proofs.Earlier.{cut_of-append, in_turn-append, wire_stays}
-use Rattle.cf_lane.proofs.Handling.{count-more, fates-append, with_lines-both, with_lines-nothing}
-use Rattle.cf_lane.proofs.Histories.{bytes_of-append, goes_more, items_more, no_bytes, nothing_dropped, rest_by, same_stream, stands_end}
+use Rattle.cf_lane.proofs.Handling.{count-more, ended-more, with_lines-nothing}
+use Rattle.cf_lane.proofs.Histories.{began_by, bytes_of-append, judged_more, lines_after, no_bytes, rest_by, same_stream, stands_end}
 use Rattle.cf_lane.proofs.Sides.{at_both, other_again, other_side, same_side}
-use Rattle.cf_lane.specs.Fate.{HaveFates}
 use Rattle.cf_lane.specs.Follows.{AddsTo, AreJudged, AreRests, Began, BeganApart, Follows, IsRest, Rests, over, rest_of}
 use Rattle.cf_lane.specs.Handled.{EndsOther, IsOpen, Knows, LaneValue, MayHaveMore, State, judged, state}
 use Rattle.cf_lane.specs.History.{Element, bytes_of, end_at}
 use Rattle.cf_lane.specs.Item.{Completes, Ended, Placed, placed}
-use Rattle.cf_lane.specs.Judged.{Judged, ends, has_ended, in_turn, is_admitted, is_refused, place_of}
+use Rattle.cf_lane.specs.Judged.{Judged, ends, has_ended, is_admitted, is_refused}
 use Rattle.cf_lane.specs.Kept.{KnowsWire}
 use Rattle.cf_lane.specs.Log.{end_lines, has_unfinished, item_lines, lines, with_lines}
 use Rattle.cf_lane.specs.Numbers.{item_event}
@@ -21,31 +20,21 @@ use Rattle.cf_policy.specs.declared.Asset.{Asset}
 use Rattle.cf_stream.specs.Stream.{with_end}
 use Rattle.cf_view.specs.declared.Endpoint.{Endpoint}
 use Rattle.cf_view.specs.declared.Side.{Side}
-use Rattle.std.proofs.Common.{Bool, List, None, Option, [], ap, arith, drop, false, inl, inr, length, map, refl, subst, sym, take, true, ℕ, ◌++◌, ◌∙◌, ◌∷◌, ◌≡◌}
-use Rattle.std.proofs.Math.Seq.{drop-append_seam, take-append_seam, take-length}
-use Rattle.std.proofs.lemmas.List.{append-nil, map-append}
+use Rattle.std.proofs.Common.{Bool, List, None, Option, [], ap, arith, false, inl, inr, length, refl, subst, sym, take, true, ℕ, ◌++◌, ◌∙◌, ◌∷◌, ◌≡◌}
+use Rattle.std.proofs.lemmas.Bool.{or_right}
+use Rattle.std.proofs.lemmas.List.{append-nil}
 use Rattle.std.proofs.lemmas.List.Folds.{list_any-append}
 use Rattle.std.specs.List.{concat}
-use Rattle.std.specs.Prelude.{◌||◌}
 use Rattle.cf_lane.specs.declared.fate.Fate.TheVariants as fate
 use Rattle.cf_view.specs.declared.Side.TheVariants as side
-
-or-true : (b : Bool) → (b || (true || false)) ≡ true
-or-true true = refl
-or-true false = refl
-
-or-none : (b : Bool) → (b || (false || false)) ≡ b
-or-none true = refl
-or-none false = refl
 
 -- an End ends its side, and not the other
 ends_now : (s : Side) (m n : ℕ) (js : List Judged) → has_ended s (js ++ judged m (Ended s n) fate.Carried ∷ []) ≡ true
 ends_now s m n js =
-    list_any-append (λ i. ends s i.item) js (judged m (Ended s n) fate.Carried ∷ []) ∙ rw (same_side s) (or-true (has_ended s js))
+    list_any-append (λ i. ends s i.item) js (judged m (Ended s n) fate.Carried ∷ []) ∙ rw (same_side s) (or_right (has_ended s js) true refl)
 
 ends_other : (s : Side) (m n : ℕ) (js : List Judged) → has_ended (other s) (js ++ judged m (Ended s n) fate.Carried ∷ []) ≡ has_ended (other s) js
-ends_other s m n js =
-    list_any-append (λ i. ends (other s) i.item) js (judged m (Ended s n) fate.Carried ∷ []) ∙ rw (other_side s) (or-none (has_ended (other s) js))
+ends_other s m n js = ended-more (other s) js (judged m (Ended s n) fate.Carried) (other_side s)
 
 abbrev queue_to : Side → State → Queue
 queue_to side.Client st = st.to_client
@@ -107,34 +96,17 @@ module _ (asset : Asset) (unfinished : Bool) (h : List Element) (rests : Rests) 
     is_items = refl;
   }
 
-  items_before : f.are_judged.items ≡ map place_of f.judged
-  items_before =
-      f.are_judged.are_first ∙ ap (λ xs. map place_of f.judged ++ xs) (nothing_dropped f.judged f.are_judged.dropped f.is_cut f.are_judged.goes_on)
-      ∙ append-nil (map place_of f.judged)
-
-  are_judged_now : AreJudged asset new.lane.client.address (h ++ e ∷ []) (f.judged ++ j ∷ [])
-  are_judged_now = record {
-    items = f.are_judged.items ++ now;
-    are_items = items_more asset.protocol [] h e f.are_judged.items now f.are_judged.are_items completes;
-    dropped = [];
-    are_first = ap (λ xs. xs ++ now) items_before ∙ sym (map-append place_of f.judged (j ∷ [])) ∙ sym (append-nil (map place_of (f.judged ++ j ∷ [])));
-    goes_on = goes_more f.judged (j ∷ []) [] f.is_cut refl;
-    fates = subst (λ l. HaveFates asset l.client.address [] (f.judged ++ j ∷ [])) (sym lane)
-        (fates-append asset old.lane.client.address [] f.judged (j ∷ []) f.are_judged.fates (refl, tt));
-  }
+  are_judged_now : AreJudged asset old.lane.client.address (h ++ e ∷ []) (f.judged ++ j ∷ [])
+  are_judged_now = judged_more asset old.lane.client.address h e f.judged (j ∷ []) now [] f.are_judged f.is_cut completes refl refl (refl, tt)
 
   -- nothing goes out
   bytes_now : (to : Side) → outputs asset to [] (f.judged ++ j ∷ []) ≡ outputs asset to [] f.judged
   bytes_now to = in_turn-append (output asset to) [] f.judged (j ∷ []) ∙ append-nil (outputs asset to [] f.judged)
 
-  line_now : with_lines old.lines (end_lines asset old.lane.client moment s unfinished rest) ≡ with_lines first (lines asset old.lane.client [] (f.judged ++ j ∷ []))
-  line_now =
-      ap (λ n. with_lines old.lines (end_lines asset old.lane.client moment s unfinished n)) is
-      ∙ ap (λ b. with_lines old.lines (end_lines asset old.lane.client moment s b (length (rest_of s rests)))) left
-      ∙ ap (λ t. with_lines t (item_lines asset old.lane.client f.judged j j.item)) f.of_lines
-      ∙ with_lines-both first (lines asset old.lane.client [] f.judged) (item_lines asset old.lane.client f.judged j j.item)
-      ∙ ap (with_lines first) (sym (in_turn-append (λ b i. item_lines asset old.lane.client b i i.item) [] f.judged (j ∷ [])
-      ∙ ap (λ xs. lines asset old.lane.client [] f.judged ++ xs) (append-nil (item_lines asset old.lane.client f.judged j j.item))))
+  end_lines_are : end_lines asset old.lane.client moment s unfinished rest ≡ lines asset old.lane.client f.judged (j ∷ [])
+  end_lines_are =
+      ap (λ n. end_lines asset old.lane.client moment s unfinished n) is
+      ∙ ap (λ b. end_lines asset old.lane.client moment s b (length (rest_of s rests))) left ∙ sym (append-nil (item_lines asset old.lane.client f.judged j j.item))
 
   knows_now : (new.to_client.ended ≡ has_ended side.Controller (f.judged ++ j ∷ [])) → (new.to_controller.ended ≡ has_ended side.Client (f.judged ++ j ∷ [])) →
       Knows asset new (f.judged ++ j ∷ [])
@@ -158,13 +130,14 @@ module _ (asset : Asset) (unfinished : Bool) (h : List Element) (rests : Rests) 
       IsQueueOf new.to_controller (stream_to asset side.Controller (f.judged ++ j ∷ [])) → Follows asset (h ++ e ∷ []) rests None first new
   by_parts knows c k = record {
     judged = f.judged ++ j ∷ [];
-    are_judged = are_judged_now;
+    are_judged = subst (λ (l : LaneValue). AreJudged asset l.client.address (h ++ e ∷ []) (f.judged ++ j ∷ [])) (sym lane) are_judged_now;
     is_cut = cut_of-append f.judged (j ∷ []) f.is_cut;
     are_rests = rests_now;
     knows = knows;
     client_stream = c;
     controller_stream = k;
-    of_lines = text ∙ line_now ∙ ap (λ l. with_lines first (lines asset l.client [] (f.judged ++ j ∷ []))) (sym lane);
+    of_lines = text ∙ ap (with_lines old.lines) end_lines_are ∙ lines_after asset old.lane.client first old.lines f.judged (j ∷ []) f.of_lines
+        ∙ ap (λ l. with_lines first (lines asset l.client [] (f.judged ++ j ∷ []))) (sym lane);
   }
 
   abbrev Stands : Side → Type 0
@@ -196,31 +169,12 @@ module _ (asset : Asset) (unfinished : Bool) (h : List Element) (rests : Rests) 
   end_began_by : (log : Option (List (List ℕ))) (part : List ℕ) → MayHaveMore (end_lines asset old.lane.client moment s unfinished rest) old.lines log part →
       Began asset old.lane.client (h ++ e ∷ []) first log part
   end_began_by log part (inl none) =
-      let some = lines asset old.lane.client [] f.judged in
-      let put : List Judged → Judged → List (List ℕ) = λ b i. item_lines asset old.lane.client b i i.item in
-      let more = in_turn put f.judged (j ∷ []) in
-      let all : some ++ more ≡ lines asset old.lane.client [] (f.judged ++ j ∷ []) = sym (in_turn-append put [] f.judged (j ∷ [])) in
-      let last : end_lines asset old.lane.client moment s unfinished rest ≡ more =
-      ap (λ n. end_lines asset old.lane.client moment s unfinished n) is
-      ∙ ap (λ b. end_lines asset old.lane.client moment s b (length (rest_of s rests))) left ∙ sym (append-nil (item_lines asset old.lane.client f.judged j j.item)) in
-      record {
-        judged = f.judged ++ j ∷ [];
-        are_judged = subst (λ (l : LaneValue). AreJudged asset l.client.address (h ++ e ∷ []) (f.judged ++ j ∷ [])) lane are_judged_now;
-        count = length some;
-        of_lines = none.0 ∙ f.of_lines ∙ ap (with_lines first) (sym (take-append_seam some more) ∙ ap (take (length some)) all);
-        some = none.1.0;
-        of_part = none.1.1 ∙ ap (λ xs. take none.1.0 (concat xs)) (last ∙ sym (drop-append_seam some more) ∙ ap (drop (length some)) all);
-      }
+      let behind = ap (λ b. lines asset old.lane.client b (j ∷ [])) (sym (append-nil f.judged)) in
+      began_by asset old.lane.client (h ++ e ∷ []) first old.lines log part f.judged (j ∷ []) [] (j ∷ []) none.1.0 are_judged_now refl f.of_lines
+      (none.0 ∙ sym (with_lines-nothing old.lines)) (none.1.1 ∙ ap (λ xs. take none.1.0 (concat xs)) (end_lines_are ∙ behind))
   end_began_by log part (inr all) =
-      let every = lines asset old.lane.client [] (f.judged ++ j ∷ []) in
-      record {
-        judged = f.judged ++ j ∷ [];
-        are_judged = subst (λ (l : LaneValue). AreJudged asset l.client.address (h ++ e ∷ []) (f.judged ++ j ∷ [])) lane are_judged_now;
-        count = length every;
-        of_lines = all.0 ∙ line_now ∙ ap (with_lines first) (sym (take-length every));
-        some = 0;
-        of_part = all.1;
-      }
+      began_by asset old.lane.client (h ++ e ∷ []) first old.lines log part f.judged (j ∷ []) (j ∷ []) [] 0 are_judged_now refl f.of_lines
+      (all.0 ∙ ap (with_lines old.lines) end_lines_are) all.1
 
 module _ (asset : Asset) (unfinished : Bool) (moment : ℕ) (s : Side) (rest : ℕ) (old : State)
     (left : (earlier : List Judged) → KnowsWire asset old.lane.wire earlier → unfinished ≡ has_unfinished asset asset.protocol s earlier)

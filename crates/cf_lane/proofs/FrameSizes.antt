@@ -25,8 +25,8 @@ use Rattle.cf_lane.specs.Unit.{Frame, frame_spelling}
 use Rattle.cf_lane.specs.declared.fate.Fate.{Fate}
 use Rattle.cf_policy.specs.declared.Asset.{Asset}
 use Rattle.cf_view.specs.declared.Side.{Side}
-use Rattle.std.proofs.Common.{Bool, List, None, Option, Some, [], ap, arith, false, inl, inr, length, refl, true, ℕ, ◌*◌, ◌&&◌, ◌++◌, ◌+◌, ◌-◌, ◌/◌, ◌∙◌, ◌∷◌, ◌≡◌, ◌≤◌, ◌⊎◌}
-use Rattle.std.proofs.lemmas.Bool.{ltb-false}
+use Rattle.std.proofs.Common.{Bool, List, None, Option, Some, [], ap, arith, false, inl, inr, length, refl, subst, sym, true, ℕ, ◌*◌, ◌&&◌, ◌++◌, ◌+◌, ◌-◌, ◌/◌, ◌∙◌, ◌∷◌, ◌≡◌, ◌≤◌, ◌⊎◌}
+use Rattle.std.proofs.lemmas.Bool.{and_right, cond_both, ltb-false}
 use Rattle.std.proofs.lemmas.List.{append-nil}
 use Rattle.std.specs.List.{flat_map}
 use Rattle.std.specs.Prelude.{if◌then◌else◌, nat_lt, slice_index}
@@ -50,18 +50,11 @@ few_if : (b : Bool) (z : List ℕ) (most : ℕ) → length z ≤ most → IsFew 
 few_if true z most l = inr (z, refl, l)
 few_if false z most l = inl refl
 
-few_reply_if : (b : Bool) (z : List ℕ) (most : ℕ) → length z ≤ most → IsFew most ((if b then z ∷ [] else []) ++ [])
-few_reply_if true z most l = inr (z, refl, l)
-few_reply_if false z most l = inl refl
-
 few_reply : (ended : Bool) (f : Fate) (xs : List ℕ) → 2 ≤ length xs → IsFew (length xs + 2) (fragment_reply ended f (xs ∷ []))
-few_reply true f xs l = inl refl
-few_reply false (fate.Refused r) xs l = few_reply_if (wants_reply (slice_index xs 1)) (reply xs r.reason) (length xs + 2) (reply_sizes xs r.reason l).1
-few_reply false fate.Carried xs l = inl refl
-few_reply false (fate.Admitted used) xs l = inl refl
-few_reply false (fate.Stray w) xs l = inl refl
-few_reply false fate.Lengthens xs l = inl refl
-few_reply false (fate.Cuts w) xs l = inl refl
+few_reply false (fate.Refused r) xs l =
+    subst (IsFew (length xs + 2)) (sym (append-nil (if wants_reply (slice_index xs 1) then reply xs r.reason ∷ [] else [])))
+    (few_if (wants_reply (slice_index xs 1)) (reply xs r.reason) (length xs + 2) (reply_sizes xs r.reason l).1)
+few_reply ended f xs l = inl refl
 
 few_fragment : (to s : Side) (ended : Bool) (f : Fate) (xs : List ℕ) → 2 ≤ length xs → IsFew (length xs + 2) (frame_fragment to ended s f (xs ∷ []))
 few_fragment side.Client side.Client ended f xs l = few_reply ended f xs l
@@ -86,10 +79,6 @@ frames_size asset to start most ys (inr one) =
       frames_most asset to z start,
       short,
     )
-
-if_lengths : (b : Bool) (xs ys : List ℕ) (n : ℕ) → length xs ≤ n → length ys ≤ n → length (if b then xs else ys) ≤ n
-if_lengths true xs ys n a b = a
-if_lengths false xs ys n a b = b
 
 -- a segment after earlier ones of its side
 module _ (asset : Asset) (says : Says) (to s : Side) (ended : Bool) (start : ℕ) (es : List (List ℕ)) (u : List ℕ) where
@@ -164,17 +153,11 @@ module _ (asset : Asset) (says : Says) (to : Side) (earlier : List Judged) (j : 
 
   none_put : (d : Bool) (because : Why) → out_by d (fate.Stray because) ≡ []
   none_put true because = ap (flat_map (frames_at asset to start)) (stray_fragment to s ended because whole)
-  none_put false because = none_there (is_side to s) where
-    none_there : (b : Bool) → (if b then [] else (if false then frame_spelling x else [])) ≡ []
-    none_there true = refl
-    none_there false = refl
+  none_put false because = cond_both (is_side to s) [] [] (λ xs. xs ≡ []) (λ _. refl) (λ _. refl)
 
   -- no segment comes with a frame that is not served, or has no data
   no_segment : (served d : Bool) → (served && d) ≡ false → (t : Side) → segments_by served d t ≡ segments_of asset t earlier
-  no_segment served d none t = rw none (by_side (is_side t s)) where
-    by_side : (b : Bool) → (if b && false then user ∷ [] else []) ++ segments_of asset t earlier ≡ segments_of asset t earlier
-    by_side true = refl
-    by_side false = refl
+  no_segment served d none t = rw (none, and_right (is_side t s) false refl) refl
 
   stray_grows : (d : Bool) (because : Why) → Grows false d (fate.Stray because)
   stray_grows d because =
@@ -184,7 +167,7 @@ module _ (asset : Asset) (says : Says) (to : Side) (earlier : List Judged) (j : 
   status_grows : Grows true false fate.Carried
   status_grows =
       let same = no_segment true false refl in
-      omega (arith, if_lengths (is_side to s) [] (frame_spelling x) (length (frame_spelling x)) (omega arith) (omega arith), ap owed (same side.Client), ap owed (same side.Controller))
+      omega (arith, cond_both (is_side to s) [] (frame_spelling x) (λ xs. length xs ≤ length (frame_spelling x)) (λ _. omega arith) (λ _. omega arith), ap owed (same side.Client), ap owed (same side.Controller))
 
   data_grows : Grows true true (fate_of_segment asset says s (answer_now asset s earlier x) whole)
   data_grows =

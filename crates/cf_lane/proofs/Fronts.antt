@@ -85,11 +85,7 @@ letters_most (Some reason) n = omega arith
 -- a command is counted once, and a cut counts none
 counts_by : (f : Fate) (n : ℕ) → 0 < n → one_if (is_admitted f) + one_if (is_refused f) ≤ letters_in (step_by (fate_cut f) n)
 counts_by fates.Carried n some = omega arith
-counts_by (fates.Admitted used) n some = omega (arith, some)
-counts_by (fates.Refused r) n some = omega (arith, some)
-counts_by (fates.Stray why) n some = omega arith
-counts_by fates.Lengthens n some = omega arith
-counts_by (fates.Cuts reason) n some = omega arith
+counts_by f n some = omega arith
 
 -- the numbers of commands rise by one at most
 counts_front : (f : Fate) (st : Step) (n : ℕ) → 0 < n → st ≡ step_by (fate_cut f) n → (old new : LaneValue) →
@@ -112,48 +108,39 @@ pub grows_counted : (s : Side) (moment : ℕ) (answer : Framed Fate) (mid new : 
     Grows (2 * taken_in answer) d (debt mid) p q → Grows (2 * letters_in st) d (debt new) p q
 grows_counted s moment (framed.Unit f n) mid new counts st is d p q g =
     subst (λ m. Grows (2 * m) d (debt new) p q) (sym (ap letters_in is)) (subst (λ e. Grows (2 * taken_in (framed.Unit f n)) d e p q) (sym (ap wire_debt counts.wire)) g)
-grows_counted s moment framed.More mid new counts st is d p q g =
-    subst (λ m. Grows (2 * m) d (debt new) p q) (sym (ap letters_in is)) (subst (λ e. Grows (2 * taken_in framed.More) d e p q) (sym (ap debt counts)) g)
-grows_counted s moment (framed.Broken reason) mid new counts st is d p q g =
-    subst (λ m. Grows (2 * m) d (debt new) p q) (sym (ap letters_in is)) (subst (λ e. Grows (2 * taken_in (framed.Broken reason)) d e p q) (sym (ap debt counts)) g)
+grows_counted s moment answer mid new counts st is d p q g =
+    subst (λ m. Grows (2 * m) d (debt new) p q) (sym (ap letters_in is)) (subst (λ e. Grows (2 * taken_in answer) d e p q) (sym (ap debt counts)) g)
 
 -- the numbers of commands rise by one at most
 pub counts_counted : (asset : Asset) (moment : ℕ) (s : Side) (bytes : List ℕ) (old mid : State) (answer : Framed Fate) → Fronts asset moment s bytes old mid answer → (new : LaneValue) →
     CountsFront answer moment mid.lane new → (st : Step) → st ≡ step_at s answer → CountsBy (letters_in st) mid.lane new
 counts_counted asset moment s bytes old mid (framed.Unit f n) front new counts st is = counts_front f st n front.some_bytes is mid.lane new counts.admitted counts.refused
-counts_counted asset moment s bytes old mid framed.More front new counts st is =
-    omega (arith, ap (λ (l : LaneValue). l.admitted) counts, ap (λ (l : LaneValue). l.refused) counts)
-counts_counted asset moment s bytes old mid (framed.Broken reason) front new counts st is =
+counts_counted asset moment s bytes old mid answer front new counts st is =
     omega (arith, ap (λ (l : LaneValue). l.admitted) counts, ap (λ (l : LaneValue). l.refused) counts)
 
 -- no more is counted than octets are there, and no more goes on
 pub counted_most : (asset : Asset) (moment : ℕ) (s : Side) (bytes : List ℕ) (old mid : State) (answer : Framed Fate) → Fronts asset moment s bytes old mid answer → most_counted answer ≤ length bytes
 counted_most asset moment s bytes old mid (framed.Unit f n) front = omega (arith, front.some_bytes, front.begins.inside)
-counted_most asset moment s bytes old mid framed.More front = omega arith
-counted_most asset moment s bytes old mid (framed.Broken reason) front = omega arith
+counted_most asset moment s bytes old mid answer front = omega arith
 
 pub inside_counted : (asset : Asset) (moment : ℕ) (s : Side) (bytes : List ℕ) (old mid : State) (answer : Framed Fate) → Fronts asset moment s bytes old mid answer → (st : Step) → st ≡ step_at s answer →
     letters_in st ≤ length bytes
 inside_counted asset moment s bytes old mid (framed.Unit f n) front st is = omega (arith, letters_most (fate_cut f) n, ap letters_in is, front.begins.inside)
-inside_counted asset moment s bytes old mid framed.More front st is = omega (arith, ap letters_in is)
-inside_counted asset moment s bytes old mid (framed.Broken reason) front st is = omega (arith, ap letters_in is)
+inside_counted asset moment s bytes old mid answer front st is = omega (arith, ap letters_in is)
 
 -- a lane that counted what stands at the front is one of the asset still
 pub lane_counted : (asset : Asset) (moment : ℕ) (answer : Framed Fate) (mid new : LaneValue) → IsLaneOf asset mid → CountsFront answer moment mid new → IsLaneOf asset new
 lane_counted asset moment (framed.Unit f n) mid new of counts = lane_on asset f moment mid new of counts.client counts.rules counts.wire
-lane_counted asset moment framed.More mid new of counts = subst (IsLaneOf asset) (sym counts) of
-lane_counted asset moment (framed.Broken reason) mid new of counts = subst (IsLaneOf asset) (sym counts) of
+lane_counted asset moment answer mid new of counts = subst (IsLaneOf asset) (sym counts) of
 
 -- what is kept for a protocol tells which one it is
 pub is_dnp3 : (p : Protocol) (f : Fragments) → IsWireOf p (wire.Dnp3 f) → p ≡ protocol.Dnp3
-is_dnp3 protocol.Modbus f is = absurd is
 is_dnp3 protocol.Dnp3 f is = refl
-is_dnp3 protocol.Iec104 f is = absurd is
+is_dnp3 p f is = absurd is
 
 pub is_iec104 : (p : Protocol) (numbers : NumbersValue) → IsWireOf p (wire.Iec104 numbers) → p ≡ protocol.Iec104
-is_iec104 protocol.Modbus numbers is = absurd is
-is_iec104 protocol.Dnp3 numbers is = absurd is
 is_iec104 protocol.Iec104 numbers is = refl
+is_iec104 p numbers is = absurd is
 
 pub dnp3_wire : (p : Protocol) (f : Fragments) → p ≡ protocol.Dnp3 → AreFragments f → IsWireOf p (wire.Dnp3 f)
 dnp3_wire p f is are = subst (λ q. IsWireOf q (wire.Dnp3 f)) (sym is) are

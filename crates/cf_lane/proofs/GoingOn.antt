@@ -3,16 +3,16 @@ use Rattle.cf_lane.specs.Rates.{Says, says_at}
 use Rattle.cf_apci.proofs.Fronts.{apdu_octets}
 use Rattle.cf_audit.specs.declared.line.CutReason.{CutReason}
 use Rattle.cf_dnplink.proofs.Frames.{to_places}
-use Rattle.cf_lane.proofs.Handling.{fates-append}
-use Rattle.cf_lane.proofs.Histories.{bytes_of-append, goes_more, items_more, nothing_dropped, to_going}
+use Rattle.cf_lane.proofs.Growth.{AreItemsOf, IsItemOf, one_weight}
+use Rattle.cf_lane.proofs.Histories.{bytes_apart, bytes_of-append, bytes_own, goes_cut, items_more, judged_more, to_going}
 use Rattle.cf_lane.proofs.Pieces.{units_pieces, units_stay}
-use Rattle.cf_lane.proofs.Sides.{own_bytes}
+use Rattle.cf_lane.proofs.Sides.{side_is}
 use Rattle.cf_lane.proofs.Units.{nothing_unit, units_of_octets}
 use Rattle.cf_lane.specs.Acts.{fate_of_acts}
 use Rattle.cf_lane.specs.Dnp3.{fate_of_frame, stray_of}
 use Rattle.cf_lane.specs.Fate.{HasFate, HasItemFate, HasUnitFate, HaveFates}
 use Rattle.cf_lane.specs.Follows.{AreJudged, DropsBehindCut, GoesOnAfter}
-use Rattle.cf_lane.specs.History.{Element, bytes_in, bytes_of, is_side}
+use Rattle.cf_lane.specs.History.{Element, bytes_in, bytes_of}
 use Rattle.cf_lane.specs.Iec104.{fate_of_apdu}
 use Rattle.cf_lane.specs.Item.{AreItems, Broke, Completes, Ended, Item, Placed, Took, last_items, placed}
 use Rattle.cf_lane.specs.Judged.{Judged, fate_cut, cut_of, place_of}
@@ -29,12 +29,11 @@ use Rattle.cf_policy.specs.declared.Protocol.{Protocol}
 use Rattle.cf_view.proofs.OctetLists.{IsOctets-append, IsOctets-take}
 use Rattle.cf_view.specs.Framing.{IsPartial}
 use Rattle.cf_view.specs.Octets.{IsOctets, u16_be_octets}
-use Rattle.cf_view.specs.Units.{BeginsWithUnits}
 use Rattle.cf_view.specs.declared.Side.{Side}
-use Rattle.std.proofs.Common.{Bool, Err, List, None, Ok, Option, Result, Some, [], ap, append_assoc, arith, cond, false, inl, inr, length, map, refl, subst, suc, sym, take, true, zero, ℕ, ◌++◌, ◌+◌, ◌/◌, ◌%◌, ◌<◌, ◌^◌, ◌∙◌, ◌∷◌, ◌≡◌, ◌⊎◌}
+use Rattle.std.proofs.Common.{Err, List, None, Ok, Option, Result, Some, [], ap, append_assoc, arith, inl, inr, length, map, refl, subst, suc, sym, true, zero, ℕ, ◌++◌, ◌+◌, ◌/◌, ◌%◌, ◌<◌, ◌^◌, ◌∙◌, ◌∷◌, ◌≡◌}
 use Rattle.std.proofs.Math.Seq.{take-append_seam}
-use Rattle.std.proofs.lemmas.Bool.{cases_lt}
-use Rattle.std.proofs.lemmas.List.{append-nil, map-append}
+use Rattle.std.proofs.lemmas.Bool.{cases_eq}
+use Rattle.std.proofs.lemmas.List.{append-nil}
 use Rattle.std.specs.Option.{option_or}
 use Rattle.cf_lane.specs.declared.fate.Fate.TheVariants as fate
 use Rattle.cf_policy.specs.declared.Protocol.TheVariants as protocol
@@ -63,14 +62,9 @@ adu_octets a xs s =
 
 unit_octets : (p : Protocol) (u : UnitValue) (xs : List ℕ) → SpellsUnit p u xs → IsOctets xs
 unit_octets protocol.Modbus (Adu a) xs s = adu_octets a xs s
-unit_octets protocol.Modbus (Frame f) xs s = absurd s
-unit_octets protocol.Modbus (Apdu a) xs s = absurd s
-unit_octets protocol.Dnp3 (Adu a) xs s = absurd s
 unit_octets protocol.Dnp3 (Frame f) xs s = (to_places f xs s).unit.octets_are
-unit_octets protocol.Dnp3 (Apdu a) xs s = absurd s
-unit_octets protocol.Iec104 (Adu a) xs s = absurd s
-unit_octets protocol.Iec104 (Frame f) xs s = absurd s
 unit_octets protocol.Iec104 (Apdu a) xs s = apdu_octets a xs s
+unit_octets p u xs s = absurd s
 
 left_octets : (p : Protocol) (xs : List ℕ) → IsPartial (SpellsUnit p) xs → IsOctets xs
 left_octets p xs b =
@@ -78,60 +72,18 @@ left_octets p xs b =
 
 pdu_octets : (p : Protocol) (a : AduValue) (xs : List ℕ) → SpellsUnit p (Adu a) xs → IsOctets a.pdu
 pdu_octets protocol.Modbus a xs s = s.pdu
-pdu_octets protocol.Dnp3 a xs s = absurd s
-pdu_octets protocol.Iec104 a xs s = absurd s
+pdu_octets p a xs s = absurd s
 
 -- ---- items that can be judged
 
--- some octets are the unit
-abbrev IsSpelled : Protocol → UnitValue → Type 0
-IsSpelled p u = (xs : List ℕ) × SpellsUnit p u xs
-
-abbrev AreSpelled : Protocol → List UnitValue → Type 0
-AreSpelled p [] = Unit {0}
-AreSpelled p (u ∷ us) = IsSpelled p u × AreSpelled p us
-
-starts_spelled : (p : Protocol) (us : List UnitValue) (xs rest : List ℕ) → BeginsWithUnits (SpellsUnit p) us xs rest → AreSpelled p us
-starts_spelled p [] xs rest s = tt
-starts_spelled p (u ∷ us) xs rest s = ((take s.0 xs, s.1.spells), starts_spelled p us _ rest s.2)
-
-units_spelled : (p : Protocol) (us : List UnitValue) (xs : List ℕ) (t : Tail) → AreUnits p xs us t → AreSpelled p us
-units_spelled p us xs (Left rest) a = starts_spelled p us xs rest a.starts
-units_spelled p us xs (Wrong reason) a = starts_spelled p us xs a.1.rest a.1.starts
-
-abbrev IsItem : Protocol → Item → Type 0
-IsItem p (Took s u) = IsSpelled p u
-IsItem p (Ended s rest) = Unit {0}
-IsItem p (Broke s because) = Unit {0}
-
-abbrev AreAll : Protocol → List Placed → Type 0
-AreAll p [] = Unit {0}
-AreAll p (x ∷ xs) = IsItem p x.item × AreAll p xs
-
-last_all : (p : Protocol) (m : ℕ) (s : Side) (ended : Bool) (t : Tail) → AreAll p (map (placed m) (last_items s ended t))
-last_all p m s ended (Wrong reason) = (tt, tt)
-last_all p m s true (Left rest) = (tt, tt)
-last_all p m s false (Left rest) = tt
-
-now_all : (p : Protocol) (m : ℕ) (s : Side) (ended : Bool) (us : List UnitValue) (t : Tail) → AreSpelled p us → AreAll p (map (placed m) (map (Took s) us ++ last_items s ended t))
-now_all p m s ended [] t a = last_all p m s ended t
-now_all p m s ended (u ∷ us) t a = (a.0, now_all p m s ended us t a.1)
-
 module _ (each : EachPduHasAnAnswer) (asset : Asset) (says : Says) where
-  same_or_not : (m n : ℕ) → (m ≡ n) ⊎ (m ≡ n → ⊥)
-  same_or_not m n =
-      elim (cases_lt m n) [
-        | inl below ↦ inr (λ e. omega (arith, below, e))
-        | inr least ↦ elim (cases_lt n m) [ inl above ↦ inr (λ e. omega (arith, above, e)) | inr most ↦ inl (omega (arith, least, most)) ]
-      ]
-
   read_fate : (a : AduValue) → a.unit ≡ asset.station → (answer : Result RequestValue RequestRefusal) → Reads answer a.pdu → (f : Fate) × HasCommandFate asset says a f
   read_fate a own (Ok r) reads = (fate_of_acts asset says (acts r), of_its_acts own r reads refl)
   read_fate a own (Err refusal) reads = (fate.Refused (form_refusal a refusal), of_no_form own refusal reads refl)
 
   command_fate : (a : AduValue) → IsOctets a.pdu → (f : Fate) × HasCommandFate asset says a f
   command_fate a o =
-      elim (same_or_not a.unit asset.station) [
+      elim (cases_eq a.unit asset.station) [
         | inl own ↦ (let r = each a.pdu o in read_fate a own r.0 r.1)
         | inr other ↦ (fate.Refused (station_refusal a), of_other_station other refl)
       ]
@@ -140,12 +92,12 @@ module _ (each : EachPduHasAnAnswer) (asset : Asset) (says : Says) where
   adu_fate side.Client a o = command_fate a o
   adu_fate side.Controller a o = (fate.Carried, refl)
 
-  unit_fate : (earlier : List Judged) (s : Side) (u : UnitValue) → IsSpelled asset.protocol u → (f : Fate) × HasUnitFate asset says earlier s u f
+  unit_fate : (earlier : List Judged) (s : Side) (u : UnitValue) → IsItemOf asset.protocol (Took s u) → (f : Fate) × HasUnitFate asset says earlier s u f
   unit_fate earlier s (Adu a) is = adu_fate s a (pdu_octets asset.protocol a is.0 is.1)
   unit_fate earlier s (Frame x) is = (fate_of_frame asset says s earlier x (stray_of asset s x), refl)
   unit_fate earlier s (Apdu x) is = (fate_of_apdu asset says s earlier x, refl)
 
-  item_fate : (earlier : List Judged) (i : Item) → IsItem asset.protocol i → (f : Fate) × HasItemFate asset says earlier i f
+  item_fate : (earlier : List Judged) (i : Item) → IsItemOf asset.protocol i → (f : Fate) × HasItemFate asset says earlier i f
   item_fate earlier (Took s u) is = unit_fate earlier s u is
   item_fate earlier (Ended s rest) is = (fate.Carried, refl)
   item_fate earlier (Broke s because) is = (_, refl)
@@ -159,10 +111,6 @@ module _ (each : EachPduHasAnAnswer) (asset : Asset) (client : ℕ) where
     goes : DropsBehindCut js dropped
     fates : HaveFates asset client earlier js
 
-  cut_here : (c : Option CutReason) (going : Type 0) (r : CutReason) → c ≡ Some r → GoesOnAfter c [] going
-  cut_here None going r e = cc
-  cut_here (Some x) going r e = refl
-
   judge_one : (earlier : List Judged) (x : Placed) (xs : List Placed) (f : Fate) → HasFate asset client earlier x f →
       ((j : Judged) → JudgesAll (earlier ++ j ∷ []) xs) → (c : Option CutReason) → fate_cut f ≡ c → JudgesAll earlier (x ∷ xs)
   judge_one earlier x xs f has rest None e =
@@ -171,9 +119,9 @@ module _ (each : EachPduHasAnAnswer) (asset : Asset) (client : ℕ) where
       record { js = j ∷ r.js; dropped = r.dropped; are = ap (λ ys. x ∷ ys) r.are; goes = to_going (fate_cut f) r.js (DropsBehindCut r.js r.dropped) e r.goes; fates = (has, r.fates) }
   judge_one earlier x xs f has rest (Some c) e =
       let j : Judged = record { moment = x.moment; item = x.item; fate = f } in
-      record { js = j ∷ []; dropped = xs; are = refl; goes = cut_here (fate_cut f) _ c e; fates = (has, tt) }
+      record { js = j ∷ []; dropped = xs; are = refl; goes = goes_cut (fate_cut f) c _ e; fates = (has, tt) }
 
-  judge_all : (xs : List Placed) (earlier : List Judged) → AreAll asset.protocol xs → JudgesAll earlier xs
+  judge_all : (xs : List Placed) (earlier : List Judged) → AreItemsOf asset.protocol xs → JudgesAll earlier xs
   judge_all [] earlier a = record { js = []; dropped = []; are = refl; goes = refl; fates = tt }
   judge_all (x ∷ xs) earlier a =
       let f = item_fate each asset (says_at asset client earlier x.moment) earlier x.item a.0 in
@@ -185,26 +133,25 @@ abbrev HasTail : Protocol → List ℕ → Type 0
 HasTail p xs = (us : List UnitValue) × (t : Tail) × AreUnits p xs us t
 
 module _ (p : Protocol) where
-  tail_by : (h : List Element) (e : Element) → HasTail p (bytes_of e.side (h ++ e ∷ [])) → (s t : Side) → e.side ≡ t → HasTail p (bytes_of s h) → HasTail p (bytes_of s (h ++ e ∷ []))
-  tail_by h e now side.Client side.Client is before = subst (λ s. HasTail p (bytes_of s (h ++ e ∷ []))) is now
-  tail_by h e now side.Controller side.Controller is before = subst (λ s. HasTail p (bytes_of s (h ++ e ∷ []))) is now
-  tail_by h e now side.Client side.Controller is before =
-      subst (HasTail p) (sym (bytes_of-append side.Client h e ∙ ap (λ s. bytes_of side.Client h ++ cond (is_side side.Client s) e.letters.bytes []) is ∙ append-nil (bytes_of side.Client h))) before
-  tail_by h e now side.Controller side.Client is before =
-      subst (HasTail p) (sym (bytes_of-append side.Controller h e ∙ ap (λ s. bytes_of side.Controller h ++ cond (is_side side.Controller s) e.letters.bytes []) is ∙ append-nil (bytes_of side.Controller h))) before
+  tail_by : (h : List Element) (e : Element) → HasTail p (bytes_of e.side (h ++ e ∷ [])) → (s : Side) → HasTail p (bytes_of s h) → HasTail p (bytes_of s (h ++ e ∷ []))
+  tail_by h e now s before =
+      elim (side_is s e.side) [
+        | inl apart ↦ subst (HasTail p) (sym (bytes_apart s h e apart)) before
+        | inr same ↦ subst (λ t. HasTail p (bytes_of t (h ++ e ∷ []))) same now
+      ]
 
   tails_of : (later earlier : List Element) (items : List Placed) → ((s : Side) → HasTail p (bytes_of s earlier)) → AreItems p earlier later items → (s : Side) → HasTail p (bytes_of s (earlier ++ later))
   tails_of [] earlier items before a s = subst (λ h. HasTail p (bytes_of s h)) (sym (append-nil earlier)) (before s)
   tails_of (e ∷ later) earlier items before a s =
       let c = a.2 in
       subst (λ h. HasTail p (bytes_of s h)) (append_assoc earlier (e ∷ []) later)
-      (tails_of later (earlier ++ e ∷ []) a.1 (λ t. tail_by earlier e (c.before ++ c.more, c.tail, c.are) t e.side refl (before t)) a.3 s)
+      (tails_of later (earlier ++ e ∷ []) a.1 (λ t. tail_by earlier e (c.before ++ c.more, c.tail, c.are) t (before t)) a.3 s)
 
   nothing_tail : HasTail p []
   nothing_tail = ([], Left [], record { starts = refl; partial = nothing_unit p })
 
   -- an element completes items after any history
-  complete : (h : List Element) (e : Element) (us : List UnitValue) (t : Tail) → AreUnits p (bytes_of e.side h) us t → IsOctets e.letters.bytes → (now : List Placed) × Completes p h e now × AreAll p now
+  complete : (h : List Element) (e : Element) (us : List UnitValue) (t : Tail) → AreUnits p (bytes_of e.side h) us t → IsOctets e.letters.bytes → (now : List Placed) × Completes p h e now
   complete h e us (Wrong reason) a o =
       let stays = subst (λ vs. AreUnits p (bytes_of e.side h ++ bytes_in e.side e) vs (Wrong reason)) (sym (append-nil us)) (units_stay p us (bytes_of e.side h) (bytes_in e.side e) reason a) in
       let c : Completes p h e [] = record {
@@ -216,11 +163,10 @@ module _ (p : Protocol) where
         are = subst (λ xs. AreUnits p xs (us ++ []) (Wrong reason)) (sym (bytes_of-append e.side h e)) stays;
         is_items = refl;
       } in
-      ([], c, tt)
+      ([], c)
   complete h e us (Left rest) a o =
       let more = units_of_octets p (rest ++ e.letters.bytes) (IsOctets-append rest e.letters.bytes (left_octets p rest a.partial) o) in
       let all = units_pieces p us more.0 (bytes_of e.side h) rest e.letters.bytes more.1 a more.2 in
-      let bytes : bytes_of e.side (h ++ e ∷ []) ≡ bytes_of e.side h ++ e.letters.bytes = bytes_of-append e.side h e ∙ ap (λ xs. bytes_of e.side h ++ xs) (own_bytes e) in
       let now = map (placed e.moment) (map (Took e.side) more.0 ++ last_items e.side e.letters.ended more.1) in
       let c : Completes p h e now = record {
         before = us;
@@ -228,10 +174,10 @@ module _ (p : Protocol) where
         more = more.0;
         tail = more.1;
         were = a;
-        are = subst (λ xs. AreUnits p xs (us ++ more.0) more.1) (sym bytes) all;
+        are = subst (λ xs. AreUnits p xs (us ++ more.0) more.1) (sym (bytes_own h e)) all;
         is_items = refl;
       } in
-      (now, c, now_all p e.moment e.side e.letters.ended more.0 more.1 (units_spelled p more.0 (rest ++ e.letters.bytes) more.1 more.2))
+      (now, c)
 
 -- ---- after a cut nothing is judged
 
@@ -239,40 +185,24 @@ cut_step : (c : Option CutReason) (js : List Judged) (P Q : Type 0) (r : CutReas
 cut_step None js P Q r on e g = on e g
 cut_step (Some x) js P Q r on e g = g
 
-goes_cut : (js : List Judged) (ds es : List Placed) (r : CutReason) → cut_of js ≡ Some r → DropsBehindCut js ds → DropsBehindCut js es
-goes_cut [] ds es r e g = cc
-goes_cut (j ∷ js) ds es r e g = cut_step (fate_cut j.fate) js (DropsBehindCut js ds) (DropsBehindCut js es) r (λ e g. goes_cut js ds es r e g) e g
+dropped_cut : (js : List Judged) (ds es : List Placed) (r : CutReason) → cut_of js ≡ Some r → DropsBehindCut js ds → DropsBehindCut js es
+dropped_cut [] ds es r e g = cc
+dropped_cut (j ∷ js) ds es r e g = cut_step (fate_cut j.fate) js (DropsBehindCut js ds) (DropsBehindCut js es) r (λ e g. dropped_cut js ds es r e g) e g
 
 module _ (each : EachPduHasAnAnswer) (asset : Asset) (client : ℕ) (h : List Element) (e : Element) (js : List Judged) (a : AreJudged asset client h js)
-    (now : List Placed) (c : Completes asset.protocol h e now) (all : AreAll asset.protocol now) where
-  items_now : AreItems asset.protocol [] (h ++ e ∷ []) (a.items ++ now)
-  items_now = items_more asset.protocol [] h e a.items now a.are_items c
-
+    (now : List Placed) (c : Completes asset.protocol h e now) (all : AreItemsOf asset.protocol now) where
   on_by : (cut : Option CutReason) → cut_of js ≡ cut → (ks : List Judged) × AreJudged asset client (h ++ e ∷ []) ks
   on_by None uncut =
       let r = judge_all each asset client now js all in
-      let items_before : a.items ≡ map place_of js = a.are_first ∙ ap (λ xs. map place_of js ++ xs) (nothing_dropped js a.dropped uncut a.goes_on) ∙ append-nil (map place_of js) in
-      let first : a.items ++ now ≡ map place_of (js ++ r.js) ++ r.dropped =
-      ap (λ xs. xs ++ now) items_before ∙ ap (λ xs. map place_of js ++ xs) r.are
-      ∙ sym (append_assoc (map place_of js) (map place_of r.js) r.dropped) ∙ ap (λ xs. xs ++ r.dropped) (sym (map-append place_of js r.js)) in (
-        js ++ r.js,
-        record {
-          items = a.items ++ now;
-          are_items = items_now;
-          dropped = r.dropped;
-          are_first = first;
-          goes_on = goes_more js r.js r.dropped uncut r.goes;
-          fates = fates-append asset client [] js r.js a.fates r.fates;
-        },
-      )
+      (js ++ r.js, judged_more asset client h e js r.js now r.dropped a uncut c r.are r.goes r.fates)
   on_by (Some r) cuts = (
     js,
     record {
       items = a.items ++ now;
-      are_items = items_now;
+      are_items = items_more asset.protocol [] h e a.items now a.are_items c;
       dropped = a.dropped ++ now;
       are_first = ap (λ xs. xs ++ now) a.are_first ∙ append_assoc (map place_of js) a.dropped now;
-      goes_on = goes_cut js a.dropped (a.dropped ++ now) r cuts a.goes_on;
+      goes_on = dropped_cut js a.dropped (a.dropped ++ now) r cuts a.goes_on;
       fates = a.fates;
     },
   )
@@ -282,4 +212,4 @@ judgements_go_on each asset client h e js a o =
     let p = asset.protocol in
     let t = tails_of p h [] a.items (λ s. nothing_tail p) a.are_items e.side in
     let c = complete p h e t.0 t.1 t.2 o in
-    on_by each asset client h e js a c.0 c.1 c.2 (cut_of js) refl
+    on_by each asset client h e js a c.0 c.1 (one_weight p h e c.0 c.1).1 (cut_of js) refl

@@ -3,13 +3,13 @@ use Rattle.cf_lane.specs.Rates.{says_at}
 use Rattle.cf_audit.specs.declared.line.CutReason.{CutReason}
 use Rattle.cf_dnplink.proofs.Frames.{user_is}
 use Rattle.cf_lane.proofs.Earlier.{in_turn-append}
-use Rattle.cf_lane.proofs.Histories.{bytes_of-append}
+use Rattle.cf_lane.proofs.Histories.{bytes_apart, bytes_own}
 use Rattle.cf_lane.proofs.Judgements.{after_break, one_item_fate, one_items, one_units, same_judged}
-use Rattle.cf_lane.proofs.Sides.{own_bytes}
+use Rattle.cf_lane.proofs.Sides.{same_side, side_is}
 use Rattle.cf_lane.proofs.Units.{free_unit, short_unit}
 use Rattle.cf_lane.specs.Fate.{HasFate, HaveFates}
 use Rattle.cf_lane.specs.Follows.{DropsBehindCut, GoesOnAfter}
-use Rattle.cf_lane.specs.History.{Element, bytes_in, bytes_of, is_side}
+use Rattle.cf_lane.specs.History.{Element, bytes_of, is_side}
 use Rattle.cf_lane.specs.Item.{AreItems, Broke, Completes, Ended, Item, Placed, Took, last_after, placed}
 use Rattle.cf_lane.specs.Judged.{Judged, fate_cut, place_of}
 use Rattle.cf_lane.specs.Laws.{StreamsGoOn, letters_of}
@@ -20,7 +20,7 @@ use Rattle.cf_policy.specs.declared.Asset.{Asset}
 use Rattle.cf_policy.specs.declared.Protocol.{Protocol}
 use Rattle.cf_view.specs.Units.{BeginsWithUnits, IsUnitsThenRest}
 use Rattle.cf_view.specs.declared.Side.{Side}
-use Rattle.std.proofs.Common.{Bool, List, None, Option, Some, [], ap, append_assoc, arith, drop, false, length, map, refl, subst, sym, take, true, ℕ, ◌++◌, ◌+◌, ◌∙◌, ◌∷◌, ◌≡◌, ◌≤◌}
+use Rattle.std.proofs.Common.{Bool, List, None, Option, Some, [], ap, append_assoc, arith, drop, false, inl, inr, length, map, refl, subst, sym, take, true, ℕ, ◌++◌, ◌+◌, ◌∙◌, ◌∷◌, ◌≡◌, ◌≤◌}
 use Rattle.std.proofs.lemmas.List.{append-nil, length-append, length-drop, length-take}
 use Rattle.std.specs.Prelude.{if◌then◌else◌}
 use Rattle.cf_dnplink.specs.LinkFrame as link
@@ -65,15 +65,10 @@ of_front p (i ∷ ps) qs a = (a.0, of_front p ps qs a.1)
 
 pub spelled_length : (p : Protocol) (u : UnitValue) (xs : List ℕ) → SpellsUnit p u xs → length xs ≡ length (unit_spelling u)
 spelled_length protocol.Modbus (Adu a) xs s = ap length s.spelled
-spelled_length protocol.Modbus (Frame x) xs s = absurd s
-spelled_length protocol.Modbus (Apdu x) xs s = absurd s
-spelled_length protocol.Dnp3 (Adu a) xs s = absurd s
 spelled_length protocol.Dnp3 (Frame x) xs s =
     ap length s.spelled ∙ ap (λ user. length (link.spelling x.control x.dest x.source user)) (sym (user_is x (xs, s)))
-spelled_length protocol.Dnp3 (Apdu x) xs s = absurd s
-spelled_length protocol.Iec104 (Adu a) xs s = absurd s
-spelled_length protocol.Iec104 (Frame x) xs s = absurd s
 spelled_length protocol.Iec104 (Apdu x) xs s = ap length s.spelled
+spelled_length p u xs s = absurd s
 
 -- units and what follows them are all octets
 started : (p : Protocol) (us : List UnitValue) (xs left : List ℕ) → BeginsWithUnits (SpellsUnit p) us xs left → weigh us + length left ≡ length xs
@@ -92,9 +87,7 @@ weights_of m s (u ∷ us) last none = omega (arith, weights_of m s us last none)
 no_weight : (m : ℕ) (s : Side) (ended : Bool) (w t : Tail) → weights (map (placed m) (last_after w s ended t)) ≡ 0
 no_weight m s true (Left a) (Left r) = omega arith
 no_weight m s false (Left a) (Left r) = refl
-no_weight m s true (Left a) (Wrong b) = omega arith
-no_weight m s false (Left a) (Wrong b) = omega arith
-no_weight m s ended (Wrong a) t = refl
+no_weight m s ended w t = omega arith
 
 abbrev left_of : Tail → ℕ
 left_of (Left r) = length r
@@ -114,9 +107,6 @@ caps_sum : (t : Side) (n : ℕ) (cap : Side → ℕ) →
     cap_with t n cap side.Client + cap_with t n cap side.Controller + cap t ≡ cap side.Client + cap side.Controller + n
 caps_sum side.Client n cap = omega arith
 caps_sum side.Controller n cap = omega arith
-
-same_left : (t u : Tail) (r : List ℕ) → t ≡ u → u ≡ Left r → left_of t ≡ length r
-same_left t u r e f = ap left_of (e ∙ f)
 
 items_of : (p : Protocol) (m : ℕ) (s : Side) (us : List UnitValue) (xs left : List ℕ) (last : List Item) → BeginsWithUnits (SpellsUnit p) us xs left →
     AreItemsOf p (map (placed m) last) → AreItemsOf p (map (placed m) (map (Took s) us ++ last))
@@ -146,16 +136,15 @@ module _ (p : Protocol) (earlier : List Element) (e : Element) (now : List Place
   -- what an element completes weighs no more than what it adds and what was left
   weight_by : (w : Tail) → c.was ≡ w → weights now + left_of c.tail ≤ left_of w + length e.letters.bytes
   weight_by (Left r) is =
-      let size = bytes_of-append e.side earlier e ∙ ap (λ xs. bytes_of e.side earlier ++ xs) (own_bytes e) in
       let all = units_weigh p (bytes_of e.side (earlier ++ e ∷ [])) (c.before ++ c.more) c.tail c.are in
       let were : IsUnitsThenRest (SpellsUnit p) c.before (bytes_of e.side earlier) r = subst (λ t. AreUnits p (bytes_of e.side earlier) c.before t) is c.were in
       let old = started p c.before (bytes_of e.side earlier) r were.starts in
-      omega (arith, all, old, own_weight, weigh-append c.before c.more, ap length size ∙ length-append (bytes_of e.side earlier) e.letters.bytes)
+      omega (arith, all, old, own_weight, weigh-append c.before c.more, ap length (bytes_own earlier e) ∙ length-append (bytes_of e.side earlier) e.letters.bytes)
   weight_by (Wrong b) is =
       let none = after_break p (free_unit p) earlier e now c b is in
       omega (arith, own_weight, ap weigh none.0, ap left_of none.1)
 
-  one_weight : (weights now + left_of c.tail ≤ left_of c.was + length e.letters.bytes) × AreItemsOf p now
+  pub one_weight : (weights now + left_of c.tail ≤ left_of c.was + length e.letters.bytes) × AreItemsOf p now
   one_weight =
       let start = units_start p (bytes_of e.side (earlier ++ e ∷ [])) (c.before ++ c.more) c.tail c.are in
       let behind = starts_behind p c.before c.more (bytes_of e.side (earlier ++ e ∷ [])) start.0 start.1 in (
@@ -168,26 +157,15 @@ left_capped p h s cap caps us (Left r) a = caps s us r a
 left_capped p h s cap caps us (Wrong b) a = omega arith
 
 module _ (p : Protocol) (h : List Element) (e : Element) (now : List Placed) (c : Completes p h e now) (cap : Side → ℕ) (caps : HasCaps p h cap) where
-  by_which : (s t : Side) → (e.side ≡ t) → (us : List UnitValue) (r : List ℕ) → AreUnits p (bytes_of s (h ++ e ∷ [])) us (Left r) → length r ≤ cap_with t (left_of c.tail) cap s
-  by_which side.Client side.Client is us r a =
-      let P : Side → Type 0 = λ s. AreUnits p (bytes_of s (h ++ e ∷ [])) us (Left r) in
-      let same = one_units p (free_unit p) (c.before ++ c.more) us (bytes_of e.side (h ++ e ∷ [])) c.tail (Left r) c.are (subst P (sym is) a) in
-      omega (arith, ap left_of same.1)
-  by_which side.Controller side.Controller is us r a =
-      let P : Side → Type 0 = λ s. AreUnits p (bytes_of s (h ++ e ∷ [])) us (Left r) in
-      let same = one_units p (free_unit p) (c.before ++ c.more) us (bytes_of e.side (h ++ e ∷ [])) c.tail (Left r) c.are (subst P (sym is) a) in
-      omega (arith, ap left_of same.1)
-  by_which side.Client side.Controller is us r a =
-      let none : bytes_in side.Client e ≡ [] = ap (λ t. if is_side side.Client t then e.letters.bytes else []) is in
-      let same = bytes_of-append side.Client h e ∙ ap (λ xs. bytes_of side.Client h ++ xs) none ∙ append-nil (bytes_of side.Client h) in
-      caps side.Client us r (subst (λ xs. AreUnits p xs us (Left r)) same a)
-  by_which side.Controller side.Client is us r a =
-      let none : bytes_in side.Controller e ≡ [] = ap (λ t. if is_side side.Controller t then e.letters.bytes else []) is in
-      let same = bytes_of-append side.Controller h e ∙ ap (λ xs. bytes_of side.Controller h ++ xs) none ∙ append-nil (bytes_of side.Controller h) in
-      caps side.Controller us r (subst (λ xs. AreUnits p xs us (Left r)) same a)
-
   caps_next : HasCaps p (h ++ e ∷ []) (cap_with e.side (left_of c.tail) cap)
-  caps_next s us r a = by_which s e.side refl us r a
+  caps_next s us r a = elim (side_is s e.side) [
+    | inl apart ↦ rw apart (caps s us r (subst (λ xs. AreUnits p xs us (Left r)) (bytes_apart s h e apart) a))
+    | inr same ↦
+        (let here : is_side s e.side ≡ true = ap (is_side s) same ∙ same_side s in
+        let own = subst (λ t. AreUnits p (bytes_of t (h ++ e ∷ [])) us (Left r)) (sym same) a in
+        let one = one_units p (free_unit p) (c.before ++ c.more) us (bytes_of e.side (h ++ e ∷ [])) c.tail (Left r) c.are own in
+        rw here (omega (arith, ap left_of one.1)))
+  ]
 
 pub all_weight : (p : Protocol) (h later : List Element) (items : List Placed) (cap : Side → ℕ) → HasCaps p h cap → AreItems p h later items →
     (weights items ≤ cap side.Client + cap side.Controller + letters_of later) × AreItemsOf p items

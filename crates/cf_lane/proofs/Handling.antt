@@ -19,6 +19,7 @@ use Rattle.cf_policy.specs.declared.Asset.{Asset}
 use Rattle.cf_view.specs.declared.Endpoint.{Endpoint}
 use Rattle.cf_view.specs.declared.Side.{Side}
 use Rattle.std.proofs.Common.{Bool, List, None, Option, Some, [], ap, append_assoc, arith, cond, false, refl, subst, sym, true, ℕ, ◌++◌, ◌+◌, ◌∙◌, ◌∷◌, ◌≡◌}
+use Rattle.std.proofs.lemmas.Bool.{or_left}
 use Rattle.std.proofs.lemmas.List.{append-nil, length-append}
 use Rattle.std.proofs.lemmas.List.Folds.{list_any-append}
 use Rattle.std.proofs.lemmas.List.Sums.{sum_by-append}
@@ -121,14 +122,10 @@ adu_event : (s : Side) (a : AduValue) (f : Fate) (earlier : List Judged) → ite
 adu_event side.Client a f earlier = refl
 adu_event side.Controller a f earlier = refl
 
-true-or : (b c : Bool) → b ≡ true → (b || c) ≡ true
-true-or true c e = refl
-true-or false c e = cc
-
 -- a side that has ended stays so
 pub ended_stays : (t : Side) (js : List Judged) (j : Judged) → has_ended t js ≡ true → has_ended t (js ++ j ∷ []) ≡ true
 ended_stays t js j e =
-    list_any-append (λ i. ends t i.item) js (j ∷ []) ∙ true-or (has_ended t js) (list_any (λ i. ends t i.item) (j ∷ [])) e
+    list_any-append (λ i. ends t i.item) js (j ∷ []) ∙ or_left (has_ended t js) (list_any (λ i. ends t i.item) (j ∷ [])) e
 
 module _ (asset : Asset) (moment : ℕ) (s : Side) (a : AduValue) (f : Fate) (old new : State) (has : (earlier : List Judged) → KnowsRules old.lane.rules earlier → HasAduFate asset (says_at asset old.lane.client.address earlier moment) s a f)
     (rules : RulesGoOn f moment old.lane.rules new.lane.rules)

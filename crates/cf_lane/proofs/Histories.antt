@@ -9,9 +9,9 @@ use Rattle.cf_lane.proofs.Sides.{own_bytes}
 use Rattle.cf_lane.specs.Fate.{HaveFates}
 use Rattle.cf_lane.specs.Follows.{AddsTo, AreJudged, AreRests, Began, BeganWithin, FailsApart, FailsWithin, Follows, DropsBehindCut, GoesOnAfter, IsRest, Rests, no_rests, over, rest_of, with_rest}
 use Rattle.cf_lane.specs.Handled.{Breaks, Does, Handled, Knows, LaneValue, Misses, State, TakesUnit, judged, state}
-use Rattle.cf_lane.specs.History.{Element, bytes_at, bytes_in, bytes_of, end_at, letters_at}
+use Rattle.cf_lane.specs.History.{Element, bytes_at, bytes_in, bytes_of, end_at, is_side, letters_at}
 use Rattle.cf_lane.specs.Item.{AreItems, Broke, Completes, Placed, Took, last_items, placed}
-use Rattle.cf_lane.specs.Judged.{Judged, fate_cut, cut_of, has_ended, in_turn, is_admitted, is_refused, place_of}
+use Rattle.cf_lane.specs.Judged.{Judged, fate_cut, cut_of, has_ended, is_admitted, is_refused, place_of}
 use Rattle.cf_lane.specs.Kept.{KnowsWire}
 use Rattle.cf_lane.specs.Log.{item_lines, lines, with_lines}
 use Rattle.cf_lane.specs.Output.{other, output, outputs, stream_to}
@@ -26,12 +26,14 @@ use Rattle.cf_view.specs.Units.{BeginsWithUnits}
 use Rattle.cf_view.specs.declared.Break.{Break}
 use Rattle.cf_view.specs.declared.Endpoint.{Endpoint}
 use Rattle.cf_view.specs.declared.Side.{Side}
-use Rattle.std.proofs.Common.{Bool, List, None, Option, Some, [], ap, append_assoc, arith, drop, false, inl, inr, length, map, refl, rules, subst, sym, take, take-append-drop, true, ℕ, ◌++◌, ◌+◌, ◌-◌, ◌∙◌, ◌∷◌, ◌≡◌, ◌⊎◌}
+use Rattle.std.proofs.Common.{Bool, List, None, Option, Some, [], ap, append_assoc, arith, drop, false, inl, inr, length, map, refl, rules, subst, sym, take, take-append-drop, true, ℕ, ◌++◌, ◌+◌, ◌-◌, ◌∙◌, ◌∷◌, ◌≡◌}
 use Rattle.std.proofs.Math.Seq.{drop-append_seam, take-add, take-append_seam}
+use Rattle.std.proofs.lemmas.Bool.{cases_Bool, cond_both}
 use Rattle.std.proofs.lemmas.Grind.{common_steps}
 use Rattle.std.proofs.lemmas.List.{append-nil, drop-drop, map-append}
 use Rattle.std.specs.List.{concat}
 use Rattle.std.specs.Option.{option_or}
+use Rattle.std.specs.Prelude.{if◌then◌else◌}
 use Rattle.cf_audit.specs.declared.line.CutReason.TheVariants as cut
 use Rattle.cf_lane.specs.declared.fate.Fate.TheVariants as fate
 use Rattle.cf_view.specs.declared.Side.TheVariants as side
@@ -40,11 +42,16 @@ pub bytes_of-append : (s : Side) (h : List Element) (e : Element) → bytes_of s
 bytes_of-append s [] e = append-nil (bytes_in s e)
 bytes_of-append s (d ∷ h) e = ap (λ xs. bytes_in s d ++ xs) (bytes_of-append s h e) ∙ sym (append_assoc (bytes_in s d) (bytes_of s h) (bytes_in s e))
 
+-- bytes after those of their side, or of the other
+pub bytes_own : (h : List Element) (e : Element) → bytes_of e.side (h ++ e ∷ []) ≡ bytes_of e.side h ++ e.letters.bytes
+bytes_own h e = bytes_of-append e.side h e ∙ ap (λ xs. bytes_of e.side h ++ xs) (own_bytes e)
+
+pub bytes_apart : (s : Side) (h : List Element) (e : Element) → is_side s e.side ≡ false → bytes_of s (h ++ e ∷ []) ≡ bytes_of s h
+bytes_apart s h e apart =
+    bytes_of-append s h e ∙ ap (λ (b : Bool). bytes_of s h ++ (if b then e.letters.bytes else [])) apart ∙ append-nil (bytes_of s h)
+
 pub no_bytes : (s t : Side) (m : ℕ) → bytes_in t (end_at m s) ≡ []
-no_bytes side.Client side.Client m = refl
-no_bytes side.Client side.Controller m = refl
-no_bytes side.Controller side.Client m = refl
-no_bytes side.Controller side.Controller m = refl
+no_bytes s t m = cond_both (is_side t s) [] [] (λ xs. xs ≡ []) (λ _. refl) (λ _. refl)
 
 pub items_more : (p : Protocol) (earlier later : List Element) (e : Element) (items now : List Placed) → AreItems p earlier later items →
     Completes p (earlier ++ later) e now → AreItems p earlier (later ++ e ∷ []) (items ++ now)
@@ -57,19 +64,17 @@ items_more p earlier (d ∷ later) e items now are c =
     (subst (λ (h : List Element). Completes p h e now) (sym (append_assoc earlier (d ∷ []) later)) c) in
     (one, next ++ now, are.2, rest, ap (λ xs. xs ++ now) are.4 ∙ append_assoc one next now)
 
-goes_by : (c : Option CutReason) (later : List Judged) (going : Type 0) → c ≡ None → GoesOnAfter c later going → going
-goes_by None later going e g = g
-goes_by (Some r) later going e g = cc
-
 pub nothing_dropped : (js : List Judged) (dropped : List Placed) → cut_of js ≡ None → DropsBehindCut js dropped → dropped ≡ []
 nothing_dropped [] dropped e g = g
 nothing_dropped (j ∷ js) dropped e g =
     let both = first_none (fate_cut j.fate) (cut_of js) e in
-    nothing_dropped js dropped both.1 (goes_by (fate_cut j.fate) js (DropsBehindCut js dropped) both.0 g)
+    nothing_dropped js dropped both.1 (subst (λ o. GoesOnAfter o js (DropsBehindCut js dropped)) both.0 g)
 
 pub to_going : (c : Option CutReason) (later : List Judged) (going : Type 0) → c ≡ None → going → GoesOnAfter c later going
-to_going None later going e g = g
-to_going (Some r) later going e g = cc
+to_going c later going e g = subst (λ o. GoesOnAfter o later going) (sym e) g
+
+pub goes_cut : (c : Option CutReason) (r : CutReason) (going : Type 0) → c ≡ Some r → GoesOnAfter c [] going
+goes_cut c r going e = subst (λ o. GoesOnAfter o [] going) (sym e) refl
 
 pub goes_more : (js ks : List Judged) (dropped : List Placed) → cut_of js ≡ None → DropsBehindCut ks dropped → DropsBehindCut (js ++ ks) dropped
 goes_more [] ks dropped e g = g
@@ -77,9 +82,47 @@ goes_more (j ∷ js) ks dropped e g =
     let both = first_none (fate_cut j.fate) (cut_of js) e in
     to_going (fate_cut j.fate) (js ++ ks) (DropsBehindCut (js ++ ks) dropped) both.0 (goes_more js ks dropped both.1 g)
 
-bool_is : (b : Bool) → (b ≡ true) ⊎ (b ≡ false)
-bool_is true = inl refl
-bool_is false = inr refl
+-- the items that an element completes, judged after those before it
+pub judged_more : (asset : Asset) (client : ℕ) (h : List Element) (e : Element) (before js : List Judged) (now dropped : List Placed) → AreJudged asset client h before →
+    cut_of before ≡ None → Completes asset.protocol h e now → now ≡ map place_of js ++ dropped → DropsBehindCut js dropped → HaveFates asset client before js →
+    AreJudged asset client (h ++ e ∷ []) (before ++ js)
+judged_more asset client h e before js now dropped a uncut completes are goes fates = record {
+  items = a.items ++ now;
+  are_items = items_more asset.protocol [] h e a.items now a.are_items completes;
+  dropped = dropped;
+  are_first = ap (λ xs. xs ++ now)
+      (a.are_first ∙ ap (λ xs. map place_of before ++ xs) (nothing_dropped before a.dropped uncut a.goes_on) ∙ append-nil (map place_of before))
+      ∙ ap (λ xs. map place_of before ++ xs) are
+      ∙ sym (append_assoc (map place_of before) (map place_of js) dropped) ∙ ap (λ xs. xs ++ dropped) (sym (map-append place_of before js));
+  goes_on = goes_more before js dropped uncut goes;
+  fates = fates-append asset client [] before js a.fates fates;
+}
+
+-- a log with the lines of items, and then those of more
+pub lines_after : (asset : Asset) (client : Endpoint) (first was : Option (List (List ℕ))) (before js : List Judged) → was ≡ with_lines first (lines asset client [] before) →
+    with_lines was (lines asset client before js) ≡ with_lines first (lines asset client [] (before ++ js))
+lines_after asset client first was before js is =
+    ap (λ t. with_lines t (lines asset client before js)) is ∙ with_lines-both first (lines asset client [] before) (lines asset client before js)
+    ∙ ap (with_lines first) (sym (in_turn-append (λ b j. item_lines asset client b j j.item) [] before js))
+
+-- a log that has the lines of the first of these items, and a beginning of those of the others, has the first lines of the history
+pub began_by : (asset : Asset) (client : Endpoint) (h : List Element) (first was log : Option (List (List ℕ))) (part : List ℕ) (before js fore later : List Judged) (k : ℕ) →
+    AreJudged asset client.address h (before ++ js) → js ≡ fore ++ later → was ≡ with_lines first (lines asset client [] before) →
+    log ≡ with_lines was (lines asset client before fore) → part ≡ take k (concat (lines asset client (before ++ fore) later)) → Began asset client h first log part
+began_by asset client h first was log part before js fore later k are parts of_lines is begins =
+    let some = lines asset client [] (before ++ fore) in
+    let more = lines asset client (before ++ fore) later in
+    let all : some ++ more ≡ lines asset client [] (before ++ js) =
+    sym (in_turn-append (λ b j. item_lines asset client b j j.item) [] (before ++ fore) later)
+    ∙ ap (lines asset client []) (append_assoc before fore later ∙ ap (λ xs. before ++ xs) (sym parts)) in
+    record {
+      judged = before ++ js;
+      are_judged = are;
+      count = length some;
+      of_lines = is ∙ lines_after asset client first was before fore of_lines ∙ ap (with_lines first) (sym (take-append_seam some more) ∙ ap (take (length some)) all);
+      some = k;
+      of_part = begins ∙ ap (λ xs. take k (concat xs)) (sym (drop-append_seam some more) ∙ ap (drop (length some)) all);
+    }
 
 with-nothing : (w : Stream) → with_bytes w [] ≡ w
 with-nothing w = ap (λ (xs : List ℕ). record w { bytes = xs }) (append-nil w.bytes)
@@ -90,7 +133,7 @@ open_push q w bytes o h = search (rules, common_steps)
 
 pub stands_push : (q : Queue) (w : Stream) (bytes : List ℕ) → (q.ended ≡ true → bytes ≡ []) → IsQueueOf q w → IsQueueOf (after_push q bytes) (with_bytes w bytes)
 stands_push q w bytes quiet h =
-    elim (bool_is q.ended) [
+    elim (cases_Bool q.ended) [
       | inl e ↦ (let P : List ℕ → Type 0 = λ xs. IsQueueOf (after_push q xs) (with_bytes w xs) in
           let none : IsQueueOf (after_push q []) (with_bytes w []) = rw (push-nothing q, with-nothing w) h in
           subst P (sym (quiet e)) none)
@@ -108,9 +151,9 @@ rest_by p h rests side.Controller a = a.1
 pub rests_more : (p : Protocol) (h : List Element) (rests : Rests) (s : Side) (m : ℕ) (piece left : List ℕ) (ended : Bool) → AreRests p h rests None →
     IsRest p (bytes_of s (h ++ letters_at m s piece ended ∷ [])) left → AreRests p (h ++ letters_at m s piece ended ∷ []) (with_rest s rests left) None
 rests_more p h rests side.Client m piece left ended a r =
-    (r, subst (λ xs. IsRest p xs rests.controller) (sym (bytes_of-append side.Controller h (letters_at m side.Client piece ended) ∙ append-nil (bytes_of side.Controller h))) a.1)
+    (r, subst (λ xs. IsRest p xs rests.controller) (sym (bytes_apart side.Controller h (letters_at m side.Client piece ended) refl)) a.1)
 rests_more p h rests side.Controller m piece left ended a r =
-    (subst (λ xs. IsRest p xs rests.client) (sym (bytes_of-append side.Client h (letters_at m side.Controller piece ended) ∙ append-nil (bytes_of side.Client h))) a.0, r)
+    (subst (λ xs. IsRest p xs rests.client) (sym (bytes_apart side.Client h (letters_at m side.Controller piece ended) refl)) a.0, r)
 
 pub same_stream : (v w : Stream) → v.bytes ≡ w.bytes → v.ended ≡ w.ended → v ≡ w
 same_stream v w a b = rw (a, b) refl
@@ -136,29 +179,15 @@ module _ (asset : Asset) (h : List Element) (rests : Rests) (first : Option (Lis
   pub units_now : AreUnits asset.protocol (bytes_of s (h ++ e ∷ [])) (rest_before.units ++ units) tail
   units_now =
       subst (λ xs. AreUnits asset.protocol xs (rest_before.units ++ units) tail)
-      (sym (bytes_of-append s h e ∙ ap (λ xs. bytes_of s h ++ xs) (own_bytes e)))
+      (sym (bytes_own h e))
       (units_pieces asset.protocol rest_before.units units (bytes_of s h) (rest_of s rests) piece tail rest_before.cut
       (subst (λ xs. AreUnits asset.protocol xs units tail) is are))
 
   completes : Completes asset.protocol h e now
   completes = record { before = rest_before.units; was = Left (rest_of s rests); more = units; tail = tail; were = rest_before.cut; are = units_now; is_items = refl }
 
-  items_before : f.are_judged.items ≡ map place_of before
-  items_before =
-      f.are_judged.are_first ∙ ap (λ xs. map place_of before ++ xs) (nothing_dropped before f.are_judged.dropped f.is_cut f.are_judged.goes_on)
-      ∙ append-nil (map place_of before)
-
-  are_judged_now : AreJudged asset new.lane.client.address (h ++ e ∷ []) (before ++ js)
-  are_judged_now = record {
-    items = f.are_judged.items ++ now;
-    are_items = items_more asset.protocol [] h e f.are_judged.items now f.are_judged.are_items completes;
-    dropped = dropped;
-    are_first = ap (λ xs. xs ++ now) items_before ∙ ap (λ xs. map place_of before ++ xs) are_js
-        ∙ sym (append_assoc (map place_of before) (map place_of js) dropped) ∙ ap (λ xs. xs ++ dropped) (sym (map-append place_of before js));
-    goes_on = goes_more before js dropped f.is_cut goes;
-    fates = subst (λ (c : Endpoint). HaveFates asset c.address [] (before ++ js)) (sym client)
-        (fates-append asset old.lane.client.address [] before js f.are_judged.fates does.fates);
-  }
+  are_judged_now : AreJudged asset old.lane.client.address (h ++ e ∷ []) (before ++ js)
+  are_judged_now = judged_more asset old.lane.client.address h e before js now dropped f.are_judged f.is_cut completes are_js goes does.fates
 
   stream_now : (to : Side) → has_ended (other to) (before ++ js) ≡ has_ended (other to) before →
       stream_to asset to (before ++ js) ≡ with_bytes (stream_to asset to before) (outputs asset to before js)
@@ -181,53 +210,31 @@ module _ (asset : Asset) (h : List Element) (rests : Rests) (first : Option (Lis
       Follows asset (h ++ e ∷ []) rests' cut first new
   fed rests' cut c r = record {
     judged = before ++ js;
-    are_judged = are_judged_now;
+    are_judged = subst (λ (c : Endpoint). AreJudged asset c.address (h ++ e ∷ []) (before ++ js)) (sym client) are_judged_now;
     is_cut = cut_of-append before js f.is_cut ∙ c;
     are_rests = r;
     knows = does.knows;
     client_stream = client_now;
     controller_stream = controller_now;
-    of_lines = does.of_lines ∙ ap (λ t. with_lines t (lines asset old.lane.client before js)) f.of_lines
-        ∙ with_lines-both first (lines asset old.lane.client [] before) (lines asset old.lane.client before js)
-        ∙ ap (with_lines first) (sym (in_turn-append (λ b j. item_lines asset old.lane.client b j j.item) [] before js))
+    of_lines = does.of_lines ∙ lines_after asset old.lane.client first old.lines before js f.of_lines
         ∙ ap (λ c. with_lines first (lines asset c [] (before ++ js))) (sym client);
   }
 
-  -- a log that has the lines of the first of these items, and a beginning of those of the others, has the first lines of the
-  -- history
   pub fed_began : (fore later : List Judged) (log : Option (List (List ℕ))) (part : List ℕ) (k : ℕ) → js ≡ fore ++ later →
       log ≡ with_lines old.lines (lines asset old.lane.client before fore) → part ≡ take k (concat (lines asset old.lane.client (before ++ fore) later)) →
       Began asset old.lane.client (h ++ e ∷ []) first log part
   fed_began fore later log part k parts is begins =
-      let put : List Judged → Judged → List (List ℕ) = λ b j. item_lines asset old.lane.client b j j.item in
-      let some = lines asset old.lane.client [] (before ++ fore) in
-      let more = in_turn put (before ++ fore) later in
-      let all : some ++ more ≡ lines asset old.lane.client [] (before ++ js) =
-      sym (in_turn-append put [] (before ++ fore) later)
-      ∙ ap (lines asset old.lane.client []) (append_assoc before fore later ∙ ap (λ xs. before ++ xs) (sym parts)) in
-      record {
-        judged = before ++ js;
-        are_judged = subst (λ (c : Endpoint). AreJudged asset c.address (h ++ e ∷ []) (before ++ js)) client are_judged_now;
-        count = length some;
-        of_lines = is ∙ ap (λ t. with_lines t (lines asset old.lane.client before fore)) f.of_lines
-            ∙ with_lines-both first (lines asset old.lane.client [] before) (lines asset old.lane.client before fore)
-            ∙ ap (with_lines first) (sym (in_turn-append put [] before fore) ∙ sym (take-append_seam some more) ∙ ap (take (length some)) all);
-        some = k;
-        of_part = begins ∙ ap (λ xs. take k (concat xs)) (sym (drop-append_seam some more) ∙ ap (drop (length some)) all);
-      }
+      began_by asset old.lane.client (h ++ e ∷ []) first old.lines log part before js fore later k are_judged_now parts f.of_lines is begins
 
 -- what is known of earlier items does not read the log
 pub knows_over : (asset : Asset) (own : Option (List (List ℕ))) (s : State) (earlier : List Judged) → Knows asset (over own s) earlier → Knows asset s earlier
 knows_over asset own s earlier k = record { admitted = k.admitted; refused = k.refused; client_ended = k.client_ended; controller_ended = k.controller_ended; rules = k.rules; wire = k.wire }
 
-over_knows : (asset : Asset) (own : Option (List (List ℕ))) (s : State) (earlier : List Judged) → Knows asset s earlier → Knows asset (over own s) earlier
-over_knows asset own s earlier k = record { admitted = k.admitted; refused = k.refused; client_ended = k.client_ended; controller_ended = k.controller_ended; rules = k.rules; wire = k.wire }
-
 -- and items do the same over another log
 does_over : (asset : Asset) (own : Option (List (List ℕ))) (earlier js : List Judged) (old new : State) → Does asset earlier js old new →
     Does asset earlier js (over own old) (over (with_lines own (lines asset old.lane.client earlier js)) new)
 does_over asset own earlier js old new d = record {
-  knows = over_knows asset (with_lines own (lines asset old.lane.client earlier js)) new (earlier ++ js) d.knows;
+  knows = knows_over asset new.lines (over (with_lines own (lines asset old.lane.client earlier js)) new) (earlier ++ js) d.knows;
   fates = d.fates;
   of_client = d.of_client;
   of_controller = d.of_controller;
@@ -291,34 +298,46 @@ handled_break asset moment s b now = record {
   };
 }
 
+-- judged items add their lines to a history that stands over lines of its own
+module _ (asset : Asset) (h : List Element) (rests : Rests) (first own : Option (List (List ℕ))) (moment : ℕ) (s : Side) (piece bytes : List ℕ) (ended : Bool) (old new : State)
+    (is : bytes ≡ rest_of s rests ++ piece) (f : Follows asset h rests None first (over own old))
+    (units : List UnitValue) (tail : Tail) (are : AreUnits asset.protocol bytes units tail) (js : List Judged) (dropped : List Placed)
+    (are_js : map (placed moment) (map (Took s) units ++ last_items s ended tail) ≡ map place_of js ++ dropped) (goes : DropsBehindCut js dropped) (all : Handled asset js old new) where
+  abbrev more : List (List ℕ)
+  more = lines asset old.lane.client f.judged js
+
+  does_apart : Does asset f.judged js (over own old) (over (with_lines own more) new)
+  does_apart = does_over asset own f.judged js old new (all.does f.judged f.is_cut (knows_over asset own old f.judged f.knows))
+
+  units_apart : AreUnits asset.protocol (bytes_of s (h ++ letters_at moment s piece ended ∷ [])) ((rest_by asset.protocol h rests s f.are_rests).units ++ units) tail
+  unfolding rest_by rest_before
+  units_apart = units_now asset h rests first moment s piece bytes ended (over own old) (over (with_lines own more) new) is f units tail are js dropped are_js goes all.client does_apart
+
+  adds : (rests' : Rests) (cut : Option CutReason) → cut_of js ≡ cut → AreRests asset.protocol (h ++ letters_at moment s piece ended ∷ []) rests' cut →
+      AddsTo asset (h ++ letters_at moment s piece ended ∷ []) rests' cut first own old.lines new
+  adds rests' cut c r = record {
+    more = more;
+    added = (all.does f.judged f.is_cut (knows_over asset own old f.judged f.knows)).of_lines;
+    follows = fed asset h rests first moment s piece bytes ended (over own old) (over (with_lines own more) new) is f units tail are js dropped are_js goes all.client does_apart rests' cut c r;
+  }
+
 module _ (asset : Asset) (h : List Element) (rests : Rests) (first own : Option (List (List ℕ))) (moment : ℕ) (s : Side) (piece bytes : List ℕ) (used : ℕ) (old now : State)
     (is : bytes ≡ rest_of s rests ++ piece) (f : Follows asset h rests None first (over own old)) (a : Along asset moment s bytes used old now) where
-  does_now : Does asset f.judged a.js old now
-  does_now = a.handled.does f.judged f.is_cut (knows_over asset own old f.judged f.knows)
-
   -- the bytes are used up to a proper prefix of a unit
   pub fed_whole : IsPartial (SpellsUnit asset.protocol) (drop used bytes) →
       AddsTo asset (h ++ bytes_at moment s piece ∷ []) (with_rest s rests (drop used bytes)) None first own old.lines now
   fed_whole partial =
       let left = drop used bytes in
-      let more = lines asset old.lane.client f.judged a.js in
-      let old' = over own old in
-      let now' = over (with_lines own more) now in
-      let does = does_over asset own f.judged a.js old now does_now in
       let are : AreUnits asset.protocol bytes a.units (Left left) = record { starts = a.starts; partial = partial } in
       let are_js : map (placed moment) (map (Took s) a.units ++ []) ≡ map place_of a.js ++ [] =
       ap (map (placed moment)) (append-nil (map (Took s) a.units)) ∙ sym a.are_js ∙ sym (append-nil (map place_of a.js)) in
       let goes = goes_none a.js a.uncut in
       let r : IsRest asset.protocol (bytes_of s (h ++ bytes_at moment s piece ∷ [])) left = record {
-        units = (rest_before asset h rests first moment s piece bytes false old' now' is f a.units (Left left) are a.js [] are_js goes a.handled.client does).units ++ a.units;
-        cut = units_now asset h rests first moment s piece bytes false old' now' is f a.units (Left left) are a.js [] are_js goes a.handled.client does;
+        units = (rest_by asset.protocol h rests s f.are_rests).units ++ a.units;
+        cut = units_apart asset h rests first own moment s piece bytes false old now is f a.units (Left left) are a.js [] are_js goes a.handled;
       } in
-      record {
-        more = more;
-        added = does_now.of_lines;
-        follows = fed asset h rests first moment s piece bytes false old' now' is f a.units (Left left) are a.js [] are_js goes a.handled.client does
-            (with_rest s rests left) None a.uncut (rests_more asset.protocol h rests s moment piece left false f.are_rests r);
-      }
+      adds asset h rests first own moment s piece bytes false old now is f a.units (Left left) are a.js [] are_js goes a.handled
+      (with_rest s rests left) None a.uncut (rests_more asset.protocol h rests s moment piece left false f.are_rests r)
 
   -- or up to an octet that no unit has there
   pub fed_broken : (ended : Bool) (reason : CutReason) → Breaks asset s (drop used bytes) reason →
@@ -327,20 +346,14 @@ module _ (asset : Asset) (h : List Element) (rests : Rests) (first own : Option 
       let broken = unit_break asset.protocol b.place in
       let j : Judged = judged moment (Broke s broken) (fate.Cuts (cut.Framing s broken)) in
       let all : Handled asset (a.js ++ j ∷ []) old now = handled_more asset a.js (j ∷ []) old now now a.uncut a.handled (handled_break asset moment s broken now) in
-      let does = all.does f.judged f.is_cut (knows_over asset own old f.judged f.knows) in
-      let more = lines asset old.lane.client f.judged (a.js ++ j ∷ []) in
       let are : AreUnits asset.protocol bytes a.units (Wrong broken) =
       (b.place, record { rest = drop used bytes; starts = a.starts; breaks = b.breaks }, refl) in
       let are_js : map (placed moment) (map (Took s) a.units ++ Broke s broken ∷ []) ≡ map place_of (a.js ++ j ∷ []) ++ [] =
       map-append (placed moment) (map (Took s) a.units) (Broke s broken ∷ []) ∙ ap (λ xs. xs ++ placed moment (Broke s broken) ∷ []) (sym a.are_js)
       ∙ sym (map-append place_of a.js (j ∷ [])) ∙ sym (append-nil (map place_of (a.js ++ j ∷ []))) in
-      record {
-        more = more;
-        added = does.of_lines;
-        follows = fed asset h rests first moment s piece bytes ended (over own old) (over (with_lines own more) now) is f a.units (Wrong broken) are (a.js ++ j ∷ []) [] are_js
-            (goes_more a.js (j ∷ []) [] a.uncut refl) all.client (does_over asset own f.judged (a.js ++ j ∷ []) old now does)
-            (with_rest s rests (drop used bytes)) (Some reason) (cut_of-append a.js (j ∷ []) a.uncut ∙ ap Some (sym b.is_reason)) tt;
-      }
+      adds asset h rests first own moment s piece bytes ended old now is f a.units (Wrong broken) are (a.js ++ j ∷ []) [] are_js
+      (goes_more a.js (j ∷ []) [] a.uncut refl) all
+      (with_rest s rests (drop used bytes)) (Some reason) (cut_of-append a.js (j ∷ []) a.uncut ∙ ap Some (sym b.is_reason)) tt
 
 -- the line of a unit failed
 module _ (asset : Asset) (free : IsPrefixFree (SpellsUnit asset.protocol)) (nothing : IsPartial (SpellsUnit asset.protocol) []) (moment : ℕ) (s : Side) (bytes : List ℕ) (used : ℕ)
@@ -434,10 +447,6 @@ units_behind p us vs xs rest (Left r) s a = record { starts = starts_join (Spell
 units_behind p us vs xs rest (Wrong w) s a =
     (a.0, record { rest = a.1.rest; starts = starts_join (SpellsUnit p) us vs xs rest a.1.rest s a.1.starts; breaks = a.1.breaks }, a.2)
 
-goes_cut : (c : Option CutReason) (r : CutReason) (P : Type 0) → c ≡ Some r → GoesOnAfter c [] P
-goes_cut None r P e = cc
-goes_cut (Some x) r P e = refl
-
 module _ (asset : Asset) (h : List Element) (rests : Rests) (first own : Option (List (List ℕ))) (moment : ℕ) (s : Side) (piece bytes : List ℕ) (used n : ℕ) (old mid new : State)
     (is : bytes ≡ rest_of s rests ++ piece) (f : Follows asset h rests None first (over own old)) (a : Along asset moment s bytes used old mid) where
   -- units up to one that cuts: the bytes after it have units, which are dropped, and so is an End after them
@@ -460,17 +469,9 @@ module _ (asset : Asset) (h : List Element) (rests : Rests) (first own : Option 
       ∙ sym (append_assoc (map place_of a.js) (placed moment (Took s t.unit) ∷ []) (map (placed moment) behind))
       ∙ ap (λ xs. xs ++ map (placed moment) behind) (sym (map-append place_of a.js (j ∷ []))) in
       let all : Handled asset (a.js ++ j ∷ []) old new = handled_more asset a.js (j ∷ []) old mid new a.uncut a.handled t.handled in
-      let does = all.does f.judged f.is_cut (knows_over asset own old f.judged f.knows) in
-      let more = lines asset old.lane.client f.judged (a.js ++ j ∷ []) in
-      record {
-        more = more;
-        added = does.of_lines;
-        follows = fed asset h rests first moment s piece bytes ended (over own old) (over (with_lines own more) new) is f (a.units ++ t.unit ∷ us) tail are
-            (a.js ++ j ∷ []) (map (placed moment) behind) are_js
-            (goes_more a.js (j ∷ []) (map (placed moment) behind) a.uncut (goes_cut (fate_cut t.fate) reason (DropsBehindCut [] (map (placed moment) behind)) t.is_cut))
-            all.client (does_over asset own f.judged (a.js ++ j ∷ []) old new does)
-            rests' (Some reason) (cut_of-append a.js (j ∷ []) a.uncut ∙ ap (λ c. option_or c None) t.is_cut) tt;
-      }
+      adds asset h rests first own moment s piece bytes ended old new is f (a.units ++ t.unit ∷ us) tail are (a.js ++ j ∷ []) (map (placed moment) behind) are_js
+      (goes_more a.js (j ∷ []) (map (placed moment) behind) a.uncut (goes_cut (fate_cut t.fate) reason (DropsBehindCut [] (map (placed moment) behind)) t.is_cut))
+      all rests' (Some reason) (cut_of-append a.js (j ∷ []) a.uncut ∙ ap (λ c. option_or c None) t.is_cut) tt
 
 -- at first nothing was taken
 pub follows_new : (asset : Asset) → IsPartial (SpellsUnit asset.protocol) [] → (lane : LaneValue) → lane.admitted ≡ 0 → lane.refused ≡ 0 → KnowsRules lane.rules [] → KnowsWire asset lane.wire [] →

@@ -7,12 +7,12 @@ use Rattle.cf_lane.proofs.Pieces.{units_stay}
 use Rattle.cf_lane.proofs.Units.{free_unit}
 use Rattle.cf_lane.specs.Fate.{HasFate, HasItemFate, HasUnitFate, HaveFates}
 use Rattle.cf_lane.specs.Follows.{DropsBehindCut, GoesOnAfter}
-use Rattle.cf_lane.specs.History.{Element, bytes_at, bytes_in, bytes_of, letters_at}
-use Rattle.cf_lane.specs.Item.{AreItems, Broke, Completes, Ended, Item, Placed, Took, last_after, last_items, placed}
+use Rattle.cf_lane.specs.History.{Element, bytes_at, bytes_in, bytes_of, is_side, letters_at}
+use Rattle.cf_lane.specs.Item.{AreItems, Broke, Completes, Item, Placed, Took, last_after, last_items, placed}
 use Rattle.cf_lane.specs.Judged.{Judged, fate_cut, place_of}
 use Rattle.cf_lane.specs.Laws.{HasOneJudgement, PiecesJoin}
 use Rattle.cf_lane.specs.Modbus.{HasAduFate}
-use Rattle.cf_lane.specs.Unit.{Adu, Apdu, AreUnits, Frame, Left, SpellsUnit, Tail, UnitValue, Wrong, unit_break}
+use Rattle.cf_lane.specs.Unit.{Adu, AreUnits, Left, SpellsUnit, Tail, UnitValue, Wrong, unit_break}
 use Rattle.cf_lane.specs.declared.fate.Fate.{Fate}
 use Rattle.cf_modbus.specs.Adu.{AduValue}
 use Rattle.cf_policy.specs.declared.Asset.{Asset}
@@ -21,7 +21,8 @@ use Rattle.cf_view.proofs.Units.{one_units_then_break, one_units_then_rest, rest
 use Rattle.cf_view.specs.Framing.{IsPrefixFree}
 use Rattle.cf_view.specs.declared.Break.{Break}
 use Rattle.cf_view.specs.declared.Side.{Side}
-use Rattle.std.proofs.Common.{Bool, List, None, Option, Some, [], ap, append_assoc, false, map, refl, subst, sym, ℕ, ◌++◌, ◌∙◌, ◌∷◌, ◌≡◌}
+use Rattle.std.proofs.Common.{Bool, List, None, Option, Some, [], ap, append_assoc, false, inl, inr, map, refl, subst, sym, ℕ, ◌++◌, ◌∙◌, ◌∷◌, ◌≡◌}
+use Rattle.std.proofs.lemmas.Bool.{cases_Bool}
 use Rattle.std.proofs.lemmas.List.{append-nil, append_cancel_left, map-append}
 use Rattle.cf_view.specs.declared.Side.TheVariants as side
 
@@ -87,10 +88,7 @@ module _ (p : Protocol) (free : IsPrefixFree (SpellsUnit p)) where
       )
 
 both_in : (t s : Side) (m : ℕ) (xs ys : List ℕ) (ended : Bool) → bytes_in t (bytes_at m s xs) ++ bytes_in t (letters_at m s ys ended) ≡ bytes_in t (letters_at m s (xs ++ ys) ended)
-both_in side.Client side.Client m xs ys ended = refl
-both_in side.Client side.Controller m xs ys ended = refl
-both_in side.Controller side.Client m xs ys ended = refl
-both_in side.Controller side.Controller m xs ys ended = refl
+both_in t s m xs ys ended = elim (cases_Bool (is_side t s)) [ inl e ↦ rw e refl | inr e ↦ rw e refl ]
 
 -- what two parts of an element complete is what it completes as a whole
 items_join : (m : ℕ) (s : Side) (ended : Bool) (us vs : List UnitValue) (was mid now : Tail) → ((r : Break) → was ≡ Wrong r → mid ≡ Wrong r) →
@@ -172,14 +170,12 @@ one_adu_fate asset says side.Controller a f g x y = x ∙ sym y
 
 one_unit_fate : (asset : Asset) (says : Says) (earlier : List Judged) (s : Side) (u : UnitValue) (f g : Fate) → HasUnitFate asset says earlier s u f → HasUnitFate asset says earlier s u g → f ≡ g
 one_unit_fate asset says earlier s (Adu a) f g x y = one_adu_fate asset says s a f g x y
-one_unit_fate asset says earlier s (Frame a) f g x y = x ∙ sym y
-one_unit_fate asset says earlier s (Apdu a) f g x y = x ∙ sym y
+one_unit_fate asset says earlier s u f g x y = x ∙ sym y
 
 -- an item has one fate
 pub one_item_fate : (asset : Asset) (says : Says) (earlier : List Judged) (i : Item) (f g : Fate) → HasItemFate asset says earlier i f → HasItemFate asset says earlier i g → f ≡ g
 one_item_fate asset says earlier (Took s u) f g x y = one_unit_fate asset says earlier s u f g x y
-one_item_fate asset says earlier (Ended s n) f g x y = x ∙ sym y
-one_item_fate asset says earlier (Broke s b) f g x y = x ∙ sym y
+one_item_fate asset says earlier i f g x y = x ∙ sym y
 
 pub same_judged : (j k : Judged) → place_of j ≡ place_of k → j.fate ≡ k.fate → j ≡ k
 same_judged j k a b =
@@ -194,8 +190,6 @@ rest_same (Some r) js ks P Q both a b = a ∙ sym b
 one_judged : (asset : Asset) (client : ℕ) (earlier js ks : List Judged) (ds es : List Placed) → map place_of js ++ ds ≡ map place_of ks ++ es →
     HaveFates asset client earlier js → HaveFates asset client earlier ks → DropsBehindCut js ds → DropsBehindCut ks es → js ≡ ks
 one_judged asset client earlier [] [] ds es same x y a b = refl
-one_judged asset client earlier [] (k ∷ ks) ds es same x y a b = cc
-one_judged asset client earlier (j ∷ js) [] ds es same x y a b = cc
 one_judged asset client earlier (j ∷ js) (k ∷ ks) ds es same x y a b =
     let place : place_of j ≡ place_of k = cc in
     let places : map place_of js ++ ds ≡ map place_of ks ++ es = cc in
@@ -206,6 +200,7 @@ one_judged asset client earlier (j ∷ js) (k ∷ ks) ds es same x y a b =
     let rest = rest_same (fate_cut k.fate) js ks (DropsBehindCut js ds) (DropsBehindCut ks es)
     (λ p q. one_judged asset client (earlier ++ k ∷ []) js ks ds es places fates y.1 p q) goes b in
     cc (same_one, rest)
+one_judged asset client earlier js ks ds es same x y a b = cc
 
 pub has_one_judgement : HasOneJudgement
 has_one_judgement asset client h js ks a b =

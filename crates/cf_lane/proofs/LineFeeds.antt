@@ -160,26 +160,21 @@ cut_plain (cut.Outstanding s) = and_plain (side_name s) (codes " outstanding") (
 cut_plain (cut.NotStarted s) = and_plain (side_name s) (codes " notstarted") (side_plain s) (refl)
 cut_plain (cut.StreamLength s) = and_plain (side_name s) (codes " long") (side_plain s) (refl)
 cut_plain (cut.NoAnswer s) = and_plain (side_name s) (codes " noanswer") (side_plain s) (refl)
-cut_plain cut.ResetByClient = refl
-cut_plain cut.ResetByController = refl
+cut_plain c = refl
 
 counts_plain : (admitted refused : ℕ) → are_plain (counts_text admitted refused) ≡ true
 counts_plain admitted refused = and_plain ((codes " admitted " ++ decimal admitted) ++ codes " refused ") (decimal refused) (and_plain (codes " admitted " ++ decimal admitted) (codes " refused ") (and_plain (codes " admitted ") (decimal admitted) (refl) (decimal_plain admitted)) (refl)) (decimal_plain refused)
 
 what_plain : (w : WhatValue) → HasPlainRule w → are_plain (what_text w) ≡ true
-what_plain line.Begun h = refl
 what_plain (line.Refuse rule because act replied unit) h =
     and_plain (((((((codes "refuse " ++ rule) ++ codes " ") ++ reason_name because) ++ act_text act) ++ codes " ") ++ mark replied) ++ codes " ") (encode_lower (take 16 unit)) (and_plain ((((((codes "refuse " ++ rule) ++ codes " ") ++ reason_name because) ++ act_text act) ++ codes " ") ++ mark replied) (codes " ") (and_plain (((((codes "refuse " ++ rule) ++ codes " ") ++ reason_name because) ++ act_text act) ++ codes " ") (mark replied) (and_plain ((((codes "refuse " ++ rule) ++ codes " ") ++ reason_name because) ++ act_text act) (codes " ") (and_plain (((codes "refuse " ++ rule) ++ codes " ") ++ reason_name because) (act_text act) (and_plain ((codes "refuse " ++ rule) ++ codes " ") (reason_name because) (and_plain (codes "refuse " ++ rule) (codes " ") (and_plain (codes "refuse ") (rule) (refl) (name_plain rule h)) (refl)) (reason_plain because)) (act_plain act)) (refl)) (mark_plain replied)) (refl)) (hex_plain lower_digits (take 16 unit) refl)
 what_plain (line.Stray s because) h = and_plain ((codes "stray " ++ side_name s) ++ codes " ") (why_name because) (and_plain (codes "stray " ++ side_name s) (codes " ") (and_plain (codes "stray ") (side_name s) (refl) (side_plain s)) (refl)) (why_plain because)
 what_plain (line.Partial s count) h = and_plain ((codes "partial " ++ side_name s) ++ codes " ") (decimal count) (and_plain (codes "partial " ++ side_name s) (codes " ") (and_plain (codes "partial ") (side_name s) (refl) (side_plain s)) (refl)) (decimal_plain count)
 what_plain (line.Close admitted refused) h = and_plain (codes "close") (counts_text admitted refused) refl (counts_plain admitted refused)
 what_plain (line.Cut c) h = and_plain (codes "cut ") (cut_text c) (refl) (cut_plain c)
-what_plain line.Listen h = refl
-what_plain line.Full h = refl
-what_plain line.Unreached h = refl
 what_plain (line.Lost admitted refused) h = and_plain (codes "lost") (counts_text admitted refused) refl (counts_plain admitted refused)
 what_plain (line.Silent admitted refused) h = and_plain (codes "silent") (counts_text admitted refused) refl (counts_plain admitted refused)
-what_plain line.NoMemory h = refl
+what_plain w h = refl
 
 pub one_line : (l : LineValue) → HasPlainNames l → is_line (line_text l) ≡ true
 one_line l h =
@@ -209,8 +204,6 @@ rule_plain rules each n (Some r) is =
     last_of (not (is_empty r.name)) (nat_le (length r.name) 32) (list_all is_name_byte r.name) name
 
 pub decider_plain : (a : Asset) → IsAssetWithin a → (d : Decider) → IsOneOf a.rules d → list_all is_name_byte (name_of a.rules d) ≡ true
-decider_plain a w decider.Default o = refl
-decider_plain a w decider.Station o = refl
-decider_plain a w decider.Form o = refl
 decider_plain a w (decider.Rule n) o = rule_plain a.rules w.rules.each n (slice_get a.rules n) refl
 decider_plain a w (decider.Spent n) o = rule_plain a.rules w.rules.each n (slice_get a.rules n) refl
+decider_plain a w d o = refl

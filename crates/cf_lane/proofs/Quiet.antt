@@ -1,10 +1,11 @@
 -- Nothing comes into the stream to a side after the End of the other.
-use Rattle.cf_apci.specs.Apdu.{Ack, ApduValue, Control, Info}
+use Rattle.cf_apci.specs.Apdu.{ApduValue, Info}
 use Rattle.cf_dnplink.specs.LinkFrame.{FrameValue}
 use Rattle.cf_lane.proofs.Growth.{further, items_split}
 use Rattle.cf_lane.proofs.Handling.{ended_stays}
 use Rattle.cf_lane.proofs.Histories.{bytes_of-append}
 use Rattle.cf_lane.proofs.Judgements.{one_items, one_units}
+use Rattle.cf_lane.proofs.Sides.{if_none, side_is}
 use Rattle.cf_lane.proofs.Units.{free_unit}
 use Rattle.cf_lane.specs.Dnp3.{fragment_frames, fragment_in, fragment_reply, frame_output, is_data, whole_now}
 use Rattle.cf_lane.specs.History.{Element, bytes_in, bytes_of, is_side}
@@ -19,7 +20,8 @@ use Rattle.cf_lane.specs.declared.fate.Fate.{Fate}
 use Rattle.cf_policy.specs.declared.Asset.{Asset}
 use Rattle.cf_policy.specs.declared.Protocol.{Protocol}
 use Rattle.cf_view.specs.declared.Side.{Side}
-use Rattle.std.proofs.Common.{Bool, List, [], ap, false, inl, inr, map, refl, subst, sym, true, ℕ, ◌++◌, ◌∙◌, ◌∷◌, ◌≡◌, ◌⊎◌}
+use Rattle.std.proofs.Common.{Bool, List, [], ap, false, inl, inr, map, refl, subst, sym, true, ℕ, ◌++◌, ◌∙◌, ◌∷◌, ◌≡◌}
+use Rattle.std.proofs.lemmas.Bool.{cond_both}
 use Rattle.std.proofs.lemmas.List.{append-nil, append_cancel_left}
 use Rattle.std.specs.List.{flat_map}
 use Rattle.std.specs.Prelude.{if◌then◌else◌}
@@ -59,12 +61,6 @@ both_nothing : (xs ys : List ℕ) → xs ++ ys ≡ [] → (xs ≡ []) × (ys ≡
 both_nothing [] ys e = (refl, e)
 both_nothing (x ∷ xs) ys e = cc
 
-side_is : (s t : Side) → (is_side s t ≡ false) ⊎ (t ≡ s)
-side_is side.Client side.Client = inr refl
-side_is side.Client side.Controller = inl refl
-side_is side.Controller side.Client = inl refl
-side_is side.Controller side.Controller = inr refl
-
 module _ (p : Protocol) where
   -- an element with no bytes of a side completes no unit of it
   element_not_of : (s : Side) (earlier : List Element) (e : Element) (now : List Placed) → Completes p earlier e now → bytes_in s e ≡ [] → AreNotOf s now
@@ -91,17 +87,7 @@ module _ (p : Protocol) where
 
 quiet_mirror : (earlier : List Judged) (f : Fate) (a : ApduValue) → has_ended side.Controller earlier ≡ true → mirror_output earlier f a ≡ []
 quiet_mirror earlier (fate.Refused r) (Info send receive asdu) e = rw e refl
-quiet_mirror earlier (fate.Refused r) (Ack receive) e = refl
-quiet_mirror earlier (fate.Refused r) (Control octet) e = refl
-quiet_mirror earlier fate.Carried a e = refl
-quiet_mirror earlier (fate.Admitted used) a e = refl
-quiet_mirror earlier (fate.Stray w) a e = refl
-quiet_mirror earlier fate.Lengthens a e = refl
-quiet_mirror earlier (fate.Cuts r) a e = refl
-
-if_none : {X : Type 0} (b : Bool) (xs : List X) → xs ≡ [] → (if b then xs else []) ≡ []
-if_none true xs e = e
-if_none false xs e = refl
+quiet_mirror earlier f a e = refl
 
 module _ (asset : Asset) where
   quiet_fragment : (to of : Side) (x : FrameValue) (earlier : List Judged) (j : Judged) → is_side (other to) of ≡ false → has_ended (other to) earlier ≡ true →
@@ -109,45 +95,35 @@ module _ (asset : Asset) where
   quiet_fragment side.Client side.Client x earlier j n e =
       if_none (is_data x) (fragment_reply (has_ended side.Controller earlier) j.fate (whole_now asset side.Client earlier x))
       (ap (λ b. fragment_reply b j.fate (whole_now asset side.Client earlier x)) e)
-  quiet_fragment side.Client side.Controller x earlier j n e = cc
-  quiet_fragment side.Controller side.Client x earlier j n e = cc
-  quiet_fragment side.Controller side.Controller x earlier j n e = if_none {X = List ℕ} (is_data x) [] refl
+  quiet_fragment side.Controller side.Controller x earlier j n e = if_none {A = List ℕ} (is_data x) [] refl
+  quiet_fragment to of x earlier j n e = cc
 
   -- no link frame goes back to its side
   no_echo : (to of : Side) (x : FrameValue) (f : Fate) → is_side (other to) of ≡ false → (if is_side to of then [] else (if goes_on f then frame_spelling x else [])) ≡ []
-  no_echo side.Client side.Client x f n = refl
   no_echo side.Client side.Controller x f n = cc
   no_echo side.Controller side.Client x f n = cc
-  no_echo side.Controller side.Controller x f n = refl
-
-  if_same : (b : Bool) (xs ys : List ℕ) → xs ≡ [] → ys ≡ [] → (if b then xs else ys) ≡ []
-  if_same true xs ys e f = e
-  if_same false xs ys e f = f
+  no_echo to of x f n = refl
 
   quiet_frame : (to of : Side) (x : FrameValue) (earlier : List Judged) (j : Judged) → j.item ≡ Took of (Frame x) → is_side (other to) of ≡ false →
       has_ended (other to) earlier ≡ true → frame_output asset to earlier j of x ≡ []
   quiet_frame to of x earlier j is n e =
-      if_same (is_data x) (flat_map (fragment_frames asset to earlier) (fragment_in asset to earlier j j.item)) (if is_side to of then [] else (if goes_on j.fate then frame_spelling x else []))
-      (ap (λ i. flat_map (fragment_frames asset to earlier) (fragment_in asset to earlier j i)) is
+      cond_both (is_data x) (flat_map (fragment_frames asset to earlier) (fragment_in asset to earlier j j.item)) (if is_side to of then [] else (if goes_on j.fate then frame_spelling x else []))
+      (λ xs. xs ≡ [])
+      (λ _. ap (λ i. flat_map (fragment_frames asset to earlier) (fragment_in asset to earlier j i)) is
       ∙ ap (flat_map (fragment_frames asset to earlier)) (quiet_fragment to of x earlier j n e))
-      (no_echo to of x j.fate n)
+      (λ _. no_echo to of x j.fate n)
 
   quiet_unit : (to of : Side) (u : UnitValue) (earlier : List Judged) (j : Judged) → j.item ≡ Took of u → is_side (other to) of ≡ false → has_ended (other to) earlier ≡ true →
       item_output asset to earlier j (Took of u) ≡ []
   quiet_unit to of (Frame x) earlier j is n e = quiet_frame to of x earlier j is n e
   quiet_unit side.Client side.Client (Adu a) earlier j is n e = ap (λ b. adu_reply b j.fate a) e
-  quiet_unit side.Client side.Controller (Adu a) earlier j is n e = cc
-  quiet_unit side.Controller side.Client (Adu a) earlier j is n e = cc
-  quiet_unit side.Controller side.Controller (Adu a) earlier j is n e = refl
   quiet_unit side.Client side.Client (Apdu a) earlier j is n e = quiet_mirror earlier j.fate a e
-  quiet_unit side.Client side.Controller (Apdu a) earlier j is n e = cc
-  quiet_unit side.Controller side.Client (Apdu a) earlier j is n e = cc
-  quiet_unit side.Controller side.Controller (Apdu a) earlier j is n e = refl
+  quiet_unit side.Controller side.Controller u earlier j is n e = refl
+  quiet_unit to of u earlier j is n e = cc
 
   quiet_item : (to : Side) (i : Item) (earlier : List Judged) (j : Judged) → j.item ≡ i → IsNotOf (other to) i → has_ended (other to) earlier ≡ true → item_output asset to earlier j i ≡ []
   quiet_item to (Took of u) earlier j is n e = quiet_unit to of u earlier j is n e
-  quiet_item to (Ended of k) earlier j is n e = refl
-  quiet_item to (Broke of b) earlier j is n e = refl
+  quiet_item to i earlier j is n e = refl
 
   quiet : (to : Side) (earlier ms : List Judged) → AreNotOf (other to) (map place_of ms) → has_ended (other to) earlier ≡ true → outputs asset to earlier ms ≡ []
   quiet to earlier [] n e = refl

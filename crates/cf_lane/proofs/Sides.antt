@@ -8,8 +8,13 @@ use Rattle.cf_lane.specs.Output.{other}
 use Rattle.cf_lane.specs.declared.wire.Fragments.{Fragments}
 use Rattle.cf_policy.specs.declared.Asset.{Asset}
 use Rattle.cf_view.specs.declared.Side.{Side}
-use Rattle.std.proofs.Common.{List, arith, false, refl, true, ℕ, ◌+◌, ◌≡◌}
+use Rattle.std.proofs.Common.{Bool, List, [], arith, false, inl, inr, refl, true, ℕ, ◌+◌, ◌≡◌, ◌⊎◌}
+use Rattle.std.specs.Prelude.{if◌then◌else◌}
 use Rattle.cf_view.specs.declared.Side.TheVariants as side
+
+pub if_none : {A : Type 0} (b : Bool) (xs : List A) → xs ≡ [] → (if b then xs else []) ≡ []
+if_none true xs e = e
+if_none false xs e = refl
 
 -- what holds at a side and at the other one holds at both
 pub at_both : (s : Side) (P : Side → Type 0) → P s → P (other s) → P side.Client × P side.Controller
@@ -19,6 +24,11 @@ at_both side.Controller P own others = (others, own)
 pub same_side : (s : Side) → is_side s s ≡ true
 same_side side.Client = refl
 same_side s = refl
+
+pub side_is : (s t : Side) → (is_side s t ≡ false) ⊎ (t ≡ s)
+side_is side.Client side.Client = inr refl
+side_is side.Controller side.Controller = inr refl
+side_is s t = inl refl
 
 pub other_side : (s : Side) → is_side (other s) s ≡ false
 other_side side.Client = refl

@@ -1,6 +1,6 @@
 -- The law of growth: what an item puts out is at most twice its octets, and what fragments that were begun may still put out.
 use Rattle.cf_lane.specs.Rates.{Says, says_at}
-use Rattle.cf_apci.specs.Apdu.{Ack, ApduValue, Control, Info}
+use Rattle.cf_apci.specs.Apdu.{ApduValue, Info}
 use Rattle.cf_asdu.specs.Mirror.{mirror_octet, mirrored}
 use Rattle.cf_dnptrans.specs.Transport.{since_first, unfinished}
 use Rattle.cf_lane.proofs.Assemblies.{size}
@@ -12,7 +12,7 @@ use Rattle.cf_lane.proofs.Units.{free_unit}
 use Rattle.cf_lane.specs.Dnp3.{segment_in, segments_of}
 use Rattle.cf_lane.specs.Fate.{HasItemFate, HaveFates}
 use Rattle.cf_lane.specs.Iec104.{ack_octets, ack_output, apdu_output, mirror_output, renumbered, stamped}
-use Rattle.cf_lane.specs.Item.{Broke, Ended, Item, Took}
+use Rattle.cf_lane.specs.Item.{Item, Took}
 use Rattle.cf_lane.specs.Judged.{Judged, goes_on, has_ended, in_turn, place_of}
 use Rattle.cf_lane.specs.Laws.{GrowsLittle}
 use Rattle.cf_lane.specs.Modbus.{adu_output, adu_reply}
@@ -34,13 +34,8 @@ use Rattle.cf_view.specs.declared.Side.TheVariants as side
 
 -- an ADU puts out at most twice its octets
 reply_size : (ended : Bool) (f : Fate) (a : AduValue) → length (adu_reply ended f a) ≤ 2 * length (spelling a)
-reply_size true f a = omega arith
 reply_size false fate.Carried a = omega arith
-reply_size false (fate.Admitted used) a = omega arith
-reply_size false (fate.Refused r) a = omega arith
-reply_size false (fate.Stray w) a = omega arith
-reply_size false fate.Lengthens a = omega arith
-reply_size false (fate.Cuts r) a = omega arith
+reply_size ended f a = omega arith
 
 if_size : (b : Bool) (xs : List ℕ) (n : ℕ) → length xs ≤ n → length (if b then xs else []) ≤ n
 if_size true xs n l = l
@@ -63,13 +58,7 @@ mirror_size earlier (fate.Refused r) (Info send receive asdu) =
       length-take 2 asdu,
       length-drop 3 asdu,
     ))
-mirror_size earlier (fate.Refused r) (Ack receive) = omega arith
-mirror_size earlier (fate.Refused r) (Control octet) = omega arith
-mirror_size earlier fate.Carried a = omega arith
-mirror_size earlier (fate.Admitted used) a = omega arith
-mirror_size earlier (fate.Stray w) a = omega arith
-mirror_size earlier fate.Lengthens a = omega arith
-mirror_size earlier (fate.Cuts r) a = omega arith
+mirror_size earlier f a = omega arith
 
 ack_size : (o : Option ℕ) → length (ack_octets o) ≤ 6
 ack_size None = omega arith
@@ -77,24 +66,16 @@ ack_size (Some receive) = omega arith
 
 least_size : (a : ApduValue) → 6 ≤ length (apdu_spelling a)
 least_size (Info send receive asdu) = omega arith
-least_size (Ack receive) = omega arith
-least_size (Control octet) = omega arith
+least_size a = omega arith
 
 owed_size : (earlier : List Judged) (f : Fate) (receive : ℕ) → length (ack_output earlier f receive) ≤ 6
 owed_size earlier (fate.Refused r) receive = ack_size (owed_ack (events_of earlier) receive)
-owed_size earlier fate.Carried receive = omega arith
-owed_size earlier (fate.Admitted used) receive = omega arith
-owed_size earlier (fate.Stray w) receive = omega arith
-owed_size earlier fate.Lengthens receive = omega arith
-owed_size earlier (fate.Cuts r) receive = omega arith
+owed_size earlier f receive = omega arith
 
 renumbered_size : (to : Side) (earlier : List Judged) (a : ApduValue) → length (apdu_spelling (renumbered to earlier a)) ≡ length (apdu_spelling a)
 renumbered_size side.Client earlier (Info send receive asdu) = refl
-renumbered_size side.Client earlier (Ack receive) = refl
-renumbered_size side.Client earlier (Control octet) = refl
 renumbered_size side.Controller earlier (Info send receive asdu) = refl
-renumbered_size side.Controller earlier (Ack receive) = refl
-renumbered_size side.Controller earlier (Control octet) = refl
+renumbered_size to earlier a = refl
 
 passed_size : (b : Bool) (earlier : List Judged) (f : Fate) (receive : ℕ) (a : ApduValue) →
     length (if b then apdu_spelling (renumbered side.Controller earlier a) else ack_output earlier f receive) ≤ 2 * length (apdu_spelling a)
@@ -137,12 +118,10 @@ module _ (asset : Asset) (says : Says) (to : Side) (earlier : List Judged) (j : 
   item_grows p (Took s (Apdu a)) is of fate =
       no_segment (length (apdu_spelling a)) (λ t. ap (segment_in asset t) is)
       (omega (arith, ap (λ i. length (item_output asset to earlier j i)) is, apdu_size to s earlier j.fate a))
-  item_grows protocol.Modbus (Took s (Frame x)) is of fate = absurd of.1
   item_grows protocol.Dnp3 (Took s (Frame x)) is of fate =
       omega (arith, frame_grows asset says to earlier j s x is fate, ap (λ i. length (item_output asset to earlier j i)) is)
-  item_grows protocol.Iec104 (Took s (Frame x)) is of fate = absurd of.1
-  item_grows p (Ended s n) is of fate = no_segment 0 (λ t. ap (segment_in asset t) is) (omega (arith, ap (λ i. length (item_output asset to earlier j i)) is))
-  item_grows p (Broke s b) is of fate = no_segment 0 (λ t. ap (segment_in asset t) is) (omega (arith, ap (λ i. length (item_output asset to earlier j i)) is))
+  item_grows p (Took s (Frame x)) is of fate = absurd of.1
+  item_grows p i is of fate = no_segment 0 (λ t. ap (segment_in asset t) is) (omega (arith, ap (λ i. length (item_output asset to earlier j i)) is))
 
 items_grow : (asset : Asset) (client : ℕ) (to : Side) (p : Protocol) (earlier js : List Judged) → AreItemsOf p (map place_of js) → HaveFates asset client earlier js →
     length (in_turn (output asset to) earlier js) + potential asset (earlier ++ js) ≤ potential asset earlier + 2 * weights (map place_of js)

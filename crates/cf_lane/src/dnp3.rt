@@ -26,6 +26,7 @@ use cf_view::{Endpoint, Framed, Side, View, WriteFault};
 
 impl Fragments {
     /// Takes the frame at the front of a side's bytes by its fate.
+    #[inline(never)]
     pub(crate) fn take_frame_at_front<D: Desk>(
         &mut self,
         asset: &Asset,

@@ -102,6 +102,7 @@ fn take_apdu<D: Desk>(
 }
 
 /// Takes the APDU at the front of a side's bytes by its fate.
+#[inline(never)]
 pub(crate) fn take_apdu_at_front<D: Desk>(
     numbers: &mut Numbers,
     asset: &Asset,

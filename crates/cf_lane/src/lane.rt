@@ -240,7 +240,8 @@ impl Lane {
         self.refused
     }
 
-    /// Handles the unit at the front of a side's bytes. An ADU of Modbus is handled in place, as they are small and many.
+    /// Handles the unit at the front of a side's bytes. An ADU of Modbus is handled in place, as they are small and many, and the
+    /// units of the other protocols by calls.
     #[inline(always)]
     fn step<D: Desk>(
         &mut self,
@@ -275,63 +276,9 @@ impl Lane {
         ensures log { WritesLog (D.value desk.old) (D.value desk.new) }
         ensures cause { HasCause (DeskValue.faults (D.value desk.old)) (DeskValue.faults (D.value desk.new)) (IsErr result) }
     {
-        match &self.wire {
-            Wire::Modbus => {
-                self.step_modbus(asset, moment, side, bytes, to_client, to_controller, desk)
-            }
-            Wire::Dnp3(_) | Wire::Iec104(_) => {
-                self.step_by_wire(asset, moment, side, bytes, to_client, to_controller, desk)
-            }
-        }
-    }
-
-    /// Handles the unit at the front of a side's bytes by the protocol. This one is called and not in place.
-    #[inline(never)]
-    fn step_by_wire<D: Desk>(
-        &mut self,
-        asset: &Asset,
-        moment: u64,
-        side: Side,
-        bytes: &View<'_>,
-        to_client: &mut Outq,
-        to_controller: &mut Outq,
-        desk: &mut D,
-    ) -> Result<Step, WriteFault>
-        requires of_asset { IsLaneOf asset.now self.old }
-        requires within { IsAssetWithin asset.now }
-        requires whole { DeskValue.whole (D.value desk.old) ≡ true }
-        requires open { IsOpen side to_client.old to_controller.old }
-        requires client_room { HasRoom (debt self.old + 2 * length bytes.now.bytes) to_client.old }
-        requires controller_room { HasRoom (debt self.old + 2 * length bytes.now.bytes) to_controller.old }
-        requires counts { self.old.admitted + self.old.refused + length bytes.now.bytes < 2 ^ 64 }
-        ensures steps { IfOk result (λ s. Steps asset.now moment side bytes.now.bytes
-            (state self.old to_client.old to_controller.old (DeskValue.lines (D.value desk.old)))
-            (state self.new to_client.new to_controller.new (DeskValue.lines (D.value desk.new))) s) }
-        ensures misses { OnErr result (Misses asset.now moment side bytes.now.bytes
-            (state self.old to_client.old to_controller.old (DeskValue.lines (D.value desk.old)))
-            (DeskValue.lines (D.value desk.new)) (DeskValue.line_part (D.value desk.new))) }
-        ensures of_asset { OnOk result (IsLaneOf asset.now self.new) }
-        ensures client_grows { IfOk result (λ s. Grows (2 * letters_in s) (debt self.old) (debt self.new) to_client.old to_client.new) }
-        ensures controller_grows { IfOk result (λ s. Grows (2 * letters_in s) (debt self.old) (debt self.new) to_controller.old
-            to_controller.new) }
-        ensures counts { IfOk result (λ s. CountsBy (letters_in s) self.old self.new) }
-        ensures inside { IfOk result (λ s. letters_in s ≤ length bytes.now.bytes) }
-        ensures whole { OnOk result (DeskValue.whole (D.value desk.new) ≡ true) }
-        ensures log { WritesLog (D.value desk.old) (D.value desk.new) }
-        ensures cause { HasCause (DeskValue.faults (D.value desk.old)) (DeskValue.faults (D.value desk.new)) (IsErr result) }
-    {
         match &mut self.wire {
             Wire::Modbus => {
-                let step = self.step_modbus(
-                    asset,
-                    moment,
-                    side,
-                    bytes,
-                    to_client,
-                    to_controller,
-                    desk,
-                )?;
-                Ok(step)
+                self.step_modbus(asset, moment, side, bytes, to_client, to_controller, desk)
             }
             Wire::Dnp3(fragments) => {
                 let front = fragments.take_frame_at_front(
@@ -366,6 +313,7 @@ impl Lane {
     }
 
     /// What stands at the front of a side's bytes led to, where it was taken and is yet to be counted.
+    #[inline(never)]
     fn count_front(&mut self, front: &Framed<Fate>, moment: u64, side: Side) -> Step
         requires counts { self.old.admitted + self.old.refused + most_counted front.now < 2 ^ 64 }
         requires few { length self.old.rules.rings.items ≤ most_rated }
